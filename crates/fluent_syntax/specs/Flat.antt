@@ -1,0 +1,21 @@
+-- Texts that hold no brace, and no line that a mark begins.
+use Rattle.std.specs.Prelude.{ℕ, ◌-◌, List, Bool, true, ◌≡◌, ◌&&◌, ◌||◌, ◌==◌, not, slice_index, EachIndex}
+
+-- a line starts at place 0 and after every LF
+abbrev pub starts_line : List ℕ → ℕ → Bool
+starts_line t i = i == 0 || slice_index t (i - 1) == 10
+
+-- `{` or `}`
+abbrev pub is_brace : ℕ → Bool
+is_brace b = b == 123 || b == 125
+
+-- a space, `#`, `.`, `-` or CR
+abbrev pub is_line_mark : ℕ → Bool
+is_line_mark b = b == 32 || b == 35 || b == 46 || b == 45 || b == 13
+
+-- whether a flat text may hold the byte, at a line's start or elsewhere
+abbrev pub may_stand : Bool → ℕ → Bool
+may_stand first b = not (is_brace b) && not (first && is_line_mark b)
+
+abbrev pub IsFlat : List ℕ → Type 0
+IsFlat t = EachIndex t (λ i. may_stand (starts_line t i) (slice_index t i) ≡ true)

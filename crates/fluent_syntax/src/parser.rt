@@ -1,0 +1,76 @@
+//! Both parsers, with trees of texts.
+ghost use Rattle.std.specs.Prelude.{◌+◌, ◌^◌, ◌<◌, length};
+ghost use Rattle.fluent_syntax_reader.specs.Parts.{HasParts};
+
+pub use crate::flat::is_flat;
+use crate::resolved::resolve;
+pub use fluent_syntax_reader::fault::ParseFault;
+use fluent_syntax_reader::{parse_runtime_spans_edition, parse_spans_edition};
+use fluent_syntax_tree::ast::Resource;
+pub use fluent_syntax_tree::edition::Edition;
+pub use fluent_syntax_tree::errors::{ErrorKind, ParserError};
+pub use fluent_syntax_tree::slice::Slice;
+use fluent_syntax_tree::spans::Span;
+use std::alloc::Global;
+
+/// The tree of a text; or, where parts of it were refused, the tree with them as junk, and an error
+/// for each.
+pub type Result<S> = std::result::Result<Resource<S>, ParseFault<S>>;
+
+/// Reads a text by edition one of the grammar, with its comments.
+///
+/// `Syntax` where at least one error was found: the tree and the errors, one for each junk, in
+/// order. `Memory` where a growth was refused, whatever was found before. The text has to have fewer
+/// bytes than the greatest `usize`, as every text that can be made has.
+pub fn parse<'s, S: Slice<'s>>(alloc: Global, input: S) -> Result<S>
+    requires { length (S.text input) + 1 < 2 ^ 64 }
+{
+    parse_edition(alloc, input, Edition::One)
+}
+
+/// Reads a text as `parse` does, by the given edition of the grammar.
+pub fn parse_edition<'s, S: Slice<'s>>(alloc: Global, input: S, edition: Edition) -> Result<S>
+    requires { length (S.text input) + 1 < 2 ^ 64 }
+{
+    let spans = parse_spans_edition(alloc, input.as_str(), edition);
+    with_texts(alloc, &input, spans)
+}
+
+/// Reads a text by edition one of the grammar, without its comments.
+///
+/// Where an entry would begin with `#`, the rest of that line is dropped, malformed or not.
+/// Otherwise as `parse`.
+pub fn parse_runtime<'s, S: Slice<'s>>(alloc: Global, input: S) -> Result<S>
+    requires { length (S.text input) + 1 < 2 ^ 64 }
+{
+    parse_runtime_edition(alloc, input, Edition::One)
+}
+
+/// Reads a text as `parse_runtime` does, by the given edition of the grammar.
+pub fn parse_runtime_edition<'s, S: Slice<'s>>(
+    alloc: Global,
+    input: S,
+    edition: Edition,
+) -> Result<S>
+    requires { length (S.text input) + 1 < 2 ^ 64 }
+{
+    let spans = parse_runtime_spans_edition(alloc, input.as_str(), edition);
+    with_texts(alloc, &input, spans)
+}
+
+/// The same answer with the source's texts in place of the spans.
+fn with_texts<'s, S: Slice<'s>>(alloc: Global, source: &S, spans: Result<Span>) -> Result<S>
+    requires { HasParts (S.text source.now) spans }
+{
+    match spans {
+        Ok(tree) => match resolve(alloc, source, &tree) {
+            Ok(tree) => Ok(tree),
+            Err(_) => Err(ParseFault::Memory),
+        },
+        Err(ParseFault::Syntax(tree, errors)) => match resolve(alloc, source, &tree) {
+            Ok(tree) => Err(ParseFault::Syntax(tree, errors)),
+            Err(_) => Err(ParseFault::Memory),
+        },
+        Err(ParseFault::Memory) => Err(ParseFault::Memory),
+    }
+}

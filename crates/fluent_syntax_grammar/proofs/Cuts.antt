@@ -1,0 +1,179 @@
+-- Places at which words of the grammar begin and end, for any kind of place that is closed under ASCII bytes.
+use Rattle.std.proofs.Common.{◌≡◌, ℕ, zero, suc, ◌+◌, ◌-◌, ◌<◌, ◌≤◌, List, length, Option, Some, None, Bool, true, false, ◌||◌, ◌&&◌, ◌==◌, not, refl, sym, ◌∙◌, subst, arith, inl, inr}
+use Rattle.std.specs.Prelude.{slice_get, is_some, ◌⊎◌, if◌then◌else◌}
+use Rattle.std.proofs.lemmas.Option.{slice_get_within, slice_get_cases}
+use Rattle.std.proofs.lemmas.Bool.Decides.{nat_tests}
+use Rattle.fluent_syntax_grammar.specs.Bytes.{lf, cr, space, is_space, is_letter, is_digit, is_name_byte}
+use Rattle.std.specs.Char.{is_ascii_hexdigit}
+use Rattle.fluent_syntax_grammar.specs.Places.{holds, Stretch, Word, has, has_byte, has_eol, after_eol, is_line_place, is_blank_place, Blank, BlankBlock, no_line, line}
+use Rattle.fluent_syntax_grammar.specs.Lines.{is_run_place}
+use Rattle.fluent_syntax_grammar.proofs.Facts.{byte_found, two_on}
+
+-- an ASCII byte stands there
+pub record AsciiAt (t : List ℕ) (i : ℕ) : Type 0 where
+  pub byte : ℕ
+  pub stands : slice_get t i ≡ Some byte
+  pub ascii : byte < 128
+
+-- Places of a kind: they lie in the text; before and after each ASCII byte is one, and the text's end is one.
+pub record IsCuts (t : List ℕ) (P : ℕ → Type 0) : Type 0 where
+  pub in_text : (i : ℕ) → P i → i ≤ length t
+  pub before : (i : ℕ) → AsciiAt t i → P i
+  pub after : (i : ℕ) → AsciiAt t i → P (i + 1)
+  pub at_end : P (length t)
+
+-- ---- bytes
+
+-- every byte that passes the test is ASCII
+pub record IsAsciiSet (test : ℕ → Bool) : Type 0 where
+  pub small : (b : ℕ) → test b ≡ true → b < 128
+
+pub ascii_has : (t : List ℕ) (test : ℕ → Bool) (i : ℕ) → IsAsciiSet test → has t test i ≡ true → AsciiAt t i
+ascii_has t test i s e = let f = byte_found test (slice_get t i) e in record { byte = f.0; stands = f.1; ascii = s.small f.0 f.2 }
+
+small_byte : (c : ℕ) → c < 128 → (b : ℕ) → (b == c) ≡ true → b < 128
+small_byte c l b e = grind (arith, nat_tests)
+
+pub ascii_byte : (t : List ℕ) (c i : ℕ) → c < 128 → has_byte t c i ≡ true → AsciiAt t i
+ascii_byte t c i l e = ascii_has t (λ b. b == c) i (record { small = small_byte c l }) e
+
+pub ascii_space : IsAsciiSet is_space
+ascii_space = record { small = λ b e. grind (arith, nat_tests) }
+
+pub ascii_digit : IsAsciiSet is_digit
+ascii_digit = record { small = λ b e. grind (arith, nat_tests) }
+
+pub ascii_letter : IsAsciiSet is_letter
+ascii_letter = record { small = λ b e. grind (arith, nat_tests) }
+
+pub ascii_name : IsAsciiSet is_name_byte
+ascii_name = record { small = λ b e. grind (arith, nat_tests) }
+
+pub ascii_hex : IsAsciiSet is_ascii_hexdigit
+ascii_hex = record { small = λ b e. grind (arith, nat_tests) }
+
+-- ---- line ends
+
+eol_of : (a b c : Bool) (i k : ℕ) → (if a then Some (i + 1) else if b && c then Some (i + 2) else None) ≡ Some k →
+    ((a ≡ true) × (k ≡ i + 1)) ⊎ ((b ≡ true) × (c ≡ true) × (k ≡ i + 2))
+eol_of true b c i k e = inl (refl, cc)
+eol_of false true true i k e = inr (refl, refl, cc)
+eol_of false true false i k e = cc
+eol_of false false c i k e = cc
+
+-- a line end is an LF, or a CR before an LF
+pub eol_cases : (t : List ℕ) (i k : ℕ) → after_eol t i ≡ Some k →
+    ((has_byte t lf i ≡ true) × (k ≡ i + 1)) ⊎ ((has_byte t cr i ≡ true) × (has_byte t lf (i + 1) ≡ true) × (k ≡ i + 2))
+eol_cases t i k e = eol_of (has_byte t lf i) (has_byte t cr i) (has_byte t lf (i + 1)) i k e
+
+either_true : (a b c : Bool) → (a || b && c) ≡ true → (a ≡ true) ⊎ (b ≡ true)
+either_true true b c e = inl refl
+either_true false true c e = inr refl
+either_true false false c e = cc
+
+pub ascii_eol : (t : List ℕ) (i : ℕ) → has_eol t i ≡ true → AsciiAt t i
+ascii_eol t i e = elim (either_true (has_byte t lf i) (has_byte t cr i) (has_byte t lf (i + 1)) e) [ inl x ↦ ascii_byte t lf i (omega arith) x | inr x ↦ ascii_byte t cr i (omega arith) x ]
+
+or_true : (a b : Bool) → (a || b) ≡ true → (a ≡ true) ⊎ (b ≡ true)
+or_true true b e = inl refl
+or_true false b e = inr e
+
+pub ascii_blank : (t : List ℕ) (i : ℕ) → is_blank_place t i ≡ true → AsciiAt t i
+ascii_blank t i e = elim (or_true (has_byte t space i) (has_eol t i) e) [ inl x ↦ ascii_byte t space i (omega arith) x | inr x ↦ ascii_eol t i x ]
+
+-- ---- words
+
+add_one : (k : ℕ) → k + 1 ≡ suc k
+add_one k = omega arith
+
+none_some : {o : Option ℕ} {b : ℕ} {X : Type 0} → o ≡ None → o ≡ Some b → X
+none_some e f = cc
+
+some_inside : (t : List ℕ) (k : ℕ) (o : Option ℕ) (e : Bool) → slice_get t k ≡ o → (is_some o && not e) ≡ true → k < length t
+some_inside t k None e g h = cc
+some_inside t k (Some b) e g h = slice_get_within t k b g
+
+pub line_inside : (t : List ℕ) (k : ℕ) → is_line_place t k ≡ true → k < length t
+line_inside t k h = some_inside t k (slice_get t k) (has_eol t k) refl h
+
+some_stops : (o : Option ℕ) (e : Bool) → (is_some o && not e) ≡ false → (o ≡ None) ⊎ (e ≡ true)
+some_stops None e h = inl refl
+some_stops (Some b) true h = inr refl
+some_stops (Some b) false h = cc
+
+line_ends : (t : List ℕ) (j : ℕ) → is_line_place t j ≡ false → (slice_get t j ≡ None) ⊎ AsciiAt t j
+line_ends t j h = elim (some_stops (slice_get t j) (has_eol t j) h) [ inl e ↦ inl e | inr e ↦ inr (ascii_eol t j e) ]
+
+abbrev is_run_byte : ℕ → Bool
+is_run_byte b = not (b == lf || b == 123 || b == 125)
+
+run_some : (t : List ℕ) (k : ℕ) (o : Option ℕ) (e : Bool) → slice_get t k ≡ o → (holds is_run_byte o && not e) ≡ true → k < length t
+run_some t k None e g h = cc
+run_some t k (Some b) e g h = slice_get_within t k b g
+
+pub run_inside : (t : List ℕ) (k : ℕ) → is_run_place t k ≡ true → k < length t
+run_inside t k h = run_some t k (slice_get t k) (has_eol t k) refl h
+
+and_true_is : (a : Bool) → (a && true) ≡ false → a ≡ false
+and_true_is true h = h
+and_true_is false h = refl
+
+brace_small : (b : ℕ) → is_run_byte b ≡ false → b < 128
+brace_small b e = grind (arith, nat_tests)
+
+run_stops : (o : Option ℕ) (e : Bool) → (holds is_run_byte o && not e) ≡ false → (o ≡ None) ⊎ ((b : ℕ) × (o ≡ Some b) × (is_run_byte b ≡ false)) ⊎ (e ≡ true)
+run_stops None e h = inl refl
+run_stops (Some b) true h = inr (inr refl)
+run_stops (Some b) false h = inr (inl (b, refl, (and_true_is (is_run_byte b) h)))
+
+run_ends : (t : List ℕ) (j : ℕ) → is_run_place t j ≡ false → (slice_get t j ≡ None) ⊎ AsciiAt t j
+run_ends t j h = elim (run_stops (slice_get t j) (has_eol t j) h) [
+  | inl e ↦ inl e
+  | inr (inl x) ↦ inr (record { byte = x.0; stands = x.1; ascii = brace_small x.0 x.2 })
+  | inr (inr e) ↦ inr (ascii_eol t j e)
+]
+
+pub eol_forward : (t : List ℕ) (i k : ℕ) → after_eol t i ≡ Some k → i < k
+eol_forward t i k e = elim (eol_cases t i k e) [ inl x ↦ omega arith | inr x ↦ omega arith ]
+
+pub block_forward : (t : List ℕ) (i j : ℕ) → BlankBlock t i j → i ≤ j
+block_forward t i j (no_line a b) = omega arith
+block_forward t i j (line {k = k} {m = m} a b c) = let f = a.forward in let g = eol_forward t k m b in let h = block_forward t m j c in omega arith
+
+module _ (t : List ℕ) (P : ℕ → Type 0) (cuts : IsCuts t P) where
+  -- every place of a stretch over ASCII bytes
+  pub stretch_places : (test : ℕ → Bool) → ((k : ℕ) → test k ≡ true → AsciiAt t k) → (i j : ℕ) → P i → Stretch test i j → (k : ℕ) → i ≤ k → k ≤ j → P k
+  stretch_places test ascii i j p s zero a b = let e : i ≡ 0 = omega arith in subst P e p
+  stretch_places test ascii i j p s (suc k) a b =
+      let split : (i ≤ k) ⊎ (i ≡ suc k) = grind arith in
+      elim split [ inl l ↦ subst P (add_one k) (cuts.after k (ascii k (s.each k l (omega arith)))) | inr e ↦ subst P e p ]
+
+  pub word_place : (set : ℕ → Bool) → IsAsciiSet set → (i j : ℕ) → P i → Word t set i j → P j
+  word_place set s i j p w = stretch_places (has t set) (λ k e. ascii_has t set k s e) i j p w j w.forward (omega arith)
+
+  pub blank_place : (i j : ℕ) → P i → Blank t i j → P j
+  blank_place i j p w = stretch_places (is_blank_place t) (λ k e. ascii_blank t k e) i j p w j w.forward (omega arith)
+
+  pub eol_place : (i k : ℕ) → after_eol t i ≡ Some k → P k
+  eol_place i k e = elim (eol_cases t i k e) [ inl x ↦ subst P (sym x.1) (cuts.after i (ascii_byte t lf i (omega arith) x.0)) | inr x ↦ subst P (two_on i ∙ sym x.2) (cuts.after (i + 1) (ascii_byte t lf (i + 1) (omega arith) x.1)) ]
+
+  pub block_place : (i j : ℕ) → P i → BlankBlock t i j → P j
+  block_place i j p (no_line a b) = p
+  block_place i j p (line {m = m} a b c) = block_place m j (eol_place _ m b) c
+
+  stop_place : (j : ℕ) → j ≤ length t → (slice_get t j ≡ None) ⊎ AsciiAt t j → P j
+  stop_place j l x = elim x [ inl e ↦ (let c = (slice_get_cases t j).1 in elim c [ inl y ↦ absurd (none_some e y.2) | inr y ↦ (let same : length t ≡ j = omega arith in subst P same cuts.at_end) ]) | inr a ↦ cuts.before j a ]
+
+  stretch_in_text : (test : ℕ → Bool) → ((k : ℕ) → test k ≡ true → k < length t) → (i j : ℕ) → i ≤ length t → Stretch test i j → j ≤ length t
+  stretch_in_text test inside i j l s =
+      let forward = s.forward in
+      let split : (i < j) ⊎ (i ≡ j) = grind arith in
+      elim split [ inl m ↦ (let last = inside (j - 1) (s.each (j - 1) (omega arith) (omega arith)) in omega arith) | inr e ↦ omega arith ]
+
+  -- the rest of a line stops at a line end or at the text's end
+  pub line_stop : (i j : ℕ) → P i → Stretch (is_line_place t) i j → P j
+  line_stop i j p s = stop_place j (stretch_in_text (is_line_place t) (line_inside t) i j (cuts.in_text i p) s) (line_ends t j s.longest)
+
+  -- a run stops at a line end, a brace or the text's end
+  pub run_stop : (i j : ℕ) → P i → Stretch (is_run_place t) i j → P j
+  run_stop i j p s = stop_place j (stretch_in_text (is_run_place t) (run_inside t) i j (cuts.in_text i p) s) (run_ends t j s.longest)

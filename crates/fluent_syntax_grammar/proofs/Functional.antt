@@ -1,0 +1,103 @@
+-- At each place a construct of parts has at most one outcome, if its parts have.
+use Rattle.std.proofs.Common.{◌≡◌, ℕ, Bool, refl, sym, ◌∙◌, subst, arith}
+use Rattle.fluent_syntax_grammar.specs.Places.{Stretch, Steps, Reaches, BlankBlock, no_line, line}
+use Rattle.std.proofs.Common.{List}
+use Rattle.fluent_syntax_tree.specs.Kind.{Kind}
+use Rattle.fluent_syntax_grammar.specs.Construct.{Outcome, Construct, ◌>>=◌, stops, goes_on, gives, given, here, at_place, fails, failed, fails_from, failed_from, over, passed, at_each, chosen, either, first, second}
+use Rattle.fluent_syntax_grammar.specs.Laws.{IsFunctional}
+
+-- the relation leads from each place to one place at most
+pub record IsSingle (W : ℕ → ℕ → Type 0) : Type 0 where
+  pub same : (i j k : ℕ) → W i j → W i k → j ≡ k
+
+bind_same : {A B : Type 0} (c : Construct A) (f : A → Construct B) → IsFunctional c → ((a : A) → IsFunctional (f a)) → (i : ℕ) (o p : Outcome B) → (c >>= f) i o → (c >>= f) i p → o ≡ p
+bind_same c f cf ff i o p (stops r) (stops s) = let e = cf.same i _ _ r s in cc
+bind_same c f cf ff i o p (stops r) (goes_on x y) = let e = cf.same i _ _ r x in cc
+bind_same c f cf ff i o p (goes_on x y) (stops r) = let e = cf.same i _ _ r x in cc
+bind_same c f cf ff i o p (goes_on {j = j} {a = a} x y) (goes_on {j = k} {a = b} z w) =
+    let e = cf.same i _ _ x z in
+    let same_a : a ≡ b = cc in
+    let same_j : j ≡ k = cc in
+    (ff a).same j o p y (subst (λ b. f b j p) (sym same_a) (subst (λ k. f b k p) (sym same_j) w))
+
+pub functional_bind : {A B : Type 0} {c : Construct A} {f : A → Construct B} → IsFunctional c → ((a : A) → IsFunctional (f a)) → IsFunctional (c >>= f)
+functional_bind {c = c} {f = f} cf ff = record { same = bind_same c f cf ff }
+
+gives_same : {A : Type 0} (a : A) (i : ℕ) (o p : Outcome A) → gives a i o → gives a i p → o ≡ p
+gives_same a i o p given given = refl
+
+pub functional_gives : {A : Type 0} {a : A} → IsFunctional (gives a)
+functional_gives {a = a} = record { same = gives_same a }
+
+here_same : (i : ℕ) (o p : Outcome ℕ) → here i o → here i p → o ≡ p
+here_same i o p at_place at_place = refl
+
+pub functional_here : IsFunctional here
+functional_here = record { same = here_same }
+
+fails_same : {A : Type 0} (k : Kind) (i : ℕ) (o p : Outcome A) → fails k i o → fails k i p → o ≡ p
+fails_same k i o p (failed e) (failed f) = cc
+
+pub functional_fails : {A : Type 0} {k : Kind} → IsFunctional (fails {A = A} k)
+functional_fails {k = k} = record { same = fails_same k }
+
+fails_from_same : {A : Type 0} (k : Kind) (from i : ℕ) (o p : Outcome A) → fails_from k from i o → fails_from k from i p → o ≡ p
+fails_from_same k from i o p failed_from failed_from = refl
+
+pub functional_fails_from : {A : Type 0} {k : Kind} {from : ℕ} → IsFunctional (fails_from {A = A} k from)
+functional_fails_from {k = k} {from = from} = record { same = fails_from_same k from }
+
+over_same : (W : ℕ → ℕ → Type 0) → IsSingle W → (i : ℕ) (o p : Outcome (Unit {0})) → over W i o → over W i p → o ≡ p
+over_same W single i o p (passed x) (passed y) = let e = single.same i _ _ x y in cc
+
+pub functional_over : {W : ℕ → ℕ → Type 0} → IsSingle W → IsFunctional (over W)
+functional_over {W = W} single = record { same = over_same W single }
+
+at_each_same : {A B : Type 0} (look : ℕ → A) (part : A → Construct B) → ((a : A) → IsFunctional (part a)) → (i : ℕ) (o p : Outcome B) → at_each look part i o → at_each look part i p → o ≡ p
+at_each_same look part f i o p (chosen x) (chosen y) = (f (look i)).same i o p x y
+
+pub functional_at_each : {A B : Type 0} {look : ℕ → A} {part : A → Construct B} → ((a : A) → IsFunctional (part a)) → IsFunctional (at_each look part)
+functional_at_each {look = look} {part = part} f = record { same = at_each_same look part f }
+
+either_same : {A : Type 0} (b : Bool) (c d : Construct A) → IsFunctional c → IsFunctional d → (i : ℕ) (o p : Outcome A) → either b c d i o → either b c d i p → o ≡ p
+either_same b c d cf df i o p (first e x) (first f y) = cf.same i o p x y
+either_same b c d cf df i o p (first e x) (second f y) = cc
+either_same b c d cf df i o p (second e x) (first f y) = cc
+either_same b c d cf df i o p (second e x) (second f y) = df.same i o p x y
+
+pub functional_either : {A : Type 0} {b : Bool} {c d : Construct A} → IsFunctional c → IsFunctional d → IsFunctional (either b c d)
+functional_either {b = b} {c = c} {d = d} cf df = record { same = either_same b c d cf df }
+
+-- ---- longest words
+
+stretch_same : (test : ℕ → Bool) (i j k : ℕ) → Stretch test i j → Stretch test i k → j ≡ k
+stretch_same test i j k a b = grind (arith, a.each k b.forward, b.each j a.forward, a.longest, b.longest)
+
+pub single_stretch : {test : ℕ → Bool} → IsSingle (Stretch test)
+single_stretch {test = test} = record { same = stretch_same test }
+
+steps_same : (n i j k : ℕ) → Steps n i j → Steps n i k → j ≡ k
+steps_same n i j k a b = a.by ∙ sym b.by
+
+pub single_steps : {n : ℕ} → IsSingle (Steps n)
+single_steps {n = n} = record { same = steps_same n }
+
+reaches_same : (n i j k : ℕ) → Reaches n i j → Reaches n i k → j ≡ k
+reaches_same n i j k a b = a.there ∙ sym b.there
+
+pub single_reaches : {n : ℕ} → IsSingle (Reaches n)
+single_reaches {n = n} = record { same = reaches_same n }
+
+block_same : (t : List ℕ) (i j k : ℕ) → BlankBlock t i j → BlankBlock t i k → j ≡ k
+block_same t i j k (no_line a b) (no_line c d) = refl
+block_same t i j k (no_line a b) (line c d e) = let h = single_stretch.same i _ _ a c in cc
+block_same t i j k (line a b c) (no_line d e) = let h = single_stretch.same i _ _ a d in cc
+block_same t i j k (line {m = m} a b c) (line {m = n} d e f) =
+    let h = single_stretch.same i _ _ a d in
+    let same_m : m ≡ n = cc in
+    block_same t m j k c (subst (λ n. BlankBlock t n k) (sym same_m) f)
+
+pub single_block : {t : List ℕ} → IsSingle (BlankBlock t)
+single_block {t = t} = record { same = block_same t }
+
+pub ruleset functional = (functional_bind, functional_gives, functional_here, functional_fails, functional_fails_from, functional_over, functional_at_each, functional_either, single_stretch, single_steps, single_reaches, single_block)

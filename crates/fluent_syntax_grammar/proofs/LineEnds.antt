@@ -1,0 +1,109 @@
+-- What stands in blank blocks and on lines.
+use Rattle.std.proofs.Common.{◌≡◌, ℕ, ◌+◌, ◌-◌, ◌<◌, ◌≤◌, List, length, Option, Some, None, Bool, true, false, refl, sym, subst, arith, inl, inr}
+use Rattle.std.specs.Prelude.{slice_get, ◌==◌, ◌||◌, ◌&&◌, ◌⊎◌, if◌then◌else◌}
+use Rattle.std.proofs.lemmas.Bool.Decides.{nat_tests}
+use Rattle.std.proofs.lemmas.Option.{slice_get_past}
+use Rattle.fluent_syntax_grammar.specs.Bytes.{lf, cr, space, is_space}
+use Rattle.fluent_syntax_grammar.specs.Places.{holds, has, has_byte, after_eol, starts_line, BlankBlock, no_line, line}
+use Rattle.fluent_syntax_grammar.specs.Tiling.{is_entry_byte}
+use Rattle.fluent_syntax_grammar.proofs.Cuts.{eol_cases}
+use Rattle.fluent_syntax_grammar.proofs.Facts.{excludes, implies}
+
+-- spaces and the bytes of line ends
+abbrev pub is_blank_byte : ℕ → Bool
+is_blank_byte b = b == space || b == lf || b == cr
+
+space_blank : (b : ℕ) → is_space b ≡ true → is_blank_byte b ≡ true
+space_blank b e = grind (arith, nat_tests)
+
+lf_blank : (b : ℕ) → (b == lf) ≡ true → is_blank_byte b ≡ true
+lf_blank b e = grind (arith, nat_tests)
+
+cr_blank : (b : ℕ) → (b == cr) ≡ true → is_blank_byte b ≡ true
+cr_blank b e = grind (arith, nat_tests)
+
+blank_no_entry : (b : ℕ) → is_blank_byte b ≡ true → is_entry_byte b ≡ false
+blank_no_entry b e = grind (arith, nat_tests)
+
+entry_no_space : (b : ℕ) → is_entry_byte b ≡ true → is_space b ≡ false
+entry_no_space b e = grind (arith, nat_tests)
+
+entry_no_lf : (b : ℕ) → is_entry_byte b ≡ true → (b == lf) ≡ false
+entry_no_lf b e = grind (arith, nat_tests)
+
+entry_no_cr : (b : ℕ) → is_entry_byte b ≡ true → (b == cr) ≡ false
+entry_no_cr b e = grind (arith, nat_tests)
+
+pub hash_entry : (b : ℕ) → (b == 35) ≡ true → is_entry_byte b ≡ true
+hash_entry b e = grind (arith, nat_tests)
+
+eol_between : (i k m : ℕ) → k ≤ i → i < m → (m ≡ k + 1) ⊎ (m ≡ k + 2) → (i ≡ k) ⊎ ((i ≡ k + 1) × (m ≡ k + 2))
+eol_between i k m a b (inl e) = inl (omega arith)
+eol_between i k m a b (inr e) = grind arith
+
+module _ (t : List ℕ) where
+  eol_blank : (k m i : ℕ) → after_eol t k ≡ Some m → k ≤ i → i < m → has t is_blank_byte i ≡ true
+  eol_blank k m i e a b = elim (eol_cases t k m e) [
+    | inl x ↦ (let same : k ≡ i = omega arith in subst (λ i. has t is_blank_byte i ≡ true) same (implies (λ c. c == lf) is_blank_byte (slice_get t k) lf_blank x.0))
+    | inr x ↦ elim (eol_between i k m a b (inr x.2)) [
+      | inl same ↦ subst (λ i. has t is_blank_byte i ≡ true) (sym same) (implies (λ c. c == cr) is_blank_byte (slice_get t k) cr_blank x.0)
+      | inr y ↦ subst (λ i. has t is_blank_byte i ≡ true) (sym y.0) (implies (λ c. c == lf) is_blank_byte (slice_get t (k + 1)) lf_blank x.1)
+    ]
+  ]
+
+  pub split_at : (i k : ℕ) → (i < k) ⊎ (k ≤ i)
+  split_at i k = grind arith
+
+  -- in a blank block stand spaces and line ends
+  pub block_bytes : (i j k : ℕ) → BlankBlock t i j → i ≤ k → k < j → has t is_blank_byte k ≡ true
+  block_bytes i j k (no_line a b) l m = absurd (omega arith)
+  block_bytes i j k (line {k = n} {m = p} a b c) l m = elim (split_at k n) [
+    | inl x ↦ implies is_space is_blank_byte (slice_get t k) space_blank (a.each k l x)
+    | inr x ↦ elim (split_at k p) [ inl y ↦ eol_blank n p k b x y | inr y ↦ block_bytes p j k c y m ]
+  ]
+
+  pub block_no_entry : (i j k : ℕ) → BlankBlock t i j → i ≤ k → k < j → has t is_entry_byte k ≡ false
+  block_no_entry i j k b l m = excludes is_blank_byte is_entry_byte (slice_get t k) blank_no_entry (block_bytes i j k b l m)
+
+  eol_none : (a b c : Bool) (i : ℕ) → a ≡ false → b ≡ false → (if a then Some (i + 1) else if b && c then Some (i + 2) else None) ≡ None
+  eol_none a b c i e f = rw (e, f)
+
+  empty_block : (i : ℕ) → has t is_space i ≡ false → has_byte t lf i ≡ false → has_byte t cr i ≡ false → BlankBlock t i i
+  empty_block i e f g = no_line (record { forward = omega arith; each = λ k a b. absurd (omega arith); longest = e }) (eol_none (has_byte t lf i) (has_byte t cr i) (has_byte t lf (i + 1)) i f g)
+
+  -- where an entry may begin, and at the text's end, the blank block is empty
+  pub block_at_entry : (i : ℕ) → has t is_entry_byte i ≡ true → BlankBlock t i i
+  block_at_entry i e = empty_block i (excludes is_entry_byte is_space (slice_get t i) entry_no_space e) (excludes is_entry_byte (λ b. b == lf) (slice_get t i) entry_no_lf e) (excludes is_entry_byte (λ b. b == cr) (slice_get t i) entry_no_cr e)
+
+  none_holds : (p : ℕ → Bool) (o : Option ℕ) → o ≡ None → holds p o ≡ false
+  none_holds p o e = rw e
+
+  pub past_end : (p : ℕ → Bool) → has t p (length t) ≡ false
+  past_end p = none_holds p (slice_get t (length t)) (slice_get_past t (length t) (omega arith))
+
+  pub block_at_end : BlankBlock t (length t) (length t)
+  block_at_end = empty_block (length t) (past_end is_space) (past_end (λ b. b == lf)) (past_end (λ b. b == cr))
+
+  -- ---- lines
+
+  -- the start of a line, or the text's end
+  abbrev pub IsLineStart : ℕ → Type 0
+  IsLineStart i = (starts_line t i ≡ true) ⊎ (i ≡ length t)
+
+  or_right : (a b : Bool) → b ≡ true → (a || b) ≡ true
+  or_right true b e = refl
+  or_right false b e = e
+
+  lf_start : (i : ℕ) → has_byte t lf i ≡ true → starts_line t (i + 1) ≡ true
+  lf_start i e = or_right (i + 1 == 0) (has_byte t lf ((i + 1) - 1)) (let same : i ≡ (i + 1) - 1 = omega arith in subst (λ k. has_byte t lf k ≡ true) same e)
+
+  pub eol_start : (k m : ℕ) → after_eol t k ≡ Some m → starts_line t m ≡ true
+  eol_start k m e = elim (eol_cases t k m e) [
+    | inl x ↦ subst (λ m. starts_line t m ≡ true) (sym x.1) (lf_start k x.0)
+    | inr x ↦ (let same : (k + 1) + 1 ≡ m = omega arith in subst (λ m. starts_line t m ≡ true) same (lf_start (k + 1) x.1))
+  ]
+
+  -- a blank block leads from the start of a line to the start of a line
+  pub block_start : (i j : ℕ) → starts_line t i ≡ true → BlankBlock t i j → starts_line t j ≡ true
+  block_start i j e (no_line a b) = e
+  block_start i j e (line {k = k} {m = m} a b c) = block_start m j (eol_start k m b) c

@@ -1,0 +1,85 @@
+-- A text has at most one tiling and at most one tiling without comments.
+use Rattle.std.proofs.Common.{◌≡◌, ℕ, ◌<◌, List, refl, sym, ◌∙◌, subst, arith, inl, inr}
+use Rattle.std.proofs.lemmas.Bool.{false≢true}
+use Rattle.fluent_syntax_grammar.specs.Tiling.{Tile, failing_place, JunkEnd, whole_line, Tiled, done, next, TileAt, reads, refuses, RuntimeTileAt, drops, stands, Tiling, RuntimeTiling}
+use Rattle.fluent_syntax_tree.specs.declared.edition.Edition.{Edition}
+use Rattle.fluent_syntax_grammar.specs.Laws.{IsFunctional}
+use Rattle.fluent_syntax_grammar.proofs.Functional.{functional, single_block}
+use Rattle.fluent_syntax_grammar.proofs.FunctionalWords.{functional_rest_of_line, functional_optional_eol}
+use Rattle.fluent_syntax_grammar.proofs.FunctionalEntries.{functional_entry}
+
+module _ (t : List ℕ) where
+  not_before : (place end other : ℕ) → JunkEnd t place end → JunkEnd t place other → end < other → ⊥
+  not_before place end other a b l = let in_text = b.in_text in elim a.stop [ inl e ↦ false≢true (sym (b.nearest end a.forward l) ∙ e) | inr e ↦ omega arith ]
+
+  -- junk has one end
+  pub junk_same : (place end other : ℕ) → JunkEnd t place end → JunkEnd t place other → end ≡ other
+  junk_same place end other a b = grind (arith, not_before place end other a b, not_before place other end b a)
+
+  pub functional_whole_line : IsFunctional (whole_line t)
+  functional_whole_line = search (functional, functional_rest_of_line, functional_optional_eol) depth 30
+
+-- At each place stands at most one tile, with one end.
+pub record IsOneTile (at : (i j : ℕ) → Tile → Type 0) : Type 0 where
+  pub same_end : (i j k : ℕ) (x y : Tile) → at i j x → at i k y → j ≡ k
+  pub same_tile : (i j k : ℕ) (x y : Tile) → at i j x → at i k y → x ≡ y
+
+pub tiled_same : (t : List ℕ) (at : (i j : ℕ) → Tile → Type 0) → IsOneTile at → (i : ℕ) (xs ys : List Tile) → Tiled t at i xs → Tiled t at i ys → xs ≡ ys
+tiled_same t at one i xs ys (done a) (done b) = refl
+tiled_same t at one i xs ys (done a) (next b l c d) = let h = single_block.same i _ _ a b in absurd (omega arith)
+tiled_same t at one i xs ys (next a l b c) (done d) = let h = single_block.same i _ _ a d in absurd (omega arith)
+tiled_same t at one i xs ys (next {start = start} {end = j} {tile = x} {tiles = more} a l b c) (next {start = start'} {end = k} {tile = y} {tiles = others} d m e f) =
+    let same_start : start ≡ start' = single_block.same i _ _ a d in
+    let e' = subst (λ s. at s k y) (sym same_start) e in
+    let same_end : j ≡ k = one.same_end start j k x y b e' in
+    let same_tile : x ≡ y = one.same_tile start j k x y b e' in
+    let rest : more ≡ others = tiled_same t at one j more others c (subst (λ k. Tiled t at k others) (sym same_end) f) in
+    cc
+
+module _ (edition : Edition) (t : List ℕ) where
+  tile_end : (i j k : ℕ) (x y : Tile) → TileAt edition t i j x → TileAt edition t i k y → j ≡ k
+  tile_end i j k x y (reads a) (reads b) = let h = (functional_entry edition t).same i _ _ a b in cc
+  tile_end i j k x y (reads a) (refuses b c) = let h = (functional_entry edition t).same i _ _ a b in cc
+  tile_end i j k x y (refuses a b) (reads c) = let h = (functional_entry edition t).same i _ _ a c in cc
+  tile_end i j k x y (refuses {from = from} {to = to} {k = kind} a b) (refuses {from = from'} {to = to'} {k = kind'} c d) =
+      let h = (functional_entry edition t).same i _ _ a c in
+      let same_kind : kind ≡ kind' = cc in
+      let same_from : from ≡ from' = cc in
+      let same_to : to ≡ to' = cc in
+      let place : failing_place kind from to ≡ failing_place kind' from' to' = cc in
+      junk_same t _ j k b (subst (λ p. JunkEnd t p k) (sym place) d)
+
+  tile_same : (i j k : ℕ) (x y : Tile) → TileAt edition t i j x → TileAt edition t i k y → x ≡ y
+  tile_same i j k x y (reads a) (reads b) = let h = (functional_entry edition t).same i _ _ a b in cc
+  tile_same i j k x y (reads a) (refuses b c) = let h = (functional_entry edition t).same i _ _ a b in cc
+  tile_same i j k x y (refuses a b) (reads c) = let h = (functional_entry edition t).same i _ _ a c in cc
+  tile_same i j k x y (refuses a b) (refuses c d) =
+      let h = (functional_entry edition t).same i _ _ a c in
+      let same_end : j ≡ k = tile_end i j k _ _ (refuses a b) (refuses c d) in
+      cc
+
+  pub one_tile : IsOneTile (TileAt edition t)
+  one_tile = record { same_end = tile_end; same_tile = tile_same }
+
+  runtime_end : (i j k : ℕ) (x y : Tile) → RuntimeTileAt edition t i j x → RuntimeTileAt edition t i k y → j ≡ k
+  runtime_end i j k x y (drops a b) (drops c d) = let h = (functional_whole_line t).same i _ _ b d in cc
+  runtime_end i j k x y (drops a b) (stands c d) = cc
+  runtime_end i j k x y (stands a b) (drops c d) = cc
+  runtime_end i j k x y (stands a b) (stands c d) = tile_end i j k _ _ b d
+
+  runtime_same : (i j k : ℕ) (x y : Tile) → RuntimeTileAt edition t i j x → RuntimeTileAt edition t i k y → x ≡ y
+  runtime_same i j k x y (drops a b) (drops c d) = refl
+  runtime_same i j k x y (drops a b) (stands c d) = cc
+  runtime_same i j k x y (stands a b) (drops c d) = cc
+  runtime_same i j k x y (stands a b) (stands c d) = tile_same i j k _ _ b d
+
+  pub one_runtime_tile : IsOneTile (RuntimeTileAt edition t)
+  one_runtime_tile = record { same_end = runtime_end; same_tile = runtime_same }
+
+  -- a text has at most one tiling
+  pub one_tiling : (xs ys : List Tile) → Tiling edition t xs → Tiling edition t ys → xs ≡ ys
+  one_tiling xs ys a b = tiled_same t (TileAt edition t) one_tile 0 xs ys a b
+
+  -- a text has at most one tiling without comments
+  pub one_runtime_tiling : (xs ys : List Tile) → RuntimeTiling edition t xs → RuntimeTiling edition t ys → xs ≡ ys
+  one_runtime_tiling xs ys a b = tiled_same t (RuntimeTileAt edition t) one_runtime_tile 0 xs ys a b

@@ -1,0 +1,132 @@
+-- What the tiling without comments gives is what the tiling gives, without its comments.
+use Rattle.std.proofs.Common.{◌≡◌, List, [], ◌∷◌, ◌++◌, Option, Some, None, Bool, true, false, refl, sym, ◌∙◌, ap}
+use Rattle.std.specs.Prelude.{◌==◌, if◌then◌else◌}
+use Rattle.std.specs.List.{flat_map}
+use Rattle.fluent_syntax_tree.specs.Entry.{EntryTree, message, term, comment, junk, regular, group, resource, BodyTree}
+use Rattle.fluent_syntax_tree.specs.Every.{list_every}
+use Rattle.fluent_syntax_grammar.specs.Tiling.{Tile, entry, refused, dropped}
+use Rattle.fluent_syntax_grammar.specs.Body.{faults, hung, hangs, alone, joined, body}
+use Rattle.fluent_syntax_grammar.specs.Laws.{bare, without_comments, named, messages_and_terms}
+use Rattle.fluent_syntax_tree.specs.declared.spans.Span.{Span}
+use Rattle.fluent_syntax_grammar.proofs.Aligned.{Aligned, nothing, both, comment_left, dropped_right, junk_left, junk_both}
+use Rattle.fluent_syntax_grammar.proofs.Facts.{append_nothing, flat_append}
+
+-- what a tile gives without comments
+abbrev bare_tile : Tile → BodyTree Span
+bare_tile (entry s e) = bare e
+bare_tile (refused f) = junk f.slice ∷ []
+bare_tile dropped = []
+
+abbrev bare_tiles : List Tile → BodyTree Span
+bare_tiles = flat_map bare_tile
+
+-- ---- the tiling
+
+alone_bare : (x : Tile) → without_comments (alone x) ≡ bare_tile x
+alone_bare (entry s e) = append_nothing (bare e)
+alone_bare (refused f) = refl
+alone_bare dropped = refl
+
+hung_bare : (content : List Span) (e : EntryTree Span) (o : Option (EntryTree Span)) → hung content e ≡ o → (h : EntryTree Span) → o ≡ Some h → bare h ≡ bare e
+hung_bare content (message m) o p h q = let same : message (record m { comment = Some content }) ≡ h = cc in ap bare (sym same)
+hung_bare content (term m) o p h q = let same : term (record m { comment = Some content }) ≡ h = cc in ap bare (sym same)
+hung_bare content (comment level c) o p h q = cc
+hung_bare content (junk s) o p h q = cc
+
+if_hung : (b : Bool) (content : List Span) (e h : EntryTree Span) → (if b then hung content e else None) ≡ Some h → bare h ≡ bare e
+if_hung true content e h p = hung_bare content e (hung content e) refl h p
+if_hung false content e h p = cc
+
+hangs_bare : (x y : Tile) (h : EntryTree Span) → hangs x y ≡ Some h → (bare_tile x ≡ []) × (bare h ≡ bare_tile y)
+hangs_bare (entry s (comment regular c)) (entry r e) h p = (refl, if_hung (s.end == r.start) c e h p)
+hangs_bare (entry s (comment regular c)) (refused f) h p = cc
+hangs_bare (entry s (comment regular c)) dropped h p = cc
+hangs_bare (entry s (comment group c)) y h p = cc
+hangs_bare (entry s (comment resource c)) y h p = cc
+hangs_bare (entry s (message m)) y h p = cc
+hangs_bare (entry s (term m)) y h p = cc
+hangs_bare (entry s (junk x)) y h p = cc
+hangs_bare (refused f) y h p = cc
+hangs_bare dropped y h p = cc
+
+bare_joined : (x y : Tile) (others after : BodyTree Span) (tiles : List Tile) (o : Option (EntryTree Span)) → hangs x y ≡ o →
+    without_comments others ≡ bare_tile y ++ bare_tiles tiles → without_comments after ≡ bare_tiles tiles →
+    without_comments (joined o (alone x) others after) ≡ bare_tile x ++ (bare_tile y ++ bare_tiles tiles)
+bare_joined x y others after tiles None e p q = flat_append bare (alone x) others ∙ (ap (λ zs. zs ++ without_comments others) (alone_bare x) ∙ ap (λ zs. bare_tile x ++ zs) p)
+bare_joined x y others after tiles (Some h) e p q =
+    let b = hangs_bare x y h e in
+    ap (λ zs. zs ++ without_comments after) b.1 ∙ (ap (λ zs. bare_tile y ++ zs) q ∙ sym (ap (λ zs. zs ++ (bare_tile y ++ bare_tiles tiles)) b.0))
+
+-- the body without comments is what the tiles give without comments
+pub bare_body : (xs : List Tile) → without_comments (body xs) ≡ bare_tiles xs
+bare_body [] = refl
+bare_body (x ∷ []) = alone_bare x ∙ sym (append_nothing (bare_tile x))
+bare_body (x ∷ y ∷ tiles) = bare_joined x y (body (y ∷ tiles)) (body tiles) tiles (hangs x y) refl (bare_body (y ∷ tiles)) (bare_body tiles)
+
+-- ---- the tiling without comments
+
+-- no comment, and none hung
+abbrev pub IsBare : EntryTree Span → Type 0
+IsBare (message m) = m.comment ≡ None
+IsBare (term m) = m.comment ≡ None
+IsBare (comment level content) = ⊥
+IsBare (junk s) = ⊥
+
+abbrev pub IsBareTile : Tile → Type 0
+IsBareTile (entry s e) = IsBare e
+IsBareTile (refused f) = Unit {0}
+IsBareTile dropped = Unit {0}
+
+bare_alone : (x : Tile) → IsBareTile x → alone x ≡ bare_tile x
+bare_alone (entry s (message m)) b = ap (λ c. message (record m { comment = c }) ∷ []) b
+bare_alone (entry s (term m)) b = ap (λ c. term (record m { comment = c }) ∷ []) b
+bare_alone (entry s (comment level c)) b = absurd b
+bare_alone (entry s (junk x)) b = absurd b
+bare_alone (refused f) b = refl
+bare_alone dropped b = refl
+
+bare_hangs : (x y : Tile) → IsBareTile x → hangs x y ≡ None
+bare_hangs (entry s (message m)) y b = refl
+bare_hangs (entry s (term m)) y b = refl
+bare_hangs (entry s (comment level c)) y b = absurd b
+bare_hangs (entry s (junk x)) y b = refl
+bare_hangs (refused f) y b = refl
+bare_hangs dropped y b = refl
+
+pub body_bare : (xs : List Tile) → list_every IsBareTile xs → body xs ≡ bare_tiles xs
+body_bare [] b = refl
+body_bare (x ∷ []) (b, c) = bare_alone x b ∙ sym (append_nothing (bare_tile x))
+body_bare (x ∷ y ∷ tiles) (b, c) =
+    ap (λ o. joined o (alone x) (body (y ∷ tiles)) (body tiles)) (bare_hangs x y b) ∙
+    (ap (λ zs. zs ++ body (y ∷ tiles)) (bare_alone x b) ∙ ap (λ zs. bare_tile x ++ zs) (body_bare (y ∷ tiles) c))
+
+-- ---- beside one another
+
+pub aligned_named : (xs ys : List Tile) → Aligned xs ys → messages_and_terms (bare_tiles ys) ≡ messages_and_terms (bare_tiles xs)
+aligned_named xs ys nothing = refl
+aligned_named xs ys (both {x = x} {xs = more} {ys = others} a) =
+    flat_append named (bare_tile x) (bare_tiles others) ∙ (ap (λ zs. messages_and_terms (bare_tile x) ++ zs) (aligned_named more others a) ∙ sym (flat_append named (bare_tile x) (bare_tiles more)))
+aligned_named xs ys (comment_left {xs = more} a) = aligned_named more ys a
+aligned_named xs ys (dropped_right {ys = others} a) = aligned_named xs others a
+aligned_named xs ys (junk_left {xs = more} a) = aligned_named more ys a
+aligned_named xs ys (junk_both {xs = more} {ys = others} a) = aligned_named more others a
+
+pub aligned_faults : (xs ys : List Tile) → Aligned xs ys → faults xs ≡ [] → faults ys ≡ []
+aligned_faults xs ys nothing e = refl
+aligned_faults xs ys (both {x = entry s x} {xs = more} {ys = others} a) e = aligned_faults more others a e
+aligned_faults xs ys (both {x = refused f} {xs = more} {ys = others} a) e = cc
+aligned_faults xs ys (both {x = dropped} {xs = more} {ys = others} a) e = aligned_faults more others a e
+aligned_faults xs ys (comment_left {xs = more} a) e = aligned_faults more ys a e
+aligned_faults xs ys (dropped_right {ys = others} a) e = aligned_faults xs others a e
+aligned_faults xs ys (junk_left {xs = more} a) e = cc
+aligned_faults xs ys (junk_both a) e = cc
+
+pub aligned_bare : (xs ys : List Tile) → Aligned xs ys → faults xs ≡ [] → bare_tiles ys ≡ bare_tiles xs
+aligned_bare xs ys nothing e = refl
+aligned_bare xs ys (both {x = entry s x} {xs = more} {ys = others} a) e = ap (λ zs. bare x ++ zs) (aligned_bare more others a e)
+aligned_bare xs ys (both {x = refused f} {xs = more} {ys = others} a) e = cc
+aligned_bare xs ys (both {x = dropped} {xs = more} {ys = others} a) e = aligned_bare more others a e
+aligned_bare xs ys (comment_left {xs = more} a) e = aligned_bare more ys a e
+aligned_bare xs ys (dropped_right {ys = others} a) e = aligned_bare xs others a e
+aligned_bare xs ys (junk_left {xs = more} a) e = cc
+aligned_bare xs ys (junk_both a) e = cc

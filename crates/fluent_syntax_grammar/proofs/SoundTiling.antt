@@ -1,0 +1,132 @@
+-- The tiles of a tiling: each passes over a byte at least, its texts lie in the source, and its error lies at its junk.
+use Rattle.std.proofs.Common.{◌≡◌, ℕ, ◌+◌, ◌<◌, ◌≤◌, List, length, Option, Some, None, Bool, true, false, refl, sym, subst, arith, inl, inr}
+use Rattle.std.specs.Prelude.{slice_get, ◌==◌, ◌⊎◌}
+use Rattle.std.proofs.lemmas.Bool.{false≢true}
+use Rattle.std.proofs.lemmas.Bool.Decides.{nat_tests}
+use Rattle.fluent_syntax_tree.specs.Kind.{Kind}
+use Rattle.fluent_syntax_tree.specs.Entry.{EntryTree}
+use Rattle.fluent_syntax_tree.specs.Every.{list_every, entry_every}
+use Rattle.fluent_syntax_grammar.specs.Bytes.{is_letter}
+use Rattle.fluent_syntax_grammar.specs.Places.{holds, has, starts_line}
+use Rattle.fluent_syntax_grammar.specs.Construct.{Read, Refused, chosen, first, second}
+use Rattle.fluent_syntax_grammar.specs.Meaning.{kind_means}
+use Rattle.fluent_syntax_grammar.specs.Tiling.{Tile, entry, refused, dropped, failing_place, is_entry_byte, starts_entry, JunkEnd, whole_line, Tiled, done, next, entry_of, entry_at, TileAt, reads, refuses, RuntimeTileAt, drops, stands}
+use Rattle.fluent_syntax_tree.specs.declared.edition.Edition.{Edition}
+use Rattle.fluent_syntax_tree.specs.declared.spans.Span.{Span}
+use Rattle.fluent_syntax_grammar.proofs.Cuts.{IsAsciiSet, IsCuts, ascii_has, block_place}
+use Rattle.fluent_syntax_grammar.proofs.Sound.{IsSpan, Inside, Ended, sound_bind, sound_rest_of_line, sound_optional_eol}
+use Rattle.fluent_syntax_grammar.proofs.SoundEntries.{IsEntryFault, earlier_fault, message_read, message_refused, letter_refused, term_read, term_refused}
+use Rattle.fluent_syntax_grammar.proofs.SoundComments.{comment_read, comment_refused}
+use Rattle.fluent_syntax_grammar.proofs.Facts.{byte_stands, lt_or_same, right_true}
+
+ascii_entry : IsAsciiSet is_entry_byte
+ascii_entry = record { small = λ b e. grind (arith, nat_tests) }
+
+entry_letter : (b : ℕ) → (b == 35) ≡ false → (b == 45) ≡ false → is_entry_byte b ≡ true → is_letter b ≡ true
+entry_letter b e f g = grind (arith, nat_tests)
+
+byte_of : (test : ℕ → Bool) (o : Option ℕ) (b : ℕ) → o ≡ Some b → holds test o ≡ true → test b ≡ true
+byte_of test o b e f = rw e at f
+
+no_byte_of : (test : ℕ → Bool) (o : Option ℕ) → o ≡ None → holds test o ≡ true → ⊥
+no_byte_of test o e f = false≢true (rw e at f)
+
+weaker : {t : List ℕ} (i from to : ℕ) (k : Kind) → IsEntryFault t i (i + 1) k from to → IsEntryFault t i i k from to
+weaker {t = t} i from to k f = earlier_fault t i (i + 1) i (omega arith) k from to f
+
+module _ (edition : Edition) (t : List ℕ) (P : ℕ → Type 0) (cuts : IsCuts t P) where
+  abbrev IsGood : EntryTree Span → Type 0
+  IsGood = entry_every (IsSpan P)
+
+  entry_read_of : (i j : ℕ) (a : EntryTree Span) (o : Option ℕ) → slice_get t i ≡ o → P i → entry_of edition t o i (Read a j) → Ended P (i + 1) IsGood a j
+  entry_read_of i j a None e p x = message_read edition t P cuts i j a p x
+  entry_read_of i j a (Some b) e p (first f x) = comment_read t P cuts i j a p (byte_stands (λ c. c == 35) (slice_get t i) b e f) x
+  entry_read_of i j a (Some b) e p (second f (first g x)) = term_read edition t P cuts i j a (byte_stands (λ c. c == 45) (slice_get t i) b e g) x
+  entry_read_of i j a (Some b) e p (second f (second g x)) = message_read edition t P cuts i j a p x
+
+  -- an entry that is read passes over a byte at least, and its texts lie in the source
+  pub entry_read : (i j : ℕ) (a : EntryTree Span) → P i → entry_at edition t i (Read a j) → Ended P (i + 1) IsGood a j
+  entry_read i j a p (chosen x) = entry_read_of i j a (slice_get t i) refl p x
+
+  entry_refused_of : (i from to : ℕ) (k : Kind) (o : Option ℕ) → slice_get t i ≡ o → P i → entry_of edition t o i (Refused k from to) → IsEntryFault t i i k from to
+  entry_refused_of i from to k None e p x = message_refused edition t P cuts i from to k p x
+  entry_refused_of i from to k (Some b) e p (first f x) = weaker i from to k (comment_refused t P cuts i from to k p (byte_stands (λ c. c == 35) (slice_get t i) b e f) x)
+  entry_refused_of i from to k (Some b) e p (second f (first g x)) = weaker i from to k (term_refused edition t P cuts i from to k (byte_stands (λ c. c == 45) (slice_get t i) b e g) x)
+  entry_refused_of i from to k (Some b) e p (second f (second g x)) = message_refused edition t P cuts i from to k p x
+
+  pub entry_refused : (i from to : ℕ) (k : Kind) → P i → entry_at edition t i (Refused k from to) → IsEntryFault t i i k from to
+  entry_refused i from to k p (chosen x) = entry_refused_of i from to k (slice_get t i) refl p x
+
+  entry_onward_of : (i from to : ℕ) (k : Kind) (o : Option ℕ) → slice_get t i ≡ o → P i → has t is_entry_byte i ≡ true → entry_of edition t o i (Refused k from to) → IsEntryFault t i (i + 1) k from to
+  entry_onward_of i from to k None e p h x = absurd (no_byte_of is_entry_byte (slice_get t i) e h)
+  entry_onward_of i from to k (Some b) e p h (first f x) = comment_refused t P cuts i from to k p (byte_stands (λ c. c == 35) (slice_get t i) b e f) x
+  entry_onward_of i from to k (Some b) e p h (second f (first g x)) = term_refused edition t P cuts i from to k (byte_stands (λ c. c == 45) (slice_get t i) b e g) x
+  entry_onward_of i from to k (Some b) e p h (second f (second g x)) =
+      letter_refused edition t P cuts i from to k p (byte_stands is_letter (slice_get t i) b e (entry_letter b f g (byte_of is_entry_byte (slice_get t i) b e h))) x
+
+  -- where an entry may begin, a refusal's failing place is after its first byte
+  pub entry_onward : (i from to : ℕ) (k : Kind) → P i → has t is_entry_byte i ≡ true → entry_at edition t i (Refused k from to) → IsEntryFault t i (i + 1) k from to
+  entry_onward i from to k p h (chosen x) = entry_onward_of i from to k (slice_get t i) refl p h x
+
+  -- what holds of a tile that reaches from i to j
+  abbrev pub GoodTile : Tile → Type 0
+  GoodTile (entry s e) = (s.start < s.end) × IsSpan P s × IsGood e
+  GoodTile (refused f) = (f.slice.start < f.slice.end) × IsSpan P f.slice × (f.slice.start ≤ f.pos.start) × (f.pos.start ≤ f.slice.end) × kind_means t f.kind f.pos.start
+  GoodTile dropped = Unit {0}
+
+  pub record EndedTile (i j : ℕ) (tile : Tile) : Type 0 where
+    pub onward : i < j
+    pub place : P j
+    pub good : GoodTile tile
+
+  junk_place : (place j : ℕ) → JunkEnd t place j → P j
+  junk_place place j e = elim e.stop [
+    | inl h ↦ cuts.before j (ascii_has t is_entry_byte j ascii_entry (right_true (starts_line t j) (has t is_entry_byte j) h))
+    | inr n ↦ subst P (sym n) cuts.at_end
+  ]
+
+  junk_not_empty : (i j place : ℕ) → i < length t → (has t is_entry_byte i ≡ true → i + 1 ≤ place) → i ≡ j → place ≤ j → (starts_entry t j ≡ true) ⊎ (j ≡ length t) → i < j
+  junk_not_empty i j place l f same forward stop = elim stop [
+    | inl h ↦ (let there = right_true (starts_line t j) (has t is_entry_byte j) h in let on = f (subst (λ k. has t is_entry_byte k ≡ true) (sym same) there) in omega arith)
+    | inr n ↦ omega arith
+  ]
+
+  -- junk is not empty
+  junk_onward : (i j place : ℕ) → i < length t → i ≤ place → (has t is_entry_byte i ≡ true → i + 1 ≤ place) → JunkEnd t place j → i < j
+  junk_onward i j place l m f e =
+      let forward = e.forward in
+      elim (lt_or_same i j (omega arith)) [ inl x ↦ x | inr same ↦ junk_not_empty i j place l f same forward e.stop ]
+
+  pub tile_good : (i j : ℕ) (tile : Tile) → P i → i < length t → TileAt edition t i j tile → EndedTile i j tile
+  tile_good i j tile p l (reads {e = e} x) =
+      let q = entry_read i j e p x in
+      let on = q.late in
+      record { onward = omega arith; place = q.place; good = (omega arith, (omega arith, p, q.place), q.good) }
+  tile_good i j tile p l (refuses {from = from} {to = to} {k = k} x e) =
+      let f = entry_refused i from to k p x in
+      let late = f.late in
+      let ordered = f.ordered in
+      let forward = e.forward in
+      let on = junk_onward i j (failing_place k from to) l f.onward (λ h. (entry_onward i from to k p h x).onward) e in
+      let place = junk_place (failing_place k from to) j e in
+      record { onward = on; place = place; good = (on, (omega arith, p, place), late, omega arith, f.means) }
+
+  pub line_end : (i j : ℕ) → P i → whole_line t i (Read tt j) → Inside P i j
+  line_end i j p x =
+      let q = (sound_bind (sound_rest_of_line t P cuts) (λ s g. sound_optional_eol t P cuts {s = i})).holds.on_read i j tt (record { late = omega arith; place = p }) x in
+      record { late = q.late; place = q.place }
+
+  pub tiled_good : (i : ℕ) (tiles : List Tile) → P i → Tiled t (TileAt edition t) i tiles → list_every GoodTile tiles
+  tiled_good i tiles p (done b) = tt
+  tiled_good i tiles p (next {start = start} {end = end} {tile = tile} {tiles = more} b l x y) =
+      let q = tile_good start end tile (block_place t P cuts i start p b) l x in
+      (q.good, tiled_good end more q.place y)
+
+  pub runtime_good : (i : ℕ) (tiles : List Tile) → P i → Tiled t (RuntimeTileAt edition t) i tiles → list_every GoodTile tiles
+  runtime_good i tiles p (done b) = tt
+  runtime_good i tiles p (next {start = start} {end = end} {tiles = more} b l (drops h x) y) =
+      let q = line_end start end (block_place t P cuts i start p b) x in
+      (tt, runtime_good end more q.place y)
+  runtime_good i tiles p (next {start = start} {end = end} {tile = tile} {tiles = more} b l (stands h x) y) =
+      let q = tile_good start end tile (block_place t P cuts i start p b) l x in
+      (q.good, runtime_good end more q.place y)

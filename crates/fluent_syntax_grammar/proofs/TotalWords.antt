@@ -1,0 +1,233 @@
+-- Words, marks, names, numbers and strings have an outcome at each place of the text.
+use Rattle.std.proofs.Common.{◌≡◌, ℕ, zero, suc, ◌+◌, ◌-◌, ◌<◌, ◌≤◌, List, length, Option, Some, None, Bool, true, false, refl, sym, ◌∙◌, subst, arith, inl, inr}
+use Rattle.std.specs.Prelude.{slice_get, ◌==◌}
+use Rattle.std.proofs.lemmas.Bool.{false≢true}
+use Rattle.std.proofs.lemmas.Option.{slice_get_within}
+use Rattle.fluent_syntax_grammar.specs.Bytes.{is_space, is_digit, is_name_byte}
+use Rattle.fluent_syntax_grammar.specs.Places.{Stretch, Word, Steps, has, has_byte, after_eol, is_blank_place, is_line_place, InlineBlank, BlankBlock, no_line, line}
+use Rattle.fluent_syntax_grammar.specs.Construct.{Outcome, Read, Refused, Construct, over}
+use Rattle.fluent_syntax_grammar.specs.Words.{spanned, optional, token, inline_blank, blank, blank_block, past_eol, optional_eol, rest_of_line, digits, identifier, number}
+use Rattle.fluent_syntax_grammar.specs.Strings.{hex_digits, all_there, escaped, string_unit, string_units, before_quote, unit_and_more, bad_unit, string_literal}
+use Rattle.fluent_syntax_grammar.specs.Lines.{is_run_place}
+use Rattle.fluent_syntax_grammar.proofs.Holds.{Holds, holds_weaker, holds_bind, holds_gives, holds_fails, holds_over, holds_at_each, holds_either}
+use Rattle.fluent_syntax_grammar.proofs.Cuts.{ascii_blank, line_inside, run_inside, eol_forward, eol_place, block_forward, block_place}
+use Rattle.fluent_syntax_grammar.proofs.Sound.{Sound}
+use Rattle.fluent_syntax_grammar.proofs.SoundStrings.{InText, unit_holds, sound_units}
+use Rattle.fluent_syntax_grammar.proofs.SoundEntries.{name_read}
+use Rattle.fluent_syntax_grammar.proofs.Boundaries.{text_cuts}
+use Rattle.fluent_syntax_grammar.proofs.Computed.{find_here, find_on}
+use Rattle.fluent_syntax_grammar.proofs.ComputedRules.{computed_hex, hex_run, hex_end}
+use Rattle.fluent_syntax_grammar.proofs.Total.{From, AnyFault, Total, Both, Strict, IsWord, total_bind, total_gives, total_fails, total_over, total_at_each, total_either, both_bind, both_gives, both_here, both_fails, both_over, both_at_each, both_either, both_strict, strict_first, strict_then}
+use Rattle.fluent_syntax_grammar.proofs.Facts.{byte_inside, lt_or_same}
+
+true_false : {X : Type 0} → false ≡ true → X
+true_false e = cc
+
+-- what is sound does not go back
+pub on_sound : {A : Type 0} {t : List ℕ} {s : ℕ} {c : Construct A} {Good : A → Type 0} → Sound t (InText t) s c Good → Holds (From t s) c (λ a j. From t s j) AnyFault
+on_sound x = holds_weaker (λ i p. record { late = p.late; place = p.in_text }) (λ a j e. record { late = e.late; in_text = e.place }) (λ k from to f. tt) x.holds
+
+hex_forward : {t : List ℕ} (i w j m : ℕ) (u : Unit {0}) → i + 2 ≤ j → hex_digits t w j (Read u m) → i + 1 ≤ m
+hex_forward i w j m u p (all_there h e) = let f = h.forward in omega arith
+
+module _ (t : List ℕ) where
+  stretch_at : (test : ℕ → Bool) → ((k : ℕ) → test k ≡ true → k < length t) → (m i : ℕ) → length t ≤ i + m → (b : Bool) → test i ≡ b → (test i ≡ true → (j : ℕ) × Stretch test (i + 1) j) → (j : ℕ) × Stretch test i j
+  stretch_at test inside m i l false e more = (i, find_here test i i e refl)
+  stretch_at test inside m i l true e more = let x = more e in (x.0, find_on test i x.0 e x.1)
+
+  stretch_exists : (test : ℕ → Bool) → ((k : ℕ) → test k ≡ true → k < length t) → (m i : ℕ) → length t ≤ i + m → (j : ℕ) × Stretch test i j
+  stretch_exists test inside zero i l = stretch_at test inside zero i l (test i) refl (λ e. let x = inside i e in absurd (omega arith))
+  stretch_exists test inside (suc m) i l = stretch_at test inside (suc m) i l (test i) refl (λ e. stretch_exists test inside m (i + 1) (omega arith))
+
+  stretch_in_text : (test : ℕ → Bool) → ((k : ℕ) → test k ≡ true → k < length t) → (i j : ℕ) → i ≤ length t → Stretch test i j → j ≤ length t
+  stretch_in_text test inside i j l s =
+      let forward = s.forward in
+      elim (lt_or_same i j forward) [ inl m ↦ (let last = inside (j - 1) (s.each (j - 1) (omega arith) (omega arith)) in omega arith) | inr e ↦ omega arith ]
+
+  pub stretch_word : (test : ℕ → Bool) → ((k : ℕ) → test k ≡ true → k < length t) → IsWord t (Stretch test)
+  stretch_word test inside = record {
+    exists = λ i l. stretch_exists test inside (length t) i (omega arith);
+    forward = λ i j s. s.forward;
+    in_text = λ i j l s. stretch_in_text test inside i j l s;
+  }
+
+  has_inside : (set : ℕ → Bool) (k : ℕ) → has t set k ≡ true → k < length t
+  has_inside set k e = byte_inside set t k (slice_get t k) refl e
+
+  blank_inside : (k : ℕ) → is_blank_place t k ≡ true → k < length t
+  blank_inside k e = let a = ascii_blank t k e in slice_get_within t k a.byte a.stands
+
+  pub word_of : (set : ℕ → Bool) → IsWord t (Word t set)
+  word_of set = stretch_word (has t set) (has_inside set)
+
+  pub run_word : IsWord t (Stretch (is_run_place t))
+  run_word = stretch_word (is_run_place t) (run_inside t)
+
+  -- ---- blank blocks
+
+  eol_text : (i k : ℕ) → after_eol t i ≡ Some k → k ≤ length t
+  eol_text i k e = eol_place t (InText t) (text_cuts t) i k e
+
+  block_at : (m i k : ℕ) → length t ≤ i + m → i ≤ length t → InlineBlank t i k → (o : Option ℕ) → after_eol t k ≡ o → ((q : ℕ) → i < q → q ≤ length t → (j : ℕ) × BlankBlock t q j) → (j : ℕ) × BlankBlock t i j
+  block_at m i k l a w None e more = (i, no_line w e)
+  block_at m i k l a w (Some q) e more =
+      let forward = w.forward in
+      let on = eol_forward t k q e in
+      let x = more q (omega arith) (eol_text k q e) in
+      (x.0, line w e x.1)
+
+  block_exists : (m i : ℕ) → length t ≤ i + m → i ≤ length t → (j : ℕ) × BlankBlock t i j
+  block_exists zero i l a = let w = (word_of is_space).exists i a in block_at zero i w.0 l a w.1 (after_eol t w.0) refl (λ q b c. absurd (omega arith))
+  block_exists (suc m) i l a = let w = (word_of is_space).exists i a in block_at (suc m) i w.0 l a w.1 (after_eol t w.0) refl (λ q b c. block_exists m q (omega arith) c)
+
+  pub block_word : IsWord t (BlankBlock t)
+  block_word = record {
+    exists = λ i l. block_exists (length t) i (omega arith) l;
+    forward = λ i j b. block_forward t i j b;
+    in_text = λ i j l b. block_place t (InText t) (text_cuts t) i j l b;
+  }
+
+  -- ---- marks
+
+  pub both_inline_blank : {s : ℕ} → Both t s (inline_blank t)
+  both_inline_blank = both_over (word_of is_space)
+
+  pub both_blank : {s : ℕ} → Both t s (blank t)
+  both_blank = both_over (stretch_word (is_blank_place t) blank_inside)
+
+  pub both_blank_block : {s : ℕ} → Both t s (blank_block t)
+  both_blank_block = both_over block_word
+
+  -- after an optional byte that was there, the place is after it
+  pub record AfterByte (s : ℕ) (found : Bool) (j : ℕ) : Type 0 where
+    pub at : From t s j
+    pub past : found ≡ true → From t (s + 1) j
+
+  pub optional_on : (s b : ℕ) → Holds (From t s) (optional t b) (AfterByte s) AnyFault
+  optional_on s b = holds_at_each (λ found. holds_either
+      (λ e. holds_bind {mid = λ u. From t (s + 1)} (holds_over (λ i j p w. let q = p.0 in let late = q.late in let by = w.by in let l = has_inside (λ c. c == b) i (p.1 ∙ e) in record { late = omega arith; in_text = omega arith }))
+      (λ u. holds_gives (λ i p. let late = p.late in record { at = record { late = omega arith; in_text = p.in_text }; past = λ yes. p })))
+      (λ e. holds_gives (λ i p. record { at = p.0; past = λ yes. true_false yes })))
+
+  pub total_optional : {pre : ℕ → Type 0} (b : ℕ) → Total pre (optional t b)
+  total_optional b = total_at_each (λ found. total_either (λ e. total_bind {mid = λ u i. Unit {0}} (total_over (λ i p. (i + 1, record { by = refl }))) (holds_over (λ i j p w. tt)) (λ u. total_gives)) (λ e. total_gives))
+
+  pub both_optional : {s : ℕ} (b : ℕ) → Both t s (optional t b)
+  both_optional {s = s} b = record { total = total_optional b; on = holds_weaker (λ i p. p) (λ a j x. x.at) (λ k from to x. x) (optional_on s b) }
+
+  pub strict_token : {s : ℕ} (b : ℕ) → Strict t s (token t b)
+  strict_token {s = s} b = record {
+    total = total_bind (total_optional b) (optional_on s b) (λ found. total_either (λ e. total_gives) (λ e. total_fails));
+    on = holds_bind (optional_on s b) (λ found. holds_either (λ e. holds_gives (λ i p. p.past e)) (λ e. holds_fails (λ i p. tt)));
+  }
+
+  past_total : (s : ℕ) (o : Option ℕ) → Total (λ i. From t s i × (after_eol t i ≡ o)) (past_eol o)
+  past_total s None = total_gives
+  past_total s (Some k) = total_over (λ i p. (k, record { there = refl }))
+
+  past_on : (s : ℕ) (o : Option ℕ) → Holds (λ i. From t s i × (after_eol t i ≡ o)) (past_eol o) (λ u. From t s) AnyFault
+  past_on s None = holds_gives (λ i p. p.0)
+  past_on s (Some k) = holds_over (λ i j p w. let q = p.0 in let late = q.late in let there = w.there in let f = eol_forward t i k p.1 in let l = eol_text i k p.1 in record { late = omega arith; in_text = omega arith })
+
+  pub both_optional_eol : {s : ℕ} → Both t s (optional_eol t)
+  both_optional_eol {s = s} = record { total = total_at_each (past_total s); on = holds_at_each (past_on s) }
+
+  pub both_spanned : {s start : ℕ} → Both t s (spanned start)
+  both_spanned = both_bind both_here (λ end. both_gives)
+
+  pub both_rest_of_line : {s : ℕ} → Both t s (rest_of_line t)
+  both_rest_of_line = both_bind both_here (λ start. both_bind (both_over (stretch_word (is_line_place t) (line_inside t))) (λ u. both_spanned))
+
+  word_on : (set : ℕ → Bool) (i j : ℕ) → has t set i ≡ true → Word t set i j → i < j
+  word_on set i j e w = elim (lt_or_same i j w.forward) [ inl l ↦ l | inr same ↦ absurd (false≢true (sym w.longest ∙ subst (λ k. has t set k ≡ true) same e)) ]
+
+  pub strict_digits : {s : ℕ} → Strict t s (digits t)
+  strict_digits {s = s} = record {
+    total = total_at_each (λ found. total_either (λ e. total_over (λ i p. (word_of is_digit).exists i (p.0).in_text)) (λ e. total_fails));
+    on = holds_at_each (λ found. holds_either
+        (λ e. holds_over (λ i j p w. let q = p.0 in let late = q.late in let l = word_on is_digit i j (p.1 ∙ e) w in let m = (word_of is_digit).in_text i j q.in_text w in record { late = omega arith; in_text = m }))
+        (λ e. holds_fails (λ i p. tt)));
+  }
+
+  both_identifier : {s : ℕ} → Both t s (identifier t)
+  both_identifier = both_bind both_here (λ start. both_bind (both_at_each (λ letter. both_gives)) (λ letter. both_either (both_bind (both_over (word_of is_name_byte)) (λ u. both_spanned)) both_fails))
+
+  pub strict_identifier : {s : ℕ} → Strict t s (identifier t)
+  strict_identifier {s = s} = record {
+    total = both_identifier.total;
+    on = record {
+      on_read = λ i j a p x. (let q = name_read t (InText t) (text_cuts t) i j a p.in_text x in let late = p.late in let on = q.late in record { late = omega arith; in_text = q.place });
+      on_refused = λ i from to k p x. tt;
+    };
+  }
+
+  pub strict_number : {s : ℕ} → Strict t s (number t)
+  strict_number = strict_then both_here (λ start. strict_then (both_optional 45) (λ x. strict_first strict_digits (λ u. both_bind (both_optional 46) (λ point.
+      both_bind (both_either (both_strict strict_digits) both_gives) (λ u. both_spanned)))))
+
+  -- ---- strings
+
+  total_hex : {pre : ℕ → Type 0} (w : ℕ) → Total pre (hex_digits t w)
+  total_hex w = record { has = λ i p. (hex_run t 0 w i (hex_end t 0 w i) (hex_end t 0 w i == i + w), (computed_hex t 0 {w = w}).sound i (hex_run t 0 w i (hex_end t 0 w i) (hex_end t 0 w i == i + w)) refl) }
+
+  abbrev Always : {A : Type 0} → A → ℕ → Type 0
+  Always a j = Unit {0}
+
+  steps_total : {pre : ℕ → Type 0} (n : ℕ) → Total pre (over (Steps n))
+  steps_total n = total_over (λ i p. (i + n, record { by = refl }))
+
+  steps_on : {pre : ℕ → Type 0} (n : ℕ) → Holds pre (over (Steps n)) Always AnyFault
+  steps_on n = holds_over (λ i j p w. tt)
+
+  escaped_total : {pre : ℕ → Type 0} (o : Option ℕ) → Total pre (escaped t o)
+  escaped_total None = total_fails
+  escaped_total (Some b) = total_either (λ e. steps_total 2) (λ e. total_either (λ e. total_bind (steps_total 2) (steps_on 2) (λ u. total_hex 4))
+      (λ e. total_either (λ e. total_bind (steps_total 2) (steps_on 2) (λ u. total_hex 6)) (λ e. total_fails)))
+
+  unit_total : {pre : ℕ → Type 0} (o : Option ℕ) → Total pre (string_unit t o)
+  unit_total None = total_fails
+  unit_total (Some b) = total_either (λ e. total_fails) (λ e. total_either (λ e. total_at_each (λ o. escaped_total o)) (λ e. steps_total 1))
+
+  abbrev At : ℕ → ℕ → Type 0
+  At i j = j ≡ i
+
+  abbrev After : ℕ → Unit {0} → ℕ → Type 0
+  After i u j = i + 1 ≤ j
+
+  hex_on : (i w : ℕ) → Holds (λ j. i + 2 ≤ j) (hex_digits t w) (After i) AnyFault
+  hex_on i w = record { on_read = λ j m u p x. hex_forward i w j m u p x; on_refused = λ j from to k p x. tt }
+
+  escaped_on : (i : ℕ) (o : Option ℕ) → Holds (At i) (escaped t o) (After i) AnyFault
+  escaped_on i None = holds_fails (λ j p. tt)
+  escaped_on i (Some b) = holds_either (λ e. holds_over (λ j m p w. let by = w.by in omega arith))
+      (λ e. holds_either (λ e. holds_bind {mid = λ u j. i + 2 ≤ j} (holds_over (λ j m p w. let by = w.by in omega arith)) (λ u. hex_on i 4))
+      (λ e. holds_either (λ e. holds_bind {mid = λ u j. i + 2 ≤ j} (holds_over (λ j m p w. let by = w.by in omega arith)) (λ u. hex_on i 6))
+      (λ e. holds_fails (λ j p. tt))))
+
+  unit_on : (i : ℕ) (o : Option ℕ) → Holds (At i) (string_unit t o) (After i) AnyFault
+  unit_on i None = holds_fails (λ j p. tt)
+  unit_on i (Some b) = holds_either (λ e. holds_fails (λ j p. tt)) (λ e. holds_either
+      (λ e. holds_at_each (λ o. holds_weaker {pre = At i} (λ j p. p.0) (λ a j x. x) (λ k from to x. x) (escaped_on i o)))
+      (λ e. holds_over (λ j m p w. let by = w.by in omega arith)))
+
+  unit_text : (i j : ℕ) → i ≤ length t → has_byte t 34 i ≡ false → string_unit t (slice_get t i) i (Read tt j) → j ≤ length t
+  unit_text i j l e x = ((unit_holds t i (slice_get t i)).on_read i j tt (record { late = omega arith; place = l }, refl, e) x).place
+
+  units_unit : (i : ℕ) → i ≤ length t → has_byte t 34 i ≡ false → ((j : ℕ) → i < j → j ≤ length t → (o : Outcome (Unit {0})) × string_units t j o) →
+      (o : Outcome (Unit {0})) → string_unit t (slice_get t i) i o → (o : Outcome (Unit {0})) × string_units t i o
+  units_unit i l e more (Read a j) x = let on = (unit_on i (slice_get t i)).on_read i j tt refl x in let y = more j (omega arith) (unit_text i j l e x) in (y.0, unit_and_more e x y.1)
+  units_unit i l e more (Refused k from to) x = (Refused k from to, bad_unit e x)
+
+  units_at : (i : ℕ) → i ≤ length t → (b : Bool) → has_byte t 34 i ≡ b → ((j : ℕ) → i < j → j ≤ length t → (o : Outcome (Unit {0})) × string_units t j o) → (o : Outcome (Unit {0})) × string_units t i o
+  units_at i l true e more = (Read tt i, before_quote e)
+  units_at i l false e more = let x = (unit_total {pre = At i} (slice_get t i)).has i refl in units_unit i l e more x.0 x.1
+
+  units_exist : (m i : ℕ) → length t ≤ i + m → i ≤ length t → (o : Outcome (Unit {0})) × string_units t i o
+  units_exist zero i a l = units_at i l (has_byte t 34 i) refl (λ j b c. absurd (omega arith))
+  units_exist (suc m) i a l = units_at i l (has_byte t 34 i) refl (λ j b c. units_exist m j (omega arith) c)
+
+  both_units : {s : ℕ} → Both t s (string_units t)
+  both_units {s = s} = record { total = record { has = λ i p. units_exist (length t) i (omega arith) p.in_text }; on = on_sound (sound_units t (InText t) (text_cuts t) {s = s}) }
+
+  pub strict_string : {s : ℕ} → Strict t s (string_literal t)
+  strict_string = strict_first (strict_token 34) (λ u. both_bind both_here (λ start. both_bind both_units (λ u. both_bind both_spanned (λ value. both_bind (both_strict (strict_token 34)) (λ u. both_gives)))))

@@ -1,0 +1,53 @@
+-- What may come of reading a construct at a place, and how constructs are made of parts.
+-- Reading and refusing are one relation with two outcomes.
+use Rattle.std.specs.Prelude.{◌≡◌, ℕ, ◌+◌, Bool, true, false}
+use Rattle.fluent_syntax_tree.specs.Kind.{Kind}
+
+-- It is read and spells a value, and ends at the place; or it is refused, for a kind of fault, from the one place to the other.
+pub data Outcome (A : Type 0) : Type 0 where
+  Read : A → (end : ℕ) → Outcome A
+  Refused : Kind → (from to : ℕ) → Outcome A
+
+-- A construct says, for each place, what may come of reading it there.
+abbrev pub Construct : Type 0 → Type 1
+Construct A = ℕ → Outcome A → Type 0
+
+-- Two parts, one after the other: the second begins where the first ended. The first refusal met is the construct's.
+infixl 10 ◌>>=◌
+pub data ◌>>=◌ {A B : Type 0} (first : Construct A) (next : A → Construct B) : ℕ → Outcome B → Type 0 where
+  stops : {i from to : ℕ} {k : Kind} → first i (Refused k from to) → (first >>= next) i (Refused k from to)
+  goes_on : {i j : ℕ} {a : A} {o : Outcome B} → first i (Read a j) → next a j o → (first >>= next) i o
+
+-- the same, where what the first part spells is not needed
+infixl 10 ◌>>◌
+abbrev pub ◌>>◌ : {A B : Type 0} → Construct A → Construct B → Construct B
+c >> d = c >>= λ _. d
+
+-- Nothing is passed over, and it spells the value.
+pub data gives {A : Type 0} (a : A) : ℕ → Outcome A → Type 0 where
+  given : {i : ℕ} → gives a i (Read a i)
+
+-- Nothing is passed over, and it spells the place itself.
+pub data here : ℕ → Outcome ℕ → Type 0 where
+  at_place : {i : ℕ} → here i (Read i i)
+
+-- It is refused at the place: from there to the next place.
+pub data fails {A : Type 0} (k : Kind) : ℕ → Outcome A → Type 0 where
+  failed : {i to : ℕ} → to ≡ i + 1 → fails k i (Refused k i to)
+
+-- It is refused from an earlier place up to this one.
+pub data fails_from {A : Type 0} (k : Kind) (from : ℕ) : ℕ → Outcome A → Type 0 where
+  failed_from : {i : ℕ} → fails_from k from i (Refused k from i)
+
+-- What the relation between two places allows is passed over.
+pub data over (W : ℕ → ℕ → Type 0) : ℕ → Outcome (Unit {0}) → Type 0 where
+  passed : {i j : ℕ} → W i j → over W i (Read tt j)
+
+-- What is seen at the place chooses the part.
+pub data at_each {A B : Type 0} (look : ℕ → A) (part : A → Construct B) : ℕ → Outcome B → Type 0 where
+  chosen : {i : ℕ} {o : Outcome B} → part (look i) i o → at_each look part i o
+
+-- the first construct where the test passed, and else the second
+pub data either {A : Type 0} (test : Bool) (yes no : Construct A) : ℕ → Outcome A → Type 0 where
+  first : {i : ℕ} {o : Outcome A} → test ≡ true → yes i o → either test yes no i o
+  second : {i : ℕ} {o : Outcome A} → test ≡ false → no i o → either test yes no i o

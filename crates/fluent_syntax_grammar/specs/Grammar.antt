@@ -1,0 +1,69 @@
+-- The grammar of what nests: the family that its own rules make.
+use Rattle.std.specs.Prelude.{ℕ, zero, suc, List, false, Option}
+use Rattle.fluent_syntax_grammar.specs.Construct.{Construct}
+use Rattle.fluent_syntax_grammar.specs.Family.{Family}
+use Rattle.fluent_syntax_grammar.specs.Arguments as arguments
+use Rattle.fluent_syntax_grammar.specs.Placeables as placeables
+use Rattle.fluent_syntax_grammar.specs.Inline as inline
+use Rattle.fluent_syntax_grammar.specs.Lines as lines
+use Rattle.fluent_syntax_grammar.specs.Patterns as patterns
+use Rattle.fluent_syntax_grammar.specs.Variants as variants
+use Rattle.fluent_syntax_tree.specs.Tree.{ExpressionTree, InlineTree, MaybeArguments, PatternTree, VariantTrees}
+use Rattle.fluent_syntax_tree.specs.declared.edition.Edition.{Edition}
+use Rattle.fluent_syntax_tree.specs.declared.spans.Span.{Span}
+
+module _ (edition : Edition) (t : List ℕ) where
+  -- the rules over a family
+  abbrev pub next : Family → Family
+  next R = record {
+    inline_expression = inline.inline_expression t R;
+    more_arguments = arguments.more_arguments t R;
+    more_variants = variants.more_variants edition t R;
+    more_pieces = lines.more_pieces t R;
+    more_lines = lines.more_lines t R;
+  }
+
+  -- the constructs that nest less deeply than the number
+  unfoldable pub within : ℕ → Family
+  within zero = record {
+    inline_expression = λ i o. ⊥;
+    more_arguments = λ names i o. ⊥;
+    more_variants = λ starred i o. ⊥;
+    more_pieces = λ i o. ⊥;
+    more_lines = λ i o. ⊥;
+  }
+  within (suc n) = next (within n)
+
+  -- The constructs that nest to any depth. There is no limit: each text that is read or refused is so within some number.
+  unfoldable pub family : Family
+  family = record {
+    inline_expression = λ i o. (n : ℕ) × (within n).inline_expression i o;
+    more_arguments = λ names i o. (n : ℕ) × (within n).more_arguments names i o;
+    more_variants = λ starred i o. (n : ℕ) × (within n).more_variants starred i o;
+    more_pieces = λ i o. (n : ℕ) × (within n).more_pieces i o;
+    more_lines = λ i o. (n : ℕ) × (within n).more_lines i o;
+  }
+
+  -- an inline expression, with what nests in it to any depth; and so on for the others
+  abbrev pub inline_expression : Construct (InlineTree Span)
+  inline_expression = inline.inline_expression t family
+
+  -- the arguments of a reference
+  abbrev pub call_arguments : Construct (MaybeArguments Span)
+  call_arguments = arguments.call_arguments t family
+
+  -- an expression in a placeable
+  abbrev pub expression : Construct (ExpressionTree Span)
+  expression = placeables.expression t family
+
+  -- a placeable
+  abbrev pub placeable : Construct (ExpressionTree Span)
+  placeable = placeables.placeable t family
+
+  -- the variants of a select
+  abbrev pub variant_list : Construct (VariantTrees Span)
+  variant_list = variants.more_variants edition t family false
+
+  -- a pattern
+  abbrev pub pattern : Construct (Option (PatternTree Span))
+  pattern = patterns.pattern edition t family

@@ -1,0 +1,52 @@
+-- Inline expressions.
+use Rattle.std.specs.Prelude.{ℕ, List, Bool, ◌&&◌, ◌||◌, ◌==◌, nat_le}
+use Rattle.std.specs.List.{list_all}
+use Rattle.fluent_syntax_grammar.specs.Bytes.{is_digit}
+use Rattle.fluent_syntax_tree.specs.Spans.{bytes_at}
+use Rattle.fluent_syntax_tree.specs.Tree.{InlineTree, string_literal, number_literal, function_reference, message_reference, term_reference, variable_reference, inline_placeable, MaybeArguments, no_arguments, some_arguments}
+use Rattle.fluent_syntax_tree.specs.Kind.{ForbiddenCallee, ExpectedInlineExpression}
+use Rattle.fluent_syntax_grammar.specs.Construct.{Construct, ◌>>=◌, ◌>>◌, gives, fails, at_each, either}
+use Rattle.fluent_syntax_grammar.specs.Words.{token, identifier, number}
+use Rattle.fluent_syntax_grammar.specs.Strings as strings
+use Rattle.fluent_syntax_grammar.specs.Starts.{Start, quote, digit, term, minus, dollar, letter, brace, other, start}
+use Rattle.fluent_syntax_grammar.specs.Family.{Family}
+use Rattle.fluent_syntax_grammar.specs.Arguments.{accessor, call_arguments}
+use Rattle.fluent_syntax_grammar.specs.Placeables.{placeable}
+use Rattle.fluent_syntax_tree.specs.declared.spans.Span.{Span}
+
+-- `A` to `Z`, digits, `_` and `-`
+abbrev pub is_callee_byte : ℕ → Bool
+is_callee_byte b = nat_le 65 b && nat_le b 90 || is_digit b || b == 95 || b == 45
+
+-- After a name and its arguments: with arguments a function reference, whose name holds only callee bytes; without them
+-- a message reference, which has an attribute where `.` follows.
+abbrev pub named_reference : List ℕ → Span → MaybeArguments Span → Construct (InlineTree Span)
+named_reference t id (some_arguments a) = either (list_all is_callee_byte (bytes_at t id)) (gives (function_reference id a)) (fails ForbiddenCallee)
+named_reference t id no_arguments = accessor t >>= λ a. gives (message_reference id a)
+
+module _ (t : List ℕ) (R : Family) where
+  -- an inline expression by its start
+  abbrev pub inline_of : Start → Construct (InlineTree Span)
+  inline_of quote = strings.string_literal t >>= λ v. gives (string_literal v)
+  inline_of digit = number t >>= λ v. gives (number_literal v)
+  inline_of minus = number t >>= λ v. gives (number_literal v)
+  inline_of term = do
+    token t 45
+    id ← identifier t
+    attribute ← accessor t
+    a ← call_arguments t R
+    gives (term_reference id attribute a)
+  inline_of dollar = do
+    token t 36
+    id ← identifier t
+    gives (variable_reference id)
+  inline_of letter = do
+    id ← identifier t
+    a ← call_arguments t R
+    named_reference t id a
+  inline_of brace = placeable t R >>= λ e. gives (inline_placeable e)
+  inline_of other = fails ExpectedInlineExpression
+
+  -- Inline expression: what stands at the place decides its form.
+  abbrev pub inline_expression : Construct (InlineTree Span)
+  inline_expression = at_each (start t) inline_of

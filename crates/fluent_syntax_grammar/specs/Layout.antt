@@ -1,0 +1,62 @@
+-- The layout of a pattern: its source as a finished list of lines, and the common indent of the list.
+use Rattle.std.specs.Prelude.{ℕ, min, List, [], ◌∷◌, Option, Some, None, ◌==◌, if◌then◌else◌}
+use Rattle.std.specs.List.{flat_map}
+use Rattle.fluent_syntax_tree.specs.Tree.{ExpressionTree}
+use Rattle.fluent_syntax_tree.specs.declared.spans.Span.{Span}
+use Rattle.fluent_syntax_tree.specs.declared.edition.Edition.{Edition}
+use Rattle.fluent_syntax_tree.specs.declared.edition.Edition.TheVariants.{One, Two}
+
+-- A run of text, from the one place to the other, or a placeable. (A placeable may span several lines of the source.)
+pub data Piece : Type 0 where
+  run : (from to : ℕ) → Piece
+  placed : ExpressionTree Span → Piece
+
+-- how a line ends: LF or CRLF, which begins at the place, or the text's end
+pub data Ending : Type 0 where
+  lf_at crlf_at : ℕ → Ending
+  text_end : Ending
+
+-- a line of a pattern
+pub record Line : Type 0 where
+  -- where its leading spaces begin
+  pub start : ℕ
+  -- how many they are
+  pub spaces : ℕ
+  -- what follows them, up to the ending
+  pub pieces : List Piece
+  pub ending : Ending
+
+-- the source of a pattern
+pub record Layout : Type 0 where
+  -- the line on which the pattern opens, if something stands there
+  pub opening : Option Line
+  -- the later lines that belong to the pattern
+  pub lines : List Line
+
+-- ---- the common indent
+
+-- The leading spaces that a line counts with, by what it begins with: a run counts; a placeable counts at column 0, and in edition two anywhere;
+-- a blank line does not count.
+abbrev pub counted_spaces : Edition → (spaces : ℕ) → List Piece → List ℕ
+counted_spaces edition spaces [] = []
+counted_spaces edition spaces (run from to ∷ ps) = spaces ∷ []
+counted_spaces One spaces (placed e ∷ ps) = if spaces == 0 then 0 ∷ [] else []
+counted_spaces Two spaces (placed e ∷ ps) = spaces ∷ []
+
+-- the number that a line counts with, if it counts
+abbrev pub counted : Edition → Line → List ℕ
+counted edition l = counted_spaces edition l.spaces l.pieces
+
+-- the least of a number and the least of others, if there are others
+abbrev pub least_with : ℕ → Option ℕ → ℕ
+least_with n None = n
+least_with n (Some m) = min n m
+
+-- the least of a list of numbers, which an empty list has not
+abbrev pub least : List ℕ → Option ℕ
+least [] = None
+least (n ∷ ns) = Some (least_with n (least ns))
+
+-- Common indent: the least number of leading spaces of the lines that count. The opening line is not among them.
+abbrev pub common_indent : Edition → Layout → Option ℕ
+common_indent edition y = least (flat_map (counted edition) y.lines)

@@ -1,0 +1,61 @@
+-- The variants of a select.
+use Rattle.std.specs.Prelude.{ℕ, List, Option, Some, None, Bool, ◌&&◌, ◌||◌, ◌==◌}
+use Rattle.fluent_syntax_grammar.specs.Bytes.{is_digit}
+use Rattle.fluent_syntax_grammar.specs.Places.{has}
+use Rattle.fluent_syntax_tree.specs.Tree.{KeyTree, name_key, number_key, PatternTree, VariantTrees, no_variants, variants, variant}
+use Rattle.fluent_syntax_tree.specs.Kind.{MissingDefaultVariant, MissingValue, MultipleDefaultVariants}
+use Rattle.fluent_syntax_grammar.specs.Construct.{Construct, ◌>>=◌, ◌>>◌, gives, fails, at_each, either}
+use Rattle.fluent_syntax_grammar.specs.Words.{optional, token, blank, identifier, number}
+use Rattle.fluent_syntax_grammar.specs.Family.{Family}
+use Rattle.fluent_syntax_grammar.specs.Patterns.{pattern}
+use Rattle.fluent_syntax_tree.specs.declared.spans.Span.{Span}
+use Rattle.fluent_syntax_tree.specs.declared.edition.Edition.{Edition}
+use Rattle.fluent_syntax_tree.specs.declared.edition.Edition.TheVariants.{One, Two}
+
+-- Whether the list of variants has a default where it ends: one of its variants does, or in edition one a star that no `[` follows stands there.
+abbrev pub has_default : Edition → (starred star : Bool) → Bool
+has_default One starred star = starred || star
+has_default Two starred star = starred
+
+-- a digit or `-`
+abbrev pub is_number_start : ℕ → Bool
+is_number_start b = is_digit b || b == 45
+
+-- Key: a number where a digit or `-` stands, else an identifier.
+abbrev pub variant_key : List ℕ → Construct (KeyTree Span)
+variant_key t = at_each (has t is_number_start) (λ is_number. either is_number (number t >>= λ v. gives (number_key v)) (identifier t >>= λ v. gives (name_key v)))
+
+-- A star, where one stood before: refused at the place after it.
+abbrev pub only_star : (starred star : Bool) → Construct (Unit {0})
+only_star starred star = either (starred && star) (fails MultipleDefaultVariants) (gives tt)
+
+-- the end of a list of variants, which has to have a default
+abbrev pub variants_end : Edition → (starred star : Bool) → Construct (VariantTrees Span)
+variants_end edition starred star = either (has_default edition starred star) (gives no_variants) (fails MissingDefaultVariant)
+
+module _ (edition : Edition) (t : List ℕ) (R : Family) where
+  -- From the end of a variant's pattern on: there has to be one. Then a blank, and the rest of the list.
+  abbrev pub variant_and_more : (starred star : Bool) → KeyTree Span → Option (PatternTree Span) → Construct (VariantTrees Span)
+  variant_and_more starred star key None = fails MissingValue
+  variant_and_more starred star key (Some value) = do
+    blank t
+    vs ← R.more_variants (starred || star)
+    gives (variants (variant key value star) vs)
+
+  -- Variant, after its star and `[`: a blank, a key, a blank, `]`, a pattern, a blank; and the rest of the list.
+  abbrev pub variant_after : (starred star : Bool) → Construct (VariantTrees Span)
+  variant_after starred star = do
+    blank t
+    key ← variant_key t
+    blank t
+    token t 93
+    value ← pattern edition t R
+    variant_and_more starred star key value
+
+  -- The rest of a list of variants: an optional `*`, and where `[` follows a variant and more; else the list ends there.
+  abbrev pub more_variants : (starred : Bool) → Construct (VariantTrees Span)
+  more_variants starred = do
+    star ← optional t 42
+    only_star starred star
+    bracket ← optional t 91
+    either bracket (variant_after starred star) (variants_end edition starred star)

@@ -1,0 +1,14 @@
+use Rattle.std.proofs.Common.{ℕ, length, ◌-◌, ◌≡◌, ◌≤◌, ◌<◌, true}
+use Rattle.fluent_syntax_grammar.specs.Bytes.{is_space}
+use Rattle.fluent_syntax_grammar.specs.Places.{has}
+use Rattle.fluent_syntax_reader.proofs.parser.Parser.skip_blank_inline.Given as goal
+
+abbrev pub invariant-loop-self : goal.invariant-loop-self
+invariant-loop-self l = record {
+  source : l.self.source ≡ l.fn.self.source;
+  forward : l.fn.self.ptr ≤ l.self.ptr;
+  each : (k : ℕ) → l.fn.self.ptr ≤ k → k < l.self.ptr → has l.self.source.now is_space k ≡ true;
+}
+
+abbrev pub decreases-loop-self : goal.decreases-loop-self
+decreases-loop-self l = length l.self.source.now - l.self.ptr

@@ -1,0 +1,57 @@
+//! Texts that both editions of the grammar read, each in its way.
+
+use crate::outline::outline;
+use fluent_syntax::parser::{Edition, parse_edition, parse_runtime_edition};
+use std::test::Fail;
+
+/// What it shows, the text, and the outlines of both answers.
+const ROWS: [(&str, &str, &str, &str); 5] = [
+    (
+        "a placeable counts for the common indent",
+        "key =\n  {x} a\n    b\n",
+        "key = {x} \" a\\n\" \"b\"\n",
+        "key = {x} \" a\\n\" \"  b\"\n",
+    ),
+    (
+        "surplus spaces before a placeable are a text",
+        "key =\n    a\n      {x}\n",
+        "key = \"a\\n\" {x}\n",
+        "key = \"a\\n\" \"  \" {x}\n",
+    ),
+    (
+        "surplus spaces before a first placeable",
+        "key =\n      {x}\n    b\n",
+        "key = {x} \"\\n\" \"b\"\n",
+        "key = \"  \" {x} \"\\n\" \"b\"\n",
+    ),
+    (
+        "a placeable at column 0",
+        "key =\n{x}\n    b\n",
+        "key = {x} \"\\n\" \"    b\"\n",
+        "key = {x} \"\\n\" \"    b\"\n",
+    ),
+    (
+        "a lone star",
+        "key = { $x ->\n * }",
+        "key = {$x ->}\n",
+        "Junk \"key = { $x ->\\n * }\"\n16..17 0..18 MissingDefaultVariant\n",
+    ),
+];
+
+#[test]
+fn editions(rt: HostRuntime) -> Result<(), Fail> {
+    for (shows, text, one, two) in &ROWS {
+        for (edition, expected) in [(Edition::One, *one), (Edition::Two, *two)] {
+            let mut got = String::new(rt.alloc());
+            outline(&mut got, &parse_edition(rt.alloc(), *text, edition))?;
+            assert_eq!(rt; got.as_str(), expected, "{shows}");
+            let mut runtime = String::new(rt.alloc());
+            outline(
+                &mut runtime,
+                &parse_runtime_edition(rt.alloc(), *text, edition),
+            )?;
+            assert_eq!(rt; runtime.as_str(), expected, "{shows}");
+        }
+    }
+    Ok(())
+}

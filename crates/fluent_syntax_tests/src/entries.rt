@@ -1,0 +1,158 @@
+//! Texts, and the trees that they are read as.
+
+use crate::outline::outline;
+use fluent_syntax::parser::parse;
+use std::test::Fail;
+
+/// What it shows, the text, and the outline of the answer.
+const ROWS: [(&str, &str, &str); 31] = [
+    (
+        "blank lines around a message",
+        "\n\nhello-world = Hello World!\n\n",
+        "hello-world = \"Hello World!\"\n",
+    ),
+    ("the empty text", "", ""),
+    ("a blank block alone", "\n  \n", ""),
+    (
+        "recovery from a broken entry",
+        "\nkey1 = Value 1\n\ng@Rb@ge = #2y ds\n\nkey2 = Value 2\n\n",
+        "key1 = \"Value 1\"\nJunk \"g@Rb@ge = #2y ds\\n\\n\"\nkey2 = \"Value 2\"\n18..19 17..35 ExpectedToken('=')\n",
+    ),
+    (
+        "a bad attribute ends the list without an error of its own",
+        "key = a\n  .b\nc = d",
+        "key = \"a\"\nJunk \"  .b\\n\"\nc = \"d\"\n8..9 8..13 ExpectedCharRange(\"a-zA-Z\")\n",
+    ),
+    (
+        "the common indent of a block of text",
+        "key =\n    a\n\n      b\n",
+        "key = \"a\\n\" \"\\n\" \"  b\"\n",
+    ),
+    (
+        "a placeable at column 0 makes the common indent 0",
+        "key =\n{x}\n    b\n",
+        "key = {x} \"\\n\" \"    b\"\n",
+    ),
+    (
+        "a CRLF is a text of its own",
+        "key = a\r\n    b",
+        "key = \"a\" \"\\n\" \"b\"\n",
+    ),
+    (
+        "a lone CR at the start of a line belongs to the pattern",
+        "key = a\n\rb",
+        "key = \"a\\n\" \"\\rb\"\n",
+    ),
+    ("a trimmed text may be empty", "key = \r", "key = \"\"\n"),
+    (
+        "commas are optional and one may trail",
+        "key = { F(1 2,) }",
+        "key = {F(number 1;number 2;)}\n",
+    ),
+    (
+        "a comment hangs on the next line only",
+        "# a\nkey = c",
+        "key = \"c\" | # \"a\"\n",
+    ),
+    (
+        "a blank line keeps a comment free",
+        "# a\n\nkey = c",
+        "# \"a\"\nkey = \"c\"\n",
+    ),
+    (
+        "a line of spaces keeps a comment free",
+        "# a\n  \nkey = c",
+        "# \"a\"\nkey = \"c\"\n",
+    ),
+    ("hashes at the end of the text", "#", "#\n"),
+    (
+        "three levels of comments",
+        "## g\n\n# f\n\n# m\nkey = v\n",
+        "## \"g\"\n# \"f\"\nkey = \"v\" | # \"m\"\n",
+    ),
+    (
+        "spaces at the end of the text give nothing",
+        "key = a\n  ",
+        "key = \"a\"\n",
+    ),
+    (
+        "a select with a default variant",
+        "key = { $var ->\n    [key1] Value 1\n   *[other] Value 2\n}\n",
+        "key = {$var -> [key1] \"Value 1\" *[other] \"Value 2\"}\n",
+    ),
+    (
+        "a select as an argument",
+        "key = { F({$x ->\n   *[a] b\n}) }\n",
+        "key = {F({$x -> *[a] \"b\"};)}\n",
+    ),
+    (
+        "a lone star counts as a default variant",
+        "key = { $x ->\n * }",
+        "key = {$x ->}\n",
+    ),
+    (
+        "an attribute of a message may stand on the next line",
+        "key = { foo\n .bar }",
+        "key = {foo.bar}\n",
+    ),
+    (
+        "an attribute of a term is no placeable",
+        "-brand = X\n    .g = m\nkey = { -brand.g }",
+        "-brand = \"X\" | .g = \"m\"\nJunk \"key = { -brand.g }\"\n39..40 22..40 TermAttributeAsPlaceable\n",
+    ),
+    (
+        "a message of attributes alone",
+        "h =\n    .title = A\n    .accesskey = T\n",
+        "h = | .title = \"A\" | .accesskey = \"T\"\n",
+    ),
+    (
+        "a negative number",
+        "key = { -0.5 }",
+        "key = {number -0.5}\n",
+    ),
+    (
+        "a placeable of a placeable",
+        "key = { { \"p\" } }",
+        "key = {{string \"p\"}}\n",
+    ),
+    (
+        "a function with named arguments",
+        "key = { FUNC($v, \"l\", style: \"long\") }",
+        "key = {FUNC($v;string \"l\";style: string \"long\";)}\n",
+    ),
+    (
+        "a CRLF ends a line outside patterns too",
+        "a = b\r\nc",
+        "a = \"b\"\nJunk \"c\"\n8..9 7..8 ExpectedToken('=')\n",
+    ),
+    (
+        "a CR before a CRLF is trimmed at the end",
+        "key = a\r\r\nb = c",
+        "key = \"a\"\nb = \"c\"\n",
+    ),
+    (
+        "a lone CR in the last line is trimmed",
+        "key = a\n\r",
+        "key = \"a\\n\" \"\"\n",
+    ),
+    (
+        "an attribute that is read stays",
+        "key = a\n    .b = c\n",
+        "key = \"a\" | .b = \"c\"\n",
+    ),
+    (
+        "a line mark may stand in the opening line",
+        "key = [a\n  b\n",
+        "key = \"[a\\n\" \"b\"\n",
+    ),
+];
+
+#[test]
+fn entries(rt: HostRuntime) -> Result<(), Fail> {
+    for (shows, text, expected) in &ROWS {
+        let mut got = String::new(rt.alloc());
+        outline(&mut got, &parse(rt.alloc(), *text))?;
+        assert_eq!(rt; got.as_str(), *expected, "{shows}");
+    }
+    Ok(())
+}

@@ -1,0 +1,18 @@
+//! Tests over all crates: texts whose trees, errors and written texts are known.
+#![tactic(auto)]
+
+#[cfg(test)]
+mod editions;
+#[cfg(test)]
+mod entries;
+#[cfg(test)]
+mod errors;
+pub mod outline;
+#[cfg(test)]
+mod program;
+#[cfg(test)]
+mod runtime;
+#[cfg(test)]
+mod serialized;
+#[cfg(test)]
+mod spans;

@@ -1,0 +1,283 @@
+//! Trees and errors in one line an entry and one line an error, to compare with.
+//!
+//! A text stands in quotes, or as its range where the tree has spans. `key = "a" {$x} | .t = "b" | # "c"`
+//! is a message with two elements, an attribute and a comment; `-t = ..` a term; `# "a"`, `## "a"` and
+//! `### "a"` comments; `Junk "a"` junk. An error is `P..Q J..K Kind`, with its payload in brackets.
+
+use fluent_syntax::ast::*;
+use fluent_syntax::parser::{ErrorKind, ParseFault, ParserError};
+use fluent_syntax::spans::Span;
+use std::alloc::AllocError;
+use std::fmt::Write;
+
+type Written = Result<(), AllocError>;
+
+/// A text of a tree, as an outline shows it.
+pub trait Shown {
+    /// A text that is quoted.
+    fn quoted(&self, out: &mut String) -> Written;
+
+    /// A name or a number.
+    fn plain(&self, out: &mut String) -> Written;
+}
+
+impl Shown for &str {
+    fn quoted(&self, out: &mut String) -> Written {
+        let text: &str = *self;
+        write!(out, "{text:?}")
+    }
+
+    fn plain(&self, out: &mut String) -> Written {
+        out.push_str(*self)
+    }
+}
+
+impl Shown for Span {
+    fn quoted(&self, out: &mut String) -> Written {
+        self.plain(out)
+    }
+
+    fn plain(&self, out: &mut String) -> Written {
+        let start = self.start;
+        let end = self.end;
+        write!(out, "{start}..{end}")
+    }
+}
+
+/// The outline of what a parser answered.
+pub fn outline<S: Shown>(out: &mut String, answer: &Result<Resource<S>, ParseFault<S>>) -> Written {
+    match answer {
+        Ok(resource) => body(out, resource),
+        Err(ParseFault::Syntax(resource, errors)) => {
+            body(out, resource)?;
+            for error in errors {
+                parser_error(out, error)?;
+                out.push_str("\n")?;
+            }
+            Ok(())
+        }
+        Err(ParseFault::Memory) => out.push_str("Memory\n"),
+    }
+}
+
+fn body<S: Shown>(out: &mut String, resource: &Resource<S>) -> Written {
+    for item in &resource.body {
+        entry(out, item)?;
+        out.push_str("\n")?;
+    }
+    Ok(())
+}
+
+fn entry<S: Shown>(out: &mut String, entry: &Entry<S>) -> Written {
+    match entry {
+        Entry::Message(message) => {
+            message.id.name.plain(out)?;
+            out.push_str(" =")?;
+            if let Some(value) = &message.value {
+                pattern(out, value)?;
+            }
+            attributes(out, &message.attributes)?;
+            hung(out, &message.comment)
+        }
+        Entry::Term(term) => {
+            out.push_str("-")?;
+            term.id.name.plain(out)?;
+            out.push_str(" =")?;
+            pattern(out, &term.value)?;
+            attributes(out, &term.attributes)?;
+            hung(out, &term.comment)
+        }
+        Entry::Comment(inner) => comment(out, "#", inner),
+        Entry::GroupComment(inner) => comment(out, "##", inner),
+        Entry::ResourceComment(inner) => comment(out, "###", inner),
+        Entry::Junk { content } => {
+            out.push_str("Junk ")?;
+            content.quoted(out)
+        }
+    }
+}
+
+fn comment<S: Shown>(out: &mut String, hashes: &str, comment: &Comment<S>) -> Written {
+    out.push_str(hashes)?;
+    for line in &comment.content {
+        out.push_str(" ")?;
+        line.quoted(out)?;
+    }
+    Ok(())
+}
+
+fn hung<S: Shown>(out: &mut String, hung: &Option<Comment<S>>) -> Written {
+    match hung {
+        None => Ok(()),
+        Some(inner) => {
+            out.push_str(" | ")?;
+            comment(out, "#", inner)
+        }
+    }
+}
+
+fn attributes<S: Shown>(out: &mut String, attributes: &Vec<Attribute<S>>) -> Written {
+    for attribute in attributes {
+        out.push_str(" | .")?;
+        attribute.id.name.plain(out)?;
+        out.push_str(" =")?;
+        pattern(out, &attribute.value)?;
+    }
+    Ok(())
+}
+
+#[cycle(outline)]
+fn pattern<S: Shown>(out: &mut String, pattern: &Pattern<S>) -> Written {
+    for item in &pattern.elements {
+        out.push_str(" ")?;
+        element(out, item)?;
+    }
+    Ok(())
+}
+
+#[cycle(outline)]
+fn element<S: Shown>(out: &mut String, element: &PatternElement<S>) -> Written {
+    match element {
+        PatternElement::TextElement { value } => value.quoted(out),
+        PatternElement::Placeable { expression: inner } => {
+            out.push_str("{")?;
+            expression(out, inner)?;
+            out.push_str("}")
+        }
+    }
+}
+
+#[cycle(outline)]
+fn expression<S: Shown>(out: &mut String, expression: &Expression<S>) -> Written {
+    match expression {
+        Expression::Inline(inner) => inline(out, inner),
+        Expression::Select { selector, variants } => {
+            inline(out, selector)?;
+            out.push_str(" ->")?;
+            for item in variants {
+                variant(out, item)?;
+            }
+            Ok(())
+        }
+    }
+}
+
+#[cycle(outline)]
+fn variant<S: Shown>(out: &mut String, variant: &Variant<S>) -> Written {
+    out.push_str(if variant.default { " *[" } else { " [" })?;
+    match &variant.key {
+        VariantKey::Identifier { name } => name.plain(out)?,
+        VariantKey::NumberLiteral { value } => value.plain(out)?,
+    }
+    out.push_str("]")?;
+    pattern(out, &variant.value)
+}
+
+#[cycle(outline)]
+fn inline<S: Shown>(out: &mut String, inline: &InlineExpression<S>) -> Written {
+    match inline {
+        InlineExpression::StringLiteral { value } => {
+            out.push_str("string ")?;
+            value.quoted(out)
+        }
+        InlineExpression::NumberLiteral { value } => {
+            out.push_str("number ")?;
+            value.plain(out)
+        }
+        InlineExpression::FunctionReference {
+            id,
+            arguments: given,
+        } => {
+            id.name.plain(out)?;
+            arguments(out, given)
+        }
+        InlineExpression::MessageReference { id, attribute: of } => {
+            id.name.plain(out)?;
+            attribute(out, of)
+        }
+        InlineExpression::TermReference {
+            id,
+            attribute: of,
+            arguments: given,
+        } => {
+            out.push_str("-")?;
+            id.name.plain(out)?;
+            attribute(out, of)?;
+            match given {
+                None => Ok(()),
+                Some(given) => arguments(out, given),
+            }
+        }
+        InlineExpression::VariableReference { id } => {
+            out.push_str("$")?;
+            id.name.plain(out)
+        }
+        InlineExpression::Placeable { expression: inner } => {
+            out.push_str("{")?;
+            expression(out, inner)?;
+            out.push_str("}")
+        }
+    }
+}
+
+fn attribute<S: Shown>(out: &mut String, attribute: &Option<Identifier<S>>) -> Written {
+    match attribute {
+        None => Ok(()),
+        Some(id) => {
+            out.push_str(".")?;
+            id.name.plain(out)
+        }
+    }
+}
+
+#[cycle(outline)]
+fn arguments<S: Shown>(out: &mut String, arguments: &CallArguments<S>) -> Written {
+    out.push_str("(")?;
+    for item in &arguments.positional {
+        inline(out, item)?;
+        out.push_str(";")?;
+    }
+    for item in &arguments.named {
+        item.name.name.plain(out)?;
+        out.push_str(": ")?;
+        inline(out, &item.value)?;
+        out.push_str(";")?;
+    }
+    out.push_str(")")
+}
+
+fn parser_error(out: &mut String, error: &ParserError) -> Written {
+    let start = error.pos.start;
+    let end = error.pos.end;
+    write!(out, "{start}..{end} ")?;
+    match &error.slice {
+        None => out.push_str("- ")?,
+        Some(slice) => {
+            let from = slice.start;
+            let to = slice.end;
+            write!(out, "{from}..{to} ")?;
+        }
+    }
+    out.push_str(error.kind.name())?;
+    payload(out, &error.kind)
+}
+
+fn payload(out: &mut String, kind: &ErrorKind) -> Written {
+    match kind {
+        ErrorKind::ExpectedToken(token) => {
+            let token = *token;
+            write!(out, "({token:?})")
+        }
+        ErrorKind::ExpectedCharRange { range } => bracketed(out, range.as_str()),
+        ErrorKind::ExpectedMessageField { entry_id } => bracketed(out, entry_id.as_str()),
+        ErrorKind::ExpectedTermField { entry_id } => bracketed(out, entry_id.as_str()),
+        ErrorKind::DuplicatedNamedArgument(name) => bracketed(out, name.as_str()),
+        ErrorKind::UnknownEscapeSequence(code) => bracketed(out, code.as_str()),
+        ErrorKind::InvalidUnicodeEscapeSequence(digits) => bracketed(out, digits.as_str()),
+        _ => Ok(()),
+    }
+}
+
+fn bracketed(out: &mut String, text: &str) -> Written {
+    write!(out, "({text:?})")
+}

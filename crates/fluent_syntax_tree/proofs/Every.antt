@@ -1,0 +1,272 @@
+-- What holds of each text of a value holds of each text of its parts, and the other way round.
+use Rattle.std.proofs.Common.{◌≡◌, ℕ, zero, suc, ◌+◌, ◌<◌, List, [], ◌∷◌, ◌++◌, length, get_or, map, Option, Some, None, option_map, Vec, Box, Global, sym, ap, ◌∙◌, subst, arith}
+use Rattle.std.proofs.lemmas.List.{map-append}
+use Rattle.fluent_syntax_tree.specs.Tree.{KeyTree, name_key, number_key, ExpressionTree, select, inline, InlineTree, string_literal, number_literal, function_reference, message_reference, term_reference, variable_reference, inline_placeable, ArgumentsTree, arguments, MaybeArguments, no_arguments, some_arguments, InlineTrees, no_inlines, inlines, NamedTree, named_argument, NamedTrees, no_named, nameds, ElementTree, text_element, placeable, PatternTree, no_elements, elements, VariantTree, variant, VariantTrees, no_variants, variants, inlines_of, nameds_of, elements_of, variants_of, arguments_of}
+use Rattle.fluent_syntax_tree.specs.Entry.{AttributeTree, MessageTree, TermTree, EntryTree, message, term, comment, junk, BodyTree}
+use Rattle.fluent_syntax_tree.specs.Every.{key_every, option_every, list_every, expression_every, inline_every, arguments_every, maybe_every, inlines_every, named_every, nameds_every, element_every, pattern_every, variant_every, variants_every, attribute_every, message_every, term_every, entry_every, body_every}
+use Rattle.fluent_syntax_tree.specs.View.{identifier_view, key_view, expression_view, inline_view, element_view, arguments_view, named_view, pattern_view, variant_view}
+use Rattle.fluent_syntax_tree.specs.declared.ast.Identifier.{Identifier}
+use Rattle.fluent_syntax_tree.specs.declared.ast.Expression.{Expression, Select, Inline}
+use Rattle.fluent_syntax_tree.specs.declared.ast.InlineExpression as inl
+use Rattle.fluent_syntax_tree.specs.declared.ast.InlineExpression.{InlineExpression}
+use Rattle.fluent_syntax_tree.specs.declared.ast.PatternElement as elem
+use Rattle.fluent_syntax_tree.specs.declared.ast.PatternElement.{PatternElement}
+use Rattle.fluent_syntax_tree.specs.declared.ast.CallArguments.{CallArguments, out-CallArguments}
+use Rattle.fluent_syntax_tree.specs.declared.ast.NamedArgument.{NamedArgument}
+use Rattle.fluent_syntax_tree.specs.declared.ast.Pattern.{Pattern}
+use Rattle.fluent_syntax_tree.specs.declared.ast.Variant.{Variant}
+use Rattle.fluent_syntax_tree.proofs.Views.{view-Select, view-Inline, view-StringLiteral, view-NumberLiteral, view-FunctionReference, view-MessageReference, view-TermReference, view-VariableReference, view-InlinePlaceable, view-TextElement, view-Placeable, view-Pattern, view-Variant, view-NamedArgument, view-CallArguments}
+
+-- ---- lists
+
+pub every_at : {A X : Type 0} (P : X → Type 0) (v : A → X) (xs : List A) (i : ℕ) (d : A) → list_every P (map v xs) → i < length xs → P (v (get_or xs i d))
+every_at P v [] i d h l = absurd (omega arith)
+every_at P v (x ∷ xs) zero d h l = h.0
+every_at P v (x ∷ xs) (suc i) d h l = every_at P v xs i d h.1 (omega arith)
+
+-- of the element that a loop is at
+pub every_item : {A X : Type 0} (P : X → Type 0) (v : A → X) (xs items : List A) (i : ℕ) (d : A) → list_every P (map v xs) → items ≡ xs → i < length items → d ≡ get_or items i d → P (v d)
+every_item P v xs items i d h e l is =
+    subst (λ x. P (v x)) (sym is) (every_at P v items i d (subst (λ ys. list_every P (map v ys)) (sym e) h) l)
+
+pub every-append : {X : Type 0} (P : X → Type 0) (xs ys : List X) → list_every P xs → list_every P ys → list_every P (xs ++ ys)
+every-append P [] ys h k = k
+every-append P (x ∷ xs) ys h k = (h.0, every-append P xs ys h.1 k)
+
+-- of a list with one more
+pub every-pushed : {A X : Type 0} (P : X → Type 0) (v : A → X) (xs ys : List A) (y : A) → list_every P (map v xs) → P (v y) → ys ≡ xs ++ y ∷ [] → list_every P (map v ys)
+every-pushed P v xs ys y h k e =
+    subst (λ l. list_every P l) (sym (ap (map v) e ∙ map-append v xs (y ∷ []))) (every-append P (map v xs) (v y ∷ []) h (k, tt))
+
+pub inlines_list : {X : Type 0} (P : X → Type 0) (xs : List (InlineTree X)) → inlines_every P (inlines_of xs) → list_every (inline_every P) xs
+inlines_list P [] h = tt
+inlines_list P (x ∷ xs) h = (h.0, inlines_list P xs h.1)
+
+pub list_inlines : {X : Type 0} (P : X → Type 0) (xs : List (InlineTree X)) → list_every (inline_every P) xs → inlines_every P (inlines_of xs)
+list_inlines P [] h = tt
+list_inlines P (x ∷ xs) h = (h.0, list_inlines P xs h.1)
+
+pub nameds_list : {X : Type 0} (P : X → Type 0) (xs : List (NamedTree X)) → nameds_every P (nameds_of xs) → list_every (named_every P) xs
+nameds_list P [] h = tt
+nameds_list P (x ∷ xs) h = (h.0, nameds_list P xs h.1)
+
+pub list_nameds : {X : Type 0} (P : X → Type 0) (xs : List (NamedTree X)) → list_every (named_every P) xs → nameds_every P (nameds_of xs)
+list_nameds P [] h = tt
+list_nameds P (x ∷ xs) h = (h.0, list_nameds P xs h.1)
+
+pub elements_list : {X : Type 0} (P : X → Type 0) (xs : List (ElementTree X)) → pattern_every P (elements_of xs) → list_every (element_every P) xs
+elements_list P [] h = tt
+elements_list P (x ∷ xs) h = (h.0, elements_list P xs h.1)
+
+pub list_elements : {X : Type 0} (P : X → Type 0) (xs : List (ElementTree X)) → list_every (element_every P) xs → pattern_every P (elements_of xs)
+list_elements P [] h = tt
+list_elements P (x ∷ xs) h = (h.0, list_elements P xs h.1)
+
+pub variants_list : {X : Type 0} (P : X → Type 0) (xs : List (VariantTree X)) → variants_every P (variants_of xs) → list_every (variant_every P) xs
+variants_list P [] h = tt
+variants_list P (x ∷ xs) h = (h.0, variants_list P xs h.1)
+
+pub list_variants : {X : Type 0} (P : X → Type 0) (xs : List (VariantTree X)) → list_every (variant_every P) xs → variants_every P (variants_of xs)
+list_variants P [] h = tt
+list_variants P (x ∷ xs) h = (h.0, list_variants P xs h.1)
+
+-- ---- the parts of a value
+
+module _ {S X : Type 0} (text : S → X) (P : X → Type 0) where
+  pub every-Select : (d : Expression S) (e : InlineExpression S) (vs : Vec (Variant S) Global) → d ≡ Select e vs → expression_every P (expression_view text d) → inline_every P (inline_view text e) × list_every (variant_every P) (map (variant_view text) vs.items)
+  every-Select d e vs e' all = let h = subst (expression_every P) (ap (expression_view text) e' ∙ view-Select text e vs) all in (h.0, variants_list P _ h.1)
+
+  pub of-Select : (e : InlineExpression S) (vs : Vec (Variant S) Global) → inline_every P (inline_view text e) × list_every (variant_every P) (map (variant_view text) vs.items) → expression_every P (expression_view text (Select e vs))
+  of-Select e vs h = subst (expression_every P) (sym (view-Select text e vs)) ((h.0, list_variants P _ h.1))
+
+  pub every-Inline : (d : Expression S) (e : InlineExpression S) → d ≡ Inline e → expression_every P (expression_view text d) → inline_every P (inline_view text e)
+  every-Inline d e e' all = let h = subst (expression_every P) (ap (expression_view text) e' ∙ view-Inline text e) all in h
+
+  pub of-Inline : (e : InlineExpression S) → inline_every P (inline_view text e) → expression_every P (expression_view text (Inline e))
+  of-Inline e h = subst (expression_every P) (sym (view-Inline text e)) (h)
+
+  pub every-StringLiteral : (d : InlineExpression S) (x : S) → d ≡ inl.StringLiteral x → inline_every P (inline_view text d) → P (text x)
+  every-StringLiteral d x e' all = let h = subst (inline_every P) (ap (inline_view text) e' ∙ view-StringLiteral text x) all in h
+
+  pub of-StringLiteral : (x : S) → P (text x) → inline_every P (inline_view text (inl.StringLiteral x))
+  of-StringLiteral x h = subst (inline_every P) (sym (view-StringLiteral text x)) (h)
+
+  pub every-NumberLiteral : (d : InlineExpression S) (x : S) → d ≡ inl.NumberLiteral x → inline_every P (inline_view text d) → P (text x)
+  every-NumberLiteral d x e' all = let h = subst (inline_every P) (ap (inline_view text) e' ∙ view-NumberLiteral text x) all in h
+
+  pub of-NumberLiteral : (x : S) → P (text x) → inline_every P (inline_view text (inl.NumberLiteral x))
+  of-NumberLiteral x h = subst (inline_every P) (sym (view-NumberLiteral text x)) (h)
+
+  pub every-FunctionReference : (d : InlineExpression S) (i : Identifier S) (a : CallArguments S) → d ≡ inl.FunctionReference i a → inline_every P (inline_view text d) → P (text i.name) × arguments_every P (arguments_view text a)
+  every-FunctionReference d i a e' all = let h = subst (inline_every P) (ap (inline_view text) e' ∙ view-FunctionReference text i a) all in h
+
+  pub of-FunctionReference : (i : Identifier S) (a : CallArguments S) → P (text i.name) × arguments_every P (arguments_view text a) → inline_every P (inline_view text (inl.FunctionReference i a))
+  of-FunctionReference i a h = subst (inline_every P) (sym (view-FunctionReference text i a)) (h)
+
+  pub every-MessageReference : (d : InlineExpression S) (i : Identifier S) (o : Option (Identifier S)) → d ≡ inl.MessageReference i o → inline_every P (inline_view text d) → P (text i.name) × option_every P (option_map (identifier_view text) o)
+  every-MessageReference d i o e' all = let h = subst (inline_every P) (ap (inline_view text) e' ∙ view-MessageReference text i o) all in h
+
+  pub of-MessageReference : (i : Identifier S) (o : Option (Identifier S)) → P (text i.name) × option_every P (option_map (identifier_view text) o) → inline_every P (inline_view text (inl.MessageReference i o))
+  of-MessageReference i o h = subst (inline_every P) (sym (view-MessageReference text i o)) (h)
+
+  pub every-TermReference : (d : InlineExpression S) (i : Identifier S) (o : Option (Identifier S)) (a : Option (CallArguments S)) → d ≡ inl.TermReference i o a → inline_every P (inline_view text d) → P (text i.name) × option_every P (option_map (identifier_view text) o) × maybe_every P (arguments_of (option_map (arguments_view text) a))
+  every-TermReference d i o a e' all = let h = subst (inline_every P) (ap (inline_view text) e' ∙ view-TermReference text i o a) all in h
+
+  pub of-TermReference : (i : Identifier S) (o : Option (Identifier S)) (a : Option (CallArguments S)) → P (text i.name) × option_every P (option_map (identifier_view text) o) × maybe_every P (arguments_of (option_map (arguments_view text) a)) → inline_every P (inline_view text (inl.TermReference i o a))
+  of-TermReference i o a h = subst (inline_every P) (sym (view-TermReference text i o a)) (h)
+
+  pub every-VariableReference : (d : InlineExpression S) (i : Identifier S) → d ≡ inl.VariableReference i → inline_every P (inline_view text d) → P (text i.name)
+  every-VariableReference d i e' all = let h = subst (inline_every P) (ap (inline_view text) e' ∙ view-VariableReference text i) all in h
+
+  pub of-VariableReference : (i : Identifier S) → P (text i.name) → inline_every P (inline_view text (inl.VariableReference i))
+  of-VariableReference i h = subst (inline_every P) (sym (view-VariableReference text i)) (h)
+
+  pub every-InlinePlaceable : (d : InlineExpression S) (e : Box (Expression S) Global) → d ≡ inl.Placeable e → inline_every P (inline_view text d) → expression_every P (expression_view text e.value)
+  every-InlinePlaceable d e e' all = let h = subst (inline_every P) (ap (inline_view text) e' ∙ view-InlinePlaceable text e) all in h
+
+  pub of-InlinePlaceable : (e : Box (Expression S) Global) → expression_every P (expression_view text e.value) → inline_every P (inline_view text (inl.Placeable e))
+  of-InlinePlaceable e h = subst (inline_every P) (sym (view-InlinePlaceable text e)) (h)
+
+  pub every-TextElement : (d : PatternElement S) (x : S) → d ≡ elem.TextElement x → element_every P (element_view text d) → P (text x)
+  every-TextElement d x e' all = let h = subst (element_every P) (ap (element_view text) e' ∙ view-TextElement text x) all in h
+
+  pub of-TextElement : (x : S) → P (text x) → element_every P (element_view text (elem.TextElement x))
+  of-TextElement x h = subst (element_every P) (sym (view-TextElement text x)) (h)
+
+  pub every-Placeable : (d : PatternElement S) (e : Expression S) → d ≡ elem.Placeable e → element_every P (element_view text d) → expression_every P (expression_view text e)
+  every-Placeable d e e' all = let h = subst (element_every P) (ap (element_view text) e' ∙ view-Placeable text e) all in h
+
+  pub of-Placeable : (e : Expression S) → expression_every P (expression_view text e) → element_every P (element_view text (elem.Placeable e))
+  of-Placeable e h = subst (element_every P) (sym (view-Placeable text e)) (h)
+
+  pub every-Variant : (v : Variant S) → variant_every P (variant_view text v) → key_every P (key_view text v.key) × pattern_every P (pattern_view text v.value)
+  every-Variant v h = subst (variant_every P) (view-Variant text v) h
+
+  pub of-Variant : (v : Variant S) → key_every P (key_view text v.key) × pattern_every P (pattern_view text v.value) → variant_every P (variant_view text v)
+  of-Variant v h = subst (variant_every P) (sym (view-Variant text v)) h
+
+  pub every-NamedArgument : (a : NamedArgument S) → named_every P (named_view text a) → P (text a.name.name) × inline_every P (inline_view text a.value)
+  every-NamedArgument a h = subst (named_every P) (view-NamedArgument text a) h
+
+  pub of-NamedArgument : (a : NamedArgument S) → P (text a.name.name) × inline_every P (inline_view text a.value) → named_every P (named_view text a)
+  of-NamedArgument a h = subst (named_every P) (sym (view-NamedArgument text a)) h
+
+  pub every-Pattern : (p : Pattern S) → pattern_every P (pattern_view text p) → list_every (element_every P) (map (element_view text) p.elements.items)
+  every-Pattern p h = elements_list P _ (subst (pattern_every P) (view-Pattern text p) h)
+
+  pub of-Pattern : (p : Pattern S) → list_every (element_every P) (map (element_view text) p.elements.items) → pattern_every P (pattern_view text p)
+  of-Pattern p h = subst (pattern_every P) (sym (view-Pattern text p)) (list_elements P _ h)
+
+  pub every-CallArguments : (a : CallArguments S) → arguments_every P (arguments_view text a) → list_every (inline_every P) (map (inline_view text) (out-CallArguments S a).positional.items) × list_every (named_every P) (map (named_view text) (out-CallArguments S a).named.items)
+  every-CallArguments a all = let h = subst (arguments_every P) (view-CallArguments text a) all in (inlines_list P _ h.0, nameds_list P _ h.1)
+
+  pub of-CallArguments : (a : CallArguments S) → list_every (inline_every P) (map (inline_view text) (out-CallArguments S a).positional.items) × list_every (named_every P) (map (named_view text) (out-CallArguments S a).named.items) → arguments_every P (arguments_view text a)
+  of-CallArguments a h = subst (arguments_every P) (sym (view-CallArguments text a)) (list_inlines P _ h.0, list_nameds P _ h.1)
+
+-- a value's parts from the value
+pub ruleset everys = (every-Select, every-Inline, every-StringLiteral, every-NumberLiteral, every-FunctionReference, every-MessageReference, every-TermReference, every-VariableReference, every-InlinePlaceable, every-TextElement, every-Placeable, every-Variant, every-NamedArgument, every-Pattern, every-CallArguments)
+
+-- a value from its parts
+pub ruleset of_parts = (of-Select, of-Inline, of-StringLiteral, of-NumberLiteral, of-FunctionReference, of-MessageReference, of-TermReference, of-VariableReference, of-InlinePlaceable, of-TextElement, of-Placeable, of-Variant, of-NamedArgument, of-Pattern, of-CallArguments)
+
+-- ---- what always holds
+
+abbrev Always : {X : Type 0} → X → Type 0
+Always x = Unit {0}
+
+pub option_always : {X : Type 0} (o : Option X) → option_every Always o
+option_always None = tt
+option_always (Some x) = tt
+
+pub key_always : {X : Type 0} (k : KeyTree X) → key_every Always k
+key_always (name_key x) = tt
+key_always (number_key x) = tt
+
+-- of each element, where it holds of every value
+pub list_each : {X : Type 0} (P : X → Type 0) (xs : List X) → ((x : X) → P x) → list_every P xs
+list_each P [] h = tt
+list_each P (x ∷ xs) h = (h x, list_each P xs h)
+
+pub option_each : {X : Type 0} (P : X → Type 0) (o : Option X) → ((x : X) → P x) → option_every P o
+option_each P None h = tt
+option_each P (Some x) h = h x
+
+mutual
+  pub expression_always : {X : Type 0} (e : ExpressionTree X) → expression_every Always e
+  expression_always (select e vs) = (inline_always e, variants_always vs)
+  expression_always (inline e) = inline_always e
+
+  pub inline_always : {X : Type 0} (e : InlineTree X) → inline_every Always e
+  inline_always (string_literal x) = tt
+  inline_always (number_literal x) = tt
+  inline_always (function_reference x a) = (tt, arguments_always a)
+  inline_always (message_reference x a) = (tt, option_always a)
+  inline_always (term_reference x a c) = (tt, option_always a, maybe_always c)
+  inline_always (variable_reference x) = tt
+  inline_always (inline_placeable e) = expression_always e
+
+  pub arguments_always : {X : Type 0} (a : ArgumentsTree X) → arguments_every Always a
+  arguments_always (arguments ps ns) = (inlines_always ps, nameds_always ns)
+
+  maybe_always : {X : Type 0} (a : MaybeArguments X) → maybe_every Always a
+  maybe_always no_arguments = tt
+  maybe_always (some_arguments a) = arguments_always a
+
+  inlines_always : {X : Type 0} (es : InlineTrees X) → inlines_every Always es
+  inlines_always no_inlines = tt
+  inlines_always (inlines e es) = (inline_always e, inlines_always es)
+
+  pub named_always : {X : Type 0} (a : NamedTree X) → named_every Always a
+  named_always (named_argument x e) = (tt, inline_always e)
+
+  nameds_always : {X : Type 0} (a : NamedTrees X) → nameds_every Always a
+  nameds_always no_named = tt
+  nameds_always (nameds x xs) = (named_always x, nameds_always xs)
+
+  pub element_always : {X : Type 0} (e : ElementTree X) → element_every Always e
+  element_always (text_element x) = tt
+  element_always (placeable e) = expression_always e
+
+  pub pattern_always : {X : Type 0} (p : PatternTree X) → pattern_every Always p
+  pattern_always no_elements = tt
+  pattern_always (elements x xs) = (element_always x, pattern_always xs)
+
+  pub variant_always : {X : Type 0} (v : VariantTree X) → variant_every Always v
+  variant_always (variant k p d) = (key_always k, pattern_always p)
+
+  variants_always : {X : Type 0} (vs : VariantTrees X) → variants_every Always vs
+  variants_always no_variants = tt
+  variants_always (variants x xs) = (variant_always x, variants_always xs)
+
+pub lines_always : {X : Type 0} (xs : List X) → list_every Always xs
+lines_always xs = list_each Always xs (λ _. tt)
+
+pub attribute_always : {X : Type 0} (a : AttributeTree X) → attribute_every Always a
+attribute_always a = (tt, pattern_always a.value)
+
+pub message_always : {X : Type 0} (m : MessageTree X) → message_every Always m
+message_always m = (
+  tt,
+  option_each (pattern_every Always) m.value pattern_always,
+  list_each (attribute_every Always) m.attributes attribute_always,
+  option_each (list_every Always) m.comment lines_always,
+)
+
+pub term_always : {X : Type 0} (m : TermTree X) → term_every Always m
+term_always m = (
+  tt,
+  pattern_always m.value,
+  list_each (attribute_every Always) m.attributes attribute_always,
+  option_each (list_every Always) m.comment lines_always,
+)
+
+pub entry_always : {X : Type 0} (e : EntryTree X) → entry_every Always e
+entry_always (message m) = message_always m
+entry_always (term m) = term_always m
+entry_always (comment level lines) = lines_always lines
+entry_always (junk x) = tt
+
+pub body_always : {X : Type 0} (b : BodyTree X) → body_every Always b
+body_always b = list_each (entry_every Always) b entry_always
+
+pub ruleset always = (option_always, key_always, expression_always, inline_always, arguments_always, named_always, element_always, pattern_always, variant_always, lines_always, attribute_always, message_always, term_always, entry_always, body_always)

@@ -1,0 +1,5 @@
+pub mod Views
+pub mod Lists
+pub mod Every
+pub mod Natural
+pub mod Equal

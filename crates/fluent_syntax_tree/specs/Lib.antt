@@ -1,0 +1,7 @@
+pub mod Text
+pub mod Tree
+pub mod Entry
+pub mod Every
+pub mod View
+pub mod Spans
+pub mod Kind

@@ -1,0 +1,95 @@
+//! Replays the texts of `texts.tsv` through the engine of `ftl`, and counts the answers that differ.
+//!
+//! A line holds a text and its answers, separated by tabs and escaped: the text, then for `check`,
+//! `format`, `runtime`, `check-two` and `format-two` the exit status, a colon and the output.
+#![tactic(auto)]
+
+use ftl::{Command, answer};
+use std::alloc::{AllocError, Global};
+use std::fs;
+
+/// The commands in the order of the columns.
+const COMMANDS: [Command; 5] = [
+    Command::Check,
+    Command::Format,
+    Command::Runtime,
+    Command::CheckTwo,
+    Command::FormatTwo,
+];
+
+fn main(rt: HostRuntime) -> anyhow::Result<()> {
+    let table = fs::read_to_string(&rt, "texts.tsv")?;
+    let mut texts = 0u64;
+    let mut differences = 0u64;
+    for line in table.lines() {
+        texts = texts.saturating_add(1);
+        let different = differing(rt.alloc(), line)?;
+        if different > 0 {
+            println!(rt; "{different} answers differ: {line}")?;
+        }
+        differences = differences.saturating_add(different);
+    }
+    println!(rt; "{texts} texts, {differences} differences")?;
+    Ok(())
+}
+
+/// How many answers of a line differ from those that the engine gives.
+fn differing(alloc: Global, line: &str) -> Result<u64, AllocError> {
+    let mut fields = line.split('\t');
+    let text = match fields.next() {
+        Some(field) => unescaped(alloc, field)?,
+        None => String::new(alloc),
+    };
+    let mut different = 0u64;
+    for command in COMMANDS {
+        let got = answered(alloc, command, text.as_str())?;
+        let same = match fields.next() {
+            Some(field) => unescaped(alloc, field)?.as_str() == got.as_str(),
+            None => false,
+        };
+        if !same {
+            different = different.saturating_add(1);
+        }
+    }
+    Ok(different)
+}
+
+/// What the engine answers: the exit status, a colon and the output.
+fn answered(alloc: Global, command: Command, text: &str) -> Result<String, AllocError> {
+    match answer(alloc, command, text.as_bytes()) {
+        Ok((output, outcome)) => {
+            let status = outcome.status();
+            format!(in alloc; "{status}:{output}")
+        }
+        Err(fault) => fault.line().to_string(alloc),
+    }
+}
+
+/// The field with `\\`, `\n`, `\r`, `\t` and `\u{feff}` as what they stand for.
+fn unescaped(alloc: Global, field: &str) -> Result<String, AllocError> {
+    let mut out = String::new(alloc);
+    let mut escaped = false;
+    let mut skipped = 0u8;
+    for c in field.chars() {
+        if skipped > 0 {
+            skipped -= 1;
+        } else if escaped {
+            escaped = false;
+            match c {
+                'n' => out.push('\n')?,
+                'r' => out.push('\r')?,
+                't' => out.push('\t')?,
+                'u' => {
+                    out.push('\u{feff}')?;
+                    skipped = 6;
+                }
+                other => out.push(other)?,
+            }
+        } else if c == '\\' {
+            escaped = true;
+        } else {
+            out.push(c)?;
+        }
+    }
+    Ok(out)
+}

@@ -1,0 +1,5 @@
+pub mod Lines
+pub mod Loops
+pub mod Marks
+pub mod Placeables
+pub mod Sinks

@@ -1,0 +1,25 @@
+use Rattle.std.proofs.Common.{◌≡◌, ◌∷◌, [], ◌++◌, map, take, option_map, sym, ap, ◌∙◌, refl, append-nil}
+use Rattle.std.specs.List.{flat_map}
+use Rattle.fluent_syntax_tree.specs.View.{identifier_view, pattern_view, comment_view, attribute_view, message_view, term_view, entry_view}
+use Rattle.fluent_syntax_grammar.specs.Written.{literal, line_end, own_comment_marks, value_marks, gap_marks, shown_marks, comment_line_marks, comment_marks, attribute_line_marks, attributes_marks, entry_marks, body_marks}
+use Rattle.fluent_syntax_writer.proofs.Marks.{follow, stop, Writes-none, Writes-marks, Writes-done}
+use Rattle.fluent_syntax_writer.proofs.Loops.{flat_map-at, flat_map-to, flat_map-end, comment_marks-list, attributes_marks-list, body_marks-at, body_marks-to, body_marks-end, follows_after}
+use Rattle.fluent_syntax_writer.proofs.serializer.entries.serialize_comment_line.Goals as goal
+
+pub returns-in_err-write_literal-clause-written : goal.returns-in_err-write_literal-clause-written
+returns-in_err-write_literal-clause-written g c =
+    let text = g.W.TextSink.text in
+    let room = g.W.TextSink.room in
+    stop text room _ _ c.from_residual.ensures.0 c.in_err-write_literal.ensures.written
+
+pub returns-in_err-serialize_shown-clause-written : goal.returns-in_err-serialize_shown-clause-written
+returns-in_err-serialize_shown-clause-written g c =
+    let text = g.W.TextSink.text in
+    let room = g.W.TextSink.room in
+    follow text room _ _ _ c.in_ok-write_literal.ensures.written (stop text room _ _ c.from_residual-in_err-serialize_shown.ensures.0 c.in_err-serialize_shown.ensures.written)
+
+pub returns-clause-written : goal.returns-clause-written
+returns-clause-written g c =
+    let text = g.W.TextSink.text in
+    let room = g.W.TextSink.room in
+    follow text room _ _ _ c.in_ok-write_literal.ensures.written (follow text room _ _ _ c.in_ok-serialize_shown.ensures.written (c.newline.ensures.written))

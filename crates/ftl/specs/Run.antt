@@ -1,0 +1,23 @@
+-- How a run may fail.
+use Rattle.std.specs.Prelude.{◌≡◌, ◌⊎◌, ◌++◌, ℕ, List, Bool, true, Option, Some, None, Result, Ok, Err}
+use Rattle.std.specs.Io.KnownBytes.{Appends}
+use Rattle.std.specs.Str.{IsUtf8}
+use Rattle.ftl.specs.declared.outcome.Outcome.{Outcome}
+use Rattle.ftl.specs.declared.outcome.RunFault.{RunFault}
+use Rattle.ftl.specs.declared.outcome.RunFault.TheVariants.{Input, Memory, Output}
+
+-- the bytes, where they are known, are no UTF-8
+abbrev pub IsNoText : Option (List ℕ) → Type 0
+IsNoText None = Unit {0}
+IsNoText (Some bytes) = ¬ (IsUtf8 bytes)
+
+-- `Input` only where the reader failed or the input is not UTF-8, and `Output` only where the writer failed
+abbrev pub FailsAs : Option (List ℕ) → (reader_failed writer_failed : Bool) → Result Outcome RunFault → Type 0
+FailsAs input reader_failed writer_failed (Ok outcome) = Unit {0}
+FailsAs input reader_failed writer_failed (Err Input) = (reader_failed ≡ true) ⊎ IsNoText input
+FailsAs input reader_failed writer_failed (Err Memory) = Unit {0}
+FailsAs input reader_failed writer_failed (Err Output) = writer_failed ≡ true
+
+-- of the known bytes a beginning of the text was appended
+abbrev pub AppendsBeginning : Option (List ℕ) → Option (List ℕ) → List ℕ → Type 0
+AppendsBeginning old new text = (front : List ℕ) × ((rest : List ℕ) × (text ≡ front ++ rest)) × Appends old new front

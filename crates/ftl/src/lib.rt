@@ -1,0 +1,15 @@
+//! The engine of `ftl`: checks, formats and converts a text that a reader gives.
+#![tactic(auto)]
+
+mod answers;
+mod command;
+mod lines;
+mod outcome;
+mod runs;
+mod watched;
+
+pub use answers::answer;
+pub use command::{Command, usage};
+pub use outcome::{Outcome, RunFault};
+pub use runs::run;
+pub use watched::Watched;
