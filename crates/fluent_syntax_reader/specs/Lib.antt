@@ -1,3 +1,4 @@
 pub mod Stops
 pub mod Parts
 pub mod Meets
+pub mod Answers

@@ -1,0 +1,37 @@
+-- What parsing answers: the tree and the errors of a tiling.
+use Rattle.std.specs.Prelude.{◌≡◌, ◌≢◌, ℕ, List, [], map, Option, Some, option_map, Result, Ok, Err}
+use Rattle.fluent_syntax_tree.specs.Kind.{kind_of}
+use Rattle.fluent_syntax_tree.specs.Entry.{BodyTree}
+use Rattle.fluent_syntax_tree.specs.View.{resource_view}
+use Rattle.fluent_syntax_tree.specs.declared.ast.Resource.{Resource}
+use Rattle.fluent_syntax_tree.specs.declared.edition.Edition.{Edition}
+use Rattle.fluent_syntax_tree.specs.declared.errors.ParserError.{ParserError}
+use Rattle.fluent_syntax_tree.specs.declared.spans.Span.{Span}
+use Rattle.fluent_syntax_grammar.specs.Tiling.{Fault, Tile, Tiling, RuntimeTiling}
+use Rattle.fluent_syntax_grammar.specs.Body.{faults, body}
+use Rattle.fluent_syntax_reader.specs.declared.fault.ParseFault.{ParseFault}
+use Rattle.fluent_syntax_reader.specs.declared.fault.ParseFault.TheVariants.{Syntax, Memory}
+
+-- the fault that an error tells of, where it tells which stretch became junk
+abbrev pub fault_of : ParserError → Option Fault
+fault_of e = option_map (λ slice. record {
+  kind = kind_of e.kind;
+  pos = record { start = e.pos.start; end = e.pos.end };
+  slice = record { start = slice.start; end = slice.end };
+}) e.slice
+
+-- A text with these tiles is answered: the tree is what their body becomes, and there are errors exactly where the tiles have faults,
+-- which these tell of, in order. `text` reads the texts of the tree.
+module _ {S X : Type 0} (text : S → X) (whole : BodyTree Span → BodyTree X) where
+  abbrev pub Answers : List Tile → Result (Resource S) (ParseFault S) → Type 0
+  Answers tiles (Ok tree) = (resource_view text tree ≡ whole (body tiles)) × (faults tiles ≡ [])
+  Answers tiles (Err (Syntax tree errors)) = (resource_view text tree ≡ whole (body tiles)) × (map fault_of errors.items ≡ map Some (faults tiles)) × (faults tiles ≢ [])
+  Answers tiles (Err Memory) = Unit {0}
+
+  -- The answer is that of a tiling of the text.
+  abbrev pub AnswersTiling : Edition → List ℕ → Result (Resource S) (ParseFault S) → Type 0
+  AnswersTiling edition t result = (tiles : List Tile) × Tiling edition t tiles × Answers tiles result
+
+  -- The answer is that of a tiling of the text without comments.
+  abbrev pub AnswersRuntimeTiling : Edition → List ℕ → Result (Resource S) (ParseFault S) → Type 0
+  AnswersRuntimeTiling edition t result = (tiles : List Tile) × RuntimeTiling edition t tiles × Answers tiles result
