@@ -1,5 +1,9 @@
 //! The escapes of string literals, read as the characters that they stand for.
-ghost use Rattle.std.specs.Prelude.{◌≤◌, length};
+ghost use Rattle.std.specs.Prelude.{◌≡◌, ◌↔◌, drop, take, OnOk, OnErr, IfOk, IsOk};
+ghost use Rattle.std.specs.Cow.{IsBorrowedStr, cow_str_bytes};
+ghost use Rattle.std.specs.List.{Contains};
+ghost use Rattle.fluent_syntax_grammar.specs.Unescaped.{backslash, code_point, escape_char, escape_len, unescaped, whole_len};
+ghost use Rattle.fluent_syntax_writer.specs.Sink.{Takes, TakesBeginning};
 
 use crate::sink::{SinkError, TextSink};
 use std::alloc::{AllocError, Global};
@@ -13,7 +17,10 @@ const UNKNOWN_CHAR: char = '\u{fffd}';
 /// # Errors
 ///
 /// `SinkError` at the first piece that the sink refuses; it has taken a beginning of the text.
-pub fn unescape_unicode<W: TextSink>(w: &mut W, input: &str) -> Result<(), SinkError> {
+pub fn unescape_unicode<W: TextSink>(w: &mut W, input: &str) -> Result<(), SinkError>
+    ensures taken { OnOk result (Takes W.text W.room w.old w.new (unescaped input.now)) }
+    ensures refused { OnErr result (TakesBeginning W.text W.room w.old w.new (unescaped input.now)) }
+{
     let mut rest = input;
     while let Some((plain, after)) = rest.split_once('\\') {
         w.write_str(plain)?;
@@ -24,12 +31,16 @@ pub fn unescape_unicode<W: TextSink>(w: &mut W, input: &str) -> Result<(), SinkE
     w.write_str(rest)
 }
 
-/// The text with its escapes read, borrowed where it has no backslash.
+/// The text with its escapes read, borrowed where it has no backslash. No memory is asked for then.
 ///
 /// # Errors
 ///
 /// `AllocError` where memory for the text was refused.
-pub fn unescape_unicode_to_string(alloc: Global, input: &str) -> Result<CowStr<'_>, AllocError> {
+pub fn unescape_unicode_to_string(alloc: Global, input: &str) -> Result<CowStr<'_>, AllocError>
+    ensures unescaped { IfOk result (λ text. cow_str_bytes text ≡ unescaped input.now) }
+    ensures borrowed { IfOk result (λ text. IsBorrowedStr text ↔ ¬ Contains input.now backslash) }
+    ensures ok { ¬ Contains input.now backslash → IsOk result }
+{
     if !input.as_bytes().contains(&b'\\') {
         return Ok(CowStr::Borrowed(input));
     }
@@ -42,7 +53,8 @@ pub fn unescape_unicode_to_string(alloc: Global, input: &str) -> Result<CowStr<'
 
 /// The character that an escape stands for, from what follows its backslash, and what follows the escape.
 fn read_escape(text: &str) -> (char, &str)
-    ensures { length result.1.now ≤ length text.now }
+    ensures character { result.0 ≡ escape_char text.now }
+    ensures left { result.1.now ≡ drop (escape_len text.now) text.now }
 {
     let mut rest = text.chars();
     match rest.next() {
@@ -56,7 +68,8 @@ fn read_escape(text: &str) -> (char, &str)
 
 /// The character that the next `len` bytes spell in hexadecimal, and what follows them and the character that they cut, if they cut one.
 fn read_code_point(text: &str, len: usize) -> (char, &str)
-    ensures { length result.1.now ≤ length text.now }
+    ensures character { result.0 ≡ code_point len text.now }
+    ensures left { result.1.now ≡ drop (whole_len len text.now) text.now }
 {
     let (digits, rest) = split_after_character(text, len);
     let spelled = if digits.len() == len {
@@ -71,7 +84,8 @@ fn read_code_point(text: &str, len: usize) -> (char, &str)
 
 /// The text cut after `len` bytes, or after the character that this would cut, or at its end where it is shorter.
 fn split_after_character(text: &str, len: usize) -> (&str, &str)
-    ensures { length result.1.now ≤ length text.now }
+    ensures front { result.0.now ≡ take (whole_len len text.now) text.now }
+    ensures back { result.1.now ≡ drop (whole_len len text.now) text.now }
 {
     let mut end = len.min(text.len());
     while !text.is_char_boundary(end) {
