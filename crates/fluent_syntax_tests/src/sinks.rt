@@ -68,10 +68,8 @@ impl TextSink for Refusing {
     }
 
     fn write_char(&mut self, c: char) -> Result<(), SinkError> {
-        if self.refuses() {
-            return Err(SinkError);
-        }
-        self.text.write_char(c)
+        let mut bytes = [0; 4];
+        self.write_str(c.encode_utf8(&mut bytes))
     }
 }
 
