@@ -15,4 +15,10 @@ mod runtime;
 #[cfg(test)]
 mod serialized;
 #[cfg(test)]
+mod sinks;
+#[cfg(test)]
 mod spans;
+#[cfg(test)]
+mod unescaped;
+#[cfg(test)]
+mod written;

@@ -1,3 +1,4 @@
+pub mod Escapes
 pub mod Lines
 pub mod Loops
 pub mod Marks

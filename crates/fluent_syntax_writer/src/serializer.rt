@@ -7,8 +7,6 @@ ghost use Rattle.fluent_syntax_writer.specs.Sink.{Takes, TakesBeginning};
 mod entries;
 mod expressions;
 mod patterns;
-#[cfg(test)]
-mod tests;
 mod text_writer;
 mod texts;
 

@@ -1,6 +1,8 @@
 //! Unescaped texts.
 
-use super::*;
+use fluent_syntax::unicode::{unescape_unicode, unescape_unicode_to_string};
+use std::alloc::{AllocError, Global};
+use std::borrow::CowStr;
 use std::test::Fail;
 
 fn unescaped(alloc: Global, input: &str) -> Result<String, AllocError> {

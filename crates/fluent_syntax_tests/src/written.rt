@@ -1,7 +1,8 @@
 //! Written texts of trees that were made by hand.
 
-use super::*;
-use fluent_syntax_tree::ast::*;
+use fluent_syntax::ast::*;
+use fluent_syntax::serializer::{Options, serialize, serialize_to, serialize_with_options};
+use std::alloc::{AllocError, Global};
 use std::test::Fail;
 
 type Text = &'static str;
