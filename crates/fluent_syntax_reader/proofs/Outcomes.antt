@@ -81,7 +81,7 @@ module _ (t : List ℕ) where
   simple_test b (inr (inl e)) = rw e refl
   simple_test b (inr (inr e)) = rw e refl
 
-  unequal : (b n : ℕ) → (b ≡ n → ⊥) → (b == n) ≡ false
+  pub unequal : (b n : ℕ) → (b ≡ n → ⊥) → (b == n) ≡ false
   unequal b n e = grind (arith, nat_tests)
 
   not_simple : (b : ℕ) → ((b ≡ 34) ⊎ ((b ≡ 92) ⊎ (b ≡ 123)) → ⊥) → (b == 92 || b == 34 || b == 123) ≡ false

@@ -4,16 +4,11 @@ use Rattle.std.proofs.lemmas.List.Elements.{All-head, All-tail, All-push, All-sa
 use Rattle.std.specs.Str.{IsCharBoundary}
 use Rattle.fluent_syntax_tree.specs.Spans.{IsPart}
 use Rattle.fluent_syntax_tree.specs.Tree.{elements_of, inlines_of, nameds_of, variants_of, arguments_of}
-use Rattle.fluent_syntax_tree.specs.Every.{key_every, option_every, list_every, maybe_every, inlines_every, nameds_every, pattern_every, variants_every, attribute_every, entry_every, body_every}
-use Rattle.fluent_syntax_tree.specs.View.{identifier_view, key_view, inline_view, arguments_view, named_view, element_view, pattern_view, variant_view, comment_view, attribute_view, entry_view}
+use Rattle.fluent_syntax_tree.specs.Every.{key_every, option_every, maybe_every, inlines_every, nameds_every, pattern_every, variants_every}
+use Rattle.fluent_syntax_tree.specs.View.{identifier_view, key_view, inline_view, arguments_view, named_view, element_view, variant_view}
 use Rattle.fluent_syntax_tree.proofs.Views.{view-Select, view-Inline, view-StringLiteral, view-NumberLiteral, view-FunctionReference, view-MessageReference, view-TermReference, view-VariableReference, view-InlinePlaceable, view-TextElement, view-Placeable, view-Pattern, view-Variant, view-NamedArgument, view-CallArguments}
 use Rattle.fluent_syntax_tree.specs.declared.spans.Span.{Span}
 use Rattle.fluent_syntax_tree.specs.declared.ast.Identifier.{Identifier}
-use Rattle.fluent_syntax_tree.specs.declared.ast.Resource.{Resource}
-use Rattle.fluent_syntax_tree.specs.declared.ast.Entry.{Entry}
-use Rattle.fluent_syntax_tree.specs.declared.ast.Entry.TheVariants as entries
-use Rattle.fluent_syntax_tree.specs.declared.ast.Attribute.{Attribute}
-use Rattle.fluent_syntax_tree.specs.declared.ast.Comment.{Comment}
 use Rattle.fluent_syntax_tree.specs.declared.ast.VariantKey.{VariantKey}
 use Rattle.fluent_syntax_tree.specs.declared.ast.VariantKey.TheVariants as key
 use Rattle.fluent_syntax_tree.specs.declared.ast.Expression.{Expression, Select, Inline}
@@ -27,7 +22,7 @@ use Rattle.fluent_syntax_tree.specs.declared.ast.Pattern.{Pattern}
 use Rattle.fluent_syntax_tree.specs.declared.ast.Variant.{Variant}
 use Rattle.fluent_syntax_reader.specs.declared.pattern.PatternElementPlaceholder.{PatternElementPlaceholder}
 use Rattle.fluent_syntax_reader.specs.declared.pattern.PatternElementPlaceholder.TheVariants as placeholder
-use Rattle.fluent_syntax_reader.specs.Parts.{SpanParts, IsIndent, PlaceholderParts, KeyParts, CommentParts, AttributeParts, EntryParts, ResourceParts, InlineParts, ExpressionParts, ArgumentsParts, NamedParts, ElementParts, PatternParts, VariantParts}
+use Rattle.fluent_syntax_reader.specs.Parts.{SpanParts, IsIndent, PlaceholderParts, KeyParts, InlineParts, ExpressionParts, ArgumentsParts, NamedParts, ElementParts, PatternParts, VariantParts}
 
 pub All_pushed : {X : Type 0} (P : X → Type 0) (xs zs : List X) (x : X) → zs ≡ xs ++ x ∷ [] → All P xs → P x → All P zs
 All_pushed P xs zs x e h k = All-same P zs (xs ++ x ∷ []) e (All-push P xs x h k)
@@ -170,43 +165,5 @@ module _ (t : List ℕ) where
     starts = kept_boundary start indent from h low high;
     ends = h indent (omega arith);
   }
-
-  -- ---- entries
-
-  value_of : (o : Option (Pattern Span)) → IfSome o (PatternParts t) → option_every (pattern_every (IsPart t)) (option_map (pattern_view (λ s. s)) o)
-  unfolding PatternParts
-  value_of None h = tt
-  value_of (Some p) h = h
-
-  spans_from_all : (xs : List Span) → All (SpanParts t) xs → list_every (IsPart t) (map (λ s. s) xs)
-  spans_from_all [] h = tt
-  spans_from_all (x ∷ xs) h = (part_of x (All-head (SpanParts t) x xs h), spans_from_all xs (All-tail (SpanParts t) x xs h))
-
-  comment_of : (o : Option (Comment Span)) → IfSome o (CommentParts t) → option_every (list_every (IsPart t)) (option_map (comment_view (λ s. s)) o)
-  comment_of None h = tt
-  comment_of (Some c) h = spans_from_all c.content.items h.content
-
-  attributes_from_all : (xs : List (Attribute Span)) → All (AttributeParts t) xs → list_every (attribute_every (IsPart t)) (map (attribute_view (λ s. s)) xs)
-  unfolding PatternParts
-  attributes_from_all [] h = tt
-  attributes_from_all (x ∷ xs) h =
-      let k = All-head (AttributeParts t) x xs h in
-      ((part_of x.id.name k.id, k.value), attributes_from_all xs (All-tail (AttributeParts t) x xs h))
-
-  entry_of : (e : Entry Span) → EntryParts t e → entry_every (IsPart t) (entry_view (λ s. s) e)
-  unfolding PatternParts
-  entry_of (entries.Message m) h = (part_of m.id.name h.id, value_of m.value h.value, attributes_from_all m.attributes.items h.attributes, comment_of m.comment h.comment)
-  entry_of (entries.Term m) h = (part_of m.id.name h.id, h.value, attributes_from_all m.attributes.items h.attributes, comment_of m.comment h.comment)
-  entry_of (entries.Comment c) h = spans_from_all c.content.items h.content
-  entry_of (entries.GroupComment c) h = spans_from_all c.content.items h.content
-  entry_of (entries.ResourceComment c) h = spans_from_all c.content.items h.content
-  entry_of (entries.Junk x) h = part_of x h
-
-  body_from_all : (es : List (Entry Span)) → All (EntryParts t) es → body_every (IsPart t) (map (entry_view (λ s. s)) es)
-  body_from_all [] h = tt
-  body_from_all (e ∷ es) h = (entry_of e (All-head (EntryParts t) e es h), body_from_all es (All-tail (EntryParts t) e es h))
-
-  pub resource_from_all : (r : Resource Span) → All (EntryParts t) r.body.items → ResourceParts t r
-  resource_from_all r h = body_from_all r.body.items h
 
 pub ruleset parts = (StringLiteral-parts, NumberLiteral-parts, FunctionReference-parts, MessageReference-parts, TermReference-parts, VariableReference-parts, InlinePlaceable-parts, Select-parts, Inline-parts, CallArguments-parts, NamedArgument-parts, TextElement-parts, Placeable-parts, Pattern-parts, Variant-parts, kept_indent)

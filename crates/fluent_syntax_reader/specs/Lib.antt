@@ -1,4 +1,11 @@
 pub mod Stops
 pub mod Parts
 pub mod Meets
+pub mod Pieces
+pub mod Gathered
+pub mod Placeholders
+pub mod PatternLines
 pub mod Answers
+pub mod Adds
+pub mod Value
+pub mod Tiles

@@ -1,13 +1,7 @@
 -- Values of which each text is a part of the source.
-use Rattle.std.specs.Prelude.{ℕ, ◌+◌, ◌-◌, ◌≤◌, List, Result, Ok, Err, All, IfSome}
+use Rattle.std.specs.Prelude.{◌≡◌, ℕ, ◌+◌, ◌-◌, ◌<◌, ◌≤◌, true, List, Result, Ok, Err, All}
 use Rattle.std.specs.Str.{IsCharBoundary}
 use Rattle.fluent_syntax_tree.specs.declared.ast.Resource.{Resource}
-use Rattle.fluent_syntax_tree.specs.declared.ast.Entry.{Entry}
-use Rattle.fluent_syntax_tree.specs.declared.ast.Entry.TheVariants as entries
-use Rattle.fluent_syntax_tree.specs.declared.ast.Message.{Message}
-use Rattle.fluent_syntax_tree.specs.declared.ast.Term.{Term}
-use Rattle.fluent_syntax_tree.specs.declared.ast.Comment.{Comment}
-use Rattle.fluent_syntax_tree.specs.declared.ast.Attribute.{Attribute}
 use Rattle.fluent_syntax_tree.specs.declared.ast.VariantKey.{VariantKey}
 use Rattle.fluent_syntax_tree.specs.declared.ast.Expression.{Expression}
 use Rattle.fluent_syntax_tree.specs.declared.ast.InlineExpression.{InlineExpression}
@@ -18,6 +12,8 @@ use Rattle.fluent_syntax_tree.specs.declared.ast.Pattern.{Pattern}
 use Rattle.fluent_syntax_tree.specs.declared.ast.Variant.{Variant}
 use Rattle.fluent_syntax_tree.specs.declared.spans.Span.{Span}
 use Rattle.fluent_syntax_tree.specs.Spans.{IsPart}
+use Rattle.fluent_syntax_grammar.specs.Bytes.{is_space}
+use Rattle.fluent_syntax_grammar.specs.Places.{has}
 use Rattle.fluent_syntax_tree.specs.Every.{key_every, expression_every, inline_every, arguments_every, named_every, element_every, pattern_every, variant_every, body_every}
 use Rattle.fluent_syntax_tree.specs.View.{key_view, expression_view, inline_view, arguments_view, named_view, element_view, pattern_view, variant_view, resource_view}
 use Rattle.fluent_syntax_reader.specs.declared.fault.ParseFault.{ParseFault}
@@ -25,7 +21,6 @@ use Rattle.fluent_syntax_reader.specs.declared.fault.ParseFault.TheVariants.{Syn
 use Rattle.fluent_syntax_reader.specs.declared.expression.ArgumentList.{ArgumentList}
 use Rattle.fluent_syntax_reader.specs.declared.pattern.PatternElementPlaceholder.{PatternElementPlaceholder}
 use Rattle.fluent_syntax_reader.specs.declared.pattern.PatternElementPlaceholder.TheVariants as placeholder
-use Rattle.fluent_syntax_reader.specs.declared.tiling.Tiling.{Tiling}
 
 -- Each text is a part of the source t.
 module _ (t : List ℕ) where
@@ -58,33 +53,6 @@ module _ (t : List ℕ) where
   unfoldable pub VariantParts : Variant Span → Type 0
   VariantParts v = variant_every (IsPart t) (variant_view (λ s. s) v)
 
-  pub record AttributeParts (a : Attribute Span) : Type 0 where
-    pub id : SpanParts a.id.name
-    pub value : PatternParts a.value
-
-  pub record CommentParts (c : Comment Span) : Type 0 where
-    pub content : All SpanParts c.content.items
-
-  pub record MessageParts (m : Message Span) : Type 0 where
-    pub id : SpanParts m.id.name
-    pub value : IfSome m.value PatternParts
-    pub attributes : All AttributeParts m.attributes.items
-    pub comment : IfSome m.comment CommentParts
-
-  pub record TermParts (m : Term Span) : Type 0 where
-    pub id : SpanParts m.id.name
-    pub value : PatternParts m.value
-    pub attributes : All AttributeParts m.attributes.items
-    pub comment : IfSome m.comment CommentParts
-
-  abbrev pub EntryParts : Entry Span → Type 0
-  EntryParts (entries.Message m) = MessageParts m
-  EntryParts (entries.Term m) = TermParts m
-  EntryParts (entries.Comment c) = CommentParts c
-  EntryParts (entries.GroupComment c) = CommentParts c
-  EntryParts (entries.ResourceComment c) = CommentParts c
-  EntryParts (entries.Junk x) = SpanParts x
-
   pub record ArgumentListParts (list : ArgumentList) : Type 0 where
     pub positional : All InlineParts list.positional.items
     pub names : All SpanParts list.names.items
@@ -94,19 +62,20 @@ module _ (t : List ℕ) where
   abbrev pub IsIndent : (start indent : ℕ) → Type 0
   IsIndent start indent = (k : ℕ) → k ≤ indent → IsCharBoundary t (start + k)
 
+  -- Only spaces stand from the one place to the other.
+  abbrev pub OnlySpaces : (from to : ℕ) → Type 0
+  OnlySpaces from to = (k : ℕ) → from ≤ k → k < to → has t is_space k ≡ true
+
   -- A line's leading spaces reach from the one place to the other.
   pub record StartsLine (to from : ℕ) : Type 0 where
     pub ordered : from ≤ to
     pub indent : IsIndent from (to - from)
+    pub spaces : OnlySpaces from to
 
   abbrev pub PlaceholderParts : PatternElementPlaceholder → Type 0
-  PlaceholderParts (placeholder.TextElement start indent end counts) = IsIndent start indent × (start + indent ≤ end) × IsCharBoundary t end
-  PlaceholderParts (placeholder.PlaceableIndent start indent) = IsIndent start indent
+  PlaceholderParts (placeholder.TextElement start indent end counts) = IsIndent start indent × (start + indent ≤ end) × IsCharBoundary t end × OnlySpaces start (start + indent)
+  PlaceholderParts (placeholder.PlaceableIndent start indent) = IsIndent start indent × OnlySpaces start (start + indent)
   PlaceholderParts (placeholder.Placeable e) = ExpressionParts e
-
-  pub record TilingParts (tiling : Tiling) : Type 0 where
-    pub body : All EntryParts tiling.body.items
-    pub last_comment : IfSome tiling.last_comment (λ last. CommentParts last.comment)
 
 -- each text of the tree is a part of the source
 abbrev pub ResourceParts : List ℕ → Resource Span → Type 0

@@ -1,9 +1,13 @@
 //! Comments.
-ghost use Rattle.std.specs.Prelude.{◌≡◌, ◌+◌, ◌<◌, ◌≤◌, length, IfErr, IfOk, OnOk, All, true};
-ghost use Rattle.fluent_syntax_grammar.specs.Comments.{hashes};
-ghost use Rattle.fluent_syntax_grammar.specs.Places.{has_byte};
+ghost use Rattle.std.specs.Prelude.{◌≡◌, ◌+◌, ◌<◌, ◌≤◌, IfErr, true};
+ghost use Rattle.fluent_syntax_grammar.specs.Comments.{hashes, comment_entry, comment_line, comment_lines};
+ghost use Rattle.fluent_syntax_grammar.specs.Construct.{Read};
+ghost use Rattle.fluent_syntax_grammar.specs.Places.{has_byte, is_line_place, Stretch};
+ghost use Rattle.fluent_syntax_grammar.specs.Tiling.{whole_line};
+ghost use Rattle.fluent_syntax_tree.specs.View.{entry_view};
 ghost use Rattle.fluent_syntax_reader.specs.Stops.{StopsAt};
-ghost use Rattle.fluent_syntax_reader.specs.Parts.{EntryParts, SpanParts};
+ghost use Rattle.fluent_syntax_reader.specs.Adds.{Adds};
+ghost use Rattle.fluent_syntax_reader.specs.Meets.{Meets};
 
 use crate::fault::ReadFault;
 use crate::parser::Parser;
@@ -20,8 +24,8 @@ impl<'s> Parser<'s> {
         requires { 0 < hashes self.old.source.now self.old.ptr }
         ensures source { self.new.source ≡ self.old.source }
         ensures forward { self.old.ptr < self.new.ptr }
-        ensures spans { IfOk result (EntryParts self.old.source.now) }
         ensures stops { IfErr result (StopsAt self.new.ptr) }
+        ensures meets { Meets (comment_entry self.old.source.now) (entry_view (λ s. s)) self.old.ptr self.new.ptr result }
     {
         let level = self.get_comment_level();
         let mut content = Vec::new(alloc);
@@ -38,11 +42,10 @@ impl<'s> Parser<'s> {
     /// Reads comment lines of the level. A line that is none ends them, where it begins.
     fn get_comment_lines(&mut self, level: usize, content: &mut Vec<Span>) -> Result<(), ReadFault>
         requires level { 0 < level }
-        requires spans { All (SpanParts self.old.source.now) content.old.items }
         ensures source { self.new.source ≡ self.old.source }
         ensures forward { self.old.ptr ≤ self.new.ptr }
-        ensures spans { All (SpanParts self.old.source.now) content.new.items }
         ensures stops { IfErr result (StopsAt self.new.ptr) }
+        ensures adds { Adds (comment_lines self.old.source.now level) content.old.items content.new.items self.old.ptr self.new.ptr result }
     {
         while self.get_comment_level() == level {
             let start = self.ptr;
@@ -77,11 +80,10 @@ impl<'s> Parser<'s> {
     /// line end. Hashes at the very end of the text add no line.
     fn get_comment_line(&mut self, level: usize, content: &mut Vec<Span>) -> Result<(), ReadFault>
         requires level { level ≡ hashes self.old.source.now self.old.ptr }
-        requires spans { All (SpanParts self.old.source.now) content.old.items }
         ensures source { self.new.source ≡ self.old.source }
         ensures forward { self.old.ptr + level ≤ self.new.ptr }
-        ensures spans { All (SpanParts self.old.source.now) content.new.items }
         ensures stops { IfErr result (StopsAt self.new.ptr) }
+        ensures adds { Adds (comment_line self.old.source.now level) content.old.items content.new.items self.old.ptr self.new.ptr result }
     {
         self.go_to(self.ptr + level);
         if self.ptr == self.source.len() {
@@ -101,6 +103,7 @@ impl<'s> Parser<'s> {
     fn skip_to_line_end(&mut self)
         ensures source { self.new.source ≡ self.old.source }
         ensures forward { self.old.ptr ≤ self.new.ptr }
+        ensures line { Stretch (is_line_place self.old.source.now) self.old.ptr self.new.ptr }
     {
         let rest = &self.source[self.ptr..];
         let len = match memchr(b'\n', rest) {
@@ -121,6 +124,7 @@ impl<'s> Parser<'s> {
         requires { has_byte self.old.source.now 35 self.old.ptr ≡ true }
         ensures source { self.new.source ≡ self.old.source }
         ensures forward { self.old.ptr < self.new.ptr }
+        ensures line { whole_line self.old.source.now self.old.ptr (Read tt self.new.ptr) }
     {
         self.skip_byte();
         self.skip_to_line_end();

@@ -1,11 +1,22 @@
 //! Inline expressions, argument lists and selects.
-ghost use Rattle.std.specs.Prelude.{◌≡◌, ℕ, ◌+◌, List, ◌<◌, ◌≤◌, length, IfErr, IfOk, OnOk, IfSome, IsTrue, All, true};
+ghost use Rattle.std.specs.Prelude.{◌≡◌, ℕ, ◌+◌, List, map, ◌<◌, ◌≤◌, length, option_map, IfErr, IfOk, OnOk, IfSome, IsTrue, All, true, false};
+ghost use Rattle.std.specs.List.{list_all};
+ghost use Rattle.fluent_syntax_tree.specs.Spans.{bytes_at};
+ghost use Rattle.fluent_syntax_tree.specs.Tree.{arguments_of};
+ghost use Rattle.fluent_syntax_tree.specs.View.{arguments_view, expression_view, inline_view};
+ghost use Rattle.fluent_syntax_grammar.specs.Arguments.{argument_name, is_used, separator};
+ghost use Rattle.fluent_syntax_grammar.specs.Inline.{is_callee_byte, named_reference};
+ghost use Rattle.fluent_syntax_grammar.specs.Placeables.{has_arrow, is_term_attribute, selector_fault};
+ghost use Rattle.fluent_syntax_grammar.specs.Starts.{start};
+ghost use Rattle.fluent_syntax_grammar.specs.Grammar.{call_arguments, expression, family};
+ghost use Rattle.fluent_syntax_reader.specs.Gathered.{IsAdded, MeetsArgument, named};
+ghost use Rattle.fluent_syntax_reader.specs.Pieces.{arrow, named_argument_start, start_view, variable};
 ghost use Rattle.fluent_syntax_grammar.specs.Places.{has_byte, Word};
 ghost use Rattle.fluent_syntax_reader.specs.Parts.{ArgumentListParts, ArgumentsParts, ExpressionParts, InlineParts, SpanParts};
 ghost use Rattle.fluent_syntax_reader.specs.Stops.{StopsAt, StopsHere};
 ghost use Rattle.fluent_syntax_reader.specs.Meets.{Meets, escape, is_plain};
-ghost use Rattle.fluent_syntax_grammar.specs.Construct.{fails};
-ghost use Rattle.fluent_syntax_tree.specs.Kind.{UnknownEscapeSequence};
+ghost use Rattle.fluent_syntax_grammar.specs.Construct.{Read, fails};
+ghost use Rattle.fluent_syntax_tree.specs.Kind.{UnknownEscapeSequence, kind_of};
 ghost use Rattle.std.specs.Fmt.{decimal};
 ghost use Rattle.fluent_syntax_grammar.specs.Strings.{string_literal, string_units};
 
@@ -47,7 +58,8 @@ pub(crate) struct ArgumentList {
 impl ArgumentList {
     /// Adds a named argument, whose name is new.
     fn push_named(&mut self, name: Span, value: InlineExpression<Span>) -> Result<(), AllocError>
-        ensures { OnOk result ((t : List ℕ) → ArgumentListParts t self.old
+        ensures added { OnOk result (IsAdded (named name (inline_view (λ s. s) value)) self.old self.new) }
+        ensures spans { OnOk result ((t : List ℕ) → ArgumentListParts t self.old
             → SpanParts t name → InlineParts t value → ArgumentListParts t self.new) }
     {
         self.names.push(name)?;
@@ -61,37 +73,40 @@ impl ArgumentList {
 
 /// The name of an argument that is a message reference without attribute.
 fn argument_name(expression: &InlineExpression<Span>) -> Option<Span>
-    ensures { (t : List ℕ) → InlineParts t expression.now → IfSome result (SpanParts t) }
+    ensures value { result ≡ argument_name (inline_view (λ s. s) expression.now) }
+    ensures spans { (t : List ℕ) → InlineParts t expression.now → IfSome result (SpanParts t) }
 {
     match expression {
-        InlineExpression::MessageReference {
-            id,
-            attribute: None,
-        } => Some(id.name),
+        InlineExpression::MessageReference { id, attribute } => match attribute {
+            None => Some(id.name),
+            Some(_) => None,
+        },
         _ => None,
     }
 }
 
 /// Why an expression is no selector.
 fn selector_fault(expression: &InlineExpression<Span>) -> Option<ErrorKind>
-    ensures { IfSome result StopsHere }
+    ensures value { option_map kind_of result ≡ selector_fault (inline_view (λ s. s) expression.now) }
+    ensures stops { IfSome result StopsHere }
 {
     match expression {
-        InlineExpression::MessageReference {
-            attribute: None,
-            ..
-        } => Some(ErrorKind::MessageReferenceAsSelector),
-        InlineExpression::MessageReference { .. } => Some(ErrorKind::MessageAttributeAsSelector),
-        InlineExpression::TermReference {
-            attribute: None,
-            ..
-        } => Some(ErrorKind::TermReferenceAsSelector),
+        InlineExpression::MessageReference { attribute, .. } => match attribute {
+            None => Some(ErrorKind::MessageReferenceAsSelector),
+            Some(_) => Some(ErrorKind::MessageAttributeAsSelector),
+        },
+        InlineExpression::TermReference { attribute, .. } => match attribute {
+            None => Some(ErrorKind::TermReferenceAsSelector),
+            Some(_) => None,
+        },
         InlineExpression::Placeable { .. } => Some(ErrorKind::ExpectedSimpleExpressionAsSelector),
         _ => None,
     }
 }
 
-fn is_term_attribute(expression: &InlineExpression<Span>) -> bool {
+fn is_term_attribute(expression: &InlineExpression<Span>) -> bool
+    ensures { result ≡ is_term_attribute (inline_view (λ s. s) expression.now) }
+{
     match expression {
         InlineExpression::TermReference { attribute, .. } => attribute.is_some(),
         _ => false,
@@ -100,7 +115,9 @@ fn is_term_attribute(expression: &InlineExpression<Span>) -> bool {
 
 #[tactic(auto, using(crate::proofs::Boundary::boundaries, crate::proofs::PartsLemmas::parts))]
 impl<'s> Parser<'s> {
-    fn start(&self) -> Start {
+    fn start(&self) -> Start
+        ensures { start_view result ≡ start self.now.source.now self.now.ptr }
+    {
         match self.current_byte() {
             Some(b'"') => Start::Quote,
             Some(b'0'..=b'9') => Start::Digit,
@@ -116,6 +133,7 @@ impl<'s> Parser<'s> {
     /// Whether a name holds only `A` to `Z`, digits, `_` and `-`.
     fn is_callee(&self, name: Span) -> bool
         requires { SpanParts self.now.source.now name }
+        ensures { result ≡ list_all is_callee_byte (bytes_at self.now.source.now name) }
     {
         self.source[name.start..name.end].iter().all(|c| c.is_ascii_uppercase()
             || c.is_ascii_digit()
@@ -214,6 +232,7 @@ impl<'s> Parser<'s> {
         ensures taken { OnOk result (self.old.ptr < self.new.ptr) }
         ensures spans { IfOk result (InlineParts self.old.source.now) }
         ensures stops { IfErr result (StopsAt self.new.ptr) }
+        ensures meets { Meets (variable self.old.source.now) (inline_view (λ s. s)) self.old.ptr self.new.ptr result }
     {
         self.expect_byte(b'$')?;
         let id = self.get_identifier(alloc)?;
@@ -234,6 +253,7 @@ impl<'s> Parser<'s> {
         ensures forward { self.old.ptr ≤ self.new.ptr }
         ensures spans { IfOk result (InlineParts self.old.source.now) }
         ensures stops { IfErr result (StopsAt self.new.ptr) }
+        ensures meets { Meets (named_reference self.old.source.now id.name (arguments_of (option_map (arguments_view (λ s. s)) arguments))) (inline_view (λ s. s)) self.old.ptr self.new.ptr result }
     {
         match arguments {
             Some(arguments) => {
@@ -260,6 +280,7 @@ impl<'s> Parser<'s> {
         ensures taken { OnOk result (self.old.ptr < self.new.ptr) }
         ensures spans { IfOk result (InlineParts self.old.source.now) }
         ensures stops { IfErr result (StopsAt self.new.ptr) }
+        ensures meets { Meets (family edition self.old.source.now).inline_expression (inline_view (λ s. s)) self.old.ptr self.new.ptr result }
     {
         match self.start() {
             Start::Quote => Ok(InlineExpression::StringLiteral {
@@ -306,6 +327,7 @@ impl<'s> Parser<'s> {
         ensures forward { self.old.ptr ≤ self.new.ptr }
         ensures spans { IfOk result (λ arguments. IfSome arguments (ArgumentsParts self.old.source.now)) }
         ensures stops { IfErr result (StopsAt self.new.ptr) }
+        ensures meets { Meets (call_arguments edition self.old.source.now) (λ arguments. arguments_of (option_map (arguments_view (λ s. s)) arguments)) self.old.ptr self.new.ptr result }
     {
         self.skip_blank();
         if !self.take_byte_if(b'(') {
@@ -337,12 +359,15 @@ impl<'s> Parser<'s> {
         edition: Edition,
         list: &mut ArgumentList,
     ) -> Result<(), ReadFault>
-        requires { ArgumentListParts self.old.source.now list.old }
+        requires in_text { self.old.ptr < length self.old.source.now }
+        requires not_end { has_byte self.old.source.now 41 self.old.ptr ≡ false }
+        requires spans { ArgumentListParts self.old.source.now list.old }
         ensures source { self.new.source ≡ self.old.source }
         ensures forward { self.old.ptr ≤ self.new.ptr }
         ensures taken { OnOk result (self.old.ptr < self.new.ptr) }
         ensures spans { OnOk result (ArgumentListParts self.old.source.now list.new) }
         ensures stops { IfErr result (StopsAt self.new.ptr) }
+        ensures meets { MeetsArgument edition self.old.source.now list.old list.new self.old.ptr self.new.ptr result }
     {
         let expression = self.get_inline_expression(alloc, edition)?;
         match argument_name(&expression) {
@@ -377,6 +402,7 @@ impl<'s> Parser<'s> {
         ensures source { self.new.source ≡ self.old.source }
         ensures forward { self.old.ptr ≤ self.new.ptr }
         ensures stops { IfErr result (StopsAt self.new.ptr) }
+        ensures meets { Meets (named_argument_start self.old.source.now (map (bytes_at self.old.source.now) names.now) name) (λ x. tt) self.old.ptr self.new.ptr result }
     {
         if self.has_name(names, name) {
             let name = String::from_str(alloc, self.text_of(name))?;
@@ -394,9 +420,10 @@ impl<'s> Parser<'s> {
     fn has_name(&self, names: &[Span], name: Span) -> bool
         requires name { SpanParts self.now.source.now name }
         requires names { All (SpanParts self.now.source.now) names.now }
+        ensures { result ≡ is_used (bytes_at self.now.source.now name) (map (bytes_at self.now.source.now) names.now) }
     {
         for other in names {
-            if self.source[other.start..other.end] == self.source[name.start..name.end] {
+            if self.source[name.start..name.end] == self.source[other.start..other.end] {
                 return true;
             }
         }
@@ -407,6 +434,7 @@ impl<'s> Parser<'s> {
     fn skip_separator(&mut self)
         ensures source { self.new.source ≡ self.old.source }
         ensures forward { self.old.ptr ≤ self.new.ptr }
+        ensures reads { separator self.old.source.now self.old.ptr (Read tt self.new.ptr) }
     {
         self.skip_blank();
         self.take_byte_if(b',');
@@ -425,10 +453,11 @@ impl<'s> Parser<'s> {
         ensures taken { OnOk result (self.old.ptr < self.new.ptr) }
         ensures spans { IfOk result (ExpressionParts self.old.source.now) }
         ensures stops { IfErr result (StopsAt self.new.ptr) }
+        ensures meets { Meets (expression edition self.old.source.now) (expression_view (λ s. s)) self.old.ptr self.new.ptr result }
     {
         let expression = self.get_inline_expression(alloc, edition)?;
         self.skip_blank();
-        if !(self.is_current_byte(b'-') && self.is_byte_at(b'>', self.ptr + 1)) {
+        if !self.is_arrow() {
             if is_term_attribute(&expression) {
                 return Err(self.refused(ErrorKind::TermAttributeAsPlaceable));
             }
@@ -445,6 +474,13 @@ impl<'s> Parser<'s> {
         })
     }
 
+    /// Whether `->` stands at the place reached.
+    fn is_arrow(&self) -> bool
+        ensures { result ≡ has_arrow self.now.source.now self.now.ptr }
+    {
+        self.is_current_byte(b'-') && self.is_byte_at(b'>', self.ptr + 1)
+    }
+
     /// Passes over `->`, the rest of its line and the blank after it.
     fn skip_arrow(&mut self, alloc: Global) -> Result<(), ReadFault>
         requires minus { has_byte self.old.source.now 45 self.old.ptr ≡ true }
@@ -452,6 +488,7 @@ impl<'s> Parser<'s> {
         ensures source { self.new.source ≡ self.old.source }
         ensures forward { self.old.ptr ≤ self.new.ptr }
         ensures stops { IfErr result (StopsAt self.new.ptr) }
+        ensures meets { Meets (arrow self.old.source.now) (λ x. tt) self.old.ptr self.new.ptr result }
     {
         self.skip_byte();
         self.skip_byte();

@@ -4,6 +4,7 @@ ghost use Rattle.std.specs.Str.{IsCharBoundary};
 ghost use Rattle.fluent_syntax_grammar.specs.Places.{has, has_byte, has_eol, InlineBlank, Blank, BlankBlock, Word};
 ghost use Rattle.fluent_syntax_grammar.specs.Tiling.{JunkEnd, starts_entry};
 ghost use Rattle.fluent_syntax_grammar.specs.Bytes.{is_letter, is_digit};
+ghost use Rattle.fluent_syntax_grammar.specs.Variants.{is_number_start};
 ghost use Rattle.fluent_syntax_reader.specs.Parts.{SpanParts};
 ghost use Rattle.fluent_syntax_reader.specs.Stops.{StopsAt};
 ghost use Rattle.fluent_syntax_reader.specs.Meets.{Meets, PastEol};
@@ -62,7 +63,9 @@ impl<'s> Parser<'s> {
         self.ptr < self.source.len() && self.source[self.ptr].is_ascii_digit()
     }
 
-    pub(crate) fn is_number_start(&self) -> bool {
+    pub(crate) fn is_number_start(&self) -> bool
+        ensures { result ≡ has self.now.source.now is_number_start self.now.ptr }
+    {
         self.is_current_digit() || self.is_current_byte(b'-')
     }
 

@@ -5,7 +5,9 @@
 //! may start.
 #![tactic(auto)]
 
-ghost use Rattle.std.specs.Prelude.{◌+◌, ◌<◌, ◌^◌, length};
+ghost use Rattle.std.specs.Prelude.{◌+◌, ◌<◌, ◌^◌, length, IsOk};
+ghost use Rattle.fluent_syntax_grammar.specs.Places.{BlankBlock};
+ghost use Rattle.fluent_syntax_reader.specs.Answers.{AnswersTiling, AnswersRuntimeTiling};
 ghost use Rattle.fluent_syntax_reader.specs.Parts.{HasParts};
 
 mod comment;
@@ -32,7 +34,9 @@ use std::alloc::Global;
 /// before. A text that is only blank lines takes no memory.
 pub fn parse_spans(alloc: Global, source: &str) -> Result<Resource<Span>, ParseFault<Span>>
     requires { length source.now + 1 < 2 ^ 64 }
-    ensures { HasParts source.now result }
+    ensures spans { HasParts source.now result }
+    ensures tiling { AnswersTiling (λ s. s) (λ b. b) Edition.One source.now result }
+    ensures blank { BlankBlock source.now 0 (length source.now) → IsOk result }
 {
     parse_spans_edition(alloc, source, Edition::One)
 }
@@ -44,7 +48,9 @@ pub fn parse_spans_edition(
     edition: Edition,
 ) -> Result<Resource<Span>, ParseFault<Span>>
     requires { length source.now + 1 < 2 ^ 64 }
-    ensures { HasParts source.now result }
+    ensures spans { HasParts source.now result }
+    ensures tiling { AnswersTiling (λ s. s) (λ b. b) edition source.now result }
+    ensures blank { BlankBlock source.now 0 (length source.now) → IsOk result }
 {
     Parser::new(source).parse(alloc, edition)
 }
@@ -55,7 +61,9 @@ pub fn parse_spans_edition(
 /// entry of the answer is a comment and none has one. Otherwise it is as `parse_spans`.
 pub fn parse_runtime_spans(alloc: Global, source: &str) -> Result<Resource<Span>, ParseFault<Span>>
     requires { length source.now + 1 < 2 ^ 64 }
-    ensures { HasParts source.now result }
+    ensures spans { HasParts source.now result }
+    ensures tiling { AnswersRuntimeTiling (λ s. s) (λ b. b) Edition.One source.now result }
+    ensures blank { BlankBlock source.now 0 (length source.now) → IsOk result }
 {
     parse_runtime_spans_edition(alloc, source, Edition::One)
 }
@@ -67,7 +75,9 @@ pub fn parse_runtime_spans_edition(
     edition: Edition,
 ) -> Result<Resource<Span>, ParseFault<Span>>
     requires { length source.now + 1 < 2 ^ 64 }
-    ensures { HasParts source.now result }
+    ensures spans { HasParts source.now result }
+    ensures tiling { AnswersRuntimeTiling (λ s. s) (λ b. b) edition source.now result }
+    ensures blank { BlankBlock source.now 0 (length source.now) → IsOk result }
 {
     Parser::new(source).parse_runtime(alloc, edition)
 }

@@ -1,13 +1,24 @@
 //! The parser, and its entries.
-ghost use Rattle.std.specs.Prelude.{◌≡◌, ◌+◌, ◌^◌, ◌<◌, ◌≤◌, length, slice_index, IfErr, IfOk, OnErr, OnOk, None, true, false, IfSome, IsTrue, All};
+ghost use Rattle.std.specs.Prelude.{◌≡◌, ◌+◌, ◌^◌, ◌<◌, ◌≤◌, length, slice_index, map, option_map, IfErr, IfOk, OnErr, OnOk, IsOk, IsOkAnd, None, true, false, IfSome, IsTrue, All, []};
 ghost use Rattle.std.specs.Str.{IsCharBoundary, IsUtf8};
 ghost use Rattle.fluent_syntax_grammar.specs.Bytes.{is_letter, is_name_byte};
-ghost use Rattle.fluent_syntax_grammar.specs.Places.{has, has_byte, Word};
-ghost use Rattle.fluent_syntax_grammar.specs.Tiling.{starts_entry};
-ghost use Rattle.fluent_syntax_reader.specs.Parts.{AttributeParts, EntryParts, ExpressionParts, HasParts, KeyParts, MessageParts, PatternParts, SpanParts, TermParts, TilingParts, VariantParts};
+ghost use Rattle.fluent_syntax_grammar.specs.Places.{BlankBlock, has, has_byte, Word};
+ghost use Rattle.fluent_syntax_grammar.specs.Tiling.{starts_entry, entry_at};
+ghost use Rattle.fluent_syntax_grammar.specs.Entries.{attribute, attributes, message_entry, term_entry};
+ghost use Rattle.fluent_syntax_tree.specs.Entry.{message, term};
+ghost use Rattle.fluent_syntax_reader.specs.Parts.{ExpressionParts, HasParts, KeyParts, PatternParts, SpanParts, VariantParts};
 ghost use Rattle.fluent_syntax_reader.specs.Stops.{StopsAt};
 ghost use Rattle.fluent_syntax_reader.specs.Meets.{Meets};
+ghost use Rattle.fluent_syntax_reader.specs.Value.{value_part};
+ghost use Rattle.fluent_syntax_reader.specs.Answers.{AnswersTiling};
+ghost use Rattle.fluent_syntax_reader.specs.Tiles.{GivesTiling, TakesTile};
 ghost use Rattle.fluent_syntax_grammar.specs.Words.{identifier};
+ghost use Rattle.fluent_syntax_grammar.specs.Arguments.{accessor};
+ghost use Rattle.fluent_syntax_grammar.specs.Variants.{has_default};
+ghost use Rattle.fluent_syntax_tree.specs.View.{attribute_view, entry_view, expression_view, identifier_view, key_view, message_view, pattern_view, term_view, variant_view};
+ghost use Rattle.fluent_syntax_tree.specs.Tree.{variants_of};
+ghost use Rattle.fluent_syntax_grammar.specs.Grammar.{family, placeable};
+ghost use Rattle.fluent_syntax_reader.specs.Pieces.{bracketed_key, variant_end};
 
 use crate::fault::{ParseFault, ReadFault};
 use crate::tiling::Tiling;
@@ -34,7 +45,9 @@ pub(crate) struct Parser<'s> {
 }
 
 /// Whether a list of variants may end, where a star may stand before its end.
-fn has_default(edition: Edition, starred: bool, star: bool) -> bool {
+fn has_default(edition: Edition, starred: bool, star: bool) -> bool
+    ensures { result ≡ has_default edition starred star }
+{
     match edition {
         Edition::One => starred || star,
         Edition::Two => starred,
@@ -46,6 +59,7 @@ impl<'s> Parser<'s> {
     pub(crate) fn new(text: &'s str) -> Parser<'s>
         requires { length text.now + 1 < 2 ^ 64 }
         ensures source { result.source.now ≡ text.now }
+        ensures start { result.ptr ≡ 0 }
     {
         Parser {
             text,
@@ -60,7 +74,10 @@ impl<'s> Parser<'s> {
         alloc: Global,
         edition: Edition,
     ) -> Result<Resource<Span>, ParseFault<Span>>
-        ensures { HasParts self.entry.source.now result }
+        requires start { self.ptr ≡ 0 }
+        ensures spans { HasParts self.entry.source.now result }
+        ensures tiling { AnswersTiling (λ s. s) (λ b. b) edition self.entry.source.now result }
+        ensures blank { BlankBlock self.entry.source.now 0 (length self.entry.source.now) → IsOk result }
     {
         match self.get_tiling(alloc, edition) {
             Ok(tiling) => tiling.finish(),
@@ -70,7 +87,9 @@ impl<'s> Parser<'s> {
 
     /// The tiles of the whole text.
     fn get_tiling(mut self, alloc: Global, edition: Edition) -> Result<Tiling, AllocError>
-        ensures { IfOk result (TilingParts self.entry.source.now) }
+        requires start { self.ptr ≡ 0 }
+        ensures tiling { IfOk result (GivesTiling edition self.entry.source.now) }
+        ensures blank { BlankBlock self.entry.source.now 0 (length self.entry.source.now) → IsOkAnd result (λ tiling. tiling.errors.items ≡ []) }
     {
         let mut tiling = Tiling::new(alloc);
         self.skip_blank_block();
@@ -90,10 +109,9 @@ impl<'s> Parser<'s> {
         tiling: &mut Tiling,
     ) -> Result<(), AllocError>
         requires in_text { self.old.ptr < length self.old.source.now }
-        requires spans { TilingParts self.old.source.now tiling.old }
         ensures source { self.new.source ≡ self.old.source }
         ensures forward { OnOk result (self.old.ptr < self.new.ptr) }
-        ensures spans { OnOk result (TilingParts self.old.source.now tiling.new) }
+        ensures takes { OnOk result (TakesTile edition self.old.source.now self.old.ptr self.new.ptr tiling.old tiling.new) }
     {
         let start = self.ptr;
         match self.get_entry(alloc, edition) {
@@ -111,9 +129,9 @@ impl<'s> Parser<'s> {
         ensures source { self.new.source ≡ self.old.source }
         ensures forward { self.old.ptr ≤ self.new.ptr }
         ensures taken { OnOk result (self.old.ptr < self.new.ptr) }
-        ensures spans { IfOk result (EntryParts self.old.source.now) }
         ensures stops { IfErr result (StopsAt self.new.ptr) }
         ensures further { OnErr result (starts_entry self.old.source.now self.old.ptr ≡ true → self.old.ptr < self.new.ptr) }
+        ensures meets { Meets (entry_at edition self.old.source.now) (entry_view (λ s. s)) self.old.ptr self.new.ptr result }
     {
         match self.current_byte() {
             Some(b'#') => self.get_comment(alloc),
@@ -126,9 +144,9 @@ impl<'s> Parser<'s> {
         ensures source { self.new.source ≡ self.old.source }
         ensures forward { self.old.ptr ≤ self.new.ptr }
         ensures taken { OnOk result (self.old.ptr < self.new.ptr) }
-        ensures spans { IfOk result (MessageParts self.old.source.now) }
         ensures stops { IfErr result (StopsAt self.new.ptr) }
         ensures further { OnErr result (has self.old.source.now is_letter self.old.ptr ≡ true → self.old.ptr < self.new.ptr) }
+        ensures meets { Meets (message_entry edition self.old.source.now) (λ m. message (message_view (λ s. s) m)) self.old.ptr self.new.ptr result }
     {
         let start = self.ptr;
         let id = self.get_identifier(alloc)?;
@@ -152,9 +170,9 @@ impl<'s> Parser<'s> {
         ensures source { self.new.source ≡ self.old.source }
         ensures forward { self.old.ptr ≤ self.new.ptr }
         ensures taken { OnOk result (self.old.ptr < self.new.ptr) }
-        ensures spans { IfOk result (TermParts self.old.source.now) }
         ensures stops { IfErr result (StopsAt self.new.ptr) }
         ensures further { OnErr result (has_byte self.old.source.now 45 self.old.ptr ≡ true → self.old.ptr < self.new.ptr) }
+        ensures meets { Meets (term_entry edition self.old.source.now) (λ m. term (term_view (λ s. s) m)) self.old.ptr self.new.ptr result }
     {
         let start = self.ptr;
         self.expect_byte(b'-')?;
@@ -184,8 +202,8 @@ impl<'s> Parser<'s> {
         ensures source { self.new.source ≡ self.old.source }
         ensures forward { self.old.ptr ≤ self.new.ptr }
         ensures taken { OnOk result (self.old.ptr < self.new.ptr) }
-        ensures spans { IfOk result (λ value. IfSome value (PatternParts self.old.source.now)) }
         ensures stops { IfErr result (StopsAt self.new.ptr) }
+        ensures meets { Meets (value_part edition self.old.source.now) (option_map (pattern_view (λ s. s))) self.old.ptr self.new.ptr result }
     {
         self.skip_blank_inline();
         self.expect_byte(b'=')?;
@@ -211,8 +229,8 @@ impl<'s> Parser<'s> {
     ) -> Result<Vec<Attribute<Span>>, ReadFault>
         ensures source { self.new.source ≡ self.old.source }
         ensures forward { self.old.ptr ≤ self.new.ptr }
-        ensures spans { IfOk result (λ attributes. All (AttributeParts self.old.source.now) attributes.items) }
         ensures stops { IfErr result (StopsAt self.new.ptr) }
+        ensures meets { Meets (attributes edition self.old.source.now) (λ found. map (attribute_view (λ s. s)) found.items) self.old.ptr self.new.ptr result }
     {
         let mut attributes = Vec::new(alloc);
         loop {
@@ -236,8 +254,8 @@ impl<'s> Parser<'s> {
         ensures source { self.new.source ≡ self.old.source }
         ensures forward { self.old.ptr ≤ self.new.ptr }
         ensures taken { OnOk result (self.old.ptr < self.new.ptr) }
-        ensures spans { IfOk result (AttributeParts self.old.source.now) }
         ensures stops { IfErr result (StopsAt self.new.ptr) }
+        ensures meets { Meets (attribute edition self.old.source.now) (attribute_view (λ s. s)) self.old.ptr self.new.ptr result }
     {
         self.skip_blank_inline();
         self.expect_byte(b'.')?;
@@ -288,6 +306,7 @@ impl<'s> Parser<'s> {
         ensures forward { self.old.ptr ≤ self.new.ptr }
         ensures spans { IfOk result (λ id. IfSome id (λ id. SpanParts self.old.source.now id.name)) }
         ensures stops { IfErr result (StopsAt self.new.ptr) }
+        ensures meets { Meets (accessor self.old.source.now) (λ id. option_map (identifier_view (λ s. s)) id) self.old.ptr self.new.ptr result }
     {
         if self.take_byte_if(b'.') {
             Ok(Some(self.get_identifier(alloc)?))
@@ -303,6 +322,7 @@ impl<'s> Parser<'s> {
         ensures taken { OnOk result (self.old.ptr < self.new.ptr) }
         ensures spans { IfOk result (KeyParts self.old.source.now) }
         ensures stops { IfErr result (StopsAt self.new.ptr) }
+        ensures meets { Meets (bracketed_key self.old.source.now) (key_view (λ s. s)) self.old.ptr self.new.ptr result }
     {
         self.skip_blank();
         let key = if self.is_number_start() {
@@ -330,6 +350,7 @@ impl<'s> Parser<'s> {
         ensures forward { self.old.ptr ≤ self.new.ptr }
         ensures spans { IfOk result (λ variants. All (VariantParts self.old.source.now) variants.items) }
         ensures stops { IfErr result (StopsAt self.new.ptr) }
+        ensures meets { Meets ((family edition self.old.source.now).more_variants false) (λ variants. variants_of (map (variant_view (λ s. s)) variants.items)) self.old.ptr self.new.ptr result }
     {
         let mut variants = Vec::new(alloc);
         let mut starred = false;
@@ -346,37 +367,35 @@ impl<'s> Parser<'s> {
             }
             let key = self.get_variant_key(alloc)?;
             let value = self.get_pattern(alloc, edition)?;
-            self.end_variant(&mut variants, key, value, default)?;
-            starred = starred || default;
+            variants.push(self.end_variant(key, value, default)?)?;
+            starred |= default;
         }
     }
 
-    /// Adds the variant of a key and a value, which has to be there, and passes over a blank.
+    /// The variant of a key and a value, which has to be there. Passes over the blank after it.
     fn end_variant(
         &mut self,
-        variants: &mut Vec<Variant<Span>>,
         key: VariantKey<Span>,
         value: Option<Pattern<Span>>,
         default: bool,
-    ) -> Result<(), ReadFault>
-        requires variants { All (VariantParts self.old.source.now) variants.old.items }
+    ) -> Result<Variant<Span>, ReadFault>
         requires key { KeyParts self.old.source.now key }
         requires value { IfSome value (PatternParts self.old.source.now) }
         ensures source { self.new.source ≡ self.old.source }
         ensures forward { self.old.ptr ≤ self.new.ptr }
-        ensures spans { OnOk result (All (VariantParts self.old.source.now) variants.new.items) }
+        ensures spans { IfOk result (VariantParts self.old.source.now) }
         ensures stops { IfErr result (StopsAt self.new.ptr) }
+        ensures meets { Meets (variant_end self.old.source.now (key_view (λ s. s) key) (option_map (pattern_view (λ s. s)) value) default) (variant_view (λ s. s)) self.old.ptr self.new.ptr result }
     {
         let Some(value) = value else {
             return Err(self.refused(ErrorKind::MissingValue));
         };
-        variants.push(Variant {
+        self.skip_blank();
+        Ok(Variant {
             key,
             value,
             default,
-        })?;
-        self.skip_blank();
-        Ok(())
+        })
     }
 
     /// Reads an expression in braces.
@@ -391,6 +410,7 @@ impl<'s> Parser<'s> {
         ensures taken { OnOk result (self.old.ptr < self.new.ptr) }
         ensures spans { IfOk result (ExpressionParts self.old.source.now) }
         ensures stops { IfErr result (StopsAt self.new.ptr) }
+        ensures meets { Meets (placeable edition self.old.source.now) (expression_view (λ s. s)) self.old.ptr self.new.ptr result }
     {
         self.expect_byte(b'{')?;
         self.skip_blank();

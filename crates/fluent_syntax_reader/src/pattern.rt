@@ -1,9 +1,18 @@
 //! Patterns: their lines, the common indent of these, and the elements that they spell.
-ghost use Rattle.std.specs.Prelude.{◌≡◌, ◌+◌, ◌^◌, ◌<◌, ◌≤◌, length, false, IfErr, IfOk, OnOk, OnSome, IfSome, IsTrue, All};
+ghost use Rattle.std.specs.Prelude.{◌≡◌, ◌+◌, ◌^◌, ◌<◌, ◌≤◌, length, false, IfErr, IfOk, OnOk, OnSome, IfSome, IsTrue, All, [], ◌∷◌, ◌++◌, map, option_map, option_to_list, slice_get, slice_range, Some};
 ghost use Rattle.std.specs.Str.{IsCharBoundary};
 ghost use Rattle.fluent_syntax_reader.specs.Parts.{ElementParts, PatternParts, PlaceholderParts, SpanParts, StartsLine};
-ghost use Rattle.fluent_syntax_grammar.specs.Lines.{is_run_place};
+ghost use Rattle.fluent_syntax_grammar.specs.Lines.{belongs, is_run_place};
+ghost use Rattle.fluent_syntax_grammar.specs.Places.{Stretch};
 ghost use Rattle.fluent_syntax_reader.specs.Stops.{StopsAt};
+ghost use Rattle.fluent_syntax_reader.specs.Meets.{Meets};
+ghost use Rattle.fluent_syntax_grammar.specs.Grammar.{pattern};
+ghost use Rattle.fluent_syntax_reader.specs.Placeholders.{Popped, common_of_parts, counted_part, kept_place, part_elements, part_stays, pattern_of_parts, placeholder_view, placeholders_view, trimmed_part};
+ghost use Rattle.fluent_syntax_reader.specs.PatternLines.{LineStart, SliceRead, WholeLineRead, parts_before, run_parts, slice_part};
+ghost use Rattle.fluent_syntax_tree.specs.declared.edition.Edition.{Edition};
+ghost use Rattle.fluent_syntax_grammar.specs.Elements.{is_nonblank, trimmed_end, without_last_lf};
+ghost use Rattle.fluent_syntax_tree.specs.Text.{is_trimmed};
+ghost use Rattle.fluent_syntax_tree.specs.View.{element_view, pattern_view};
 
 use crate::fault::ReadFault;
 use crate::parser::Parser;
@@ -37,7 +46,9 @@ enum PatternElementPlaceholder {
 
 impl PatternElementPlaceholder {
     /// The leading spaces that count for the common indent.
-    fn counted_spaces(&self, edition: Edition) -> Option<usize> {
+    fn counted_spaces(&self, edition: Edition) -> Option<usize>
+        ensures { option_to_list result ≡ counted_part edition (placeholder_view self.now) }
+    {
         match self {
             PatternElementPlaceholder::TextElement {
                 indent,
@@ -57,7 +68,9 @@ impl PatternElementPlaceholder {
 }
 
 /// The least number of leading spaces that counts.
-fn common_indent(placeholders: &[PatternElementPlaceholder], edition: Edition) -> Option<usize> {
+fn common_indent(placeholders: &[PatternElementPlaceholder], edition: Edition) -> Option<usize>
+    ensures { result ≡ common_of_parts edition (placeholders_view placeholders.now) }
+{
     let mut common = None;
     for placeholder in placeholders {
         if let Some(spaces) = placeholder.counted_spaces(edition) {
@@ -70,12 +83,31 @@ fn common_indent(placeholders: &[PatternElementPlaceholder], edition: Edition) -
     common
 }
 
+/// The bytes without an LF that ends them.
+fn without_last_lf(bytes: &[u8]) -> &[u8]
+    ensures { result.now ≡ without_last_lf bytes.now }
+{
+    match bytes {
+        [line @ .., last] if *last == b'\n' => line,
+        _ => bytes,
+    }
+}
+
+/// Whether it is a space, a CR or an LF.
+fn is_trimmed(byte: u8) -> bool
+    ensures value { result ≡ is_trimmed byte }
+    ensures ascii { IsTrue result → byte < 128 }
+{
+    matches!(byte, b' ' | b'\r' | b'\n')
+}
+
 /// Where a text begins whose line has its leading spaces from `start` on: behind those of the common
 /// indent.
 fn kept_from(common: Option<usize>, start: usize, indent: usize) -> usize
     requires { start + indent < 2 ^ 64 }
     ensures low { start ≤ result }
     ensures high { result ≤ start + indent }
+    ensures value { result ≡ kept_place common start indent }
 {
     match common {
         None => start + indent,
@@ -96,6 +128,7 @@ impl<'s> Parser<'s> {
         ensures forward { self.old.ptr ≤ self.new.ptr }
         ensures spans { IfOk result (λ pattern. IfSome pattern (PatternParts self.old.source.now)) }
         ensures stops { IfErr result (StopsAt self.new.ptr) }
+        ensures meets { Meets (pattern edition self.old.source.now) (option_map (pattern_view (λ s. s))) self.old.ptr self.new.ptr result }
     {
         let mut placeholders = Vec::new(alloc);
         self.skip_blank_inline();
@@ -107,7 +140,7 @@ impl<'s> Parser<'s> {
         while let Some(start) = self.skip_line_start() {
             self.get_line(alloc, edition, Some(start), &mut placeholders)?;
         }
-        self.get_elements(alloc, edition, placeholders)
+        Ok(self.get_elements(alloc, edition, placeholders)?)
     }
 
     /// Passes over the leading spaces of a line, if it belongs to the pattern: the place where they
@@ -117,6 +150,7 @@ impl<'s> Parser<'s> {
         ensures forward { self.old.ptr ≤ self.new.ptr }
         ensures line { IfSome result (StartsLine self.old.source.now self.new.ptr) }
         ensures byte { OnSome result (self.new.ptr < length self.old.source.now) }
+        ensures starts { LineStart self.old.source.now self.old.ptr self.new.ptr result }
     {
         let start = self.ptr;
         self.skip_blank_inline();
@@ -134,7 +168,10 @@ impl<'s> Parser<'s> {
     }
 
     /// Whether a line belongs to the pattern, by the byte after its leading spaces, if it has any.
-    fn belongs(&self, byte: u8, indented: bool) -> bool {
+    fn belongs(&self, byte: u8, indented: bool) -> bool
+        requires { slice_get self.now.source.now self.now.ptr ≡ Some byte }
+        ensures { result ≡ belongs self.now.source.now indented self.now.ptr }
+    {
         if self.is_eol() {
             true
         } else if indented {
@@ -160,15 +197,9 @@ impl<'s> Parser<'s> {
         ensures spans { All (PlaceholderParts self.old.source.now) placeholders.new.items }
         ensures stops { IfErr result (StopsAt self.new.ptr) }
         ensures taken { OnOk result (self.old.ptr < length self.old.source.now → self.old.ptr < self.new.ptr) }
+        ensures read { WholeLineRead edition self.old.source.now line_start self.old.ptr self.new.ptr
+            (placeholders_view placeholders.old.items) (placeholders_view placeholders.new.items) result }
     {
-        if let Some(start) = line_start {
-            if self.is_current_byte(b'{') {
-                placeholders.push(PatternElementPlaceholder::PlaceableIndent {
-                    start,
-                    indent: self.ptr - start,
-                })?;
-            }
-        }
         let mut text_start = line_start;
         while !self.get_text_slice(text_start, placeholders)? {
             let expression = self.get_placeable(alloc, edition)?;
@@ -193,50 +224,127 @@ impl<'s> Parser<'s> {
         ensures spans { All (PlaceholderParts self.old.source.now) placeholders.new.items }
         ensures stops { IfErr result (StopsAt self.new.ptr) }
         ensures taken { IfOk result (λ ended. IsTrue ended → self.old.ptr < length self.old.source.now → self.old.ptr < self.new.ptr) }
+        ensures slice { (edition : Edition) → SliceRead edition self.old.source.now line_start self.old.ptr self.new.ptr
+            (placeholders_view placeholders.old.items) (placeholders_view placeholders.new.items) result }
     {
-        let from = self.ptr;
-        let start = line_start.unwrap_or(from);
-        let indent = from - start;
         let to = self.run_end();
-        let counts = line_start.is_some() && from < to;
         match self.byte_at(to) {
             Some(b'\n') => {
-                placeholders.push(PatternElementPlaceholder::TextElement {
-                    start,
-                    indent,
-                    end: to + 1,
-                    counts,
-                })?;
+                self.push_text(line_start, to, to + 1, placeholders)?;
                 self.go_to(to + 1);
                 Ok(true)
             }
-            byte => {
-                if from < to {
-                    placeholders.push(PatternElementPlaceholder::TextElement {
-                        start,
-                        indent,
-                        end: to,
-                        counts,
-                    })?;
-                }
+            Some(b'{') => {
+                self.push_before_placeable(line_start, to, placeholders)?;
                 self.go_to(to);
-                match byte {
-                    None => Ok(true),
-                    Some(b'{') => Ok(false),
-                    Some(b'}') => Err(self.refused(ErrorKind::UnbalancedClosingBrace)),
-                    Some(_) => {
-                        self.skip_byte();
-                        placeholders.push(PatternElementPlaceholder::TextElement {
-                            start: self.ptr,
-                            indent: 0,
-                            end: self.ptr + 1,
-                            counts: false,
-                        })?;
-                        self.skip_byte();
-                        Ok(true)
-                    }
-                }
+                Ok(false)
             }
+            Some(b'}') => {
+                self.push_run(line_start, to, placeholders)?;
+                self.go_to(to);
+                Err(self.refused(ErrorKind::UnbalancedClosingBrace))
+            }
+            Some(_) => {
+                self.push_run(line_start, to, placeholders)?;
+                self.go_to(to);
+                self.skip_byte();
+                placeholders.push(PatternElementPlaceholder::TextElement {
+                    start: self.ptr,
+                    indent: 0,
+                    end: self.ptr + 1,
+                    counts: false,
+                })?;
+                self.skip_byte();
+                Ok(true)
+            }
+            None => {
+                self.push_run(line_start, to, placeholders)?;
+                self.go_to(to);
+                Ok(true)
+            }
+        }
+    }
+
+    /// Adds the text from the place reached up to `end`, of which a run reaches up to `to`, with the
+    /// leading spaces before it.
+    fn push_text(
+        &self,
+        line_start: Option<usize>,
+        to: usize,
+        end: usize,
+        placeholders: &mut Vec<PatternElementPlaceholder>,
+    ) -> Result<(), AllocError>
+        requires line { IfSome line_start (StartsLine self.now.source.now self.now.ptr) }
+        requires spans { All (PlaceholderParts self.now.source.now) placeholders.old.items }
+        requires ordered { self.now.ptr ≤ end }
+        requires boundary { IsCharBoundary self.now.source.now end }
+        ensures spans { All (PlaceholderParts self.now.source.now) placeholders.new.items }
+        ensures parts { OnOk result (placeholders_view placeholders.new.items
+            ≡ placeholders_view placeholders.old.items ++ slice_part line_start self.now.ptr to end ∷ []) }
+    {
+        let placeholder = match line_start {
+            Some(start) => PatternElementPlaceholder::TextElement {
+                start,
+                indent: self.ptr - start,
+                end,
+                counts: self.ptr < to,
+            },
+            None => PatternElementPlaceholder::TextElement {
+                start: self.ptr,
+                indent: 0,
+                end,
+                counts: false,
+            },
+        };
+        placeholders.push(placeholder)?;
+        Ok(())
+    }
+
+    /// Adds the run from the place reached up to `to`, if it is not empty.
+    fn push_run(
+        &self,
+        line_start: Option<usize>,
+        to: usize,
+        placeholders: &mut Vec<PatternElementPlaceholder>,
+    ) -> Result<(), AllocError>
+        requires line { IfSome line_start (StartsLine self.now.source.now self.now.ptr) }
+        requires spans { All (PlaceholderParts self.now.source.now) placeholders.old.items }
+        requires ordered { self.now.ptr ≤ to }
+        requires boundary { IsCharBoundary self.now.source.now to }
+        ensures spans { All (PlaceholderParts self.now.source.now) placeholders.new.items }
+        ensures parts { OnOk result (placeholders_view placeholders.new.items
+            ≡ placeholders_view placeholders.old.items ++ run_parts line_start self.now.ptr to) }
+    {
+        if self.ptr < to {
+            self.push_text(line_start, to, to, placeholders)?;
+        }
+        Ok(())
+    }
+
+    /// Adds the run before a placeable, or the leading spaces of the line that a placeable begins.
+    fn push_before_placeable(
+        &self,
+        line_start: Option<usize>,
+        to: usize,
+        placeholders: &mut Vec<PatternElementPlaceholder>,
+    ) -> Result<(), AllocError>
+        requires line { IfSome line_start (StartsLine self.now.source.now self.now.ptr) }
+        requires spans { All (PlaceholderParts self.now.source.now) placeholders.old.items }
+        requires ordered { self.now.ptr ≤ to }
+        requires boundary { IsCharBoundary self.now.source.now to }
+        ensures spans { All (PlaceholderParts self.now.source.now) placeholders.new.items }
+        ensures parts { OnOk result (placeholders_view placeholders.new.items
+            ≡ placeholders_view placeholders.old.items ++ parts_before line_start self.now.ptr to) }
+    {
+        match line_start {
+            Some(start) if self.ptr == to => {
+                placeholders.push(PatternElementPlaceholder::PlaceableIndent {
+                    start,
+                    indent: self.ptr - start,
+                })?;
+                Ok(())
+            }
+            _ => self.push_run(line_start, to, placeholders),
         }
     }
 
@@ -245,17 +353,15 @@ impl<'s> Parser<'s> {
         ensures ordered { self.now.ptr ≤ result }
         ensures boundary { IsCharBoundary self.now.source.now result }
         ensures longest { is_run_place self.now.source.now result ≡ false }
+        ensures run { Stretch (is_run_place self.now.source.now) self.now.ptr result }
     {
         let rest = &self.source[self.ptr..];
-        match memchr3(b'\n', b'{', b'}', rest) {
-            None => self.source.len(),
-            Some(len) => {
-                if rest[len] == b'\n' && len > 0 && rest[len - 1] == b'\r' {
-                    self.ptr + len - 1
-                } else {
-                    self.ptr + len
-                }
-            }
+        let len = memchr3(b'\n', b'{', b'}', rest).unwrap_or(rest.len());
+        let end = self.ptr + len;
+        if len > 0 && self.is_byte_at(b'\n', end) && self.is_byte_at(b'\r', end - 1) {
+            end - 1
+        } else {
+            end
         }
     }
 
@@ -266,10 +372,11 @@ impl<'s> Parser<'s> {
         alloc: Global,
         edition: Edition,
         mut placeholders: Vec<PatternElementPlaceholder>,
-    ) -> Result<Option<Pattern<Span>>, ReadFault>
+    ) -> Result<Option<Pattern<Span>>, AllocError>
         requires { All (PlaceholderParts self.now.source.now) placeholders.items }
         ensures spans { IfOk result (λ pattern. IfSome pattern (PatternParts self.now.source.now)) }
-        ensures stops { IfErr result (StopsAt self.now.ptr) }
+        ensures spells { IfOk result (λ pattern. option_map (pattern_view (λ s. s)) pattern
+            ≡ pattern_of_parts self.now.source.now edition (placeholders_view placeholders.items)) }
     {
         let common = common_indent(&placeholders, edition);
         let Some(last) = self.pop_last(&mut placeholders) else {
@@ -292,6 +399,8 @@ impl<'s> Parser<'s> {
         requires { All (PlaceholderParts self.now.source.now) placeholders.old.items }
         ensures last { IfSome result (PlaceholderParts self.now.source.now) }
         ensures others { All (PlaceholderParts self.now.source.now) placeholders.new.items }
+        ensures popped { Popped self.now.source.now (placeholders_view placeholders.old.items)
+            (placeholders_view placeholders.new.items) (option_map placeholder_view result) }
     {
         while let Some(last) = placeholders.pop() {
             if self.stays(&last) {
@@ -313,7 +422,9 @@ impl<'s> Parser<'s> {
     ) -> Result<(), AllocError>
         requires placeholder { PlaceholderParts self.now.source.now placeholder }
         requires elements { All (ElementParts self.now.source.now) elements.old.items }
-        ensures { OnOk result (All (ElementParts self.now.source.now) elements.new.items) }
+        ensures spans { OnOk result (All (ElementParts self.now.source.now) elements.new.items) }
+        ensures spells { OnOk result (map (element_view (λ s. s)) elements.new.items
+            ≡ map (element_view (λ s. s)) elements.old.items ++ part_elements edition common (placeholder_view placeholder)) }
     {
         match placeholder {
             PatternElementPlaceholder::Placeable { expression } => {
@@ -348,7 +459,8 @@ impl<'s> Parser<'s> {
         placeholder: PatternElementPlaceholder,
     ) -> PatternElementPlaceholder
         requires { PlaceholderParts self.now.source.now placeholder }
-        ensures { PlaceholderParts self.now.source.now result }
+        ensures spans { PlaceholderParts self.now.source.now result }
+        ensures value { placeholder_view result ≡ trimmed_part self.now.source.now common (placeholder_view placeholder) }
     {
         match placeholder {
             PatternElementPlaceholder::TextElement {
@@ -372,6 +484,7 @@ impl<'s> Parser<'s> {
     /// Whether it is a placeable, or a text that holds a byte other than space apart from an ending LF.
     fn stays(&self, placeholder: &PatternElementPlaceholder) -> bool
         requires { PlaceholderParts self.now.source.now placeholder.now }
+        ensures { result ≡ part_stays self.now.source.now (placeholder_view placeholder.now) }
     {
         match placeholder {
             PatternElementPlaceholder::Placeable { .. } => true,
@@ -389,22 +502,21 @@ impl<'s> Parser<'s> {
     fn is_nonblank(&self, start: usize, end: usize) -> bool
         requires ordered { start ≤ end }
         requires in_text { end ≤ length self.now.source.now }
+        ensures { result ≡ is_nonblank (slice_range self.now.source.now start end) }
     {
-        let text = &self.source[start..end];
-        let line = match text {
-            [line @ .., b'\n'] => line,
-            _ => text,
-        };
-        line.iter().any(|byte| *byte != b' ')
+        without_last_lf(&self.source[start..end])
+            .iter()
+            .any(|byte| *byte != b' ')
     }
 
     /// The end of a text without its ending spaces, CRs and LFs.
     fn trimmed_end(&self, start: usize, end: usize) -> usize
         requires { SpanParts self.now.source.now (record { start = start; end = end }) }
-        ensures { SpanParts self.now.source.now (record { start = start; end = result }) }
+        ensures spans { SpanParts self.now.source.now (record { start = start; end = result }) }
+        ensures value { result ≡ trimmed_end self.now.source.now start end }
     {
         let mut end = end;
-        while start < end && matches!(self.source[end - 1], b' ' | b'\r' | b'\n') {
+        while start < end && is_trimmed(self.source[end - 1]) {
             end -= 1;
         }
         end

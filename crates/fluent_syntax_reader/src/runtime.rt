@@ -1,6 +1,9 @@
 //! Parsing without comments.
-ghost use Rattle.std.specs.Prelude.{IfOk};
-ghost use Rattle.fluent_syntax_reader.specs.Parts.{HasParts, TilingParts};
+ghost use Rattle.std.specs.Prelude.{◌≡◌, [], length, IfOk, IsOk, IsOkAnd};
+ghost use Rattle.fluent_syntax_grammar.specs.Places.{BlankBlock};
+ghost use Rattle.fluent_syntax_reader.specs.Answers.{AnswersRuntimeTiling};
+ghost use Rattle.fluent_syntax_reader.specs.Parts.{HasParts};
+ghost use Rattle.fluent_syntax_reader.specs.Tiles.{GivesRuntimeTiling};
 
 use crate::fault::ParseFault;
 use crate::parser::Parser;
@@ -17,7 +20,10 @@ impl<'s> Parser<'s> {
         alloc: Global,
         edition: Edition,
     ) -> Result<Resource<Span>, ParseFault<Span>>
-        ensures { HasParts self.entry.source.now result }
+        requires start { self.ptr ≡ 0 }
+        ensures spans { HasParts self.entry.source.now result }
+        ensures tiling { AnswersRuntimeTiling (λ s. s) (λ b. b) edition self.entry.source.now result }
+        ensures blank { BlankBlock self.entry.source.now 0 (length self.entry.source.now) → IsOk result }
     {
         match self.get_runtime_tiling(alloc, edition) {
             Ok(tiling) => tiling.finish(),
@@ -28,7 +34,9 @@ impl<'s> Parser<'s> {
     /// The tiles of the whole text, in which a line that begins with `#` where an entry would begin is
     /// dropped.
     fn get_runtime_tiling(mut self, alloc: Global, edition: Edition) -> Result<Tiling, AllocError>
-        ensures { IfOk result (TilingParts self.entry.source.now) }
+        requires start { self.ptr ≡ 0 }
+        ensures tiling { IfOk result (GivesRuntimeTiling edition self.entry.source.now) }
+        ensures blank { BlankBlock self.entry.source.now 0 (length self.entry.source.now) → IsOkAnd result (λ tiling. tiling.errors.items ≡ []) }
     {
         let mut tiling = Tiling::new(alloc);
         self.skip_blank_block();

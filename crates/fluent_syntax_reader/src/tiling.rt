@@ -1,6 +1,10 @@
 //! What the tiles of a text give: entries, junk and errors.
-ghost use Rattle.std.specs.Prelude.{ℕ, List, OnOk, IfSome, ◌≤◌};
-ghost use Rattle.fluent_syntax_reader.specs.Parts.{CommentParts, EntryParts, HasParts, SpanParts, TilingParts};
+ghost use Rattle.std.specs.Prelude.{◌≡◌, ◌++◌, [], List, OnOk, IsOk, None};
+ghost use Rattle.fluent_syntax_tree.specs.Kind.{kind_of};
+ghost use Rattle.fluent_syntax_grammar.specs.Tiling.{Tile};
+ghost use Rattle.fluent_syntax_grammar.specs.Tiling as tiles;
+ghost use Rattle.fluent_syntax_reader.specs.Answers.{Answers};
+ghost use Rattle.fluent_syntax_reader.specs.Tiles.{Gives, HangsAs, LeavesAs, Takes, comment_of, following, may_hang, tree_of, trees_of};
 
 use crate::fault::ParseFault;
 use fluent_syntax_tree::ast::{Comment, Entry, Message, Resource, Term};
@@ -26,8 +30,8 @@ pub(crate) struct Tiling {
 
 /// A message or a term with the comment; any other entry stays, with the comment left.
 fn hung(comment: Comment<Span>, entry: Entry<Span>) -> (Option<Comment<Span>>, Entry<Span>)
-    ensures { (t : List ℕ) → CommentParts t comment → EntryParts t entry
-        → IfSome result.0 (CommentParts t) × EntryParts t result.1 }
+    ensures body { HangsAs comment entry result.0 result.1 }
+    ensures kept { may_hang (tree_of result.1) ≡ may_hang (tree_of entry) }
 {
     match entry {
         Entry::Message(message) => {
@@ -44,7 +48,9 @@ fn hung(comment: Comment<Span>, entry: Entry<Span>) -> (Option<Comment<Span>>, E
 
 impl Tiling {
     pub(crate) fn new(alloc: Global) -> Tiling
-        ensures { (t : List ℕ) → TilingParts t result }
+        ensures body { result.body.items ≡ [] }
+        ensures errors { result.errors.items ≡ [] }
+        ensures last { result.last_comment ≡ None }
     {
         Tiling {
             body: Vec::new(alloc),
@@ -56,8 +62,11 @@ impl Tiling {
     /// Takes the comment that waits, and puts it on the entry if it hangs there: the comment that is
     /// left, if it does not, and the entry.
     fn hang(&mut self, entry: Entry<Span>, start: usize) -> (Option<Comment<Span>>, Entry<Span>)
-        ensures { (t : List ℕ) → TilingParts t self.old → EntryParts t entry
-            → TilingParts t self.new × IfSome result.0 (CommentParts t) × EntryParts t result.1 }
+        ensures body { self.new.body ≡ self.old.body }
+        ensures errors { self.new.errors ≡ self.old.errors }
+        ensures taken { self.new.last_comment ≡ None }
+        ensures leaves { LeavesAs self.old.last_comment start entry result.0 result.1 }
+        ensures kept { may_hang (tree_of result.1) ≡ may_hang (tree_of entry) }
     {
         match self.last_comment.take() {
             None => (None, entry),
@@ -73,8 +82,9 @@ impl Tiling {
 
     /// Adds a comment that hangs on nothing, if there is one.
     fn push_comment(&mut self, comment: Option<Comment<Span>>) -> Result<(), AllocError>
-        ensures { OnOk result ((t : List ℕ) → TilingParts t self.old
-            → IfSome comment (CommentParts t) → TilingParts t self.new) }
+        ensures body { OnOk result (trees_of self.new.body.items ≡ trees_of self.old.body.items ++ comment_of comment) }
+        ensures errors { self.new.errors ≡ self.old.errors }
+        ensures last { self.new.last_comment ≡ self.old.last_comment }
     {
         if let Some(comment) = comment {
             self.body.push(Entry::Comment(comment))?;
@@ -90,7 +100,7 @@ impl Tiling {
         start: usize,
         end: usize,
     ) -> Result<(), AllocError>
-        ensures { OnOk result ((t : List ℕ) → TilingParts t self.old → EntryParts t entry → TilingParts t self.new) }
+        ensures takes { OnOk result (Takes self.old (tiles.entry (record { start = start; end = end }) (tree_of entry)) self.new) }
     {
         let (left, entry) = self.hang(entry, start);
         self.push_comment(left)?;
@@ -108,8 +118,7 @@ impl Tiling {
         start: usize,
         end: usize,
     ) -> Result<(), AllocError>
-        ensures { OnOk result ((t : List ℕ) → TilingParts t self.old
-            → SpanParts t (record { start = start; end = end }) → TilingParts t self.new) }
+        ensures takes { OnOk result (Takes self.old (tiles.refused (record { kind = kind_of error.kind; pos = record { start = error.pos.start; end = error.pos.end }; slice = record { start = start; end = end } })) self.new) }
     {
         self.push_last_comment()?;
         self.errors.push(ParserError {
@@ -124,7 +133,10 @@ impl Tiling {
 
     /// Adds the comment that waits, if there is one: nothing stands on which it could hang.
     pub(crate) fn push_last_comment(&mut self) -> Result<(), AllocError>
-        ensures { OnOk result ((t : List ℕ) → TilingParts t self.old → TilingParts t self.new) }
+        ensures body { OnOk result (trees_of self.new.body.items ≡ trees_of self.old.body.items ++ following self.old.last_comment []) }
+        ensures errors { self.new.errors ≡ self.old.errors }
+        ensures taken { self.new.last_comment ≡ None }
+        ensures none { self.old.last_comment ≡ None → IsOk result }
     {
         if let Some(last) = self.last_comment.take() {
             self.body.push(Entry::Comment(last.comment))?;
@@ -134,7 +146,8 @@ impl Tiling {
 
     /// The tree, and the errors if there are any.
     pub(crate) fn finish(self) -> Result<Resource<Span>, ParseFault<Span>>
-        ensures { (t : List ℕ) → TilingParts t self → HasParts t result }
+        ensures answers { (given : List Tile) → Gives given self → Answers (λ s. s) (λ b. b) given result }
+        ensures none { self.errors.items ≡ [] → IsOk result }
     {
         let Tiling {
             body,

@@ -1,0 +1,33 @@
+use Rattle.std.proofs.Common.{◌≡◌, ◌+◌, ◌-◌, ◌<◌, false, sym, arith}
+use Rattle.std.specs.Prelude.{◌&&◌}
+use Rattle.memchr.specs.Find.{is_byte3}
+use Rattle.fluent_syntax_grammar.specs.Bytes.{lf, cr}
+use Rattle.fluent_syntax_grammar.specs.Places.{has_byte, Word}
+use Rattle.fluent_syntax_reader.proofs.Scans.{scanned}
+use Rattle.fluent_syntax_reader.proofs.Runs.{is_passed, run_to, run_before_crlf, and_first, and_false}
+use Rattle.fluent_syntax_reader.proofs.parser.Parser.run_end.Goals as goal
+use Rattle.fluent_syntax_reader.proofs.parser.Parser.run_end.Goals.{else-len-gt0-via-then-len-gt0+then-is_byte_at+else-is_byte_at-2, else-len-gt0-via-then-len-gt0+else-is_byte_at, else-len-gt0-via-else-len-gt0}
+
+pub returns-then-is_byte_at-2-clause-run : goal.returns-then-is_byte_at-2-clause-run
+returns-then-is_byte_at-2-clause-run c =
+    let s = c.args.self.now in
+    let t = s.source.now in
+    let word : Word t is_passed s.ptr (s.ptr + c.unwrap_or-len.result) = rw c.unwrap_or-len.ensures (scanned t (is_byte3 10 123 125) s.ptr s.within c.memchr3.result c.memchr3.ensures) in
+    run_before_crlf t s.ptr (s.ptr + c.unwrap_or-len.result) word (omega (arith, c.if-len-gt0.true)) (sym c.if-is_byte_at-2.ensures) (sym c.if-is_byte_at.ensures)
+
+pub returns-else-len-gt0-clause-run : goal.returns-else-len-gt0-clause-run
+returns-else-len-gt0-clause-run c =
+    let s = c.args.self.now in
+    let t = s.source.now in
+    let m = s.ptr + c.unwrap_or-len.result in
+    let word : Word t is_passed s.ptr m = rw c.unwrap_or-len.ensures (scanned t (is_byte3 10 123 125) s.ptr s.within c.memchr3.result c.memchr3.ensures) in
+    let last : s.ptr < m → (has_byte t cr (m - 1) && has_byte t lf m) ≡ false = λ l.
+    elim c.else-len-gt0.branch [
+      | else-len-gt0-via-then-len-gt0+then-is_byte_at+else-is_byte_at-2 w ↦ and_first (has_byte t cr (m - 1)) (has_byte t lf m) (sym w.if-is_byte_at-2.ensures)
+      | else-len-gt0-via-then-len-gt0+else-is_byte_at w ↦ and_false (has_byte t cr (m - 1)) (has_byte t lf m) (sym w.if-is_byte_at.ensures)
+      | else-len-gt0-via-else-len-gt0 w ↦ absurd (omega (arith, w.if-len-gt0.false, l))
+    ] in
+    run_to t s.ptr m word last
+
+pub returns-else-len-gt0-clause-longest : goal.returns-else-len-gt0-clause-longest
+returns-else-len-gt0-clause-longest c = (returns-else-len-gt0-clause-run c).longest
