@@ -1,1 +1,3 @@
 pub mod FlatSteps
+pub mod ErrorLemmas
+pub mod SameAnswersLemmas

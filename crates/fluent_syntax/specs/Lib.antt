@@ -1,2 +1,4 @@
 pub mod Flat
 pub mod Lines
+pub mod Errors
+pub mod SameAnswers

@@ -1,6 +1,12 @@
 //! Both parsers, with trees of texts.
-ghost use Rattle.std.specs.Prelude.{◌+◌, ◌^◌, ◌<◌, length};
+ghost use Rattle.std.specs.Prelude.{◌≡◌, ◌+◌, ◌^◌, ◌<◌, List, [], length, IsOk, IsOkAnd};
+ghost use Rattle.fluent_syntax.specs.Errors.{ErrorsAscend, JunkIsRefused};
+ghost use Rattle.fluent_syntax_grammar.specs.Places.{BlankBlock};
+ghost use Rattle.fluent_syntax_grammar.specs.Tiling.{Tile};
+ghost use Rattle.fluent_syntax_reader.specs.Answers.{Answers, AnswersRuntimeTiling, AnswersTiling};
 ghost use Rattle.fluent_syntax_reader.specs.Parts.{HasParts};
+ghost use Rattle.fluent_syntax_tree.specs.Entry.{body_map};
+ghost use Rattle.fluent_syntax_tree.specs.Spans.{bytes_at};
 
 pub use crate::flat::is_flat;
 use crate::resolved::resolve;
@@ -24,6 +30,10 @@ pub type Result<S> = std::result::Result<Resource<S>, ParseFault<S>>;
 /// bytes than the greatest `usize`, as every text that can be made has.
 pub fn parse<'s, S: Slice<'s>>(alloc: Global, input: S) -> Result<S>
     requires { length (S.text input) + 1 < 2 ^ 64 }
+    ensures tiling { AnswersTiling S.text (body_map (bytes_at (S.text input))) Edition.One (S.text input) result }
+    ensures blank { BlankBlock (S.text input) 0 (length (S.text input)) → IsOk result }
+    ensures junk { JunkIsRefused (S.text input) S.text result }
+    ensures errors { ErrorsAscend (S.text input) result }
 {
     parse_edition(alloc, input, Edition::One)
 }
@@ -31,6 +41,10 @@ pub fn parse<'s, S: Slice<'s>>(alloc: Global, input: S) -> Result<S>
 /// Reads a text as `parse` does, by the given edition of the grammar.
 pub fn parse_edition<'s, S: Slice<'s>>(alloc: Global, input: S, edition: Edition) -> Result<S>
     requires { length (S.text input) + 1 < 2 ^ 64 }
+    ensures tiling { AnswersTiling S.text (body_map (bytes_at (S.text input))) edition (S.text input) result }
+    ensures blank { BlankBlock (S.text input) 0 (length (S.text input)) → IsOk result }
+    ensures junk { JunkIsRefused (S.text input) S.text result }
+    ensures errors { ErrorsAscend (S.text input) result }
 {
     let spans = parse_spans_edition(alloc, input.as_str(), edition);
     with_texts(alloc, &input, spans)
@@ -42,6 +56,10 @@ pub fn parse_edition<'s, S: Slice<'s>>(alloc: Global, input: S, edition: Edition
 /// Otherwise as `parse`.
 pub fn parse_runtime<'s, S: Slice<'s>>(alloc: Global, input: S) -> Result<S>
     requires { length (S.text input) + 1 < 2 ^ 64 }
+    ensures tiling { AnswersRuntimeTiling S.text (body_map (bytes_at (S.text input))) Edition.One (S.text input) result }
+    ensures blank { BlankBlock (S.text input) 0 (length (S.text input)) → IsOk result }
+    ensures junk { JunkIsRefused (S.text input) S.text result }
+    ensures errors { ErrorsAscend (S.text input) result }
 {
     parse_runtime_edition(alloc, input, Edition::One)
 }
@@ -53,6 +71,10 @@ pub fn parse_runtime_edition<'s, S: Slice<'s>>(
     edition: Edition,
 ) -> Result<S>
     requires { length (S.text input) + 1 < 2 ^ 64 }
+    ensures tiling { AnswersRuntimeTiling S.text (body_map (bytes_at (S.text input))) edition (S.text input) result }
+    ensures blank { BlankBlock (S.text input) 0 (length (S.text input)) → IsOk result }
+    ensures junk { JunkIsRefused (S.text input) S.text result }
+    ensures errors { ErrorsAscend (S.text input) result }
 {
     let spans = parse_runtime_spans_edition(alloc, input.as_str(), edition);
     with_texts(alloc, &input, spans)
@@ -61,6 +83,8 @@ pub fn parse_runtime_edition<'s, S: Slice<'s>>(
 /// The same answer with the source's texts in place of the spans.
 fn with_texts<'s, S: Slice<'s>>(alloc: Global, source: &S, spans: Result<Span>) -> Result<S>
     requires { HasParts (S.text source.now) spans }
+    ensures answers { (given : List Tile) → Answers (λ s. s) (λ b. b) given spans → Answers S.text (body_map (bytes_at (S.text source.now))) given result }
+    ensures empty { IsOkAnd spans (λ tree. tree.body.items ≡ []) → IsOk result }
 {
     match spans {
         Ok(tree) => match resolve(alloc, source, &tree) {

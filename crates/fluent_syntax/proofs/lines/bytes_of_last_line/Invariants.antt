@@ -1,4 +1,4 @@
-use Rattle.std.proofs.Common.{◌≡◌, ◌≢◌, ℕ, ◌<◌, ◌≤◌, length, get_or}
+use Rattle.std.proofs.Common.{◌≢◌, ℕ, ◌<◌, ◌≤◌, length, get_or}
 use Rattle.fluent_syntax.proofs.lines.bytes_of_last_line.Given as goal
 
 abbrev pub invariant-loop-start : goal.invariant-loop-start

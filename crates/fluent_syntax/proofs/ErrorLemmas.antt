@@ -1,0 +1,162 @@
+-- The errors and the junk of a tiling's answer.
+use Rattle.std.proofs.Common.{◌≡◌, ℕ, ◌<◌, ◌≤◌, List, [], ◌∷◌, length, Option, Some, None, map, refl, sym, ◌∙◌, ap, arith}
+use Rattle.std.specs.Prelude.{slice_range, option_map, IsSomeAnd, Result, Ok, Err, IsOk, IsOkAnd}
+use Rattle.std.specs.List.{flat_map}
+use Rattle.fluent_syntax_tree.specs.Entry.{message, term, comment, junk, BodyTree, body_map}
+use Rattle.fluent_syntax_tree.specs.Kind.{kind_of}
+use Rattle.fluent_syntax_tree.specs.Spans.{bytes_at}
+use Rattle.fluent_syntax_tree.specs.View.{resource_view}
+use Rattle.fluent_syntax_tree.specs.declared.ast.Resource.{Resource}
+use Rattle.fluent_syntax_tree.specs.declared.errors.ParserError.{ParserError}
+use Rattle.fluent_syntax_tree.specs.declared.edition.Edition.{Edition}
+use Rattle.fluent_syntax_tree.specs.declared.spans.Span.{Span}
+use Rattle.fluent_syntax_grammar.specs.Places.{BlankBlock}
+use Rattle.fluent_syntax_grammar.specs.Tiling.{Fault, Tile, Tiled, done, next, TileAt, RuntimeTileAt}
+use Rattle.fluent_syntax_grammar.specs.Body.{body, faults}
+use Rattle.fluent_syntax_grammar.specs.Laws.{junk_slice, fault_slice}
+use Rattle.fluent_syntax_grammar.specs.Laws as laws
+use Rattle.fluent_syntax_grammar.proofs.Functional.{single_block}
+use Rattle.fluent_syntax_grammar.proofs.JunkAndSpans.{junk_of_errors, runtime_junk_of_errors, errors_ascend, runtime_errors_ascend}
+use Rattle.fluent_syntax_reader.specs.Answers.{fault_of, Answers, AnswersTiling, AnswersRuntimeTiling}
+use Rattle.fluent_syntax_reader.specs.declared.fault.ParseFault.{ParseFault}
+use Rattle.fluent_syntax_reader.specs.declared.fault.ParseFault.TheVariants.{Syntax, Memory}
+use Rattle.fluent_syntax.specs.Errors.{junk_texts, refused_text, Ascend, JunkIsRefused, ErrorsAscend}
+
+-- ---- junk
+
+junk_mapped : {X Y : Type 0} (f : X → Y) (b : BodyTree X) → junk_texts (body_map f b) ≡ map f (junk_texts b)
+junk_mapped f [] = refl
+junk_mapped f (message m ∷ b) = junk_mapped f b
+junk_mapped f (term m ∷ b) = junk_mapped f b
+junk_mapped f (comment level lines ∷ b) = junk_mapped f b
+junk_mapped f (junk x ∷ b) = ap (λ ys. f x ∷ ys) (junk_mapped f b)
+
+junk_spans : (b : BodyTree Span) → junk_texts b ≡ flat_map junk_slice b
+junk_spans [] = refl
+junk_spans (message m ∷ b) = junk_spans b
+junk_spans (term m ∷ b) = junk_spans b
+junk_spans (comment level lines ∷ b) = junk_spans b
+junk_spans (junk x ∷ b) = ap (λ ys. x ∷ ys) (junk_spans b)
+
+module _ (t : List ℕ) where
+  abbrev fault_text : Fault → List ℕ
+  fault_text f = bytes_at t f.slice
+
+  text_at : {R : Type 0} (o : Option R) (text : R → List ℕ) (fault : R → Fault) → ((r : R) → text r ≡ fault_text (fault r)) → option_map text o ≡ option_map fault_text (option_map fault o)
+  text_at None text fault same = refl
+  text_at (Some r) text fault same = ap Some (same r)
+
+  text_of_fault : (e : ParserError) → refused_text t e ≡ option_map fault_text (fault_of e)
+  text_of_fault e = text_at e.slice (λ r. slice_range t r.start r.end) (λ r. record {
+    kind = kind_of e.kind;
+    pos = record { start = e.pos.start; end = e.pos.end };
+    slice = record { start = r.start; end = r.end };
+  }) (λ r. refl)
+
+  refused_texts : (errors : List ParserError) (fs : List Fault) → map fault_of errors ≡ map Some fs → map (refused_text t) errors ≡ map Some (map (bytes_at t) (map fault_slice fs))
+  refused_texts [] [] h = refl
+  refused_texts [] (f ∷ fs) h = cc
+  refused_texts (e ∷ errors) [] h = cc
+  refused_texts (e ∷ errors) (f ∷ fs) h =
+      let head : fault_of e ≡ Some f = cc in
+      let tail : map fault_of errors ≡ map Some fs = cc in
+      let here : refused_text t e ≡ Some (fault_text f) = text_of_fault e ∙ ap (option_map fault_text) head in
+      let more = refused_texts errors fs tail in
+      cc
+
+-- ---- stretches
+
+module _ (t : List ℕ) where
+  abbrev Here : {R : Type 0} (from pos : ℕ) (start end : R → ℕ) (errors : List ParserError) → R → Type 0
+  Here from pos start end errors r = (from ≤ start r) × (start r < end r) × (start r ≤ pos) × (pos ≤ end r) × Ascend t (end r) errors
+
+  here : {R : Type 0} (o : Option R) (start end : R → ℕ) (fault : R → Fault) (from : ℕ) (errors : List ParserError) (f : Fault) →
+      ((r : R) → (start r ≡ (fault r).slice.start) × (end r ≡ (fault r).slice.end)) → option_map fault o ≡ Some f →
+      (from ≤ f.slice.start) × (f.slice.start < f.slice.end) × (f.slice.start ≤ f.pos.start) × (f.pos.start ≤ f.slice.end) × Ascend t f.slice.end errors →
+      IsSomeAnd o (Here from f.pos.start start end errors)
+  here None start end fault from errors f same e h = absurd (cc)
+  here (Some r) start end fault from errors f same e h =
+      let found : fault r ≡ f = cc in
+      let starts : start r ≡ f.slice.start = (same r).0 ∙ ap (λ g. g.slice.start) found in
+      let ends : end r ≡ f.slice.end = (same r).1 ∙ ap (λ g. g.slice.end) found in
+      rw (starts, ends) h
+
+  place : {R : Type 0} (o : Option R) (pos : ℕ) (fault : R → Fault) (f : Fault) → ((r : R) → (fault r).pos.start ≡ pos) → option_map fault o ≡ Some f → f.pos.start ≡ pos
+  place None pos fault f same e = absurd (cc)
+  place (Some r) pos fault f same e =
+      let found : fault r ≡ f = cc in
+      ap (λ g. g.pos.start) (sym found) ∙ same r
+
+  pos_of : (e : ParserError) (f : Fault) → fault_of e ≡ Some f → f.pos.start ≡ e.pos.start
+  pos_of e f h = place e.slice e.pos.start (λ r. record {
+    kind = kind_of e.kind;
+    pos = record { start = e.pos.start; end = e.pos.end };
+    slice = record { start = r.start; end = r.end };
+  }) f (λ r. refl) h
+
+  pub ascending : (from : ℕ) (errors : List ParserError) (fs : List Fault) → map fault_of errors ≡ map Some fs → laws.Ascend t from fs → Ascend t from errors
+  ascending from [] [] h a = a
+  ascending from [] (f ∷ fs) h a = cc
+  ascending from (e ∷ errors) [] h a = cc
+  ascending from (e ∷ errors) (f ∷ fs) h a =
+      let head : fault_of e ≡ Some f = cc in
+      let tail : map fault_of errors ≡ map Some fs = cc in
+      rw (← pos_of e f head) (here e.slice (λ r. r.start) (λ r. r.end) (λ r. record {
+        kind = kind_of e.kind;
+        pos = record { start = e.pos.start; end = e.pos.end };
+        slice = record { start = r.start; end = r.end };
+      }) from errors f (λ r. (refl, refl)) head (a.0, a.1, a.2, a.3, ascending f.slice.end errors fs tail a.4))
+
+-- ---- answers
+
+module _ {S : Type 0} (text : S → List ℕ) (t : List ℕ) (tiles : List Tile) where
+  abbrev Given : Result (Resource S) (ParseFault S) → Type 0
+  Given result = Answers text (body_map (bytes_at t)) tiles result
+
+  junk_of : (tree : Resource S) → resource_view text tree ≡ body_map (bytes_at t) (body tiles) → flat_map junk_slice (body tiles) ≡ map fault_slice (faults tiles) →
+      junk_texts (resource_view text tree) ≡ map (bytes_at t) (map fault_slice (faults tiles))
+  junk_of tree same law = ap junk_texts same ∙ (junk_mapped (bytes_at t) (body tiles) ∙ ap (map (bytes_at t)) (junk_spans (body tiles) ∙ law))
+
+  junk_given : (result : Result (Resource S) (ParseFault S)) → flat_map junk_slice (body tiles) ≡ map fault_slice (faults tiles) → Given result → JunkIsRefused t text result
+  junk_given (Ok tree) law (same, none) = junk_of tree same law ∙ ap (λ fs. map (bytes_at t) (map fault_slice fs)) none
+  junk_given (Err (Syntax tree errors)) law (same, told, some) = ap (map Some) (junk_of tree same law) ∙ sym (refused_texts t errors.items (faults tiles) told)
+  junk_given (Err Memory) law given = tt
+
+  errors_given : (result : Result (Resource S) (ParseFault S)) → laws.Ascend t 0 (faults tiles) → Given result → ErrorsAscend t result
+  errors_given (Ok tree) law given = tt
+  errors_given (Err (Syntax tree errors)) law (same, told, some) = ascending t 0 errors.items (faults tiles) told law
+  errors_given (Err Memory) law given = tt
+
+module _ {S : Type 0} (text : S → List ℕ) (edition : Edition) (t : List ℕ) (result : Result (Resource S) (ParseFault S)) where
+  pub junk_answered : AnswersTiling text (body_map (bytes_at t)) edition t result → JunkIsRefused t text result
+  junk_answered (tiles, tiling, given) = junk_given text t tiles result (junk_of_errors edition t tiles tiling) given
+
+  pub errors_answered : AnswersTiling text (body_map (bytes_at t)) edition t result → ErrorsAscend t result
+  errors_answered (tiles, tiling, given) = errors_given text t tiles result (errors_ascend edition t tiles tiling) given
+
+  pub runtime_junk_answered : AnswersRuntimeTiling text (body_map (bytes_at t)) edition t result → JunkIsRefused t text result
+  runtime_junk_answered (tiles, tiling, given) = junk_given text t tiles result (runtime_junk_of_errors edition t tiles tiling) given
+
+  pub runtime_errors_answered : AnswersRuntimeTiling text (body_map (bytes_at t)) edition t result → ErrorsAscend t result
+  runtime_errors_answered (tiles, tiling, given) = errors_given text t tiles result (runtime_errors_ascend edition t tiles tiling) given
+
+-- ---- blank texts
+
+nothing_tiled : (t : List ℕ) (at : (i j : ℕ) → Tile → Type 0) (tiles : List Tile) → BlankBlock t 0 (length t) → Tiled t at 0 tiles → tiles ≡ []
+nothing_tiled t at tiles b (done c) = refl
+nothing_tiled t at tiles b (next {start = start} c l x m) = let end : start ≡ length t = single_block.same 0 start (length t) c b in absurd (omega arith)
+
+no_entries : {X Y : Type 0} (view : X → Y) (xs : List X) → map view xs ≡ [] → xs ≡ []
+no_entries view [] e = refl
+no_entries view (x ∷ xs) e = cc
+
+nothing_given : (tiles : List Tile) (result : Result (Resource Span) (ParseFault Span)) → tiles ≡ [] → IsOk result → Answers (λ s. s) (λ b. b) tiles result → IsOkAnd result (λ tree. tree.body.items ≡ [])
+nothing_given tiles (Ok tree) e ok (same, none) = no_entries _ tree.body.items (same ∙ ap body e)
+nothing_given tiles (Err fault) e ok given = cc
+
+module _ (edition : Edition) (t : List ℕ) (result : Result (Resource Span) (ParseFault Span)) (b : BlankBlock t 0 (length t)) (ok : IsOk result) where
+  pub nothing_answered : AnswersTiling (λ s. s) (λ b. b) edition t result → IsOkAnd result (λ tree. tree.body.items ≡ [])
+  nothing_answered (tiles, tiling, given) = nothing_given tiles result (nothing_tiled t (TileAt edition t) tiles b tiling) ok given
+
+  pub runtime_nothing_answered : AnswersRuntimeTiling (λ s. s) (λ b. b) edition t result → IsOkAnd result (λ tree. tree.body.items ≡ [])
+  runtime_nothing_answered (tiles, tiling, given) = nothing_given tiles result (nothing_tiled t (RuntimeTileAt edition t) tiles b tiling) ok given

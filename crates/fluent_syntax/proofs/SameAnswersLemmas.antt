@@ -1,0 +1,30 @@
+-- Two answers of one tiling.
+use Rattle.std.proofs.Common.{ℕ, List, sym, ◌∙◌, subst}
+use Rattle.std.specs.Prelude.{Result, Ok, Err}
+use Rattle.fluent_syntax_tree.specs.Entry.{BodyTree}
+use Rattle.fluent_syntax_tree.specs.declared.ast.Resource.{Resource}
+use Rattle.fluent_syntax_tree.specs.declared.edition.Edition.{Edition}
+use Rattle.fluent_syntax_tree.specs.declared.spans.Span.{Span}
+use Rattle.fluent_syntax_grammar.specs.Tiling.{Tile}
+use Rattle.fluent_syntax_grammar.proofs.OneTiling.{one_tiling, one_runtime_tiling}
+use Rattle.fluent_syntax_reader.specs.Answers.{Answers, AnswersTiling, AnswersRuntimeTiling}
+use Rattle.fluent_syntax_reader.specs.declared.fault.ParseFault.{ParseFault}
+use Rattle.fluent_syntax_reader.specs.declared.fault.ParseFault.TheVariants.{Syntax, Memory}
+use Rattle.fluent_syntax.specs.SameAnswers.{SameAnswers}
+
+module _ {S Z : Type 0} (text : S → List ℕ) (other : Z → List ℕ) (whole : BodyTree Span → BodyTree (List ℕ)) where
+  of_one_tiling : (tiles : List Tile) (a : Result (Resource S) (ParseFault S)) (b : Result (Resource Z) (ParseFault Z)) → Answers text whole tiles a → Answers other whole tiles b → SameAnswers text other a b
+  of_one_tiling tiles (Ok x) (Ok y) (p, e) (q, f) = p ∙ sym q
+  of_one_tiling tiles (Ok x) (Err (Syntax y others)) (p, e) (q, told, some) = some e
+  of_one_tiling tiles (Ok x) (Err Memory) h k = tt
+  of_one_tiling tiles (Err (Syntax x errors)) (Ok y) (p, told, some) (q, f) = some f
+  of_one_tiling tiles (Err (Syntax x errors)) (Err (Syntax y others)) (p, told, some) (q, found, any) = (p ∙ sym q, told ∙ sym found)
+  of_one_tiling tiles (Err (Syntax x errors)) (Err Memory) h k = tt
+  of_one_tiling tiles (Err Memory) b h k = tt
+
+  module _ (edition : Edition) (t : List ℕ) (a : Result (Resource S) (ParseFault S)) (b : Result (Resource Z) (ParseFault Z)) where
+    pub answers_same : AnswersTiling text whole edition t a → AnswersTiling other whole edition t b → SameAnswers text other a b
+    answers_same (xs, p, h) (ys, q, k) = of_one_tiling ys a b (subst (λ tiles. Answers text whole tiles a) (one_tiling edition t xs ys p q) h) k
+
+    pub runtime_answers_same : AnswersRuntimeTiling text whole edition t a → AnswersRuntimeTiling other whole edition t b → SameAnswers text other a b
+    runtime_answers_same (xs, p, h) (ys, q, k) = of_one_tiling ys a b (subst (λ tiles. Answers text whole tiles a) (one_runtime_tiling edition t xs ys p q) h) k
