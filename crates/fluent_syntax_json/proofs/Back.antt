@@ -1,0 +1,153 @@
+-- The JSON form of a tree spells that tree.
+use Rattle.std.proofs.Common.{◌≡◌, List, [], ◌∷◌, map, Option, Some, None, option_map, codes, refl, ap}
+use Rattle.serde_json.specs.Data.{Data, string}
+use Rattle.serde_json.specs.Find.{get, as_str}
+use Rattle.serde_json.specs.View.{items_of}
+use Rattle.fluent_syntax_tree.specs.Tree.{KeyTree, name_key, number_key, ExpressionTree, select, inline, InlineTree, string_literal, number_literal, function_reference, message_reference, term_reference, variable_reference, inline_placeable, ArgumentsTree, arguments, MaybeArguments, no_arguments, some_arguments, InlineTrees, no_inlines, inlines, inlines_of, NamedTree, named_argument, NamedTrees, no_named, nameds, nameds_of, ElementTree, text_element, placeable, PatternTree, no_elements, elements, elements_of, VariantTree, variant, VariantTrees, no_variants, variants, variants_of}
+use Rattle.fluent_syntax_tree.specs.Entry.{AttributeTree, MessageTree, TermTree, EntryTree, message, term, comment, junk, regular, group, resource, BodyTree}
+use Rattle.fluent_syntax_json.specs.Object.{Text}
+use Rattle.fluent_syntax_json.specs.Form.{name_form, or_null, key_form, element_forms, element_form, expression_form, variant_forms, variant_form, inline_form, maybe_form, arguments_form, inline_forms, named_forms, named_form, pattern_form, lines_form, comment_form, attribute_form, message_form, term_form, entry_form, body_form}
+use Rattle.fluent_syntax_json.specs.Reading.{items_by, unless_null, maybe, name_in, key_in, pattern_in, element_in, expression_in, inline_in, arguments_in, named_in, variant_in, maybe_arguments_rule, lines_in, comment_in, attribute_in, message_in, term_in, entry_in, body_in}
+use Rattle.fluent_syntax_json.proofs.Spelled.{pattern-is, element-is, expression-is, inline-is, arguments-is, named-is, variant-is}
+
+-- the lists of a tree as lists
+inlines_list : InlineTrees Text → List (InlineTree Text)
+inlines_list no_inlines = []
+inlines_list (inlines x xs) = x ∷ inlines_list xs
+
+nameds_list : NamedTrees Text → List (NamedTree Text)
+nameds_list no_named = []
+nameds_list (nameds x xs) = x ∷ nameds_list xs
+
+elements_list : PatternTree Text → List (ElementTree Text)
+elements_list no_elements = []
+elements_list (elements x xs) = x ∷ elements_list xs
+
+variants_list : VariantTrees Text → List (VariantTree Text)
+variants_list no_variants = []
+variants_list (variants x xs) = x ∷ variants_list xs
+
+inlines-list : (xs : InlineTrees Text) → inlines_of (inlines_list xs) ≡ xs
+unfolding inlines_list
+inlines-list no_inlines = refl
+inlines-list (inlines x xs) = ap (inlines x) (inlines-list xs)
+
+nameds-list : (xs : NamedTrees Text) → nameds_of (nameds_list xs) ≡ xs
+unfolding nameds_list
+nameds-list no_named = refl
+nameds-list (nameds x xs) = ap (nameds x) (nameds-list xs)
+
+elements-list : (xs : PatternTree Text) → elements_of (elements_list xs) ≡ xs
+unfolding elements_list
+elements-list no_elements = refl
+elements-list (elements x xs) = ap (elements x) (elements-list xs)
+
+variants-list : (xs : VariantTrees Text) → variants_of (variants_list xs) ≡ xs
+unfolding variants_list
+variants-list no_variants = refl
+variants-list (variants x xs) = ap (variants x) (variants-list xs)
+
+key-back : (k : KeyTree Text) → key_in (key_form k) ≡ Some k
+key-back (name_key x) = refl
+key-back (number_key x) = refl
+
+attribute_name-back : (a : Option Text) → maybe name_in (unless_null (or_null name_form a)) ≡ Some a
+attribute_name-back None = refl
+attribute_name-back (Some x) = refl
+
+-- an inline expression is no select
+no_selector : (e : InlineTree Text) → get (codes "selector") (inline_form e) ≡ None
+no_selector (string_literal x) = refl
+no_selector (number_literal x) = refl
+no_selector (function_reference x a) = refl
+no_selector (message_reference x a) = refl
+no_selector (term_reference x a c) = refl
+no_selector (variable_reference x) = refl
+no_selector (inline_placeable e) = refl
+
+mutual
+  unfolding elements_list inlines_list nameds_list variants_list
+
+  elements-back : (p : PatternTree Text) → items_by element_in (element_forms p) ≡ Some (elements_list p)
+  elements-back no_elements = refl
+  elements-back (elements x xs) = rw (element-back x, elements-back xs)
+
+  element-back : (e : ElementTree Text) → element_in (element_form e) ≡ Some e
+  element-back (text_element x) = rw (element-is (element_form (text_element x)))
+  element-back (placeable e) = rw (element-is (element_form (placeable e)), expression-back e)
+
+  expression-back : (e : ExpressionTree Text) → expression_in (expression_form e) ≡ Some e
+  expression-back (select e vs) = rw (expression-is (expression_form (select e vs)), inline-back e, variants-back vs, variants-list vs)
+  expression-back (inline e) = rw (expression-is (inline_form e), no_selector e, inline-back e)
+
+  variants-back : (vs : VariantTrees Text) → items_by variant_in (variant_forms vs) ≡ Some (variants_list vs)
+  variants-back no_variants = refl
+  variants-back (variants x xs) = rw (variant-back x, variants-back xs)
+
+  variant-back : (v : VariantTree Text) → variant_in (variant_form v) ≡ Some v
+  variant-back (variant k p d) = rw (variant-is (variant_form (variant k p d)), key-back k, pattern-is (pattern_form p), elements-back p, elements-list p)
+
+  inline-back : (e : InlineTree Text) → inline_in (inline_form e) ≡ Some e
+  inline-back (string_literal x) = rw (inline-is (inline_form (string_literal x)))
+  inline-back (number_literal x) = rw (inline-is (inline_form (number_literal x)))
+  inline-back (function_reference x a) = rw (inline-is (inline_form (function_reference x a)), arguments-back a)
+  inline-back (message_reference x a) = rw (inline-is (inline_form (message_reference x a)), attribute_name-back a)
+  inline-back (term_reference x a c) = rw (inline-is (inline_form (term_reference x a c)), attribute_name-back a, maybe-back c)
+  inline-back (variable_reference x) = rw (inline-is (inline_form (variable_reference x)))
+  inline-back (inline_placeable e) = rw (inline-is (inline_form (inline_placeable e)), expression-back e)
+
+  maybe-back : (c : MaybeArguments Text) → maybe_arguments_rule (unless_null (maybe_form c)) (arguments_in (maybe_form c)) ≡ Some c
+  maybe-back no_arguments = refl
+  maybe-back (some_arguments (arguments ps ns)) = rw (arguments-back (arguments ps ns))
+
+  arguments-back : (a : ArgumentsTree Text) → arguments_in (arguments_form a) ≡ Some a
+  arguments-back (arguments ps ns) = rw (arguments-is (arguments_form (arguments ps ns)), inlines-back ps, nameds-back ns, inlines-list ps, nameds-list ns)
+
+  inlines-back : (ps : InlineTrees Text) → items_by inline_in (inline_forms ps) ≡ Some (inlines_list ps)
+  inlines-back no_inlines = refl
+  inlines-back (inlines x xs) = rw (inline-back x, inlines-back xs)
+
+  nameds-back : (ns : NamedTrees Text) → items_by named_in (named_forms ns) ≡ Some (nameds_list ns)
+  nameds-back no_named = refl
+  nameds-back (nameds x xs) = rw (named-back x, nameds-back xs)
+
+  named-back : (a : NamedTree Text) → named_in (named_form a) ≡ Some a
+  named-back (named_argument x e) = rw (named-is (named_form (named_argument x e)), inline-back e)
+
+pattern-back : (p : PatternTree Text) → pattern_in (pattern_form p) ≡ Some p
+pattern-back p = rw (pattern-is (pattern_form p), elements-back p, elements-list p)
+
+items-back : {A : Type 0} (read : Data → Option A) (form : A → Data) → ((x : A) → read (form x) ≡ Some x) → (xs : List A) → items_by read (items_of (map form xs)) ≡ Some xs
+items-back read form back [] = refl
+items-back read form back (x ∷ xs) = rw (back x, items-back read form back xs)
+
+lines-back : (xs : List Text) → lines_in (lines_form xs) ≡ Some xs
+lines-back xs = items-back as_str string (λ x. refl) xs
+
+attribute-back : (a : AttributeTree Text) → attribute_in (attribute_form a) ≡ Some a
+attribute-back a = rw (pattern-back a.value)
+
+value-back : (o : Option (PatternTree Text)) → maybe pattern_in (unless_null (or_null pattern_form o)) ≡ Some o
+value-back None = refl
+value-back (Some p) = rw (pattern-back p)
+
+hung-back : (o : Option (List Text)) → maybe comment_in (unless_null (or_null comment_form o)) ≡ Some o
+hung-back None = refl
+hung-back (Some xs) = rw (lines-back xs)
+
+message-back : (m : MessageTree Text) → message_in (message_form m) ≡ Some m
+message-back m = rw (value-back m.value, items-back attribute_in attribute_form attribute-back m.attributes, hung-back m.comment)
+
+term-back : (m : TermTree Text) → term_in (term_form m) ≡ Some m
+term-back m = rw (pattern-back m.value, items-back attribute_in attribute_form attribute-back m.attributes, hung-back m.comment)
+
+entry-back : (e : EntryTree Text) → entry_in (entry_form e) ≡ Some e
+entry-back (message m) = ap (option_map message) (message-back m)
+entry-back (term m) = ap (option_map term) (term-back m)
+entry-back (comment regular xs) = ap (option_map (comment regular)) (lines-back xs)
+entry-back (comment group xs) = ap (option_map (comment group)) (lines-back xs)
+entry-back (comment resource xs) = ap (option_map (comment resource)) (lines-back xs)
+entry-back (junk x) = refl
+
+pub body-back : (r : BodyTree Text) → body_in (body_form r) ≡ Some r
+body-back r = items-back entry_in entry_form entry-back r

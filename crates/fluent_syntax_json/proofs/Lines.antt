@@ -1,0 +1,29 @@
+-- The lines of a comment.
+use Rattle.std.proofs.Common.{◌≡◌, [], ◌∷◌, Some, None, true, false, is_some, refl, sym, ap, ◌∙◌, true≢false}
+use Rattle.std.proofs.lemmas.Option.{none-some, same_Some}
+use Rattle.serde_json.specs.Data.{Data, null, boolean, number, string, array, object}
+use Rattle.serde_json.specs.Find.{as_str}
+use Rattle.fluent_syntax_json.specs.Object.{Text}
+use Rattle.fluent_syntax_json.specs.Reading.{list_by, lines_in}
+
+-- one text is one line
+pub one_line : (d : Data) (s : Text) → as_str d ≡ Some s → lines_in d ≡ Some (s ∷ [])
+one_line null s is = absurd (none-some _ is)
+one_line (boolean b) s is = absurd (none-some _ is)
+one_line (number n) s is = absurd (none-some _ is)
+one_line (string x) s is = ap (λ y. Some (y ∷ [])) (same_Some _ _ is)
+one_line (array ds) s is = absurd (none-some _ is)
+one_line (object ms) s is = absurd (none-some _ is)
+
+-- what is no text has to be a list of lines
+pub list_of_lines : (d : Data) → is_some (as_str d) ≡ false → lines_in d ≡ list_by as_str d
+list_of_lines null e = refl
+list_of_lines (boolean b) e = refl
+list_of_lines (number n) e = refl
+list_of_lines (string x) e = absurd (true≢false e)
+list_of_lines (array ds) e = refl
+list_of_lines (object ms) e = refl
+
+-- what is a text that cannot be read is none
+pub no_line : (d : Data) → is_some (as_str d) ≡ true → as_str d ≡ None → lines_in d ≡ None
+no_line d e none = absurd (true≢false (sym e ∙ ap is_some none))

@@ -1,0 +1,5 @@
+pub mod Object
+pub mod Form
+pub mod Reading
+pub mod Answer
+pub mod Json

@@ -1,0 +1,5 @@
+//! The JSON form of each node.
+
+pub mod entries;
+mod names;
+mod patterns;

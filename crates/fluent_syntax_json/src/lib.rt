@@ -1,0 +1,15 @@
+//! JSON values of trees.
+//!
+//! `to_value` gives the JSON form of a resource, and `from_value` the resource that a value spells.
+#![tactic(auto)]
+
+mod fault;
+mod form;
+mod laws;
+mod object;
+mod reading;
+
+pub use fault::ValueFault;
+pub use form::entries::to_value;
+pub use laws::form_reads;
+pub use reading::entries::from_value;
