@@ -1,4 +1,5 @@
 pub mod Command
 pub mod Outcome
 pub mod Watched
+pub mod Answer
 pub mod Run

@@ -1,6 +1,16 @@
 //! The text that a command writes.
-ghost use Rattle.std.specs.Prelude.{◌≡◌, ◌≢◌, ◌↔◌, ◌+◌, ◌^◌, ◌<◌, length, Err, IfErr};
+ghost use Rattle.std.specs.Prelude.{◌≡◌, ◌≢◌, ◌↔◌, ◌+◌, ◌++◌, ◌^◌, ◌<◌, ◌≤◌, ℕ, List, length, string_bytes, codes, All, Err, IfErr, IfOk, OnOk, false};
+ghost use Rattle.std.specs.List.{flat_map};
 ghost use Rattle.std.specs.Str.{IsUtf8};
+ghost use Rattle.fluent_syntax_tree.specs.Entry.{body_map};
+ghost use Rattle.fluent_syntax_tree.specs.Spans.{bytes_at};
+ghost use Rattle.fluent_syntax_tree.specs.View.{resource_view};
+ghost use Rattle.fluent_syntax_grammar.specs.Tiling.{Tile, Tiling};
+ghost use Rattle.fluent_syntax_grammar.specs.Written.{written};
+ghost use Rattle.fluent_syntax_json.specs.Form.{body_form};
+ghost use Rattle.serde_json.specs.Written.{compact_text};
+ghost use Rattle.fluent_syntax_reader.specs.Answers.{Answers};
+ghost use Rattle.ftl.specs.Answer.{IsAnswer, error_line, error_lines, error_text, range_text, json_text, normal_text, outcome_of, told};
 
 use crate::command::Command;
 use crate::lines::Lines;
@@ -11,7 +21,8 @@ use fluent_syntax::parser::{
     Edition, ParseFault, ParserError, parse_edition, parse_runtime_edition,
 };
 use fluent_syntax::serializer::serialize;
-use fluent_syntax::spans::parse_spans_edition;
+use fluent_syntax::spans::{Span, parse_spans_edition};
+use fluent_syntax_json::to_value;
 use std::alloc::{AllocError, Global};
 use std::fmt::Write;
 
@@ -20,6 +31,7 @@ use std::fmt::Write;
 /// `Input` for bytes that are not UTF-8, which is tested first and takes no memory; `Memory` where a
 /// growth was refused.
 pub fn answer(alloc: Global, command: Command, input: &[u8]) -> Result<(String, Outcome), RunFault>
+    ensures text { IfOk result (λ answer. IsAnswer command input.now (string_bytes answer.0) answer.1) }
     ensures input { (result ≡ Err RunFault.Input) ↔ ¬ (IsUtf8 input.now) }
     ensures output { result ≢ Err RunFault.Output }
 {
@@ -31,6 +43,7 @@ pub fn answer(alloc: Global, command: Command, input: &[u8]) -> Result<(String, 
     }
     match command {
         Command::Check => check(alloc, text, Edition::One),
+        Command::Json => json(alloc, text),
         Command::CheckTwo => check(alloc, text, Edition::Two),
         Command::Format => format(alloc, parse_edition(alloc, text, Edition::One)),
         Command::FormatTwo => format(alloc, parse_edition(alloc, text, Edition::Two)),
@@ -41,7 +54,9 @@ pub fn answer(alloc: Global, command: Command, input: &[u8]) -> Result<(String, 
 /// A line for each error.
 fn check(alloc: Global, text: &str, edition: Edition) -> Result<(String, Outcome), RunFault>
     requires { length text.now + 1 < 2 ^ 64 }
-    ensures { IfErr result (λ fault. fault ≡ RunFault.Memory) }
+    ensures text { IfOk result (λ answer. (tiles : List Tile) × Tiling edition text.now tiles
+        × (string_bytes answer.0 ≡ error_lines text.now tiles) × (answer.1 ≡ outcome_of tiles)) }
+    ensures err { IfErr result (λ fault. fault ≡ RunFault.Memory) }
 {
     match parse_spans_edition(alloc, text, edition) {
         Ok(_) => Ok((String::new(alloc), Outcome::Clean)),
@@ -53,14 +68,17 @@ fn check(alloc: Global, text: &str, edition: Edition) -> Result<(String, Outcome
     }
 }
 
+/// A line for each of the errors, which lie within the text.
 fn lines(alloc: Global, text: &str, errors: &Vec<ParserError>) -> Result<String, AllocError>
-    requires { length text.now + 1 < 2 ^ 64 }
+    requires short { length text.now + 1 < 2 ^ 64 }
+    requires within { All (λ e. e.pos.start ≤ length text.now) errors.now.items }
+    ensures { IfOk result (λ lines. string_bytes lines ≡ flat_map (λ e. error_line text.now (told e)) errors.now.items) }
 {
     let mut out = String::new(alloc);
     let mut places = Lines::new(text.as_bytes());
     for error in errors {
-        let place = error.pos.start.min(text.len());
-        write_line(&mut out, places.line_column(place), error)?;
+        let (line, column) = places.line_column(error.pos.start);
+        write_line(&mut out, line, column, error)?;
     }
     Ok(out)
 }
@@ -69,22 +87,53 @@ fn lines(alloc: Global, text: &str, errors: &Vec<ParserError>) -> Result<String,
 /// bytes, and the kind.
 fn write_line(
     out: &mut String,
-    (line, column): (usize, usize),
+    line: usize,
+    column: usize,
     error: &ParserError,
-) -> Result<(), AllocError> {
-    let start = error.pos.start;
-    let end = error.pos.end;
-    let (from, to) = match &error.slice {
-        Some(slice) => (slice.start, slice.end),
-        None => (start, end),
+) -> Result<(), AllocError>
+    ensures { OnOk result (string_bytes out.new ≡ string_bytes out.old ++ error_text line column (told error.now)) }
+{
+    let place = Span {
+        start: error.pos.start,
+        end: error.pos.end,
     };
-    let name = error.kind.name();
-    write!(out, "{line}:{column} {start}..{end} {from}..{to} {name}\n")
+    let junk = junk_of(error);
+    write!(out, "{line}:{column} ")?;
+    write_range(out, place)?;
+    write_range(out, junk)?;
+    out.push_str(error.kind.name())?;
+    out.push('\n')
+}
+
+/// `START..END` and a space.
+fn write_range(out: &mut String, range: Span) -> Result<(), AllocError>
+    ensures { OnOk result (string_bytes out.new ≡ string_bytes out.old ++ range_text range) }
+{
+    let Span { start, end } = range;
+    write!(out, "{start}..{end} ")
+}
+
+/// The bytes that became junk, or the error's place where it tells of none.
+fn junk_of(error: &ParserError) -> Span
+    ensures { result ≡ (told error.now).slice }
+{
+    match &error.slice {
+        Some(junk) => Span {
+            start: junk.start,
+            end: junk.end,
+        },
+        None => Span {
+            start: error.pos.start,
+            end: error.pos.end,
+        },
+    }
 }
 
 /// The text of the tree that was read, without its junk.
 fn format<'s>(alloc: Global, parsed: parser::Result<&'s str>) -> Result<(String, Outcome), RunFault>
-    ensures { IfErr result (λ fault. fault ≡ RunFault.Memory) }
+    ensures text { IfOk result (λ answer. (t : List ℕ) (tiles : List Tile) → Answers (λ s. s.now) (body_map (bytes_at t)) tiles parsed.entry
+        → (string_bytes answer.0 ≡ normal_text t tiles) × (answer.1 ≡ outcome_of tiles)) }
+    ensures err { IfErr result (λ fault. fault ≡ RunFault.Memory) }
 {
     match parsed {
         Ok(tree) => written(alloc, &tree, Outcome::Clean),
@@ -98,10 +147,51 @@ fn written<'s>(
     tree: &Resource<&'s str>,
     outcome: Outcome,
 ) -> Result<(String, Outcome), RunFault>
-    ensures { IfErr result (λ fault. fault ≡ RunFault.Memory) }
+    ensures text { IfOk result (λ answer. (string_bytes answer.0 ≡ written false (resource_view (λ s. s.now) tree.now)) × (answer.1 ≡ outcome)) }
+    ensures err { IfErr result (λ fault. fault ≡ RunFault.Memory) }
 {
     match serialize(alloc, tree) {
         Ok(text) => Ok((text, outcome)),
         Err(_) => Err(RunFault::Memory),
     }
+}
+
+/// The JSON value of the tree that is read, as compact text, and LF.
+fn json(alloc: Global, text: &str) -> Result<(String, Outcome), RunFault>
+    requires { length text.now + 1 < 2 ^ 64 }
+    ensures text { IfOk result (λ answer. (tiles : List Tile) × Tiling Edition.One text.now tiles
+        × (string_bytes answer.0 ≡ json_text text.now tiles) × (answer.1 ≡ outcome_of tiles)) }
+    ensures err { IfErr result (λ fault. fault ≡ RunFault.Memory) }
+{
+    let Ok(source) = String::from_str(alloc, text) else {
+        return Err(RunFault::Memory);
+    };
+    match parse_edition(alloc, source, Edition::One) {
+        Ok(tree) => json_text(alloc, &tree, Outcome::Clean),
+        Err(ParseFault::Syntax(tree, _errors)) => json_text(alloc, &tree, Outcome::SyntaxErrors),
+        Err(ParseFault::Memory) => Err(RunFault::Memory),
+    }
+}
+
+fn json_text(
+    alloc: Global,
+    tree: &Resource<String>,
+    outcome: Outcome,
+) -> Result<(String, Outcome), RunFault>
+    ensures text { IfOk result (λ answer. (string_bytes answer.0 ≡ compact_text (body_form (resource_view string_bytes tree.now)) ++ codes "\n") × (answer.1 ≡ outcome)) }
+    ensures err { IfErr result (λ fault. fault ≡ RunFault.Memory) }
+{
+    match json_line(alloc, tree) {
+        Ok(text) => Ok((text, outcome)),
+        Err(_) => Err(RunFault::Memory),
+    }
+}
+
+fn json_line(alloc: Global, tree: &Resource<String>) -> Result<String, AllocError>
+    ensures { IfOk result (λ text. string_bytes text ≡ compact_text (body_form (resource_view string_bytes tree.now)) ++ codes "\n") }
+{
+    let value = to_value(alloc, tree)?;
+    let mut text = value.to_string(alloc)?;
+    text.push('\n')?;
+    Ok(text)
 }

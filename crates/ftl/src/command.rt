@@ -11,6 +11,8 @@ pub enum Command {
     Format,
     /// The text of the tree without comments, normalized.
     Runtime,
+    /// The tree as a JSON value.
+    Json,
     /// `Check` by edition two of the grammar.
     CheckTwo,
     /// `Format` by edition two of the grammar.
@@ -18,7 +20,7 @@ pub enum Command {
 }
 
 impl Command {
-    /// The command that the word names: `check`, `format`, `runtime`, `check-two` or `format-two`.
+    /// The command that the word names: `check`, `format`, `runtime`, `json`, `check-two` or `format-two`.
     pub fn from_word(word: &str) -> Option<Command>
         ensures named { IfSome result (λ command. word_of command ≡ word.now) }
         ensures other { IfNone result ((command : Command) → word_of command ≢ word.now) }
@@ -27,6 +29,7 @@ impl Command {
             "check" => Some(Command::Check),
             "format" => Some(Command::Format),
             "runtime" => Some(Command::Runtime),
+            "json" => Some(Command::Json),
             "check-two" => Some(Command::CheckTwo),
             "format-two" => Some(Command::FormatTwo),
             _ => None,
@@ -36,7 +39,7 @@ impl Command {
 
 /// How the program is called.
 pub fn usage() -> &'static str
-    ensures { result.now ≡ codes "usage: ftl check|format|runtime|check-two|format-two" }
+    ensures { result.now ≡ codes "usage: ftl check|format|runtime|json|check-two|format-two" }
 {
-    "usage: ftl check|format|runtime|check-two|format-two"
+    "usage: ftl check|format|runtime|json|check-two|format-two"
 }

@@ -2,7 +2,7 @@
 ghost use Rattle.std.specs.Prelude.{◌≡◌, ◌⊎◌, ◌++◌, ℕ, List, true, false, IfOk, IfErr, OnOk, OnErr, IfSome, Err, ◌≢◌, ◌<◌, length, vec_len};
 ghost use Rattle.std.specs.Io.KnownBytes.{Appends};
 ghost use Rattle.ftl.specs.Watched.{inner_of, has_failed};
-ghost use Rattle.ftl.specs.Run.{FailsAs, AppendsBeginning};
+ghost use Rattle.ftl.specs.Run.{FailsAs, AppendsBeginning, WritesAnswer};
 
 use crate::answers::answer;
 use crate::command::Command;
@@ -26,6 +26,7 @@ pub fn run<R: Read, W: Write>(
 ) -> Result<Outcome, RunFault>
     requires reader { has_failed reader.old ≡ false }
     requires writer { has_failed writer.old ≡ false }
+    ensures text { WritesAnswer command (R.remaining (inner_of reader.old)) (W.contents (inner_of writer.old)) (W.contents (inner_of writer.new)) result }
     ensures faults { FailsAs (R.remaining (inner_of reader.old)) (has_failed reader.new) (has_failed writer.new) result }
     ensures unwritten { (result ≡ Err RunFault.Input) ⊎ (result ≡ Err RunFault.Memory) → writer.new ≡ writer.old }
 {

@@ -1,4 +1,4 @@
-use Rattle.std.proofs.Common.{◌≡◌, ◌++◌, sym, subst, take, ap, ◌∙◌, arith}
+use Rattle.std.proofs.Common.{sym, subst, take, ap, arith}
 use Rattle.std.specs.Io.KnownBytes.{Consumes}
 use Rattle.ftl.specs.Watched.{inner_of}
 use Rattle.ftl.proofs.Bytes.{Consumes-more, Consumes-end}

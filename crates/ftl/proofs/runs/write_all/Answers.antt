@@ -1,4 +1,4 @@
-use Rattle.std.proofs.Common.{◌++◌, ℕ, List, ap, ◌∙◌, sym, append_assoc, take, drop, ◌≡◌, arith}
+use Rattle.std.proofs.Common.{◌++◌, ℕ, List, ap, ◌∙◌, sym, append_assoc, take, drop, arith}
 use Rattle.std.proofs.lemmas.List.{take-append-drop, take_all, length-drop}
 use Rattle.ftl.specs.Watched.{inner_of}
 use Rattle.ftl.proofs.Bytes.{Appends-more}
