@@ -1,9 +1,9 @@
 #!/usr/bin/env bash
-# Runs ftl on standard input: ./ftl check|format|runtime|check-two|format-two < FILE
+# Runs ftl on standard input: ./ftl check|format|runtime|json|check-two|format-two < FILE
 # The first use proves and builds the program; later uses start at once.
 set -eu
 top="$(cd "$(dirname "$0")" && pwd)"
-crates="fluent_syntax_tree fluent_syntax_grammar fluent_syntax_reader fluent_syntax_writer fluent_syntax ftl ftl_program"
+crates="fluent_syntax_tree fluent_syntax_grammar fluent_syntax_laws fluent_syntax_reader fluent_syntax_writer fluent_syntax_json fluent_syntax ftl ftl_program"
 program="$top/crates/ftl_program/out/ftl_program"
 stamp="$top/crates/ftl_program/out/built-from"
 

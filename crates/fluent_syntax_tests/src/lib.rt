@@ -7,6 +7,8 @@ mod editions;
 mod entries;
 #[cfg(test)]
 mod errors;
+#[cfg(test)]
+mod json;
 pub mod outline;
 #[cfg(test)]
 mod program;

@@ -6,7 +6,14 @@ use std::io::{self, Read, Write};
 use std::test::Fail;
 
 /// The command, what it shows, the input, the text, and the exit status.
-const ROWS: [(Command, &str, &str, &str, u8); 12] = [
+const ROWS: [(Command, &str, &str, &str, u8); 13] = [
+    (
+        Command::Json,
+        "the value of a tree on one line",
+        "key = { $x }",
+        "{\"body\":[{\"attributes\":[],\"comment\":null,\"id\":{\"name\":\"key\"},\"type\":\"Message\",\"value\":{\"elements\":[{\"expression\":{\"id\":{\"name\":\"x\"},\"type\":\"VariableReference\"},\"type\":\"Placeable\"}]}}]}\n",
+        0,
+    ),
     (
         Command::Check,
         "errors by line and column",
@@ -228,7 +235,8 @@ fn words_and_lines(rt: HostRuntime) {
     assert_eq!(rt; Command::from_word("runtime"), Some(Command::Runtime));
     assert_eq!(rt; Command::from_word("check-two"), Some(Command::CheckTwo));
     assert_eq!(rt; Command::from_word("format-two"), Some(Command::FormatTwo));
-    assert_eq!(rt; Command::from_word("json"), None);
+    assert_eq!(rt; Command::from_word("json"), Some(Command::Json));
+    assert_eq!(rt; Command::from_word("JSON"), None);
     assert_eq!(rt; Command::from_word(""), None);
     assert_eq!(rt; RunFault::Input.status(), 3);
     assert_eq!(rt; RunFault::Memory.status(), 4);
@@ -236,6 +244,6 @@ fn words_and_lines(rt: HostRuntime) {
     assert_eq!(rt; RunFault::Output.line(), "ftl: output failed");
     assert_eq!(rt;
         usage(),
-        "usage: ftl check|format|runtime|check-two|format-two"
+        "usage: ftl check|format|runtime|json|check-two|format-two"
     );
 }

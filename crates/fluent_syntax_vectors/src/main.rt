@@ -1,14 +1,16 @@
 //! Replays the texts of `texts.tsv` through the engine of `ftl`, and counts the answers that differ.
 //!
 //! A line holds a text and its answers, separated by tabs and escaped: the text, then for `check`,
-//! `format`, `runtime`, `check-two` and `format-two` the exit status, a colon and the output.
+//! `format`, `runtime`, `check-two`, `format-two` and `json` the exit status, a colon and the output.
+//! The outputs of `json` are compared as values, since an object's keys may come in any order.
 #![tactic(auto)]
 
 use ftl::{Command, answer};
+use serde_json::Value;
 use std::alloc::{AllocError, Global};
 use std::fs;
 
-/// The commands in the order of the columns.
+/// The commands in the order of the columns, up to that of `json`.
 const COMMANDS: [Command; 5] = [
     Command::Check,
     Command::Format,
@@ -34,7 +36,7 @@ fn main(rt: HostRuntime) -> anyhow::Result<()> {
 }
 
 /// How many answers of a line differ from those that the engine gives.
-fn differing(alloc: Global, line: &str) -> Result<u64, AllocError> {
+fn differing(alloc: Global, line: &str) -> anyhow::Result<u64> {
     let mut fields = line.split('\t');
     let text = match fields.next() {
         Some(field) => unescaped(alloc, field)?,
@@ -51,7 +53,29 @@ fn differing(alloc: Global, line: &str) -> Result<u64, AllocError> {
             different = different.saturating_add(1);
         }
     }
+    let got = answered(alloc, Command::Json, text.as_str())?;
+    let same = match fields.next() {
+        Some(field) => is_same_value(alloc, unescaped(alloc, field)?.as_str(), got.as_str())?,
+        None => false,
+    };
+    if !same {
+        different = different.saturating_add(1);
+    }
     Ok(different)
+}
+
+/// Whether both have one status, and values that are equal.
+fn is_same_value(alloc: Global, expected: &str, got: &str) -> anyhow::Result<bool> {
+    let Some((status, output)) = got.split_once(':') else {
+        return Ok(false);
+    };
+    let Some((expected_status, expected_output)) = expected.split_once(':') else {
+        return Ok(false);
+    };
+    if status != expected_status || !output.ends_with('\n') {
+        return Ok(false);
+    }
+    Ok(Value::from_str(alloc, output)? == Value::from_str(alloc, expected_output)?)
 }
 
 /// What the engine answers: the exit status, a colon and the output.

@@ -1,7 +1,7 @@
 -- Lines that show something.
-use Rattle.std.proofs.Common.{◌≡◌, ℕ, List, [], ◌∷◌, Bool, true, false, not, ◌||◌, ◌&&◌, ◌==◌, if◌then◌else◌, codes, refl, sym, ap, ◌∙◌}
-use Rattle.std.specs.List.{list_any, list_all}
-use Rattle.fluent_syntax_grammar.specs.Written.{Text, Mark, literal, is_shown, shown_marks}
+use Rattle.std.proofs.Common.{◌≡◌, ℕ, [], ◌∷◌, Bool, true, false, not, ◌||◌, ◌&&◌, ◌==◌, if◌then◌else◌, codes, refl, sym, ap, ◌∙◌}
+use Rattle.std.specs.List.{list_all}
+use Rattle.fluent_syntax_grammar.specs.Written.{Text, literal, is_shown, shown_marks}
 
 abbrev pub is_blank_byte : ℕ → Bool
 is_blank_byte b = b == 32 || b == 13 || b == 10

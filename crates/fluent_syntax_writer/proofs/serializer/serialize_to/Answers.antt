@@ -1,5 +1,5 @@
-use Rattle.std.proofs.Common.{◌≡◌, map, false, None, ap, sym, rules}
-use Rattle.fluent_syntax_tree.specs.View.{entry_view, resource_view}
+use Rattle.std.proofs.Common.{map, false, None, ap, sym, rules}
+use Rattle.fluent_syntax_tree.specs.View.{entry_view}
 use Rattle.fluent_syntax_grammar.specs.Written.{written, body_marks, text_after}
 use Rattle.fluent_syntax_writer.proofs.Marks.{handed_taken, handed_refused}
 use Rattle.fluent_syntax_writer.proofs.serializer.serialize_to.Goals as goal

@@ -1,9 +1,8 @@
-use Rattle.std.proofs.Common.{◌≡◌, ◌∷◌, [], ◌++◌, map, take, not, option_map, sym, ap, ◌∙◌, refl, append-nil}
-use Rattle.std.specs.List.{flat_map}
-use Rattle.fluent_syntax_tree.specs.View.{attribute_view, entry_view}
-use Rattle.fluent_syntax_grammar.specs.Written.{comment_line_marks, comment_marks, attribute_line_marks, attributes_marks, entry_marks, body_marks, junk_marks, is_junk}
+use Rattle.std.proofs.Common.{sym, ◌∙◌, refl, append-nil}
+use Rattle.fluent_syntax_tree.specs.View.{attribute_view}
+use Rattle.fluent_syntax_grammar.specs.Written.{attribute_line_marks}
 use Rattle.fluent_syntax_writer.proofs.Marks.{follow, stop, Writes-none, Writes-marks, Writes-done}
-use Rattle.fluent_syntax_writer.proofs.Loops.{flat_map-at, flat_map-to, flat_map-end, comment_marks-list, attributes_marks-list, body_marks-at, body_marks-to, body_marks-end, follows_after-to}
+use Rattle.fluent_syntax_writer.proofs.Loops.{flat_map-at, flat_map-to, flat_map-end, attributes_marks-list}
 use Rattle.fluent_syntax_writer.proofs.serializer.entries.serialize_attributes.Goals as goal
 
 pub returns-in_err-serialize_attribute-clause-written : goal.returns-in_err-serialize_attribute-clause-written

@@ -1,4 +1,4 @@
-use Rattle.std.proofs.Common.{◌≡◌, map, take, false}
+use Rattle.std.proofs.Common.{◌≡◌, take}
 use Rattle.std.specs.List.{flat_map}
 use Rattle.fluent_syntax_grammar.specs.Written.{comment_line_marks}
 use Rattle.fluent_syntax_writer.specs.Writing.{Wrote}

@@ -1,5 +1,4 @@
 use Rattle.std.proofs.Common.{◌≡◌, map, take, false}
-use Rattle.std.specs.List.{flat_map}
 use Rattle.fluent_syntax_tree.specs.View.{entry_view}
 use Rattle.fluent_syntax_grammar.specs.Written.{body_marks}
 use Rattle.fluent_syntax_writer.specs.Writing.{Wrote}

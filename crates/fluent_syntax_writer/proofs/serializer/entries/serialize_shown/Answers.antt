@@ -1,4 +1,4 @@
-use Rattle.std.proofs.Common.{ap, sym, ◌∙◌}
+use Rattle.std.proofs.Common.{sym, ◌∙◌}
 use Rattle.fluent_syntax_writer.proofs.Marks.{follow, stop, Writes-none, Writes-marks}
 use Rattle.fluent_syntax_writer.proofs.Lines.{shown_marks-blank, shown_marks-shown}
 use Rattle.fluent_syntax_writer.proofs.serializer.entries.serialize_shown.Goals as goal

@@ -1,6 +1,6 @@
-use Rattle.std.proofs.Common.{subst, rules}
+use Rattle.std.proofs.Common.{subst}
 use Rattle.fluent_syntax_writer.specs.Writing.{depth}
-use Rattle.fluent_syntax_writer.proofs.Marks.{IsIndented, IsIndented-start, IsIndented-more, IsIndented-broken, IsIndented-end}
+use Rattle.fluent_syntax_writer.proofs.Marks.{IsIndented, IsIndented-more, IsIndented-broken, IsIndented-end}
 use Rattle.fluent_syntax_writer.proofs.serializer.text_writer.TextWriter.write_indent.Goals as goal
 
 pub returns-in_err-write_piece-clause-written : goal.returns-in_err-write_piece-clause-written

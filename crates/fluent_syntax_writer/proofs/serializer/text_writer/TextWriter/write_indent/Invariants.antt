@@ -1,5 +1,4 @@
-use Rattle.std.proofs.Common.{◌≡◌, ◌++◌}
-use Rattle.fluent_syntax_grammar.specs.Written.{indent}
+use Rattle.std.proofs.Common.{◌≡◌}
 use Rattle.fluent_syntax_writer.specs.Writing.{depth}
 use Rattle.fluent_syntax_writer.proofs.Marks.{IsIndented}
 use Rattle.fluent_syntax_writer.proofs.serializer.text_writer.TextWriter.write_indent.Given as goal

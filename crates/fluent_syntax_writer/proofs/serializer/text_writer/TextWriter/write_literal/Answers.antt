@@ -1,5 +1,4 @@
 use Rattle.std.proofs.Common.{sym, ◌∙◌}
-use Rattle.fluent_syntax_grammar.specs.Written.{literal}
 use Rattle.fluent_syntax_writer.specs.Writing.{depth}
 use Rattle.fluent_syntax_writer.proofs.Marks.{is_last-from_eq, literal-after_lf, literal-otherwise, Appends-after, Appends-before, Appends-from, Writes-one}
 use Rattle.fluent_syntax_writer.proofs.serializer.text_writer.TextWriter.write_literal.Goals as goal
