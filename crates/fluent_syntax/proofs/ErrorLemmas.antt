@@ -1,6 +1,6 @@
 -- The errors and the junk of a tiling's answer.
-use Rattle.std.proofs.Common.{◌≡◌, ℕ, ◌<◌, ◌≤◌, List, [], ◌∷◌, length, Option, Some, None, map, refl, sym, ◌∙◌, ap, arith}
-use Rattle.std.specs.Prelude.{slice_range, option_map, IsSomeAnd, Result, Ok, Err, IsOk, IsOkAnd}
+use Rattle.std.proofs.Common.{◌≡◌, ℕ, List, [], ◌∷◌, length, Option, Some, None, map, refl, sym, ◌∙◌, ap, arith}
+use Rattle.std.specs.Prelude.{slice_range, option_map, Result, Ok, Err, IsOk, IsOkAnd}
 use Rattle.std.specs.List.{flat_map}
 use Rattle.fluent_syntax_tree.specs.Entry.{message, term, comment, junk, BodyTree, body_map}
 use Rattle.fluent_syntax_tree.specs.Kind.{kind_of}
@@ -20,7 +20,7 @@ use Rattle.fluent_syntax_grammar.proofs.JunkAndSpans.{junk_of_errors, runtime_ju
 use Rattle.fluent_syntax_reader.specs.Answers.{fault_of, Answers, AnswersTiling, AnswersRuntimeTiling}
 use Rattle.fluent_syntax_reader.specs.declared.fault.ParseFault.{ParseFault}
 use Rattle.fluent_syntax_reader.specs.declared.fault.ParseFault.TheVariants.{Syntax, Memory}
-use Rattle.fluent_syntax.specs.Errors.{junk_texts, refused_text, Ascend, JunkIsRefused, ErrorsAscend}
+use Rattle.fluent_syntax.specs.Errors.{junk_texts, refused_text, JunkIsRefused, ErrorsAscend}
 
 -- ---- junk
 
@@ -64,49 +64,6 @@ module _ (t : List ℕ) where
       let more = refused_texts errors fs tail in
       cc
 
--- ---- stretches
-
-module _ (t : List ℕ) where
-  abbrev Here : {R : Type 0} (from pos : ℕ) (start end : R → ℕ) (errors : List ParserError) → R → Type 0
-  Here from pos start end errors r = (from ≤ start r) × (start r < end r) × (start r ≤ pos) × (pos ≤ end r) × Ascend t (end r) errors
-
-  here : {R : Type 0} (o : Option R) (start end : R → ℕ) (fault : R → Fault) (from : ℕ) (errors : List ParserError) (f : Fault) →
-      ((r : R) → (start r ≡ (fault r).slice.start) × (end r ≡ (fault r).slice.end)) → option_map fault o ≡ Some f →
-      (from ≤ f.slice.start) × (f.slice.start < f.slice.end) × (f.slice.start ≤ f.pos.start) × (f.pos.start ≤ f.slice.end) × Ascend t f.slice.end errors →
-      IsSomeAnd o (Here from f.pos.start start end errors)
-  here None start end fault from errors f same e h = absurd (cc)
-  here (Some r) start end fault from errors f same e h =
-      let found : fault r ≡ f = cc in
-      let starts : start r ≡ f.slice.start = (same r).0 ∙ ap (λ g. g.slice.start) found in
-      let ends : end r ≡ f.slice.end = (same r).1 ∙ ap (λ g. g.slice.end) found in
-      rw (starts, ends) h
-
-  place : {R : Type 0} (o : Option R) (pos : ℕ) (fault : R → Fault) (f : Fault) → ((r : R) → (fault r).pos.start ≡ pos) → option_map fault o ≡ Some f → f.pos.start ≡ pos
-  place None pos fault f same e = absurd (cc)
-  place (Some r) pos fault f same e =
-      let found : fault r ≡ f = cc in
-      ap (λ g. g.pos.start) (sym found) ∙ same r
-
-  pos_of : (e : ParserError) (f : Fault) → fault_of e ≡ Some f → f.pos.start ≡ e.pos.start
-  pos_of e f h = place e.slice e.pos.start (λ r. record {
-    kind = kind_of e.kind;
-    pos = record { start = e.pos.start; end = e.pos.end };
-    slice = record { start = r.start; end = r.end };
-  }) f (λ r. refl) h
-
-  pub ascending : (from : ℕ) (errors : List ParserError) (fs : List Fault) → map fault_of errors ≡ map Some fs → laws.Ascend t from fs → Ascend t from errors
-  ascending from [] [] h a = a
-  ascending from [] (f ∷ fs) h a = cc
-  ascending from (e ∷ errors) [] h a = cc
-  ascending from (e ∷ errors) (f ∷ fs) h a =
-      let head : fault_of e ≡ Some f = cc in
-      let tail : map fault_of errors ≡ map Some fs = cc in
-      rw (← pos_of e f head) (here e.slice (λ r. r.start) (λ r. r.end) (λ r. record {
-        kind = kind_of e.kind;
-        pos = record { start = e.pos.start; end = e.pos.end };
-        slice = record { start = r.start; end = r.end };
-      }) from errors f (λ r. (refl, refl)) head (a.0, a.1, a.2, a.3, ascending f.slice.end errors fs tail a.4))
-
 -- ---- answers
 
 module _ {S : Type 0} (text : S → List ℕ) (t : List ℕ) (tiles : List Tile) where
@@ -124,7 +81,7 @@ module _ {S : Type 0} (text : S → List ℕ) (t : List ℕ) (tiles : List Tile)
 
   errors_given : (result : Result (Resource S) (ParseFault S)) → laws.Ascend t 0 (faults tiles) → Given result → ErrorsAscend t result
   errors_given (Ok tree) law given = tt
-  errors_given (Err (Syntax tree errors)) law (same, told, some) = ascending t 0 errors.items (faults tiles) told law
+  errors_given (Err (Syntax tree errors)) law (same, told, some) = (faults tiles, told, law)
   errors_given (Err Memory) law given = tt
 
 module _ {S : Type 0} (text : S → List ℕ) (edition : Edition) (t : List ℕ) (result : Result (Resource S) (ParseFault S)) where

@@ -1,10 +1,13 @@
 -- The errors of what parsing answers, and the junk of its tree.
-use Rattle.std.specs.Prelude.{◌≡◌, ℕ, ◌<◌, ◌≤◌, List, [], ◌∷◌, length, map, slice_range, Option, Some, option_map, IsSomeAnd, Result, Ok, Err}
+use Rattle.std.specs.Prelude.{◌≡◌, ℕ, List, [], ◌∷◌, map, slice_range, Option, Some, option_map, Result, Ok, Err}
 use Rattle.std.specs.List.{flat_map}
 use Rattle.fluent_syntax_tree.specs.Entry.{EntryTree, message, term, comment, junk, BodyTree}
 use Rattle.fluent_syntax_tree.specs.View.{resource_view}
 use Rattle.fluent_syntax_tree.specs.declared.ast.Resource.{Resource}
 use Rattle.fluent_syntax_tree.specs.declared.errors.ParserError.{ParserError}
+use Rattle.fluent_syntax_grammar.specs.Laws.{Ascend}
+use Rattle.fluent_syntax_grammar.specs.Tiling.{Fault}
+use Rattle.fluent_syntax_reader.specs.Answers.{fault_of}
 use Rattle.fluent_syntax_reader.specs.declared.fault.ParseFault.{ParseFault}
 use Rattle.fluent_syntax_reader.specs.declared.fault.ParseFault.TheVariants.{Syntax, Memory}
 
@@ -23,12 +26,6 @@ junk_texts body = flat_map junk_text body
 abbrev pub refused_text : List ℕ → ParserError → Option (List ℕ)
 refused_text t e = option_map (λ range. slice_range t range.start range.end) e.slice
 
--- The stretches that the errors tell are nonempty and ascend, disjoint, from the place on to the text's end, and each error's place begins
--- within its stretch, both ends included.
-abbrev pub Ascend : List ℕ → (from : ℕ) → List ParserError → Type 0
-Ascend t from [] = from ≤ length t
-Ascend t from (e ∷ errors) = IsSomeAnd e.slice (λ range. (from ≤ range.start) × (range.start < range.end) × (range.start ≤ e.pos.start) × (e.pos.start ≤ range.end) × Ascend t range.end errors)
-
 module _ {S : Type 0} (t : List ℕ) where
   -- There are as many errors as junk entries, in the same order; each junk is the source's text at its error's stretch.
   abbrev pub JunkIsRefused : (text : S → List ℕ) → Result (Resource S) (ParseFault S) → Type 0
@@ -36,8 +33,9 @@ module _ {S : Type 0} (t : List ℕ) where
   JunkIsRefused text (Err (Syntax tree errors)) = map Some (junk_texts (resource_view text tree)) ≡ map (refused_text t) errors.items
   JunkIsRefused text (Err Memory) = Unit {0}
 
-  -- The errors ascend in the text.
+  -- The errors tell of faults that ascend: their stretches are nonempty and disjoint, in order, and each error's place begins within its
+  -- stretch, both ends included.
   abbrev pub ErrorsAscend : Result (Resource S) (ParseFault S) → Type 0
   ErrorsAscend (Ok tree) = Unit {0}
-  ErrorsAscend (Err (Syntax tree errors)) = Ascend t 0 errors.items
+  ErrorsAscend (Err (Syntax tree errors)) = (fs : List Fault) × (map fault_of errors.items ≡ map Some fs) × Ascend t 0 fs
   ErrorsAscend (Err Memory) = Unit {0}

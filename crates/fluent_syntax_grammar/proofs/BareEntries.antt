@@ -59,7 +59,8 @@ module _ (edition : Edition) (t : List ℕ) where
   bare_of i j e (Some b) p h (second f (first g x)) = term_bare.on_read i j e tt x
   bare_of i j e (Some b) p h (second f (second g x)) = message_bare.on_read i j e tt x
 
-  bare_tile_at : (i j : ℕ) (tile : Tile) → has_byte t 35 i ≡ false → TileAt edition t i j tile → IsBareTile tile
+  -- where no `#` stands the tile is none of a comment
+  pub bare_tile_at : (i j : ℕ) (tile : Tile) → has_byte t 35 i ≡ false → TileAt edition t i j tile → IsBareTile tile
   bare_tile_at i j tile h (reads {e = e} (chosen x)) = bare_of i j e (slice_get t i) refl h x
   bare_tile_at i j tile h (refuses x y) = tt
 

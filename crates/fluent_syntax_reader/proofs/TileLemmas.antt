@@ -1,18 +1,18 @@
 -- Tiles of a text, one after the other.
-use Rattle.std.proofs.Common.{◌≡◌, ℕ, ◌<◌, true, false, List, [], ◌∷◌, ◌++◌, length, Option, Some, None, map, refl, sym, ◌∙◌, ap, subst, append_assoc}
-use Rattle.std.specs.Prelude.{Result, OnOk, slice_get, ◌==◌}
+use Rattle.std.proofs.Common.{◌≡◌, ℕ, ◌<◌, false, List, [], ◌∷◌, ◌++◌, length, Some, None, map, refl, sym, ◌∙◌, ap, subst, append_assoc}
+use Rattle.std.specs.Prelude.{Result, OnOk}
 use Rattle.std.proofs.lemmas.Result.{on_ok_weaker}
 use Rattle.fluent_syntax_tree.specs.Kind.{Kind}
 use Rattle.fluent_syntax_tree.specs.Entry.{EntryTree, message, term, comment, junk}
 use Rattle.fluent_syntax_tree.specs.declared.edition.Edition.{Edition}
 use Rattle.fluent_syntax_tree.specs.declared.spans.Span.{Span}
-use Rattle.fluent_syntax_grammar.specs.Construct.{Read, Refused, chosen, first, second}
-use Rattle.fluent_syntax_grammar.specs.Places.{BlankBlock, holds, has_byte}
-use Rattle.fluent_syntax_grammar.specs.Tiling.{Tile, entry, refused, dropped, failing_place, JunkEnd, entry_at, entry_of, Tiled, done, next, TileAt, reads, refuses}
+use Rattle.fluent_syntax_grammar.specs.Construct.{Read, Refused}
+use Rattle.fluent_syntax_grammar.specs.Places.{BlankBlock, has_byte}
+use Rattle.fluent_syntax_grammar.specs.Tiling.{Tile, entry, refused, dropped, failing_place, JunkEnd, entry_at, Tiled, done, next, TileAt, reads, refuses}
 use Rattle.fluent_syntax_grammar.specs.Body.{body, faults}
 use Rattle.fluent_syntax_grammar.proofs.Facts.{append_nothing}
-use Rattle.fluent_syntax_grammar.proofs.Runtime.{IsBare}
-use Rattle.fluent_syntax_grammar.proofs.BareEntries.{message_bare, term_bare}
+use Rattle.fluent_syntax_grammar.proofs.Runtime.{IsBare, IsBareTile}
+use Rattle.fluent_syntax_grammar.proofs.BareEntries.{bare_tile_at}
 use Rattle.fluent_syntax_reader.specs.Answers.{fault_of}
 use Rattle.fluent_syntax_reader.specs.Tiles.{may_wait, Takes, TakesTile, Gives, following, trees_of}
 use Rattle.fluent_syntax_reader.specs.declared.tiling.Tiling.{Tiling}
@@ -87,20 +87,11 @@ waits_not s (term m) b = refl
 waits_not s (comment level content) b = absurd b
 waits_not s (junk x) b = absurd b
 
-no_hash : (b : ℕ) (o : Option ℕ) → o ≡ Some b → holds (λ c. c == 35) o ≡ false → (b == 35) ≡ true → ⊥
-no_hash b o e f g = let h = rw e at f in cc
+tile_waits_not : (tile : Tile) → IsBareTile tile → may_wait tile ≡ false
+tile_waits_not (entry s e) b = waits_not s e b
+tile_waits_not (refused f) b = refl
+tile_waits_not dropped b = refl
 
-module _ (edition : Edition) (t : List ℕ) (i j : ℕ) (no : has_byte t 35 i ≡ false) where
-  bare_entry : (e : EntryTree Span) (o : Option ℕ) → slice_get t i ≡ o → entry_of edition t o i (Read e j) → IsBare e
-  bare_entry e None p x = (message_bare edition t).on_read i j e tt x
-  bare_entry e (Some b) p (first f x) = absurd (no_hash b (slice_get t i) p no f)
-  bare_entry e (Some b) p (second f (first g x)) = (term_bare edition t).on_read i j e tt x
-  bare_entry e (Some b) p (second f (second g x)) = (message_bare edition t).on_read i j e tt x
-
-  tile_waits_not : (tile : Tile) → TileAt edition t i j tile → may_wait tile ≡ false
-  tile_waits_not tile (reads {e = e} (chosen x)) = waits_not (record { start = i; end = j }) e (bare_entry e (slice_get t i) refl x)
-  tile_waits_not tile (refuses x y) = refl
-
-  -- where no `#` stands no comment is read
-  pub none_waits : (before after : Tiling) (tile : Tile) → TileAt edition t i j tile → Takes before tile after → after.last_comment ≡ None
-  none_waits before after tile x takes = takes.waits (tile_waits_not tile x)
+-- where no `#` stands no comment is read
+pub none_waits : (edition : Edition) (t : List ℕ) (i j : ℕ) → has_byte t 35 i ≡ false → (before after : Tiling) (tile : Tile) → TileAt edition t i j tile → Takes before tile after → after.last_comment ≡ None
+none_waits edition t i j none before after tile x takes = takes.waits (tile_waits_not tile (bare_tile_at edition t i j tile none x))

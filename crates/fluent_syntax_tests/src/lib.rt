@@ -9,7 +9,8 @@ mod entries;
 mod errors;
 #[cfg(test)]
 mod json;
-pub mod outline;
+#[cfg(test)]
+mod outline;
 #[cfg(test)]
 mod program;
 #[cfg(test)]
@@ -20,6 +21,8 @@ mod serialized;
 mod sinks;
 #[cfg(test)]
 mod spans;
+#[cfg(test)]
+mod trees;
 #[cfg(test)]
 mod unescaped;
 #[cfg(test)]

@@ -32,6 +32,16 @@ impl Shown for &str {
     }
 }
 
+impl Shown for String {
+    fn quoted(&self, out: &mut String) -> Written {
+        self.as_str().quoted(out)
+    }
+
+    fn plain(&self, out: &mut String) -> Written {
+        out.push_str(self.as_str())
+    }
+}
+
 impl Shown for Span {
     fn quoted(&self, out: &mut String) -> Written {
         self.plain(out)

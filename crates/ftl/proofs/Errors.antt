@@ -1,7 +1,6 @@
 -- Lists of errors, and the lines that they become.
 use Rattle.std.proofs.Common.{◌≡◌, ◌≢◌, ◌<◌, ◌≤◌, ◌+◌, ◌++◌, ◌∷◌, [], ℕ, List, length, take, get_or, map, Option, Some, None, sym, ap, ◌∙◌, refl, append-nil, subst, arith, option_map, unwrap_or}
 use Rattle.std.specs.List.{flat_map, All}
-use Rattle.std.proofs.lemmas.List.{take_all, take_more}
 use Rattle.std.proofs.lemmas.List.Elements.{All-nil, All-cons, All-get_or}
 use Rattle.fluent_syntax_tree.specs.declared.errors.ParserError.{ParserError}
 use Rattle.fluent_syntax.specs.Lines.{line_at, column_at}
@@ -9,17 +8,9 @@ use Rattle.fluent_syntax_tree.specs.Kind.{Kind, kind_of}
 use Rattle.fluent_syntax_grammar.specs.Laws.{Ascend}
 use Rattle.fluent_syntax_grammar.specs.Tiling.{Fault}
 use Rattle.fluent_syntax_reader.specs.Answers.{fault_of}
+use Rattle.fluent_syntax_writer.proofs.Loops.{flat_map-to}
 use Rattle.ftl.specs.declared.outcome.Outcome.TheVariants.{Clean, SyntaxErrors}
 use Rattle.ftl.specs.Answer.{error_line, error_text, outcome_with, told}
-use Rattle.std.proofs.lemmas.Grind.{flat_map-append}
-
--- the first n + 1 give what the first n give, and then what that one gives
-pub flat_map-to : {A B : Type 0} (f : A → List B) (xs : List A) (i : ℕ) (x : A) → i < length xs → x ≡ get_or xs i x → flat_map f (take (i + 1) xs) ≡ flat_map f (take i xs) ++ f x
-flat_map-to f xs i x h e =
-    ap (flat_map f) (take_more xs i x h ∙ ap (λ y. take i xs ++ (y ∷ [])) (sym e)) ∙ flat_map-append f (take i xs) (x ∷ []) ∙ ap (λ y. flat_map f (take i xs) ++ y) (append-nil (f x))
-
-pub flat_map-end : {A B : Type 0} (f : A → List B) (xs : List A) (i : ℕ) → length xs ≤ i → flat_map f xs ≡ flat_map f (take i xs)
-flat_map-end f xs i h = ap (flat_map f) (sym (take_all i xs h))
 
 -- one more line
 pub line_added : (t s : List ℕ) (errors : List ParserError) (i : ℕ) (e : ParserError) (line column : ℕ) (old new : List ℕ) →
