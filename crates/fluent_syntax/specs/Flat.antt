@@ -1,17 +1,18 @@
 -- Texts that hold no brace, and no line that a mark begins.
 use Rattle.std.specs.Prelude.{ℕ, ◌-◌, List, Bool, true, ◌≡◌, ◌&&◌, ◌||◌, ◌==◌, not, slice_index, EachIndex}
+use Rattle.fluent_syntax_grammar.specs.Bytes.{cr, full_stop, hash, hyphen, left_brace, lf, right_brace, space}
 
 -- a line starts at place 0 and after every LF
 abbrev pub starts_line : List ℕ → ℕ → Bool
-starts_line t i = i == 0 || slice_index t (i - 1) == 10
+starts_line t i = i == 0 || slice_index t (i - 1) == lf
 
 -- `{` or `}`
 abbrev pub is_brace : ℕ → Bool
-is_brace b = b == 123 || b == 125
+is_brace b = b == left_brace || b == right_brace
 
 -- a space, `#`, `.`, `-` or CR
 abbrev pub is_line_mark : ℕ → Bool
-is_line_mark b = b == 32 || b == 35 || b == 46 || b == 45 || b == 13
+is_line_mark b = b == space || b == hash || b == full_stop || b == hyphen || b == cr
 
 -- whether a flat text may hold the byte, at a line's start or elsewhere
 abbrev pub may_stand : Bool → ℕ → Bool

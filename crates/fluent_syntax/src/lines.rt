@@ -2,6 +2,7 @@
 ghost use Rattle.std.specs.Prelude.{◌≡◌, ◌+◌, ◌^◌, ◌<◌, ◌≤◌, ◌==◌, length, not, take};
 ghost use Rattle.std.specs.List.{suffix_len};
 ghost use Rattle.fluent_syntax.specs.Lines.{line_at, column_at};
+ghost use Rattle.fluent_syntax_grammar.specs.Bytes.{lf};
 
 /// The line and the column of a place of the source, both from 1. The line is 1 and the number of
 /// LFs before the place; the column is 1 and the number of bytes from the line's start to the place.
@@ -18,7 +19,7 @@ pub fn line_column(source: &str, place: usize) -> (usize, usize)
 
 /// How many bytes follow the last LF.
 fn bytes_of_last_line(text: &[u8]) -> usize
-    ensures count { result ≡ suffix_len (λ b. not (b == 10)) text.now }
+    ensures count { result ≡ suffix_len (λ b. not (b == lf)) text.now }
     ensures within { result ≤ length text.now }
 {
     let mut start = text.len();

@@ -3,6 +3,7 @@ use Rattle.std.specs.Prelude.{ℕ, List, [], ◌∷◌, slice_get, Option, Some,
 use Rattle.std.specs.List.{list_any}
 use Rattle.std.specs.Prelude.{nat_eq}
 use lib.Pointwise.{pointwise}
+use Rattle.fluent_syntax_grammar.specs.Bytes.{colon, comma, full_stop, left_parenthesis, right_parenthesis}
 use Rattle.fluent_syntax_grammar.specs.Places.{has_byte}
 use Rattle.fluent_syntax_tree.specs.Spans.{bytes_at}
 use Rattle.fluent_syntax_tree.specs.Tree.{InlineTree, string_literal, number_literal, function_reference, message_reference, term_reference, variable_reference, inline_placeable, ArgumentsTree, arguments, MaybeArguments, no_arguments, some_arguments, no_inlines, inlines, no_named, nameds, named_argument}
@@ -40,14 +41,14 @@ module _ (t : List ℕ) where
   -- where `.` follows at once, that and the name of an attribute
   abbrev pub accessor : Construct (Option Span)
   accessor = do
-    dot ← optional t 46
+    dot ← optional t full_stop
     either dot (identifier t >>= λ a. gives (Some a)) (gives None)
 
   -- between two arguments: a blank, an optional `,`, a blank
   abbrev pub separator : Construct (Unit {0})
   separator = do
     blank t
-    optional t 44
+    optional t comma
     blank t
 
 module _ (t : List ℕ) (R : Family) where
@@ -55,7 +56,7 @@ module _ (t : List ℕ) (R : Family) where
   abbrev pub call_arguments : Construct (MaybeArguments Span)
   call_arguments = do
     blank t
-    bracket ← optional t 40
+    bracket ← optional t left_parenthesis
     either bracket (blank t >> R.more_arguments [] >>= λ a. gives (some_arguments a)) (gives no_arguments)
 
   -- The value of a named argument, by its start: a string, a number without `-`, a function or a message reference. No other start is taken.
@@ -72,7 +73,7 @@ module _ (t : List ℕ) (R : Family) where
   -- From the `:` of a named argument on: a name that was used is refused there. Else `:`, a blank, the value, and the rest of the list.
   abbrev pub named_and_more : List (List ℕ) → Span → Construct (ArgumentsTree Span)
   named_and_more names name = either (is_used (bytes_at t name) names) (fails (DuplicatedNamedArgument (bytes_at t name))) (do
-    token t 58
+    token t colon
     blank t
     e ← at_each (start t) argument_value
     separator t
@@ -88,18 +89,18 @@ module _ (t : List ℕ) (R : Family) where
   positional_and_more (name ∷ names) e = fails PositionalArgumentFollowsNamed
 
   -- From the end of an argument's expression on: a message reference without attribute that `:` follows is the name of a named argument.
-  abbrev pub argument_and_more : List (List ℕ) → InlineTree Span → (name : Option Span) → (colon : Bool) → Construct (ArgumentsTree Span)
+  abbrev pub argument_and_more : List (List ℕ) → InlineTree Span → (name : Option Span) → (is_named : Bool) → Construct (ArgumentsTree Span)
   argument_and_more names e (Some name) true = named_and_more names name
   argument_and_more names e (Some name) false = positional_and_more names e
-  argument_and_more names e None colon = positional_and_more names e
+  argument_and_more names e None is_named = positional_and_more names e
 
   -- the rest of an argument list by the byte there: `)` ends it
   abbrev pub more_arguments_at : List (List ℕ) → Option ℕ → Construct (ArgumentsTree Span)
-  more_arguments_at names None = fails (ExpectedToken 41)
-  more_arguments_at names (Some b) = either (b == 41) (token t 41 >> gives (arguments no_inlines no_named)) (do
+  more_arguments_at names None = fails (ExpectedToken right_parenthesis)
+  more_arguments_at names (Some b) = either (b == right_parenthesis) (token t right_parenthesis >> gives (arguments no_inlines no_named)) (do
     e ← R.inline_expression
-    colon ← at_each (has_byte t 58) gives
-    argument_and_more names e (argument_name e) colon)
+    is_named ← at_each (has_byte t colon) gives
+    argument_and_more names e (argument_name e) is_named)
 
   -- the rest of an argument list, after named arguments of these names
   abbrev pub more_arguments : List (List ℕ) → Construct (ArgumentsTree Span)

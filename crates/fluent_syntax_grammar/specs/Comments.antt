@@ -1,6 +1,6 @@
 -- Comments.
 use Rattle.std.specs.Prelude.{◌≡◌, ◌≢◌, ℕ, ◌+◌, List, [], ◌∷◌, ◌++◌, slice_get, Option, Some, None, Bool, true, false, ◌==◌, not, if◌then◌else◌}
-use Rattle.fluent_syntax_grammar.specs.Bytes.{space}
+use Rattle.fluent_syntax_grammar.specs.Bytes.{space, hash}
 use Rattle.fluent_syntax_grammar.specs.Places.{Steps, has_byte, has_eol}
 use Rattle.fluent_syntax_tree.specs.Entry.{EntryTree, comment, Level, regular, group, resource}
 use Rattle.fluent_syntax_tree.specs.Kind.{Kind}
@@ -16,9 +16,9 @@ module _ (t : List ℕ) where
   -- the number of `#` that stand from a place on, at most 3
   abbrev pub hashes : ℕ → ℕ
   hashes i =
-      if not (has_byte t 35 i) then 0
-      else if not (has_byte t 35 (i + 1)) then 1
-      else if not (has_byte t 35 (i + 2)) then 2
+      if not (has_byte t hash i) then 0
+      else if not (has_byte t hash (i + 1)) then 1
+      else if not (has_byte t hash (i + 2)) then 2
       else 3
 
   -- After its hashes, by whether a line end follows: the empty line; else a space, and the line's text up to a line end or the text's end.

@@ -1,5 +1,6 @@
 -- Messages, terms and their attributes.
 use Rattle.std.specs.Prelude.{ℕ, List, [], ◌∷◌, Option, Some, None}
+use Rattle.fluent_syntax_grammar.specs.Bytes.{equals_sign, full_stop, hyphen}
 use Rattle.fluent_syntax_tree.specs.Spans.{bytes_at}
 use Rattle.fluent_syntax_tree.specs.Tree.{PatternTree}
 use Rattle.fluent_syntax_tree.specs.Entry.{AttributeTree, EntryTree, message, term}
@@ -31,10 +32,10 @@ module _ (edition : Edition) (t : List ℕ) where
   abbrev pub attribute : Construct (AttributeTree Span)
   attribute = do
     inline_blank t
-    token t 46
+    token t full_stop
     id ← identifier t
     inline_blank t
-    token t 61
+    token t equals_sign
     value ← pattern edition t
     attribute_with id value
 
@@ -50,7 +51,7 @@ module _ (edition : Edition) (t : List ℕ) where
     start ← here
     id ← identifier t
     inline_blank t
-    token t 61
+    token t equals_sign
     value ← pattern edition t
     blank_block t
     rest ← attributes
@@ -60,10 +61,10 @@ module _ (edition : Edition) (t : List ℕ) where
   abbrev pub term_entry : Construct (EntryTree Span)
   term_entry = do
     start ← here
-    token t 45
+    token t hyphen
     id ← identifier t
     inline_blank t
-    token t 61
+    token t equals_sign
     value ← pattern edition t
     blank_block t
     rest ← attributes

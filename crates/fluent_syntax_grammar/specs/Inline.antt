@@ -1,7 +1,7 @@
 -- Inline expressions.
-use Rattle.std.specs.Prelude.{ℕ, List, Bool, ◌&&◌, ◌||◌, ◌==◌, nat_le}
+use Rattle.std.specs.Prelude.{ℕ, List, Bool, ◌||◌, ◌==◌}
 use Rattle.std.specs.List.{list_all}
-use Rattle.fluent_syntax_grammar.specs.Bytes.{is_digit}
+use Rattle.fluent_syntax_grammar.specs.Bytes.{dollar_sign, hyphen, underscore, is_capital, is_digit}
 use Rattle.fluent_syntax_tree.specs.Spans.{bytes_at}
 use Rattle.fluent_syntax_tree.specs.Tree.{InlineTree, string_literal, number_literal, function_reference, message_reference, term_reference, variable_reference, inline_placeable, MaybeArguments, no_arguments, some_arguments}
 use Rattle.fluent_syntax_tree.specs.Kind.{ForbiddenCallee, ExpectedInlineExpression}
@@ -16,7 +16,7 @@ use Rattle.fluent_syntax_tree.specs.declared.spans.Span.{Span}
 
 -- `A` to `Z`, digits, `_` and `-`
 abbrev pub is_callee_byte : ℕ → Bool
-is_callee_byte b = nat_le 65 b && nat_le b 90 || is_digit b || b == 95 || b == 45
+is_callee_byte b = is_capital b || is_digit b || b == underscore || b == hyphen
 
 -- After a name and its arguments: with arguments a function reference, whose name holds only callee bytes; without them
 -- a message reference, which has an attribute where `.` follows.
@@ -31,13 +31,13 @@ module _ (t : List ℕ) (R : Family) where
   inline_of digit = number t >>= λ v. gives (number_literal v)
   inline_of minus = number t >>= λ v. gives (number_literal v)
   inline_of term = do
-    token t 45
+    token t hyphen
     id ← identifier t
     attribute ← accessor t
     a ← call_arguments t R
     gives (term_reference id attribute a)
   inline_of dollar = do
-    token t 36
+    token t dollar_sign
     id ← identifier t
     gives (variable_reference id)
   inline_of letter = do

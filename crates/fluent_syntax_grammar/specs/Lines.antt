@@ -1,6 +1,6 @@
 -- The lines of a pattern: runs of text and placeables.
 use Rattle.std.specs.Prelude.{◌≡◌, ℕ, ◌+◌, ◌-◌, List, [], ◌∷◌, slice_get, Option, Some, None, Bool, true, false, ◌&&◌, ◌||◌, ◌==◌, not, nat_lt, if◌then◌else◌}
-use Rattle.fluent_syntax_grammar.specs.Bytes.{lf, cr}
+use Rattle.fluent_syntax_grammar.specs.Bytes.{lf, cr, asterisk, full_stop, left_brace, left_bracket, right_brace}
 use Rattle.fluent_syntax_grammar.specs.Places.{Stretch, Reaches, has, has_byte, after_eol, has_eol, InlineBlank}
 use Rattle.fluent_syntax_tree.specs.Kind.{UnbalancedClosingBrace}
 use Rattle.fluent_syntax_grammar.specs.Construct.{Outcome, Read, Construct, ◌>>=◌, ◌>>◌, gives, here, fails, over, at_each, either}
@@ -12,7 +12,7 @@ use Rattle.fluent_syntax_grammar.specs.Placeables.{placeable}
 module _ (t : List ℕ) where
   -- a byte that is no brace and begins no line end
   abbrev pub is_run_place : ℕ → Bool
-  is_run_place i = has t (λ b. not (b == lf || b == 123 || b == 125)) i && not (has_eol t i)
+  is_run_place i = has t (λ b. not (b == lf || b == left_brace || b == right_brace)) i && not (has_eol t i)
 
   -- the ending at a place, by where the line end there ends
   abbrev pub ending_of : ℕ → Option ℕ → Construct Ending
@@ -28,8 +28,8 @@ module _ (t : List ℕ) where
   -- Whether a line belongs to a pattern, by what stands after its leading spaces, if it has some. A blank line does.
   -- With leading spaces: any byte but `.`, `}`, `[` and `*`. Without: `{`, or a CR that begins no line end.
   abbrev pub belongs : (indented : Bool) → ℕ → Bool
-  belongs true i = has_eol t i || has t (λ b. not (b == 46 || b == 125 || b == 91 || b == 42)) i
-  belongs false i = has_eol t i || has_byte t 123 i || has_byte t cr i
+  belongs true i = has_eol t i || has t (λ b. not (b == full_stop || b == right_brace || b == left_bracket || b == asterisk)) i
+  belongs false i = has_eol t i || has_byte t left_brace i || has_byte t cr i
 
 module _ (t : List ℕ) (R : Family) where
   -- The rest of a line by the byte there. It ends before a line end and at the text's end; `}` is refused; `{` begins a placeable;
@@ -37,8 +37,8 @@ module _ (t : List ℕ) (R : Family) where
   abbrev pub pieces_at : Option ℕ → Construct (List Piece)
   pieces_at None = gives []
   pieces_at (Some b) =
-      at_each (has_eol t) (λ eol. either eol (gives []) (either (b == 125) (fails UnbalancedClosingBrace)
-      (either (b == 123) (do
+      at_each (has_eol t) (λ eol. either eol (gives []) (either (b == right_brace) (fails UnbalancedClosingBrace)
+      (either (b == left_brace) (do
         e ← placeable t R
         ps ← R.more_pieces
         gives (placed e ∷ ps))

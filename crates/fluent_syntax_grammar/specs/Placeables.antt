@@ -1,6 +1,6 @@
 -- Placeables, and the expressions in them.
 use Rattle.std.specs.Prelude.{ℕ, ◌+◌, List, [], ◌∷◌, Option, Some, None, Bool, false, ◌&&◌, is_some}
-use Rattle.fluent_syntax_grammar.specs.Bytes.{lf, cr, space}
+use Rattle.fluent_syntax_grammar.specs.Bytes.{lf, cr, space, greater_than, hyphen, left_brace, right_brace, vertical_bar}
 use Rattle.fluent_syntax_grammar.specs.Places.{Steps, Reaches, has_byte, after_eol}
 use Rattle.fluent_syntax_tree.specs.Tree.{ExpressionTree, select, inline, InlineTree, string_literal, number_literal, function_reference, message_reference, term_reference, variable_reference, inline_placeable, VariantTrees}
 use Rattle.fluent_syntax_tree.specs.Kind.{Kind, ExpectedCharRange, MessageReferenceAsSelector, TermReferenceAsSelector, MessageAttributeAsSelector, TermAttributeAsPlaceable, ExpectedSimpleExpressionAsSelector}
@@ -34,12 +34,12 @@ is_term_attribute (inline_placeable e) = false
 -- The line end after the arrow, which has to stand there.
 abbrev pub arrow_line_end : Option ℕ → Construct (Unit {0})
 arrow_line_end (Some k) = over (Reaches k)
-arrow_line_end None = fails (ExpectedCharRange (lf ∷ space ∷ 124 ∷ space ∷ cr ∷ lf ∷ []))
+arrow_line_end None = fails (ExpectedCharRange (lf ∷ space ∷ vertical_bar ∷ space ∷ cr ∷ lf ∷ []))
 
 module _ (t : List ℕ) where
   -- whether `->` stands at the place
   abbrev pub has_arrow : ℕ → Bool
-  has_arrow i = has_byte t 45 i && has_byte t 62 (i + 1)
+  has_arrow i = has_byte t hyphen i && has_byte t greater_than (i + 1)
 
 module _ (t : List ℕ) (R : Family) where
   -- `->`, an inline blank, a line end, a blank, and the variants
@@ -67,9 +67,9 @@ module _ (t : List ℕ) (R : Family) where
   -- Placeable: `{`, a blank, an expression, an inline blank, `}`.
   abbrev pub placeable : Construct (ExpressionTree Span)
   placeable = do
-    token t 123
+    token t left_brace
     blank t
     e ← expression
     inline_blank t
-    token t 125
+    token t right_brace
     gives e

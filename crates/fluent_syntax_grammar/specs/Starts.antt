@@ -1,6 +1,6 @@
 -- What an inline expression begins with.
 use Rattle.std.specs.Prelude.{ℕ, ◌+◌, List, slice_get, Option, Some, None, Bool, ◌==◌, if◌then◌else◌}
-use Rattle.fluent_syntax_grammar.specs.Bytes.{is_letter, is_digit}
+use Rattle.fluent_syntax_grammar.specs.Bytes.{is_letter, is_digit, dollar_sign, double_quote, hyphen, left_brace}
 use Rattle.fluent_syntax_grammar.specs.Places.{has}
 
 -- `"`, a digit, `-` before a letter, another `-`, `$`, a letter, `{`, and any other byte or the text's end
@@ -11,12 +11,12 @@ pub data Start : Type 0 where
 abbrev pub start_of : Option ℕ → (letter_next : Bool) → Start
 start_of None letter_next = other
 start_of (Some b) letter_next =
-    if b == 34 then quote
+    if b == double_quote then quote
     else if is_digit b then digit
-    else if b == 45 then (if letter_next then term else minus)
-    else if b == 36 then dollar
+    else if b == hyphen then (if letter_next then term else minus)
+    else if b == dollar_sign then dollar
     else if is_letter b then letter
-    else if b == 123 then brace
+    else if b == left_brace then brace
     else other
 
 -- the start that stands at a place

@@ -2,7 +2,7 @@
 use Rattle.std.specs.Prelude.{◌≡◌, ℕ, ◌+◌, ◌<◌, ◌≤◌, List, slice_get, slice_range, Option, Some, None, true, false, ◌||◌, ◌==◌, nat_lt, if◌then◌else◌, codes}
 use Rattle.std.specs.Char.{is_ascii_hexdigit}
 use Rattle.std.specs.Fmt.{decimal}
-use Rattle.fluent_syntax_grammar.specs.Bytes.{lf}
+use Rattle.fluent_syntax_grammar.specs.Bytes.{lf, backslash, capital_u, double_quote, left_brace, small_u}
 use Rattle.fluent_syntax_grammar.specs.Places.{Steps, has, has_byte}
 use Rattle.fluent_syntax_tree.specs.Kind.{Kind, ExpectedToken, UnterminatedStringLiteral, UnknownEscapeSequence, InvalidUnicodeEscapeSequence}
 use Rattle.fluent_syntax_grammar.specs.Construct.{Outcome, Read, Refused, Construct, ◌>>=◌, ◌>>◌, gives, here, fails, over, at_each, either}
@@ -37,31 +37,31 @@ module _ (t : List ℕ) where
   abbrev pub escaped : Option ℕ → Construct (Unit {0})
   escaped None = fails (UnknownEscapeSequence (codes "32"))
   escaped (Some b) =
-      either (b == 92 || b == 34 || b == 123) (over (Steps 2))
-      (either (b == 117) (over (Steps 2) >> hex_digits 4)
-      (either (b == 85) (over (Steps 2) >> hex_digits 6)
+      either (b == backslash || b == double_quote || b == left_brace) (over (Steps 2))
+      (either (b == small_u) (over (Steps 2) >> hex_digits 4)
+      (either (b == capital_u) (over (Steps 2) >> hex_digits 6)
       (fails (UnknownEscapeSequence (decimal b)))))
 
   -- A unit of a string, by its first byte: an escape, or any other byte but a quote and LF.
   abbrev pub string_unit : Option ℕ → Construct (Unit {0})
-  string_unit None = fails (ExpectedToken 34)
+  string_unit None = fails (ExpectedToken double_quote)
   string_unit (Some b) =
       either (b == lf) (fails UnterminatedStringLiteral)
-      (either (b == 92) (at_each (λ i. slice_get t (i + 1)) escaped)
+      (either (b == backslash) (at_each (λ i. slice_get t (i + 1)) escaped)
       (over (Steps 1)))
 
   -- the units up to the next quote
   pub data string_units : ℕ → Outcome (Unit {0}) → Type 0 where
-    before_quote : {i : ℕ} → has_byte t 34 i ≡ true → string_units i (Read tt i)
-    unit_and_more : {i j : ℕ} {o : Outcome (Unit {0})} → has_byte t 34 i ≡ false → string_unit (slice_get t i) i (Read tt j) → string_units j o → string_units i o
-    bad_unit : {i from to : ℕ} {k : Kind} → has_byte t 34 i ≡ false → string_unit (slice_get t i) i (Refused k from to) → string_units i (Refused k from to)
+    before_quote : {i : ℕ} → has_byte t double_quote i ≡ true → string_units i (Read tt i)
+    unit_and_more : {i j : ℕ} {o : Outcome (Unit {0})} → has_byte t double_quote i ≡ false → string_unit (slice_get t i) i (Read tt j) → string_units j o → string_units i o
+    bad_unit : {i from to : ℕ} {k : Kind} → has_byte t double_quote i ≡ false → string_unit (slice_get t i) i (Refused k from to) → string_units i (Refused k from to)
 
   -- String literal: a quote, units, and a quote. Its value is the text between the quotes as it is spelled.
   abbrev pub string_literal : Construct Span
   string_literal = do
-    token t 34
+    token t double_quote
     start ← here
     string_units
     value ← spanned start
-    token t 34
+    token t double_quote
     gives value

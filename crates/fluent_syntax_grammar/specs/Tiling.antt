@@ -1,6 +1,6 @@
 -- The tiling of a whole text: entries and junk, with blank blocks between them.
 use Rattle.std.specs.Prelude.{◌≡◌, ℕ, ◌<◌, ◌≤◌, ◌⊎◌, List, [], ◌∷◌, length, slice_get, Option, Some, None, Bool, true, false, ◌&&◌, ◌||◌, ◌==◌}
-use Rattle.fluent_syntax_grammar.specs.Bytes.{is_letter}
+use Rattle.fluent_syntax_grammar.specs.Bytes.{is_letter, hash, hyphen}
 use Rattle.fluent_syntax_grammar.specs.Places.{has, has_byte, starts_line, BlankBlock}
 use Rattle.fluent_syntax_tree.specs.Kind.{Kind, ExpectedMessageField, ExpectedTermField}
 use Rattle.fluent_syntax_grammar.specs.Construct.{Read, Refused, Construct, ◌>>◌, at_each, either}
@@ -34,7 +34,7 @@ failing_place k from to = from
 
 -- what an entry may begin with, at the start of a line: a letter, `-` or `#`
 abbrev pub is_entry_byte : ℕ → Bool
-is_entry_byte b = is_letter b || b == 45 || b == 35
+is_entry_byte b = is_letter b || b == hyphen || b == hash
 
 module _ (t : List ℕ) where
   -- Entry start: the start of a line that begins with a letter, `-` or `#`.
@@ -61,7 +61,7 @@ module _ (edition : Edition) (t : List ℕ) where
   -- an entry, by its first byte: `#` a comment, `-` a term, any other a message
   abbrev pub entry_of : Option ℕ → Construct (EntryTree Span)
   entry_of None = message_entry edition t
-  entry_of (Some b) = either (b == 35) (comment_entry t) (either (b == 45) (term_entry edition t) (message_entry edition t))
+  entry_of (Some b) = either (b == hash) (comment_entry t) (either (b == hyphen) (term_entry edition t) (message_entry edition t))
 
   -- Entry: what stands at the place decides its form.
   abbrev pub entry_at : Construct (EntryTree Span)
@@ -76,8 +76,8 @@ module _ (edition : Edition) (t : List ℕ) where
 
   -- Without comments: a line that begins with `#` is dropped with its end, malformed or not; other tiles are the same.
   pub data RuntimeTileAt : (i j : ℕ) → Tile → Type 0 where
-    drops : {i j : ℕ} → has_byte t 35 i ≡ true → whole_line t i (Read tt j) → RuntimeTileAt i j dropped
-    stands : {i j : ℕ} {tile : Tile} → has_byte t 35 i ≡ false → TileAt i j tile → RuntimeTileAt i j tile
+    drops : {i j : ℕ} → has_byte t hash i ≡ true → whole_line t i (Read tt j) → RuntimeTileAt i j dropped
+    stands : {i j : ℕ} {tile : Tile} → has_byte t hash i ≡ false → TileAt i j tile → RuntimeTileAt i j tile
 
   -- The tiles of the whole text.
   abbrev pub Tiling : List Tile → Type 0

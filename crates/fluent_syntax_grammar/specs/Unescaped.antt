@@ -4,9 +4,7 @@ use Rattle.std.specs.Char.{is_digit}
 use Rattle.std.specs.List.{list_all, prefix_len}
 use Rattle.std.specs.Str.Parse.{digits_value, without_leading_plus}
 use lib.Utf8.{scalar}
-
-abbrev pub backslash : ℕ
-backslash = 92
+use Rattle.fluent_syntax_grammar.specs.Bytes.{backslash, capital_u, double_quote, small_u}
 
 -- U+FFFD, which stands for an escape that is of no character
 abbrev pub unknown_char : ℕ
@@ -37,13 +35,13 @@ code_point w bs = spelled_char w (take (whole_len w bs) bs)
 abbrev pub escape_char : List ℕ → ℕ
 escape_char [] = unknown_char
 escape_char (b ∷ bs) =
-    if b == 92 || b == 34 then b else if b == 117 then code_point 4 bs else if b == 85 then code_point 6 bs else unknown_char
+    if b == backslash || b == double_quote then b else if b == small_u then code_point 4 bs else if b == capital_u then code_point 6 bs else unknown_char
 
 -- `u` and its 4 bytes, `U` and its 6, or one character
 abbrev pub escape_len : List ℕ → ℕ
 escape_len [] = 0
 escape_len (b ∷ bs) =
-    if b == 117 then 1 + whole_len 4 bs else if b == 85 then 1 + whole_len 6 bs else whole_len 1 (b ∷ bs)
+    if b == small_u then 1 + whole_len 4 bs else if b == capital_u then 1 + whole_len 6 bs else whole_len 1 (b ∷ bs)
 
 -- what is left after so many bytes that an escape swallows: a byte other than a backslash is itself
 abbrev pub unescaped_after : (swallowed : ℕ) → List ℕ → List ℕ

@@ -1,6 +1,6 @@
 -- The variants of a select.
 use Rattle.std.specs.Prelude.{ℕ, List, Option, Some, None, Bool, ◌&&◌, ◌||◌, ◌==◌}
-use Rattle.fluent_syntax_grammar.specs.Bytes.{is_digit}
+use Rattle.fluent_syntax_grammar.specs.Bytes.{is_digit, asterisk, hyphen, left_bracket, right_bracket}
 use Rattle.fluent_syntax_grammar.specs.Places.{has}
 use Rattle.fluent_syntax_tree.specs.Tree.{KeyTree, name_key, number_key, PatternTree, VariantTrees, no_variants, variants, variant}
 use Rattle.fluent_syntax_tree.specs.Kind.{MissingDefaultVariant, MissingValue, MultipleDefaultVariants}
@@ -19,7 +19,7 @@ has_default Two starred star = starred
 
 -- a digit or `-`
 abbrev pub is_number_start : ℕ → Bool
-is_number_start b = is_digit b || b == 45
+is_number_start b = is_digit b || b == hyphen
 
 -- Key: a number where a digit or `-` stands, else an identifier.
 abbrev pub variant_key : List ℕ → Construct (KeyTree Span)
@@ -48,14 +48,14 @@ module _ (edition : Edition) (t : List ℕ) (R : Family) where
     blank t
     key ← variant_key t
     blank t
-    token t 93
+    token t right_bracket
     value ← pattern edition t R
     variant_and_more starred star key value
 
   -- The rest of a list of variants: an optional `*`, and where `[` follows a variant and more; else the list ends there.
   abbrev pub more_variants : (starred : Bool) → Construct (VariantTrees Span)
   more_variants starred = do
-    star ← optional t 42
+    star ← optional t asterisk
     only_star starred star
-    bracket ← optional t 91
+    bracket ← optional t left_bracket
     either bracket (variant_after starred star) (variants_end edition starred star)

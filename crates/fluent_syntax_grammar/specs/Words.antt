@@ -1,6 +1,6 @@
 -- Marks, blanks, line ends, identifiers and numbers.
 use Rattle.std.specs.Prelude.{ℕ, List, Option, Some, None, Bool, true, false, codes}
-use Rattle.fluent_syntax_grammar.specs.Bytes.{is_letter, is_digit, is_name_byte}
+use Rattle.fluent_syntax_grammar.specs.Bytes.{hyphen, full_stop, is_letter, is_digit, is_name_byte}
 use Rattle.fluent_syntax_grammar.specs.Places.{Stretch, Steps, Reaches, has, has_byte, Word, after_eol, is_line_place, InlineBlank, Blank, BlankBlock}
 use Rattle.fluent_syntax_tree.specs.Kind.{ExpectedToken, ExpectedCharRange}
 use Rattle.fluent_syntax_grammar.specs.Construct.{Construct, ◌>>=◌, ◌>>◌, gives, here, fails, over, at_each, either}
@@ -66,8 +66,8 @@ module _ (t : List ℕ) where
   abbrev pub number : Construct Span
   number = do
     start ← here
-    optional 45
+    optional hyphen
     digits
-    point ← optional 46
+    point ← optional full_stop
     either point digits (gives tt)
     spanned start

@@ -2,7 +2,7 @@
 -- list is turned into text do levels become spaces.
 use Rattle.std.specs.Prelude.{ℕ, ◌+◌, ◌-◌, ◌*◌, List, [], ◌∷◌, ◌++◌, replicate, Option, Some, None, Bool, true, false, ◌&&◌, ◌||◌, ◌==◌, not, if◌then◌else◌, codes}
 use Rattle.std.specs.List.{list_any}
-use Rattle.fluent_syntax_grammar.specs.Bytes.{lf, cr, space}
+use Rattle.fluent_syntax_grammar.specs.Bytes.{lf, cr, space, asterisk, full_stop, left_bracket}
 use Rattle.fluent_syntax_tree.specs.Tree.{KeyTree, name_key, number_key, ExpressionTree, select, inline, InlineTree, string_literal, number_literal, function_reference, message_reference, term_reference, variable_reference, inline_placeable, ArgumentsTree, arguments, MaybeArguments, no_arguments, some_arguments, InlineTrees, no_inlines, inlines, NamedTree, NamedTrees, no_named, nameds, named_argument, ElementTree, text_element, placeable, PatternTree, no_elements, elements, VariantTree, VariantTrees, no_variants, variants, variant}
 use Rattle.fluent_syntax_tree.specs.Entry.{EntryTree, message, term, comment, junk, Level, regular, group, resource, AttributeTree, MessageTree, TermTree, BodyTree}
 
@@ -79,7 +79,7 @@ is_multiline (elements e es) = spans_lines e || is_multiline es
 
 -- Bytes that begin an attribute, a variant or a default variant where they begin a line: `.`, `[` and `*`.
 abbrev pub is_leading_mark : ℕ → Bool
-is_leading_mark b = b == 46 || b == 91 || b == 42
+is_leading_mark b = b == full_stop || b == left_bracket || b == asterisk
 
 abbrev pub begins_with_mark : Text → Bool
 begins_with_mark [] = false

@@ -1,7 +1,7 @@
 -- What a reader answers is an outcome of its construct.
 use Rattle.std.specs.Prelude.{◌≡◌, ℕ, ◌+◌, slice_get, List, Some, None, Bool, true, false, ◌||◌, ◌==◌, not, Result, Ok, Err}
 use Rattle.fluent_syntax_tree.specs.Kind.{kind_of}
-use Rattle.fluent_syntax_grammar.specs.Bytes.{lf}
+use Rattle.fluent_syntax_grammar.specs.Bytes.{lf, backslash, double_quote}
 use Rattle.fluent_syntax_grammar.specs.Places.{after_eol}
 use Rattle.fluent_syntax_grammar.specs.Construct.{Construct, Read, Refused, at_each}
 use Rattle.fluent_syntax_grammar.specs.Strings.{escaped}
@@ -30,4 +30,4 @@ escape t = at_each (λ i. slice_get t (i + 1)) (escaped t)
 
 -- bytes that stand for themselves in a string literal: all but a quote, a backslash and LF
 abbrev pub is_plain : ℕ → Bool
-is_plain b = not (b == 34 || b == 92 || b == lf)
+is_plain b = not (b == double_quote || b == backslash || b == lf)

@@ -1,5 +1,6 @@
 -- What the readers of a pattern's lines answer.
 use Rattle.std.specs.Prelude.{◌≡◌, ℕ, ◌-◌, List, [], ◌∷◌, ◌++◌, Option, Some, None, Bool, true, false, if◌then◌else◌, nat_lt, slice_get, Result, Ok, Err}
+use Rattle.fluent_syntax_grammar.specs.Bytes.{left_brace}
 use Rattle.fluent_syntax_tree.specs.declared.edition.Edition.{Edition}
 use Rattle.fluent_syntax_grammar.specs.Places.{Stretch, has_byte, InlineBlank}
 use Rattle.fluent_syntax_grammar.specs.Construct.{Read}
@@ -27,7 +28,7 @@ parts_before (Some start) from to = if nat_lt from to then slice_part (Some star
 -- A run up to a placeable was read, and its placeholders were added.
 pub record BeforePlaceable (t : List ℕ) (lead : Option ℕ) (from to : ℕ) (old new : List PlaceholderTree) : Type 0 where
   pub run : Stretch (is_run_place t) from to
-  pub brace : has_byte t 123 to ≡ true
+  pub brace : has_byte t left_brace to ≡ true
   pub parts : new ≡ old ++ parts_before lead from to
 
 -- The rest of a line and its ending were read, and its placeholders were added.
