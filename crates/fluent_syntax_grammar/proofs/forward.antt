@@ -1,4 +1,5 @@
--- Forward: what is written is read back. In the order of the proof: the rules of reading forwards, words and expressions, the texts and lines
+-- Forward: what is written is read back. In the order of the proof: the rules of reading forwards, words and
+-- expressions, the texts and lines
 -- of patterns, patterns down the tree, and entries and bodies. The round trip is `reads_back` of `Bodies`.
 pub mod Reading
 pub mod Words

@@ -1,5 +1,6 @@
 -- The lines of a pattern that was read, with their places, and the shape of the items that they give.
-use Rattle.std.proofs.Common.{◌≡◌, ℕ, zero, suc, ◌+◌, ◌-◌, ◌<◌, ◌≤◌, List, [], ◌∷◌, ◌++◌, length, drop, take, get_or, Some, None, Bool, true, false, refl, sym, ◌∙◌, subst, ap, arith}
+use Rattle.std.proofs.Common.{◌≡◌, ℕ, zero, suc, ◌+◌, ◌-◌, ◌<◌, ◌≤◌, List, [], ◌∷◌, ◌++◌, length, drop, take, get_or}
+use Rattle.std.proofs.Common.{Some, None, Bool, true, false, refl, sym, ◌∙◌, subst, ap, arith}
 use Rattle.std.specs.Prelude.{◌==◌, ◌⊎◌, nat_lt, slice_get, slice_range}
 use Rattle.std.specs.List.{list_all}
 use Rattle.std.proofs.lemmas.Option.{slice_get_within, slice_get-get_or}
@@ -26,7 +27,8 @@ module _ (t : List ℕ) where
     where
       at_first : (bs : List ℕ) → Left t i bs → first bs ≡ Some b → Left t i (b ∷ drop (i + 1) t)
       at_first [] h f = absurd cc
-      at_first (c ∷ cs) h f = let same : c ≡ b = cc in record { within = h.within; rest = h.rest ∙ cc (same, sym ((left_next h).rest)) }
+      at_first (c ∷ cs) h f = let same : c ≡ b = cc in
+          record { within = h.within; rest = h.rest ∙ cc (same, sym ((left_next h).rest)) }
 
   -- a range begins with the byte at its start
   pub range_first : (i j b : ℕ) → i < j → slice_get t i ≡ Some b → slice_range t i j ≡ b ∷ slice_range t (i + 1) j
@@ -38,11 +40,14 @@ module _ (t : List ℕ) where
   range_none i = let n : i - i ≡ 0 = omega arith in ap (λ n. take n (drop i t)) n
 
   -- and ends with the byte before its end
-  range_next : (n i b : ℕ) → slice_get t (i + n) ≡ Some b → slice_range t i ((i + n) + 1) ≡ slice_range t i (i + n) ++ (b ∷ [])
+  range_next : (n i b : ℕ) → slice_get t (i + n) ≡ Some b →
+      slice_range t i ((i + n) + 1) ≡ slice_range t i (i + n) ++ (b ∷ [])
   range_next zero i b e =
       let s : i + 0 ≡ i = omega arith in
       let f : slice_get t i ≡ Some b = subst (λ k. slice_get t k ≡ Some b) s e in
-      subst (λ k. slice_range t i (k + 1) ≡ slice_range t i k ++ (b ∷ [])) (sym s) (range_first i (i + 1) b (omega arith) f ∙ (ap (λ bs. b ∷ bs) (range_none (i + 1)) ∙ ap (λ bs. bs ++ (b ∷ [])) (sym (range_none i))))
+      subst (λ k. slice_range t i (k + 1) ≡ slice_range t i k ++ (b ∷ [])) (sym s)
+      (range_first i (i + 1) b (omega arith) f
+      ∙ (ap (λ bs. b ∷ bs) (range_none (i + 1)) ∙ ap (λ bs. bs ++ (b ∷ [])) (sym (range_none i))))
   range_next (suc n) i b e =
       let l = slice_get_within t (i + suc n) b e in
       let s : (i + 1) + n ≡ i + suc n = omega arith in
@@ -51,20 +56,27 @@ module _ (t : List ℕ) where
       let on : i < i + suc n = omega arith in
       let near : i < length t = omega arith in
       let c = byte_within i near in
-      let r : slice_range t (i + 1) ((i + suc n) + 1) ≡ slice_range t (i + 1) (i + suc n) ++ (b ∷ []) = subst (λ k. slice_range t (i + 1) (k + 1) ≡ slice_range t (i + 1) k ++ (b ∷ [])) s (range_next n (i + 1) b f) in
-      range_first i ((i + suc n) + 1) c.0 far c.1 ∙ (ap (λ bs. c.0 ∷ bs) r ∙ ap (λ bs. bs ++ (b ∷ [])) (sym (range_first i (i + suc n) c.0 on c.1)))
+      let r : slice_range t (i + 1) ((i + suc n) + 1) ≡ slice_range t (i + 1) (i + suc n) ++ (b ∷ []) =
+      subst (λ k. slice_range t (i + 1) (k + 1) ≡ slice_range t (i + 1) k ++ (b ∷ [])) s
+      (range_next n (i + 1) b f) in
+      range_first i ((i + suc n) + 1) c.0 far c.1
+      ∙ (ap (λ bs. c.0 ∷ bs) r ∙ ap (λ bs. bs ++ (b ∷ [])) (sym (range_first i (i + suc n) c.0 on c.1)))
     where
       byte_within : (k : ℕ) → k < length t → (b : ℕ) × (slice_get t k ≡ Some b)
       byte_within k l = (get_or t k 0, slice_get-get_or t k 0 l)
 
-  pub range_last : (i j b : ℕ) → i ≤ j → slice_get t j ≡ Some b → slice_range t i (j + 1) ≡ slice_range t i j ++ (b ∷ [])
-  range_last i j b l e = let s : i + (j - i) ≡ j = omega arith in subst (λ k. slice_range t i (k + 1) ≡ slice_range t i k ++ (b ∷ [])) s (range_next (j - i) i b (subst (λ k. slice_get t k ≡ Some b) (sym s) e))
+  pub range_last : (i j b : ℕ) → i ≤ j → slice_get t j ≡ Some b →
+      slice_range t i (j + 1) ≡ slice_range t i j ++ (b ∷ [])
+  range_last i j b l e = let s : i + (j - i) ≡ j = omega arith in
+      subst (λ k. slice_range t i (k + 1) ≡ slice_range t i k ++ (b ∷ [])) s
+      (range_next (j - i) i b (subst (λ k. slice_get t k ≡ Some b) (sym s) e))
 
   pub range_byte : (i b : ℕ) → slice_get t i ≡ Some b → slice_range t i (i + 1) ≡ b ∷ []
   range_byte i b e = range_first i (i + 1) b (omega arith) e ∙ ap (λ bs. b ∷ bs) (range_none (i + 1))
 
   -- each byte of a range is in a set
-  pub range_all : (set : ℕ → Bool) (i j : ℕ) → i ≤ j → ((k : ℕ) → i ≤ k → k < j → has t set k ≡ true) → list_all set (slice_range t i j) ≡ true
+  pub range_all : (set : ℕ → Bool) (i j : ℕ) → i ≤ j → ((k : ℕ) → i ≤ k → k < j → has t set k ≡ true) →
+      list_all set (slice_range t i j) ≡ true
   range_all set i j l e = at (j - i) i (λ k a b. e k a (omega arith))
     where
       at : (n i : ℕ) → ((k : ℕ) → i ≤ k → k < i + n → has t set k ≡ true) → list_all set (take n (drop i t)) ≡ true
@@ -86,8 +98,10 @@ module _ (t : List ℕ) (Joins : Type 0) where
   -- the rest of a line, from its first piece to where its ending begins
   pub data PiecesAt : ℕ → List Piece → ℕ → Type 0 where
     no_piece : {i : ℕ} → IsEnd t i → PiecesAt i [] i
-    a_run : {i to j : ℕ} {ps : List Piece} → i < to → Stretch (is_run_place t) i to → PiecesAt to ps j → PiecesAt i (run i to ∷ ps) j
-    a_placeable : {i m j : ℕ} {e : ExpressionTree Span} {ps : List Piece} → IsRead t Joins e → PiecesAt m ps j → PiecesAt i (placed e ∷ ps) j
+    a_run : {i to j : ℕ} {ps : List Piece} → i < to → Stretch (is_run_place t) i to → PiecesAt to ps j →
+        PiecesAt i (run i to ∷ ps) j
+    a_placeable : {i m j : ℕ} {e : ExpressionTree Span} {ps : List Piece} → IsRead t Joins e → PiecesAt m ps j →
+        PiecesAt i (placed e ∷ ps) j
 
   -- an ending, from its place to the next line
   pub data EndingAt : ℕ → Ending → ℕ → Type 0 where
@@ -114,6 +128,8 @@ module _ (t : List ℕ) (Joins : Type 0) where
 
   -- a pattern's source: on its first line, or from the next on, where a line that is not blank stands first
   pub data LayoutAt : Layout → Type 0 where
-    on_line : {i m j : ℕ} {ps : List Piece} {e : Ending} {ls : List Line} → has t is_space i ≡ false → has_eol t i ≡ false → PiecesAt i ps m → EndingAt m e j → LinesAt j ls →
+    on_line : {i m j : ℕ} {ps : List Piece} {e : Ending} {ls : List Line} → has t is_space i ≡ false →
+        has_eol t i ≡ false → PiecesAt i ps m → EndingAt m e j → LinesAt j ls →
         LayoutAt (record { opening = Some (record { start = i; spaces = 0; pieces = ps; ending = e }); lines = ls })
-    below : {i k : ℕ} {ls : List Line} → InlineBlank t i k → has_eol t k ≡ false → LinesAt i ls → LayoutAt (record { opening = None; lines = ls })
+    below : {i k : ℕ} {ls : List Line} → InlineBlank t i k → has_eol t k ≡ false → LinesAt i ls →
+        LayoutAt (record { opening = None; lines = ls })

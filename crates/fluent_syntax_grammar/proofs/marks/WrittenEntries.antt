@@ -31,7 +31,8 @@ own_comment_bytes (Some content) tail = comment_bytes (35 ∷ []) content tail
 -- attributes from the start of a line on, each with its line end
 abbrev pub more_attributes : List (AttributeTree Text) → Text → Text
 more_attributes [] tail = tail
-more_attributes (a ∷ rest) tail = 32 ∷ 32 ∷ 32 ∷ 32 ∷ 46 ∷ (a.id ++ (32 ∷ 61 ∷ pattern_bytes 1 a.value (lf ∷ more_attributes rest tail)))
+more_attributes (a ∷ rest) tail =
+    32 ∷ 32 ∷ 32 ∷ 32 ∷ 46 ∷ (a.id ++ (32 ∷ 61 ∷ pattern_bytes 1 a.value (lf ∷ more_attributes rest tail)))
 
 abbrev pub value_bytes : Option (PatternTree Text) → Text → Text
 value_bytes None tail = tail
