@@ -19,7 +19,8 @@ use Rattle.fluent_syntax_grammar.specs.Rules.{message_obeys, term_obeys, body_ob
 use Rattle.fluent_syntax_grammar.specs.Readable.{readable_rules}
 use Rattle.fluent_syntax_grammar.specs.Joined.{joined_message, joined_term, joined_body}
 use Rattle.fluent_syntax_grammar.specs.RoundTrip.{HasNoBareCr, HasNoCr, JoinedIsReadable, JoinedIsSame}
-use Rattle.fluent_syntax_grammar.proofs.Facts.{both, differs}
+use Rattle.fluent_syntax_grammar.proofs.Facts.{differs}
+use Rattle.fluent_syntax_grammar.proofs.Tests.{both}
 use Rattle.fluent_syntax_grammar.proofs.backward.Entries.{IsLines, IsMessage, IsTerm, IsEntry, ensures_entry}
 
 module _ (t : List ℕ) (Joins Junk : Type 0) where

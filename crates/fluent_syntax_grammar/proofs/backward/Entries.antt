@@ -26,7 +26,8 @@ use Rattle.fluent_syntax_grammar.specs.Rules.{option_obeys, pattern_obeys, attri
 use Rattle.fluent_syntax_grammar.specs.Readable.{has_field, are_lines, readable_rules}
 use Rattle.fluent_syntax_grammar.specs.Joined.{joined_pattern, joined_attribute}
 use Rattle.fluent_syntax_grammar.specs.RoundTrip.{HasNoBareCr}
-use Rattle.fluent_syntax_grammar.proofs.Facts.{left_true, right_true, both}
+use Rattle.fluent_syntax_grammar.proofs.Facts.{left_true, right_true}
+use Rattle.fluent_syntax_grammar.proofs.Tests.{both}
 use Rattle.fluent_syntax_grammar.proofs.backward.Lines.{range_none, range_all}
 use Rattle.fluent_syntax_grammar.proofs.backward.Words.{IsName}
 use Rattle.fluent_syntax_grammar.proofs.backward.Rules.{Ensures, ensures_bind, ensures_then, ensures_gives}

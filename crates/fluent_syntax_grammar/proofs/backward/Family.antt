@@ -35,7 +35,8 @@ use Rattle.fluent_syntax_grammar.specs.RoundTrip.{HasNoBareCr}
 use Rattle.fluent_syntax_grammar.proofs.Holds.{gave}
 use Rattle.fluent_syntax_grammar.proofs.Cuts.{eol_cases}
 use Rattle.fluent_syntax_grammar.proofs.Functional.{single_stretch}
-use Rattle.fluent_syntax_grammar.proofs.Facts.{byte_stands, both, differs, lt_or_same}
+use Rattle.fluent_syntax_grammar.proofs.Facts.{byte_stands, differs, lt_or_same}
+use Rattle.fluent_syntax_grammar.proofs.Tests.{both}
 use Rattle.fluent_syntax_grammar.proofs.backward.Shapes.{Kept, kept_cut, shape_cut, tree, Well, items_well, items_same}
 use Rattle.fluent_syntax_grammar.proofs.backward.Shapes.{Shape}
 use Rattle.fluent_syntax_grammar.proofs.backward.Lines.{IsEnd, PiecesAt, no_piece, a_run, a_placeable, EndingAt}

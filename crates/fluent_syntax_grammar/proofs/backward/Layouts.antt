@@ -15,7 +15,8 @@ use Rattle.fluent_syntax_grammar.specs.Readable.{is_empty, after_spaces, begins_
 use Rattle.fluent_syntax_grammar.specs.Readable.{after_placeable}
 use Rattle.fluent_syntax_grammar.specs.RoundTrip.{HasNoBareCr}
 use Rattle.fluent_syntax_grammar.proofs.Facts.{byte_found, byte_stands, implies, left_true, right_true, differs}
-use Rattle.fluent_syntax_grammar.proofs.Facts.{or_cases, equal, two_on}
+use Rattle.fluent_syntax_grammar.proofs.Facts.{equal, two_on}
+use Rattle.fluent_syntax_grammar.proofs.Tests.{or_cases}
 use Rattle.fluent_syntax_grammar.proofs.Functional.{single_stretch}
 use Rattle.fluent_syntax_grammar.proofs.backward.Texts.{is_plain, shows, Begins}
 use Rattle.fluent_syntax_grammar.proofs.backward.Shapes.{places, runs, ends_line, blank_line, joins, Shape, done, more}

@@ -35,7 +35,8 @@ use Rattle.fluent_syntax_grammar.specs.Rules.{inlines_obey, nameds_obey, variant
 use Rattle.fluent_syntax_grammar.specs.Readable.{is_argument_value, are_named_well, defaults, readable_rules}
 use Rattle.fluent_syntax_grammar.specs.Joined.{joined_inline, joined_maybe, joined_arguments, joined_inlines}
 use Rattle.fluent_syntax_grammar.specs.Joined.{joined_nameds, joined_variants, joined_pattern}
-use Rattle.fluent_syntax_grammar.proofs.Facts.{left_true, both}
+use Rattle.fluent_syntax_grammar.proofs.Facts.{left_true}
+use Rattle.fluent_syntax_grammar.proofs.Tests.{both}
 use Rattle.fluent_syntax_grammar.proofs.backward.Shapes.{IsRead}
 use Rattle.fluent_syntax_grammar.proofs.backward.Lines.{PiecesAt, LinesAt}
 use Rattle.fluent_syntax_grammar.proofs.backward.Words.{IsName, name_was, number_was, string_was}

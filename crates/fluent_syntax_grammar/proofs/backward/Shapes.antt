@@ -18,7 +18,8 @@ use Rattle.fluent_syntax_grammar.specs.Readable.{within_line, after_placeable, s
 use Rattle.fluent_syntax_grammar.specs.Readable.{are_elements, readable_rules}
 use Rattle.fluent_syntax_grammar.specs.Canonical.{is_lone_lf}
 use Rattle.fluent_syntax_grammar.specs.Joined.{is_joined, joined_expression, joined_pattern, joined_after}
-use Rattle.fluent_syntax_grammar.proofs.Facts.{left_true, right_true, both, equal, append_nothing}
+use Rattle.fluent_syntax_grammar.proofs.Facts.{left_true, right_true, equal, append_nothing}
+use Rattle.fluent_syntax_grammar.proofs.Tests.{both}
 use Rattle.fluent_syntax_grammar.proofs.backward.Texts.{is_plain, line_end, line_not_empty, plain_is_text, line_ends}
 use Rattle.fluent_syntax_grammar.proofs.backward.Texts.{plain_ends_not, shows, plain_nonblank, trimmed_of}
 use Rattle.fluent_syntax_grammar.proofs.backward.Texts.{trimmed_range, Begins, begins_kept, begins_stands, blank_stands}

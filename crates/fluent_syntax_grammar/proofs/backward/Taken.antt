@@ -12,7 +12,8 @@ use Rattle.fluent_syntax_grammar.specs.Construct.{Read, goes_on, given, at_place
 use Rattle.fluent_syntax_grammar.specs.Construct.{second}
 use Rattle.fluent_syntax_grammar.specs.Words.{identifier}
 use Rattle.fluent_syntax_grammar.specs.Spellings.{is_name}
-use Rattle.fluent_syntax_grammar.proofs.Facts.{right_true, both, implies}
+use Rattle.fluent_syntax_grammar.proofs.Facts.{right_true, implies}
+use Rattle.fluent_syntax_grammar.proofs.Tests.{both}
 use Rattle.fluent_syntax_grammar.proofs.forward.Words.{letter_in_name}
 use Rattle.fluent_syntax_grammar.proofs.Left.{Left, first, left_next, left_has}
 

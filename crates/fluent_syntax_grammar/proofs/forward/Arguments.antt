@@ -25,7 +25,8 @@ use Rattle.fluent_syntax_grammar.specs.Arguments.{argument_name, is_used, add_po
 use Rattle.fluent_syntax_grammar.specs.Arguments.{positional_and_more, named_and_more, argument_and_more}
 use Rattle.fluent_syntax_grammar.specs.Arguments.{more_arguments, argument_value}
 use Rattle.fluent_syntax_grammar.specs.Grammar.{family, inline_expression, call_arguments}
-use Rattle.fluent_syntax_grammar.proofs.Facts.{left_true, or_cases, equal, differ}
+use Rattle.fluent_syntax_grammar.proofs.Facts.{left_true, equal}
+use Rattle.fluent_syntax_grammar.proofs.Tests.{or_cases, differ}
 use Rattle.fluent_syntax_grammar.proofs.Nesting.{into_inline_expression, into_more_arguments}
 use Rattle.fluent_syntax_grammar.proofs.Left.{Left, left_as, first, left_first, left_has}
 use Rattle.fluent_syntax_grammar.proofs.forward.Reading.{Reads, Passes, reads_bind, reads_gives, passes_then}

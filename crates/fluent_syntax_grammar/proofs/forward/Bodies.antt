@@ -24,7 +24,8 @@ use Rattle.fluent_syntax_grammar.specs.Rules.{option_obeys, pattern_obeys, attri
 use Rattle.fluent_syntax_grammar.specs.Readable.{has_field, are_lines}
 use Rattle.fluent_syntax_grammar.specs.Canonical.{canonical_rules, is_canonical}
 use Rattle.fluent_syntax_grammar.specs.RoundTrip.{ReadsAs, tree_of}
-use Rattle.fluent_syntax_grammar.proofs.Facts.{left_true, right_true, differ}
+use Rattle.fluent_syntax_grammar.proofs.Facts.{left_true, right_true}
+use Rattle.fluent_syntax_grammar.proofs.Tests.{differ}
 use Rattle.fluent_syntax_grammar.proofs.Cuts.{block_forward}
 use Rattle.fluent_syntax_grammar.proofs.Left.{Left, left_as, left_whole, left_first, left_next, left_end}
 use Rattle.fluent_syntax_grammar.proofs.forward.Reading.{Reads, reads_into}

@@ -17,7 +17,8 @@ use Rattle.fluent_syntax_grammar.specs.Placeables.{has_arrow, selector_fault, is
 use Rattle.fluent_syntax_grammar.specs.Rules.{inline_obeys}
 use Rattle.fluent_syntax_grammar.specs.Canonical.{canonical_rules}
 use Rattle.fluent_syntax_grammar.specs.Grammar.{inline_expression, expression, placeable}
-use Rattle.fluent_syntax_grammar.proofs.Facts.{left_true, right_true, both, equal}
+use Rattle.fluent_syntax_grammar.proofs.Facts.{left_true, right_true, equal}
+use Rattle.fluent_syntax_grammar.proofs.Tests.{both}
 use Rattle.fluent_syntax_grammar.proofs.Nesting.{into_inline_expression}
 use Rattle.fluent_syntax_grammar.proofs.Left.{Left, left_first, is_blank_byte}
 use Rattle.fluent_syntax_grammar.proofs.forward.Reading.{Reads, Passes, reads_bind, reads_gives, passes_then}

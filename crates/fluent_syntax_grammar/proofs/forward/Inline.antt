@@ -20,7 +20,8 @@ use Rattle.fluent_syntax_grammar.specs.Spellings.{is_name, is_number, is_number_
 use Rattle.fluent_syntax_grammar.specs.Arguments as rules
 use Rattle.fluent_syntax_grammar.specs.Inline as rules'
 use Rattle.fluent_syntax_grammar.specs.Grammar.{inline_expression, call_arguments}
-use Rattle.fluent_syntax_grammar.proofs.Facts.{left_true, right_true, or_cases, equal, differ}
+use Rattle.fluent_syntax_grammar.proofs.Facts.{left_true, right_true, equal}
+use Rattle.fluent_syntax_grammar.proofs.Tests.{or_cases, differ}
 use Rattle.fluent_syntax_grammar.proofs.Left.{Left, first, left_first, left_next, left_past, left_blank, is_blank_byte}
 use Rattle.fluent_syntax_grammar.proofs.forward.Reading.{Reads, Passes, reads_bind, reads_gives, passes_then}
 use Rattle.fluent_syntax_grammar.proofs.forward.Reading.{passes_over, reads_at_each, reads_first, reads_second}

@@ -15,7 +15,8 @@ use Rattle.fluent_syntax_grammar.specs.Readable.{ends_plainly, ends_well, is_tex
 use Rattle.fluent_syntax_grammar.specs.Readable.{stand_after, leading_spaces, after_spaces, is_spaces, indents}
 use Rattle.fluent_syntax_grammar.specs.Canonical.{line_numbers, are_lone, text_numbers, placeable_numbers, is_lone_lf}
 use Rattle.fluent_syntax_grammar.specs.Elements.{is_nonblank, without_last_lf}
-use Rattle.fluent_syntax_grammar.proofs.Facts.{left_true, right_true, both, equal}
+use Rattle.fluent_syntax_grammar.proofs.Facts.{left_true, right_true, equal}
+use Rattle.fluent_syntax_grammar.proofs.Tests.{both}
 use Rattle.fluent_syntax_grammar.proofs.Left.{Left, left_as, first, left_next, left_past}
 use Rattle.fluent_syntax_grammar.proofs.marks.LastBytes.{last_append}
 use Rattle.fluent_syntax_grammar.proofs.forward.Spells.{text_first}

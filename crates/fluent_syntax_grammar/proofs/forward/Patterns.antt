@@ -25,7 +25,8 @@ use Rattle.fluent_syntax_grammar.specs.Readable.{Stand, opening, after_line, aft
 use Rattle.fluent_syntax_grammar.specs.Readable.{ends_in_lf, is_text, is_spaces, after_spaces, begins_with_space}
 use Rattle.fluent_syntax_grammar.specs.Readable.{indents, opens_well, begins_with_placeable}
 use Rattle.fluent_syntax_grammar.specs.Canonical.{line_numbers, are_flush, hides_mark, first_stand, is_flush}
-use Rattle.fluent_syntax_grammar.proofs.Facts.{left_true, right_true, right_false, both, differ, equal}
+use Rattle.fluent_syntax_grammar.proofs.Facts.{left_true, right_true, right_false, equal}
+use Rattle.fluent_syntax_grammar.proofs.Tests.{both, differ}
 use Rattle.fluent_syntax_grammar.proofs.Left.{Left, first, left_as, left_past, left_word, left_next, left_no_eol_after}
 use Rattle.fluent_syntax_grammar.proofs.forward.Reading.{Reads}
 use Rattle.fluent_syntax_grammar.proofs.marks.WrittenBytes.{element_bytes, elements_bytes, line_indent, pattern_bytes}

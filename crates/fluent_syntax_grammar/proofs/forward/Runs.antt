@@ -9,7 +9,8 @@ use Rattle.fluent_syntax_grammar.specs.Lines.{is_run_place}
 use Rattle.fluent_syntax_grammar.specs.Elements.{without_last_lf}
 use Rattle.fluent_syntax_grammar.specs.Written.{last_of, is_last, has_lf}
 use Rattle.fluent_syntax_grammar.specs.Readable.{is_text, is_brace, has_crlf}
-use Rattle.fluent_syntax_grammar.proofs.Facts.{left_true, right_true, both, equal}
+use Rattle.fluent_syntax_grammar.proofs.Facts.{left_true, right_true, equal}
+use Rattle.fluent_syntax_grammar.proofs.Tests.{both}
 use Rattle.fluent_syntax_grammar.proofs.Computed.{find_here, find_on}
 use Rattle.fluent_syntax_grammar.proofs.Left.{Left, first, left_first, left_next}
 use Rattle.fluent_syntax_grammar.proofs.forward.Spells.{last_from}

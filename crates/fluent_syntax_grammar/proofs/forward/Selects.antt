@@ -19,7 +19,8 @@ use Rattle.fluent_syntax_grammar.specs.Placeables.{arrow_line_end, has_arrow, se
 use Rattle.fluent_syntax_grammar.specs.Variants.{is_number_start, variant_key, variants_end, variant_and_more}
 use Rattle.fluent_syntax_grammar.specs.Variants.{variant_after}
 use Rattle.fluent_syntax_grammar.specs.Grammar.{family}
-use Rattle.fluent_syntax_grammar.proofs.Facts.{left_true, right_true, both, or_cases, equal, differ}
+use Rattle.fluent_syntax_grammar.proofs.Facts.{left_true, right_true, equal}
+use Rattle.fluent_syntax_grammar.proofs.Tests.{both, or_cases, differ}
 use Rattle.fluent_syntax_grammar.proofs.Nesting.{into_inline_expression, into_more_variants}
 use Rattle.fluent_syntax_grammar.proofs.Left.{Left, left_as, left_first, left_next, left_has}
 use Rattle.fluent_syntax_grammar.proofs.forward.Reading.{Reads, Passes, reads_bind, reads_gives, passes_nothing}

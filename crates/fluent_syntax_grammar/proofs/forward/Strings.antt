@@ -11,7 +11,8 @@ use Rattle.fluent_syntax_grammar.specs.Construct.{Read, ◌>>◌, over}
 use Rattle.fluent_syntax_grammar.specs.Strings.{HexDigits, hex_digits, all_there, escaped, string_unit, string_units}
 use Rattle.fluent_syntax_grammar.specs.Strings.{before_quote, unit_and_more, string_literal}
 use Rattle.fluent_syntax_grammar.specs.Spellings.{is_units, is_escape, is_string}
-use Rattle.fluent_syntax_grammar.proofs.Facts.{left_true, right_true, both, or_cases, equal}
+use Rattle.fluent_syntax_grammar.proofs.Facts.{left_true, right_true, equal}
+use Rattle.fluent_syntax_grammar.proofs.Tests.{both, or_cases}
 use Rattle.fluent_syntax_grammar.proofs.Left.{Left, left_as, left_first, left_next, left_past, left_has, left_each}
 use Rattle.fluent_syntax_grammar.proofs.forward.Reading.{Reads, Passes, reads_bind, reads_gives, passes_then}
 use Rattle.fluent_syntax_grammar.proofs.forward.Reading.{reads_here, reads_at_each, reads_first, reads_second}

@@ -10,7 +10,8 @@ use Rattle.fluent_syntax_grammar.specs.Places.{holds}
 use Rattle.fluent_syntax_grammar.specs.Construct.{Construct, ◌>>=◌, gives, either}
 use Rattle.fluent_syntax_grammar.specs.Words.{optional, digits, identifier, number}
 use Rattle.fluent_syntax_grammar.specs.Spellings.{is_name, is_digits, is_number_rest, is_unsigned, is_number}
-use Rattle.fluent_syntax_grammar.proofs.Facts.{left_true, right_true, both, or_cases, equal, differ}
+use Rattle.fluent_syntax_grammar.proofs.Facts.{left_true, right_true, equal}
+use Rattle.fluent_syntax_grammar.proofs.Tests.{both, or_cases, differ}
 use Rattle.fluent_syntax_grammar.proofs.Left.{Left, left_as, first, left_past, left_has, left_word}
 use Rattle.fluent_syntax_grammar.proofs.forward.Reading.{Reads, Passes, reads_bind, passes_nothing, passes_then}
 use Rattle.fluent_syntax_grammar.proofs.forward.Reading.{reads_here, passes_over, reads_at_each, reads_look}

@@ -10,7 +10,8 @@ use Rattle.fluent_syntax_grammar.specs.Written.{Text, Mark, literal, last_of, is
 use Rattle.fluent_syntax_grammar.specs.Written.{key_text}
 use Rattle.fluent_syntax_grammar.specs.Spellings.{is_name, is_digits, is_number_rest, is_unsigned, is_number, is_units}
 use Rattle.fluent_syntax_grammar.specs.Spellings.{is_escape, is_string}
-use Rattle.fluent_syntax_grammar.proofs.Facts.{left_true, right_true, both, or_cases, differ}
+use Rattle.fluent_syntax_grammar.proofs.Facts.{left_true, right_true}
+use Rattle.fluent_syntax_grammar.proofs.Tests.{both, or_cases, differ}
 use Rattle.fluent_syntax_grammar.proofs.forward.Words.{name_bytes}
 use Rattle.fluent_syntax_grammar.proofs.forward.Strings.{neither}
 use Rattle.fluent_syntax_grammar.proofs.forward.Selects.{key_obeys'}
