@@ -35,6 +35,7 @@ use Rattle.fluent_syntax_grammar.proofs.backward.Rules.{ensures_fails, ensures_a
 use Rattle.fluent_syntax_grammar.proofs.backward.Rules.{ensures_name}
 use Rattle.fluent_syntax_grammar.proofs.backward.Family as family_back
 use Rattle.fluent_syntax_grammar.proofs.backward.Family.{fine_family}
+use Rattle.fluent_syntax_grammar.proofs.Tests.{neither_left, not_false, not_true}
 
 -- ---- comments
 
@@ -46,42 +47,30 @@ no_lf_in (b ∷ v) e = step (b == lf) (list_all (λ b. not (b == lf)) v) (has_lf
     step false y z e f = f e
     step true y z e f = cc
 
-not_of : (x : Bool) → not x ≡ true → x ≡ false
-not_of false e = refl
-not_of true e = cc
-
-not_on : (x : Bool) → x ≡ false → not x ≡ true
-not_on false e = refl
-not_on true e = cc
-
-or_first : (x y : Bool) → (x || y) ≡ false → x ≡ false
-or_first false y e = refl
-or_first true y e = cc
-
 module _ (t : List ℕ) where
   abbrev pub IsLines : List Span → Type 0
   IsLines content = are_lines (map (bytes_at t) content) ≡ true
 
   line_byte : (o : Option ℕ) → is_some o ≡ true → holds (λ b. b == lf) o ≡ false → holds (λ b. not (b == lf)) o ≡ true
   line_byte None e f = cc
-  line_byte (Some b) e f = not_on (b == lf) f
+  line_byte (Some b) e f = not_false (b == lf) f
 
   -- a place within a line holds no LF
   line_place : (k : ℕ) → is_line_place t k ≡ true → has t (λ b. not (b == lf)) k ≡ true
   line_place k e =
       line_byte (slice_get t k) (left_true (is_some (slice_get t k)) (not (has_eol t k)) e)
-      (or_first (has_byte t lf k)
-      _ (not_of (has_eol t k) (right_true (is_some (slice_get t k)) (not (has_eol t k)) e)))
+      (neither_left (has_byte t lf k)
+      _ (not_true (has_eol t k) (right_true (is_some (slice_get t k)) (not (has_eol t k)) e)))
 
   line_read : (i j : ℕ) (s : Span) → rest_of_line t i (Read s j) → IsLines (s ∷ [])
   line_read i j s (goes_on at_place (goes_on (passed w) (goes_on at_place given))) =
-      both (not_on (has_lf (slice_range t i j))
+      both (not_false (has_lf (slice_range t i j))
       (no_lf_in (slice_range t i j)
       (range_all t (λ b. not (b == lf)) i j w.forward (λ k x y. line_place k (w.each k x y))))) refl
 
   empty_read : (i j : ℕ) (s : Span) → comment_text t true i (Read s j) → IsLines (s ∷ [])
   empty_read i j s (goes_on at_place (goes_on at_place given)) =
-      both (not_on (has_lf (slice_range t j j)) (ap has_lf (range_none t j))) refl
+      both (not_false (has_lf (slice_range t j j)) (ap has_lf (range_none t j))) refl
 
   ensures_text : (eol : Bool) → Ensures (comment_text t eol) (λ s. IsLines (s ∷ []))
   ensures_text true = record { on_read = empty_read }

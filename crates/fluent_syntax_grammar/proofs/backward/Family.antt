@@ -49,6 +49,7 @@ use Rattle.fluent_syntax_grammar.proofs.backward.Rules.{Ensures, ensures_bind, e
 use Rattle.fluent_syntax_grammar.proofs.backward.Rules.{ensures_fails, ensures_at_each, ensures_either, Fine, IsPattern}
 use Rattle.fluent_syntax_grammar.proofs.backward.Rules.{IsKey, IsVariants, IsFineFamily, ensures_name}
 use Rattle.fluent_syntax_grammar.proofs.backward.Rules.{ensures_placeable, inline_was, ensures_arguments}
+use Rattle.fluent_syntax_grammar.proofs.Tests.{neither_left, not_false}
 
 -- ---- the pattern that a layout gives
 
@@ -165,17 +166,9 @@ module _ (t : List ℕ) (Joins : Type 0) where
       is_run_place t i ≡ true
   run_begins i b e f g h =
       let no_lf : (b == lf) ≡ false =
-      ap (holds (λ c. c == lf)) (sym e) ∙ or_first (has_byte t lf i) (has_byte t cr i && has_byte t lf (i + 1)) f in
+      ap (holds (λ c. c == lf)) (sym e) ∙ neither_left (has_byte t lf i) (has_byte t cr i && has_byte t lf (i + 1)) f in
       both (byte_stands (λ b. not (b == lf || b == 123 || b == 125)) (slice_get t i) b e (rw (no_lf, h, g) refl))
-      (not_first (has_eol t i) f)
-    where
-      or_first : (x y : Bool) → (x || y) ≡ false → x ≡ false
-      or_first false y e = refl
-      or_first true y e = cc
-
-      not_first : (x : Bool) → x ≡ false → not x ≡ true
-      not_first false e = refl
-      not_first true e = cc
+      (not_false (has_eol t i) f)
 
 module _ (t : List ℕ) (bare : HasNoBareCr t) (Joins : Type 0) (crs : (i : ℕ) → has_byte t cr i ≡ true → Joins)
     (R : Family) (h : IsFineFamily t Joins R) where

@@ -27,14 +27,7 @@ use Rattle.fluent_syntax_grammar.proofs.backward.Lines.{range_last, byte_at, Pie
 use Rattle.fluent_syntax_grammar.proofs.backward.Lines.{EndingAt, lf_ends, crlf_ends, text_ends, LineAt, LinesAt}
 use Rattle.fluent_syntax_grammar.proofs.backward.Lines.{a_line, LayoutAt, on_line, below}
 use Rattle.fluent_syntax_grammar.proofs.backward.Layouts.{LineText, HeadAt, head_at, run_text, no_line_at_end, IsSpare}
-
-or_left : (x y : Bool) → x ≡ true → (x || y) ≡ true
-or_left true y e = refl
-or_left false y e = cc
-
-or_right : (x y : Bool) → y ≡ true → (x || y) ≡ true
-or_right true y e = refl
-or_right false y e = e
+use Rattle.fluent_syntax_grammar.proofs.Tests.{or_left, or_right}
 
 or_apart : (x y : Bool) → (x || y) ≡ true → (x ≡ true) ⊎ (y ≡ true)
 or_apart true y e = inl refl

@@ -25,14 +25,11 @@ use Rattle.fluent_syntax_grammar.proofs.backward.Lines.{range_first, range_last,
 use Rattle.fluent_syntax_grammar.proofs.backward.Lines.{PiecesAt, no_piece, a_run, a_placeable, EndingAt, lf_ends}
 use Rattle.fluent_syntax_grammar.proofs.backward.Lines.{crlf_ends, text_ends, LineAt, LinesAt, a_line, LayoutAt}
 use Rattle.fluent_syntax_grammar.proofs.backward.Lines.{on_line, below}
+use Rattle.fluent_syntax_grammar.proofs.Tests.{not_true, or_true}
 
 byte_of : (test : ℕ → Bool) (o : Option ℕ) (b : ℕ) → o ≡ Some b → holds test o ≡ true → test b ≡ true
 byte_of test None b e f = cc
 byte_of test (Some c) b e f = let same : c ≡ b = cc in subst (λ b. test b ≡ true) same f
-
-not_of : (x : Bool) → not x ≡ true → x ≡ false
-not_of false e = refl
-not_of true e = cc
 
 -- a byte that is no LF and no brace, and no CR, is plain
 plain_of : (b : ℕ) → not (b == lf || b == 123 || b == 125) ≡ true → (b == cr) ≡ false → is_plain b ≡ true
@@ -67,10 +64,6 @@ After t Joins m text_end rest = rest ≡ []
 module _ (t : List ℕ) (bare : HasNoBareCr t) where
   eol_of : (i : ℕ) → has_byte t cr i ≡ true → has_byte t lf (i + 1) ≡ true → has_eol t i ≡ true
   eol_of i e f = rw (e, f) (or_true (has_byte t lf i))
-    where
-      or_true : (x : Bool) → (x || true) ≡ true
-      or_true true = refl
-      or_true false = refl
 
   no_cr : (i b : ℕ) (x : Bool) → (b == cr) ≡ x → slice_get t i ≡ Some b → has_eol t i ≡ false → (b == cr) ≡ false
   no_cr i b false e f g = e
@@ -82,7 +75,7 @@ module _ (t : List ℕ) (bare : HasNoBareCr t) where
       let b =
       byte_found (λ b. not (b == lf || b == 123 || b == 125)) (slice_get t i) (left_true _ (not (has_eol t i)) e) in
       let f =
-      not_of (has_eol t i)
+      not_true (has_eol t i)
       (right_true (has t (λ b. not (b == lf || b == 123 || b == 125)) i) (not (has_eol t i)) e) in
       byte_stands is_plain (slice_get t i) b.0 b.1 (plain_of b.0 b.2 (no_cr i b.0 (b.0 == cr) refl b.1 f))
 
@@ -91,7 +84,7 @@ module _ (t : List ℕ) (bare : HasNoBareCr t) where
       slice_get t i ≡ Some b → is_leading_mark b ≡ false
   own_mark true i b e f g = elim (or_cases (has_eol t i) _ e) [
     | inl h ↦ differs h
-        (not_of (has_eol t i) (right_true (has t (λ b. not (b == lf || b == 123 || b == 125)) i) (not (has_eol t i)) f))
+        (not_true (has_eol t i) (right_true (has t (λ b. not (b == lf || b == 123 || b == 125)) i) (not (has_eol t i)) f))
     | inr h ↦ no_mark b (byte_of _ (slice_get t i) b g h)
   ]
   own_mark false i b e f g =
@@ -99,7 +92,7 @@ module _ (t : List ℕ) (bare : HasNoBareCr t) where
       elim (or_cases (has_eol t i || has_byte t 123 i) (has_byte t cr i) e) [
         | inl h ↦ elim (or_cases (has_eol t i) (has_byte t 123 i) h) [
           | inl k ↦ differs k
-              (not_of (has_eol t i)
+              (not_true (has_eol t i)
               (right_true (has t (λ b. not (b == lf || b == 123 || b == 125)) i) (not (has_eol t i)) f))
           | inr k ↦ absurd (plain_not b 123 refl (byte_of _ (slice_get t i) b g k) plain)
         ]

@@ -1,6 +1,6 @@
 -- What was read is fine: expressions, over a family whose constructs give what is fine.
 use Rattle.std.proofs.Common.{◌≡◌, ℕ, ◌+◌, List, [], ◌∷◌, Option, Some, None, Bool, true, false, refl, ◌∙◌, subst, ap}
-use Rattle.std.specs.Prelude.{◌==◌, not, nat_le, is_none, slice_get, if◌then◌else◌}
+use Rattle.std.specs.Prelude.{◌==◌, nat_le, is_none, slice_get, if◌then◌else◌}
 use Rattle.std.specs.List.{list_all}
 use Rattle.fluent_syntax_tree.specs.Kind.{Kind}
 use Rattle.fluent_syntax_tree.specs.Spans.{bytes_at}
@@ -40,6 +40,7 @@ use Rattle.fluent_syntax_grammar.proofs.Tests.{both}
 use Rattle.fluent_syntax_grammar.proofs.backward.Shapes.{IsRead}
 use Rattle.fluent_syntax_grammar.proofs.backward.Lines.{PiecesAt, LinesAt}
 use Rattle.fluent_syntax_grammar.proofs.backward.Words.{IsName, name_was, number_was, string_was}
+use Rattle.fluent_syntax_grammar.proofs.Tests.{not_false}
 
 -- ---- what a construct gives is good, wherever it is read
 
@@ -237,10 +238,6 @@ module _ (t : List ℕ) (Joins : Type 0) (R : Family) (h : IsFineFamily t Joins 
         obeys = both (both (ap is_none (selector_same t Joins e ∙ k)) g.one) (both f.obeys v.obeys);
         same = λ none. cc (f.same none, v.same none);
       }
-
-  not_false : (b : Bool) → b ≡ false → not b ≡ true
-  not_false false e = refl
-  not_false true e = cc
 
   fine_inline : (e : InlineTree Span) → IsInline t Joins e → is_term_attribute e ≡ false → IsRead t Joins (inline e)
   fine_inline e f k =

@@ -18,18 +18,11 @@ use Rattle.fluent_syntax_grammar.proofs.Facts.{byte_found, byte_inside, byte_sta
 use Rattle.fluent_syntax_grammar.proofs.Tests.{both}
 use Rattle.fluent_syntax_grammar.proofs.backward.Taken.{name_was_read}
 use Rattle.fluent_syntax_grammar.proofs.backward.Lines.{range_first, range_none, range_all, byte_at}
+use Rattle.fluent_syntax_grammar.proofs.Tests.{or_first, or_left, or_right, or_second, or_third}
 
 -- the name's bytes are a name
 abbrev pub IsName : List ℕ → Span → Type 0
 IsName t s = is_name (bytes_at t s) ≡ true
-
-or_left : (x y : Bool) → x ≡ true → (x || y) ≡ true
-or_left true y e = refl
-or_left false y e = cc
-
-or_right : (x y : Bool) → y ≡ true → (x || y) ≡ true
-or_right true y e = refl
-or_right false y e = e
 
 module _ (t : List ℕ) where
   pub name_was : (i j : ℕ) (s : Span) → identifier t i (Read s j) → IsName t s
@@ -179,20 +172,6 @@ module _ (t : List ℕ) where
       ap (is_units 0) (range_first t i j 92 (omega arith) e)
       ∙ or_left (is_escape (slice_range t (i + 1) j)) _ (ap is_escape r ∙ h)
 
-  one_of : (x y z : Bool) → x ≡ true → (x || y || z) ≡ true
-  one_of true y z e = refl
-  one_of false y z e = cc
-
-  two_of : (x y z : Bool) → y ≡ true → (x || y || z) ≡ true
-  two_of true y z e = refl
-  two_of false true z e = refl
-  two_of false false z e = cc
-
-  three_of : (x y z : Bool) → z ≡ true → (x || y || z) ≡ true
-  three_of true y z e = refl
-  three_of false true z e = refl
-  three_of false false z e = e
-
   hex_on : (w i m : ℕ) (u : Unit {0}) → hex_digits t w i (Read u m) → m ≡ i + w
   hex_on w i m u (all_there h e) = e
 
@@ -206,7 +185,7 @@ module _ (t : List ℕ) where
         on = omega arith;
         more =
             λ j l r. two_on i j c f e (omega arith)
-            (one_of ((c == 92 || c == 34 || c == 123) && is_units 0 (slice_range t (i + 2) j))
+            (or_first ((c == 92 || c == 34 || c == 123) && is_units 0 (slice_range t (i + 2) j))
             (c == 117 && is_units 4 (slice_range t (i + 2) j)) (c == 85 && is_units 6 (slice_range t (i + 2) j))
             (both g (subst (λ k. is_units 0 (slice_range t k j) ≡ true) by r)));
       }
@@ -217,7 +196,7 @@ module _ (t : List ℕ) where
         on = omega arith;
         more =
             λ j l r. two_on i j c f e (omega arith)
-            (two_of ((c == 92 || c == 34 || c == 123) && is_units 0 (slice_range t (i + 2) j))
+            (or_second ((c == 92 || c == 34 || c == 123) && is_units 0 (slice_range t (i + 2) j))
             (c == 117 && is_units 4 (slice_range t (i + 2) j)) (c == 85 && is_units 6 (slice_range t (i + 2) j))
             (both h (subst (λ k. is_units 4 (slice_range t k j) ≡ true) by (hex_was 4 k j m u y l r))));
       }
@@ -228,7 +207,7 @@ module _ (t : List ℕ) where
         on = omega arith;
         more =
             λ j l r. two_on i j c f e (omega arith)
-            (three_of ((c == 92 || c == 34 || c == 123) && is_units 0 (slice_range t (i + 2) j))
+            (or_third ((c == 92 || c == 34 || c == 123) && is_units 0 (slice_range t (i + 2) j))
             (c == 117 && is_units 4 (slice_range t (i + 2) j)) (c == 85 && is_units 6 (slice_range t (i + 2) j))
             (both n (subst (λ k. is_units 6 (slice_range t k j) ≡ true) by (hex_was 6 k j m u y l r))));
       }

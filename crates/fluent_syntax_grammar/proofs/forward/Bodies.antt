@@ -1,7 +1,7 @@
 -- Bodies, read forwards: entries one after the other, tiled from the start of the text to its end.
 use Rattle.std.proofs.Common.{◌≡◌, ℕ, ◌+◌, ◌<◌, List, [], ◌∷◌, ◌++◌, length, map, Option, Some, None, Bool, true, false}
 use Rattle.std.proofs.Common.{refl, sym, ◌∙◌, subst, ap, arith}
-use Rattle.std.specs.Prelude.{◌==◌, ◌&&◌, ◌||◌}
+use Rattle.std.specs.Prelude.{◌==◌, ◌&&◌}
 use Rattle.std.specs.List.{list_all}
 use Rattle.std.proofs.lemmas.Bool.Decides.{nat_tests}
 use Rattle.fluent_syntax_tree.specs.Tree.{PatternTree}
@@ -37,6 +37,7 @@ use Rattle.fluent_syntax_grammar.proofs.marks.WrittenEntries.{after_hashes, comm
 use Rattle.fluent_syntax_grammar.proofs.marks.WrittenEntries.{own_comment_bytes, value_bytes, message_bytes, term_bytes}
 use Rattle.fluent_syntax_grammar.proofs.forward.Fields.{message_back, term_back}
 use Rattle.fluent_syntax_grammar.proofs.forward.Comments.{comment_back}
+use Rattle.fluent_syntax_grammar.proofs.Tests.{or_third}
 
 -- ---- what a body is written as
 
@@ -127,11 +128,6 @@ free_comment edition t i j k regular c (dropped ∷ tiles) n (next b l a m) = el
 
 hash_begins : (c : ℕ) → (c == 35) ≡ true → is_entry_byte c ≡ true
 hash_begins c e = or_third (is_letter c) (c == 45) (c == 35) e
-  where
-    or_third : (x y z : Bool) → z ≡ true → (x || y || z) ≡ true
-    or_third true y z e = refl
-    or_third false true z e = refl
-    or_third false false z e = e
 
 module _ (edition : Edition) (t : List ℕ) where
   entry_within : (i b : ℕ) (bs : List ℕ) → Left t i (b ∷ bs) → i < length t

@@ -21,16 +21,8 @@ use Rattle.fluent_syntax_grammar.proofs.Left.{Left, first, left_first, left_next
 use Rattle.fluent_syntax_grammar.proofs.forward.Reading.{Reads, Passes, reads_bind, reads_gives, reads_at_each}
 use Rattle.fluent_syntax_grammar.proofs.forward.Reading.{reads_here, passes_then, passes_over, passes_token}
 use Rattle.fluent_syntax_grammar.proofs.forward.Reading.{reads_spanned}
-use Rattle.fluent_syntax_grammar.proofs.forward.Runs.{not_false}
 use Rattle.fluent_syntax_grammar.proofs.marks.WrittenEntries.{doubled, after_hashes, comment_bytes}
-
-or_left : (x y : Bool) → (x || y) ≡ false → x ≡ false
-or_left false y e = refl
-or_left true y e = cc
-
-or_right : (x y : Bool) → (x || y) ≡ false → y ≡ false
-or_right false y e = e
-or_right true y e = cc
+use Rattle.fluent_syntax_grammar.proofs.Tests.{neither_left, neither_right, not_true}
 
 -- ---- the end of a line
 
@@ -69,15 +61,15 @@ left_line t [] tail i e l = let s : i ≡ i + 0 = omega arith in
 left_line t (x ∷ []) tail i e l =
     let n = left_next l in
     find_on (is_line_place t) i (i + 1)
-    (line_place t i x (doubled (x == cr) tail) (or_left (x == lf) false e) (last_safe (x == cr) tail) l)
+    (line_place t i x (doubled (x == cr) tail) (neither_left (x == lf) false e) (last_safe (x == cr) tail) l)
     (find_here (is_line_place t) (i + 1) (i + 1) (doubled_end t (x == cr) (i + 1) tail n) refl)
 left_line t (x ∷ y ∷ xs) tail i e l =
     let s : (i + 1) + length (y ∷ xs) ≡ i + length (x ∷ y ∷ xs) = omega arith in
-    let more = or_right (x == lf) (has_lf (y ∷ xs)) e in
+    let more = neither_right (x == lf) (has_lf (y ∷ xs)) e in
     subst (λ n. Stretch (is_line_place t) i n) s
     (find_on (is_line_place t) i
-    _ (line_place t i x _ (or_left (x == lf) (has_lf (y ∷ xs)) e)
-    (and_no (x == cr) (y == lf) (or_left (y == lf) (has_lf xs) more)) l)
+    _ (line_place t i x _ (neither_left (x == lf) (has_lf (y ∷ xs)) e)
+    (and_no (x == cr) (y == lf) (neither_left (y == lf) (has_lf xs) more)) l)
     (left_line t (y ∷ xs) tail (i + 1) more (left_next l)))
 
 -- ---- hashes
@@ -180,7 +172,7 @@ module _ (t : List ℕ) where
   lines_back level (line ∷ lines) i tail p a e l =
       let one =
       line_back level line i (comment_bytes (hashes_of level) lines tail) (left_true (is_plain_line line) _ p)
-      (not_false (has_lf line) (left_true (not (has_lf line)) _ a)) l in
+      (not_true (has_lf line) (left_true (not (has_lf line)) _ a)) l in
       let others =
       lines_back level lines one.end tail (right_true (is_plain_line line) _ p) (right_true (not (has_lf line)) _ a)
       e one.rest in
@@ -212,7 +204,7 @@ module _ (t : List ℕ) where
       (hash_count t level i (after_hashes (is_shown line) line (comment_bytes (hashes_of level) lines tail))
       (after_no_hash line (is_shown line) (comment_bytes (hashes_of level) lines tail)) l)
       (reads_bind (line_back level line i (comment_bytes (hashes_of level) lines tail)
-      (left_true (is_plain_line line) _ p) (not_false (has_lf line) (left_true (not (has_lf line)) _ a)) l)
+      (left_true (is_plain_line line) _ p) (not_true (has_lf line) (left_true (not (has_lf line)) _ a)) l)
       (λ x j f m.
       reads_bind (lines_back level lines j tail (right_true (is_plain_line line) _ p)
       (right_true (not (has_lf line)) _ a) e m)

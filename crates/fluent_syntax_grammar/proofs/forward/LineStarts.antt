@@ -1,8 +1,8 @@
 -- The later lines of a written pattern, read forwards: each begins with the indent of its level, and then with a text
 -- or a placeable.
-use Rattle.std.proofs.Common.{◌≡◌, ℕ, ◌+◌, ◌-◌, ◌≤◌, ◌<◌, min, List, [], ◌∷◌, ◌++◌, length, Option, Some, Bool, true}
+use Rattle.std.proofs.Common.{◌≡◌, ℕ, ◌+◌, ◌-◌, ◌≤◌, ◌<◌, min, List, [], ◌∷◌, ◌++◌, length, Option, Some, true}
 use Rattle.std.proofs.Common.{false, refl, ◌∙◌, subst, ap, length-append, arith}
-use Rattle.std.specs.Prelude.{◌==◌, ◌||◌, not, nat_lt}
+use Rattle.std.specs.Prelude.{◌==◌, not, nat_lt}
 use Rattle.std.specs.List.{list_all, flat_map}
 use Rattle.std.proofs.lemmas.Bool.Decides.{nat_tests}
 use Rattle.fluent_syntax_tree.specs.Tree.{ExpressionTree, ElementTree, text_element, placeable, PatternTree, elements}
@@ -18,10 +18,7 @@ use Rattle.fluent_syntax_grammar.proofs.forward.Spells.{Spells, text_first}
 use Rattle.fluent_syntax_grammar.proofs.forward.Lines.{is_mark_byte, line_of, reads_own, reads_no_pieces, lf_eol}
 use Rattle.fluent_syntax_grammar.proofs.forward.Lines.{belongs_eol}
 use Rattle.fluent_syntax_grammar.proofs.forward.Pieces.{Mid, Starts, Run}
-
-or_true : (x : Bool) → (x || true) ≡ true
-or_true true = refl
-or_true false = refl
+use Rattle.fluent_syntax_grammar.proofs.Tests.{or_true}
 
 less_on : (i n : ℕ) → 1 ≤ n → nat_lt i (i + n) ≡ true
 less_on i n l = grind (arith, nat_tests)

@@ -21,7 +21,7 @@ use Rattle.fluent_syntax_grammar.proofs.Left.{Left, left_as, first, left_next, l
 use Rattle.fluent_syntax_grammar.proofs.marks.LastBytes.{last_append}
 use Rattle.fluent_syntax_grammar.proofs.forward.Spells.{text_first}
 use Rattle.fluent_syntax_grammar.proofs.marks.WrittenBytes.{element_bytes, elements_bytes, line_indent}
-use Rattle.fluent_syntax_grammar.proofs.forward.Runs.{is_run_byte, TextForm, alone, with_lf, text_form, not_false}
+use Rattle.fluent_syntax_grammar.proofs.forward.Runs.{is_run_byte, TextForm, alone, with_lf, text_form}
 use Rattle.fluent_syntax_grammar.proofs.forward.Runs.{run_no_lf}
 use Rattle.fluent_syntax_grammar.proofs.forward.Lines.{Ends, reads_no_pieces, is_mark_byte}
 use Rattle.fluent_syntax_grammar.proofs.forward.Pieces.{Mid, Starts, Run, mid_end, mid_placeable, mid_run, run_end}
@@ -30,6 +30,7 @@ use Rattle.fluent_syntax_grammar.proofs.forward.LineStarts.{start_run, start_bla
 use Rattle.fluent_syntax_grammar.proofs.forward.LineStarts.{start_placeable_two, start_spaces_two}
 use Rattle.fluent_syntax_grammar.proofs.forward.Selects.{all_append, spaces_of}
 use Rattle.fluent_syntax_grammar.proofs.forward.OneLine.{ElementBack, ElementsBack, element_brace, plain_no_cr}
+use Rattle.fluent_syntax_grammar.proofs.Tests.{and_false, not_true, or_true}
 
 -- ---- the ends of texts
 
@@ -163,15 +164,7 @@ shown_nonblank : (gap : List ℕ) (b : ℕ) (bs : List ℕ) → is_space b ≡ f
 shown_nonblank [] b [] e f = rw (f, e) refl
 shown_nonblank [] b (c ∷ bs) e f = rw e refl
 shown_nonblank (x ∷ []) b bs e f = rw (shown_nonblank [] b bs e f) (or_true (not (is_space x)))
-  where
-    or_true : (a : Bool) → (a || true) ≡ true
-    or_true true = refl
-    or_true false = refl
 shown_nonblank (x ∷ y ∷ gap) b bs e f = rw (shown_nonblank (y ∷ gap) b bs e f) (or_true (not (is_space x)))
-  where
-    or_true : (a : Bool) → (a || true) ≡ true
-    or_true true = refl
-    or_true false = refl
 
 numbers_shown : (edition : Edition) (v : Text) → is_nonblank v ≡ true → text_numbers edition v ≡ leading_spaces v ∷ []
 numbers_shown One v e = rw e refl
@@ -330,7 +323,7 @@ no_mark_there : (edition : Edition) (v : Text) (es : PatternTree Text) (gap : Li
     stands_well edition true after_line v es ≡ true → begins_with_mark (b ∷ []) ≡ false
 no_mark_there edition v es gap b bs is a e g =
     sym (ap begins_with_mark (ap after_spaces is ∙ after_of gap b bs a e))
-    ∙ not_false (begins_with_mark (after_spaces v)) (right_true (not (is_spaces v) || indents edition v es) _ g)
+    ∙ not_true (begins_with_mark (after_spaces v)) (right_true (not (is_spaces v) || indents edition v es) _ g)
 
 pub all_last : (p : ℕ → Bool) (xs ys : List ℕ) → list_all p (xs ++ ys) ≡ true → list_all p ys ≡ true
 all_last p [] ys e = e
@@ -395,11 +388,7 @@ without_end (x ∷ y ∷ u) = ap (λ v. x ∷ v) (without_end (y ∷ u))
 
 pub no_spaces_end : (gap : List ℕ) → list_all is_space (gap ++ (lf ∷ [])) ≡ false
 no_spaces_end [] = refl
-no_spaces_end (x ∷ gap) = rw (no_spaces_end gap) (and_no (is_space x))
-  where
-    and_no : (b : Bool) → (b && false) ≡ false
-    and_no true = refl
-    and_no false = refl
+no_spaces_end (x ∷ gap) = rw (no_spaces_end gap) (and_false (is_space x))
 
 -- a blank line has no number
 blank_number : (edition : Edition) (v gap : List ℕ) → v ≡ gap ++ (lf ∷ []) → list_all is_space gap ≡ true →

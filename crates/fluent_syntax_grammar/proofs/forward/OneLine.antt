@@ -29,9 +29,9 @@ use Rattle.fluent_syntax_grammar.proofs.forward.Reading.{Reads}
 use Rattle.fluent_syntax_grammar.proofs.forward.Spells.{spelled_pattern}
 use Rattle.fluent_syntax_grammar.proofs.marks.WrittenBytes.{element_bytes, elements_bytes, line_indent}
 use Rattle.fluent_syntax_grammar.proofs.forward.Runs.{is_run_byte, ends_in_cr_before, run_all, run_place, inside}
-use Rattle.fluent_syntax_grammar.proofs.forward.Runs.{not_false}
 use Rattle.fluent_syntax_grammar.proofs.forward.Lines.{Ends, reads_ending}
 use Rattle.fluent_syntax_grammar.proofs.forward.Pieces.{Mid, mid_end, mid_placeable, mid_run, run_end, run_more}
+use Rattle.fluent_syntax_grammar.proofs.Tests.{neither_left, neither_right, not_true, without}
 
 -- A placeable that is an element is read back.
 pub record ElementBack (edition : Edition) (t : List ℕ) (level : ℕ) (e : ExpressionTree Text) : Type 0 where
@@ -82,23 +82,11 @@ plain_no_cr v e = last_no_cr (last_of None v) e
 
 no_lf_from : (c : ℕ) (v : List ℕ) → (c == lf) ≡ false → has_lf v ≡ false → is_last lf (last_of (Some c) v) ≡ false
 no_lf_from c [] e f = e
-no_lf_from c (b ∷ v) e f = no_lf_from b v (or_left (b == lf) (has_lf v) f) (or_right (b == lf) (has_lf v) f)
-  where
-    or_left : (x y : Bool) → (x || y) ≡ false → x ≡ false
-    or_left false y e = refl
-    or_left true y e = cc
-
-    or_right : (x y : Bool) → (x || y) ≡ false → y ≡ false
-    or_right false y e = e
-    or_right true y e = cc
+no_lf_from c (b ∷ v) e f = no_lf_from b v (neither_left (b == lf) (has_lf v) f) (neither_right (b == lf) (has_lf v) f)
 
 pub no_lf_end : (v : List ℕ) → has_lf v ≡ false → ends_in_lf v ≡ false
 no_lf_end [] e = refl
-no_lf_end (b ∷ v) e = no_lf_from b (b ∷ v) (first_no (b == lf) (has_lf v) e) e
-  where
-    first_no : (x y : Bool) → (x || y) ≡ false → x ≡ false
-    first_no false y e = refl
-    first_no true y e = cc
+no_lf_end (b ∷ v) e = no_lf_from b (b ∷ v) (neither_left (b == lf) (has_lf v) e) e
 
 module _ (edition : Edition) (t : List ℕ) (level : ℕ) (common : Option ℕ) (tail rest : List ℕ) (ends : Ends tail rest)
   where
@@ -107,7 +95,7 @@ module _ (edition : Edition) (t : List ℕ) (level : ℕ) (common : Option ℕ) 
 
     pub text_bytes : (v : Text) → is_text v ≡ true → has_lf v ≡ false → list_all is_run_byte v ≡ true
     text_bytes v e f =
-        run_all v (not_false (list_any is_brace v)
+        run_all v (not_true (list_any is_brace v)
         (left_true (not (list_any is_brace v)) _ (right_true (not (is_empty v)) _ e))) f
 
     text_ends : (v : Text) (i : ℕ) → is_text v ≡ true → has_lf v ≡ false → ends_plainly v ≡ true →
@@ -154,30 +142,25 @@ module _ (edition : Edition) (t : List ℕ) (level : ℕ) (common : Option ℕ) 
         (left_as x.are l)
         (h.0.back i (elements_bytes level false es (lf ∷ tail)) l) (λ j m. line_back es after_placeable j h.1 g f m)
     line_back (elements (text_element v) no_elements) s i h g f l =
-        text_ends v i (left_true (is_text v) _ g) (not_false (has_lf v) (left_true (not (has_lf v)) true f))
+        text_ends v i (left_true (is_text v) _ g) (not_true (has_lf v) (left_true (not (has_lf v)) true f))
         (left_true (ends_plainly v)
         _ (right_true (stands_well edition false s v no_elements) _ (right_true (is_text v) _ g))) l
     line_back (elements (text_element v) (elements (placeable e) es)) s i h g f l =
-        text_before v e es i (left_true (is_text v) _ g) (not_false (has_lf v) (left_true (not (has_lf v)) _ f))
+        text_before v e es i (left_true (is_text v) _ g) (not_true (has_lf v) (left_true (not (has_lf v)) _ f))
         (left_as (ap (λ b. v ++
         (line_indent level b ++ element_bytes level (placeable e) (elements_bytes level false es (lf ∷ tail))))
-        (no_lf_end v (not_false (has_lf v) (left_true (not (has_lf v)) _ f)))) l)
+        (no_lf_end v (not_true (has_lf v) (left_true (not (has_lf v)) _ f)))) l)
         (λ j m. line_back (elements (placeable e) es) (stand_after v) j h
         (right_true (stands_well edition false s v (elements (placeable e) es)) _ (right_true (is_text v) _ g))
         (right_true (not (has_lf v)) _ f) m)
     line_back (elements (text_element v) (elements (text_element w) es)) s i h g f l =
-        absurd (text_after_text v w es (not_false (has_lf v) (left_true (not (has_lf v)) _ f))
+        absurd (text_after_text v w es (not_true (has_lf v) (left_true (not (has_lf v)) _ f))
         (left_true (stands_well edition false (stand_after v) w es)
         _ (right_true (is_text w)
         _ (right_true (stands_well edition false s v (elements (text_element w) es))
         _ (right_true (is_text v) _ g)))))
 
 -- ---- the pattern
-
-no_eol_of : (x y : Bool) → (x && not y) ≡ true → y ≡ false
-no_eol_of true false e = refl
-no_eol_of true true e = absurd cc
-no_eol_of false y e = absurd cc
 
 eol_none : (x y : Bool) (a b : Option ℕ) → (x || y) ≡ false → (if x then a else if y then b else None) ≡ None
 eol_none false false a b e = refl
@@ -200,7 +183,7 @@ module _ (edition : Edition) (t : List ℕ) where
         no_space = s;
         no_eol =
             eol_none (has_byte t lf i) (has_byte t cr i && has_byte t lf (i + 1)) (Some (i + 1)) (Some (i + 2))
-            (no_eol_of _ (has_eol t i) on);
+            (without _ (has_eol t i) on);
       }
 
   pub opens_brace : (i : ℕ) (bs ys : List ℕ) → bs ≡ 123 ∷ ys → Left t i bs → OpensAt t i bs

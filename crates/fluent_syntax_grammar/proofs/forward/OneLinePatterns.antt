@@ -1,6 +1,6 @@
 -- Patterns that are not multiline are read back.
 use Rattle.std.proofs.Common.{◌≡◌, ℕ, ◌+◌, List, [], ◌∷◌, ◌++◌, Some, None, Bool, true, false, refl, ◌∙◌, ap}
-use Rattle.std.specs.Prelude.{◌||◌, ◌&&◌, option_map}
+use Rattle.std.specs.Prelude.{option_map}
 use Rattle.fluent_syntax_tree.specs.Tree.{ElementTree, text_element, placeable, PatternTree, no_elements, elements}
 use Rattle.fluent_syntax_tree.specs.Tree.{pattern_map}
 use Rattle.fluent_syntax_tree.specs.Spans.{bytes_at}
@@ -15,34 +15,22 @@ use Rattle.fluent_syntax_grammar.specs.Elements.{is_nonblank}
 use Rattle.fluent_syntax_grammar.proofs.Facts.{left_true, right_true}
 use Rattle.fluent_syntax_grammar.proofs.Left.{Left, left_as, left_next}
 use Rattle.fluent_syntax_grammar.proofs.marks.WrittenBytes.{element_bytes, elements_bytes, pattern_bytes, line_indent}
-use Rattle.fluent_syntax_grammar.proofs.forward.Runs.{not_false}
 use Rattle.fluent_syntax_grammar.proofs.forward.Lines.{Ends}
 use Rattle.fluent_syntax_grammar.proofs.forward.OneLine.{ElementsBack, has_no_lf, element_brace, plain_no_cr, no_lf_end}
 use Rattle.fluent_syntax_grammar.proofs.forward.OneLine.{text_bytes, text_after_text, line_back, OpensAt, opens_run}
 use Rattle.fluent_syntax_grammar.proofs.forward.OneLine.{opens_brace, opening_back}
 use Rattle.fluent_syntax_grammar.proofs.forward.Entries.{PatternBack}
-
-or_left : (x y : Bool) → (x || y) ≡ false → x ≡ false
-or_left false y e = refl
-or_left true y e = cc
-
-or_right : (x y : Bool) → (x || y) ≡ false → y ≡ false
-or_right false y e = e
-or_right true y e = cc
+use Rattle.fluent_syntax_grammar.proofs.Tests.{and_false, neither_left, neither_right, not_true}
 
 one_line_texts : (p : PatternTree Text) → is_multiline p ≡ false → has_no_lf p ≡ true
 one_line_texts no_elements e = refl
 one_line_texts (elements (text_element v) es) e =
-    rw (or_left (has_lf v) (is_multiline es) e) (one_line_texts es (or_right (has_lf v) (is_multiline es) e))
-one_line_texts (elements (placeable x) es) e = one_line_texts es (or_right _ (is_multiline es) e)
+    rw (neither_left (has_lf v) (is_multiline es) e) (one_line_texts es (neither_right (has_lf v) (is_multiline es) e))
+one_line_texts (elements (placeable x) es) e = one_line_texts es (neither_right _ (is_multiline es) e)
 
 one_line_bytes : (level : ℕ) (p : PatternTree Text) (tail : Text) → is_multiline p ≡ false →
     pattern_bytes level p tail ≡ space ∷ elements_bytes level false p tail
 one_line_bytes level p tail e = rw e refl
-
-and_no : (b : Bool) → (b && false) ≡ false
-and_no true = refl
-and_no false = refl
 
 opens_as : {t : List ℕ} {i : ℕ} {bs cs : List ℕ} → bs ≡ cs → OpensAt t i cs → OpensAt t i bs
 opens_as e o = record { no_space = rw e (o.no_space); no_eol = o.no_eol }
@@ -61,22 +49,22 @@ module _ (edition : Edition) (t : List ℕ) (level : ℕ) (tail rest : List ℕ)
       let is : is_text (b ∷ bs) ≡ true = left_true (is_text (b ∷ bs)) _ g in
       let more = right_true (is_text (b ∷ bs)) _ g in
       let begins =
-      not_false (is_space b)
+      not_true (is_space b)
       (right_true (is_nonblank (b ∷ bs)) _ (left_true (opens_well edition false (b ∷ bs) no_elements) _ more)) in
       let plain : ends_plainly (b ∷ bs) ≡ true =
       left_true (ends_plainly (b ∷ bs)) _ (right_true (opens_well edition false (b ∷ bs) no_elements) _ more) in
       opens_run edition t i b bs (lf ∷ tail) begins
-      (text_bytes edition t level None tail rest ends (b ∷ bs) is (or_left (has_lf (b ∷ bs)) false e))
+      (text_bytes edition t level None tail rest ends (b ∷ bs) is (neither_left (has_lf (b ∷ bs)) false e))
       (rw (plain_no_cr (b ∷ bs) plain) refl) l
   opens (elements (text_element (b ∷ bs)) (elements (placeable x) es)) i e g l n =
       let is : is_text (b ∷ bs) ≡ true = left_true (is_text (b ∷ bs)) _ g in
       let begins =
-      not_false (is_space b)
+      not_true (is_space b)
       (right_true (is_nonblank (b ∷ bs))
       _ (left_true (opens_well edition false (b ∷ bs) (elements (placeable x) es))
       _ (right_true (is_text (b ∷ bs)) _ g))) in
       let brace = element_brace level x (elements_bytes level false es (lf ∷ tail)) in
-      let no_lf : has_lf (b ∷ bs) ≡ false = or_left (has_lf (b ∷ bs)) (is_multiline (elements (placeable x) es)) e in
+      let no_lf : has_lf (b ∷ bs) ≡ false = neither_left (has_lf (b ∷ bs)) (is_multiline (elements (placeable x) es)) e in
       let are =
       ap (λ c. b ∷
       (bs ++
@@ -84,10 +72,10 @@ module _ (edition : Edition) (t : List ℕ) (level : ℕ) (tail rest : List ℕ)
       (no_lf_end (b ∷ bs) no_lf) ∙ ap (λ xs. b ∷ (bs ++ xs)) brace.are in
       opens_as are (opens_run edition t i b bs (123 ∷ brace.rest) begins
       (text_bytes edition t level None tail rest ends (b ∷ bs) is no_lf)
-      (and_no (is_last cr (last_of None (b ∷ bs)))) (left_as are l))
+      (and_false (is_last cr (last_of None (b ∷ bs)))) (left_as are l))
   opens (elements (text_element (b ∷ bs)) (elements (text_element w) es)) i e g l n =
       absurd (text_after_text edition t level None tail rest ends (b ∷ bs) w es
-      (or_left (has_lf (b ∷ bs)) (is_multiline (elements (text_element w) es)) e)
+      (neither_left (has_lf (b ∷ bs)) (is_multiline (elements (text_element w) es)) e)
       (left_true (stands_well edition false (stand_after (b ∷ bs)) w es)
       _ (right_true (is_text w)
       _ (right_true (opens_well edition false (b ∷ bs) (elements (text_element w) es))

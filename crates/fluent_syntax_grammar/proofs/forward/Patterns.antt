@@ -5,7 +5,7 @@ use Rattle.std.specs.Prelude.{replicate, option_map, ◌||◌, ◌&&◌, not}
 use Rattle.std.specs.List.{flat_map, list_all, list_any}
 use Rattle.fluent_syntax_tree.specs.declared.edition.Edition.TheVariants.{One, Two}
 use Rattle.fluent_syntax_grammar.proofs.forward.Runs.{is_run_byte, ends_in_cr_before, TextForm, alone, with_lf}
-use Rattle.fluent_syntax_grammar.proofs.forward.Runs.{text_form, not_false}
+use Rattle.fluent_syntax_grammar.proofs.forward.Runs.{text_form}
 use Rattle.fluent_syntax_tree.specs.Tree.{ExpressionTree, ElementTree, text_element, placeable, PatternTree}
 use Rattle.fluent_syntax_tree.specs.Tree.{no_elements, elements, pattern_map}
 use Rattle.fluent_syntax_tree.specs.Spans.{bytes_at}
@@ -41,6 +41,7 @@ use Rattle.fluent_syntax_grammar.proofs.forward.Multiline.{plain_not_line, blank
 use Rattle.fluent_syntax_grammar.proofs.forward.Multiline.{spaces_blank_text, run_ends_in, last_of_part, append_none}
 use Rattle.fluent_syntax_grammar.proofs.forward.Multiline.{run_part, no_text_after, text_is, text_stands}
 use Rattle.fluent_syntax_grammar.proofs.forward.Multiline.{text_ends_well, text_more}
+use Rattle.fluent_syntax_grammar.proofs.Tests.{and_false, not_true}
 
 -- ---- the least of the shifted numbers
 
@@ -250,11 +251,7 @@ module _ (edition : Edition) (t : List ℕ) (level : ℕ) (common : Option ℕ) 
       first_run edition t level tail i gap b bs (123 ∷ brace.rest)
       (all_append (indent level) gap (spaces_of (4 * level)) c) s
       (run_part edition t level common tail rest ends deep v gap b bs is a)
-      (no_lf_next (is_last cr (last_of None (b ∷ bs)))) (left_as are l)
-    where
-      no_lf_next : (b : Bool) → (b && false) ≡ false
-      no_lf_next true = refl
-      no_lf_next false = refl
+      (and_false (is_last cr (last_of None (b ∷ bs)))) (left_as are l)
   first_alone v (elements (text_element w) es) i g a gap more is c s l =
       absurd (no_text_after edition t level common tail rest ends deep v w es (run_ends_in v a)
       (text_more edition t level common tail rest ends deep opening v (elements (text_element w) es) g))
@@ -389,7 +386,7 @@ multiline_at edition t level e es false m a g f h deep i tail rest ends l =
     subst (λ s. are_flush (least (line_numbers edition s p)) s p ≡ true) (opened_stand p a m)
     (right_true (not (hides_mark p)) _ parts) in
     line_opened_back edition t level tail rest ends deep e es i
-    (not_false (hides_mark p) (left_true (not (hides_mark p)) _ parts)) m g flush h
+    (not_true (hides_mark p) (left_true (not (hides_mark p)) _ parts)) m g flush h
     (left_as (opened_bytes level p (lf ∷ tail) a m) l)
 
 -- A multiline pattern is read back, if its placeables are.

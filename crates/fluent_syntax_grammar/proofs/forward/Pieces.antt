@@ -1,7 +1,7 @@
 -- The elements of a written pattern, read forwards as the pieces and lines of a layout.
 use Rattle.std.proofs.Common.{◌≡◌, ℕ, suc, ◌+◌, ◌<◌, List, [], ◌∷◌, ◌++◌, length, Option, None, Bool, true, false, refl}
 use Rattle.std.proofs.Common.{sym, subst, arith}
-use Rattle.std.specs.Prelude.{◌==◌, ◌||◌, ◌&&◌, not}
+use Rattle.std.specs.Prelude.{◌==◌, ◌||◌, not}
 use Rattle.std.specs.List.{list_all, flat_map}
 use Rattle.fluent_syntax_tree.specs.Tree.{ExpressionTree, expression_map, ElementTree, text_element, placeable}
 use Rattle.fluent_syntax_tree.specs.Tree.{PatternTree, no_elements, elements}
@@ -26,6 +26,7 @@ use Rattle.fluent_syntax_grammar.proofs.forward.Reading.{Reads}
 use Rattle.fluent_syntax_grammar.proofs.forward.Spells.{Spells, nothing, last_text, text_first, placed_first}
 use Rattle.fluent_syntax_grammar.proofs.forward.Runs.{is_run_byte, ends_in_cr_before, left_run}
 use Rattle.fluent_syntax_grammar.proofs.forward.Lines.{Ends, after_back, reads_no_pieces, lf_cut}
+use Rattle.fluent_syntax_grammar.proofs.Tests.{and_false, without}
 
 -- From a place within a line on, the rest of a pattern is read: the pieces of this line and its LF, and the later
 -- lines. Under this common
@@ -127,11 +128,6 @@ module _ (edition : Edition) (t : List ℕ) where
 
   -- ---- runs
 
-  no_eol_inside : (x y : Bool) → (x && not y) ≡ true → y ≡ false
-  no_eol_inside true false e = refl
-  no_eol_inside true true e = absurd cc
-  no_eol_inside false y e = absurd cc
-
   third_false : (x y z : Bool) → not (x || y || z) ≡ true → (y ≡ false) × (z ≡ false)
   third_false false false false e = (refl, refl)
   third_false true y z e = absurd cc
@@ -143,7 +139,7 @@ module _ (edition : Edition) (t : List ℕ) where
       (family edition t).more_pieces i (Read (run i j ∷ ps) at)
   reads_run {i = i} {j = j} {b = b} ps at e l m w q =
       let f = third_false (b == lf) (b == 123) (b == 125) e in
-      let no_eol : has_eol t i ≡ false = no_eol_inside _ (has_eol t i) (w.each i (omega arith) m) in
+      let no_eol : has_eol t i ≡ false = without _ (has_eol t i) (w.each i (omega arith) m) in
       into_more_pieces edition t i
       _ (chosen (subst (λ o. pieces_at t (family edition t) o i (Read (run i j ∷ ps) at)) (sym (left_first l))
       (chosen (second no_eol
@@ -204,7 +200,7 @@ module _ (edition : Edition) (t : List ℕ) where
         end = m.end;
         reads_pieces =
             reads_run m.pieces m.at (left_true (is_run_byte b) (list_all is_run_byte bs) a) l (omega arith)
-            (left_run t (b ∷ bs) (123 ∷ more) i a (no_lf_next (is_last cr (last_of None (b ∷ bs)))) refl l)
+            (left_run t (b ∷ bs) (123 ∷ more) i a (and_false (is_last cr (last_of None (b ∷ bs)))) refl l)
             m.reads_pieces;
         ends = m.ends;
         reads_lines = m.reads_lines;
@@ -214,10 +210,6 @@ module _ (edition : Edition) (t : List ℕ) where
             es x n m.spells;
         counts = m.counts;
       }
-    where
-      no_lf_next : (b : Bool) → (b && false) ≡ false
-      no_lf_next true = refl
-      no_lf_next false = refl
 
   -- a text that ends its line, and the lines after it
   pub run_line :

@@ -14,6 +14,7 @@ use Rattle.fluent_syntax_grammar.proofs.Tests.{both}
 use Rattle.fluent_syntax_grammar.proofs.Computed.{find_here, find_on}
 use Rattle.fluent_syntax_grammar.proofs.Left.{Left, first, left_first, left_next}
 use Rattle.fluent_syntax_grammar.proofs.forward.Spells.{last_from}
+use Rattle.fluent_syntax_grammar.proofs.Tests.{neither_left, neither_right, not_true}
 
 -- a byte that no run ends at
 abbrev pub is_run_byte : ℕ → Bool
@@ -87,18 +88,10 @@ without_other (x ∷ y ∷ u) b e = ap (λ v. x ∷ v) (without_other (y ∷ u) 
 pub run_all : (v : List ℕ) → list_any is_brace v ≡ false → has_lf v ≡ false → list_all is_run_byte v ≡ true
 run_all [] e f = refl
 run_all (b ∷ v) e f =
-    both (byte_of (b == lf) (b == 123) (b == 125) (or_left (b == lf) (has_lf v) f)
-    (or_left (is_brace b) (list_any is_brace v) e))
-    (run_all v (or_right (is_brace b) (list_any is_brace v) e) (or_right (b == lf) (has_lf v) f))
+    both (byte_of (b == lf) (b == 123) (b == 125) (neither_left (b == lf) (has_lf v) f)
+    (neither_left (is_brace b) (list_any is_brace v) e))
+    (run_all v (neither_right (is_brace b) (list_any is_brace v) e) (neither_right (b == lf) (has_lf v) f))
   where
-    or_left : (x y : Bool) → (x || y) ≡ false → x ≡ false
-    or_left false y e = refl
-    or_left true y e = cc
-
-    or_right : (x y : Bool) → (x || y) ≡ false → y ≡ false
-    or_right false y e = e
-    or_right true y e = cc
-
     byte_of : (x y z : Bool) → x ≡ false → (y || z) ≡ false → not (x || y || z) ≡ true
     byte_of false false false e f = refl
     byte_of true y z e f = cc
@@ -119,19 +112,11 @@ no_cr_before x [] e = cr_of (x == cr) e
     cr_of : (b : Bool) → (b && true || false) ≡ false → b ≡ false
     cr_of true e = cc
     cr_of false e = refl
-no_cr_before x (y ∷ u) e = no_cr_before y u (or_second (x == cr && y == lf) (has_crlf ((y ∷ u) ++ (lf ∷ []))) e)
-  where
-    or_second : (x y : Bool) → (x || y) ≡ false → y ≡ false
-    or_second false y e = e
-    or_second true y e = cc
+no_cr_before x (y ∷ u) e = no_cr_before y u (neither_right (x == cr && y == lf) (has_crlf ((y ∷ u) ++ (lf ∷ []))) e)
 
 no_cr_of : (u : List ℕ) → has_crlf (u ++ (lf ∷ [])) ≡ false → is_last cr (last_of None u) ≡ false
 no_cr_of [] e = refl
 no_cr_of (x ∷ u) e = no_cr_before x u e
-
-pub not_false : (b : Bool) → not b ≡ true → b ≡ false
-not_false false e = refl
-not_false true e = cc
 
 form_at : (u : List ℕ) (b : ℕ) (x : Bool) → (b == lf) ≡ x → list_any is_brace (u ++ (b ∷ [])) ≡ false →
     has_crlf (u ++ (b ∷ [])) ≡ false → has_lf (without_last_lf (u ++ (b ∷ []))) ≡ false → TextForm (u ++ (b ∷ []))
@@ -148,10 +133,10 @@ pub text_form : (v : List ℕ) → is_text v ≡ true → TextForm v
 text_form [] e = absurd cc
 text_form (c ∷ v) e =
     let r = last_from c v in
-    let a = not_false (list_any is_brace (c ∷ v)) (left_true (not (list_any is_brace (c ∷ v))) _ e) in
+    let a = not_true (list_any is_brace (c ∷ v)) (left_true (not (list_any is_brace (c ∷ v))) _ e) in
     let b = right_true (not (list_any is_brace (c ∷ v))) _ e in
-    let d = not_false (has_crlf (c ∷ v)) (left_true (not (has_crlf (c ∷ v))) _ b) in
-    let g = not_false (has_lf (without_last_lf (c ∷ v))) (right_true (not (has_crlf (c ∷ v))) _ b) in
+    let d = not_true (has_crlf (c ∷ v)) (left_true (not (has_crlf (c ∷ v))) _ b) in
+    let g = not_true (has_lf (without_last_lf (c ∷ v))) (right_true (not (has_crlf (c ∷ v))) _ b) in
     subst TextForm (sym r.is)
     (form_at r.front r.byte (r.byte == lf) refl (subst (λ v. list_any is_brace v ≡ false) r.is a)
     (subst (λ v. has_crlf v ≡ false) r.is d) (subst (λ v. has_lf (without_last_lf v) ≡ false) r.is g))

@@ -36,6 +36,7 @@ use Rattle.fluent_syntax_grammar.proofs.forward.Expressions.{ExpressionBack, pas
 use Rattle.fluent_syntax_grammar.proofs.forward.Lines.{lf_after, stop, Stops, column, indented, is_mark_byte}
 use Rattle.fluent_syntax_grammar.proofs.forward.Lines.{is_column_byte}
 use Rattle.fluent_syntax_grammar.proofs.forward.Entries.{PatternBack}
+use Rattle.fluent_syntax_grammar.proofs.Tests.{and_false, or_left, or_right}
 
 -- a line that begins, perhaps after spaces, with a mark that is no pattern's
 stops_gap : (gap : List ℕ) (b : ℕ) (bs : List ℕ) → list_all is_space gap ≡ true → is_mark_byte b ≡ true →
@@ -134,18 +135,10 @@ module _ (edition : Edition) (t : List ℕ) where
       (reads_first refl
       (reads_bind (reads_number (b ∷ bs) (93 ∷ tail) e refl refl l) (λ s j f m. reads_gives (ap number_key f) m)))
     where
-      or_one : (x y : Bool) → x ≡ true → (x || y) ≡ true
-      or_one true y e = refl
-      or_one false y e = cc
-
-      or_two : (x y : Bool) → y ≡ true → (x || y) ≡ true
-      or_two true y e = refl
-      or_two false y e = e
-
       starts_number : (b : ℕ) (bs : List ℕ) → is_number (b ∷ bs) ≡ true → is_number_start b ≡ true
       starts_number b bs e = elim (or_cases (b == 45 && is_unsigned bs) (is_unsigned (b ∷ bs)) e) [
-        | inl f ↦ or_two (is_digit b) (b == 45) (left_true (b == 45) (is_unsigned bs) f)
-        | inr f ↦ or_one (is_digit b) (b == 45) (left_true (is_digit b) (is_number_rest bs) f)
+        | inl f ↦ or_right (is_digit b) (b == 45) (left_true (b == 45) (is_unsigned bs) f)
+        | inr f ↦ or_left (is_digit b) (b == 45) (left_true (is_digit b) (is_number_rest bs) f)
       ]
 
   key_begins : (key : KeyTree Text) (tail : Text) → key_obeys' key ≡ true → Begins (key_text key ++ tail)
@@ -210,10 +203,6 @@ module _ (edition : Edition) (t : List ℕ) where
         (from_bracket level starred false key value vs q close more a o p (same_starred h) x)))))));
   }
     where
-      and_false : (b : Bool) → (b && false) ≡ false
-      and_false true = refl
-      and_false false = refl
-
       or_false : (b : Bool) → b ≡ (b || false)
       or_false true = refl
       or_false false = refl

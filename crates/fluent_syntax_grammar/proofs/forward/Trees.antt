@@ -21,7 +21,6 @@ use Rattle.fluent_syntax_grammar.specs.Rules.{option_obeys, elements_obey, patte
 use Rattle.fluent_syntax_grammar.specs.Readable.{are_named_well, is_argument_value, is_expression, is_pattern, defaults}
 use Rattle.fluent_syntax_grammar.specs.Canonical.{canonical_rules, is_flush}
 use Rattle.fluent_syntax_grammar.proofs.Facts.{left_true, right_true, equal}
-use Rattle.fluent_syntax_grammar.proofs.forward.Runs.{not_false}
 use Rattle.fluent_syntax_grammar.proofs.forward.Arguments.{InlineBack, ListBack, nothing_back, positional_back}
 use Rattle.fluent_syntax_grammar.proofs.forward.Arguments.{named_back}
 use Rattle.fluent_syntax_grammar.proofs.forward.References.{MaybeBack, string_is_back, number_is_back, variable_is_back}
@@ -35,6 +34,7 @@ use Rattle.fluent_syntax_grammar.proofs.forward.OneLine.{ElementBack, ElementsBa
 use Rattle.fluent_syntax_grammar.proofs.forward.OneLinePatterns.{one_line_back}
 use Rattle.fluent_syntax_grammar.proofs.forward.Patterns.{multiline_back}
 use Rattle.fluent_syntax_grammar.proofs.forward.Entries.{PatternBack}
+use Rattle.fluent_syntax_grammar.proofs.Tests.{not_true}
 
 -- An argument list is read back.
 abbrev ListOf : (edition : Edition) (t : List ℕ) (level : ℕ) → ArgumentsTree Text → Type 0
@@ -120,7 +120,7 @@ module _ (edition : Edition) (t : List ℕ) where
   no_attribute : (e : InlineTree Text) → expression_obeys (canonical_rules edition) (inline e) ≡ true →
       is_term_attribute e ≡ false
   no_attribute e h =
-      not_false (is_term_attribute e)
+      not_true (is_term_attribute e)
       (left_true (not (is_term_attribute e)) true (left_true (not (is_term_attribute e) && true) _ h))
 
   inner : (e : InlineTree Text) → expression_obeys (canonical_rules edition) (inline e) ≡ true →
@@ -164,7 +164,7 @@ module _ (edition : Edition) (t : List ℕ) where
         ExpressionBack edition t level e
     expression_back level (inline e) h =
         inline_is_back edition t level e
-        (not_false (is_term_attribute e)
+        (not_true (is_term_attribute e)
         (left_true (not (is_term_attribute e)) true (left_true (not (is_term_attribute e) && true) _ h)))
         (inline_back level e (right_true (not (is_term_attribute e) && true) _ h))
     expression_back level (select e vs) h =
@@ -218,7 +218,7 @@ module _ (edition : Edition) (t : List ℕ) where
         let more = right_true (not (is_used name names)) _ g in
         named_back edition t level names name e ns (left_true (is_name name) _ this)
         (inline_back level e (right_true (is_name name) _ this))
-        (not_false (is_used name names) (left_true (not (is_used name names)) _ g))
+        (not_true (is_used name names) (left_true (not (is_used name names)) _ g))
         (left_true (is_argument_value e) _ more)
         (nameds_back level (name ∷ names) ns (right_true (is_argument_value e) _ more)
         (right_true (named_obeys (canonical_rules edition) (named_argument name e)) _ h))

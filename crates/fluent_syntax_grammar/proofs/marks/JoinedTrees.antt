@@ -32,13 +32,13 @@ use Rattle.fluent_syntax_grammar.specs.Joined.{joined_variants, joined_pattern, 
 use Rattle.fluent_syntax_grammar.specs.Joined.{joined_message, joined_term, joined_body}
 use Rattle.fluent_syntax_grammar.specs.RoundTrip.{ReadsBackJoined}
 use Rattle.fluent_syntax_grammar.proofs.Facts.{left_true, right_true, equal, append_nothing}
-use Rattle.fluent_syntax_grammar.proofs.forward.Runs.{not_false}
 use Rattle.fluent_syntax_grammar.proofs.forward.Bodies.{IsWritten, nothing, a_message, a_term, a_comment, reads_back}
 use Rattle.fluent_syntax_grammar.proofs.marks.WrittenBytes.{line_indent}
 use Rattle.fluent_syntax_grammar.proofs.marks.LastBytes.{last_append}
 use Rattle.fluent_syntax_grammar.proofs.marks.Words.{literal_after, literal_at}
 use Rattle.fluent_syntax_grammar.proofs.marks.Entries.{message_then, term_then, free_then, Starting, message_starts}
 use Rattle.fluent_syntax_grammar.proofs.marks.Entries.{term_starts, free_starts}
+use Rattle.fluent_syntax_grammar.proofs.Tests.{not_true}
 
 -- ---- marks that give the same text, whatever stands before and after them
 
@@ -136,7 +136,7 @@ two_as_one level (c ∷ v) ms last e =
 joined_parts : (v w : Text) → is_joined v w ≡ true → (w ≡ lf ∷ []) × (ends_in_lf v ≡ false)
 joined_parts v w e = (
   lone_is w (left_true (is_lone_lf w) (not (ends_in_lf v)) e),
-  not_false (ends_in_lf v) (right_true (is_lone_lf w) (not (ends_in_lf v)) e),
+  not_true (ends_in_lf v) (right_true (is_lone_lf w) (not (ends_in_lf v)) e),
 )
 
 -- a text, a lone LF and more

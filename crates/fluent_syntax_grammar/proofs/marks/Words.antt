@@ -18,6 +18,7 @@ use Rattle.fluent_syntax_grammar.proofs.forward.Selects.{key_obeys'}
 use Rattle.fluent_syntax_grammar.proofs.marks.WrittenBytes.{line_indent, closing_indent}
 use Rattle.fluent_syntax_grammar.proofs.marks.LastBytes.{Plain, none_plain, literal_then, literal_at_line, last_append}
 use Rattle.fluent_syntax_grammar.proofs.marks.LastBytes.{name_plain}
+use Rattle.fluent_syntax_grammar.proofs.Tests.{neither_left, neither_right, or_left, or_right}
 
 -- ---- how words end
 
@@ -36,18 +37,10 @@ all_plain p n m (b ∷ bs) e =
 abbrev is_number_byte : ℕ → Bool
 is_number_byte b = is_digit b || (b == 46 || b == 45)
 
-or_one : (x y : Bool) → x ≡ true → (x || y) ≡ true
-or_one true y e = refl
-or_one false y e = cc
-
-or_two : (x y : Bool) → y ≡ true → (x || y) ≡ true
-or_two true y e = refl
-or_two false y e = e
-
 digits_all : (v : Text) → list_all is_digit v ≡ true → list_all is_number_byte v ≡ true
 digits_all [] e = refl
 digits_all (b ∷ v) e =
-    both (or_one (is_digit b) (b == 46 || b == 45) (left_true (is_digit b) (list_all is_digit v) e))
+    both (or_left (is_digit b) (b == 46 || b == 45) (left_true (is_digit b) (list_all is_digit v) e))
     (digits_all v (right_true (is_digit b) (list_all is_digit v) e))
 
 fraction_all : (v : Text) → is_digits v ≡ true → list_all is_number_byte v ≡ true
@@ -57,24 +50,24 @@ fraction_all (b ∷ v) e = digits_all (b ∷ v) e
 rest_all : (v : Text) → is_number_rest v ≡ true → list_all is_number_byte v ≡ true
 rest_all [] e = refl
 rest_all (b ∷ v) e = elim (or_cases (is_digit b && is_number_rest v) (b == 46 && is_digits v) e) [
-  | inl f ↦ both (or_one (is_digit b) (b == 46 || b == 45) (left_true (is_digit b) (is_number_rest v) f))
+  | inl f ↦ both (or_left (is_digit b) (b == 46 || b == 45) (left_true (is_digit b) (is_number_rest v) f))
       (rest_all v (right_true (is_digit b) (is_number_rest v) f))
   | inr f ↦ both
-      (or_two (is_digit b) (b == 46 || b == 45) (or_one (b == 46) (b == 45) (left_true (b == 46) (is_digits v) f)))
+      (or_right (is_digit b) (b == 46 || b == 45) (or_left (b == 46) (b == 45) (left_true (b == 46) (is_digits v) f)))
       (fraction_all v (right_true (b == 46) (is_digits v) f))
 ]
 
 unsigned_all : (v : Text) → is_unsigned v ≡ true → list_all is_number_byte v ≡ true
 unsigned_all [] e = cc
 unsigned_all (b ∷ v) e =
-    both (or_one (is_digit b) (b == 46 || b == 45) (left_true (is_digit b) (is_number_rest v) e))
+    both (or_left (is_digit b) (b == 46 || b == 45) (left_true (is_digit b) (is_number_rest v) e))
     (rest_all v (right_true (is_digit b) (is_number_rest v) e))
 
 number_all : (v : Text) → is_number v ≡ true → list_all is_number_byte v ≡ true
 number_all [] e = cc
 number_all (b ∷ v) e = elim (or_cases (b == 45 && is_unsigned v) (is_unsigned (b ∷ v)) e) [
   | inl f ↦ both
-      (or_two (is_digit b) (b == 46 || b == 45) (or_two (b == 46) (b == 45) (left_true (b == 45) (is_unsigned v) f)))
+      (or_right (is_digit b) (b == 46 || b == 45) (or_right (b == 46) (b == 45) (left_true (b == 45) (is_unsigned v) f)))
       (unsigned_all v (right_true (b == 45) (is_unsigned v) f))
   | inr f ↦ unsigned_all (b ∷ v) f
 ]
@@ -130,15 +123,7 @@ mutual
 
 last_no_lf : (v : Text) (c : ℕ) → (c == lf) ≡ false → has_lf v ≡ false → is_last lf (last_of (Some c) v) ≡ false
 last_no_lf [] c e f = e
-last_no_lf (b ∷ v) c e f = last_no_lf v b (or_left (b == lf) (has_lf v) f) (or_right (b == lf) (has_lf v) f)
-  where
-    or_left : (x y : Bool) → (x || y) ≡ false → x ≡ false
-    or_left false y e = refl
-    or_left true y e = cc
-
-    or_right : (x y : Bool) → (x || y) ≡ false → y ≡ false
-    or_right false y e = e
-    or_right true y e = cc
+last_no_lf (b ∷ v) c e f = last_no_lf v b (neither_left (b == lf) (has_lf v) f) (neither_right (b == lf) (has_lf v) f)
 
 pub string_last : (v : Text) → is_string v ≡ true → is_last lf (last_of (Some 34) v) ≡ false
 string_last v e = last_no_lf v 34 refl (units_no_lf v zero e)
