@@ -1,24 +1,20 @@
 -- Where the first line of a pattern keeps spaces, another line has fewer: so the pattern spans lines.
 use Rattle.std.proofs.Common.{◌≡◌, ℕ, ◌+◌, ◌≤◌, List, [], ◌∷◌, ◌++◌, Option, None, Bool, true, false, refl, sym, ◌∙◌}
 use Rattle.std.proofs.Common.{subst, ap, arith, inl, inr}
-use Rattle.std.specs.Prelude.{◌==◌, ◌||◌, ◌⊎◌, if◌then◌else◌, slice_range}
+use Rattle.std.specs.Prelude.{◌==◌, ◌||◌, ◌⊎◌, slice_range}
 use Rattle.std.specs.List.{list_any, flat_map}
 use Rattle.std.proofs.lemmas.List.Folds.{list_any-append}
 use Rattle.fluent_syntax_tree.specs.Spans.{bytes_at}
 use Rattle.fluent_syntax_tree.specs.declared.edition.Edition.TheVariants.{One}
-use Rattle.fluent_syntax_tree.specs.Tree.{ExpressionTree, select, inline, InlineTree, string_literal, number_literal}
-use Rattle.fluent_syntax_tree.specs.Tree.{function_reference, message_reference, term_reference, variable_reference}
-use Rattle.fluent_syntax_tree.specs.Tree.{inline_placeable, expression_map, text_element, placeable, PatternTree}
-use Rattle.fluent_syntax_tree.specs.Tree.{no_elements, elements}
+use Rattle.fluent_syntax_tree.specs.Tree.{expression_map, PatternTree}
 use Rattle.fluent_syntax_grammar.specs.Bytes.{lf, cr}
 use Rattle.fluent_syntax_grammar.specs.Places.{has_byte}
 use Rattle.fluent_syntax_grammar.specs.Layout.{Piece, run, placed, Ending, lf_at, crlf_at, text_end, Line, Layout}
 use Rattle.fluent_syntax_grammar.specs.Layout.{counted_spaces, counted, least, common_indent}
 use Rattle.fluent_syntax_grammar.specs.Elements.{Item, text, filled, with_ending, kept_from, items_from, line_items}
 use Rattle.fluent_syntax_grammar.specs.Elements.{items, is_nonblank, stays, cut_before, cut}
-use Rattle.fluent_syntax_grammar.specs.Written.{Text, has_lf, is_select, holds_select, is_multiline}
-use Rattle.fluent_syntax_grammar.specs.Joined.{is_joined, joined_expression, joined_inline, joined_pattern}
-use Rattle.fluent_syntax_grammar.specs.Joined.{joined_after}
+use Rattle.fluent_syntax_grammar.specs.Written.{Text, has_lf, is_select, is_multiline}
+use Rattle.fluent_syntax_grammar.specs.Joined.{joined_pattern}
 use Rattle.fluent_syntax_grammar.specs.RoundTrip.{HasNoBareCr}
 use Rattle.fluent_syntax_grammar.proofs.Facts.{append_nothing}
 use Rattle.fluent_syntax_grammar.proofs.backward.Texts.{line_end, plain_nonblank}
@@ -27,63 +23,8 @@ use Rattle.fluent_syntax_grammar.proofs.backward.Lines.{range_last, byte_at, Pie
 use Rattle.fluent_syntax_grammar.proofs.backward.Lines.{EndingAt, lf_ends, crlf_ends, text_ends, LineAt, LinesAt}
 use Rattle.fluent_syntax_grammar.proofs.backward.Lines.{a_line, LayoutAt, on_line, below}
 use Rattle.fluent_syntax_grammar.proofs.backward.Layouts.{LineText, HeadAt, head_at, run_text, no_line_at_end, IsSpare}
-use Rattle.fluent_syntax_grammar.proofs.Tests.{or_left, or_right}
-
-or_apart : (x y : Bool) → (x || y) ≡ true → (x ≡ true) ⊎ (y ≡ true)
-or_apart true y e = inl refl
-or_apart false y e = inr e
-
--- ---- joining keeps what spans lines
-
-mutual
-  pub select_joined : (e : ExpressionTree Text) → is_select (joined_expression e) ≡ is_select e
-  select_joined (select e vs) = refl
-  select_joined (inline e) = holds_joined e
-
-  holds_joined : (e : InlineTree Text) → holds_select (joined_inline e) ≡ holds_select e
-  holds_joined (string_literal v) = refl
-  holds_joined (number_literal v) = refl
-  holds_joined (function_reference id a) = refl
-  holds_joined (message_reference id a) = refl
-  holds_joined (term_reference id a c) = refl
-  holds_joined (variable_reference id) = refl
-  holds_joined (inline_placeable e) = select_joined e
-
-or_step : (x y z : Bool) → (x || y) ≡ true → (y ≡ true → z ≡ true) → (x || z) ≡ true
-or_step true y z e f = refl
-or_step false y z e f = f e
-
-join_step : (v w : Text) (b x : Bool) (p q : PatternTree Text) → (has_lf v || (has_lf w || x)) ≡ true →
-    (x ≡ true → is_multiline p ≡ true) → ((has_lf w || x) ≡ true → is_multiline q ≡ true) →
-    is_multiline (if b then elements (text_element (v ++ w)) p else elements (text_element v) q) ≡ true
-join_step v w false x p q e f g = or_step (has_lf v) (has_lf w || x) (is_multiline q) e g
-join_step v w true x p q e f g =
-    rw (list_any-append (λ b. b == lf) v w)
-    (or_step (has_lf v || has_lf w) x (is_multiline p) (sides (has_lf v) (has_lf w) x e) f)
-  where
-    sides : (a b c : Bool) → (a || (b || c)) ≡ true → ((a || b) || c) ≡ true
-    sides true b c e = refl
-    sides false b c e = e
-
-mutual
-  pub multiline_joined : (q : PatternTree Text) → is_multiline q ≡ true → is_multiline (joined_pattern q) ≡ true
-  multiline_joined no_elements e = e
-  multiline_joined (elements (placeable x) q) e =
-      rw (select_joined x)
-      (or_step (is_select x) (is_multiline q) (is_multiline (joined_pattern q)) e (multiline_joined q))
-  multiline_joined (elements (text_element v) q) e = multiline_after v q e
-
-  multiline_after : (v : Text) (q : PatternTree Text) → (has_lf v || is_multiline q) ≡ true →
-      is_multiline (joined_after v q) ≡ true
-  multiline_after v no_elements e = e
-  multiline_after v (elements (placeable x) q) e =
-      or_step (has_lf v) (is_select x || is_multiline q)
-      (is_select (joined_expression x) || is_multiline (joined_pattern q)) e
-      (λ f. rw (select_joined x)
-      (or_step (is_select x) (is_multiline q) (is_multiline (joined_pattern q)) f (multiline_joined q)))
-  multiline_after v (elements (text_element w) q) e =
-      join_step v w (is_joined v w) (is_multiline q) (joined_pattern q) (joined_after w q) e (multiline_joined q)
-      (multiline_after w q)
+use Rattle.fluent_syntax_grammar.proofs.JoinedLines.{multiline_same}
+use Rattle.fluent_syntax_grammar.proofs.Tests.{or_cases, or_left, or_right}
 
 -- ---- the cut keeps what stands before an item that stays
 
@@ -91,6 +32,10 @@ pub record Cons (xs : List Item) : Type 0 where
   pub head : Item
   pub rest : List Item
   pub is : xs ≡ head ∷ rest
+
+or_step : (x y z : Bool) → (x || y) ≡ true → (y ≡ true → z ≡ true) → (x || z) ≡ true
+or_step true y z e f = refl
+or_step false y z e f = f e
 
 module _ (t : List ℕ) where
   cut_at : (x : Item) (ys : List Item) (b z : Bool) → stays t x ≡ b → (b || z) ≡ true → (z ≡ true → Cons ys) →
@@ -123,7 +68,7 @@ module _ (t : List ℕ) where
       is_multiline (tree t (xs ++ (z ∷ zs))) ≡ true
   spans_tree [] z zs e = cc
   spans_tree (text from to ∷ []) z zs e =
-      elim (or_apart (has_lf (slice_range t from to)) false e)
+      elim (or_cases (has_lf (slice_range t from to)) false e)
       [ inl f ↦ or_left (has_lf (slice_range t from to)) _ f | inr f ↦ absurd cc ]
   spans_tree (text from to ∷ y ∷ ys) z zs e =
       or_step (has_lf (slice_range t from to)) (list_any spans (y ∷ ys)) (is_multiline (tree t ((y ∷ ys) ++ (z ∷ zs))))
@@ -260,8 +205,8 @@ module _ (t : List ℕ) (bare : HasNoBareCr t) (Joins : Type 0) (crs : (i : ℕ)
       x.pieces x.ending (counted_more x.end l.ending j ls k ks x.ending h e) in
       let c = cut_any t (flat_map (line_items One common) ls) (lines_count common j ls k ks h e) in
       let whole = cut_append t (line_items One common l) (flat_map (line_items One common) ls) c.head c.rest c.is in
-      multiline_joined (tree t (cut t (items One (Below (l ∷ ls)))))
-      (ap (λ xs. is_multiline (tree t xs)) whole ∙ spans_tree t (line_items One common l) c.head c.rest s)
+      multiline_same (tree t (cut t (items One (Below (l ∷ ls)))))
+      ∙ (ap (λ xs. is_multiline (tree t xs)) whole ∙ spans_tree t (line_items One common l) c.head c.rest s)
 
   -- the first line alone counts
   alone : (start spaces from to : ℕ) (ps qs : List Piece) (e : Ending) (ns : List ℕ) → ps ≡ run from to ∷ qs → ns ≡ [] →

@@ -14,14 +14,14 @@ use Rattle.fluent_syntax_grammar.specs.Readable.{Stand, after_line, within_line,
 use Rattle.fluent_syntax_grammar.specs.Readable.{ends_plainly, ends_well, is_text, are_elements, stands_well}
 use Rattle.fluent_syntax_grammar.specs.Readable.{stand_after, leading_spaces, after_spaces, is_spaces, indents}
 use Rattle.fluent_syntax_grammar.specs.Canonical.{line_numbers, are_lone, text_numbers, placeable_numbers, is_lone_lf}
-use Rattle.fluent_syntax_grammar.specs.Elements.{is_nonblank, without_last_lf}
-use Rattle.fluent_syntax_grammar.proofs.Facts.{left_true, right_true, equal}
+use Rattle.fluent_syntax_grammar.specs.Elements.{is_nonblank}
+use Rattle.fluent_syntax_grammar.proofs.Facts.{differs, left_true, right_true, equal}
 use Rattle.fluent_syntax_grammar.proofs.Tests.{both}
 use Rattle.fluent_syntax_grammar.proofs.Left.{Left, left_as, first, left_next, left_past}
 use Rattle.fluent_syntax_grammar.proofs.marks.LastBytes.{last_append}
 use Rattle.fluent_syntax_grammar.proofs.forward.Spells.{text_first}
 use Rattle.fluent_syntax_grammar.proofs.marks.WrittenBytes.{element_bytes, elements_bytes, line_indent}
-use Rattle.fluent_syntax_grammar.proofs.forward.Runs.{is_run_byte, TextForm, alone, with_lf, text_form}
+use Rattle.fluent_syntax_grammar.proofs.forward.Runs.{without_of, is_run_byte, TextForm, alone, with_lf, text_form}
 use Rattle.fluent_syntax_grammar.proofs.forward.Runs.{run_no_lf}
 use Rattle.fluent_syntax_grammar.proofs.forward.Lines.{Ends, reads_no_pieces, is_mark_byte}
 use Rattle.fluent_syntax_grammar.proofs.forward.Pieces.{Mid, Starts, Run, mid_end, mid_placeable, mid_run, run_end}
@@ -117,11 +117,7 @@ module _ (edition : Edition) where
       Fit shift common after_line (elements (placeable e) es) → Fit shift common after_placeable es
   fit_placeable_line shift common e es fixed = fixed
   fit_placeable_line shift common e es (lone a b) =
-      lone a (no_more (placeable_numbers edition) (line_numbers edition after_placeable es) b)
-    where
-      no_more : (xs ys : List ℕ) → xs ++ ys ≡ [] → ys ≡ []
-      no_more [] ys e = e
-      no_more (x ∷ xs) ys e = absurd cc
+      lone a (none_after (placeable_numbers edition) (line_numbers edition after_placeable es) b)
 
   fit_placeable : (shift : ℕ) (common : Option ℕ) (e : ExpressionTree Text) (es : PatternTree Text) →
       Fit shift common after_placeable (elements (placeable e) es) → Fit shift common after_placeable es
@@ -381,11 +377,6 @@ blank_of (x ∷ gap) e =
     rw (left_true (is_space x) (list_all is_space gap) e)
     (blank_of gap (right_true (is_space x) (list_all is_space gap) e))
 
-pub without_end : (u : List ℕ) → without_last_lf (u ++ (lf ∷ [])) ≡ u
-without_end [] = refl
-without_end (x ∷ []) = refl
-without_end (x ∷ y ∷ u) = ap (λ v. x ∷ v) (without_end (y ∷ u))
-
 pub no_spaces_end : (gap : List ℕ) → list_all is_space (gap ++ (lf ∷ [])) ≡ false
 no_spaces_end [] = refl
 no_spaces_end (x ∷ gap) = rw (no_spaces_end gap) (and_false (is_space x))
@@ -394,10 +385,10 @@ no_spaces_end (x ∷ gap) = rw (no_spaces_end gap) (and_false (is_space x))
 blank_number : (edition : Edition) (v gap : List ℕ) → v ≡ gap ++ (lf ∷ []) → list_all is_space gap ≡ true →
     text_numbers edition v ≡ []
 blank_number One v gap e s =
-    rw (ap is_nonblank e ∙ ap (list_any (λ b. not (is_space b))) (without_end gap) ∙ blank_of gap s) refl
+    rw (ap is_nonblank e ∙ ap (list_any (λ b. not (is_space b))) (without_of gap) ∙ blank_of gap s) refl
 blank_number Two v gap e s =
     rw (
-      ap is_nonblank e ∙ ap (list_any (λ b. not (is_space b))) (without_end gap) ∙ blank_of gap s,
+      ap is_nonblank e ∙ ap (list_any (λ b. not (is_space b))) (without_of gap) ∙ blank_of gap s,
       ap is_spaces e
           ∙ no_spaces_end gap,
     ) refl
@@ -405,11 +396,7 @@ blank_number Two v gap e s =
 lone_is : (v : List ℕ) → is_lone_lf v ≡ true → v ≡ lf ∷ []
 lone_is [] e = absurd cc
 lone_is (b ∷ []) e = ap (λ b. b ∷ []) (equal b lf (left_true (b == lf) true e))
-lone_is (b ∷ c ∷ bs) e = absurd (no_more (b == lf) e)
-  where
-    no_more : (x : Bool) → (x && false) ≡ true → ⊥
-    no_more true e = cc
-    no_more false e = cc
+lone_is (b ∷ c ∷ bs) e = absurd (differs e (and_false (b == lf)))
 
 module _ (edition : Edition) (t : List ℕ) (level : ℕ) (rest : List ℕ) where
   blank_starts :

@@ -37,7 +37,8 @@ use Rattle.fluent_syntax_grammar.proofs.forward.Spells.{spelled_pattern}
 use Rattle.fluent_syntax_grammar.proofs.forward.OneLine.{ElementsBack, OpensAt, opens_run, opens_brace, element_brace}
 use Rattle.fluent_syntax_grammar.proofs.forward.OneLine.{plain_no_cr, opening_back}
 use Rattle.fluent_syntax_grammar.proofs.forward.Multiline.{Fit, fixed, lone, lines_mid, lines_start, split}
-use Rattle.fluent_syntax_grammar.proofs.forward.Multiline.{plain_not_line, blank_of, without_end, no_spaces_end}
+use Rattle.fluent_syntax_grammar.proofs.forward.Multiline.{plain_not_line, blank_of, no_spaces_end}
+use Rattle.fluent_syntax_grammar.proofs.forward.Runs.{without_of}
 use Rattle.fluent_syntax_grammar.proofs.forward.Multiline.{spaces_blank_text, run_ends_in, last_of_part, append_none}
 use Rattle.fluent_syntax_grammar.proofs.forward.Multiline.{run_part, no_text_after, text_is, text_stands}
 use Rattle.fluent_syntax_grammar.proofs.forward.Multiline.{text_ends_well, text_more}
@@ -291,7 +292,7 @@ module _ (edition : Edition) (t : List ℕ) (level : ℕ) (common : Option ℕ) 
   first_lined v d es body i g is a c gap [] e s n l =
       let whole : v ≡ gap ++ (lf ∷ []) = is ∙ ap (λ v. v ++ (lf ∷ [])) (e ∙ append_none gap) in
       let blank : is_nonblank v ≡ false =
-      ap is_nonblank whole ∙ ap (list_any (λ b. not (is_space b))) (without_end gap) ∙ blank_of gap s in
+      ap is_nonblank whole ∙ ap (list_any (λ b. not (is_space b))) (without_of gap) ∙ blank_of gap s in
       let d =
       indents_placeable edition v (elements d es)
       (or_second (is_nonblank v) _ blank

@@ -75,7 +75,8 @@ pub data TextForm (v : List ℕ) : Type 0 where
   with_lf : (body : List ℕ) → v ≡ body ++ (lf ∷ []) → list_all is_run_byte body ≡ true →
       is_last cr (last_of None body) ≡ false → TextForm v
 
-without_of : (u : List ℕ) → without_last_lf (u ++ (lf ∷ [])) ≡ u
+-- an LF that ends a text is taken off
+pub without_of : (u : List ℕ) → without_last_lf (u ++ (lf ∷ [])) ≡ u
 without_of [] = refl
 without_of (x ∷ []) = refl
 without_of (x ∷ y ∷ u) = ap (λ v. x ∷ v) (without_of (y ∷ u))

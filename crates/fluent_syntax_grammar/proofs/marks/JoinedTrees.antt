@@ -1,7 +1,7 @@
 -- A tree and its joined tree are written as the same text.
 use Rattle.std.proofs.Common.{◌≡◌, ℕ, zero, suc, ◌+◌, ◌*◌, List, [], ◌∷◌, ◌++◌, replicate, map, Option, Some, None}
 use Rattle.std.proofs.Common.{Bool, true, false, refl, sym, ◌∙◌, subst, ap, append_assoc}
-use Rattle.std.specs.Prelude.{◌==◌, ◌||◌, not, codes, if◌then◌else◌, option_map}
+use Rattle.std.specs.Prelude.{◌==◌, not, codes, if◌then◌else◌, option_map}
 use Rattle.fluent_syntax_tree.specs.Tree.{KeyTree, ExpressionTree, select, inline, InlineTree, string_literal}
 use Rattle.fluent_syntax_tree.specs.Tree.{number_literal, function_reference, message_reference, term_reference}
 use Rattle.fluent_syntax_tree.specs.Tree.{variable_reference, inline_placeable, ArgumentsTree, arguments}
@@ -15,7 +15,7 @@ use Rattle.fluent_syntax_tree.specs.declared.edition.Edition.TheVariants.{One}
 use Rattle.fluent_syntax_grammar.specs.Bytes.{lf, space}
 use Rattle.fluent_syntax_grammar.specs.Spellings.{is_name}
 use Rattle.fluent_syntax_grammar.specs.Written.{Text, Mark, literal, line_end, last_of, is_last, mark_text, text_after}
-use Rattle.fluent_syntax_grammar.specs.Written.{has_lf, is_select, holds_select, is_multiline, begins_with_mark}
+use Rattle.fluent_syntax_grammar.specs.Written.{begins_with_mark}
 use Rattle.fluent_syntax_grammar.specs.Written.{has_leading_mark, opening_mark, inner_level, attribute_marks}
 use Rattle.fluent_syntax_grammar.specs.Written.{default_marks, key_text, joined, more_joined, expression_marks}
 use Rattle.fluent_syntax_grammar.specs.Written.{variants_marks, variant_marks, inline_marks, maybe_marks}
@@ -34,6 +34,7 @@ use Rattle.fluent_syntax_grammar.specs.RoundTrip.{ReadsBackJoined}
 use Rattle.fluent_syntax_grammar.proofs.Facts.{left_true, right_true, equal, append_nothing}
 use Rattle.fluent_syntax_grammar.proofs.forward.Bodies.{IsWritten, nothing, a_message, a_term, a_comment, reads_back}
 use Rattle.fluent_syntax_grammar.proofs.marks.WrittenBytes.{line_indent}
+use Rattle.fluent_syntax_grammar.proofs.JoinedLines.{multiline_same}
 use Rattle.fluent_syntax_grammar.proofs.marks.LastBytes.{last_append}
 use Rattle.fluent_syntax_grammar.proofs.marks.Words.{literal_after, literal_at}
 use Rattle.fluent_syntax_grammar.proofs.marks.Entries.{message_then, term_then, free_then, Starting, message_starts}
@@ -148,57 +149,7 @@ two_same level v w xs ys e h last ms =
     ≡ text_after last (literal level (v ++ w) ∷ (ys ++ ms))) (sym p.0)
     (two_as_one level v (xs ++ ms) last p.1 ∙ same_cons (literal level (v ++ (lf ∷ []))) xs ys h last ms)
 
--- ---- which patterns span lines
-
-mutual
-  select_same : (e : ExpressionTree Text) → is_select (joined_expression e) ≡ is_select e
-  select_same (select e vs) = refl
-  select_same (inline e) = holds_same e
-
-  holds_same : (e : InlineTree Text) → holds_select (joined_inline e) ≡ holds_select e
-  holds_same (string_literal v) = refl
-  holds_same (number_literal v) = refl
-  holds_same (function_reference id a) = refl
-  holds_same (message_reference id a) = refl
-  holds_same (term_reference id attribute a) = refl
-  holds_same (variable_reference id) = refl
-  holds_same (inline_placeable e) = select_same e
-
-or_same : (a b c d : Bool) → a ≡ b → c ≡ d → (a || c) ≡ (b || d)
-or_same a b c d e f = rw (e, f) refl
-
-or_assoc : (a b c : Bool) → ((a || b) || c) ≡ (a || (b || c))
-or_assoc true b c = refl
-or_assoc false b c = refl
-
-has_append : (v w : Text) → has_lf (v ++ w) ≡ (has_lf v || has_lf w)
-has_append [] w = refl
-has_append (b ∷ v) w = ap (λ x. b == lf || x) (has_append v w) ∙ sym (or_assoc (b == lf) (has_lf v) (has_lf w))
-
-after_text_multiline : (v w : Text) (es : PatternTree Text) (x : Bool) →
-    is_multiline (joined_pattern es) ≡ is_multiline es →
-    is_multiline (joined_after w es) ≡ (has_lf w || is_multiline es) →
-    is_multiline (if x then elements (text_element (v ++ w)) (joined_pattern es) else elements (text_element v)
-    (joined_after w es)) ≡ (has_lf v || (has_lf w || is_multiline es))
-after_text_multiline v w es true g h =
-    or_same (has_lf (v ++ w)) (has_lf v || has_lf w) _ _ (has_append v w) g
-    ∙ or_assoc (has_lf v) (has_lf w) (is_multiline es)
-after_text_multiline v w es false g h = ap (λ x. has_lf v || x) h
-
-mutual
-  multiline_same : (p : PatternTree Text) → is_multiline (joined_pattern p) ≡ is_multiline p
-  multiline_same no_elements = refl
-  multiline_same (elements (placeable e) es) =
-      or_same _ (is_select e) _ (is_multiline es) (select_same e) (multiline_same es)
-  multiline_same (elements (text_element v) es) = after_multiline es v
-
-  after_multiline : (es : PatternTree Text) (v : Text) →
-      is_multiline (joined_after v es) ≡ (has_lf v || is_multiline es)
-  after_multiline no_elements v = refl
-  after_multiline (elements (placeable e) es) v =
-      ap (λ x. has_lf v || x) (or_same _ (is_select e) _ (is_multiline es) (select_same e) (multiline_same es))
-  after_multiline (elements (text_element w) es) v =
-      after_text_multiline v w es (is_joined v w) (multiline_same es) (after_multiline es w)
+-- ---- how a joined pattern opens
 
 begins_same : (v w : Text) → is_joined v w ≡ true → begins_with_mark (v ++ w) ≡ begins_with_mark v
 begins_same [] w e = let p = joined_parts [] w e in rw (p.0) refl
