@@ -84,7 +84,8 @@ module _ (t : List ℕ) (bare : HasNoBareCr t) where
       slice_get t i ≡ Some b → is_leading_mark b ≡ false
   own_mark true i b e f g = elim (or_cases (has_eol t i) _ e) [
     | inl h ↦ differs h
-        (not_true (has_eol t i) (right_true (has t (λ b. not (b == lf || b == 123 || b == 125)) i) (not (has_eol t i)) f))
+        (not_true (has_eol t i)
+        (right_true (has t (λ b. not (b == lf || b == 123 || b == 125)) i) (not (has_eol t i)) f))
     | inr h ↦ no_mark b (byte_of _ (slice_get t i) b g h)
   ]
   own_mark false i b e f g =

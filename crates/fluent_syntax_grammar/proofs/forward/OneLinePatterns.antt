@@ -64,7 +64,8 @@ module _ (edition : Edition) (t : List ℕ) (level : ℕ) (tail rest : List ℕ)
       _ (left_true (opens_well edition false (b ∷ bs) (elements (placeable x) es))
       _ (right_true (is_text (b ∷ bs)) _ g))) in
       let brace = element_brace level x (elements_bytes level false es (lf ∷ tail)) in
-      let no_lf : has_lf (b ∷ bs) ≡ false = neither_left (has_lf (b ∷ bs)) (is_multiline (elements (placeable x) es)) e in
+      let no_lf : has_lf (b ∷ bs) ≡ false =
+      neither_left (has_lf (b ∷ bs)) (is_multiline (elements (placeable x) es)) e in
       let are =
       ap (λ c. b ∷
       (bs ++

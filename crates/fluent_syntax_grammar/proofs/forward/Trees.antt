@@ -20,6 +20,7 @@ use Rattle.fluent_syntax_grammar.specs.Rules.{named_obeys, expression_obeys, var
 use Rattle.fluent_syntax_grammar.specs.Rules.{option_obeys, elements_obey, pattern_obeys}
 use Rattle.fluent_syntax_grammar.specs.Readable.{are_named_well, is_argument_value, is_expression, is_pattern, defaults}
 use Rattle.fluent_syntax_grammar.specs.Canonical.{canonical_rules, is_flush}
+use Rattle.fluent_syntax_grammar.proofs.Obeys.{inline_part, select_parts}
 use Rattle.fluent_syntax_grammar.proofs.Facts.{left_true, right_true, equal}
 use Rattle.fluent_syntax_grammar.proofs.forward.Arguments.{InlineBack, ListBack, nothing_back, positional_back}
 use Rattle.fluent_syntax_grammar.proofs.forward.Arguments.{named_back}
@@ -123,15 +124,6 @@ module _ (edition : Edition) (t : List ℕ) where
       not_true (is_term_attribute e)
       (left_true (not (is_term_attribute e)) true (left_true (not (is_term_attribute e) && true) _ h))
 
-  inner : (e : InlineTree Text) → expression_obeys (canonical_rules edition) (inline e) ≡ true →
-      inline_obeys (canonical_rules edition) e ≡ true
-  inner e h = right_true (not (is_term_attribute e) && true) _ h
-
-  select_parts : (e : InlineTree Text) (vs : VariantTrees Text) →
-      expression_obeys (canonical_rules edition) (select e vs) ≡ true →
-      (inline_obeys (canonical_rules edition) e && variants_obey (canonical_rules edition) vs) ≡ true
-  select_parts e vs h = right_true (is_expression (select e vs) && (defaults vs == 1)) _ h
-
   select_simple : (e : InlineTree Text) (vs : VariantTrees Text) →
       expression_obeys (canonical_rules edition) (select e vs) ≡ true → is_none (selector_fault e) ≡ true
   select_simple e vs h =
@@ -169,9 +161,9 @@ module _ (edition : Edition) (t : List ℕ) where
         (inline_back level e (right_true (not (is_term_attribute e) && true) _ h))
     expression_back level (select e vs) h =
         select_is_back edition t level e vs (select_simple e vs h)
-        (inline_back level e (left_true (inline_obeys (canonical_rules edition) e) _ (select_parts e vs h)))
+        (inline_back level e (left_true (inline_obeys (canonical_rules edition) e) _ (select_parts edition e vs h)))
         (one_back (level + 1) vs (select_one e vs h)
-        (right_true (inline_obeys (canonical_rules edition) e) _ (select_parts e vs h)))
+        (right_true (inline_obeys (canonical_rules edition) e) _ (select_parts edition e vs h)))
 
     pub inline_back : (level : ℕ) (e : InlineTree Text) → inline_obeys (canonical_rules edition) e ≡ true →
         InlineBack edition t level e
@@ -283,27 +275,29 @@ module _ (edition : Edition) (t : List ℕ) where
     element_back (select e vs) h level =
         select_element level e vs
         (select_is_back edition t level e vs (select_simple e vs h)
-        (inline_back level e (left_true (inline_obeys (canonical_rules edition) e) _ (select_parts e vs h)))
+        (inline_back level e (left_true (inline_obeys (canonical_rules edition) e) _ (select_parts edition e vs h)))
         (one_back (level + 1) vs (select_one e vs h)
-        (right_true (inline_obeys (canonical_rules edition) e) _ (select_parts e vs h))))
+        (right_true (inline_obeys (canonical_rules edition) e) _ (select_parts edition e vs h))))
     element_back (inline (string_literal v)) h level =
-        string_element level v (string_is_back edition t level v (inner (string_literal v) h))
+        string_element level v (string_is_back edition t level v (inline_part edition (string_literal v) h))
     element_back (inline (number_literal v)) h level =
-        number_element level v (number_is_back edition t level v (inner (number_literal v) h))
+        number_element level v (number_is_back edition t level v (inline_part edition (number_literal v) h))
     element_back (inline (function_reference id (arguments ps ns))) h level =
         function_element level id (arguments ps ns)
-        (function_is_back edition t level id ps ns (inner (function_reference id (arguments ps ns)) h)
+        (function_is_back edition t level id ps ns (inline_part edition (function_reference id (arguments ps ns)) h)
         (list_back level (arguments ps ns)
         (right_true (list_all is_callee_byte id)
-        _ (right_true (is_name id) _ (inner (function_reference id (arguments ps ns)) h)))))
+        _ (right_true (is_name id) _ (inline_part edition (function_reference id (arguments ps ns)) h)))))
     element_back (inline (message_reference id a)) h level =
-        message_element level id a (message_is_back edition t level id a (inner (message_reference id a) h))
+        message_element level id a
+        (message_is_back edition t level id a (inline_part edition (message_reference id a) h))
     element_back (inline (term_reference id a c)) h level =
         term_element level id a c (no_attribute (term_reference id a c) h)
-        (term_is_back edition t level id a c (inner (term_reference id a c) h)
+        (term_is_back edition t level id a c (inline_part edition (term_reference id a c) h)
         (maybe_back level c
-        (right_true (option_obeys is_name a) _ (right_true (is_name id) _ (inner (term_reference id a c) h)))))
+        (right_true (option_obeys is_name a)
+        _ (right_true (is_name id) _ (inline_part edition (term_reference id a c) h)))))
     element_back (inline (variable_reference id)) h level =
-        variable_element level id (variable_is_back edition t level id (inner (variable_reference id) h))
+        variable_element level id (variable_is_back edition t level id (inline_part edition (variable_reference id) h))
     element_back (inline (inline_placeable e)) h level =
-        double_element level e (expression_back level e (inner (inline_placeable e) h))
+        double_element level e (expression_back level e (inline_part edition (inline_placeable e) h))

@@ -27,6 +27,7 @@ use Rattle.fluent_syntax_grammar.specs.Readable.{Stand, opening, stand_after, af
 use Rattle.fluent_syntax_grammar.specs.Readable.{ends_in_lf, ends_well, is_pattern, is_text, is_expression, stands_well}
 use Rattle.fluent_syntax_grammar.specs.Readable.{are_elements}
 use Rattle.fluent_syntax_grammar.specs.Canonical.{canonical_rules, is_flush, has_one_default}
+use Rattle.fluent_syntax_grammar.proofs.Obeys.{inline_part, select_parts}
 use Rattle.fluent_syntax_grammar.proofs.Facts.{left_true, right_true}
 use Rattle.fluent_syntax_grammar.proofs.marks.WrittenBytes.{attribute_bytes, line_indent, opening_byte}
 use Rattle.fluent_syntax_grammar.proofs.marks.WrittenBytes.{expression_bytes, variants_bytes, variant_bytes}
@@ -354,15 +355,6 @@ pattern_then level e es k ms =
     (opened_last (opens_line p)) tt)
 
 module _ (edition : Edition) where
-  inner : (e : InlineTree Text) → expression_obeys (canonical_rules edition) (inline e) ≡ true →
-      inline_obeys (canonical_rules edition) e ≡ true
-  inner e h = right_true (is_expression (inline e) && has_one_default (inline e)) _ h
-
-  select_parts : (e : InlineTree Text) (vs : VariantTrees Text) →
-      expression_obeys (canonical_rules edition) (select e vs) ≡ true →
-      (inline_obeys (canonical_rules edition) e && variants_obey (canonical_rules edition) vs) ≡ true
-  select_parts e vs h = right_true (is_expression (select e vs) && has_one_default (select e vs)) _ h
-
   elements_rest : (multiline : Bool) (s : Stand) (b : ℕ) (bs : Text) (es : PatternTree Text) →
       are_elements edition multiline s (elements (text_element (b ∷ bs)) es) ≡ true → (ends_well (b ∷ bs) es ≡ true) ×
       (are_elements edition multiline (stand_after (b ∷ bs)) es ≡ true)
@@ -373,11 +365,12 @@ module _ (edition : Edition) where
   mutual
     expression_then : (level : ℕ) (e : ExpressionTree Text) → expression_obeys (canonical_rules edition) e ≡ true →
         ExpressionMarks level e
-    expression_then level (inline e) h = inline_then level e (inner e h)
+    expression_then level (inline e) h = inline_then level e (inline_part edition e h)
     expression_then level (select e vs) h =
         select_marks level e vs
-        (inline_then level e (left_true (inline_obeys (canonical_rules edition) e) _ (select_parts e vs h)))
-        (variants_then (level + 1) vs (right_true (inline_obeys (canonical_rules edition) e) _ (select_parts e vs h)))
+        (inline_then level e (left_true (inline_obeys (canonical_rules edition) e) _ (select_parts edition e vs h)))
+        (variants_then (level + 1) vs
+        (right_true (inline_obeys (canonical_rules edition) e) _ (select_parts edition e vs h)))
 
     inline_then : (level : ℕ) (e : InlineTree Text) → inline_obeys (canonical_rules edition) e ≡ true →
         InlineMarks level e
@@ -489,29 +482,31 @@ module _ (edition : Edition) where
     placeable_then level (select e vs) h =
         select_element level e vs
         (select_marks level e vs
-        (inline_then level e (left_true (inline_obeys (canonical_rules edition) e) _ (select_parts e vs h)))
+        (inline_then level e (left_true (inline_obeys (canonical_rules edition) e) _ (select_parts edition e vs h)))
         (variants_then (level + 1) vs
-        (right_true (inline_obeys (canonical_rules edition) e) _ (select_parts e vs h))))
+        (right_true (inline_obeys (canonical_rules edition) e) _ (select_parts edition e vs h))))
     placeable_then level (inline (string_literal v)) h =
-        spaced level (string_literal v) (string_marks level v (string_last v (inner (string_literal v) h)))
+        spaced level (string_literal v)
+        (string_marks level v (string_last v (inline_part edition (string_literal v) h)))
     placeable_then level (inline (number_literal v)) h =
-        spaced level (number_literal v) (number_marks level v (number_plain v (inner (number_literal v) h)))
+        spaced level (number_literal v)
+        (number_marks level v (number_plain v (inline_part edition (number_literal v) h)))
     placeable_then level (inline (function_reference id a)) h =
-        let i = inner (function_reference id a) h in
+        let i = inline_part edition (function_reference id a) h in
         spaced level (function_reference id a)
         (function_marks level id a (left_true (is_name id) _ i)
         (arguments_then level a (right_true (list_all is_callee_byte id) _ (right_true (is_name id) _ i))))
     placeable_then level (inline (message_reference id a)) h =
-        let i = inner (message_reference id a) h in
+        let i = inline_part edition (message_reference id a) h in
         spaced level (message_reference id a)
         (message_marks level id a (left_true (is_name id) _ i) (right_true (is_name id) _ i))
     placeable_then level (inline (term_reference id a c)) h =
-        let i = inner (term_reference id a c) h in
+        let i = inline_part edition (term_reference id a c) h in
         spaced level (term_reference id a c)
         (term_marks level id a c (left_true (is_name id) _ i)
         (left_true (option_obeys is_name a) _ (right_true (is_name id) _ i))
         (maybe_then level c (right_true (option_obeys is_name a) _ (right_true (is_name id) _ i))))
     placeable_then level (inline (variable_reference id)) h =
-        spaced level (variable_reference id) (variable_marks level id (inner (variable_reference id) h))
+        spaced level (variable_reference id) (variable_marks level id (inline_part edition (variable_reference id) h))
     placeable_then level (inline (inline_placeable e)) h =
-        double_element level e (expression_then level e (inner (inline_placeable e) h))
+        double_element level e (expression_then level e (inline_part edition (inline_placeable e) h))

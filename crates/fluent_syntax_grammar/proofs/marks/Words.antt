@@ -67,7 +67,8 @@ number_all : (v : Text) → is_number v ≡ true → list_all is_number_byte v �
 number_all [] e = cc
 number_all (b ∷ v) e = elim (or_cases (b == 45 && is_unsigned v) (is_unsigned (b ∷ v)) e) [
   | inl f ↦ both
-      (or_right (is_digit b) (b == 46 || b == 45) (or_right (b == 46) (b == 45) (left_true (b == 45) (is_unsigned v) f)))
+      (or_right (is_digit b) (b == 46 || b == 45)
+      (or_right (b == 46) (b == 45) (left_true (b == 45) (is_unsigned v) f)))
       (unsigned_all v (right_true (b == 45) (is_unsigned v) f))
   | inr f ↦ unsigned_all (b ∷ v) f
 ]
