@@ -1,7 +1,6 @@
 -- Backward: what was read is readable, once it is joined. In the order of the proof: words and texts, the lines of
--- patterns and what they spell,
--- the rules, the family of the grammar, and entries and bodies. The converse is `joined_is_readable` and
--- `joined_is_same` of `Bodies`.
+-- patterns and what they spell, the rules, the family of the grammar, and entries and bodies. The converse is
+-- `joined_is_readable` and `joined_is_same` of `Bodies`.
 pub mod Taken
 pub mod Words
 pub mod Texts

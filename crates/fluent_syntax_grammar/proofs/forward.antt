@@ -1,6 +1,6 @@
 -- Forward: what is written is read back. In the order of the proof: the rules of reading forwards, words and
--- expressions, the texts and lines
--- of patterns, patterns down the tree, and entries and bodies. The round trip is `reads_back` of `Bodies`.
+-- expressions, the texts and lines of patterns, patterns down the tree, and entries and bodies. The round trip is
+-- `reads_back` of `Bodies`.
 pub mod Reading
 pub mod Words
 pub mod Strings

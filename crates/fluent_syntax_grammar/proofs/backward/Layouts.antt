@@ -4,6 +4,7 @@ use Rattle.std.proofs.Common.{true, false, refl, sym, ◌∙◌, subst, ap, arit
 use Rattle.std.specs.Prelude.{◌==◌, ◌||◌, ◌⊎◌, not, nat_lt, slice_get, slice_range}
 use Rattle.std.specs.List.{list_all, flat_map}
 use Rattle.fluent_syntax_tree.specs.declared.edition.Edition.TheVariants.{One}
+use Rattle.fluent_syntax_grammar.specs.PatternTexts.{is_empty, after_spaces, begins_with_space}
 use Rattle.fluent_syntax_grammar.specs.Bytes.{lf, cr, is_space}
 use Rattle.fluent_syntax_grammar.specs.Places.{holds, Stretch, has, has_byte, has_eol, InlineBlank}
 use Rattle.fluent_syntax_grammar.specs.Layout.{Piece, run, placed, Ending, lf_at, crlf_at, text_end, Line, Layout}
@@ -11,7 +12,7 @@ use Rattle.fluent_syntax_grammar.specs.Layout.{common_indent}
 use Rattle.fluent_syntax_grammar.specs.Lines.{is_run_place, belongs}
 use Rattle.fluent_syntax_grammar.specs.Elements.{Item, text, with_ending, kept_from, items_from, line_items, items}
 use Rattle.fluent_syntax_grammar.specs.Written.{begins_with_mark, is_leading_mark}
-use Rattle.fluent_syntax_grammar.specs.Readable.{is_empty, after_spaces, begins_with_space, Stand, opening, after_line}
+use Rattle.fluent_syntax_grammar.specs.Readable.{Stand, opening, after_line}
 use Rattle.fluent_syntax_grammar.specs.Readable.{after_placeable}
 use Rattle.fluent_syntax_grammar.specs.RoundTrip.{HasNoBareCr}
 use Rattle.fluent_syntax_grammar.proofs.Facts.{byte_found, byte_stands, implies, left_true, right_true, differs}

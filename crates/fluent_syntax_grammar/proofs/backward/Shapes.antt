@@ -8,15 +8,15 @@ use Rattle.fluent_syntax_tree.specs.Tree.{PatternTree, no_elements, elements, el
 use Rattle.fluent_syntax_tree.specs.Spans.{bytes_at}
 use Rattle.fluent_syntax_tree.specs.declared.spans.Span.{Span}
 use Rattle.fluent_syntax_tree.specs.declared.edition.Edition.TheVariants.{One}
+use Rattle.fluent_syntax_grammar.specs.PatternTexts.{is_empty, is_spaces, ends_in_lf, is_lone_lf}
 use Rattle.fluent_syntax_grammar.specs.Bytes.{lf, is_space}
 use Rattle.fluent_syntax_grammar.specs.Elements.{Item, text, filled, is_nonblank, stays, cut_before, cut, trimmed_end}
 use Rattle.fluent_syntax_grammar.specs.Elements.{spelled}
 use Rattle.fluent_syntax_grammar.specs.Written.{Text}
 use Rattle.fluent_syntax_grammar.specs.Rules.{expression_obeys, elements_obey}
-use Rattle.fluent_syntax_grammar.specs.Readable.{is_text, is_empty, is_spaces, ends_in_lf, Stand, opening, after_line}
+use Rattle.fluent_syntax_grammar.specs.Readable.{is_text, Stand, opening, after_line}
 use Rattle.fluent_syntax_grammar.specs.Readable.{within_line, after_placeable, stand_after, stands_well, ends_well}
 use Rattle.fluent_syntax_grammar.specs.Readable.{are_elements, readable_rules}
-use Rattle.fluent_syntax_grammar.specs.Canonical.{is_lone_lf}
 use Rattle.fluent_syntax_grammar.specs.Joined.{is_joined, joined_expression, joined_pattern, joined_after}
 use Rattle.fluent_syntax_grammar.proofs.Facts.{left_true, right_true, equal, append_nothing}
 use Rattle.fluent_syntax_grammar.proofs.Tests.{both}

@@ -1,5 +1,4 @@
--- What was read: a name that was read is a name, and a run that was read holds no brace and no LF. (The converse of
--- reading forwards.)
+-- What a word that was read holds: so a name that was read is a name.
 use Rattle.std.proofs.Common.{◌≡◌, ℕ, zero, suc, ◌+◌, ◌-◌, ◌≤◌, ◌<◌, List, [], ◌∷◌, length, drop, take, Bool, true}
 use Rattle.std.proofs.Common.{refl, sym, ◌∙◌, subst, arith}
 use Rattle.std.specs.Prelude.{slice_get, slice_range}

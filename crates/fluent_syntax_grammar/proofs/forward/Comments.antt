@@ -6,6 +6,7 @@ use Rattle.std.specs.List.{list_all}
 use Rattle.fluent_syntax_tree.specs.Entry.{entry_map, comment, Level, regular, group, resource}
 use Rattle.fluent_syntax_tree.specs.Spans.{bytes_at}
 use Rattle.fluent_syntax_tree.specs.declared.spans.Span.{Span}
+use Rattle.fluent_syntax_grammar.specs.PatternTexts.{is_empty}
 use Rattle.fluent_syntax_grammar.specs.Bytes.{lf, cr, space}
 use Rattle.fluent_syntax_grammar.specs.Places.{Stretch, holds, is_line_place}
 use Rattle.fluent_syntax_grammar.specs.Construct.{at_each}
@@ -13,7 +14,7 @@ use Rattle.fluent_syntax_grammar.specs.Words.{optional_eol}
 use Rattle.fluent_syntax_grammar.specs.Comments.{level_of, hashes, comment_rest, comment_line, comment_lines}
 use Rattle.fluent_syntax_grammar.specs.Comments.{other_level, one_more, comment_entry}
 use Rattle.fluent_syntax_grammar.specs.Written.{Text, has_lf, last_of, is_last, is_shown, hashes_of}
-use Rattle.fluent_syntax_grammar.specs.Readable.{is_empty, are_lines}
+use Rattle.fluent_syntax_grammar.specs.Readable.{are_lines}
 use Rattle.fluent_syntax_grammar.specs.Canonical.{is_plain_line, is_plain_comment}
 use Rattle.fluent_syntax_grammar.proofs.Facts.{left_true, right_true, two_on}
 use Rattle.fluent_syntax_grammar.proofs.Computed.{find_here, find_on}

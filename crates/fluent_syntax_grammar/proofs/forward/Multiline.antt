@@ -7,13 +7,15 @@ use Rattle.fluent_syntax_tree.specs.Tree.{ExpressionTree, ElementTree, text_elem
 use Rattle.fluent_syntax_tree.specs.Tree.{no_elements, elements}
 use Rattle.fluent_syntax_tree.specs.declared.edition.Edition.{Edition}
 use Rattle.fluent_syntax_tree.specs.declared.edition.Edition.TheVariants.{One, Two}
+use Rattle.fluent_syntax_grammar.specs.PatternTexts.{ends_in_lf, ends_plainly, leading_spaces, after_spaces, is_spaces}
+use Rattle.fluent_syntax_grammar.specs.PatternTexts.{is_lone_lf}
 use Rattle.fluent_syntax_grammar.specs.Bytes.{lf, cr, space, is_space}
 use Rattle.fluent_syntax_grammar.specs.Places.{holds}
 use Rattle.fluent_syntax_grammar.specs.Written.{Text, is_last, last_of, indent, begins_with_mark}
-use Rattle.fluent_syntax_grammar.specs.Readable.{Stand, after_line, within_line, after_placeable, ends_in_lf}
-use Rattle.fluent_syntax_grammar.specs.Readable.{ends_plainly, ends_well, is_text, are_elements, stands_well}
-use Rattle.fluent_syntax_grammar.specs.Readable.{stand_after, leading_spaces, after_spaces, is_spaces, indents}
-use Rattle.fluent_syntax_grammar.specs.Canonical.{line_numbers, are_lone, text_numbers, placeable_numbers, is_lone_lf}
+use Rattle.fluent_syntax_grammar.specs.Readable.{Stand, after_line, within_line, after_placeable}
+use Rattle.fluent_syntax_grammar.specs.Readable.{ends_well, is_text, are_elements, stands_well}
+use Rattle.fluent_syntax_grammar.specs.Readable.{stand_after, indents}
+use Rattle.fluent_syntax_grammar.specs.Canonical.{line_numbers, are_lone, text_numbers, placeable_numbers}
 use Rattle.fluent_syntax_grammar.specs.Elements.{is_nonblank}
 use Rattle.fluent_syntax_grammar.proofs.Facts.{differs, left_true, right_true, equal}
 use Rattle.fluent_syntax_grammar.proofs.Tests.{both}
@@ -74,8 +76,7 @@ module _ (edition : Edition) where
   numbers_line v es e = rw e refl
 
   -- The common indent that fits a pattern's elements from a place on: that of its level; or none, where no line has a
-  -- number and each
-  -- line-start text is one LF.
+  -- number and each line-start text is one LF.
   pub data Fit (shift : ℕ) : Option ℕ → Stand → PatternTree Text → Type 0 where
     fixed : {s : Stand} {es : PatternTree Text} → Fit shift (Some shift) s es
     lone : {s : Stand} {es : PatternTree Text} → are_lone s es ≡ true → line_numbers edition s es ≡ [] →

@@ -9,6 +9,7 @@ use Rattle.fluent_syntax_tree.specs.Tree.{variable_reference, inline_placeable, 
 use Rattle.fluent_syntax_tree.specs.Tree.{PatternTree, no_elements, elements, pattern_map}
 use Rattle.fluent_syntax_tree.specs.Spans.{bytes_at}
 use Rattle.fluent_syntax_tree.specs.declared.edition.Edition.{Edition}
+use Rattle.fluent_syntax_grammar.specs.PatternTexts.{ends_in_lf, ends_plainly, is_empty, is_brace}
 use Rattle.fluent_syntax_grammar.specs.Bytes.{lf, cr, space, is_space}
 use Rattle.fluent_syntax_grammar.specs.Places.{holds, has_byte, has_eol, after_eol, InlineBlank}
 use Rattle.fluent_syntax_grammar.specs.Lines.{is_run_place}
@@ -20,8 +21,8 @@ use Rattle.fluent_syntax_grammar.specs.Patterns.{layout_at, layout}
 use Rattle.fluent_syntax_grammar.specs.Grammar.{family}
 use Rattle.fluent_syntax_grammar.specs.Grammar as grammar
 use Rattle.fluent_syntax_grammar.specs.Written.{Text, is_last, last_of, has_lf}
-use Rattle.fluent_syntax_grammar.specs.Readable.{Stand, after_line, within_line, after_placeable, ends_in_lf}
-use Rattle.fluent_syntax_grammar.specs.Readable.{ends_plainly, is_text, is_empty, is_brace, are_elements, stands_well}
+use Rattle.fluent_syntax_grammar.specs.Readable.{Stand, after_line, within_line, after_placeable}
+use Rattle.fluent_syntax_grammar.specs.Readable.{is_text, are_elements, stands_well}
 use Rattle.fluent_syntax_grammar.specs.Readable.{stand_after}
 use Rattle.fluent_syntax_grammar.proofs.Facts.{left_true, right_true}
 use Rattle.fluent_syntax_grammar.proofs.Left.{Left, left_as, first, left_word, left_no_eol_after}

@@ -4,12 +4,13 @@ use Rattle.std.specs.Prelude.{option_map}
 use Rattle.fluent_syntax_tree.specs.Tree.{ElementTree, text_element, placeable, PatternTree, no_elements, elements}
 use Rattle.fluent_syntax_tree.specs.Tree.{pattern_map}
 use Rattle.fluent_syntax_tree.specs.Spans.{bytes_at}
+use Rattle.fluent_syntax_grammar.specs.PatternTexts.{ends_plainly}
 use Rattle.fluent_syntax_grammar.specs.Grammar as grammar
 use Rattle.fluent_syntax_grammar.proofs.forward.Reading.{Reads}
 use Rattle.fluent_syntax_tree.specs.declared.edition.Edition.{Edition}
 use Rattle.fluent_syntax_grammar.specs.Bytes.{lf, cr, space, is_space}
 use Rattle.fluent_syntax_grammar.specs.Written.{Text, is_last, last_of, has_lf, is_multiline}
-use Rattle.fluent_syntax_grammar.specs.Readable.{opening, ends_plainly, is_text, are_elements, stands_well, opens_well}
+use Rattle.fluent_syntax_grammar.specs.Readable.{opening, is_text, are_elements, stands_well, opens_well}
 use Rattle.fluent_syntax_grammar.specs.Readable.{is_pattern, stand_after}
 use Rattle.fluent_syntax_grammar.specs.Elements.{is_nonblank}
 use Rattle.fluent_syntax_grammar.proofs.Facts.{left_true, right_true}

@@ -10,6 +10,7 @@ use Rattle.fluent_syntax_tree.specs.Tree.{ExpressionTree, ElementTree, text_elem
 use Rattle.fluent_syntax_tree.specs.Tree.{no_elements, elements, pattern_map}
 use Rattle.fluent_syntax_tree.specs.Spans.{bytes_at}
 use Rattle.fluent_syntax_tree.specs.declared.edition.Edition.{Edition}
+use Rattle.fluent_syntax_grammar.specs.PatternTexts.{ends_in_lf, is_spaces, after_spaces, begins_with_space}
 use Rattle.fluent_syntax_grammar.specs.Bytes.{lf, cr, space, is_space}
 use Rattle.fluent_syntax_grammar.specs.Places.{holds, BlankBlock, no_line}
 use Rattle.fluent_syntax_grammar.proofs.forward.Selects.{all_append, spaces_of}
@@ -22,7 +23,7 @@ use Rattle.fluent_syntax_grammar.specs.Grammar as grammar
 use Rattle.fluent_syntax_grammar.specs.Written.{Text, indent, is_leading_mark, has_leading_mark, begins_with_mark}
 use Rattle.fluent_syntax_grammar.specs.Written.{is_last, last_of, is_multiline}
 use Rattle.fluent_syntax_grammar.specs.Readable.{Stand, opening, after_line, after_placeable, are_elements, is_pattern}
-use Rattle.fluent_syntax_grammar.specs.Readable.{ends_in_lf, is_text, is_spaces, after_spaces, begins_with_space}
+use Rattle.fluent_syntax_grammar.specs.Readable.{is_text}
 use Rattle.fluent_syntax_grammar.specs.Readable.{indents, opens_well, begins_with_placeable}
 use Rattle.fluent_syntax_grammar.specs.Canonical.{line_numbers, are_flush, hides_mark, first_stand, is_flush}
 use Rattle.fluent_syntax_grammar.proofs.Facts.{left_true, right_true, right_false, equal}

@@ -8,6 +8,7 @@ use Rattle.fluent_syntax_tree.specs.Tree.{PatternTree, no_elements, elements}
 use Rattle.fluent_syntax_tree.specs.Spans.{bytes_at}
 use Rattle.fluent_syntax_tree.specs.declared.spans.Span.{Span}
 use Rattle.fluent_syntax_tree.specs.declared.edition.Edition.{Edition}
+use Rattle.fluent_syntax_grammar.specs.PatternTexts.{ends_plainly}
 use Rattle.fluent_syntax_grammar.specs.Bytes.{lf, cr}
 use Rattle.fluent_syntax_grammar.specs.Places.{Stretch, has_eol}
 use Rattle.fluent_syntax_grammar.specs.Construct.{Read, goes_on, given, at_place, passed, chosen, first as first_of}
@@ -18,7 +19,6 @@ use Rattle.fluent_syntax_grammar.specs.Lines.{is_run_place, pieces_at}
 use Rattle.fluent_syntax_grammar.specs.Grammar.{family}
 use Rattle.fluent_syntax_grammar.specs.Grammar as grammar
 use Rattle.fluent_syntax_grammar.specs.Written.{Text, is_last, last_of}
-use Rattle.fluent_syntax_grammar.specs.Readable.{ends_plainly}
 use Rattle.fluent_syntax_grammar.proofs.Facts.{left_true}
 use Rattle.fluent_syntax_grammar.proofs.Nesting.{into_more_pieces}
 use Rattle.fluent_syntax_grammar.proofs.Left.{Left, left_first, left_next, left_past, left_no_eol}
@@ -29,8 +29,7 @@ use Rattle.fluent_syntax_grammar.proofs.forward.Lines.{Ends, after_back, reads_n
 use Rattle.fluent_syntax_grammar.proofs.Tests.{and_false, without}
 
 -- From a place within a line on, the rest of a pattern is read: the pieces of this line and its LF, and the later
--- lines. Under this common
--- indent their items spell the elements, and the lines count with these numbers.
+-- lines. Under this common indent their items spell the elements, and the lines count with these numbers.
 pub record Mid (edition : Edition) (t : List ℕ) (common : Option ℕ) (es : PatternTree Text) (numbers : List ℕ) (i : ℕ)
     (rest : List ℕ) : Type 0 where
   pub pieces : List Piece
@@ -56,8 +55,7 @@ pub record Starts (edition : Edition) (t : List ℕ) (common : Option ℕ) (es :
   pub counts : flat_map (counted edition) lines ≡ numbers
 
 -- A run that begins at a place, and the rest of a pattern. The text that it is part of may begin earlier, with kept
--- spaces; `source` is what
--- is left after the text.
+-- spaces; `source` is what is left after the text.
 pub record Run (edition : Edition) (t : List ℕ) (common : Option ℕ) (v : Text) (es : PatternTree Text)
     (numbers : List ℕ) (i : ℕ) (source rest : List ℕ) : Type 0 where
   pub to : ℕ

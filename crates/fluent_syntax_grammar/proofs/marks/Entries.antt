@@ -18,7 +18,7 @@ use Rattle.fluent_syntax_grammar.specs.Rules.{option_obeys, pattern_obeys, attri
 use Rattle.fluent_syntax_grammar.specs.Rules.{entry_obeys, body_obeys}
 use Rattle.fluent_syntax_grammar.specs.Readable.{has_field}
 use Rattle.fluent_syntax_grammar.specs.Canonical.{canonical_rules, is_canonical}
-use Rattle.fluent_syntax_grammar.specs.RoundTrip.{ReadsBack}
+use Rattle.fluent_syntax_grammar.specs.RoundTrip.{ReadsAs, ReadsBack}
 use Rattle.fluent_syntax_grammar.proofs.Facts.{left_true, right_true}
 use Rattle.fluent_syntax_grammar.proofs.marks.WrittenBytes.{pattern_bytes}
 use Rattle.fluent_syntax_grammar.proofs.marks.WrittenEntries.{doubled, after_hashes, comment_bytes, own_comment_bytes}
@@ -262,9 +262,6 @@ canonical_written : (edition : Edition) (es : BodyTree Text) → is_canonical ed
 unfolding written
 canonical_written edition es h = subst (IsWritten es) (sym (body_starts edition es h)) (body_then edition es false h)
 
-pub written_back : (edition : Edition) (es : BodyTree Text) → ReadsBack edition es
-written_back edition es h = reads_back edition es (written false es) h (canonical_written edition es h)
-
 -- ---- with junk or without
 
 marks_same : (edition : Edition) (es : BodyTree Text) (follows : Bool) →
@@ -281,7 +278,18 @@ marks_same edition (comment level content ∷ es) follows h =
 marks_same edition (junk x ∷ es) follows h = absurd cc
 
 -- A canonical body has no junk, so it is written as one text under both options.
-pub written_same : (edition : Edition) (es : BodyTree Text) → is_canonical edition es ≡ true →
+written_same : (edition : Edition) (es : BodyTree Text) → is_canonical edition es ≡ true →
     written true es ≡ written false es
 unfolding written
 written_same edition es h = ap (text_after None) (marks_same edition es false h)
+
+-- A canonical tree is read back from the text that it is written as, under both options.
+pub written_back : (edition : Edition) (es : BodyTree Text) → ReadsBack edition es
+written_back edition es with_junk h = by_option with_junk
+  where
+    plain : ReadsAs edition (written false es) es
+    plain = reads_back edition es (written false es) h (canonical_written edition es h)
+
+    by_option : (with_junk : Bool) → ReadsAs edition (written with_junk es) es
+    by_option false = plain
+    by_option true = subst (λ t. ReadsAs edition t es) (sym (written_same edition es h)) plain

@@ -12,6 +12,7 @@ use Rattle.fluent_syntax_tree.specs.Tree.{no_variants, variants, variant}
 use Rattle.fluent_syntax_tree.specs.Entry.{AttributeTree, MessageTree, TermTree, message, term, comment, junk, BodyTree}
 use Rattle.fluent_syntax_tree.specs.declared.edition.Edition.{Edition}
 use Rattle.fluent_syntax_tree.specs.declared.edition.Edition.TheVariants.{One}
+use Rattle.fluent_syntax_grammar.specs.PatternTexts.{ends_in_lf, is_empty, is_lone_lf}
 use Rattle.fluent_syntax_grammar.specs.Bytes.{lf, space}
 use Rattle.fluent_syntax_grammar.specs.Spellings.{is_name}
 use Rattle.fluent_syntax_grammar.specs.Written.{Text, Mark, literal, line_end, last_of, is_last, mark_text, text_after}
@@ -23,9 +24,9 @@ use Rattle.fluent_syntax_grammar.specs.Written.{arguments_marks, positional_mark
 use Rattle.fluent_syntax_grammar.specs.Written.{elements_marks, element_marks, pattern_marks, own_comment_marks}
 use Rattle.fluent_syntax_grammar.specs.Written.{attribute_line_marks, attributes_marks, value_marks, message_marks}
 use Rattle.fluent_syntax_grammar.specs.Written.{term_marks, body_marks, written}
-use Rattle.fluent_syntax_grammar.specs.Readable.{ends_in_lf, is_empty, has_field}
+use Rattle.fluent_syntax_grammar.specs.Readable.{has_field}
 use Rattle.fluent_syntax_grammar.specs.Rules.{option_obeys, message_obeys, term_obeys, entry_obeys, body_obeys}
-use Rattle.fluent_syntax_grammar.specs.Canonical.{canonical_rules, is_canonical, is_lone_lf}
+use Rattle.fluent_syntax_grammar.specs.Canonical.{canonical_rules, is_canonical}
 use Rattle.fluent_syntax_grammar.specs.Joined.{is_joined, joined_expression, joined_inline, joined_maybe}
 use Rattle.fluent_syntax_grammar.specs.Joined.{joined_arguments, joined_inlines, joined_nameds, joined_named}
 use Rattle.fluent_syntax_grammar.specs.Joined.{joined_variants, joined_pattern, joined_after, joined_attribute}

@@ -11,6 +11,7 @@ use Rattle.fluent_syntax_tree.specs.Tree.{inlines, NamedTree, NamedTrees, no_nam
 use Rattle.fluent_syntax_tree.specs.Tree.{text_element, placeable, PatternTree, no_elements, elements, VariantTrees}
 use Rattle.fluent_syntax_tree.specs.Tree.{no_variants, variants, variant}
 use Rattle.fluent_syntax_tree.specs.declared.edition.Edition.{Edition}
+use Rattle.fluent_syntax_grammar.specs.PatternTexts.{ends_in_lf}
 use Rattle.fluent_syntax_grammar.specs.Bytes.{lf, cr, space}
 use Rattle.fluent_syntax_grammar.specs.Inline.{is_callee_byte}
 use Rattle.fluent_syntax_grammar.specs.Spellings.{is_name}
@@ -24,9 +25,9 @@ use Rattle.fluent_syntax_grammar.specs.Rules.{inline_obeys, maybe_obeys, argumen
 use Rattle.fluent_syntax_grammar.specs.Rules.{named_obeys, expression_obeys, variants_obey, variant_obeys, key_obeys}
 use Rattle.fluent_syntax_grammar.specs.Rules.{option_obeys, elements_obey, pattern_obeys}
 use Rattle.fluent_syntax_grammar.specs.Readable.{Stand, opening, stand_after, after_placeable, are_named_well}
-use Rattle.fluent_syntax_grammar.specs.Readable.{ends_in_lf, ends_well, is_pattern, is_text, is_expression, stands_well}
+use Rattle.fluent_syntax_grammar.specs.Readable.{ends_well, is_pattern, is_text, stands_well}
 use Rattle.fluent_syntax_grammar.specs.Readable.{are_elements}
-use Rattle.fluent_syntax_grammar.specs.Canonical.{canonical_rules, is_flush, has_one_default}
+use Rattle.fluent_syntax_grammar.specs.Canonical.{canonical_rules, is_flush}
 use Rattle.fluent_syntax_grammar.proofs.Obeys.{inline_part, select_parts}
 use Rattle.fluent_syntax_grammar.proofs.Facts.{left_true, right_true}
 use Rattle.fluent_syntax_grammar.proofs.marks.WrittenBytes.{attribute_bytes, line_indent, opening_byte}
