@@ -14,6 +14,8 @@ mod outline;
 #[cfg(test)]
 mod program;
 #[cfg(test)]
+mod round_trip;
+#[cfg(test)]
 mod runtime;
 #[cfg(test)]
 mod serialized;
