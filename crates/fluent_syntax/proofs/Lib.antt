@@ -1,3 +1,4 @@
 pub mod FlatSteps
 pub mod ErrorLemmas
 pub mod SameAnswersLemmas
+pub mod RoundTripLemmas

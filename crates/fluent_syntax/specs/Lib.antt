@@ -2,3 +2,4 @@ pub mod Flat
 pub mod Lines
 pub mod Errors
 pub mod SameAnswers
+pub mod RoundTrip

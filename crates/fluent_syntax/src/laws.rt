@@ -1,12 +1,20 @@
 //! Laws that callers may rely on.
+ghost use Rattle.std.specs.Prelude.{◌≡◌, true, string_bytes};
+ghost use Rattle.fluent_syntax.specs.RoundTrip.{AnswersWritten, IsTree};
 ghost use Rattle.fluent_syntax.specs.SameAnswers.{SameAnswers};
+ghost use Rattle.fluent_syntax_grammar.specs.Canonical.{is_canonical};
+ghost use Rattle.fluent_syntax_grammar.specs.Joined.{joined_body};
 ghost use Rattle.fluent_syntax_reader.specs.Answers.{AnswersRuntimeTiling, AnswersTiling};
 ghost use Rattle.fluent_syntax_tree.specs.Entry.{body_map};
 ghost use Rattle.fluent_syntax_tree.specs.Spans.{bytes_at};
+ghost use Rattle.fluent_syntax_tree.specs.View.{resource_view};
 
-use crate::parser::{Edition, Result, Slice};
-pub use fluent_syntax_laws::unique_reading;
+use crate::parser::{Edition, ParseFault, Result, Slice, parse};
+pub use fluent_syntax_laws::{reads_back, reads_readable, unique_reading};
+use fluent_syntax_tree::ast::Resource;
 pub use fluent_syntax_tree::laws::same_texts;
+use fluent_syntax_writer::serializer::serialize;
+use std::alloc::{AllocError, Global};
 
 /// What parsing answers depends on the text and the edition alone: two answers, as one over `&str` and
 /// one over `String`, are equal text by text, with equal errors.
@@ -26,3 +34,28 @@ pub fn same_answers<'s, 'z, S: Slice<'s>, Z: Slice<'z>>(
         → AnswersRuntimeTiling Z.text (body_map (bytes_at text.now)) edition text.now b.now
         → SameAnswers S.text Z.text a.now b.now }
 {}
+
+/// Writes the tree without its junk, and reads that text by edition one.
+///
+/// - `answers`: so the answer is what `parse` gives for that text.
+/// - `back`: of a canonical tree it is `Ok` of the tree, text by text.
+/// - `joined`: so it is of the joined tree, where that is canonical: the tree without its junk, and with each text that
+///   is one LF joined to the text before it, if that does not end in LF.
+///
+/// `Memory` where a growth was refused, or where the text is as long as the greatest `usize`.
+pub fn reparse<'s, S: Slice<'s>>(alloc: Global, r: &Resource<S>) -> Result<String>
+    ensures answers { AnswersWritten string_bytes (resource_view S.text r.now) result }
+    ensures back { is_canonical Edition.One (resource_view S.text r.now) ≡ true
+        → IsTree string_bytes (resource_view S.text r.now) result }
+    ensures joined { is_canonical Edition.One (joined_body (resource_view S.text r.now)) ≡ true
+        → IsTree string_bytes (joined_body (resource_view S.text r.now)) result }
+{
+    let text = match serialize(alloc, r) {
+        Ok(text) => text,
+        Err(AllocError) => return Err(ParseFault::Memory),
+    };
+    if text.len() == usize::MAX {
+        return Err(ParseFault::Memory);
+    }
+    parse(alloc, text)
+}

@@ -1,6 +1,7 @@
 //! Both parsers, with trees of texts.
 ghost use Rattle.std.specs.Prelude.{◌≡◌, ◌+◌, ◌^◌, ◌<◌, List, [], length, IsOk, IsOkAnd};
 ghost use Rattle.fluent_syntax.specs.Errors.{ErrorsAscend, JunkIsRefused};
+ghost use Rattle.fluent_syntax.specs.RoundTrip.{AnswersReadable};
 ghost use Rattle.fluent_syntax_grammar.specs.Places.{BlankBlock};
 ghost use Rattle.fluent_syntax_grammar.specs.Tiling.{Tile};
 ghost use Rattle.fluent_syntax_reader.specs.Answers.{Answers, AnswersRuntimeTiling, AnswersTiling, ErrorsInText};
@@ -31,6 +32,7 @@ pub type Result<S> = std::result::Result<Resource<S>, ParseFault<S>>;
 pub fn parse<'s, S: Slice<'s>>(alloc: Global, input: S) -> Result<S>
     requires { length (S.text input) + 1 < 2 ^ 64 }
     ensures tiling { AnswersTiling S.text (body_map (bytes_at (S.text input))) Edition.One (S.text input) result }
+    ensures readable { AnswersReadable S.text (S.text input) result }
     ensures blank { BlankBlock (S.text input) 0 (length (S.text input)) → IsOk result }
     ensures junk { JunkIsRefused (S.text input) S.text result }
     ensures errors { ErrorsAscend (S.text input) result }

@@ -16,6 +16,8 @@ mod places;
 #[cfg(test)]
 mod program;
 #[cfg(test)]
+mod round_trip;
+#[cfg(test)]
 mod runtime;
 #[cfg(test)]
 mod serialized;

@@ -1,0 +1,67 @@
+-- The answers of a tiling: readable once joined; and, of a written tree, the tree.
+use Rattle.std.proofs.Common.{◌≡◌, ℕ, List, [], true, false, sym, ◌∙◌, subst, ap}
+use Rattle.std.specs.Prelude.{Result, Ok, Err}
+use Rattle.fluent_syntax_tree.specs.Entry.{BodyTree, body_map}
+use Rattle.fluent_syntax_tree.specs.Spans.{bytes_at}
+use Rattle.fluent_syntax_tree.specs.View.{resource_view}
+use Rattle.fluent_syntax_tree.specs.declared.ast.Resource.{Resource}
+use Rattle.fluent_syntax_tree.specs.declared.edition.Edition.TheVariants.{One}
+use Rattle.fluent_syntax_grammar.specs.Tiling.{Tile, Tiling}
+use Rattle.fluent_syntax_grammar.specs.Body.{faults}
+use Rattle.fluent_syntax_grammar.specs.Written.{Text, written}
+use Rattle.fluent_syntax_grammar.specs.Readable.{is_readable}
+use Rattle.fluent_syntax_grammar.specs.Joined.{joined_body}
+use Rattle.fluent_syntax_grammar.specs.RoundTrip.{ReadsAs, tree_of}
+use Rattle.fluent_syntax_grammar.proofs.OneTiling.{one_tiling}
+use Rattle.fluent_syntax_grammar.proofs.SomeTiling.{some_tiling}
+use Rattle.fluent_syntax_grammar.proofs.backward.Bodies.{joined_is_readable, joined_is_same}
+use Rattle.fluent_syntax_reader.specs.Answers.{Answers, AnswersTiling}
+use Rattle.fluent_syntax_reader.specs.declared.fault.ParseFault.{ParseFault}
+use Rattle.fluent_syntax_reader.specs.declared.fault.ParseFault.TheVariants.{Syntax, Memory}
+use Rattle.fluent_syntax.specs.RoundTrip.{AnswersReadable, AnswersWritten, IsTree}
+
+module _ {S : Type 0} (text : S → List ℕ) where
+  -- ---- what was read is readable
+
+  readable_as : (found : Resource S) (tree : BodyTree Text) → resource_view text found ≡ tree →
+      is_readable One (joined_body tree) ≡ true → is_readable One (joined_body (resource_view text found)) ≡ true
+  readable_as found tree same h = ap (λ b. is_readable One (joined_body b)) same ∙ h
+
+  joined_as : (found : Resource S) (tree : BodyTree Text) → resource_view text found ≡ tree →
+      joined_body tree ≡ tree → joined_body (resource_view text found) ≡ resource_view text found
+  joined_as found tree same h = ap joined_body same ∙ (h ∙ sym same)
+
+  readable_given : (t : Text) (tiles : List Tile) (result : Result (Resource S) (ParseFault S)) →
+      Tiling One t tiles → Answers text (body_map (bytes_at t)) tiles result → AnswersReadable text t result
+  readable_given t tiles (Ok found) tiling (same, clean) = (
+    λ bare. readable_as found (tree_of t tiles) same (joined_is_readable t tiles bare tiling),
+    λ none. joined_as found (tree_of t tiles) same (joined_is_same t tiles none tiling clean),
+  )
+  readable_given t tiles (Err (Syntax found errors)) tiling (same, told, some) =
+      λ bare. readable_as found (tree_of t tiles) same (joined_is_readable t tiles bare tiling)
+  readable_given t tiles (Err Memory) tiling given = tt
+
+  pub readable_answered : (t : Text) (result : Result (Resource S) (ParseFault S)) →
+      AnswersTiling text (body_map (bytes_at t)) One t result → AnswersReadable text t result
+  readable_answered t result (tiles, tiling, given) = readable_given t tiles result tiling given
+
+  -- ---- what was written is read back
+
+  -- where memory ran out
+  pub nothing_written : (tree : BodyTree Text) → AnswersWritten text tree (Err Memory)
+  nothing_written tree = let s = some_tiling One (written false tree) in (s.0, s.1, tt)
+
+  tree_given : (t : Text) (tiles : List Tile) (tree : BodyTree Text) (result : Result (Resource S) (ParseFault S)) →
+      faults tiles ≡ [] → tree_of t tiles ≡ tree → Answers text (body_map (bytes_at t)) tiles result →
+      IsTree text tree result
+  tree_given t tiles tree (Ok found) clean is (same, none) = same ∙ is
+  tree_given t tiles tree (Err (Syntax found errors)) clean is (same, told, some) = some clean
+  tree_given t tiles tree (Err Memory) clean is given = tt
+
+  -- A text that reads as a tree is answered with that tree.
+  pub tree_answered : (t : Text) (tree : BodyTree Text) (result : Result (Resource S) (ParseFault S)) →
+      ReadsAs One t tree → AnswersTiling text (body_map (bytes_at t)) One t result → IsTree text tree result
+  tree_answered t tree result r (tiles, tiling, given) =
+      tree_given t r.tiles tree result r.no_faults r.same
+      (subst (λ xs. Answers text (body_map (bytes_at t)) xs result) (one_tiling One t tiles r.tiles tiling r.tiling)
+      given)

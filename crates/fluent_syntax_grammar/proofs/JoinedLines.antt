@@ -1,0 +1,56 @@
+-- A pattern spans lines exactly where its joined pattern does.
+use Rattle.std.proofs.Common.{◌≡◌, ◌++◌, Bool, true, false, refl, ◌∙◌, ap}
+use Rattle.std.specs.Prelude.{◌||◌, ◌==◌, if◌then◌else◌}
+use Rattle.std.proofs.lemmas.List.Folds.{list_any-append}
+use Rattle.fluent_syntax_tree.specs.Tree.{ExpressionTree, select, inline, InlineTree, string_literal, number_literal}
+use Rattle.fluent_syntax_tree.specs.Tree.{function_reference, message_reference, term_reference, variable_reference}
+use Rattle.fluent_syntax_tree.specs.Tree.{inline_placeable, text_element, placeable, PatternTree, no_elements, elements}
+use Rattle.fluent_syntax_grammar.specs.Bytes.{lf}
+use Rattle.fluent_syntax_grammar.specs.Written.{Text, has_lf, is_select, holds_select, is_multiline}
+use Rattle.fluent_syntax_grammar.specs.Joined.{is_joined, joined_expression, joined_inline, joined_pattern, joined_after}
+
+mutual
+  select_same : (e : ExpressionTree Text) → is_select (joined_expression e) ≡ is_select e
+  select_same (select e vs) = refl
+  select_same (inline e) = holds_same e
+
+  holds_same : (e : InlineTree Text) → holds_select (joined_inline e) ≡ holds_select e
+  holds_same (string_literal v) = refl
+  holds_same (number_literal v) = refl
+  holds_same (function_reference id a) = refl
+  holds_same (message_reference id a) = refl
+  holds_same (term_reference id attribute a) = refl
+  holds_same (variable_reference id) = refl
+  holds_same (inline_placeable e) = select_same e
+
+or_same : (a b c d : Bool) → a ≡ b → c ≡ d → (a || c) ≡ (b || d)
+or_same a b c d e f = rw (e, f) refl
+
+or_assoc : (a b c : Bool) → ((a || b) || c) ≡ (a || (b || c))
+or_assoc true b c = refl
+or_assoc false b c = refl
+
+after_text_multiline : (v w : Text) (es : PatternTree Text) (x : Bool) →
+    is_multiline (joined_pattern es) ≡ is_multiline es →
+    is_multiline (joined_after w es) ≡ (has_lf w || is_multiline es) →
+    is_multiline (if x then elements (text_element (v ++ w)) (joined_pattern es) else elements (text_element v)
+    (joined_after w es)) ≡ (has_lf v || (has_lf w || is_multiline es))
+after_text_multiline v w es true g h =
+    or_same (has_lf (v ++ w)) (has_lf v || has_lf w) _ _ (list_any-append (λ b. b == lf) v w) g
+    ∙ or_assoc (has_lf v) (has_lf w) (is_multiline es)
+after_text_multiline v w es false g h = ap (λ x. has_lf v || x) h
+
+mutual
+  pub multiline_same : (p : PatternTree Text) → is_multiline (joined_pattern p) ≡ is_multiline p
+  multiline_same no_elements = refl
+  multiline_same (elements (placeable e) es) =
+      or_same _ (is_select e) _ (is_multiline es) (select_same e) (multiline_same es)
+  multiline_same (elements (text_element v) es) = after_multiline es v
+
+  after_multiline : (es : PatternTree Text) (v : Text) →
+      is_multiline (joined_after v es) ≡ (has_lf v || is_multiline es)
+  after_multiline no_elements v = refl
+  after_multiline (elements (placeable e) es) v =
+      ap (λ x. has_lf v || x) (or_same _ (is_select e) _ (is_multiline es) (select_same e) (multiline_same es))
+  after_multiline (elements (text_element w) es) v =
+      after_text_multiline v w es (is_joined v w) (multiline_same es) (after_multiline es w)

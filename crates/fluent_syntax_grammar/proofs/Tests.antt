@@ -1,0 +1,68 @@
+-- What a test says of its parts, and its parts of it.
+use Rattle.std.proofs.Common.{◌≡◌, ℕ, Bool, true, false, refl, inl, inr}
+use Rattle.std.specs.Prelude.{◌==◌, ◌&&◌, ◌||◌, ◌⊎◌, not}
+use Rattle.fluent_syntax_grammar.proofs.Facts.{equal}
+
+-- ---- both, or one of them
+
+pub both : {x y : Bool} → x ≡ true → y ≡ true → (x && y) ≡ true
+both e f = rw (e, f) refl
+
+pub and_false : (x : Bool) → (x && false) ≡ false
+and_false true = refl
+and_false false = refl
+
+pub or_true : (x : Bool) → (x || true) ≡ true
+or_true true = refl
+or_true false = refl
+
+pub or_left : (x y : Bool) → x ≡ true → (x || y) ≡ true
+or_left x y e = rw e refl
+
+pub or_right : (x y : Bool) → y ≡ true → (x || y) ≡ true
+or_right x y e = rw e (or_true x)
+
+pub or_first : (x y z : Bool) → x ≡ true → (x || y || z) ≡ true
+or_first x y z e = or_left (x || y) z (or_left x y e)
+
+pub or_second : (x y z : Bool) → y ≡ true → (x || y || z) ≡ true
+or_second x y z e = or_left (x || y) z (or_right x y e)
+
+pub or_third : (x y z : Bool) → z ≡ true → (x || y || z) ≡ true
+or_third x y z e = or_right (x || y) z e
+
+pub or_cases : (x y : Bool) → (x || y) ≡ true → (x ≡ true) ⊎ (y ≡ true)
+or_cases true y e = inl refl
+or_cases false y e = inr e
+
+-- ---- neither, and not
+
+pub neither_left : (x y : Bool) → (x || y) ≡ false → x ≡ false
+neither_left true y e = cc
+neither_left false y e = refl
+
+pub neither_right : (x y : Bool) → (x || y) ≡ false → y ≡ false
+neither_right true y e = cc
+neither_right false y e = e
+
+pub not_false : (x : Bool) → x ≡ false → not x ≡ true
+not_false true e = cc
+not_false false e = refl
+
+pub not_true : (x : Bool) → not x ≡ true → x ≡ false
+not_true true e = cc
+not_true false e = refl
+
+pub without : (x y : Bool) → (x && not y) ≡ true → y ≡ false
+without true y e = not_true y e
+without false y e = cc
+
+-- ---- bytes
+
+differ_at : (p : ℕ → Bool) (b c : ℕ) (x : Bool) → (b == c) ≡ x → p b ≡ true → p c ≡ false → x ≡ false
+differ_at p b c false e f g = refl
+differ_at p b c true e f g = let same = equal b c e in cc
+
+-- a byte that passes a test is not one that fails it
+pub differ : (p : ℕ → Bool) (b c : ℕ) → p b ≡ true → p c ≡ false → (b == c) ≡ false
+differ p b c f g = differ_at p b c (b == c) refl f g

@@ -1,0 +1,385 @@
+-- What was read is fine: lines, patterns and variants; and so all that nests, to any depth. In edition one, where an LF
+-- follows every CR.
+use Rattle.std.proofs.Common.{◌≡◌, ℕ, zero, suc, ◌+◌, ◌-◌, ◌<◌, List, [], ◌∷◌, ◌++◌, Option, Some, None, Bool, true}
+use Rattle.std.proofs.Common.{false, refl, sym, ◌∙◌, subst, ap, arith, inl, inr}
+use Rattle.std.specs.Prelude.{◌==◌, ◌||◌, ◌&&◌, not, nat_lt, nat_le, slice_get, if◌then◌else◌}
+use Rattle.std.proofs.lemmas.Bool.Decides.{nat_tests}
+use Rattle.fluent_syntax_tree.specs.Spans.{bytes_at}
+use Rattle.fluent_syntax_tree.specs.declared.spans.Span.{Span}
+use Rattle.fluent_syntax_tree.specs.declared.edition.Edition.TheVariants.{One}
+use Rattle.fluent_syntax_tree.specs.Every.{option_every}
+use Rattle.fluent_syntax_tree.specs.Tree.{KeyTree, number_key, key_map, ElementTree, text_element, placeable}
+use Rattle.fluent_syntax_tree.specs.Tree.{PatternTree, no_elements, elements, VariantTrees, no_variants, variants}
+use Rattle.fluent_syntax_tree.specs.Tree.{variant, variants_map}
+use Rattle.fluent_syntax_grammar.specs.Bytes.{lf, cr, is_space}
+use Rattle.fluent_syntax_grammar.specs.Places.{holds, Stretch, has, has_byte, has_eol, after_eol, InlineBlank}
+use Rattle.fluent_syntax_grammar.specs.Places.{BlankBlock, no_line, line}
+use Rattle.fluent_syntax_grammar.specs.Construct.{Read, ◌>>=◌, goes_on, gives, given, at_place, passed, chosen, first}
+use Rattle.fluent_syntax_grammar.specs.Construct.{second}
+use Rattle.fluent_syntax_grammar.specs.Words.{number}
+use Rattle.fluent_syntax_grammar.specs.Family.{Family}
+use Rattle.fluent_syntax_grammar.specs.Layout.{Piece, run, placed, Ending, lf_at, crlf_at, Line, Layout}
+use Rattle.fluent_syntax_grammar.specs.Elements.{Item, text, filled, items, cut, spelled, if_any, pattern_of}
+use Rattle.fluent_syntax_grammar.specs.Lines as lines
+use Rattle.fluent_syntax_grammar.specs.Lines.{is_run_place, belongs, ending_of, ending, pieces_at, no_byte, other_line}
+use Rattle.fluent_syntax_grammar.specs.Lines.{own_line}
+use Rattle.fluent_syntax_grammar.specs.Patterns.{layout_at, layout, pattern}
+use Rattle.fluent_syntax_grammar.specs.Variants.{variant_key, only_star, variants_end, variant_and_more, variant_after}
+use Rattle.fluent_syntax_grammar.specs.Variants.{more_variants}
+use Rattle.fluent_syntax_grammar.specs.Grammar.{next, within, family}
+use Rattle.fluent_syntax_grammar.specs.Written.{Text, is_multiline}
+use Rattle.fluent_syntax_grammar.specs.Rules.{pattern_obeys}
+use Rattle.fluent_syntax_grammar.specs.Readable.{opening, defaults, readable_rules}
+use Rattle.fluent_syntax_grammar.specs.Joined.{is_joined, joined_pattern, joined_after, joined_variants}
+use Rattle.fluent_syntax_grammar.specs.RoundTrip.{HasNoBareCr}
+use Rattle.fluent_syntax_grammar.proofs.Holds.{gave}
+use Rattle.fluent_syntax_grammar.proofs.Cuts.{eol_cases}
+use Rattle.fluent_syntax_grammar.proofs.Functional.{single_stretch}
+use Rattle.fluent_syntax_grammar.proofs.Facts.{byte_stands, differs, lt_or_same}
+use Rattle.fluent_syntax_grammar.proofs.Tests.{both}
+use Rattle.fluent_syntax_grammar.proofs.backward.Shapes.{Kept, kept_cut, shape_cut, tree, Well, items_well, items_same}
+use Rattle.fluent_syntax_grammar.proofs.backward.Shapes.{Shape}
+use Rattle.fluent_syntax_grammar.proofs.backward.Lines.{IsEnd, PiecesAt, no_piece, a_run, a_placeable, EndingAt}
+use Rattle.fluent_syntax_grammar.proofs.backward.Lines.{lf_ends, crlf_ends, text_ends, LineAt, LinesAt}
+use Rattle.fluent_syntax_grammar.proofs.backward.Lines.{no_line as no_lines, a_line, LayoutAt, on_line, below}
+use Rattle.fluent_syntax_grammar.proofs.backward.Layouts.{layout_shape}
+use Rattle.fluent_syntax_grammar.proofs.backward.FirstLines.{spare}
+use Rattle.fluent_syntax_grammar.proofs.backward.Words.{number_was}
+use Rattle.fluent_syntax_grammar.proofs.backward.Rules.{Ensures, ensures_bind, ensures_then, ensures_gives}
+use Rattle.fluent_syntax_grammar.proofs.backward.Rules.{ensures_fails, ensures_at_each, ensures_either, Fine, IsPattern}
+use Rattle.fluent_syntax_grammar.proofs.backward.Rules.{IsKey, IsVariants, IsFineFamily, ensures_name}
+use Rattle.fluent_syntax_grammar.proofs.backward.Rules.{ensures_placeable, inline_was, ensures_arguments}
+use Rattle.fluent_syntax_grammar.proofs.Tests.{neither_left, not_false}
+
+-- ---- the pattern that a layout gives
+
+abbrev has_elements : PatternTree Text → Bool
+has_elements no_elements = false
+has_elements (elements e es) = true
+
+after_elements : (v : Text) (p : PatternTree Text) → has_elements (joined_after v p) ≡ true
+after_elements v no_elements = refl
+after_elements v (elements (placeable e) es) = refl
+after_elements v (elements (text_element w) es) = whichever (is_joined v w)
+  where
+    whichever : (b : Bool) →
+        has_elements (if b then elements (text_element (v ++ w)) (joined_pattern es) else elements (text_element v)
+        (joined_after w es)) ≡ true
+    whichever true = refl
+    whichever false = refl
+
+joined_elements : (e : ElementTree Text) (es : PatternTree Text) → has_elements (joined_pattern (elements e es)) ≡ true
+joined_elements (placeable e) es = refl
+joined_elements (text_element v) es = after_elements v es
+
+well_obeys : (p : PatternTree Text) → has_elements p ≡ true → Well (is_multiline p) opening p →
+    pattern_obeys (readable_rules One) p ≡ true
+well_obeys no_elements e w = cc
+well_obeys (elements x xs) e w = both w.stand w.obey
+
+module _ (t : List ℕ) (bare : HasNoBareCr t) (Joins : Type 0) (crs : (i : ℕ) → has_byte t cr i ≡ true → Joins) where
+  tree_elements : (x : Item) (xs : List Item) → has_elements (joined_pattern (tree t (x ∷ xs))) ≡ true
+  tree_elements (text from to) [] = refl
+  tree_elements (text from to) (y ∷ ys) = joined_elements (text_element _) (tree t (y ∷ ys))
+  tree_elements (filled e) xs = refl
+
+  tree_fine : (x : Item) (xs : List Item) →
+      Shape t Joins (is_multiline (joined_pattern (tree t (x ∷ xs)))) opening (x ∷ xs) → Kept t (x ∷ xs) →
+      Fine Joins (pattern_obeys (readable_rules One)) joined_pattern (tree t (x ∷ xs))
+  tree_fine x xs s k =
+      let m = is_multiline (joined_pattern (tree t (x ∷ xs))) in
+      record {
+        obeys =
+            well_obeys (joined_pattern (tree t (x ∷ xs))) (tree_elements x xs)
+            (items_well t Joins m opening (x ∷ xs) tt s k);
+        same = λ none. items_same t Joins m none opening (x ∷ xs) s;
+      }
+
+  spelled_fine : (xs : List Item) → Shape t Joins (is_multiline (joined_pattern (tree t xs))) opening xs → Kept t xs →
+      option_every (IsPattern t Joins) (if_any (spelled t xs))
+  spelled_fine [] s k = tt
+  spelled_fine (text from to ∷ []) s k = tree_fine (text from to) [] s k
+  spelled_fine (text from to ∷ y ∷ ys) s k = tree_fine (text from to) (y ∷ ys) s k
+  spelled_fine (filled e ∷ xs) s k = tree_fine (filled e) xs s k
+
+  -- a layout that was read spells a fine pattern, or none
+  pub pattern_fine : (y : Layout) → LayoutAt t Joins y → option_every (IsPattern t Joins) (pattern_of One t y)
+  pattern_fine y x =
+      let m = is_multiline (joined_pattern (tree t (cut t (items One y)))) in
+      spelled_fine (cut t (items One y))
+      (shape_cut t Joins m opening (items One y)
+      (layout_shape t bare Joins crs m y x (spare t bare Joins crs m y x))) (kept_cut t (items One y))
+
+no_eol : (a b c : Bool) (m n : ℕ) → (if a then Some m else if b && c then Some n else None) ≡ None →
+    (a || b && c) ≡ false
+no_eol true b c m n e = cc
+no_eol false true true m n e = cc
+no_eol false true false m n e = refl
+no_eol false false c m n e = refl
+
+module _ (t : List ℕ) where
+  pub after_none : (i : ℕ) → after_eol t i ≡ None → has_eol t i ≡ false
+  after_none i e = no_eol (has_byte t lf i) (has_byte t cr i) (has_byte t lf (i + 1)) (i + 1) (i + 2) e
+
+  block_stop : (i j : ℕ) → BlankBlock t i j → (k : ℕ) × InlineBlank t j k × (after_eol t k ≡ None)
+  block_stop i j (no_line {k = k} w e) = (k, w, e)
+  block_stop i j (line {m = m} w e b) = block_stop m j b
+
+not_both : (i k : ℕ) → k ≡ i + 2 → (k == i + 1) ≡ true → ⊥
+not_both i k e f = grind (arith, nat_tests)
+
+neither : (i k : ℕ) → k ≡ i + 1 → (k == i + 1) ≡ false → ⊥
+neither i k e f = grind (arith, nat_tests)
+
+module _ (t : List ℕ) (Joins : Type 0) where
+  by_test : (i k j : ℕ) (test : Bool) → (k == i + 1) ≡ test → after_eol t i ≡ Some k → k ≡ j →
+      EndingAt t Joins i (if test then lf_at i else crlf_at i) j
+  by_test i k j true f e s = elim (eol_cases t i k e) [
+    | inl x ↦ subst (EndingAt t Joins i (lf_at i)) (sym x.1 ∙ s) (lf_ends x.0)
+    | inr x ↦ absurd (not_both i k x.2 f)
+  ]
+  by_test i k j false f e s = elim (eol_cases t i k e) [
+    | inl x ↦ absurd (neither i k x.1 f)
+    | inr x ↦ subst (EndingAt t Joins i (crlf_at i)) (sym x.2 ∙ s) (crlf_ends x.0 x.1)
+  ]
+
+  end_none : (i : ℕ) → IsEnd t i → after_eol t i ≡ None → slice_get t i ≡ None
+  end_none i (inl e) f = differs e (after_none t i f)
+  end_none i (inr e) f = e
+
+  ending_at : (i j : ℕ) (x : Ending) (o : Option ℕ) → IsEnd t i → after_eol t i ≡ o → ending_of t i o i (Read x j) →
+      EndingAt t Joins i x j
+  ending_at i j x None n e given = text_ends (end_none i n e)
+  ending_at i j x (Some k) n e (goes_on {j = m} (passed w) y) =
+      let value = gave (if k == i + 1 then lf_at i else crlf_at i) x m j y in
+      subst (λ x. EndingAt t Joins i x j) value.0 (by_test i k j (k == i + 1) refl e (sym w.there ∙ value.1))
+
+  pub ending_was : (i j : ℕ) (x : Ending) → IsEnd t i → ending t i (Read x j) → EndingAt t Joins i x j
+  ending_was i j x n (goes_on at_place (chosen y)) = ending_at i j x (after_eol t i) n refl y
+
+  pub pieces_end : (i : ℕ) (ps : List Piece) (j : ℕ) → PiecesAt t Joins i ps j → IsEnd t j
+  pieces_end i [] j (no_piece e) = e
+  pieces_end i (run from to ∷ ps) j (a_run l w x) = pieces_end to ps j x
+  pieces_end i (placed e ∷ ps) j (a_placeable {m = m} g x) = pieces_end m ps j x
+
+  run_begins : (i b : ℕ) → slice_get t i ≡ Some b → has_eol t i ≡ false → (b == 125) ≡ false → (b == 123) ≡ false →
+      is_run_place t i ≡ true
+  run_begins i b e f g h =
+      let no_lf : (b == lf) ≡ false =
+      ap (holds (λ c. c == lf)) (sym e) ∙ neither_left (has_byte t lf i) (has_byte t cr i && has_byte t lf (i + 1)) f in
+      both (byte_stands (λ b. not (b == lf || b == 123 || b == 125)) (slice_get t i) b e (rw (no_lf, h, g) refl))
+      (not_false (has_eol t i) f)
+
+module _ (t : List ℕ) (bare : HasNoBareCr t) (Joins : Type 0) (crs : (i : ℕ) → has_byte t cr i ≡ true → Joins)
+    (R : Family) (h : IsFineFamily t Joins R) where
+  pieces_was_at : (i j : ℕ) (ps : List Piece) (o : Option ℕ) → slice_get t i ≡ o → pieces_at t R o i (Read ps j) →
+      PiecesAt t Joins i ps j
+  pieces_was_at i j ps None e given = no_piece (inr e)
+  pieces_was_at i j ps (Some b) e (chosen (first f given)) = no_piece (inl f)
+  pieces_was_at i j ps (Some b) e (chosen (second f (first g x))) = elim x [ ]
+  pieces_was_at i j ps (Some b) e
+      (chosen (second f (second g (first k (goes_on {j = m} {a = x} y (goes_on {a = qs} z given)))))) =
+      a_placeable ((ensures_placeable t Joins R h).on_read i m x y) (h.more_pieces m j qs z)
+  pieces_was_at i j ps (Some b) e
+      (chosen (second f
+      (second g (second k
+      (goes_on at_place (goes_on (passed {j = to} w) (goes_on at_place (goes_on {a = qs} z given)))))))) =
+      a_run (onward i to (run_begins t Joins i b e f g k) w) w (h.more_pieces to j qs z)
+    where
+      onward : (i to : ℕ) → is_run_place t i ≡ true → Stretch (is_run_place t) i to → i < to
+      onward i to e w =
+          elim (lt_or_same i to w.forward)
+          [ inl l ↦ l | inr same ↦ differs (subst (λ k. is_run_place t k ≡ true) same e) w.longest ]
+
+  pub pieces_was : (i j : ℕ) (ps : List Piece) → lines.more_pieces t R i (Read ps j) → PiecesAt t Joins i ps j
+  pieces_was i j ps (chosen x) = pieces_was_at i j ps (slice_get t i) refl x
+
+  line_made : (i k b start m n : ℕ) (ps : List Piece) (e' : Ending) → InlineBlank t i k → slice_get t k ≡ Some b →
+      belongs t (nat_lt i k) k ≡ true → InlineBlank t i start → PiecesAt t Joins start ps m → EndingAt t Joins m e' n →
+      LineAt t Joins i (record { start = i; spaces = start - i; pieces = ps; ending = e' }) n
+  line_made i k b start m n ps e' w e f v p q =
+      let same : k ≡ start = single_stretch.same i k start w v in
+      record {
+        first = start;
+        byte = b;
+        end = m;
+        start = refl;
+        spaces = refl;
+        leading = v;
+        stands = subst (λ k. slice_get t k ≡ Some b) same e;
+        own = subst (λ k. belongs t (nat_lt i k) k ≡ true) same f;
+        pieces = p;
+        ending = q;
+      }
+
+  line_was : (i k b j : ℕ) (l : Line) → InlineBlank t i k → slice_get t k ≡ Some b → belongs t (nat_lt i k) k ≡ true →
+      lines.line t R i (Read l j) → LineAt t Joins i l j
+  line_was i k b j l w e f
+      (goes_on at_place
+      (goes_on (passed {j = start} v)
+      (goes_on at_place (goes_on {j = m} {a = ps} x (goes_on {j = n} {a = e'} y z))))) =
+      let p = h.more_pieces start m ps x in
+      let made =
+      line_made i k b start m n ps e' w e f v p (ending_was t Joins m n e' (pieces_end t Joins start ps m p) y) in
+      let value = gave (record { start = i; spaces = start - i; pieces = ps; ending = e' }) l n j z in
+      subst (λ l. LineAt t Joins i l j) value.0
+      (subst (λ j. LineAt t Joins i (record { start = i; spaces = start - i; pieces = ps; ending = e' }) j) value.1
+      made)
+
+  pub lines_was : (i j : ℕ) (ls : List Line) → lines.more_lines t R i (Read ls j) → LinesAt t Joins i ls
+  lines_was i j ls (no_byte w e) = no_lines
+  lines_was i j ls (other_line w e f) = no_lines
+  lines_was i j ls (own_line {k = k} {b = b} w e f (goes_on {j = m} {a = l} x (goes_on {a = rest} y given))) =
+      a_line (line_was i k b m l w e f x) (h.more_lines m j rest y)
+
+  layout_was_at : (i j : ℕ) (y : Layout) (o : Option ℕ) → has t is_space i ≡ false → after_eol t i ≡ o →
+      layout_at t R o i (Read y j) → LayoutAt t Joins y
+  layout_was_at i j y None s e
+      (goes_on at_place (goes_on {j = m} {a = ps} x (goes_on {j = n} {a = z} w (goes_on {a = ls} v given)))) =
+      let p = h.more_pieces i m ps x in
+      on_line s (after_none t i e) p (ending_was t Joins m n z (pieces_end t Joins i ps m p) w) (h.more_lines n j ls v)
+  layout_was_at i j y (Some k) s e
+      (goes_on (passed {j = m} r) (goes_on (passed {j = n} b) (goes_on {a = ls} v given))) =
+      let c = block_stop t m n b in
+      below c.1 (after_none t c.0 c.2) (h.more_lines n j ls v)
+
+  pub layout_was : (i j : ℕ) (y : Layout) → layout t R i (Read y j) → LayoutAt t Joins y
+  layout_was i j y (goes_on (passed {j = m} w) (chosen x)) = layout_was_at m j y (after_eol t m) w.longest refl x
+
+  pub ensures_pattern : Ensures (pattern One t R) (option_every (IsPattern t Joins))
+  ensures_pattern =
+      ensures_bind (record { on_read = λ i j y x. layout_was i j y x })
+      (λ y g. ensures_gives (pattern_fine t bare Joins crs y g))
+
+  -- ---- variants
+
+  number_key_was : (i j : ℕ) (k : KeyTree Span) → (number t >>= λ v. gives (number_key v)) i (Read k j) →
+      IsKey t Joins k
+  number_key_was i j k (goes_on {j = m} {a = v} x given) = (number_was t i m v x).number
+
+  ensures_key : Ensures (variant_key t) (IsKey t Joins)
+  ensures_key =
+      ensures_at_each
+      (λ n. ensures_either (λ e. record { on_read = number_key_was })
+      (λ e. ensures_bind (ensures_name t Joins) (λ v g. ensures_gives g)))
+
+  pub no_variant : (starred : Bool) → IsVariants t Joins starred no_variants
+  no_variant starred = record { fine = record { obeys = refl; same = λ none. refl }; none = λ e. refl; one = refl }
+
+  one_less : (n : ℕ) → n ≡ 0 → nat_le (1 + n) 1 ≡ true
+  one_less n e = rw e refl
+
+  pair_same : (key : KeyTree Span) (default : Bool) {p q : PatternTree Text} {us vs : VariantTrees Text} → p ≡ q →
+      us ≡ vs →
+      variants (variant (key_map (bytes_at t) key) p default) us
+      ≡ variants (variant (key_map (bytes_at t) key) q default) vs
+  pair_same key default e f = cc (e, f)
+
+  add_variant : (starred star : Bool) (key : KeyTree Span) (value : PatternTree Span) (vs : VariantTrees Span) →
+      (starred && star) ≡ false → IsKey t Joins key → IsPattern t Joins value →
+      IsVariants t Joins (starred || star) vs → IsVariants t Joins starred (variants (variant key value star) vs)
+  add_variant true true key value vs e k p g = absurd cc
+  add_variant false true key value vs e k p g =
+      let f = g.fine in
+      record {
+        fine =
+            record {
+              obeys = both (both k p.obeys) f.obeys;
+              same = λ none. pair_same key true (p.same none) (f.same none);
+            };
+        none = λ y. absurd cc;
+        one = one_less (defaults (joined_variants (variants_map (bytes_at t) vs))) (g.none refl);
+      }
+  add_variant true false key value vs e k p g =
+      let f = g.fine in
+      record {
+        fine =
+            record {
+              obeys = both (both k p.obeys) f.obeys;
+              same = λ none. pair_same key false (p.same none) (f.same none);
+            };
+        none = λ y. g.none refl;
+        one = g.one;
+      }
+  add_variant false false key value vs e k p g =
+      let f = g.fine in
+      record {
+        fine =
+            record {
+              obeys = both (both k p.obeys) f.obeys;
+              same = λ none. pair_same key false (p.same none) (f.same none);
+            };
+        none = λ y. absurd cc;
+        one = g.one;
+      }
+
+  ensures_variant : (starred star : Bool) (key : KeyTree Span) (o : Option (PatternTree Span)) →
+      (starred && star) ≡ false → IsKey t Joins key → option_every (IsPattern t Joins) o →
+      Ensures (variant_and_more One t R starred star key o) (IsVariants t Joins starred)
+  ensures_variant starred star key None e k p = ensures_fails
+  ensures_variant starred star key (Some value) e k p =
+      ensures_then (λ u.
+      ensures_bind (h.more_variants (starred || star))
+      (λ vs g. ensures_gives (add_variant starred star key value vs e k p g)))
+
+  ensures_after : (starred star : Bool) → (starred && star) ≡ false →
+      Ensures (variant_after One t R starred star) (IsVariants t Joins starred)
+  ensures_after starred star e =
+      ensures_then (λ u.
+      ensures_bind ensures_key
+      (λ key k. ensures_then
+      (λ u. ensures_then (λ u. ensures_bind ensures_pattern (λ o p. ensures_variant starred star key o e k p)))))
+
+  ensures_only : (starred star : Bool) → Ensures (only_star starred star) (λ u. (starred && star) ≡ false)
+  ensures_only starred star = ensures_either (λ e. ensures_fails) (λ e. ensures_gives e)
+
+  ensures_end : (starred star : Bool) → Ensures (variants_end One starred star) (IsVariants t Joins starred)
+  ensures_end starred star = ensures_either (λ e. ensures_gives (no_variant starred)) (λ e. ensures_fails)
+
+  ensures_variants : (starred : Bool) → Ensures (more_variants One t R starred) (IsVariants t Joins starred)
+  ensures_variants starred =
+      ensures_then (λ star.
+      ensures_bind (ensures_only starred star)
+      (λ u e. ensures_then
+      (λ bracket. ensures_either (λ y. ensures_after starred star e) (λ y. ensures_end starred star))))
+
+  fine_next : IsFineFamily t Joins (next One t R)
+  fine_next = record {
+    inline_expression = inline_was t Joins R h;
+    more_arguments = ensures_arguments t Joins R h;
+    more_variants = ensures_variants;
+    more_pieces = pieces_was;
+    more_lines = lines_was;
+  }
+
+module _ (t : List ℕ) (bare : HasNoBareCr t) (Joins : Type 0) (crs : (i : ℕ) → has_byte t cr i ≡ true → Joins) where
+  fine_nothing : IsFineFamily t Joins (within One t zero)
+  unfolding within
+  fine_nothing = record {
+    inline_expression = λ i j e x. absurd x;
+    more_arguments = λ names. record { on_read = λ i j a x. absurd x };
+    more_variants = λ starred. record { on_read = λ i j a x. absurd x };
+    more_pieces = λ i j ps x. absurd x;
+    more_lines = λ i j ls x. absurd x;
+  }
+
+  fine_suc : (n : ℕ) → IsFineFamily t Joins (within One t n) → IsFineFamily t Joins (within One t (suc n))
+  unfolding within
+  fine_suc n h = fine_next t bare Joins crs (within One t n) h
+
+  fine_within : (n : ℕ) → IsFineFamily t Joins (within One t n)
+  fine_within zero = fine_nothing
+  fine_within (suc n) = fine_suc n (fine_within n)
+
+  -- what nests is fine, to any depth
+  pub fine_family : IsFineFamily t Joins (family One t)
+  unfolding family
+  fine_family = record {
+    inline_expression = λ i j e x. (fine_within x.0).inline_expression i j e x.1;
+    more_arguments =
+        λ names. record { on_read = λ i j a x. ((fine_within x.0).more_arguments names).on_read i j a x.1 };
+    more_variants =
+        λ starred. record { on_read = λ i j a x. ((fine_within x.0).more_variants starred).on_read i j a x.1 };
+    more_pieces = λ i j ps x. (fine_within x.0).more_pieces i j ps x.1;
+    more_lines = λ i j ls x. (fine_within x.0).more_lines i j ls x.1;
+  }

@@ -1,0 +1,395 @@
+-- What was read is fine: expressions, over a family whose constructs give what is fine.
+use Rattle.std.proofs.Common.{◌≡◌, ℕ, ◌+◌, List, [], ◌∷◌, Option, Some, None, Bool, true, false, refl, ◌∙◌, subst, ap}
+use Rattle.std.specs.Prelude.{◌==◌, nat_le, is_none, slice_get, if◌then◌else◌}
+use Rattle.std.specs.List.{list_all}
+use Rattle.fluent_syntax_tree.specs.Kind.{Kind}
+use Rattle.fluent_syntax_tree.specs.Spans.{bytes_at}
+use Rattle.fluent_syntax_tree.specs.declared.spans.Span.{Span}
+use Rattle.fluent_syntax_tree.specs.declared.edition.Edition.TheVariants.{One}
+use Rattle.fluent_syntax_tree.specs.Tree.{KeyTree, key_map, select, inline, InlineTree, string_literal, number_literal}
+use Rattle.fluent_syntax_tree.specs.Tree.{function_reference, message_reference, term_reference, variable_reference}
+use Rattle.fluent_syntax_tree.specs.Tree.{inline_placeable, inline_map, ArgumentsTree, arguments, arguments_map}
+use Rattle.fluent_syntax_tree.specs.Tree.{MaybeArguments, no_arguments, some_arguments, maybe_map, inlines_map}
+use Rattle.fluent_syntax_tree.specs.Tree.{nameds_map, PatternTree, pattern_map, VariantTrees, variants_map}
+use Rattle.fluent_syntax_tree.specs.Tree.{option_texts}
+use Rattle.fluent_syntax_grammar.specs.Bytes.{is_digit, is_letter}
+use Rattle.fluent_syntax_grammar.specs.Places.{holds, has}
+use Rattle.fluent_syntax_grammar.specs.Construct.{Read, Construct, ◌>>=◌, goes_on, gives, given, fails, at_each, chosen}
+use Rattle.fluent_syntax_grammar.specs.Construct.{either, first, second}
+use Rattle.fluent_syntax_grammar.specs.Words.{identifier, number}
+use Rattle.fluent_syntax_grammar.specs.Strings as strings
+use Rattle.fluent_syntax_grammar.specs.Family.{Family}
+use Rattle.fluent_syntax_grammar.specs.Starts.{Start, quote, digit, term, minus, dollar, letter, brace, other, start_of}
+use Rattle.fluent_syntax_grammar.specs.Starts.{start}
+use Rattle.fluent_syntax_grammar.specs.Arguments.{accessor, add_positional, add_named, call_arguments, argument_value}
+use Rattle.fluent_syntax_grammar.specs.Arguments.{named_and_more, positional_and_more, argument_name, argument_and_more}
+use Rattle.fluent_syntax_grammar.specs.Arguments.{more_arguments_at, more_arguments, is_used}
+use Rattle.fluent_syntax_grammar.specs.Placeables.{selector_fault, is_term_attribute, variants_of_select, select_with}
+use Rattle.fluent_syntax_grammar.specs.Placeables.{expression, placeable}
+use Rattle.fluent_syntax_grammar.specs.Inline.{named_reference, inline_of, inline_expression, is_callee_byte}
+use Rattle.fluent_syntax_grammar.specs.Layout.{Piece, Line}
+use Rattle.fluent_syntax_grammar.specs.Written.{Text}
+use Rattle.fluent_syntax_grammar.specs.Spellings.{is_name}
+use Rattle.fluent_syntax_grammar.specs.Rules.{option_obeys, key_obeys, inline_obeys, maybe_obeys, arguments_obey}
+use Rattle.fluent_syntax_grammar.specs.Rules.{inlines_obey, nameds_obey, variants_obey, pattern_obeys}
+use Rattle.fluent_syntax_grammar.specs.Readable.{is_argument_value, are_named_well, defaults, readable_rules}
+use Rattle.fluent_syntax_grammar.specs.Joined.{joined_inline, joined_maybe, joined_arguments, joined_inlines}
+use Rattle.fluent_syntax_grammar.specs.Joined.{joined_nameds, joined_variants, joined_pattern}
+use Rattle.fluent_syntax_grammar.proofs.Facts.{left_true}
+use Rattle.fluent_syntax_grammar.proofs.Tests.{both}
+use Rattle.fluent_syntax_grammar.proofs.backward.Shapes.{IsRead}
+use Rattle.fluent_syntax_grammar.proofs.backward.Lines.{PiecesAt, LinesAt}
+use Rattle.fluent_syntax_grammar.proofs.backward.Words.{IsName, name_was, number_was, string_was}
+use Rattle.fluent_syntax_grammar.proofs.Tests.{not_false}
+
+-- ---- what a construct gives is good, wherever it is read
+
+pub record Ensures {A : Type 0} (c : Construct A) (Good : A → Type 0) : Type 0 where
+  pub on_read : (i j : ℕ) (a : A) → c i (Read a j) → Good a
+
+bind_read : {A B : Type 0} (c : Construct A) (f : A → Construct B) (Mid : A → Type 0) (Good : B → Type 0) →
+    Ensures c Mid → ((a : A) → Mid a → Ensures (f a) Good) → (i j : ℕ) (b : B) → (c >>= f) i (Read b j) → Good b
+bind_read c f Mid Good x g i j b (goes_on {j = m} {a = a} y z) = (g a (x.on_read i m a y)).on_read m j b z
+
+pub ensures_bind : {A B : Type 0} {Mid : A → Type 0} {Good : B → Type 0} {c : Construct A} {f : A → Construct B} →
+    Ensures c Mid → ((a : A) → Mid a → Ensures (f a) Good) → Ensures (c >>= f) Good
+ensures_bind {Mid = Mid} {Good = Good} {c = c} {f = f} x g = record { on_read = bind_read c f Mid Good x g }
+
+-- what is not asked of a part
+pub ensures_then : {A B : Type 0} {Good : B → Type 0} {c : Construct A} {f : A → Construct B} →
+    ((a : A) → Ensures (f a) Good) → Ensures (c >>= f) Good
+ensures_then g = ensures_bind {Mid = λ a. Unit {0}} (record { on_read = λ i j a x. tt }) (λ a u. g a)
+
+gives_read : {A : Type 0} (Good : A → Type 0) (a b : A) (i j : ℕ) → Good a → gives a i (Read b j) → Good b
+gives_read Good a b i j g given = g
+
+pub ensures_gives : {A : Type 0} {Good : A → Type 0} {a : A} → Good a → Ensures (gives a) Good
+ensures_gives {Good = Good} {a = a} g = record { on_read = λ i j b x. gives_read Good a b i j g x }
+
+fails_read : {A : Type 0} (X : Type 0) (k : Kind) (i j : ℕ) (a : A) → fails k i (Read a j) → X
+fails_read X k i j a x = elim x [ ]
+
+pub ensures_fails : {A : Type 0} {Good : A → Type 0} {k : Kind} → Ensures (fails k) Good
+ensures_fails {Good = Good} {k = k} = record { on_read = λ i j a x. fails_read (Good a) k i j a x }
+
+at_each_read : {A B : Type 0} (Good : B → Type 0) (look : ℕ → A) (part : A → Construct B) →
+    ((a : A) → Ensures (part a) Good) → (i j : ℕ) (b : B) → at_each look part i (Read b j) → Good b
+at_each_read Good look part g i j b (chosen x) = (g (look i)).on_read i j b x
+
+pub ensures_at_each : {A B : Type 0} {Good : B → Type 0} {look : ℕ → A} {part : A → Construct B} →
+    ((a : A) → Ensures (part a) Good) → Ensures (at_each look part) Good
+ensures_at_each {Good = Good} {look = look} {part = part} g = record { on_read = at_each_read Good look part g }
+
+either_read : {A : Type 0} (Good : A → Type 0) (test : Bool) (c d : Construct A) → (test ≡ true → Ensures c Good) →
+    (test ≡ false → Ensures d Good) → (i j : ℕ) (a : A) → either test c d i (Read a j) → Good a
+either_read Good test c d g h i j a (first e x) = (g e).on_read i j a x
+either_read Good test c d g h i j a (second e x) = (h e).on_read i j a x
+
+pub ensures_either : {A : Type 0} {Good : A → Type 0} {test : Bool} {c d : Construct A} →
+    (test ≡ true → Ensures c Good) → (test ≡ false → Ensures d Good) → Ensures (either test c d) Good
+ensures_either {Good = Good} {test = test} {c = c} {d = d} g h = record { on_read = either_read Good test c d g h }
+
+-- ---- what is fine
+
+-- Joined it passes the test; and it is joined already, where nothing is there to join.
+pub record Fine (Joins : Type 0) {Y : Type 0} (test : Y → Bool) (join : Y → Y) (y : Y) : Type 0 where
+  pub obeys : test (join y) ≡ true
+  pub same : (Joins → ⊥) → join y ≡ y
+
+module _ (t : List ℕ) (Joins : Type 0) where
+  abbrev pub IsInline : InlineTree Span → Type 0
+  IsInline e = Fine Joins (inline_obeys (readable_rules One)) joined_inline (inline_map (bytes_at t) e)
+
+  abbrev pub IsMaybe : MaybeArguments Span → Type 0
+  IsMaybe a = Fine Joins (maybe_obeys (readable_rules One)) joined_maybe (maybe_map (bytes_at t) a)
+
+  abbrev pub IsPattern : PatternTree Span → Type 0
+  IsPattern p = Fine Joins (pattern_obeys (readable_rules One)) joined_pattern (pattern_map (bytes_at t) p)
+
+  abbrev pub IsKey : KeyTree Span → Type 0
+  IsKey k = key_obeys (readable_rules One) (key_map (bytes_at t) k) ≡ true
+
+  -- the rest of an argument list, after named arguments of these names
+  abbrev pub IsArguments : List Text → ArgumentsTree Span → Type 0
+  IsArguments names (arguments ps ns) =
+      Fine Joins (inlines_obey (readable_rules One)) joined_inlines (inlines_map (bytes_at t) ps) ×
+      Fine Joins (nameds_obey (readable_rules One)) joined_nameds (nameds_map (bytes_at t) ns) ×
+      (are_named_well names (joined_nameds (nameds_map (bytes_at t) ns)) ≡ true)
+
+  -- the rest of a list of variants; with a default before it has none
+  pub record IsVariants (starred : Bool) (vs : VariantTrees Span) : Type 0 where
+    pub fine : Fine Joins (variants_obey (readable_rules One)) joined_variants (variants_map (bytes_at t) vs)
+    pub none : starred ≡ true → defaults (joined_variants (variants_map (bytes_at t) vs)) ≡ 0
+    pub one : nat_le (defaults (joined_variants (variants_map (bytes_at t) vs))) 1 ≡ true
+
+  -- what begins as the value of a named argument may is such a value
+  abbrev pub FitsStart : Start → InlineTree Span → Type 0
+  FitsStart quote e = is_argument_value (joined_inline (inline_map (bytes_at t) e)) ≡ true
+  FitsStart digit e = is_argument_value (joined_inline (inline_map (bytes_at t) e)) ≡ true
+  FitsStart letter e = is_argument_value (joined_inline (inline_map (bytes_at t) e)) ≡ true
+  FitsStart s e = Unit {0}
+
+  pub record IsFineFamily (R : Family) : Type 0 where
+    pub inline_expression : (i j : ℕ) (e : InlineTree Span) → R.inline_expression i (Read e j) → IsInline e ×
+        FitsStart (start t i) e
+    pub more_arguments : (names : List Text) → Ensures (R.more_arguments names) (IsArguments names)
+    pub more_variants : (starred : Bool) → Ensures (R.more_variants starred) (IsVariants starred)
+    pub more_pieces : (i j : ℕ) (ps : List Piece) → R.more_pieces i (Read ps j) → PiecesAt t Joins i ps j
+    pub more_lines : (i j : ℕ) (ls : List Line) → R.more_lines i (Read ls j) → LinesAt t Joins i ls
+
+  pub ensures_name : Ensures (identifier t) (IsName t)
+  ensures_name = record { on_read = λ i j s x. name_was t i j s x }
+
+  abbrev IsOptionName : Option Span → Type 0
+  IsOptionName o = option_obeys is_name (option_texts (bytes_at t) o) ≡ true
+
+  pub ensures_accessor : Ensures (accessor t) IsOptionName
+  ensures_accessor =
+      ensures_then (λ dot.
+      ensures_either (λ e. ensures_bind ensures_name (λ a g. ensures_gives g)) (λ e. ensures_gives refl))
+
+  fine_arguments : (a : ArgumentsTree Span) → IsArguments [] a →
+      Fine Joins (arguments_obey (readable_rules One)) joined_arguments (arguments_map (bytes_at t) a)
+  fine_arguments (arguments ps ns) (f, g, h) =
+      record { obeys = both h (both f.obeys g.obeys); same = λ none. cc (f.same none, g.same none) }
+
+  fine_some : (a : ArgumentsTree Span) →
+      Fine Joins (arguments_obey (readable_rules One)) joined_arguments (arguments_map (bytes_at t) a) →
+      IsMaybe (some_arguments a)
+  fine_some a f = record { obeys = f.obeys; same = λ none. ap some_arguments (f.same none) }
+
+  fine_function : (id : Span) (a : ArgumentsTree Span) → IsName t id → list_all is_callee_byte (bytes_at t id) ≡ true →
+      IsMaybe (some_arguments a) → IsInline (function_reference id a)
+  fine_function id a n c f = record { obeys = both n (both c f.obeys); same = λ none. cc (f.same none) }
+
+  fine_term : (id : Span) (o : Option Span) (a : MaybeArguments Span) → IsName t id → IsOptionName o → IsMaybe a →
+      IsInline (term_reference id o a)
+  fine_term id o a n p f =
+      record {
+        obeys = both n (both p f.obeys);
+        same = λ none. ap (term_reference (bytes_at t id) (option_texts (bytes_at t) o)) (f.same none);
+      }
+
+  -- a reference, after its name and arguments; it may be the value of a named argument
+  abbrev IsValue : InlineTree Span → Type 0
+  IsValue e = IsInline e × (is_argument_value (joined_inline (inline_map (bytes_at t) e)) ≡ true)
+
+  ensures_reference : (id : Span) (a : MaybeArguments Span) → IsName t id → IsMaybe a →
+      Ensures (named_reference t id a) IsValue
+  ensures_reference id no_arguments n f =
+      ensures_bind ensures_accessor (λ o g. ensures_gives (record { obeys = both n g; same = λ none. refl }, refl))
+  ensures_reference id (some_arguments a) n f =
+      ensures_either (λ e. ensures_gives (fine_function id a n e f, refl)) (λ e. ensures_fails)
+
+  selector_same : (e : InlineTree Span) → selector_fault (joined_inline (inline_map (bytes_at t) e)) ≡ selector_fault e
+  selector_same (string_literal v) = refl
+  selector_same (number_literal v) = refl
+  selector_same (function_reference id a) = refl
+  selector_same (message_reference id None) = refl
+  selector_same (message_reference id (Some a)) = refl
+  selector_same (term_reference id None a) = refl
+  selector_same (term_reference id (Some attribute) a) = refl
+  selector_same (variable_reference id) = refl
+  selector_same (inline_placeable e) = refl
+
+  attribute_same : (e : InlineTree Span) →
+      is_term_attribute (joined_inline (inline_map (bytes_at t) e)) ≡ is_term_attribute e
+  attribute_same (string_literal v) = refl
+  attribute_same (number_literal v) = refl
+  attribute_same (function_reference id a) = refl
+  attribute_same (message_reference id a) = refl
+  attribute_same (term_reference id None a) = refl
+  attribute_same (term_reference id (Some attribute) a) = refl
+  attribute_same (variable_reference id) = refl
+  attribute_same (inline_placeable e) = refl
+
+-- ---- starts
+
+digit_of : (q d m l o n b : Bool) (x : Start) →
+    (if q then quote else if d then digit else if m then (if l then term else minus) else if o then dollar else if n
+    then letter else if b then brace else other) ≡ digit → d ≡ true
+digit_of false true m l o n b x e = refl
+digit_of true d m l o n b x e = cc
+digit_of false false true true o n b x e = cc
+digit_of false false true false o n b x e = cc
+digit_of false false false l true n b x e = cc
+digit_of false false false l false true b x e = cc
+digit_of false false false l false false true x e = cc
+digit_of false false false l false false false x e = cc
+
+start_digit : (o : Option ℕ) (l : Bool) → start_of o l ≡ digit → holds is_digit o ≡ true
+start_digit None l e = cc
+start_digit (Some b) l e = digit_of (b == 34) (is_digit b) (b == 45) l (b == 36) (is_letter b) (b == 123) other e
+
+module _ (t : List ℕ) (Joins : Type 0) (R : Family) (h : IsFineFamily t Joins R) where
+  pub ensures_call : Ensures (call_arguments t R) (IsMaybe t Joins)
+  ensures_call = ensures_then (λ u. ensures_then (λ bracket. ensures_either
+      (λ e. ensures_bind (ensures_then (λ u. h.more_arguments []))
+      (λ a g. ensures_gives (fine_some t Joins a (fine_arguments t Joins a g))))
+      (λ e. ensures_gives (record { obeys = refl; same = λ none. refl }))))
+
+  -- ---- expressions
+
+  fine_select : (e : InlineTree Span) (vs : VariantTrees Span) → IsInline t Joins e → selector_fault e ≡ None →
+      IsVariants t Joins false vs → IsRead t Joins (select e vs)
+  fine_select e vs f k g =
+      let v = g.fine in
+      record {
+        obeys = both (both (ap is_none (selector_same t Joins e ∙ k)) g.one) (both f.obeys v.obeys);
+        same = λ none. cc (f.same none, v.same none);
+      }
+
+  fine_inline : (e : InlineTree Span) → IsInline t Joins e → is_term_attribute e ≡ false → IsRead t Joins (inline e)
+  fine_inline e f k =
+      record {
+        obeys =
+            both (not_false (is_term_attribute (joined_inline (inline_map (bytes_at t) e)))
+            (attribute_same t Joins e ∙ k))
+            f.obeys;
+        same = λ none. ap inline (f.same none);
+      }
+
+  ensures_variants_of : Ensures (variants_of_select t R) (IsVariants t Joins false)
+  ensures_variants_of =
+      ensures_then (λ u. ensures_then (λ u. ensures_then (λ u. ensures_then (λ u. h.more_variants false))))
+
+  ensures_select : (e : InlineTree Span) (o : Option Kind) → IsInline t Joins e → selector_fault e ≡ o →
+      Ensures (select_with t R e o) (IsRead t Joins)
+  ensures_select e None f k = ensures_bind ensures_variants_of (λ vs g. ensures_gives (fine_select e vs f k g))
+  ensures_select e (Some x) f k = ensures_fails
+
+  pub ensures_expression : Ensures (expression t R) (IsRead t Joins)
+  ensures_expression =
+      ensures_bind (record { on_read = λ i j e x. (h.inline_expression i j e x).0 })
+      (λ e f. ensures_then (λ u. ensures_then (λ arrow. ensures_either
+      (λ y. ensures_select e (selector_fault e) f refl)
+      (λ y. ensures_either (λ z. ensures_fails) (λ z. ensures_gives (fine_inline e f z))))))
+
+  pub ensures_placeable : Ensures (placeable t R) (IsRead t Joins)
+  ensures_placeable =
+      ensures_then (λ u.
+      ensures_then (λ u.
+      ensures_bind ensures_expression (λ e f. ensures_then (λ u. ensures_then (λ u. ensures_gives f)))))
+
+  -- ---- inline expressions
+
+  number_read : (i j : ℕ) (a : InlineTree Span) → (number t >>= λ v. gives (number_literal v)) i (Read a j) →
+      IsInline t Joins a ×
+      (has t is_digit i ≡ true → is_argument_value (joined_inline (inline_map (bytes_at t) a)) ≡ true)
+  number_read i j a (goes_on {j = m} {a = v} x given) = let n = number_was t i m v x in
+      (record { obeys = n.number; same = λ none. refl }, n.unsigned)
+
+  string_read : (i j : ℕ) (a : InlineTree Span) →
+      (strings.string_literal t >>= λ v. gives (string_literal v)) i (Read a j) → IsInline t Joins a ×
+      (is_argument_value (joined_inline (inline_map (bytes_at t) a)) ≡ true)
+  string_read i j a (goes_on {j = m} {a = v} x given) =
+      (record { obeys = string_was t i m v x; same = λ none. refl }, refl)
+
+  inline_read : (s : Start) (i j : ℕ) (e : InlineTree Span) → start t i ≡ s → inline_of t R s i (Read e j) →
+      IsInline t Joins e × FitsStart t Joins s e
+  inline_read quote i j e s x = string_read i j e x
+  inline_read digit i j e s x = let n = number_read i j e x in
+      (n.0, n.1 (start_digit (slice_get t i) (has t is_letter (i + 1)) s))
+  inline_read minus i j e s x = ((number_read i j e x).0, tt)
+  inline_read term i j e s x = (r.on_read i j e x, tt)
+    where
+      r : Ensures (inline_of t R term) (IsInline t Joins)
+      r = ensures_then
+          (λ u. ensures_bind (ensures_name t Joins)
+          (λ id n. ensures_bind (ensures_accessor t Joins)
+          (λ o p. ensures_bind ensures_call (λ a f. ensures_gives (fine_term t Joins id o a n p f)))))
+  inline_read dollar i j e s x = (r.on_read i j e x, tt)
+    where
+      r : Ensures (inline_of t R dollar) (IsInline t Joins)
+      r = ensures_then
+          (λ u. ensures_bind (ensures_name t Joins) (λ id n. ensures_gives (record { obeys = n; same = λ none. refl })))
+  inline_read letter i j e s x = r.on_read i j e x
+    where
+      r : Ensures (inline_of t R letter) (IsValue t Joins)
+      r = ensures_bind (ensures_name t Joins)
+          (λ id n. ensures_bind ensures_call (λ a f. ensures_reference t Joins id a n f))
+  inline_read brace i j e s x = (r.on_read i j e x, tt)
+    where
+      r : Ensures (inline_of t R brace) (IsInline t Joins)
+      r = ensures_bind ensures_placeable
+          (λ e f. ensures_gives (record { obeys = f.obeys; same = λ none. ap inline_placeable (f.same none) }))
+  inline_read other i j e s x = elim x [ ]
+
+  pub inline_was : (i j : ℕ) (e : InlineTree Span) → inline_expression t R i (Read e j) → IsInline t Joins e ×
+      FitsStart t Joins (start t i) e
+  inline_was i j e (chosen x) = inline_read (start t i) i j e refl x
+
+  -- ---- arguments
+
+  value_read : (s : Start) (i j : ℕ) (e : InlineTree Span) → start t i ≡ s → argument_value t R s i (Read e j) →
+      IsValue t Joins e
+  value_read quote i j e s x = let r = h.inline_expression i j e x in (r.0, subst (λ s. FitsStart t Joins s e) s r.1)
+  value_read digit i j e s x = let r = h.inline_expression i j e x in (r.0, subst (λ s. FitsStart t Joins s e) s r.1)
+  value_read letter i j e s x = let r = h.inline_expression i j e x in (r.0, subst (λ s. FitsStart t Joins s e) s r.1)
+  value_read term i j e s x = elim x [ ]
+  value_read minus i j e s x = elim x [ ]
+  value_read dollar i j e s x = elim x [ ]
+  value_read brace i j e s x = elim x [ ]
+  value_read other i j e s x = elim x [ ]
+
+  value_at : (i j : ℕ) (e : InlineTree Span) → at_each (start t) (argument_value t R) i (Read e j) → IsValue t Joins e
+  value_at i j e (chosen x) = value_read (start t i) i j e refl x
+
+  add_named_fine : (names : List Text) (name : Span) (e : InlineTree Span) (a : ArgumentsTree Span) → IsName t name →
+      is_used (bytes_at t name) names ≡ false → IsValue t Joins e → IsArguments t Joins (bytes_at t name ∷ names) a →
+      IsArguments t Joins names (add_named name e a)
+  add_named_fine names name e (arguments ps ns) n u (f, v) (g, k, l) = (
+    g,
+    record { obeys = both (both n f.obeys) k.obeys; same = λ none. cc (f.same none, k.same none) },
+    both (not_false (is_used (bytes_at t name) names) u) (both v l),
+  )
+
+  add_positional_fine : (e : InlineTree Span) (a : ArgumentsTree Span) → IsInline t Joins e → IsArguments t Joins [] a →
+      IsArguments t Joins [] (add_positional e a)
+  add_positional_fine e (arguments ps ns) f (g, k, l) =
+      (record { obeys = both f.obeys g.obeys; same = λ none. cc (f.same none, g.same none) }, k, l)
+
+  ensures_named : (names : List Text) (name : Span) → IsName t name →
+      Ensures (named_and_more t R names name) (IsArguments t Joins names)
+  ensures_named names name n =
+      ensures_either (λ y. ensures_fails)
+      (λ y. ensures_then (λ u. ensures_then (λ u. ensures_bind (record { on_read = value_at }) (λ e f.
+      ensures_then (λ u.
+      ensures_bind (h.more_arguments (bytes_at t name ∷ names))
+      (λ a g. ensures_gives (add_named_fine names name e a n y f g)))))))
+
+  ensures_positional : (names : List Text) (e : InlineTree Span) → IsInline t Joins e →
+      Ensures (positional_and_more t R names e) (IsArguments t Joins names)
+  ensures_positional [] e f =
+      ensures_then (λ u. ensures_bind (h.more_arguments []) (λ a g. ensures_gives (add_positional_fine e a f g)))
+  ensures_positional (n ∷ ns) e f = ensures_fails
+
+  name_of : (e : InlineTree Span) (s : Span) → IsInline t Joins e → argument_name e ≡ Some s → IsName t s
+  name_of (string_literal v) s f k = cc
+  name_of (number_literal v) s f k = cc
+  name_of (function_reference id a) s f k = cc
+  name_of (message_reference id None) s f k = let same : id ≡ s = cc in
+      subst (IsName t) same (left_true (is_name (bytes_at t id)) true f.obeys)
+  name_of (message_reference id (Some a)) s f k = cc
+  name_of (term_reference id o a) s f k = cc
+  name_of (variable_reference id) s f k = cc
+  name_of (inline_placeable e) s f k = cc
+
+  ensures_argument : (names : List Text) (e : InlineTree Span) (o : Option Span) (colon : Bool) → argument_name e ≡ o →
+      IsInline t Joins e → Ensures (argument_and_more t R names e o colon) (IsArguments t Joins names)
+  ensures_argument names e None colon k f = ensures_positional names e f
+  ensures_argument names e (Some s) true k f = ensures_named names s (name_of e s f k)
+  ensures_argument names e (Some s) false k f = ensures_positional names e f
+
+  ensures_arguments_at : (names : List Text) (o : Option ℕ) →
+      Ensures (more_arguments_at t R names o) (IsArguments t Joins names)
+  ensures_arguments_at names None = ensures_fails
+  ensures_arguments_at names (Some b) = ensures_either
+      (λ y. ensures_then
+      (λ u. ensures_gives
+      (record { obeys = refl; same = λ none. refl }, record { obeys = refl; same = λ none. refl }, refl)))
+      (λ y. ensures_bind (record { on_read = λ i j e x. (h.inline_expression i j e x).0 })
+      (λ e f. ensures_then (λ colon. ensures_argument names e (argument_name e) colon refl f)))
+
+  pub ensures_arguments : (names : List Text) → Ensures (more_arguments t R names) (IsArguments t Joins names)
+  ensures_arguments names = ensures_at_each (ensures_arguments_at names)

@@ -1,0 +1,311 @@
+-- The items of a pattern that was read have a shape, by where each stands; items of this shape spell, once they are
+-- cut, trimmed and joined, the elements of a readable pattern.
+use Rattle.std.proofs.Common.{◌≡◌, ℕ, List, [], ◌∷◌, ◌++◌, Bool, true, false, refl, sym, ◌∙◌, subst, ap}
+use Rattle.std.specs.Prelude.{◌&&◌, not, if◌then◌else◌, slice_range}
+use Rattle.std.specs.List.{list_all}
+use Rattle.fluent_syntax_tree.specs.Tree.{ExpressionTree, expression_map, ElementTree, text_element, placeable}
+use Rattle.fluent_syntax_tree.specs.Tree.{PatternTree, no_elements, elements, elements_of, pattern_map}
+use Rattle.fluent_syntax_tree.specs.Spans.{bytes_at}
+use Rattle.fluent_syntax_tree.specs.declared.spans.Span.{Span}
+use Rattle.fluent_syntax_tree.specs.declared.edition.Edition.TheVariants.{One}
+use Rattle.fluent_syntax_grammar.specs.PatternTexts.{is_empty, is_spaces, ends_in_lf, is_lone_lf}
+use Rattle.fluent_syntax_grammar.specs.Bytes.{lf, is_space}
+use Rattle.fluent_syntax_grammar.specs.Elements.{Item, text, filled, is_nonblank, stays, cut_before, cut, trimmed_end}
+use Rattle.fluent_syntax_grammar.specs.Elements.{spelled}
+use Rattle.fluent_syntax_grammar.specs.Written.{Text}
+use Rattle.fluent_syntax_grammar.specs.Rules.{expression_obeys, elements_obey}
+use Rattle.fluent_syntax_grammar.specs.Readable.{is_text, Stand, opening, after_line}
+use Rattle.fluent_syntax_grammar.specs.Readable.{within_line, after_placeable, stand_after, stands_well, ends_well}
+use Rattle.fluent_syntax_grammar.specs.Readable.{are_elements, readable_rules}
+use Rattle.fluent_syntax_grammar.specs.Joined.{is_joined, joined_expression, joined_pattern, joined_after}
+use Rattle.fluent_syntax_grammar.proofs.Facts.{left_true, right_true, equal, append_nothing}
+use Rattle.fluent_syntax_grammar.proofs.Tests.{both}
+use Rattle.fluent_syntax_grammar.proofs.backward.Texts.{is_plain, line_end, line_not_empty, plain_is_text, line_ends}
+use Rattle.fluent_syntax_grammar.proofs.backward.Texts.{plain_ends_not, shows, plain_nonblank, trimmed_of}
+use Rattle.fluent_syntax_grammar.proofs.backward.Texts.{trimmed_range, Begins, begins_kept, begins_stands, blank_stands}
+use Rattle.fluent_syntax_grammar.proofs.backward.Texts.{stands_any}
+
+-- ---- expressions that were read
+
+-- The expression obeys, joined; and it is joined already, where nothing is there to join.
+pub record IsRead (t : List ℕ) (Joins : Type 0) (e : ExpressionTree Span) : Type 0 where
+  pub obeys : expression_obeys (readable_rules One) (joined_expression (expression_map (bytes_at t) e)) ≡ true
+  pub same : (Joins → ⊥) → joined_expression (expression_map (bytes_at t) e) ≡ expression_map (bytes_at t) e
+
+-- ---- shapes
+
+module _ (t : List ℕ) (Joins : Type 0) (m : Bool) where
+  -- An item stands where the one before it leaves off. After a run that no LF ends stands, if it is a text, the lone LF
+  -- of a CRLF.
+  pub data Step : Stand → Item → Stand → Type 0 where
+    places : {s : Stand} {e : ExpressionTree Span} → IsRead t Joins e → Step s (filled e) after_placeable
+    runs : {s : Stand} {from to : ℕ} (u : Text) → slice_range t from to ≡ u → list_all is_plain u ≡ true →
+        is_empty u ≡ false → Begins m s u → Step s (text from to) within_line
+    ends_line : {s : Stand} {from to : ℕ} (u : Text) → slice_range t from to ≡ u ++ line_end true →
+        list_all is_plain u ≡ true → Begins m s u → Step s (text from to) after_line
+    blank_line : {from to : ℕ} (u : Text) → slice_range t from to ≡ u ++ line_end true → is_spaces u ≡ true →
+        Step after_line (text from to) after_line
+    joins : {from to : ℕ} → slice_range t from to ≡ lf ∷ [] → Joins → Step within_line (text from to) after_line
+
+  pub data Shape : Stand → List Item → Type 0 where
+    done : {s : Stand} → Shape s []
+    more : {s s' : Stand} {x : Item} {xs : List Item} → Step s x s' → Shape s' xs → Shape s (x ∷ xs)
+
+  -- ---- the cut
+
+  one_if : (b : Bool) (s s' : Stand) (x : Item) → Step s x s' → Shape s (if b then x ∷ [] else [])
+  one_if true s s' x e = more e done
+  one_if false s s' x e = done
+
+  shape_before : (s s' : Stand) (x : Item) (xs : List Item) → Step s x s' → Shape s' xs → Shape s (cut_before t x xs)
+  shape_before s s' x [] e h = one_if (stays t x) s s' x e
+  shape_before s s' x (y ∷ ys) e h = more e h
+
+  pub shape_cut : (s : Stand) (xs : List Item) → Shape s xs → Shape s (cut t xs)
+  shape_cut s [] h = done
+  shape_cut s (x ∷ xs) (more {s' = s'} e h) = shape_before s s' x (cut t xs) e (shape_cut s' xs h)
+
+-- the last item stays
+abbrev pub Kept : List ℕ → List Item → Type 0
+Kept t [] = Unit {0}
+Kept t (x ∷ []) = stays t x ≡ true
+Kept t (x ∷ y ∷ ys) = Kept t (y ∷ ys)
+
+module _ (t : List ℕ) where
+  kept_if : (b : Bool) (x : Item) → stays t x ≡ b → Kept t (if b then x ∷ [] else [])
+  kept_if true x e = e
+  kept_if false x e = tt
+
+  kept_before : (x : Item) (xs : List Item) → Kept t xs → Kept t (cut_before t x xs)
+  kept_before x [] k = kept_if (stays t x) x refl
+  kept_before x (y ∷ ys) k = k
+
+  pub kept_cut : (xs : List Item) → Kept t (cut t xs)
+  kept_cut [] = tt
+  kept_cut (x ∷ xs) = kept_before x (cut t xs) (kept_cut xs)
+
+  pub kept_after : (x : Item) (xs : List Item) → Kept t (x ∷ xs) → Kept t xs
+  kept_after x [] k = tt
+  kept_after x (y ∷ ys) k = k
+
+-- the elements that items spell, with their bytes
+abbrev pub tree : List ℕ → List Item → PatternTree Text
+tree t xs = pattern_map (bytes_at t) (elements_of (spelled t xs))
+
+-- ---- joining
+
+pub line_joined : (w : Text) (q : PatternTree Text) → ends_in_lf w ≡ true →
+    joined_after w q ≡ elements (text_element w) (joined_pattern q)
+line_joined w no_elements e = refl
+line_joined w (elements (placeable x) es) e = refl
+line_joined w (elements (text_element v) es) e = apart (is_lone_lf v) (ends_in_lf w) e
+  where
+    apart : (a b : Bool) → b ≡ true →
+        (if (a && not b) then elements (text_element (w ++ v)) (joined_pattern es) else elements (text_element w)
+        (joined_after v es)) ≡ elements (text_element w) (joined_after v es)
+    apart true true e = refl
+    apart false b e = refl
+    apart true false e = cc
+
+pub lf_joined : (w : Text) (q : PatternTree Text) → ends_in_lf w ≡ false →
+    joined_after w (elements (text_element (lf ∷ [])) q) ≡ elements (text_element (w ++ (lf ∷ []))) (joined_pattern q)
+lf_joined w q e = rw e refl
+
+after_more : (w v : Text) (es : PatternTree Text) → ends_well w (joined_after v es) ≡ true
+after_more w v no_elements = refl
+after_more w v (elements (placeable e) es) = refl
+after_more w v (elements (text_element x) es) = whichever (is_joined v x)
+  where
+    whichever : (b : Bool) →
+        ends_well w (if b then elements (text_element (v ++ x)) (joined_pattern es) else elements (text_element v)
+        (joined_after x es)) ≡ true
+    whichever true = refl
+    whichever false = refl
+
+-- a text before another element is not the last
+joined_more : (w : Text) (e : ElementTree Text) (es : PatternTree Text) →
+    ends_well w (joined_pattern (elements e es)) ≡ true
+joined_more w (placeable e) es = refl
+joined_more w (text_element v) es = after_more w v es
+
+tree_more : (t : List ℕ) (w : Text) (x : Item) (xs : List Item) → ends_well w (joined_pattern (tree t (x ∷ xs))) ≡ true
+tree_more t w (text from to) [] = refl
+tree_more t w (text from to) (y ∷ ys) = joined_more w (text_element (slice_range t from to)) (tree t (y ∷ ys))
+tree_more t w (filled e) xs = refl
+
+-- ---- the elements are well
+
+text_well : (m : Bool) (s : Stand) (v : Text) (p : PatternTree Text) → is_text v ≡ true →
+    stands_well One m s v no_elements ≡ true → ends_well v p ≡ true → are_elements One m (stand_after v) p ≡ true →
+    are_elements One m s (elements (text_element v) p) ≡ true
+text_well m s v p a b c d = both a (both (stands_any m s v p no_elements ∙ b) (both c d))
+
+pub record Well (m : Bool) (s : Stand) (p : PatternTree Text) : Type 0 where
+  pub stand : are_elements One m s p ≡ true
+  pub obey : elements_obey (readable_rules One) p ≡ true
+
+-- a line's text and what follows it
+line_well : (m : Bool) (s : Stand) (u w : Text) (q : PatternTree Text) → w ≡ u ++ line_end true →
+    list_all is_plain u ≡ true → stands_well One m s (u ++ line_end true) no_elements ≡ true →
+    ends_well (u ++ line_end true) (joined_pattern q) ≡ true →
+    Well m after_line (joined_pattern q) → Well m s (joined_after w q)
+line_well m s u w q e p b c h =
+    let v = u ++ line_end true in
+    let whole : joined_after w q ≡ elements (text_element v) (joined_pattern q) =
+    ap (λ w. joined_after w q) e ∙ line_joined v q (line_ends u) in
+    let next : stand_after v ≡ after_line = rw (line_ends u) refl in
+    subst (Well m s) (sym whole)
+    (record {
+      stand =
+          text_well m s v (joined_pattern q) (plain_is_text u true p not_empty) b c
+          (subst (λ s. are_elements One m s (joined_pattern q) ≡ true) (sym next) h.stand);
+      obey = h.obey;
+    })
+  where
+    not_empty : is_empty (u ++ line_end true) ≡ false
+    not_empty = line_not_empty u
+
+shown_not_empty : (u : Text) → shows u ≡ true → is_empty u ≡ false
+shown_not_empty [] e = cc
+shown_not_empty (x ∷ u) e = refl
+
+pub space_plain : (b : ℕ) → is_space b ≡ true → is_plain b ≡ true
+space_plain b e = let same = equal b 32 e in subst (λ b. is_plain b ≡ true) (sym same) refl
+
+pub spaces_plain : (u : Text) → is_spaces u ≡ true → list_all is_plain u ≡ true
+spaces_plain [] e = refl
+spaces_plain (x ∷ u) e =
+    both (space_plain x (left_true (is_space x) (is_spaces u) e))
+    (spaces_plain u (right_true (is_space x) (is_spaces u) e))
+
+spaces_show_not : (u : Text) → is_spaces u ≡ true → shows u ≡ false
+spaces_show_not [] e = refl
+spaces_show_not (x ∷ u) e =
+    rw (left_true (is_space x) (is_spaces u) e) (spaces_show_not u (right_true (is_space x) (is_spaces u) e))
+
+-- a blank line does not stay
+blank_not : (w u : Text) → w ≡ u ++ line_end true → is_spaces u ≡ true → is_nonblank w ≡ true → ⊥
+blank_not w u e f k =
+    let no : is_nonblank w ≡ false =
+    ap is_nonblank e ∙ (plain_nonblank u true (spaces_plain u f) ∙ spaces_show_not u f) in cc
+
+-- not directly after a text that does not end in LF
+abbrev pub IsFree : Stand → Type 0
+IsFree opening = Unit {0}
+IsFree after_line = Unit {0}
+IsFree within_line = ⊥
+IsFree after_placeable = Unit {0}
+
+module _ (t : List ℕ) (Joins : Type 0) (m : Bool) where
+  -- the bytes of an item's text
+  abbrev At : ℕ → ℕ → Text
+  At from to = slice_range t from to
+
+  -- the last text, trimmed
+  last_well : (s : Stand) (u : Text) (c : Bool) (from to : ℕ) → At from to ≡ u ++ line_end c →
+      list_all is_plain u ≡ true → Begins m s u → is_nonblank (At from to) ≡ true →
+      Well m s (elements (text_element (slice_range t from (trimmed_end t from to))) no_elements)
+  last_well s u c from to e p b k =
+      let shown : shows u ≡ true = sym (plain_nonblank u c p) ∙ (sym (ap is_nonblank e) ∙ k) in
+      let r = trimmed_of u p shown in
+      let begins : Begins m s r.kept = begins_kept m s r.kept r.rest r.shown (subst (Begins m s) r.is b) in
+      let same : slice_range t from (trimmed_end t from to) ≡ r.kept = trimmed_range t u c from to e r in
+      let bare : r.kept ++ line_end false ≡ r.kept = append_nothing r.kept in
+      let is : is_text r.kept ≡ true =
+      subst (λ v. is_text v ≡ true) bare
+      (plain_is_text r.kept false r.plain
+      (subst (λ v. is_empty v ≡ false) (sym bare) (shown_not_empty r.kept r.shown))) in
+      let stands : stands_well One m s r.kept no_elements ≡ true =
+      subst (λ v. stands_well One m s v no_elements ≡ true) bare (begins_stands m s r.kept false r.plain begins) in
+      subst (λ v. Well m s (elements (text_element v) no_elements)) (sym same)
+      (record { stand = text_well m s r.kept no_elements is stands r.ends refl; obey = refl })
+
+  -- a run's text before a placeable
+  run_well : (s : Stand) (u w : Text) (e : ExpressionTree Span) (xs : List Item) → w ≡ u → list_all is_plain u ≡ true →
+      is_empty u ≡ false → Begins m s u → IsRead t Joins e → Well m after_placeable (joined_pattern (tree t xs)) →
+      Well m s (joined_after w (tree t (filled e ∷ xs)))
+  run_well s u w e xs f p n b g h =
+      let bare : u ++ line_end false ≡ u = append_nothing u in
+      let is : is_text u ≡ true =
+      subst (λ v. is_text v ≡ true) bare (plain_is_text u false p (subst (λ v. is_empty v ≡ false) (sym bare) n)) in
+      let stands : stands_well One m s u no_elements ≡ true =
+      subst (λ v. stands_well One m s v no_elements ≡ true) bare (begins_stands m s u false p b) in
+      let rest = joined_pattern (tree t (filled e ∷ xs)) in
+      subst (λ w. Well m s (joined_after w (tree t (filled e ∷ xs)))) (sym f)
+      (record { stand = text_well m s u rest is stands refl h.stand; obey = both g.obeys h.obey })
+
+  -- a run's text with the lone LF that is joined to it
+  join_well : (s : Stand) (u w v : Text) (q : PatternTree Text) → w ≡ u → v ≡ lf ∷ [] → list_all is_plain u ≡ true →
+      Begins m s u → ends_well (u ++ line_end true) (joined_pattern q) ≡ true → Well m after_line (joined_pattern q) →
+      Well m s (joined_after w (elements (text_element v) q))
+  join_well s u w v q f g p b c h =
+      let whole :
+      joined_after w (elements (text_element v) q)
+      ≡ elements (text_element (u ++ line_end true)) (joined_pattern q) =
+      ap (λ w. joined_after w (elements (text_element v) q)) f
+      ∙ (ap (λ v. joined_after u (elements (text_element v) q)) g ∙ lf_joined u q (plain_ends_not u p)) in
+      let next : stand_after (u ++ line_end true) ≡ after_line = rw (line_ends u) refl in
+      subst (Well m s) (sym whole) (record {
+        stand =
+            text_well m s (u ++ line_end true) (joined_pattern q) (plain_is_text u true p (line_not_empty u))
+            (begins_stands m s u true p b) c
+            (subst (λ s. are_elements One m s (joined_pattern q) ≡ true) (sym next) h.stand);
+        obey = h.obey;
+      })
+
+  last_of_step : (s s' : Stand) (from to : ℕ) → Step t Joins m s (text from to) s' → is_nonblank (At from to) ≡ true →
+      Well m s (elements (text_element (slice_range t from (trimmed_end t from to))) no_elements)
+  last_of_step s s' from to (runs u e p n b) k = last_well s u false from to (e ∙ sym (append_nothing u)) p b k
+  last_of_step s s' from to (ends_line u e p b) k = last_well s u true from to e p b k
+  last_of_step s s' from to (blank_line u e f) k = absurd (blank_not (At from to) u e f k)
+  last_of_step s s' from to (joins e j) k = absurd (blank_not (At from to) [] e refl k)
+
+  -- items of the shape whose last one stays spell well
+  pub items_well : (s : Stand) (xs : List Item) → IsFree s → Shape t Joins m s xs → Kept t xs →
+      Well m s (joined_pattern (tree t xs))
+  items_well s [] r h k = record { stand = refl; obey = refl }
+  items_well s (filled e ∷ xs) r (more (places g) h) k =
+      let q = items_well after_placeable xs tt h (kept_after t (filled e) xs k) in
+      record { stand = q.stand; obey = both g.obeys q.obey }
+  items_well s (text from to ∷ []) r (more e h) k = last_of_step s _ from to e k
+  items_well s (text from to ∷ y ∷ ys) r (more (ends_line u e p b) h) k =
+      line_well m s u (At from to) (tree t (y ∷ ys)) e p (begins_stands m s u true p b)
+      (tree_more t (u ++ line_end true) y ys) (items_well after_line (y ∷ ys) tt h k)
+  items_well s (text from to ∷ y ∷ ys) r (more (blank_line u e f) h) k =
+      line_well m after_line u (At from to) (tree t (y ∷ ys)) e (spaces_plain u f) (blank_stands m u f)
+      (tree_more t (u ++ line_end true) y ys) (items_well after_line (y ∷ ys) tt h k)
+  items_well s (text from to ∷ y ∷ ys) r (more (joins e j) h) k = absurd r
+  items_well s (text from to ∷ filled x ∷ ys) r (more (runs u e p n b) (more (places g) h)) k =
+      run_well s u (At from to) x ys e p n b g (items_well after_placeable ys tt h (kept_after t (filled x) ys k))
+  items_well s (text from to ∷ text f g ∷ []) r (more (runs u e p n b) (more (joins i j) h)) k =
+      absurd (blank_not (At f g) [] i refl k)
+  items_well s (text from to ∷ text f g ∷ y ∷ ys) r (more (runs u e p n b) (more (joins i j) h)) k =
+      join_well s u (At from to) (At f g) (tree t (y ∷ ys)) e i p b (tree_more t (u ++ line_end true) y ys)
+      (items_well after_line (y ∷ ys) tt h k)
+  items_well s (text from to ∷ text f g ∷ ys) r (more (runs u e p n b) (more (runs v i q o c) h)) k = absurd c
+  items_well s (text from to ∷ text f g ∷ ys) r (more (runs u e p n b) (more (ends_line v i q c) h)) k = absurd c
+
+  line_same : (w u : Text) (q : PatternTree Text) → w ≡ u ++ line_end true → joined_pattern q ≡ q →
+      joined_after w q ≡ elements (text_element w) q
+  line_same w u q e f = line_joined w q (ap ends_in_lf e ∙ line_ends u) ∙ ap (λ q. elements (text_element w) q) f
+
+  placed_same : (w : Text) {e f : ExpressionTree Text} {p q : PatternTree Text} → e ≡ f → p ≡ q →
+      elements (text_element w) (elements (placeable e) p) ≡ elements (text_element w) (elements (placeable f) q)
+  placed_same w a b = cc (a, b)
+
+  -- where nothing is there to join, they are joined already
+  pub items_same : (Joins → ⊥) → (s : Stand) (xs : List Item) → Shape t Joins m s xs →
+      joined_pattern (tree t xs) ≡ tree t xs
+  items_same none s [] h = refl
+  items_same none s (filled e ∷ xs) (more (places g) h) = cc (g.same none, items_same none after_placeable xs h)
+  items_same none s (text from to ∷ []) h = refl
+  items_same none s (text from to ∷ y ∷ ys) (more (ends_line u e p b) h) =
+      line_same (At from to) u (tree t (y ∷ ys)) e (items_same none after_line (y ∷ ys) h)
+  items_same none s (text from to ∷ y ∷ ys) (more (blank_line u e f) h) =
+      line_same (At from to) u (tree t (y ∷ ys)) e (items_same none after_line (y ∷ ys) h)
+  items_same none s (text from to ∷ y ∷ ys) (more (joins e j) h) = absurd (none j)
+  items_same none s (text from to ∷ filled x ∷ ys) (more (runs u e p n b) (more (places g) h)) =
+      placed_same (At from to) (g.same none) (items_same none after_placeable ys h)
+  items_same none s (text from to ∷ text f g ∷ ys) (more (runs u e p n b) (more (joins i j) h)) = absurd (none j)
+  items_same none s (text from to ∷ text f g ∷ ys) (more (runs u e p n b) (more (runs v i q o c) h)) = absurd c
+  items_same none s (text from to ∷ text f g ∷ ys) (more (runs u e p n b) (more (ends_line v i q c) h)) = absurd c

@@ -1,0 +1,406 @@
+-- Argument lists, read forwards: a list is read if its arguments are.
+use Rattle.std.proofs.Common.{◌≡◌, ℕ, List, [], ◌∷◌, ◌++◌, Option, Some, None, Bool, true, false, refl, ◌∙◌, ap, inl}
+use Rattle.std.proofs.Common.{inr}
+use Rattle.std.specs.Prelude.{◌==◌, ◌||◌, ◌&&◌, ◌⊎◌, if◌then◌else◌}
+use Rattle.std.specs.List.{list_all}
+use Rattle.fluent_syntax_tree.specs.Tree.{InlineTree, inline_map, string_literal, number_literal, function_reference}
+use Rattle.fluent_syntax_tree.specs.Tree.{message_reference, term_reference, variable_reference, inline_placeable}
+use Rattle.fluent_syntax_tree.specs.Tree.{ArgumentsTree, arguments, arguments_map, maybe_map, some_arguments}
+use Rattle.fluent_syntax_tree.specs.Tree.{InlineTrees, no_inlines, inlines, NamedTrees, no_named, nameds}
+use Rattle.fluent_syntax_tree.specs.Tree.{named_argument}
+use Rattle.fluent_syntax_tree.specs.Spans.{bytes_at}
+use Rattle.fluent_syntax_tree.specs.declared.spans.Span.{Span}
+use Rattle.fluent_syntax_tree.specs.declared.edition.Edition.{Edition}
+use Rattle.fluent_syntax_grammar.specs.Bytes.{lf, cr, is_name_byte, is_letter, is_digit}
+use Rattle.fluent_syntax_grammar.specs.Places.{holds, has_byte}
+use Rattle.fluent_syntax_grammar.specs.Starts.{start, quote, digit, letter}
+use Rattle.fluent_syntax_grammar.specs.Construct.{◌>>=◌, gives, at_each}
+use Rattle.fluent_syntax_grammar.specs.Words.{blank}
+use Rattle.fluent_syntax_grammar.specs.Written.{Text}
+use Rattle.fluent_syntax_grammar.specs.Spellings.{is_name, is_number, is_number_rest, is_unsigned}
+use Rattle.fluent_syntax_grammar.specs.Rules.{inline_obeys}
+use Rattle.fluent_syntax_grammar.specs.Readable.{is_argument_value}
+use Rattle.fluent_syntax_grammar.specs.Canonical.{canonical_rules}
+use Rattle.fluent_syntax_grammar.specs.Arguments.{argument_name, is_used, add_positional, add_named, separator}
+use Rattle.fluent_syntax_grammar.specs.Arguments.{positional_and_more, named_and_more, argument_and_more}
+use Rattle.fluent_syntax_grammar.specs.Arguments.{more_arguments, argument_value}
+use Rattle.fluent_syntax_grammar.specs.Grammar.{family, inline_expression, call_arguments}
+use Rattle.fluent_syntax_grammar.proofs.Facts.{left_true, equal}
+use Rattle.fluent_syntax_grammar.proofs.Tests.{or_cases, differ}
+use Rattle.fluent_syntax_grammar.proofs.Nesting.{into_inline_expression, into_more_arguments}
+use Rattle.fluent_syntax_grammar.proofs.Left.{Left, left_as, first, left_first, left_has}
+use Rattle.fluent_syntax_grammar.proofs.forward.Reading.{Reads, Passes, reads_bind, reads_gives, passes_then}
+use Rattle.fluent_syntax_grammar.proofs.forward.Reading.{reads_at_each, reads_look, reads_first, reads_second}
+use Rattle.fluent_syntax_grammar.proofs.forward.Reading.{reads_into, reads_present, reads_absent, passes_token}
+use Rattle.fluent_syntax_grammar.proofs.marks.WrittenBytes.{inline_bytes, arguments_bytes, positional_bytes}
+use Rattle.fluent_syntax_grammar.proofs.marks.WrittenBytes.{named_bytes, is_none_of}
+use Rattle.fluent_syntax_grammar.proofs.forward.Inline.{Follows, past, passes_blank, passes_blanks, starts_with}
+use Rattle.fluent_syntax_grammar.proofs.forward.Inline.{digit_start, name_start, message_back}
+
+-- a byte that begins an inline expression
+abbrev pub is_start : ℕ → Bool
+is_start b = b == 34 || is_digit b || b == 45 || b == 36 || is_letter b || b == 123
+
+-- The bytes begin with one that begins an inline expression.
+pub record Begins (bs : List ℕ) : Type 0 where
+  pub byte : ℕ
+  pub rest : List ℕ
+  pub are : bs ≡ byte ∷ rest
+  pub start : is_start byte ≡ true
+
+second_of : (x d y z w v : Bool) → d ≡ true → (x || d || y || z || w || v) ≡ true
+second_of true true y z w v e = refl
+second_of false true y z w v e = refl
+second_of x false y z w v e = cc
+
+fifth_of : (x d y z w v : Bool) → w ≡ true → (x || d || y || z || w || v) ≡ true
+fifth_of x d y z w v e = rw e (or_true (x || d || y || z) v)
+  where
+    or_true : (a b : Bool) → (a || true || b) ≡ true
+    or_true true b = refl
+    or_true false b = refl
+
+digit_is_start : (b : ℕ) → is_digit b ≡ true → is_start b ≡ true
+digit_is_start b e = second_of (b == 34) (is_digit b) (b == 45) (b == 36) (is_letter b) (b == 123) e
+
+letter_is_start : (b : ℕ) → is_letter b ≡ true → is_start b ≡ true
+letter_is_start b e = fifth_of (b == 34) (is_digit b) (b == 45) (b == 36) (is_letter b) (b == 123) e
+
+pub name_begins : (v tail : List ℕ) → is_name v ≡ true → Begins (v ++ tail)
+name_begins [] tail e = absurd cc
+name_begins (b ∷ bs) tail e =
+    record {
+      byte = b;
+      rest = bs ++ tail;
+      are = refl;
+      start = letter_is_start b (left_true (is_letter b) (list_all is_name_byte bs) e);
+    }
+
+pub number_begins : (v tail : List ℕ) → is_number v ≡ true → Begins (v ++ tail)
+number_begins [] tail e = absurd cc
+number_begins (b ∷ bs) tail e = elim (or_cases (b == 45 && is_unsigned bs) (is_unsigned (b ∷ bs)) e) [
+  | inl h ↦ record {
+    byte = b;
+    rest = bs ++ tail;
+    are = refl;
+    start = ap is_start (equal b 45 (left_true (b == 45) (is_unsigned bs) h));
+  }
+  | inr h ↦ record {
+    byte = b;
+    rest = bs ++ tail;
+    are = refl;
+    start = digit_is_start b (left_true (is_digit b) (is_number_rest bs) h);
+  }
+]
+
+module _ (edition : Edition) where
+  -- what an inline expression begins with
+  pub inline_begins : (level : ℕ) (e : InlineTree Text) (tail : List ℕ) →
+      inline_obeys (canonical_rules edition) e ≡ true → Begins (inline_bytes level e tail)
+  inline_begins level (string_literal v) tail h = record { byte = 34; rest = _; are = refl; start = refl }
+  inline_begins level (number_literal v) tail h = number_begins v tail h
+  inline_begins level (function_reference id a) tail h = name_begins id _ (left_true (is_name id) _ h)
+  inline_begins level (message_reference id a) tail h = name_begins id _ (left_true (is_name id) _ h)
+  inline_begins level (term_reference id a c) tail h = record { byte = 45; rest = _; are = refl; start = refl }
+  inline_begins level (variable_reference id) tail h = record { byte = 36; rest = _; are = refl; start = refl }
+  inline_begins level (inline_placeable e) tail h = record { byte = 123; rest = _; are = refl; start = refl }
+
+-- a byte that begins an inline expression is not this one
+pub begins_other : (c : ℕ) {bs : List ℕ} → Begins bs → is_start c ≡ false → holds (λ b. b == c) (first bs) ≡ false
+begins_other c b e = rw (b.are) (differ is_start b.byte c b.start e)
+
+pub past_same : (e : InlineTree Text) (more : List ℕ) → past e [] more ≡ more
+past_same e more = same (passes_blank e)
+  where
+    same : (b : Bool) → (if b then more else more) ≡ more
+    same true = refl
+    same false = refl
+
+-- An inline expression is read back, whatever may follow it.
+pub record InlineBack (edition : Edition) (t : List ℕ) (level : ℕ) (e : InlineTree Text) : Type 0 where
+  pub obeys : inline_obeys (canonical_rules edition) e ≡ true
+  pub back : (i : ℕ) (gap more : List ℕ) → Follows gap more → Left t i (inline_bytes level e (gap ++ more)) →
+      Reads t (inline_expression edition t) (inline_map (bytes_at t)) i e (past e gap more)
+
+-- The rest of an argument list is read back, after named arguments of these names.
+pub record ListBack (edition : Edition) (t : List ℕ) (level : ℕ) (names : List Text) (ps : InlineTrees Text)
+    (ns : NamedTrees Text) : Type 0 where
+  -- what it begins with
+  pub begins : (tail : List ℕ) → Begins (positional_bytes level true ps (named_bytes level (is_none_of ps) ns tail)) ⊎
+      ((ps ≡ no_inlines) × (ns ≡ no_named))
+  pub back : (i : ℕ) (tail : List ℕ) →
+      Left t i (positional_bytes level true ps (named_bytes level (is_none_of ps) ns (41 ∷ tail))) →
+      Reads t ((family edition t).more_arguments names) (arguments_map (bytes_at t)) i (arguments ps ns) tail
+
+module _ (edition : Edition) (t : List ℕ) where
+  abbrev pub ReadsMore : List Text → ℕ → ArgumentsTree Text → List ℕ → Type 0
+  ReadsMore names i a left = Reads t ((family edition t).more_arguments names) (arguments_map (bytes_at t)) i a left
+
+  more_into : (names : List Text) (i : ℕ) (a : ArgumentsTree Text) (left : List ℕ) →
+      Reads t (more_arguments t (family edition t) names) (arguments_map (bytes_at t)) i a left →
+      ReadsMore names i a left
+  more_into names i a left r = reads_into (λ o x. into_more_arguments edition t names i o x) r
+
+  -- the end of a list
+  pub nothing_back : (level : ℕ) (names : List Text) → ListBack edition t level names no_inlines no_named
+  nothing_back level names = record {
+    begins = λ tail. inr (refl, refl);
+    back =
+        λ i tail l. more_into names i (arguments no_inlines no_named) tail
+        (reads_at_each (Some 41) (left_first l)
+        (reads_first refl (passes_then (passes_token 41 refl l) (λ j m. reads_gives refl m))));
+  }
+
+  -- between two arguments, or before the end of the list
+  passes_separator :
+      (level : ℕ) (names : List Text) (ps : InlineTrees Text) (ns : NamedTrees Text) (i : ℕ) (tail : List ℕ) →
+      ListBack edition t level names ps ns →
+      Left t i (positional_bytes level false ps (named_bytes level false ns (41 ∷ tail))) →
+      Passes t (separator t) i (positional_bytes level true ps (named_bytes level (is_none_of ps) ns (41 ∷ tail)))
+  passes_separator level names no_inlines no_named i tail h l =
+      passes_then (passes_blanks [] (41 ∷ tail) refl refl refl refl l)
+      (λ j m. reads_bind (reads_absent 44 refl m) (λ b k e n. passes_blanks [] (41 ∷ tail) refl refl refl refl n))
+  passes_separator level names no_inlines (nameds n ns) i tail h l =
+      passes_then (passes_blanks [] _ refl refl refl refl l)
+      (λ j m. reads_bind (reads_present 44 refl m) (λ b k e n. elim (h.begins (41 ∷ tail)) [
+        | inl x ↦ passes_blanks (32 ∷ []) _ refl (begins_other 32 x refl) (begins_other lf x refl)
+            (begins_other cr x refl) n
+        | inr x ↦ absurd cc
+      ]))
+  passes_separator level names (inlines e es) ns i tail h l =
+      passes_then (passes_blanks [] _ refl refl refl refl l)
+      (λ j m. reads_bind (reads_present 44 refl m) (λ b k f n. elim (h.begins (41 ∷ tail)) [
+        | inl x ↦ passes_blanks (32 ∷ []) _ refl (begins_other 32 x refl) (begins_other lf x refl)
+            (begins_other cr x refl) n
+        | inr x ↦ absurd cc
+      ]))
+
+  -- ---- positional arguments
+
+  follows_positional : (level : ℕ) (ps : InlineTrees Text) (ns : NamedTrees Text) (tail : List ℕ) →
+      Follows [] (positional_bytes level false ps (named_bytes level false ns (41 ∷ tail)))
+  follows_positional level no_inlines no_named tail =
+      record {
+        spaces = refl;
+        no_name = refl;
+        no_digit = refl;
+        no_point = refl;
+        no_space = refl;
+        no_lf = refl;
+        no_cr = refl;
+        no_list = refl;
+        no_attribute = refl;
+      }
+  follows_positional level no_inlines (nameds n ns) tail =
+      record {
+        spaces = refl;
+        no_name = refl;
+        no_digit = refl;
+        no_point = refl;
+        no_space = refl;
+        no_lf = refl;
+        no_cr = refl;
+        no_list = refl;
+        no_attribute = refl;
+      }
+  follows_positional level (inlines e es) ns tail =
+      record {
+        spaces = refl;
+        no_name = refl;
+        no_digit = refl;
+        no_point = refl;
+        no_space = refl;
+        no_lf = refl;
+        no_cr = refl;
+        no_list = refl;
+        no_attribute = refl;
+      }
+
+  no_colon : (level : ℕ) (ps : InlineTrees Text) (ns : NamedTrees Text) (tail : List ℕ) →
+      holds (λ b. b == 58) (first (positional_bytes level false ps (named_bytes level false ns (41 ∷ tail)))) ≡ false
+  no_colon level no_inlines no_named tail = refl
+  no_colon level no_inlines (nameds n ns) tail = refl
+  no_colon level (inlines e es) ns tail = refl
+
+  -- without a colon an argument is positional
+  as_positional :
+      (names : List Text) (e : InlineTree Span) (o : Option Span) (colon : Bool) (i : ℕ) (a : ArgumentsTree Text)
+      (left : List ℕ) → colon ≡ false →
+      Reads t (positional_and_more t (family edition t) names e) (arguments_map (bytes_at t)) i a left →
+      Reads t (argument_and_more t (family edition t) names e o colon) (arguments_map (bytes_at t)) i a left
+  as_positional names e None colon i a left f r = r
+  as_positional names e (Some n) true i a left f r = absurd cc
+  as_positional names e (Some n) false i a left f r = r
+
+  added_positional :
+      (v : InlineTree Span) (a : ArgumentsTree Span) (e : InlineTree Text) (ps : InlineTrees Text)
+      (ns : NamedTrees Text) → inline_map (bytes_at t) v ≡ e → arguments_map (bytes_at t) a ≡ arguments ps ns →
+      arguments_map (bytes_at t) (add_positional v a) ≡ arguments (inlines e ps) ns
+  added_positional v (arguments qs ms) e ps ns f g = cc
+
+  -- the rest of a list, at an argument's first byte
+  at_argument : (names : List Text) (i : ℕ) (bs : List ℕ) (a : ArgumentsTree Text) (left : List ℕ) → Begins bs →
+      Left t i bs →
+      Reads t ((family edition t).inline_expression >>= λ e. at_each (has_byte t 58) gives >>= λ colon.
+      argument_and_more t (family edition t) names e (argument_name e) colon) (arguments_map (bytes_at t)) i a
+      left →
+      ReadsMore names i a left
+  at_argument names i bs a left b l r =
+      more_into names i a left
+      (reads_at_each (Some b.byte) (left_first l ∙ ap first b.are)
+      (reads_second (differ is_start b.byte 41 b.start refl) r))
+
+  pub positional_back : (level : ℕ) (e : InlineTree Text) (es : InlineTrees Text) (ns : NamedTrees Text) →
+      InlineBack edition t level e → ListBack edition t level [] es ns → ListBack edition t level [] (inlines e es) ns
+  positional_back level e es ns h more = record {
+    begins = λ tail. inl (inline_begins edition level e _ h.obeys);
+    back = λ i tail l.
+        let rest = positional_bytes level false es (named_bytes level false ns (41 ∷ tail)) in
+        at_argument [] i _ _ tail (inline_begins edition level e rest h.obeys) l
+        (reads_bind (reads_into (λ o x. into_inline_expression edition t i o x)
+        (h.back i [] rest (follows_positional level es ns tail) l)) (λ v j f m.
+        let n = left_as (past_same e rest) m in
+        reads_look (has_byte t 58 j) refl
+        (as_positional [] v (argument_name v) (has_byte t 58 j) j _ tail
+        (left_has (λ b. b == 58) n ∙ no_colon level es ns tail)
+        (passes_then (passes_separator level [] es ns j tail more n)
+        (λ k q. reads_bind (more.back k tail q)
+        (λ a p g s. reads_gives (added_positional v a e es ns f g) s))))));
+  }
+
+  -- ---- named arguments
+
+  -- the name of a named argument, read as a message reference
+  pub record IsName (v : InlineTree Span) (name : Text) : Type 0 where
+    pub id : Span
+    pub is : argument_name v ≡ Some id
+    pub spells : bytes_at t id ≡ name
+
+  name_of : (v : InlineTree Span) (name : Text) → inline_map (bytes_at t) v ≡ message_reference name None →
+      IsName v name
+  name_of (string_literal v) name e = absurd cc
+  name_of (number_literal v) name e = absurd cc
+  name_of (function_reference id a) name e = absurd cc
+  name_of (message_reference id None) name e = record { id = id; is = refl; spells = cc }
+  name_of (message_reference id (Some a)) name e = absurd cc
+  name_of (term_reference id a c) name e = absurd cc
+  name_of (variable_reference id) name e = absurd cc
+  name_of (inline_placeable x) name e = absurd cc
+
+  -- before a colon a name is that of a named argument
+  as_named :
+      (names : List Text) (e : InlineTree Span) (id : Span) (o : Option Span) (colon : Bool) (i : ℕ)
+      (a : ArgumentsTree Text) (left : List ℕ) → o ≡ Some id → colon ≡ true →
+      Reads t (named_and_more t (family edition t) names id) (arguments_map (bytes_at t)) i a left →
+      Reads t (argument_and_more t (family edition t) names e o colon) (arguments_map (bytes_at t)) i a left
+  as_named names e id o colon i a left f g r = rw (f, g) r
+
+  added_named :
+      (id : Span) (v : InlineTree Span) (a : ArgumentsTree Span) (name : Text) (e : InlineTree Text)
+      (ps : InlineTrees Text) (ns : NamedTrees Text) → bytes_at t id ≡ name → inline_map (bytes_at t) v ≡ e →
+      arguments_map (bytes_at t) a ≡ arguments ps ns →
+      arguments_map (bytes_at t) (add_named id v a) ≡ arguments ps (nameds (named_argument name e) ns)
+  added_named id v (arguments qs ms) name e ps ns f g h = cc
+
+  -- a value that may be one, by its start
+  value_at : (level : ℕ) (e : InlineTree Text) (i : ℕ) (tail left : List ℕ) →
+      inline_obeys (canonical_rules edition) e ≡ true → is_argument_value e ≡ true →
+      Left t i (inline_bytes level e tail) →
+      Reads t ((family edition t).inline_expression) (inline_map (bytes_at t)) i e left →
+      Reads t (at_each (start t) (argument_value t (family edition t))) (inline_map (bytes_at t)) i e left
+  value_at level (string_literal v) i tail left h a l r = reads_at_each quote (starts_with quote refl l) r
+  value_at level (number_literal []) i tail left h a l r = absurd cc
+  value_at level (number_literal (b ∷ bs)) i tail left h a l r =
+      reads_at_each digit (starts_with digit (digit_start b _ (left_true (is_digit b) (is_number_rest bs) a)) l) r
+  value_at level (function_reference id c) i tail left h a l r =
+      reads_at_each letter (name_start edition t i id _ (left_true (is_name id) _ h) l) r
+  value_at level (message_reference id c) i tail left h a l r =
+      reads_at_each letter (name_start edition t i id _ (left_true (is_name id) _ h) l) r
+  value_at level (term_reference id c d) i tail left h a l r = absurd cc
+  value_at level (variable_reference id) i tail left h a l r = absurd cc
+  value_at level (inline_placeable x) i tail left h a l r = absurd cc
+
+  -- from the colon on
+  from_colon : (level : ℕ) (names : List Text) (name : Text) (e : InlineTree Text) (ns : NamedTrees Text) →
+      InlineBack edition t level e → is_used name names ≡ false → is_argument_value e ≡ true →
+      ListBack edition t level (name ∷ names) no_inlines ns →
+      (id : Span) (i : ℕ) (tail : List ℕ) → bytes_at t id ≡ name →
+      Left t i (58 ∷ 32 ∷ inline_bytes level e (named_bytes level false ns (41 ∷ tail))) →
+      Reads t (named_and_more t (family edition t) names id) (arguments_map (bytes_at t)) i
+      (arguments no_inlines (nameds (named_argument name e) ns)) tail
+  from_colon level names name e ns h used value more id i tail f l =
+      let rest = named_bytes level false ns (41 ∷ tail) in
+      let b = inline_begins edition level e rest h.obeys in
+      reads_second (rw f used)
+      (passes_then (passes_token 58 refl l)
+      (λ j m. passes_then
+      (passes_blanks (32 ∷ []) _ refl (begins_other 32 b refl) (begins_other lf b refl) (begins_other cr b refl)
+      m) (λ k n.
+      reads_bind (value_at level e k rest (past e [] rest) h.obeys value n
+      (reads_into (λ o x. into_inline_expression edition t k o x)
+      (h.back k [] rest (follows_positional level no_inlines ns tail) n))) (λ v p g q.
+      passes_then (passes_separator level (name ∷ names) no_inlines ns p tail more (left_as (past_same e rest) q))
+      (λ y z.
+      reads_bind (reads_named id name names y ns tail f (more.back y tail z))
+      (λ a w x s. reads_gives (added_named id v a name e no_inlines ns f g x) s))))))
+    where
+      reads_named : (id : Span) (name : Text) (names : List Text) (y : ℕ) (ns : NamedTrees Text) (tail : List ℕ) →
+          bytes_at t id ≡ name → ReadsMore (name ∷ names) y (arguments no_inlines ns) tail →
+          ReadsMore (bytes_at t id ∷ names) y (arguments no_inlines ns) tail
+      reads_named id name names y ns tail f r = rw f r
+
+  pub named_back : (level : ℕ) (names : List Text) (name : Text) (e : InlineTree Text) (ns : NamedTrees Text) →
+      is_name name ≡ true → InlineBack edition t level e → is_used name names ≡ false → is_argument_value e ≡ true →
+      ListBack edition t level (name ∷ names) no_inlines ns →
+      ListBack edition t level names no_inlines (nameds (named_argument name e) ns)
+  named_back level names name e ns is h used value more = record {
+    begins = λ tail. inl (name_begins name _ is);
+    back = λ i tail l.
+        let rest = 58 ∷ 32 ∷ inline_bytes level e (named_bytes level false ns (41 ∷ tail)) in
+        let f : Follows [] rest =
+        record {
+          spaces = refl;
+          no_name = refl;
+          no_digit = refl;
+          no_point = refl;
+          no_space = refl;
+          no_lf = refl;
+          no_cr = refl;
+          no_list = refl;
+          no_attribute = refl;
+        } in
+        at_argument names i _ _ tail (name_begins name rest is) l
+        (reads_bind (reads_into (λ o x. into_inline_expression edition t i o x)
+        (message_back edition t i level name [] rest is f l)) (λ v j g m.
+        let n = name_of v name g in
+        reads_look (has_byte t 58 j) refl
+        (as_named names v n.id (argument_name v) (has_byte t 58 j) j _ tail n.is (left_has (λ b. b == 58) m)
+        (from_colon level names name e ns h used value more n.id j tail n.spells m))));
+  }
+
+  -- ---- the whole list
+
+  -- a list with its brackets
+  pub call_back : (level : ℕ) (ps : InlineTrees Text) (ns : NamedTrees Text) → ListBack edition t level [] ps ns →
+      (i : ℕ) (tail : List ℕ) → Left t i (arguments_bytes level (arguments ps ns) tail) →
+      Reads t (call_arguments edition t) (maybe_map (bytes_at t)) i (some_arguments (arguments ps ns)) tail
+  call_back level ps ns h i tail l =
+      passes_then (passes_blanks [] _ refl refl refl refl l)
+      (λ j m. reads_bind (reads_present 40 refl m) (λ b k e n. reads_first e
+      (reads_bind (passes_then (inside k n) (λ p q. h.back p tail q))
+      (λ a w x s. reads_gives (ap some_arguments x) s))))
+    where
+      at_end : (ps : InlineTrees Text) (ns : NamedTrees Text) (k : ℕ) → (ps ≡ no_inlines) ×
+          (ns ≡ no_named) →
+          Left t k (positional_bytes level true ps (named_bytes level (is_none_of ps) ns (41 ∷ tail))) →
+          Passes t (blank t) k (positional_bytes level true ps (named_bytes level (is_none_of ps) ns (41 ∷ tail)))
+      at_end no_inlines no_named k x n = passes_blanks [] _ refl refl refl refl n
+      at_end no_inlines (nameds y ys) k x n = absurd cc
+      at_end (inlines y ys) ns k x n = absurd cc
+
+      inside : (k : ℕ) → Left t k (positional_bytes level true ps (named_bytes level (is_none_of ps) ns (41 ∷ tail))) →
+          Passes t (blank t) k (positional_bytes level true ps (named_bytes level (is_none_of ps) ns (41 ∷ tail)))
+      inside k n = elim (h.begins (41 ∷ tail)) [
+        | inl b ↦ passes_blanks [] _ refl (begins_other 32 b refl) (begins_other lf b refl) (begins_other cr b refl) n
+        | inr x ↦ at_end ps ns k x n
+      ]

@@ -1,0 +1,419 @@
+-- Bodies, read forwards: entries one after the other, tiled from the start of the text to its end.
+use Rattle.std.proofs.Common.{◌≡◌, ℕ, ◌+◌, ◌<◌, List, [], ◌∷◌, ◌++◌, length, map, Option, Some, None, Bool, true, false}
+use Rattle.std.proofs.Common.{refl, sym, ◌∙◌, subst, ap, arith}
+use Rattle.std.specs.Prelude.{◌==◌, ◌&&◌}
+use Rattle.std.specs.List.{list_all}
+use Rattle.std.proofs.lemmas.Bool.Decides.{nat_tests}
+use Rattle.fluent_syntax_tree.specs.Tree.{PatternTree}
+use Rattle.fluent_syntax_tree.specs.Entry.{AttributeTree, EntryTree, entry_map, message, term, comment, junk, Level}
+use Rattle.fluent_syntax_tree.specs.Entry.{regular, group, resource, BodyTree, MessageTree, TermTree}
+use Rattle.fluent_syntax_tree.specs.Spans.{bytes_at}
+use Rattle.fluent_syntax_tree.specs.declared.spans.Span.{Span}
+use Rattle.fluent_syntax_tree.specs.declared.edition.Edition.{Edition}
+use Rattle.fluent_syntax_grammar.specs.Bytes.{lf, is_letter, is_name_byte}
+use Rattle.fluent_syntax_grammar.specs.Places.{line}
+use Rattle.fluent_syntax_grammar.specs.Construct.{Read, chosen, first as first_of, second}
+use Rattle.fluent_syntax_grammar.specs.Entries.{message_entry, term_entry}
+use Rattle.fluent_syntax_grammar.specs.Comments.{comment_entry}
+use Rattle.fluent_syntax_grammar.specs.Tiling.{Tile, entry, refused, dropped, is_entry_byte, Tiled, done, next}
+use Rattle.fluent_syntax_grammar.specs.Tiling.{entry_of, entry_at, TileAt, reads, refuses}
+use Rattle.fluent_syntax_grammar.specs.Body.{body, hung}
+use Rattle.fluent_syntax_grammar.specs.Written.{Text, hashes_of, is_shown}
+use Rattle.fluent_syntax_grammar.specs.Spellings.{is_name}
+use Rattle.fluent_syntax_grammar.specs.Rules.{option_obeys, pattern_obeys, attribute_obeys, entry_obeys, body_obeys}
+use Rattle.fluent_syntax_grammar.specs.Readable.{has_field, are_lines}
+use Rattle.fluent_syntax_grammar.specs.Canonical.{canonical_rules, is_canonical}
+use Rattle.fluent_syntax_grammar.specs.RoundTrip.{ReadsAs, tree_of}
+use Rattle.fluent_syntax_grammar.proofs.Facts.{left_true, right_true}
+use Rattle.fluent_syntax_grammar.proofs.Tests.{differ}
+use Rattle.fluent_syntax_grammar.proofs.Cuts.{block_forward}
+use Rattle.fluent_syntax_grammar.proofs.Left.{Left, left_as, left_whole, left_first, left_next, left_end}
+use Rattle.fluent_syntax_grammar.proofs.forward.Reading.{Reads, reads_into}
+use Rattle.fluent_syntax_grammar.proofs.forward.Lines.{Ends, stop, blank_line, no_spaces, lf_after, same_number}
+use Rattle.fluent_syntax_grammar.proofs.forward.Entries.{EntryStart, no_entry, begins, entry_stops, no_block, Tiles}
+use Rattle.fluent_syntax_grammar.proofs.forward.Entries.{tiles_end}
+use Rattle.fluent_syntax_grammar.proofs.marks.WrittenBytes.{pattern_bytes}
+use Rattle.fluent_syntax_grammar.proofs.marks.WrittenEntries.{after_hashes, comment_bytes, more_attributes}
+use Rattle.fluent_syntax_grammar.proofs.marks.WrittenEntries.{own_comment_bytes, value_bytes, message_bytes, term_bytes}
+use Rattle.fluent_syntax_grammar.proofs.forward.Fields.{message_back, term_back}
+use Rattle.fluent_syntax_grammar.proofs.forward.Comments.{comment_back}
+use Rattle.fluent_syntax_grammar.proofs.Tests.{or_third}
+
+-- ---- what a body is written as
+
+-- a line end before a free comment, or none
+abbrev pub gap_bytes : Bool → Text → Text
+gap_bytes true tail = lf ∷ tail
+gap_bytes false tail = tail
+
+-- The text is the entries one after the other. Before a free comment stands a line end or not.
+pub data IsWritten : BodyTree Text → Text → Type 0 where
+  nothing : IsWritten [] []
+  a_message : (m : MessageTree Text) (es : BodyTree Text) (tail : Text) → IsWritten es tail →
+      IsWritten (message m ∷ es) (own_comment_bytes m.comment (message_bytes m.id m.value m.attributes tail))
+  a_term : (m : TermTree Text) (es : BodyTree Text) (tail : Text) → IsWritten es tail →
+      IsWritten (term m ∷ es) (own_comment_bytes m.comment (term_bytes m.id m.value m.attributes tail))
+  a_comment : (gap : Bool) (level : Level) (content : List Text) (es : BodyTree Text) (tail : Text) →
+      IsWritten es tail →
+      IsWritten (comment level content ∷ es) (gap_bytes gap (comment_bytes (hashes_of level) content (lf ∷ tail)))
+
+-- ---- messages and terms, which a comment can hang on
+
+abbrev pub takes_comment : {X : Type 0} → EntryTree X → Bool
+takes_comment (message m) = true
+takes_comment (term m) = true
+takes_comment (comment level content) = false
+takes_comment (junk x) = false
+
+abbrev pub with_comment : {X : Type 0} → List X → EntryTree X → EntryTree X
+with_comment content (message m) = message (record m { comment = Some content })
+with_comment content (term m) = term (record m { comment = Some content })
+with_comment content (comment level c) = comment level c
+with_comment content (junk x) = junk x
+
+abbrev pub worn : {X : Type 0} → Option (List X) → EntryTree X → EntryTree X
+worn None e = e
+worn (Some content) e = with_comment content e
+
+takes_map : {X Y : Type 0} (f : X → Y) (e : EntryTree X) → takes_comment (entry_map f e) ≡ takes_comment e
+takes_map f (message m) = refl
+takes_map f (term m) = refl
+takes_map f (comment level c) = refl
+takes_map f (junk x) = refl
+
+with_map : {X Y : Type 0} (f : X → Y) (c : List X) (e : EntryTree X) →
+    entry_map f (with_comment c e) ≡ with_comment (map f c) (entry_map f e)
+with_map f c (message m) = refl
+with_map f c (term m) = refl
+with_map f c (comment level d) = refl
+with_map f c (junk x) = refl
+
+hung_with : (c : List Span) (e : EntryTree Span) → takes_comment e ≡ true → hung c e ≡ Some (with_comment c e)
+hung_with c (message m) h = refl
+hung_with c (term m) h = refl
+hung_with c (comment level d) h = cc
+hung_with c (junk x) h = cc
+
+-- ---- what tiles give
+
+-- a message or a term gives itself
+body_alone : (s : Span) (e : EntryTree Span) (tiles : List Tile) → takes_comment e ≡ true →
+    body (entry s e ∷ tiles) ≡ e ∷ body tiles
+body_alone s e [] h = refl
+body_alone s (message m) (y ∷ tiles) h = refl
+body_alone s (term m) (y ∷ tiles) h = refl
+body_alone s (comment level c) (y ∷ tiles) h = cc
+body_alone s (junk x) (y ∷ tiles) h = cc
+
+-- a comment directly before it hangs on it
+body_hung : (i j k : ℕ) (c : List Span) (e : EntryTree Span) (tiles : List Tile) → takes_comment e ≡ true →
+    body (entry (record { start = i; end = j }) (comment regular c) ∷ entry (record { start = j; end = k }) e ∷ tiles)
+    ≡ with_comment c e ∷ body tiles
+body_hung i j k c e tiles h = rw (same_number j, hung_with c e h) refl
+
+other_number : (i j : ℕ) → i < j → (i == j) ≡ false
+other_number i j l = grind (arith, nat_tests)
+
+-- a comment that the next tile does not follow directly gives itself
+free_comment : (edition : Edition) (t : List ℕ) (i j k : ℕ) (level : Level) (c : List Span) (tiles : List Tile) →
+    j < k → Tiled t (TileAt edition t) k tiles →
+    body (entry (record { start = i; end = j }) (comment level c) ∷ tiles) ≡ comment level c ∷ body tiles
+free_comment edition t i j k level c [] n (done b) = refl
+free_comment edition t i j k group c (y ∷ tiles) n (next b l a m) = refl
+free_comment edition t i j k resource c (y ∷ tiles) n (next b l a m) = refl
+free_comment edition t i j k regular c (entry s e ∷ tiles) n (next {start = start} b l (reads r) m) =
+    let f = block_forward t k start b in rw (other_number j start (omega arith)) refl
+free_comment edition t i j k regular c (refused x ∷ tiles) n (next b l (refuses r q) m) = refl
+free_comment edition t i j k regular c (dropped ∷ tiles) n (next b l a m) = elim a [ ]
+
+hash_begins : (c : ℕ) → (c == 35) ≡ true → is_entry_byte c ≡ true
+hash_begins c e = or_third (is_letter c) (c == 45) (c == 35) e
+
+module _ (edition : Edition) (t : List ℕ) where
+  entry_within : (i b : ℕ) (bs : List ℕ) → Left t i (b ∷ bs) → i < length t
+  entry_within i b bs l = let n = left_end l in omega arith
+
+  -- a blank line before tiles
+  line_before : (i : ℕ) (bs : List ℕ) (tiles : List Tile) → Left t i (lf ∷ bs) →
+      Tiled t (TileAt edition t) (i + 1) tiles → Tiled t (TileAt edition t) i tiles
+  line_before i bs tiles l (done b) = done (line (no_spaces edition t refl l) (lf_after edition t l) b)
+  line_before i bs tiles l (next b m a n) = next (line (no_spaces edition t refl l) (lf_after edition t l) b) m a n
+
+  -- blank lines before tiles
+  tiles_after : (tail rest : List ℕ) (es : BodyTree Text) (i : ℕ) → Ends tail rest → Left t i tail →
+      ((j : ℕ) → Left t j rest → Tiles edition t j es) → Tiles edition t i es
+  tiles_after tail rest es i (stop s) l k = k i l
+  tiles_after tail rest es i (blank_line {tail = more} e) l k =
+      let n = tiles_after more rest es (i + 1) e (left_next l) k in
+      record { tiles = n.tiles; tiled = line_before i more n.tiles l n.tiled; no_faults = n.no_faults; same = n.same }
+
+  reads_comment : (i b : ℕ) (bs : List ℕ) (e : EntryTree Span) (j : ℕ) → (b == 35) ≡ true → Left t i (b ∷ bs) →
+      comment_entry t i (Read e j) → entry_at edition t i (Read e j)
+  reads_comment i b bs e j is l r =
+      chosen (subst (λ o. entry_of edition t o i (Read e j)) (sym (left_first l)) (first_of is r))
+
+  -- a message or a term
+  tiles_alone : (e : EntryTree Text) (es : BodyTree Text) (i b : ℕ) (bs rest : List ℕ) → takes_comment e ≡ true →
+      is_entry_byte b ≡ true → Left t i (b ∷ bs) → Reads t (entry_at edition t) (entry_map (bytes_at t)) i e rest →
+      ((j : ℕ) → Left t j rest → Tiles edition t j es) → Tiles edition t i (e ∷ es)
+  tiles_alone e es i b bs rest h is l r k =
+      let n = k r.end r.rest in
+      let takes : takes_comment r.value ≡ true = sym (takes_map (bytes_at t) r.value) ∙ ap takes_comment r.spells ∙ h in
+      let s : Span = record { start = i; end = r.end } in
+      record {
+        tiles = entry s r.value ∷ n.tiles;
+        tiled = next (no_block edition t i (b ∷ bs) (begins b bs is) l) (entry_within i b bs l) (reads r.reads) n.tiled;
+        no_faults = n.no_faults;
+        same =
+            ap (map (entry_map (bytes_at t))) (body_alone s r.value n.tiles takes)
+            ∙ ap (λ y. y ∷ tree_of t n.tiles) r.spells ∙ ap (λ ys. e ∷ ys) n.same;
+      }
+
+  -- a message or a term with the comment that hangs on it
+  tiles_hung :
+      (content : List Text) (e : EntryTree Text) (es : BodyTree Text) (i c : ℕ) (cs : List ℕ) (b : ℕ)
+      (bs rest : List ℕ) → takes_comment e ≡ true → (c == 35) ≡ true → Left t i (c ∷ cs) → is_entry_byte b ≡ true →
+      Reads t (comment_entry t) (entry_map (bytes_at t)) i (comment regular content) (b ∷ bs) →
+      ((j : ℕ) → Left t j (b ∷ bs) → Reads t (entry_at edition t) (entry_map (bytes_at t)) j e rest) →
+      ((j : ℕ) → Left t j rest → Tiles edition t j es) → Tiles edition t i (with_comment content e ∷ es)
+  tiles_hung content e es i c cs b bs rest h is l is' q r k = hung_tiles q.value q.spells q.reads
+    where
+      hung_tiles : (v : EntryTree Span) → entry_map (bytes_at t) v ≡ comment regular content →
+          comment_entry t i (Read v q.end) → Tiles edition t i (with_comment content e ∷ es)
+      hung_tiles (message m) f x = absurd cc
+      hung_tiles (term m) f x = absurd cc
+      hung_tiles (junk m) f x = absurd cc
+      hung_tiles (comment group d) f x = absurd cc
+      hung_tiles (comment resource d) f x = absurd cc
+      hung_tiles (comment regular d) f x =
+          let o = r q.end q.rest in
+          let n = k o.end o.rest in
+          let takes : takes_comment o.value ≡ true =
+          sym (takes_map (bytes_at t) o.value) ∙ ap takes_comment o.spells ∙ h in
+          record {
+            tiles =
+                entry (record { start = i; end = q.end }) (comment regular d) ∷
+                entry (record { start = q.end; end = o.end }) o.value ∷ n.tiles;
+            tiled =
+                next (no_block edition t i (c ∷ cs) (begins c cs (hash_begins c is)) l) (entry_within i c cs l)
+                (reads (reads_comment i c cs (comment regular d) q.end is l x))
+                (next (no_block edition t q.end (b ∷ bs) (begins b bs is') q.rest) (entry_within q.end b bs q.rest)
+                (reads o.reads) n.tiled);
+            no_faults = n.no_faults;
+            same =
+                ap (map (entry_map (bytes_at t))) (body_hung i q.end o.end d o.value n.tiles takes)
+                ∙ ap (λ y. y ∷ tree_of t n.tiles) (with_map (bytes_at t) d o.value ∙ spelled_with d o.value f o.spells)
+                ∙ ap (λ ys. with_comment content e ∷ ys) n.same;
+          }
+        where
+          same_content : (d : List Span) → entry_map (bytes_at t) (comment regular d) ≡ comment regular content →
+              map (bytes_at t) d ≡ content
+          same_content d f = cc
+
+          spelled_with : (d : List Span) (v : EntryTree Span) →
+              entry_map (bytes_at t) (comment regular d) ≡ comment regular content → entry_map (bytes_at t) v ≡ e →
+              with_comment (map (bytes_at t) d) (entry_map (bytes_at t) v) ≡ with_comment content e
+          spelled_with d v f g = rw (same_content d f, g) refl
+
+  -- a free comment and the blank lines after it
+  tiles_free : (level : Level) (content : List Text) (es : BodyTree Text) (i c : ℕ) (cs tail rest : List ℕ) →
+      (c == 35) ≡ true → is_entry_byte c ≡ true → Left t i (c ∷ cs) →
+      Reads t (comment_entry t) (entry_map (bytes_at t)) i (comment level content) (lf ∷ tail) → Ends tail rest →
+      ((j : ℕ) → Left t j rest → Tiles edition t j es) → Tiles edition t i (comment level content ∷ es)
+  tiles_free level content es i c cs tail rest is is' l q ends k = free_tiles q.value q.spells q.reads
+    where
+      same_content : (d : List Span) (v : Level) → entry_map (bytes_at t) (comment v d) ≡ comment level content →
+          v ≡ level
+      same_content d v f = cc
+
+      free_tiles : (v : EntryTree Span) → entry_map (bytes_at t) v ≡ comment level content →
+          comment_entry t i (Read v q.end) → Tiles edition t i (comment level content ∷ es)
+      free_tiles (message m) f x = absurd cc
+      free_tiles (term m) f x = absurd cc
+      free_tiles (junk m) f x = absurd cc
+      free_tiles (comment v d) f x =
+          let n = tiles_after tail rest es (q.end + 1) ends (left_next q.rest) k in
+          record {
+            tiles = entry (record { start = i; end = q.end }) (comment v d) ∷ n.tiles;
+            tiled =
+                next (no_block edition t i (c ∷ cs) (begins c cs is') l) (entry_within i c cs l)
+                (reads (reads_comment i c cs (comment v d) q.end is l x))
+                (line_before q.end tail n.tiles q.rest n.tiled);
+            no_faults = n.no_faults;
+            same =
+                ap (map (entry_map (bytes_at t)))
+                (free_comment edition t i q.end (q.end + 1) v d n.tiles (omega arith) n.tiled)
+                ∙ ap (λ y. y ∷ tree_of t n.tiles) f ∙ ap (λ ys. comment level content ∷ ys) n.same;
+          }
+
+  -- ---- entries as they are written
+
+  letter_begins : (b : ℕ) → is_letter b ≡ true → is_entry_byte b ≡ true
+  letter_begins b e = rw e refl
+
+  letter_reads : (i b : ℕ) (bs : List ℕ) (e : EntryTree Text) (rest : List ℕ) → is_letter b ≡ true → Left t i (b ∷ bs) →
+      Reads t (message_entry edition t) (entry_map (bytes_at t)) i e rest →
+      Reads t (entry_at edition t) (entry_map (bytes_at t)) i e rest
+  letter_reads i b bs e rest is l r =
+      reads_into (λ o x.
+      chosen (subst (λ b. entry_of edition t b i o) (sym (left_first l))
+      (second (differ is_letter b 35 is refl) (second (differ is_letter b 45 is refl) x)))) r
+
+  minus_reads : (i : ℕ) (bs : List ℕ) (e : EntryTree Text) (rest : List ℕ) → Left t i (45 ∷ bs) →
+      Reads t (term_entry edition t) (entry_map (bytes_at t)) i e rest →
+      Reads t (entry_at edition t) (entry_map (bytes_at t)) i e rest
+  minus_reads i bs e rest l r =
+      reads_into (λ o x.
+      chosen (subst (λ b. entry_of edition t b i o) (sym (left_first l)) (second refl (first_of refl x)))) r
+
+  -- The text from here on is tiled into these entries, after blank lines.
+  pub record BodyBack (es : BodyTree Text) (tail : List ℕ) : Type 0 where
+    pub rest : List ℕ
+    pub ends : Ends tail rest
+    pub starts : EntryStart rest
+    pub tiles : (j : ℕ) → Left t j rest → Tiles edition t j es
+
+  begins_there : (es : BodyTree Text) (bs : List ℕ) → EntryStart bs → ((j : ℕ) → Left t j bs → Tiles edition t j es) →
+      BodyBack es bs
+  begins_there es bs s k = record { rest = bs; ends = stop (entry_stops bs s); starts = s; tiles = k }
+
+  -- the entry alone, or with its comment
+  field_back : (content : Option (List Text)) (e : EntryTree Text) (es : BodyTree Text) (b : ℕ) (bs rest : List ℕ) →
+      option_obeys (canonical_rules edition).comment content ≡ true → takes_comment e ≡ true → is_entry_byte b ≡ true →
+      (b == 35) ≡ false →
+      ((j : ℕ) → Left t j (b ∷ bs) → Reads t (entry_at edition t) (entry_map (bytes_at t)) j e rest) →
+      ((j : ℕ) → Left t j rest → Tiles edition t j es) →
+      BodyBack (worn content e ∷ es) (own_comment_bytes content (b ∷ bs))
+  field_back None e es b bs rest o h is n r k =
+      begins_there (e ∷ es) (b ∷ bs) (begins b bs is) (λ j l. tiles_alone e es j b bs rest h is l (r j l) k)
+  field_back (Some []) e es b bs rest o h is n r k = absurd cc
+  field_back (Some (x ∷ xs)) e es b bs rest o h is n r k =
+      begins_there (with_comment (x ∷ xs) e ∷ es) (comment_bytes (35 ∷ []) (x ∷ xs) (b ∷ bs))
+      (begins 35 (after_hashes (is_shown x) x (comment_bytes (35 ∷ []) xs (b ∷ bs))) refl)
+      (λ j l. tiles_hung (x ∷ xs) e es j 35 (after_hashes (is_shown x) x (comment_bytes (35 ∷ []) xs (b ∷ bs))) b bs
+      rest h refl l is
+      (comment_back t regular (x ∷ xs) j (b ∷ bs) (right_true (are_lines (x ∷ xs)) _ o)
+      (left_true (are_lines (x ∷ xs)) _ o) n l) r k)
+
+  worn_message : (m : MessageTree Text) (c : Option (List Text)) → m.comment ≡ c →
+      worn c (message (record { id = m.id; value = m.value; attributes = m.attributes; comment = None })) ≡ message m
+  worn_message m None e =
+      ap (λ c. message (record { id = m.id; value = m.value; attributes = m.attributes; comment = c })) (sym e)
+  worn_message m (Some x) e =
+      ap (λ c. message (record { id = m.id; value = m.value; attributes = m.attributes; comment = c })) (sym e)
+
+  worn_term : (m : TermTree Text) (c : Option (List Text)) → m.comment ≡ c →
+      worn c (term (record { id = m.id; value = m.value; attributes = m.attributes; comment = None })) ≡ term m
+  worn_term m None e =
+      ap (λ c. term (record { id = m.id; value = m.value; attributes = m.attributes; comment = c })) (sym e)
+  worn_term m (Some x) e =
+      ap (λ c. term (record { id = m.id; value = m.value; attributes = m.attributes; comment = c })) (sym e)
+
+  message_body :
+      (id : Text) (value : Option (PatternTree Text)) (more : List (AttributeTree Text)) (content : Option (List Text))
+      (es : BodyTree Text) (tail : Text) → has_field value more ≡ true →
+      option_obeys (canonical_rules edition).comment content ≡ true → is_name id ≡ true →
+      option_obeys (pattern_obeys (canonical_rules edition)) value ≡ true →
+      list_all (attribute_obeys (canonical_rules edition)) more ≡ true →
+      BodyBack es tail →
+      BodyBack (worn content (message (record { id = id; value = value; attributes = more; comment = None })) ∷ es)
+      (own_comment_bytes content (message_bytes id value more tail))
+  message_body [] value more content es tail f o is h a k = absurd cc
+  message_body (b ∷ bs) value more content es tail f o is h a k =
+      let letter = left_true (is_letter b) (list_all is_name_byte bs) is in
+      let after = bs ++ (32 ∷ 61 ∷ value_bytes value (lf ∷ more_attributes more tail)) in
+      field_back content (message (record { id = b ∷ bs; value = value; attributes = more; comment = None })) es b after
+      k.rest o refl (letter_begins b letter) (differ is_letter b 35 letter refl)
+      (λ j l. letter_reads j b after
+      (message (record { id = b ∷ bs; value = value; attributes = more; comment = None })) k.rest letter l
+      (message_back edition t (b ∷ bs) value more j tail k.rest is f h a k.ends k.starts l)) k.tiles
+
+  term_body :
+      (id : Text) (value : PatternTree Text) (more : List (AttributeTree Text)) (content : Option (List Text))
+      (es : BodyTree Text) (tail : Text) → option_obeys (canonical_rules edition).comment content ≡ true →
+      is_name id ≡ true → pattern_obeys (canonical_rules edition) value ≡ true →
+      list_all (attribute_obeys (canonical_rules edition)) more ≡ true →
+      BodyBack es tail →
+      BodyBack (worn content (term (record { id = id; value = value; attributes = more; comment = None })) ∷ es)
+      (own_comment_bytes content (term_bytes id value more tail))
+  term_body id value more content es tail o is h a k =
+      let after = id ++ (32 ∷ 61 ∷ pattern_bytes 0 value (lf ∷ more_attributes more tail)) in
+      field_back content (term (record { id = id; value = value; attributes = more; comment = None })) es 45 after
+      k.rest o refl refl refl
+      (λ j l. minus_reads j after (term (record { id = id; value = value; attributes = more; comment = None })) k.rest l
+      (term_back edition t id value more j tail k.rest is h a k.ends k.starts l)) k.tiles
+
+  hashes_from : (level : Level) (content : List Text) (es : BodyTree Text) (tail : Text) (c : ℕ) (cs : List ℕ) →
+      comment_bytes (hashes_of level) content (lf ∷ tail) ≡ c ∷ cs → (c == 35) ≡ true →
+      (canonical_rules edition).comment content ≡ true → BodyBack es tail →
+      BodyBack (comment level content ∷ es) (comment_bytes (hashes_of level) content (lf ∷ tail))
+  hashes_from level content es tail c cs e is o k =
+      begins_there (comment level content ∷ es) (comment_bytes (hashes_of level) content (lf ∷ tail))
+      (subst EntryStart (sym e) (begins c cs (hash_begins c is)))
+      (λ j l. tiles_free level content es j c cs tail k.rest is (hash_begins c is) (left_as e l)
+      (comment_back t level content j (lf ∷ tail) (right_true (are_lines content) _ o)
+      (left_true (are_lines content) _ o) refl l) k.ends k.tiles)
+
+  hashes_begin : (level : Level) (content : List Text) (es : BodyTree Text) (tail : Text) →
+      (canonical_rules edition).comment content ≡ true → BodyBack es tail →
+      BodyBack (comment level content ∷ es) (comment_bytes (hashes_of level) content (lf ∷ tail))
+  hashes_begin level [] es tail o k = absurd (right_absurd (are_lines []) o)
+    where
+      right_absurd : (b : Bool) → (b && false) ≡ true → ⊥
+      right_absurd true e = cc
+      right_absurd false e = cc
+  hashes_begin regular (x ∷ xs) es tail o k = hashes_from regular (x ∷ xs) es tail 35 _ refl refl o k
+  hashes_begin group (x ∷ xs) es tail o k = hashes_from group (x ∷ xs) es tail 35 _ refl refl o k
+  hashes_begin resource (x ∷ xs) es tail o k = hashes_from resource (x ∷ xs) es tail 35 _ refl refl o k
+
+  gap_back : (gap : Bool) (es : BodyTree Text) (bs : List ℕ) → BodyBack es bs → BodyBack es (gap_bytes gap bs)
+  gap_back true es bs k = record { rest = k.rest; ends = blank_line k.ends; starts = k.starts; tiles = k.tiles }
+  gap_back false es bs k = k
+
+  -- a written body is read back
+  pub body_back : (es : BodyTree Text) (tail : Text) → body_obeys (canonical_rules edition) es ≡ true →
+      IsWritten es tail → BodyBack es tail
+  body_back [] tail h nothing =
+      record {
+        rest = [];
+        ends = stop (entry_stops [] no_entry);
+        starts = no_entry;
+        tiles = λ j l. tiles_end edition t j l;
+      }
+  body_back (message m ∷ es) tail' h (a_message n fs tail w) =
+      let x = left_true (entry_obeys (canonical_rules edition) (message m)) _ h in
+      let y = right_true (has_field m.value m.attributes) _ x in
+      let z = right_true (option_obeys (canonical_rules edition).comment m.comment) _ y in
+      let q = right_true (is_name m.id) _ z in
+      subst (λ e. BodyBack (e ∷ es) (own_comment_bytes m.comment (message_bytes m.id m.value m.attributes tail)))
+      (worn_message m m.comment refl)
+      (message_body m.id m.value m.attributes m.comment es tail (left_true (has_field m.value m.attributes) _ x)
+      (left_true (option_obeys (canonical_rules edition).comment m.comment) _ y) (left_true (is_name m.id) _ z)
+      (left_true (option_obeys (pattern_obeys (canonical_rules edition)) m.value) _ q)
+      (right_true (option_obeys (pattern_obeys (canonical_rules edition)) m.value) _ q)
+      (body_back es tail (right_true (entry_obeys (canonical_rules edition) (message m)) _ h) w))
+  body_back (term m ∷ es) tail' h (a_term n fs tail w) =
+      let y = left_true (entry_obeys (canonical_rules edition) (term m)) _ h in
+      let z = right_true (option_obeys (canonical_rules edition).comment m.comment) _ y in
+      let q = right_true (is_name m.id) _ z in
+      subst (λ e. BodyBack (e ∷ es) (own_comment_bytes m.comment (term_bytes m.id m.value m.attributes tail)))
+      (worn_term m m.comment refl)
+      (term_body m.id m.value m.attributes m.comment es tail
+      (left_true (option_obeys (canonical_rules edition).comment m.comment) _ y) (left_true (is_name m.id) _ z)
+      (left_true (pattern_obeys (canonical_rules edition) m.value) _ q)
+      (right_true (pattern_obeys (canonical_rules edition) m.value) _ q)
+      (body_back es tail (right_true (entry_obeys (canonical_rules edition) (term m)) _ h) w))
+  body_back (comment level content ∷ es) tail' h (a_comment gap l c fs tail w) =
+      let x = left_true (entry_obeys (canonical_rules edition) (comment level content)) _ h in
+      gap_back gap (comment level content ∷ es) (comment_bytes (hashes_of level) content (lf ∷ tail))
+      (hashes_begin level content es tail x
+      (body_back es tail (right_true (entry_obeys (canonical_rules edition) (comment level content)) _ h) w))
+  body_back (junk x ∷ es) tail' h w = elim w [ ]
+
+-- A text that a canonical body is written as reads as that body.
+pub reads_back : (edition : Edition) (es : BodyTree Text) (t : Text) → is_canonical edition es ≡ true → IsWritten es t →
+    ReadsAs edition t es
+reads_back edition es t h w =
+    let k = body_back edition t es t h w in
+    let n = tiles_after edition t t k.rest es 0 k.ends (left_whole t) k.tiles in
+    record { tiles = n.tiles; tiling = n.tiled; no_faults = n.no_faults; same = n.same }

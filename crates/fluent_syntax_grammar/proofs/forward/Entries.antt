@@ -1,0 +1,85 @@
+-- What entries are read before, and tilings of what is left of a text.
+use Rattle.std.proofs.Common.{◌≡◌, ℕ, ◌+◌, List, [], ◌∷◌, length, Some, true, false, refl, ◌∙◌, subst, arith}
+use Rattle.std.specs.Prelude.{◌==◌, ◌||◌, not, option_map}
+use Rattle.fluent_syntax_tree.specs.Tree.{PatternTree, pattern_map}
+use Rattle.fluent_syntax_tree.specs.Entry.{BodyTree}
+use Rattle.fluent_syntax_tree.specs.Kind.{ExpectedToken}
+use Rattle.fluent_syntax_tree.specs.Spans.{bytes_at}
+use Rattle.fluent_syntax_tree.specs.declared.edition.Edition.{Edition}
+use Rattle.fluent_syntax_grammar.specs.Bytes.{lf, cr, space}
+use Rattle.fluent_syntax_grammar.specs.Places.{holds, BlankBlock, no_line}
+use Rattle.fluent_syntax_grammar.specs.Construct.{Read, Refused, goes_on, stops, given, chosen, second, failed, passed}
+use Rattle.fluent_syntax_grammar.specs.Words.{token}
+use Rattle.fluent_syntax_grammar.specs.Entries.{attributes, no_more}
+use Rattle.fluent_syntax_grammar.specs.Tiling.{Tile, is_entry_byte, Tiled, done, TileAt}
+use Rattle.fluent_syntax_grammar.specs.Body.{faults}
+use Rattle.fluent_syntax_grammar.specs.Grammar as grammar
+use Rattle.fluent_syntax_grammar.specs.Written.{Text}
+use Rattle.fluent_syntax_grammar.specs.RoundTrip.{tree_of}
+use Rattle.fluent_syntax_grammar.proofs.Tests.{differ}
+use Rattle.fluent_syntax_grammar.proofs.Left.{Left, first, left_end, left_has, left_no_eol_after}
+use Rattle.fluent_syntax_grammar.proofs.forward.Reading.{Reads}
+use Rattle.fluent_syntax_grammar.proofs.marks.WrittenBytes.{pattern_bytes}
+use Rattle.fluent_syntax_grammar.proofs.forward.Lines.{Ends, Stops, text_ends, column, no_spaces}
+
+-- A pattern is read back, before a line end and lines that do not belong to it.
+pub record PatternBack (edition : Edition) (t : List ℕ) (level : ℕ) (p : PatternTree Text) : Type 0 where
+  pub back : (i : ℕ) (tail rest : List ℕ) → Ends tail rest → Left t i (pattern_bytes level p (lf ∷ tail)) →
+      Reads t (grammar.pattern edition t) (option_map (pattern_map (bytes_at t))) i (Some p) rest
+
+-- The text ends, or an entry begins.
+pub data EntryStart : List ℕ → Type 0 where
+  no_entry : EntryStart []
+  begins : (b : ℕ) (bs : List ℕ) → is_entry_byte b ≡ true → EntryStart (b ∷ bs)
+
+pub entry_stops : (rest : List ℕ) → EntryStart rest → Stops rest
+entry_stops [] no_entry = text_ends
+entry_stops (b ∷ bs) (begins c cs e) =
+    column (column_of b (differ is_entry_byte b space e refl) (differ is_entry_byte b lf e refl)
+    (differ is_entry_byte b cr e refl) (differ is_entry_byte b 123 e refl))
+  where
+    column_of : (b : ℕ) → (b == space) ≡ false → (b == lf) ≡ false → (b == cr) ≡ false → (b == 123) ≡ false →
+        not (b == space || b == lf || b == cr || b == 123) ≡ true
+    column_of b e f g h = rw (e, f, g, h) refl
+
+-- a byte that begins no entry does not stand there
+pub entry_other : (c : ℕ) (rest : List ℕ) → EntryStart rest → is_entry_byte c ≡ false →
+    holds (λ b. b == c) (first rest) ≡ false
+entry_other c [] no_entry e = refl
+entry_other c (b ∷ bs) (begins d ds f) e = differ is_entry_byte b c f e
+
+-- From the place on the text is tiled without errors, and the tree is this one.
+pub record Tiles (edition : Edition) (t : List ℕ) (i : ℕ) (b : BodyTree Text) : Type 0 where
+  pub tiles : List Tile
+  pub tiled : Tiled t (TileAt edition t) i tiles
+  pub no_faults : faults tiles ≡ []
+  pub same : tree_of t tiles ≡ b
+
+module _ (edition : Edition) (t : List ℕ) where
+  -- no blank line stands there
+  pub no_block : (i : ℕ) (rest : List ℕ) → EntryStart rest → Left t i rest → BlankBlock t i i
+  no_block i rest e l =
+      no_line (no_spaces edition t (entry_other space rest e refl) l)
+      (left_no_eol_after l (entry_other lf rest e refl) (entry_other cr rest e refl))
+
+  no_token : (i c : ℕ) (rest : List ℕ) → holds (λ b. b == c) (first rest) ≡ false → Left t i rest →
+      token t c i (Refused (ExpectedToken c) i (i + 1))
+  no_token i c rest e l = goes_on (chosen (second (left_has (λ b. b == c) l ∙ e) given)) (second refl (failed refl))
+
+  -- no attribute stands there
+  pub no_attributes : (i : ℕ) (rest : List ℕ) → EntryStart rest → Left t i rest → attributes edition t i (Read [] i)
+  no_attributes i rest e l =
+      no_more (goes_on (passed (no_spaces edition t (entry_other space rest e refl) l))
+      (stops (no_token i 46 rest (entry_other 46 rest e refl) l)))
+
+  -- ---- tilings
+
+  pub tiles_end : (i : ℕ) → Left t i [] → Tiles edition t i []
+  tiles_end i l =
+      let e : i ≡ length t = let n = left_end l in omega arith in
+      record {
+        tiles = [];
+        tiled = done (subst (λ n. BlankBlock t i n) e (no_block i [] no_entry l));
+        no_faults = refl;
+        same = refl;
+      }

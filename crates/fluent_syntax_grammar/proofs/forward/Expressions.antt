@@ -1,0 +1,173 @@
+-- Expressions and placeables are read back, if the inline expressions in them are. Selects stand in a file of their
+-- own.
+use Rattle.std.proofs.Common.{◌≡◌, ℕ, List, [], ◌∷◌, ◌++◌, Some, None, Bool, true, false, refl, sym, ◌∙◌, ap}
+use Rattle.std.specs.Prelude.{◌==◌, if◌then◌else◌}
+use Rattle.std.specs.List.{list_all}
+use Rattle.fluent_syntax_tree.specs.Tree.{ExpressionTree, inline, expression_map, InlineTree, inline_map}
+use Rattle.fluent_syntax_tree.specs.Tree.{string_literal, number_literal, function_reference, message_reference}
+use Rattle.fluent_syntax_tree.specs.Tree.{term_reference, variable_reference, inline_placeable}
+use Rattle.fluent_syntax_tree.specs.Tree.{placeable as placeable_element}
+use Rattle.fluent_syntax_tree.specs.Spans.{bytes_at}
+use Rattle.fluent_syntax_tree.specs.declared.edition.Edition.{Edition}
+use Rattle.fluent_syntax_grammar.specs.Bytes.{lf, cr, is_space, is_name_byte, is_digit}
+use Rattle.fluent_syntax_grammar.specs.Words.{blank}
+use Rattle.fluent_syntax_grammar.specs.Starts.{brace}
+use Rattle.fluent_syntax_grammar.specs.Written.{Text}
+use Rattle.fluent_syntax_grammar.specs.Placeables.{has_arrow, selector_fault, is_term_attribute}
+use Rattle.fluent_syntax_grammar.specs.Rules.{inline_obeys}
+use Rattle.fluent_syntax_grammar.specs.Canonical.{canonical_rules}
+use Rattle.fluent_syntax_grammar.specs.Grammar.{inline_expression, expression, placeable}
+use Rattle.fluent_syntax_grammar.proofs.Facts.{left_true, right_true, equal}
+use Rattle.fluent_syntax_grammar.proofs.Tests.{both}
+use Rattle.fluent_syntax_grammar.proofs.Nesting.{into_inline_expression}
+use Rattle.fluent_syntax_grammar.proofs.Left.{Left, left_first, is_blank_byte}
+use Rattle.fluent_syntax_grammar.proofs.forward.Reading.{Reads, Passes, reads_bind, reads_gives, passes_then}
+use Rattle.fluent_syntax_grammar.proofs.forward.Reading.{reads_at_each, reads_look, reads_second, reads_into}
+use Rattle.fluent_syntax_grammar.proofs.forward.Reading.{passes_token, passes_inline_blank}
+use Rattle.fluent_syntax_grammar.proofs.marks.WrittenBytes.{expression_bytes, element_bytes, closing_indent}
+use Rattle.fluent_syntax_grammar.proofs.forward.Inline.{Follows, past, passes_blank, passes_blanks, starts_with}
+use Rattle.fluent_syntax_grammar.proofs.forward.Arguments.{Begins, InlineBack, inline_begins, begins_other}
+
+-- what a tree of ranges is, its tree of texts is
+pub same_fault : {X Y : Type 0} (f : X → Y) (e : InlineTree X) → selector_fault (inline_map f e) ≡ selector_fault e
+same_fault f (string_literal v) = refl
+same_fault f (number_literal v) = refl
+same_fault f (function_reference id a) = refl
+same_fault f (message_reference id None) = refl
+same_fault f (message_reference id (Some a)) = refl
+same_fault f (term_reference id None a) = refl
+same_fault f (term_reference id (Some x) a) = refl
+same_fault f (variable_reference id) = refl
+same_fault f (inline_placeable e) = refl
+
+same_attribute : {X Y : Type 0} (f : X → Y) (e : InlineTree X) →
+    is_term_attribute (inline_map f e) ≡ is_term_attribute e
+same_attribute f (string_literal v) = refl
+same_attribute f (number_literal v) = refl
+same_attribute f (function_reference id a) = refl
+same_attribute f (message_reference id a) = refl
+same_attribute f (term_reference id None a) = refl
+same_attribute f (term_reference id (Some x) a) = refl
+same_attribute f (variable_reference id) = refl
+same_attribute f (inline_placeable e) = refl
+
+pub spaces_blank : (bs : List ℕ) → list_all is_space bs ≡ true → list_all is_blank_byte bs ≡ true
+spaces_blank [] e = refl
+spaces_blank (b ∷ bs) e =
+    both (ap is_blank_byte (equal b 32 (left_true (is_space b) (list_all is_space bs) e)))
+    (spaces_blank bs (right_true (is_space b) (list_all is_space bs) e))
+
+-- before the brace that closes a placeable
+pub follows_brace : (gap more : List ℕ) → list_all is_space gap ≡ true → Follows gap (125 ∷ more)
+follows_brace [] more e =
+    record {
+      spaces = refl;
+      no_name = refl;
+      no_digit = refl;
+      no_point = refl;
+      no_space = refl;
+      no_lf = refl;
+      no_cr = refl;
+      no_list = refl;
+      no_attribute = refl;
+    }
+follows_brace (b ∷ bs) more e =
+    let s : b ≡ 32 = equal b 32 (left_true (is_space b) (list_all is_space bs) e) in
+    record {
+      spaces = spaces_blank (b ∷ bs) e;
+      no_name = ap is_name_byte s;
+      no_digit = ap is_digit s;
+      no_point = ap (λ b. b == 46) s;
+      no_space = refl;
+      no_lf = refl;
+      no_cr = refl;
+      no_list = refl;
+      no_attribute = refl;
+    }
+
+-- An expression is read back, before the brace that closes its placeable.
+pub record ExpressionBack (edition : Edition) (t : List ℕ) (level : ℕ) (e : ExpressionTree Text) : Type 0 where
+  pub begins : (tail : List ℕ) → Begins (expression_bytes level e tail)
+  pub back : (i : ℕ) (gap more : List ℕ) → list_all is_space gap ≡ true →
+      Left t i (expression_bytes level e (closing_indent level e ++ (gap ++ (125 ∷ more)))) →
+      Reads t (expression edition t) (expression_map (bytes_at t)) i e (125 ∷ more)
+
+module _ (edition : Edition) (t : List ℕ) where
+  passes_if : (b : Bool) (gap more : List ℕ) (i : ℕ) → Follows gap more → Left t i (if b then more else gap ++ more) →
+      Passes t (blank t) i more
+  passes_if true gap more i f l = passes_blanks [] more refl f.no_space f.no_lf f.no_cr l
+  passes_if false gap more i f l = passes_blanks gap more f.spaces f.no_space f.no_lf f.no_cr l
+
+  -- the blank after an inline expression, which reading it may have passed
+  pub passes_after : (e : InlineTree Text) (gap more : List ℕ) (i : ℕ) → Follows gap more → Left t i (past e gap more) →
+      Passes t (blank t) i more
+  passes_after e gap more i f l = passes_if (passes_blank e) gap more i f l
+
+  no_arrow : (i : ℕ) (more : List ℕ) → Left t i (125 ∷ more) → has_arrow t i ≡ false
+  no_arrow i more l = rw (left_first l) refl
+
+  -- an inline expression that was read, before the brace
+  expression_after : (e : InlineTree Text) (gap more : List ℕ) (i : ℕ) → is_term_attribute e ≡ false →
+      list_all is_space gap ≡ true →
+      Reads t (inline_expression edition t) (inline_map (bytes_at t)) i e (past e gap (125 ∷ more)) →
+      Reads t (expression edition t) (expression_map (bytes_at t)) i (inline e) (125 ∷ more)
+  expression_after e gap more i a g r =
+      reads_bind (reads_into (λ o x. into_inline_expression edition t i o x) r)
+      (λ v j f m. passes_then (passes_after e gap (125 ∷ more) j (follows_brace gap more g) m) (λ k n.
+      reads_look false (no_arrow k more n)
+      (reads_second refl
+      (reads_second (sym (same_attribute (bytes_at t) v) ∙ ap is_term_attribute f ∙ a)
+      (reads_gives (ap inline f) n)))))
+
+  pub inline_is_back : (level : ℕ) (e : InlineTree Text) → is_term_attribute e ≡ false → InlineBack edition t level e →
+      ExpressionBack edition t level (inline e)
+  inline_is_back level e a h = record {
+    begins = λ tail. inline_begins edition level e tail h.obeys;
+    back = λ i gap more g l. expression_after e gap more i a g (h.back i gap (125 ∷ more) (follows_brace gap more g) l);
+  }
+
+  -- ---- placeables
+
+  -- a placeable, with spaces after its opening and before its closing brace
+  pub placeable_back : (level : ℕ) (e : ExpressionTree Text) (before gap more : List ℕ) (i : ℕ) →
+      list_all is_space before ≡ true → list_all is_space gap ≡ true → ExpressionBack edition t level e →
+      Left t i (123 ∷ (before ++ expression_bytes level e (closing_indent level e ++ (gap ++ (125 ∷ more))))) →
+      Reads t (placeable edition t) (expression_map (bytes_at t)) i e more
+  placeable_back level e before gap more i a g h l =
+      let b = h.begins (closing_indent level e ++ (gap ++ (125 ∷ more))) in
+      passes_then (passes_token 123 refl l)
+      (λ j m. passes_then
+      (passes_blanks before _ (spaces_blank before a) (begins_other 32 b refl) (begins_other lf b refl)
+      (begins_other cr b refl) m) (λ k n.
+      reads_bind (h.back k gap more g n)
+      (λ v p f o. passes_then (passes_inline_blank [] (125 ∷ more) refl refl o)
+      (λ q r. passes_then (passes_token 125 refl r) (λ y z. reads_gives f z)))))
+
+  -- the same as an inline expression
+  braced : (level : ℕ) (e : ExpressionTree Text) (before gap more : List ℕ) (i : ℕ) → list_all is_space before ≡ true →
+      list_all is_space gap ≡ true → ExpressionBack edition t level e →
+      Left t i (123 ∷ (before ++ expression_bytes level e (closing_indent level e ++ (gap ++ (125 ∷ more))))) →
+      Reads t (inline_expression edition t) (inline_map (bytes_at t)) i (inline_placeable e) more
+  braced level e before gap more i a g h l =
+      reads_at_each brace (starts_with brace refl l)
+      (reads_bind (placeable_back level e before gap more i a g h l)
+      (λ v j f m. reads_gives (ap inline_placeable f) m))
+
+  pub placeable_is_back : (level : ℕ) (e : ExpressionTree Text) →
+      inline_obeys (canonical_rules edition) (inline_placeable e) ≡ true → ExpressionBack edition t level e →
+      InlineBack edition t level (inline_placeable e)
+  placeable_is_back level e o h =
+      record { obeys = o; back = λ i gap more f l. braced level e [] [] (gap ++ more) i refl refl h l }
+
+  -- ---- placeables that are elements
+
+  -- a placeable as an element of a pattern is read back
+  pub double_back : (level : ℕ) (e : ExpressionTree Text) (i : ℕ) (tail : List ℕ) → ExpressionBack edition t level e →
+      Left t i (element_bytes level (placeable_element (inline (inline_placeable e))) tail) →
+      Reads t (placeable edition t) (expression_map (bytes_at t)) i (inline (inline_placeable e)) tail
+  double_back level e i tail h l =
+      passes_then (passes_token 123 refl l) (λ j m. passes_then (passes_blanks [] _ refl refl refl refl m) (λ k n.
+      reads_bind (expression_after (inline_placeable e) [] tail k refl refl
+      (braced level e (32 ∷ []) (32 ∷ []) (125 ∷ tail) k refl refl h n))
+      (λ v p f o. passes_then (passes_inline_blank [] (125 ∷ tail) refl refl o) (λ q r.
+      passes_then (passes_token 125 refl r) (λ y z. reads_gives f z)))))

@@ -1,0 +1,214 @@
+-- Inline expressions and argument lists, read forwards.
+use Rattle.std.proofs.Common.{◌≡◌, ℕ, List, [], ◌∷◌, ◌++◌, Option, Some, None, Bool, true, false, refl, ap, arith, inl}
+use Rattle.std.proofs.Common.{inr}
+use Rattle.std.specs.Prelude.{◌==◌, ◌&&◌, ◌⊎◌, if◌then◌else◌}
+use Rattle.std.specs.List.{list_all}
+use Rattle.std.proofs.lemmas.Bool.Decides.{nat_tests}
+use Rattle.fluent_syntax_tree.specs.Tree.{InlineTree, inline_map, string_literal, number_literal, function_reference}
+use Rattle.fluent_syntax_tree.specs.Tree.{message_reference, term_reference, variable_reference, inline_placeable}
+use Rattle.fluent_syntax_tree.specs.Tree.{MaybeArguments, maybe_map, no_arguments, some_arguments, option_texts}
+use Rattle.fluent_syntax_tree.specs.Spans.{bytes_at}
+use Rattle.fluent_syntax_tree.specs.declared.spans.Span.{Span}
+use Rattle.fluent_syntax_tree.specs.declared.edition.Edition.{Edition}
+use Rattle.fluent_syntax_grammar.specs.Bytes.{lf, cr, is_space, is_name_byte, is_letter, is_digit}
+use Rattle.fluent_syntax_grammar.specs.Places.{holds}
+use Rattle.fluent_syntax_grammar.specs.Starts.{Start, start, start_of, quote, digit, minus, dollar, letter}
+use Rattle.fluent_syntax_grammar.specs.Construct.{◌>>=◌, gives}
+use Rattle.fluent_syntax_grammar.specs.Words.{number, blank}
+use Rattle.fluent_syntax_grammar.specs.Written.{Text}
+use Rattle.fluent_syntax_grammar.specs.Spellings.{is_name, is_number, is_number_rest, is_unsigned, is_string}
+use Rattle.fluent_syntax_grammar.specs.Arguments as rules
+use Rattle.fluent_syntax_grammar.specs.Inline as rules'
+use Rattle.fluent_syntax_grammar.specs.Grammar.{inline_expression, call_arguments}
+use Rattle.fluent_syntax_grammar.proofs.Facts.{left_true, right_true, equal}
+use Rattle.fluent_syntax_grammar.proofs.Tests.{or_cases, differ}
+use Rattle.fluent_syntax_grammar.proofs.Left.{Left, first, left_first, left_next, left_past, left_blank, is_blank_byte}
+use Rattle.fluent_syntax_grammar.proofs.forward.Reading.{Reads, Passes, reads_bind, reads_gives, passes_then}
+use Rattle.fluent_syntax_grammar.proofs.forward.Reading.{passes_over, reads_at_each, reads_first, reads_second}
+use Rattle.fluent_syntax_grammar.proofs.forward.Reading.{reads_present, reads_absent, passes_token}
+use Rattle.fluent_syntax_grammar.proofs.forward.Words.{reads_name, reads_number}
+use Rattle.fluent_syntax_grammar.proofs.forward.Strings.{reads_string}
+use Rattle.fluent_syntax_grammar.proofs.marks.WrittenBytes.{inline_bytes}
+
+-- What may follow an inline expression: spaces and then a byte that goes on with none of its forms.
+pub record Follows (gap more : List ℕ) : Type 0 where
+  pub spaces : list_all is_blank_byte gap ≡ true
+  -- the next byte is in no name and is no point
+  pub no_name : holds is_name_byte (first (gap ++ more)) ≡ false
+  pub no_digit : holds is_digit (first (gap ++ more)) ≡ false
+  pub no_point : holds (λ b. b == 46) (first (gap ++ more)) ≡ false
+  -- the byte after the spaces begins no blank, no argument list and no attribute
+  pub no_space : holds is_space (first more) ≡ false
+  pub no_lf : holds (λ b. b == lf) (first more) ≡ false
+  pub no_cr : holds (λ b. b == cr) (first more) ≡ false
+  pub no_list : holds (λ b. b == 40) (first more) ≡ false
+  pub no_attribute : holds (λ b. b == 46) (first more) ≡ false
+
+-- whether reading the expression passes the blank after it too
+abbrev pub passes_blank : {X : Type 0} → InlineTree X → Bool
+passes_blank (string_literal v) = false
+passes_blank (number_literal v) = false
+passes_blank (function_reference id a) = false
+passes_blank (message_reference id None) = true
+passes_blank (message_reference id (Some a)) = false
+passes_blank (term_reference id attribute no_arguments) = true
+passes_blank (term_reference id attribute (some_arguments a)) = false
+passes_blank (variable_reference id) = false
+passes_blank (inline_placeable e) = false
+
+-- what is left after it
+abbrev pub past : {X : Type 0} → InlineTree X → (gap more : List ℕ) → List ℕ
+past e gap more = if passes_blank e then more else gap ++ more
+
+true_not_false : false ≡ true → ⊥
+true_not_false e = cc
+
+digit_no_letter : (b : ℕ) → is_digit b ≡ true → is_letter b ≡ false
+digit_no_letter b e = grind (arith, nat_tests)
+
+pub letter_no_digit : (b : ℕ) → is_letter b ≡ true → is_digit b ≡ false
+letter_no_digit b e = grind (arith, nat_tests)
+
+pub digit_start : (b : ℕ) (next : Bool) → is_digit b ≡ true → start_of (Some b) next ≡ digit
+digit_start b next e = rw (differ is_digit b 34 e refl, e) refl
+
+pub letter_start : (b : ℕ) (next : Bool) → is_letter b ≡ true → start_of (Some b) next ≡ letter
+letter_start b next e =
+    rw (
+      differ is_letter b 34 e refl,
+      letter_no_digit b e,
+      differ is_letter b 45 e refl,
+      differ is_letter b 36 e refl,
+      e,
+    ) refl
+
+module _ {t : List ℕ} where
+  -- a blank, before a byte that begins none
+  pub passes_blanks : {i : ℕ} (gap more : List ℕ) → list_all is_blank_byte gap ≡ true →
+      holds is_space (first more) ≡ false → holds (λ b. b == lf) (first more) ≡ false →
+      holds (λ b. b == cr) (first more) ≡ false →
+      Left t i (gap ++ more) → Passes t (blank t) i more
+  passes_blanks gap more a d e f l = passes_over (left_blank gap more a d e f l) (left_past gap l)
+
+  pub passes_gap : {i : ℕ} (gap more : List ℕ) → Follows gap more → Left t i (gap ++ more) → Passes t (blank t) i more
+  passes_gap gap more f l = passes_blanks gap more f.spaces f.no_space f.no_lf f.no_cr l
+
+  -- the start that a byte makes
+  pub starts_with : {i b : ℕ} {bs : List ℕ} (s : Start) → start_of (Some b) (holds is_letter (first bs)) ≡ s →
+      Left t i (b ∷ bs) → start t i ≡ s
+  starts_with s e l = rw (left_first l, left_first (left_next l)) e
+
+module _ (edition : Edition) (t : List ℕ) where
+  abbrev pub ReadsInline : ℕ → InlineTree Text → List ℕ → Type 0
+  ReadsInline i e left = Reads t (inline_expression edition t) (inline_map (bytes_at t)) i e left
+
+  pub string_back : (i level : ℕ) (v more : List ℕ) → is_string v ≡ true →
+      Left t i (inline_bytes level (string_literal v) more) → ReadsInline i (string_literal v) more
+  string_back i level v more e l =
+      reads_at_each quote (starts_with quote refl l)
+      (reads_bind (reads_string v more e l) (λ s j f m. reads_gives (ap string_literal f) m))
+
+  pub variable_back : (i level : ℕ) (id gap more : List ℕ) → is_name id ≡ true → Follows gap more →
+      Left t i (inline_bytes level (variable_reference id) (gap ++ more)) →
+      ReadsInline i (variable_reference id) (gap ++ more)
+  variable_back i level id gap more e f l =
+      reads_at_each dollar (starts_with dollar refl l)
+      (passes_then (passes_token 36 refl l)
+      (λ j m. reads_bind (reads_name id (gap ++ more) e f.no_name m)
+      (λ s j g n. reads_gives (ap variable_reference g) n)))
+
+  number_as : (i : ℕ) (v gap more : List ℕ) → is_number v ≡ true → Follows gap more → Left t i (v ++ (gap ++ more)) →
+      Reads t (number t >>= λ v. gives (number_literal v)) (inline_map (bytes_at t)) i (number_literal v) (gap ++ more)
+  number_as i v gap more e f l =
+      reads_bind (reads_number v (gap ++ more) e f.no_digit f.no_point l)
+      (λ s j g m. reads_gives (ap number_literal g) m)
+
+  number_start : (i : ℕ) (v more : List ℕ) → is_number v ≡ true → Left t i (v ++ more) → (start t i ≡ digit) ⊎
+      (start t i ≡ minus)
+  number_start i [] more e l = cc
+  number_start i (b ∷ []) more e l = elim (or_cases (b == 45 && is_unsigned []) (is_unsigned (b ∷ [])) e) [
+    | inl h ↦ absurd (true_not_false (right_true (b == 45) false h))
+    | inr h ↦ inl (starts_with digit (digit_start b _ (left_true (is_digit b) true h)) l)
+  ]
+  number_start i (b ∷ c ∷ bs) more e l =
+      elim (or_cases (b == 45 && is_unsigned (c ∷ bs)) (is_unsigned (b ∷ c ∷ bs)) e) [
+        | inl h ↦ inr
+            (starts_with minus
+            (rw (
+              equal b 45 (left_true (b == 45) (is_unsigned (c ∷ bs)) h),
+              digit_no_letter c
+                  (left_true (is_digit c) (is_number_rest bs) (right_true (b == 45) (is_unsigned (c ∷ bs)) h)),
+            ) refl) l)
+        | inr h ↦ inl (starts_with digit (digit_start b _ (left_true (is_digit b) (is_number_rest (c ∷ bs)) h)) l)
+      ]
+
+  pub number_back : (i level : ℕ) (v gap more : List ℕ) → is_number v ≡ true → Follows gap more →
+      Left t i (inline_bytes level (number_literal v) (gap ++ more)) → ReadsInline i (number_literal v) (gap ++ more)
+  number_back i level v gap more e f l = elim (number_start i v (gap ++ more) e l) [
+    | inl s ↦ reads_at_each digit s (number_as i v gap more e f l)
+    | inr s ↦ reads_at_each minus s (number_as i v gap more e f l)
+  ]
+
+  -- ---- names and arguments
+
+  abbrev pub ReadsCall : ℕ → MaybeArguments Text → List ℕ → Type 0
+  ReadsCall i a left = Reads t (call_arguments edition t) (maybe_map (bytes_at t)) i a left
+
+  -- no argument list
+  pub call_none : (i : ℕ) (gap more : List ℕ) → Follows gap more → Left t i (gap ++ more) →
+      ReadsCall i no_arguments more
+  call_none i gap more f l =
+      passes_then (passes_gap gap more f l)
+      (λ j m. reads_bind (reads_absent 40 f.no_list m) (λ b k e n. reads_second e (reads_gives refl n)))
+
+  -- no argument list, and no blank to pass
+  pub no_list_here : (i : ℕ) (more : List ℕ) → holds is_space (first more) ≡ false →
+      holds (λ b. b == lf) (first more) ≡ false → holds (λ b. b == cr) (first more) ≡ false →
+      holds (λ b. b == 40) (first more) ≡ false →
+      Left t i more → ReadsCall i no_arguments more
+  no_list_here i more a d e f l =
+      passes_then (passes_blanks [] more refl a d e l)
+      (λ j m. reads_bind (reads_absent 40 f m) (λ b k h n. reads_second h (reads_gives refl n)))
+
+  pub name_start : (i : ℕ) (id more : List ℕ) → is_name id ≡ true → Left t i (id ++ more) → start t i ≡ letter
+  name_start i [] more e l = cc
+  name_start i (b ∷ bs) more e l =
+      starts_with letter (letter_start b _ (left_true (is_letter b) (list_all is_name_byte bs) e)) l
+
+  -- ---- message references
+
+  pub no_accessor : (i : ℕ) (more : List ℕ) → holds (λ b. b == 46) (first more) ≡ false → Left t i more →
+      Reads t (rules.accessor t) (option_texts (bytes_at t)) i None more
+  no_accessor i more e l = reads_bind (reads_absent 46 e l) (λ b j f m. reads_second f (reads_gives refl m))
+
+  pub some_accessor : (i : ℕ) (a more : List ℕ) → is_name a ≡ true → holds is_name_byte (first more) ≡ false →
+      Left t i (46 ∷ (a ++ more)) → Reads t (rules.accessor t) (option_texts (bytes_at t)) i (Some a) more
+  some_accessor i a more e f l =
+      reads_bind (reads_present 46 refl l)
+      (λ b j g m. reads_first g (reads_bind (reads_name a more e f m) (λ s k h n. reads_gives (ap Some h) n)))
+
+  -- a name without arguments is a message reference
+  message_after :
+      (id : Span) (name : List ℕ) (attribute : Option Text) (i : ℕ) (left : List ℕ) (v : MaybeArguments Span) →
+      bytes_at t id ≡ name → maybe_map (bytes_at t) v ≡ no_arguments →
+      Reads t (rules.accessor t) (option_texts (bytes_at t)) i attribute left →
+      Reads t (rules'.named_reference t id v) (inline_map (bytes_at t)) i (message_reference name attribute) left
+  message_after id name attribute i left no_arguments e f r = reads_bind r (λ a j g m. reads_gives (cc) m)
+  message_after id name attribute i left (some_arguments a) e f r = absurd cc
+
+  pub message_back : (i level : ℕ) (id gap more : List ℕ) → is_name id ≡ true → Follows gap more →
+      Left t i (id ++ (gap ++ more)) → ReadsInline i (message_reference id None) more
+  message_back i level id gap more e f l =
+      reads_at_each letter (name_start i id (gap ++ more) e l)
+      (reads_bind (reads_name id (gap ++ more) e f.no_name l) (λ s j g m.
+      reads_bind (call_none j gap more f m)
+      (λ a k h n. message_after s id None k more a g h (no_accessor k more f.no_attribute n))))
+
+  pub message_attribute_back : (i level : ℕ) (id a gap more : List ℕ) → is_name id ≡ true → is_name a ≡ true →
+      Follows gap more → Left t i (id ++ (46 ∷ (a ++ (gap ++ more)))) →
+      ReadsInline i (message_reference id (Some a)) (gap ++ more)
+  message_attribute_back i level id a gap more e e' f l =
+      reads_at_each letter (name_start i id _ e l) (reads_bind (reads_name id _ e refl l) (λ s j g m.
+      reads_bind (no_list_here j _ refl refl refl refl m)
+      (λ v k h n. message_after s id (Some a) k (gap ++ more) v g h
+      (some_accessor k a (gap ++ more) e' f.no_name n))))

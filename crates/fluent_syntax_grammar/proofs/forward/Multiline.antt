@@ -1,0 +1,743 @@
+-- The elements of a multiline pattern are read back, if its placeables are.
+use Rattle.std.proofs.Common.{◌≡◌, ℕ, suc, ◌+◌, ◌*◌, ◌-◌, ◌≤◌, min, List, [], ◌∷◌, ◌++◌, length, map, Option, Some}
+use Rattle.std.proofs.Common.{None, Bool, true, false, refl, sym, ◌∙◌, subst, ap, append_assoc, length-append, arith}
+use Rattle.std.specs.Prelude.{◌==◌, ◌||◌, ◌&&◌, not, if◌then◌else◌}
+use Rattle.std.specs.List.{list_all, list_any}
+use Rattle.fluent_syntax_tree.specs.Tree.{ExpressionTree, ElementTree, text_element, placeable, PatternTree}
+use Rattle.fluent_syntax_tree.specs.Tree.{no_elements, elements}
+use Rattle.fluent_syntax_tree.specs.declared.edition.Edition.{Edition}
+use Rattle.fluent_syntax_tree.specs.declared.edition.Edition.TheVariants.{One, Two}
+use Rattle.fluent_syntax_grammar.specs.PatternTexts.{ends_in_lf, ends_plainly, leading_spaces, after_spaces, is_spaces}
+use Rattle.fluent_syntax_grammar.specs.PatternTexts.{is_lone_lf}
+use Rattle.fluent_syntax_grammar.specs.Bytes.{lf, cr, space, is_space}
+use Rattle.fluent_syntax_grammar.specs.Places.{holds}
+use Rattle.fluent_syntax_grammar.specs.Written.{Text, is_last, last_of, indent, begins_with_mark}
+use Rattle.fluent_syntax_grammar.specs.Readable.{Stand, after_line, within_line, after_placeable}
+use Rattle.fluent_syntax_grammar.specs.Readable.{ends_well, is_text, are_elements, stands_well}
+use Rattle.fluent_syntax_grammar.specs.Readable.{stand_after, indents}
+use Rattle.fluent_syntax_grammar.specs.Canonical.{line_numbers, are_lone, text_numbers, placeable_numbers}
+use Rattle.fluent_syntax_grammar.specs.Elements.{is_nonblank}
+use Rattle.fluent_syntax_grammar.proofs.Facts.{differs, left_true, right_true, equal}
+use Rattle.fluent_syntax_grammar.proofs.Tests.{both}
+use Rattle.fluent_syntax_grammar.proofs.Left.{Left, left_as, first, left_next, left_past}
+use Rattle.fluent_syntax_grammar.proofs.marks.LastBytes.{last_append}
+use Rattle.fluent_syntax_grammar.proofs.forward.Spells.{text_first}
+use Rattle.fluent_syntax_grammar.proofs.marks.WrittenBytes.{element_bytes, elements_bytes, line_indent}
+use Rattle.fluent_syntax_grammar.proofs.forward.Runs.{without_of, is_run_byte, TextForm, alone, with_lf, text_form}
+use Rattle.fluent_syntax_grammar.proofs.forward.Runs.{run_no_lf}
+use Rattle.fluent_syntax_grammar.proofs.forward.Lines.{Ends, reads_no_pieces, is_mark_byte}
+use Rattle.fluent_syntax_grammar.proofs.forward.Pieces.{Mid, Starts, Run, mid_end, mid_placeable, mid_run, run_end}
+use Rattle.fluent_syntax_grammar.proofs.forward.Pieces.{run_more, run_line}
+use Rattle.fluent_syntax_grammar.proofs.forward.LineStarts.{start_run, start_blank, start_placeable_one}
+use Rattle.fluent_syntax_grammar.proofs.forward.LineStarts.{start_placeable_two, start_spaces_two}
+use Rattle.fluent_syntax_grammar.proofs.forward.Selects.{all_append, spaces_of}
+use Rattle.fluent_syntax_grammar.proofs.forward.OneLine.{ElementBack, ElementsBack, element_brace, plain_no_cr}
+use Rattle.fluent_syntax_grammar.proofs.Tests.{and_false, not_true, or_true}
+
+-- ---- the ends of texts
+
+run_no_end : (c : ℕ) (v : List ℕ) → list_all is_run_byte (c ∷ v) ≡ true → is_last lf (last_of (Some c) v) ≡ false
+run_no_end c [] e = run_no_lf c (left_true (is_run_byte c) true e)
+run_no_end c (b ∷ v) e = run_no_end b v (right_true (is_run_byte c) (list_all is_run_byte (b ∷ v)) e)
+
+-- a run does not end in LF
+pub run_ends_in : (v : List ℕ) → list_all is_run_byte v ≡ true → ends_in_lf v ≡ false
+run_ends_in [] e = refl
+run_ends_in (c ∷ v) e = run_no_end c v e
+
+-- a run and an LF do
+pub line_ends_in : (v body : List ℕ) → v ≡ body ++ (lf ∷ []) → ends_in_lf v ≡ true
+line_ends_in v body e = rw (e, last_append body None lf []) refl
+
+none_after : (xs ys : List ℕ) → xs ++ ys ≡ [] → ys ≡ []
+none_after [] ys e = e
+none_after (x ∷ xs) ys e = absurd cc
+
+-- ---- numbers and lone texts within a line
+
+module _ (edition : Edition) where
+  numbers_within : (es : PatternTree Text) →
+      line_numbers edition within_line es ≡ line_numbers edition after_placeable es
+  numbers_within no_elements = refl
+  numbers_within (elements (text_element v) es) = refl
+  numbers_within (elements (placeable e) es) = refl
+
+  lone_within : (es : PatternTree Text) → are_lone within_line es ≡ are_lone after_placeable es
+  lone_within no_elements = refl
+  lone_within (elements (text_element v) es) = refl
+  lone_within (elements (placeable e) es) = refl
+
+  numbers_no_line : (v : Text) (es : PatternTree Text) → ends_in_lf v ≡ false →
+      line_numbers edition (stand_after v) es ≡ line_numbers edition after_placeable es
+  numbers_no_line v es e = rw e (numbers_within es)
+
+  numbers_line : (v : Text) (es : PatternTree Text) → ends_in_lf v ≡ true →
+      line_numbers edition (stand_after v) es ≡ line_numbers edition after_line es
+  numbers_line v es e = rw e refl
+
+  -- The common indent that fits a pattern's elements from a place on: that of its level; or none, where no line has a
+  -- number and each line-start text is one LF.
+  pub data Fit (shift : ℕ) : Option ℕ → Stand → PatternTree Text → Type 0 where
+    fixed : {s : Stand} {es : PatternTree Text} → Fit shift (Some shift) s es
+    lone : {s : Stand} {es : PatternTree Text} → are_lone s es ≡ true → line_numbers edition s es ≡ [] →
+        Fit shift None s es
+
+  -- what fits a text and more, fits the elements after it
+  fit_no_line : (shift : ℕ) (common : Option ℕ) (v : Text) (es : PatternTree Text) → ends_in_lf v ≡ false →
+      Fit shift common after_placeable (elements (text_element v) es) → Fit shift common after_placeable es
+  fit_no_line shift common v es e fixed = fixed
+  fit_no_line shift common v es e (lone a b) =
+      lone (sym (ap (λ b. are_lone (if b then after_line else within_line) es) e ∙ lone_within es) ∙ a)
+      (sym (numbers_no_line v es e) ∙ b)
+
+  fit_line : (shift : ℕ) (common : Option ℕ) (v : Text) (es : PatternTree Text) → ends_in_lf v ≡ true →
+      Fit shift common after_placeable (elements (text_element v) es) → Fit shift common after_line es
+  fit_line shift common v es e fixed = fixed
+  fit_line shift common v es e (lone a b) =
+      lone (sym (ap (λ b. are_lone (if b then after_line else within_line) es) e) ∙ a) (sym (numbers_line v es e) ∙ b)
+
+  -- the same of a text that begins a line
+  fit_no_line_start : (shift : ℕ) (common : Option ℕ) (v : Text) (es : PatternTree Text) → ends_in_lf v ≡ false →
+      Fit shift common after_line (elements (text_element v) es) → Fit shift common after_placeable es
+  fit_no_line_start shift common v es e fixed = fixed
+  fit_no_line_start shift common v es e (lone a b) =
+      lone (sym (ap (λ b. are_lone (if b then after_line else within_line) es) e ∙ lone_within es)
+      ∙ right_true (is_lone_lf v) (are_lone (stand_after v) es) a)
+      (sym (numbers_no_line v es e)
+      ∙ none_after (text_numbers edition v) (line_numbers edition (stand_after v) es) b)
+
+  fit_line_start : (shift : ℕ) (common : Option ℕ) (v : Text) (es : PatternTree Text) → ends_in_lf v ≡ true →
+      Fit shift common after_line (elements (text_element v) es) → Fit shift common after_line es
+  fit_line_start shift common v es e fixed = fixed
+  fit_line_start shift common v es e (lone a b) =
+      lone (sym (ap (λ b. are_lone (if b then after_line else within_line) es) e)
+      ∙ right_true (is_lone_lf v) (are_lone (stand_after v) es) a)
+      (sym (numbers_line v es e) ∙ none_after (text_numbers edition v) (line_numbers edition (stand_after v) es) b)
+
+  fit_placeable_line : (shift : ℕ) (common : Option ℕ) (e : ExpressionTree Text) (es : PatternTree Text) →
+      Fit shift common after_line (elements (placeable e) es) → Fit shift common after_placeable es
+  fit_placeable_line shift common e es fixed = fixed
+  fit_placeable_line shift common e es (lone a b) =
+      lone a (none_after (placeable_numbers edition) (line_numbers edition after_placeable es) b)
+
+  fit_placeable : (shift : ℕ) (common : Option ℕ) (e : ExpressionTree Text) (es : PatternTree Text) →
+      Fit shift common after_placeable (elements (placeable e) es) → Fit shift common after_placeable es
+  fit_placeable shift common e es fixed = fixed
+  fit_placeable shift common e es (lone a b) = lone a b
+
+-- ---- spaces that begin a text
+
+pub record Split (v : List ℕ) : Type 0 where
+  pub gap : List ℕ
+  pub more : List ℕ
+  pub are : v ≡ gap ++ more
+  pub spaces : list_all is_space gap ≡ true
+  pub plain : holds is_space (first more) ≡ false
+
+split_at : (b : ℕ) (v : List ℕ) (x : Bool) → is_space b ≡ x → Split v → Split (b ∷ v)
+split_at b v true e s =
+    record { gap = b ∷ s.gap; more = s.more; are = ap (λ v. b ∷ v) s.are; spaces = both e s.spaces; plain = s.plain }
+split_at b v false e s = record { gap = []; more = b ∷ v; are = refl; spaces = refl; plain = e }
+
+pub split : (v : List ℕ) → Split v
+split [] = record { gap = []; more = []; are = refl; spaces = refl; plain = refl }
+split (b ∷ v) = split_at b v (is_space b) refl (split v)
+
+-- the spaces are counted
+leading_of : (gap : List ℕ) (b : ℕ) (bs : List ℕ) → list_all is_space gap ≡ true → is_space b ≡ false →
+    leading_spaces (gap ++ (b ∷ bs)) ≡ length gap
+leading_of [] b bs a e = rw e refl
+leading_of (x ∷ gap) b bs a e =
+    rw (left_true (is_space x) (list_all is_space gap) a)
+    (ap (λ n. n + 1) (leading_of gap b bs (right_true (is_space x) (list_all is_space gap) a) e)
+    ∙ suc_one (length gap))
+  where
+    suc_one : (n : ℕ) → n + 1 ≡ suc n
+    suc_one n = omega arith
+
+-- such a text is nonblank
+shown_nonblank : (gap : List ℕ) (b : ℕ) (bs : List ℕ) → is_space b ≡ false → (b == lf) ≡ false →
+    is_nonblank (gap ++ (b ∷ bs)) ≡ true
+shown_nonblank [] b [] e f = rw (f, e) refl
+shown_nonblank [] b (c ∷ bs) e f = rw e refl
+shown_nonblank (x ∷ []) b bs e f = rw (shown_nonblank [] b bs e f) (or_true (not (is_space x)))
+shown_nonblank (x ∷ y ∷ gap) b bs e f = rw (shown_nonblank (y ∷ gap) b bs e f) (or_true (not (is_space x)))
+
+numbers_shown : (edition : Edition) (v : Text) → is_nonblank v ≡ true → text_numbers edition v ≡ leading_spaces v ∷ []
+numbers_shown One v e = rw e refl
+numbers_shown Two v e = rw e refl
+
+module _ (edition : Edition) (t : List ℕ) (level : ℕ) (common : Option ℕ) (tail rest : List ℕ) (ends : Ends tail rest)
+  where
+    abbrev pub shifted : Stand → PatternTree Text → List ℕ
+    shifted s es = map (λ n. length (indent level) + n) (line_numbers edition s es)
+
+    pub plain_not_line : (v body : List ℕ) → v ≡ body ++ (lf ∷ []) → ends_plainly v ≡ true → ⊥
+    plain_not_line v body e p =
+        false_true (sym
+        (ap (holds (λ b. not (Rattle.fluent_syntax_tree.specs.Text.is_trimmed b)))
+        (ap (last_of None) e ∙ last_append body None lf [])) ∙ p)
+      where
+        false_true : false ≡ true → ⊥
+        false_true e = cc
+
+    -- ---- a text within a line
+
+    text_last : (v : Text) (i : ℕ) → is_text v ≡ true → ends_plainly v ≡ true → Left t i (v ++ (lf ∷ tail)) →
+        Mid edition t common (elements (text_element v) no_elements) [] i rest
+    text_last v i e p l = at_form v i e p l (text_form v e)
+      where
+        at_form : (v : Text) (i : ℕ) → is_text v ≡ true → ends_plainly v ≡ true → Left t i (v ++ (lf ∷ tail)) →
+            TextForm v → Mid edition t common (elements (text_element v) no_elements) [] i rest
+        at_form v i e p l (with_lf body is a c) = absurd (plain_not_line v body is p)
+        at_form [] i e p l (alone a) = absurd cc
+        at_form (b ∷ bs) i e p l (alone a) =
+            mid_run edition t common (b ∷ bs) no_elements [] (lf ∷ tail) rest i
+            (run_end edition t common (b ∷ bs) tail rest i b bs p ends a (rw (plain_no_cr (b ∷ bs) p) refl) l) l
+
+    -- before a placeable
+    text_then : (v : Text) (e : ExpressionTree Text) (es : PatternTree Text) (numbers : List ℕ) (i : ℕ) →
+        is_text v ≡ true → list_all is_run_byte v ≡ true →
+        Left t i (v ++ element_bytes level (placeable e) (elements_bytes level false es (lf ∷ tail))) →
+        ((j : ℕ) → Left t j (element_bytes level (placeable e) (elements_bytes level false es (lf ∷ tail))) →
+        Mid edition t common (elements (placeable e) es) numbers j rest) →
+        Mid edition t common (elements (text_element v) (elements (placeable e) es)) numbers i rest
+    text_then [] e es numbers i g a l k = absurd cc
+    text_then (b ∷ bs) e es numbers i g a l k =
+        let x = element_brace level e (elements_bytes level false es (lf ∷ tail)) in
+        let m = left_as (ap (λ xs. b ∷ (bs ++ xs)) x.are) l in
+        let r =
+        run_more edition t common (b ∷ bs) e es numbers rest i b bs x.rest a m (λ j n. k j (left_as (sym x.are) n)) in
+        mid_run edition t common (b ∷ bs) (elements (placeable e) es) numbers (123 ∷ x.rest) rest i r m
+
+    -- that ends its line
+    text_line : (v body : Text) (e : ElementTree Text) (es : PatternTree Text) (numbers : List ℕ) (i : ℕ) →
+        v ≡ body ++ (lf ∷ []) → list_all is_run_byte body ≡ true → is_last cr (last_of None body) ≡ false →
+        (more : List ℕ) → Left t i (v ++ more) →
+        ((j : ℕ) → Left t j more → Starts edition t common (elements e es) numbers j rest) →
+        Mid edition t common (elements (text_element v) (elements e es)) numbers i rest
+    text_line v [] e es numbers i is a c more l k =
+        let n : Left t i (lf ∷ more) = left_as (ap (λ v. v ++ more) is) l in
+        let m = k (i + 1) (left_next n) in
+        record {
+          pieces = [];
+          at = i;
+          after = more;
+          lines = m.lines;
+          end = m.end;
+          reads_pieces = reads_no_pieces edition t n;
+          ends = n;
+          reads_lines = m.reads;
+          left = m.left;
+          spells = text_first l (left_next n) m.spells;
+          counts = m.counts;
+        }
+    text_line v (b ∷ bs) e es numbers i is a c more l k =
+        let m = left_as (ap (λ v. v ++ more) is ∙ ap (λ xs. b ∷ xs) (append_assoc bs (lf ∷ []) more)) l in
+        mid_run edition t common v (elements e es) numbers more rest i
+        (run_line edition t common v e es numbers rest i b bs more a c m k) l
+
+-- ---- a text that begins a line
+
+module _ (edition : Edition) (t : List ℕ) (level : ℕ) (tail rest : List ℕ) where
+  -- A run after the indent and perhaps more spaces: the line counts with these spaces.
+  start_shown : (gap : List ℕ) (b : ℕ) (bs source : List ℕ) (es : PatternTree Text) (numbers : List ℕ) (i : ℕ) →
+      1 ≤ length (indent level) → list_all is_space gap ≡ true → is_space b ≡ false → not (is_mark_byte b) ≡ true →
+      Left t i (indent level ++ ((gap ++ (b ∷ bs)) ++ source)) →
+      ((j : ℕ) → Left t j (b ∷ (bs ++ source)) →
+      Run edition t (Some (length (indent level))) (gap ++ (b ∷ bs)) es numbers j source rest) →
+      Starts edition t (Some (length (indent level))) (elements (text_element (gap ++ (b ∷ bs))) es)
+      ((length (indent level) + length gap) ∷ numbers) i rest
+  start_shown gap b bs source es numbers i deep a s e l k =
+      let ind = indent level in
+      let size = length-append ind gap in
+      let all : list_all is_space (ind ++ gap) ≡ true = all_append ind gap (spaces_of (4 * level)) a in
+      let whole : ind ++ ((gap ++ (b ∷ bs)) ++ source) ≡ (ind ++ gap) ++ (b ∷ (bs ++ source)) =
+      ap (λ v. ind ++ v) (append_assoc gap (b ∷ bs) source) ∙ sym (append_assoc ind gap (b ∷ (bs ++ source))) in
+      let m = left_as whole l in
+      let r = k (i + length (ind ++ gap)) (left_past (ind ++ gap) m) in
+      subst (λ n. Starts edition t (Some (length ind)) (elements (text_element (gap ++ (b ∷ bs))) es) (n ∷ numbers) i
+      rest) size (start_run edition t ind gap b bs source es numbers rest i all (omega arith) s e m
+      (left_past ind l) r)
+
+-- ---- a placeable that begins a line
+
+-- with the level's indent before it
+placeable_starts :
+    (edition : Edition) (t : List ℕ) (level : ℕ) (common : Option ℕ) (tail rest : List ℕ) (e : ExpressionTree Text)
+    (es : PatternTree Text) → 1 ≤ length (indent level) → ElementBack edition t level e →
+    Fit edition (length (indent level)) common after_line (elements (placeable e) es) →
+    ((i : ℕ) → Left t i (elements_bytes level false es (lf ∷ tail)) →
+    Mid edition t common es (map (λ n. length (indent level) + n) (line_numbers edition after_placeable es)) i
+    rest) →
+    (i : ℕ) → Left t i (elements_bytes level true (elements (placeable e) es) (lf ∷ tail)) →
+    Starts edition t common (elements (placeable e) es)
+    (map (λ n. length (indent level) + n) (line_numbers edition after_line (elements (placeable e) es))) i rest
+placeable_starts One t level common tail rest e es deep h f mid i l =
+    let x = element_brace level e (elements_bytes level false es (lf ∷ tail)) in
+    let m = left_as (ap (λ v. indent level ++ v) x.are) l in
+    let n = left_past (indent level) l in
+    start_placeable_one t common (indent level) x.rest e es _ rest i (spaces_of (4 * level)) deep m
+    (mid_placeable One t common e es _ (i + length (indent level)) x.rest (elements_bytes level false es (lf ∷ tail))
+    rest (left_as x.are n) (h.back (i + length (indent level)) (elements_bytes level false es (lf ∷ tail)) n) mid)
+placeable_starts Two t level common tail rest e es deep h (lone a b) mid i l = absurd cc
+placeable_starts Two t level common tail rest e es deep h fixed mid i l =
+    let x = element_brace level e (elements_bytes level false es (lf ∷ tail)) in
+    let m = left_as (ap (λ v. indent level ++ v) x.are) l in
+    let n = left_past (indent level) l in
+    let zero_more : length (indent level) ≡ length (indent level) + 0 = omega arith in
+    let ns = map (λ n. length (indent level) + n) (line_numbers Two after_placeable es) in
+    subst (λ k. Starts Two t (Some (length (indent level))) (elements (placeable e) es) (k ∷ ns) i rest) zero_more
+    (start_placeable_two t (indent level) x.rest e es ns rest i (spaces_of (4 * level)) deep m
+    (mid_placeable Two t (Some (length (indent level))) e es ns (i + length (indent level)) x.rest
+    (elements_bytes level false es (lf ∷ tail)) rest (left_as x.are n)
+    (h.back (i + length (indent level)) (elements_bytes level false es (lf ∷ tail)) n) mid))
+
+-- ---- what a text that begins a line is asked
+
+after_of : (gap : List ℕ) (b : ℕ) (bs : List ℕ) → list_all is_space gap ≡ true → is_space b ≡ false →
+    after_spaces (gap ++ (b ∷ bs)) ≡ b ∷ bs
+after_of [] b bs a e = rw e refl
+after_of (x ∷ gap) b bs a e =
+    rw (left_true (is_space x) (list_all is_space gap) a)
+    (after_of gap b bs (right_true (is_space x) (list_all is_space gap) a) e)
+
+-- a byte of a run that begins no mark begins a line that belongs
+not_mark : (b : ℕ) → is_run_byte b ≡ true → begins_with_mark (b ∷ []) ≡ false → not (is_mark_byte b) ≡ true
+not_mark b e f = marks (b == 46) (b == 91) (b == 42) (b == 125) (b == lf) (b == 123) e f
+  where
+    marks : (x y z w l o : Bool) → not (l || o || w) ≡ true → (x || y || z) ≡ false → not (x || w || y || z) ≡ true
+    marks false false false false l o e f = refl
+    marks true y z w l o e f = cc
+    marks false true z w l o e f = cc
+    marks false false true w l o e f = cc
+    marks false false false true false false e f = cc
+    marks false false false true true o e f = cc
+    marks false false false true false true e f = cc
+
+no_mark_there : (edition : Edition) (v : Text) (es : PatternTree Text) (gap : List ℕ) (b : ℕ) (bs : List ℕ) →
+    v ≡ gap ++ (b ∷ bs) → list_all is_space gap ≡ true → is_space b ≡ false →
+    stands_well edition true after_line v es ≡ true → begins_with_mark (b ∷ []) ≡ false
+no_mark_there edition v es gap b bs is a e g =
+    sym (ap begins_with_mark (ap after_spaces is ∙ after_of gap b bs a e))
+    ∙ not_true (begins_with_mark (after_spaces v)) (right_true (not (is_spaces v) || indents edition v es) _ g)
+
+pub all_last : (p : ℕ → Bool) (xs ys : List ℕ) → list_all p (xs ++ ys) ≡ true → list_all p ys ≡ true
+all_last p [] ys e = e
+all_last p (x ∷ xs) ys e = all_last p xs ys (right_true (p x) (list_all p (xs ++ ys)) e)
+
+pub append_none : (xs : List ℕ) → xs ++ [] ≡ xs
+append_none [] = refl
+append_none (x ∷ xs) = ap (λ xs. x ∷ xs) (append_none xs)
+
+pub last_of_part : (gap : List ℕ) (b : ℕ) (bs : List ℕ) → last_of None (gap ++ (b ∷ bs)) ≡ last_of None (b ∷ bs)
+last_of_part gap b bs = last_append gap None b bs
+
+module _ (edition : Edition) (t : List ℕ) (level : ℕ) (rest : List ℕ) where
+  -- the line of such a text, given the run after its spaces
+  shown_starts : (common : Option ℕ) (v gap : List ℕ) (b : ℕ) (bs source : List ℕ) (es : PatternTree Text) (i : ℕ) →
+      v ≡ gap ++ (b ∷ bs) → 1 ≤ length (indent level) → list_all is_space gap ≡ true → is_space b ≡ false →
+      (b == lf) ≡ false → not (is_mark_byte b) ≡ true →
+      Fit edition (length (indent level)) common after_line (elements (text_element v) es) →
+      Left t i (indent level ++ (v ++ source)) →
+      ((j : ℕ) → Left t j (b ∷ (bs ++ source)) →
+      Run edition t common v es (map (λ n. length (indent level) + n) (line_numbers edition (stand_after v) es)) j
+      source rest) →
+      Starts edition t common (elements (text_element v) es)
+      (map (λ n. length (indent level) + n) (line_numbers edition after_line (elements (text_element v) es))) i rest
+  shown_starts common v gap b bs source es i is deep a s n e (lone x y) l k =
+      absurd (no_numbers
+      (sym (ap (λ ns. ns ++ line_numbers edition (stand_after v) es)
+      (numbers_shown edition v (ap is_nonblank is ∙ shown_nonblank gap b bs s n))) ∙ y))
+    where
+      no_numbers : {m : ℕ} {ns : List ℕ} → m ∷ ns ≡ [] → ⊥
+      no_numbers e = cc
+  shown_starts common v gap b bs source es i is deep a s n e fixed l k =
+      let shift = length (indent level) in
+      let others = map (λ n. shift + n) (line_numbers edition (stand_after v) es) in
+      let numbers : text_numbers edition v ≡ length gap ∷ [] =
+      numbers_shown edition v (ap is_nonblank is ∙ shown_nonblank gap b bs s n)
+      ∙ ap (λ m. m ∷ []) (ap leading_spaces is ∙ leading_of gap b bs a s) in
+      let all :
+      map (λ n. shift + n) (line_numbers edition after_line (elements (text_element v) es))
+      ≡ (shift + length gap) ∷ others =
+      ap (λ ns. map (λ n. shift + n) (ns ++ line_numbers edition (stand_after v) es)) numbers in
+      subst (λ ns. Starts edition t (Some shift) (elements (text_element v) es) ns i rest) (sym all)
+      (subst (λ v'.
+      Starts edition t (Some shift) (elements (text_element v') es) ((shift + length gap) ∷ others) i rest)
+      (sym is)
+      (start_shown edition t level source rest gap b bs source es others i deep a s e
+      (left_as (ap (λ v. indent level ++ (v ++ source)) is) l)
+      (λ j m. subst (λ v'. Run edition t (Some shift) v' es others j source rest) is (k j m))))
+
+-- ---- blank lines
+
+pub blank_of : (gap : List ℕ) → list_all is_space gap ≡ true → list_any (λ b. not (is_space b)) gap ≡ false
+blank_of [] e = refl
+blank_of (x ∷ gap) e =
+    rw (left_true (is_space x) (list_all is_space gap) e)
+    (blank_of gap (right_true (is_space x) (list_all is_space gap) e))
+
+pub no_spaces_end : (gap : List ℕ) → list_all is_space (gap ++ (lf ∷ [])) ≡ false
+no_spaces_end [] = refl
+no_spaces_end (x ∷ gap) = rw (no_spaces_end gap) (and_false (is_space x))
+
+-- a blank line has no number
+blank_number : (edition : Edition) (v gap : List ℕ) → v ≡ gap ++ (lf ∷ []) → list_all is_space gap ≡ true →
+    text_numbers edition v ≡ []
+blank_number One v gap e s =
+    rw (ap is_nonblank e ∙ ap (list_any (λ b. not (is_space b))) (without_of gap) ∙ blank_of gap s) refl
+blank_number Two v gap e s =
+    rw (
+      ap is_nonblank e ∙ ap (list_any (λ b. not (is_space b))) (without_of gap) ∙ blank_of gap s,
+      ap is_spaces e
+          ∙ no_spaces_end gap,
+    ) refl
+
+lone_is : (v : List ℕ) → is_lone_lf v ≡ true → v ≡ lf ∷ []
+lone_is [] e = absurd cc
+lone_is (b ∷ []) e = ap (λ b. b ∷ []) (equal b lf (left_true (b == lf) true e))
+lone_is (b ∷ c ∷ bs) e = absurd (differs e (and_false (b == lf)))
+
+module _ (edition : Edition) (t : List ℕ) (level : ℕ) (rest : List ℕ) where
+  blank_starts :
+      (common : Option ℕ) (v gap : List ℕ) (d : ElementTree Text) (es : PatternTree Text) (numbers more : List ℕ)
+      (i : ℕ) → v ≡ gap ++ (lf ∷ []) → list_all is_space gap ≡ true →
+      Fit edition (length (indent level)) common after_line (elements (text_element v) (elements d es)) →
+      Left t i (indent level ++ (v ++ more)) →
+      ((j : ℕ) → Left t j more → Starts edition t common (elements d es) numbers j rest) →
+      Starts edition t common (elements (text_element v) (elements d es)) numbers i rest
+  blank_starts common v gap d es numbers more i e s fixed l k =
+      let ind = indent level in
+      let size = length-append ind gap in
+      let whole : ind ++ (v ++ more) ≡ (ind ++ gap) ++ (lf ∷ more) =
+      ap (λ v. ind ++ (v ++ more)) e ∙ ap (λ xs. ind ++ xs) (append_assoc gap (lf ∷ []) more)
+      ∙ sym (append_assoc ind gap (lf ∷ more)) in
+      let kept : i + length ind ≡ i + min ((i + length (ind ++ gap)) - i) (length ind) = omega arith in
+      start_blank edition t (Some (length ind)) (ind ++ gap) v more d es numbers rest i
+      (all_append ind gap (spaces_of (4 * level)) s) (left_as whole l)
+      (subst (λ p. Left t p (v ++ more)) kept (left_past ind l)) k
+  blank_starts common v gap d es numbers more i e s (lone x y) l k =
+      let ind = indent level in
+      let only = lone_is v (left_true (is_lone_lf v) (are_lone (stand_after v) (elements d es)) x) in
+      let kept : i + length ind ≡ i + ((i + length ind) - i) = omega arith in
+      start_blank edition t None ind v more d es numbers rest i (spaces_of (4 * level))
+      (left_as (ap (λ v. ind ++ (v ++ more)) only) l) (subst (λ p. Left t p (v ++ more)) kept (left_past ind l)) k
+
+-- ---- spaces alone
+
+-- They indent a placeable, in edition two.
+must_indent : (x y z : Bool) → x ≡ true → ((not x || y) && z) ≡ true → y ≡ true
+must_indent true true z e f = refl
+must_indent true false z e f = cc
+must_indent false y z e f = cc
+
+pub spaces_blank_text : (v : List ℕ) → list_all is_space v ≡ true → is_nonblank v ≡ false
+spaces_blank_text [] e = refl
+spaces_blank_text (b ∷ []) e = ap (λ b. is_nonblank (b ∷ [])) (equal b space (left_true (is_space b) true e))
+spaces_blank_text (b ∷ c ∷ v) e =
+    rw (left_true (is_space b) (list_all is_space (c ∷ v)) e)
+    (spaces_blank_text (c ∷ v) (right_true (is_space b) (list_all is_space (c ∷ v)) e))
+
+spaces_number : (v : List ℕ) → list_all is_space v ≡ true → text_numbers Two v ≡ length v ∷ []
+spaces_number v e = rw (spaces_blank_text v e, e) refl
+
+spaces_starts :
+    (edition : Edition) (t : List ℕ) (level : ℕ) (common : Option ℕ) (tail rest : List ℕ) (v : Text)
+    (es : PatternTree Text) → is_text v ≡ true → list_all is_run_byte v ≡ true → list_all is_space v ≡ true →
+    stands_well edition true after_line v es ≡ true →
+    Fit edition (length (indent level)) common after_line (elements (text_element v) es) →
+    ((i : ℕ) → Left t i (elements_bytes level false es (lf ∷ tail)) →
+    Mid edition t common es (map (λ n. length (indent level) + n) (line_numbers edition after_placeable es)) i
+    rest) →
+    (i : ℕ) → Left t i (elements_bytes level true (elements (text_element v) es) (lf ∷ tail)) →
+    Starts edition t common (elements (text_element v) es)
+    (map (λ n. length (indent level) + n) (line_numbers edition after_line (elements (text_element v) es))) i rest
+spaces_starts One t level common tail rest v es is a s g f mid i l =
+    absurd (false_true (must_indent (is_spaces v) false _ s g))
+  where
+    false_true : false ≡ true → ⊥
+    false_true e = cc
+spaces_starts Two t level common tail rest v es is a s g (lone x y) mid i l =
+    absurd (no_numbers (sym (ap (λ ns. ns ++ line_numbers Two (stand_after v) es) (spaces_number v s)) ∙ y))
+  where
+    no_numbers : {m : ℕ} {ns : List ℕ} → m ∷ ns ≡ [] → ⊥
+    no_numbers e = cc
+spaces_starts Two t level common tail rest v no_elements is a s g fixed mid i l =
+    absurd (false_true (right_true (is_spaces v) false (must_indent (is_spaces v) (is_spaces v && false) _ s g)))
+  where
+    false_true : false ≡ true → ⊥
+    false_true e = cc
+spaces_starts Two t level common tail rest v (elements (text_element w) es) is a s g fixed mid i l =
+    absurd (false_true (right_true (is_spaces v) false (must_indent (is_spaces v) (is_spaces v && false) _ s g)))
+  where
+    false_true : false ≡ true → ⊥
+    false_true e = cc
+spaces_starts Two t level common tail rest [] (elements (placeable e) es) is a s g fixed mid i l = absurd cc
+spaces_starts Two t level common tail rest (c ∷ v) (elements (placeable e) es) is a s g fixed mid i l =
+    let ind = indent level in
+    let sp = c ∷ v in
+    let brace = element_brace level e (elements_bytes level false es (lf ∷ tail)) in
+    let end = run_ends_in sp a in
+    let m =
+    left_as (ap (λ b. ind ++
+    (sp ++
+    (line_indent level b ++ element_bytes level (placeable e) (elements_bytes level false es (lf ∷ tail)))))
+    end ∙ ap (λ xs. ind ++ (sp ++ xs)) brace.are) l in
+    let n = left_as (sym (append_assoc ind sp (123 ∷ brace.rest))) m in
+    let size = length-append ind sp in
+    let numbers :
+    map (λ n. length ind + n) (line_numbers Two after_line (elements (text_element sp) (elements (placeable e) es)))
+    ≡ length (ind ++ sp) ∷
+    map (λ n. length ind + n) (line_numbers Two after_placeable (elements (placeable e) es)) =
+    ap (λ ns. map (λ n. length ind + n) (ns ++ line_numbers Two (stand_after sp) (elements (placeable e) es)))
+    (spaces_number sp s)
+    ∙ ap (λ ns. (length ind + length sp) ∷ map (λ n. length ind + n) ns)
+    (numbers_no_line Two sp (elements (placeable e) es) end)
+    ∙ ap (λ k. k ∷ map (λ n. length ind + n) (line_numbers Two after_placeable (elements (placeable e) es)))
+    (sym size) in
+    subst (λ ns. Starts Two t (Some (length ind)) (elements (text_element sp) (elements (placeable e) es)) ns i rest)
+    (sym numbers)
+    (start_spaces_two t ind sp brace.rest e es
+    (map (λ n. length ind + n) (line_numbers Two after_placeable (elements (placeable e) es))) rest i
+    (all_append ind sp (spaces_of (4 * level)) s) (omega arith) n (left_past ind m)
+    (mid (i + length (ind ++ sp)) (left_as (sym brace.are) (left_past (ind ++ sp) n))))
+
+-- ---- all elements
+
+module _ (edition : Edition) (t : List ℕ) (level : ℕ) (common : Option ℕ) (tail rest : List ℕ) (ends : Ends tail rest)
+    (deep : 1 ≤ length (indent level)) where
+  abbrev Numbers : Stand → PatternTree Text → List ℕ
+  Numbers s es = shifted edition t level common tail rest ends s es
+
+  abbrev MidOf : PatternTree Text → Type 0
+  MidOf es =
+      (i : ℕ) → Left t i (elements_bytes level false es (lf ∷ tail)) →
+      Mid edition t common es (Numbers after_placeable es) i rest
+
+  abbrev StartsOf : PatternTree Text → Type 0
+  StartsOf es =
+      (i : ℕ) → Left t i (elements_bytes level true es (lf ∷ tail)) →
+      Starts edition t common es (Numbers after_line es) i rest
+
+  -- where there are elements
+  abbrev StartsIf : PatternTree Text → Type 0
+  StartsIf no_elements = Unit {0}
+  StartsIf (elements d es) = StartsOf (elements d es)
+
+  -- the parts of what a text and the elements after it are asked
+  pub text_is : (s : Stand) (v : Text) (es : PatternTree Text) →
+      are_elements edition true s (elements (text_element v) es) ≡ true → is_text v ≡ true
+  text_is s v es g = left_true (is_text v) _ g
+
+  pub text_stands : (s : Stand) (v : Text) (es : PatternTree Text) →
+      are_elements edition true s (elements (text_element v) es) ≡ true → stands_well edition true s v es ≡ true
+  text_stands s v es g = left_true (stands_well edition true s v es) _ (right_true (is_text v) _ g)
+
+  pub text_ends_well : (s : Stand) (v : Text) (es : PatternTree Text) →
+      are_elements edition true s (elements (text_element v) es) ≡ true → ends_well v es ≡ true
+  text_ends_well s v es g =
+      left_true (ends_well v es) _ (right_true (stands_well edition true s v es) _ (right_true (is_text v) _ g))
+
+  pub text_more : (s : Stand) (v : Text) (es : PatternTree Text) →
+      are_elements edition true s (elements (text_element v) es) ≡ true →
+      are_elements edition true (stand_after v) es ≡ true
+  text_more s v es g =
+      right_true (ends_well v es) _ (right_true (stands_well edition true s v es) _ (right_true (is_text v) _ g))
+
+  -- a text without LF is followed by no text
+  pub no_text_after : (v w : Text) (es : PatternTree Text) → ends_in_lf v ≡ false →
+      are_elements edition true (stand_after v) (elements (text_element w) es) ≡ true → ⊥
+  no_text_after v w es e g =
+      false_true (sym (ap (λ s. stands_well edition true s w es) (ap (λ b. if b then after_line else within_line) e))
+      ∙ text_stands (stand_after v) w es g)
+    where
+      false_true : false ≡ true → ⊥
+      false_true e = cc
+
+  after_lf : (v : Text) (es : PatternTree Text) → ends_in_lf v ≡ true →
+      are_elements edition true (stand_after v) es ≡ true → are_elements edition true after_line es ≡ true
+  after_lf v es e g = sym (ap (λ b. are_elements edition true (if b then after_line else within_line) es) e) ∙ g
+
+  -- what a text within a line leads to, by its form and by what follows
+  mid_of_text : (v : Text) (es : PatternTree Text) (s : Stand) →
+      are_elements edition true s (elements (text_element v) es) ≡ true → (ends_in_lf v ≡ false → MidOf es) →
+      (ends_in_lf v ≡ true → StartsIf es) → TextForm v → MidOf (elements (text_element v) es)
+  mid_of_text v no_elements s g mid start (alone a) i l =
+      text_last edition t level common tail rest ends v i (text_is s v no_elements g) (text_ends_well s v no_elements g)
+      (left_as (ap (λ b. v ++ (lf ∷ tail)) (run_ends_in v a)) l)
+  mid_of_text v no_elements s g mid start (with_lf body is a c) i l =
+      absurd (plain_not_line edition t level common tail rest ends v body is (text_ends_well s v no_elements g))
+  mid_of_text v (elements (placeable e) es) s g mid start (alone a) i l =
+      subst (λ ns. Mid edition t common (elements (text_element v) (elements (placeable e) es)) ns i rest)
+      (ap (map (λ n. length (indent level) + n))
+      (sym (numbers_no_line edition v (elements (placeable e) es) (run_ends_in v a))))
+      (text_then edition t level common tail rest ends v e es (Numbers after_placeable (elements (placeable e) es)) i
+      (text_is s v (elements (placeable e) es) g) a
+      (left_as (ap (λ b. v ++
+      (line_indent level b ++ element_bytes level (placeable e) (elements_bytes level false es (lf ∷ tail))))
+      (run_ends_in v a)) l) (mid (run_ends_in v a)))
+  mid_of_text v (elements (text_element w) es) s g mid start (alone a) i l =
+      absurd (no_text_after v w es (run_ends_in v a) (text_more s v (elements (text_element w) es) g))
+  mid_of_text v (elements d es) s g mid start (with_lf body is a c) i l =
+      subst (λ ns. Mid edition t common (elements (text_element v) (elements d es)) ns i rest)
+      (ap (map (λ n. length (indent level) + n))
+      (sym (numbers_line edition v (elements d es) (line_ends_in v body is))))
+      (text_line edition t level common tail rest ends v body d es (Numbers after_line (elements d es)) i is a c
+      (elements_bytes level true (elements d es) (lf ∷ tail))
+      (left_as (ap (λ b. v ++ elements_bytes level b (elements d es) (lf ∷ tail)) (line_ends_in v body is)) l)
+      (start (line_ends_in v body is)))
+
+  pub run_part : (v gap : List ℕ) (b : ℕ) (bs : List ℕ) → v ≡ gap ++ (b ∷ bs) → list_all is_run_byte v ≡ true →
+      list_all is_run_byte (b ∷ bs) ≡ true
+  run_part v gap b bs is a = all_last is_run_byte gap (b ∷ bs) (sym (ap (list_all is_run_byte) is) ∙ a)
+
+  -- a run after spaces
+  shown_alone : (v : Text) (es : PatternTree Text) →
+      are_elements edition true after_line (elements (text_element v) es) ≡ true →
+      Fit edition (length (indent level)) common after_line (elements (text_element v) es) →
+      (ends_in_lf v ≡ false → MidOf es) → list_all is_run_byte v ≡ true →
+      (gap : List ℕ) (b : ℕ) (bs : List ℕ) → v ≡ gap ++ (b ∷ bs) → list_all is_space gap ≡ true → is_space b ≡ false →
+      StartsOf (elements (text_element v) es)
+  shown_alone v no_elements g f mid a gap b bs is c e i l =
+      let part = run_part v gap b bs is a in
+      let byte = left_true (is_run_byte b) (list_all is_run_byte bs) part in
+      let mark =
+      not_mark b byte
+      (no_mark_there edition v no_elements gap b bs is c e (text_stands after_line v no_elements g)) in
+      let plain = text_ends_well after_line v no_elements g in
+      let safe : is_last cr (last_of None (b ∷ bs)) ≡ false =
+      sym (ap (is_last cr) (ap (last_of None) is ∙ last_of_part gap b bs)) ∙ plain_no_cr v plain in
+      shown_starts edition t level rest common v gap b bs (lf ∷ tail) no_elements i is deep c e (run_no_lf b byte) mark
+      f l (λ j m. run_end edition t common v tail rest j b bs plain ends part (rw safe refl) m)
+  shown_alone v (elements (placeable x) es) g f mid a gap b bs is c e i l =
+      let part = run_part v gap b bs is a in
+      let byte = left_true (is_run_byte b) (list_all is_run_byte bs) part in
+      let mark =
+      not_mark b byte
+      (no_mark_there edition v (elements (placeable x) es) gap b bs is c e
+      (text_stands after_line v (elements (placeable x) es) g)) in
+      let brace = element_brace level x (elements_bytes level false es (lf ∷ tail)) in
+      let end = run_ends_in v a in
+      let m =
+      left_as (ap (λ b. indent level ++
+      (v ++
+      (line_indent level b ++ element_bytes level (placeable x) (elements_bytes level false es (lf ∷ tail)))))
+      end ∙ ap (λ xs. indent level ++ (v ++ xs)) brace.are) l in
+      let same =
+      ap (map (λ n. length (indent level) + n)) (sym (numbers_no_line edition v (elements (placeable x) es) end)) in
+      shown_starts edition t level rest common v gap b bs (123 ∷ brace.rest) (elements (placeable x) es) i is deep c e
+      (run_no_lf b byte) mark f m (λ j n.
+      subst (λ ns. Run edition t common v (elements (placeable x) es) ns j (123 ∷ brace.rest) rest) same
+      (run_more edition t common v x es (Numbers after_placeable (elements (placeable x) es)) rest j b bs brace.rest
+      part n (λ k o. mid end k (left_as (sym brace.are) o))))
+  shown_alone v (elements (text_element w) es) g f mid a gap b bs is c e i l =
+      absurd (no_text_after v w es (run_ends_in v a) (text_more after_line v (elements (text_element w) es) g))
+
+  -- what a text at the beginning of a line leads to
+  start_of_text : (v : Text) (es : PatternTree Text) →
+      are_elements edition true after_line (elements (text_element v) es) ≡ true →
+      Fit edition (length (indent level)) common after_line (elements (text_element v) es) →
+      (ends_in_lf v ≡ false → MidOf es) → (ends_in_lf v ≡ true → StartsIf es) → TextForm v →
+      StartsOf (elements (text_element v) es)
+  start_of_text v es g f mid start (alone a) = alone_of (split v)
+    where
+      spaces_alone : list_all is_space v ≡ true → StartsOf (elements (text_element v) es)
+      spaces_alone e =
+          spaces_starts edition t level common tail rest v es (text_is after_line v es g) a e
+          (text_stands after_line v es g) f (mid (run_ends_in v a))
+
+      alone_at : (gap more : List ℕ) → v ≡ gap ++ more → list_all is_space gap ≡ true →
+          holds is_space (first more) ≡ false → StartsOf (elements (text_element v) es)
+      alone_at gap [] is c e = spaces_alone (ap (list_all is_space) (is ∙ append_none gap) ∙ c)
+      alone_at gap (b ∷ bs) is c e = shown_alone v es g f mid a gap b bs is c e
+
+      alone_of : Split v → StartsOf (elements (text_element v) es)
+      alone_of s = alone_at s.gap s.more s.are s.spaces s.plain
+  start_of_text v no_elements g f mid start (with_lf body is a c) =
+      absurd (plain_not_line edition t level common tail rest ends v body is
+      (text_ends_well after_line v no_elements g))
+  start_of_text v (elements d es) g f mid start (with_lf body is a c) = line_of_split (split body)
+    where
+      ends_in : ends_in_lf v ≡ true
+      ends_in = line_ends_in v body is
+
+      blank_line_of : (gap : List ℕ) → v ≡ gap ++ (lf ∷ []) → list_all is_space gap ≡ true →
+          StartsOf (elements (text_element v) (elements d es))
+      blank_line_of gap e s i l =
+          let more = elements_bytes level true (elements d es) (lf ∷ tail) in
+          let m =
+          left_as (ap (λ b. indent level ++ (v ++ elements_bytes level b (elements d es) (lf ∷ tail))) ends_in) l in
+          let same =
+          ap (λ ns. map (λ n. length (indent level) + n)
+          (ns ++ line_numbers edition (stand_after v) (elements d es))) (blank_number edition v gap e s)
+          ∙ ap (map (λ n. length (indent level) + n)) (numbers_line edition v (elements d es) ends_in) in
+          subst (λ ns. Starts edition t common (elements (text_element v) (elements d es)) ns i rest) (sym same)
+          (blank_starts edition t level rest common v gap d es (Numbers after_line (elements d es)) more i e s f m
+          (λ j o. start ends_in j o))
+
+      shown_line : (gap : List ℕ) (b : ℕ) (bs : List ℕ) → body ≡ gap ++ (b ∷ bs) → list_all is_space gap ≡ true →
+          is_space b ≡ false → StartsOf (elements (text_element v) (elements d es))
+      shown_line gap b bs e s n i l =
+          let part = run_part body gap b bs e a in
+          let byte = left_true (is_run_byte b) (list_all is_run_byte bs) part in
+          let whole : v ≡ gap ++ (b ∷ (bs ++ (lf ∷ []))) =
+          is ∙ ap (λ v. v ++ (lf ∷ [])) e ∙ append_assoc gap (b ∷ bs) (lf ∷ []) in
+          let mark =
+          not_mark b byte
+          (no_mark_there edition v (elements d es) gap b (bs ++ (lf ∷ [])) whole s n
+          (text_stands after_line v (elements d es) g)) in
+          let safe : is_last cr (last_of None (b ∷ bs)) ≡ false =
+          sym (ap (is_last cr) (ap (last_of None) e ∙ last_of_part gap b bs)) ∙ c in
+          let more = elements_bytes level true (elements d es) (lf ∷ tail) in
+          let m =
+          left_as (ap (λ b. indent level ++ (v ++ elements_bytes level b (elements d es) (lf ∷ tail))) ends_in) l in
+          let same = ap (map (λ n. length (indent level) + n)) (sym (numbers_line edition v (elements d es) ends_in)) in
+          shown_starts edition t level rest common v gap b (bs ++ (lf ∷ [])) more (elements d es) i whole deep s n
+          (run_no_lf b byte) mark f m (λ j o.
+          subst (λ ns. Run edition t common v (elements d es) ns j more rest) same
+          (run_line edition t common v d es (Numbers after_line (elements d es)) rest j b bs more part safe
+          (left_as (ap (λ xs. b ∷ xs) (append_assoc bs (lf ∷ []) more)) o) (λ k q. start ends_in k q)))
+
+      line_at : (gap more : List ℕ) → body ≡ gap ++ more → list_all is_space gap ≡ true →
+          holds is_space (first more) ≡ false → StartsOf (elements (text_element v) (elements d es))
+      line_at gap [] e s n = blank_line_of gap (is ∙ ap (λ v. v ++ (lf ∷ [])) (e ∙ append_none gap)) s
+      line_at gap (b ∷ bs) e s n = shown_line gap b bs e s n
+
+      line_of_split : Split body → StartsOf (elements (text_element v) (elements d es))
+      line_of_split s = line_at s.gap s.more s.are s.spaces s.plain
+
+  mutual
+    -- from within a line on
+    pub lines_mid : (es : PatternTree Text) (s : Stand) → ElementsBack edition t level es →
+        are_elements edition true s es ≡ true → Fit edition (length (indent level)) common after_placeable es → MidOf es
+    lines_mid no_elements s h g f i l = mid_end edition t common tail rest i ends l
+    lines_mid (elements (placeable e) es) s h g f i l =
+        let x = element_brace level e (elements_bytes level false es (lf ∷ tail)) in
+        mid_placeable edition t common e es (Numbers after_placeable es) i x.rest
+        (elements_bytes level false es (lf ∷ tail)) rest (left_as x.are l)
+        (h.0.back i (elements_bytes level false es (lf ∷ tail)) l)
+        (λ j m. lines_mid es after_placeable h.1 g (fit_placeable edition (length (indent level)) common e es f) j
+        m)
+    lines_mid (elements (text_element v) es) s h g f i l =
+        mid_of_text v es s g
+        (λ e. lines_mid es (stand_after v) h (text_more s v es g)
+        (fit_no_line edition (length (indent level)) common v es e f))
+        (λ e. lines_start es h (after_lf v es e (text_more s v es g))
+        (fit_line edition (length (indent level)) common v es e f)) (text_form v (text_is s v es g)) i l
+
+    -- from the start of a later line on
+    pub lines_start : (es : PatternTree Text) → ElementsBack edition t level es →
+        are_elements edition true after_line es ≡ true → Fit edition (length (indent level)) common after_line es →
+        StartsIf es
+    lines_start no_elements h g f = tt
+    lines_start (elements (placeable e) es) h g f =
+        placeable_starts edition t level common tail rest e es deep h.0 f
+        (lines_mid es after_placeable h.1 g (fit_placeable_line edition (length (indent level)) common e es f))
+    lines_start (elements (text_element v) es) h g f =
+        start_of_text v es g f
+        (λ e. lines_mid es (stand_after v) h (text_more after_line v es g)
+        (fit_no_line_start edition (length (indent level)) common v es e f))
+        (λ e. lines_start es h (after_lf v es e (text_more after_line v es g))
+        (fit_line_start edition (length (indent level)) common v es e f))
+        (text_form v (text_is after_line v es g))

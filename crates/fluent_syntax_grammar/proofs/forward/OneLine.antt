@@ -1,0 +1,241 @@
+-- Patterns in which no text holds an LF are read back, if their placeables are.
+use Rattle.std.proofs.Common.{◌≡◌, ℕ, ◌+◌, List, [], ◌∷◌, ◌++◌, Option, Some, None, Bool, true, false, refl, sym, ◌∙◌}
+use Rattle.std.proofs.Common.{subst, ap}
+use Rattle.std.specs.Prelude.{◌==◌, ◌||◌, ◌&&◌, not, option_map, if◌then◌else◌}
+use Rattle.std.specs.List.{list_all, list_any, flat_map}
+use Rattle.fluent_syntax_tree.specs.Tree.{ExpressionTree, select, inline, expression_map, string_literal}
+use Rattle.fluent_syntax_tree.specs.Tree.{number_literal, function_reference, message_reference, term_reference}
+use Rattle.fluent_syntax_tree.specs.Tree.{variable_reference, inline_placeable, ElementTree, text_element, placeable}
+use Rattle.fluent_syntax_tree.specs.Tree.{PatternTree, no_elements, elements, pattern_map}
+use Rattle.fluent_syntax_tree.specs.Spans.{bytes_at}
+use Rattle.fluent_syntax_tree.specs.declared.edition.Edition.{Edition}
+use Rattle.fluent_syntax_grammar.specs.PatternTexts.{ends_in_lf, ends_plainly, is_empty, is_brace}
+use Rattle.fluent_syntax_grammar.specs.Bytes.{lf, cr, space, is_space}
+use Rattle.fluent_syntax_grammar.specs.Places.{holds, has_byte, has_eol, after_eol, InlineBlank}
+use Rattle.fluent_syntax_grammar.specs.Lines.{is_run_place}
+use Rattle.fluent_syntax_grammar.specs.Construct.{Read, goes_on, given, at_place, passed, chosen}
+use Rattle.fluent_syntax_grammar.specs.Layout.{Piece, Line, Layout, counted, common_indent, least}
+use Rattle.fluent_syntax_grammar.specs.Layout as layouts
+use Rattle.fluent_syntax_grammar.specs.Elements.{with_ending, line_items, items, pattern_of, cut, spelled, if_any}
+use Rattle.fluent_syntax_grammar.specs.Patterns.{layout_at, layout}
+use Rattle.fluent_syntax_grammar.specs.Grammar.{family}
+use Rattle.fluent_syntax_grammar.specs.Grammar as grammar
+use Rattle.fluent_syntax_grammar.specs.Written.{Text, is_last, last_of, has_lf}
+use Rattle.fluent_syntax_grammar.specs.Readable.{Stand, after_line, within_line, after_placeable}
+use Rattle.fluent_syntax_grammar.specs.Readable.{is_text, are_elements, stands_well}
+use Rattle.fluent_syntax_grammar.specs.Readable.{stand_after}
+use Rattle.fluent_syntax_grammar.proofs.Facts.{left_true, right_true}
+use Rattle.fluent_syntax_grammar.proofs.Left.{Left, left_as, first, left_word, left_no_eol_after}
+use Rattle.fluent_syntax_grammar.proofs.forward.Reading.{Reads}
+use Rattle.fluent_syntax_grammar.proofs.forward.Spells.{spelled_pattern}
+use Rattle.fluent_syntax_grammar.proofs.marks.WrittenBytes.{element_bytes, elements_bytes, line_indent}
+use Rattle.fluent_syntax_grammar.proofs.forward.Runs.{is_run_byte, ends_in_cr_before, run_all, run_place, inside}
+use Rattle.fluent_syntax_grammar.proofs.forward.Lines.{Ends, reads_ending}
+use Rattle.fluent_syntax_grammar.proofs.forward.Pieces.{Mid, mid_end, mid_placeable, mid_run, run_end, run_more}
+use Rattle.fluent_syntax_grammar.proofs.Tests.{neither_left, neither_right, not_true, without}
+
+-- A placeable that is an element is read back.
+pub record ElementBack (edition : Edition) (t : List ℕ) (level : ℕ) (e : ExpressionTree Text) : Type 0 where
+  pub back : (i : ℕ) (tail : List ℕ) → Left t i (element_bytes level (placeable e) tail) →
+      Reads t (grammar.placeable edition t) (expression_map (bytes_at t)) i e tail
+
+-- Each placeable of a pattern is.
+abbrev pub ElementsBack : (edition : Edition) (t : List ℕ) (level : ℕ) → PatternTree Text → Type 0
+ElementsBack edition t level no_elements = Unit {0}
+ElementsBack edition t level (elements (text_element v) es) = ElementsBack edition t level es
+ElementsBack edition t level (elements (placeable e) es) =
+    ElementBack edition t level e × ElementsBack edition t level es
+
+-- no text of a pattern holds an LF
+abbrev pub has_no_lf : PatternTree Text → Bool
+has_no_lf no_elements = true
+has_no_lf (elements (text_element v) es) = not (has_lf v) && has_no_lf es
+has_no_lf (elements (placeable e) es) = has_no_lf es
+
+-- the bytes of a placeable begin with a brace
+pub record Brace (bs : List ℕ) : Type 0 where
+  pub rest : List ℕ
+  pub are : bs ≡ 123 ∷ rest
+
+pub element_brace : (level : ℕ) (e : ExpressionTree Text) (tail : List ℕ) →
+    Brace (element_bytes level (placeable e) tail)
+element_brace level (select e vs) tail = record { rest = _; are = refl }
+element_brace level (inline (string_literal v)) tail = record { rest = _; are = refl }
+element_brace level (inline (number_literal v)) tail = record { rest = _; are = refl }
+element_brace level (inline (function_reference id a)) tail = record { rest = _; are = refl }
+element_brace level (inline (message_reference id a)) tail = record { rest = _; are = refl }
+element_brace level (inline (term_reference id a c)) tail = record { rest = _; are = refl }
+element_brace level (inline (variable_reference id)) tail = record { rest = _; are = refl }
+element_brace level (inline (inline_placeable e)) tail = record { rest = _; are = refl }
+
+pub plain_no_cr : (v : List ℕ) → ends_plainly v ≡ true → is_last cr (last_of None v) ≡ false
+plain_no_cr v e = last_no_cr (last_of None v) e
+  where
+    no_cr : (b : ℕ) (x y z : Bool) → (b == 32) ≡ x → (b == 13) ≡ y → not (x || y || z) ≡ true → (b == 13) ≡ false
+    no_cr b x false z e f g = f
+    no_cr b true true z e f g = absurd cc
+    no_cr b false true z e f g = absurd cc
+
+    last_no_cr : (o : Option ℕ) → holds (λ b. not (Rattle.fluent_syntax_tree.specs.Text.is_trimmed b)) o ≡ true →
+        is_last cr o ≡ false
+    last_no_cr None e = refl
+    last_no_cr (Some b) e = no_cr b (b == 32) (b == 13) (b == 10) refl refl e
+
+no_lf_from : (c : ℕ) (v : List ℕ) → (c == lf) ≡ false → has_lf v ≡ false → is_last lf (last_of (Some c) v) ≡ false
+no_lf_from c [] e f = e
+no_lf_from c (b ∷ v) e f = no_lf_from b v (neither_left (b == lf) (has_lf v) f) (neither_right (b == lf) (has_lf v) f)
+
+pub no_lf_end : (v : List ℕ) → has_lf v ≡ false → ends_in_lf v ≡ false
+no_lf_end [] e = refl
+no_lf_end (b ∷ v) e = no_lf_from b (b ∷ v) (neither_left (b == lf) (has_lf v) e) e
+
+module _ (edition : Edition) (t : List ℕ) (level : ℕ) (common : Option ℕ) (tail rest : List ℕ) (ends : Ends tail rest)
+  where
+    abbrev pub Back : PatternTree Text → ℕ → Type 0
+    Back es i = Mid edition t common es [] i rest
+
+    pub text_bytes : (v : Text) → is_text v ≡ true → has_lf v ≡ false → list_all is_run_byte v ≡ true
+    text_bytes v e f =
+        run_all v (not_true (list_any is_brace v)
+        (left_true (not (list_any is_brace v)) _ (right_true (not (is_empty v)) _ e))) f
+
+    text_ends : (v : Text) (i : ℕ) → is_text v ≡ true → has_lf v ≡ false → ends_plainly v ≡ true →
+        Left t i (v ++ (lf ∷ tail)) → Back (elements (text_element v) no_elements) i
+    text_ends [] i e f p l = absurd cc
+    text_ends (b ∷ bs) i e f p l =
+        let r =
+        run_end edition t common (b ∷ bs) tail rest i b bs p ends (text_bytes (b ∷ bs) e f)
+        (rw (plain_no_cr (b ∷ bs) p) refl) l in
+        mid_run edition t common (b ∷ bs) no_elements [] (lf ∷ tail) rest i r l
+
+    text_before : (v : Text) (e : ExpressionTree Text) (es : PatternTree Text) (i : ℕ) → is_text v ≡ true →
+        has_lf v ≡ false →
+        Left t i (v ++ element_bytes level (placeable e) (elements_bytes level false es (lf ∷ tail))) →
+        ((j : ℕ) → Left t j (element_bytes level (placeable e) (elements_bytes level false es (lf ∷ tail))) →
+        Back (elements (placeable e) es) j) → Back (elements (text_element v) (elements (placeable e) es)) i
+    text_before [] e es i g f l k = absurd cc
+    text_before (b ∷ bs) e es i g f l k =
+        let x = element_brace level e (elements_bytes level false es (lf ∷ tail)) in
+        let m = left_as (ap (λ xs. b ∷ (bs ++ xs)) x.are) l in
+        let r =
+        run_more edition t common (b ∷ bs) e es [] rest i b bs x.rest (text_bytes (b ∷ bs) g f) m
+        (λ j n. k j (left_as (sym x.are) n)) in
+        mid_run edition t common (b ∷ bs) (elements (placeable e) es) [] (123 ∷ x.rest) rest i r m
+
+    pub text_after_text : (v w : Text) (es : PatternTree Text) → has_lf v ≡ false →
+        stands_well edition false (stand_after v) w es ≡ true → ⊥
+    text_after_text v w es e f =
+        false_true (sym
+        (ap (λ s. stands_well edition false s w es) (ap (λ b. if b then after_line else within_line) (no_lf_end v e)))
+        ∙ f)
+      where
+        false_true : false ≡ true → ⊥
+        false_true e = cc
+
+    -- from within a line on
+    pub line_back : (es : PatternTree Text) (s : Stand) (i : ℕ) → ElementsBack edition t level es →
+        are_elements edition false s es ≡ true → has_no_lf es ≡ true →
+        Left t i (elements_bytes level false es (lf ∷ tail)) → Back es i
+    line_back no_elements s i h g f l = mid_end edition t common tail rest i ends l
+    line_back (elements (placeable e) es) s i h g f l =
+        let x = element_brace level e (elements_bytes level false es (lf ∷ tail)) in
+        mid_placeable edition t common e es [] i x.rest (elements_bytes level false es (lf ∷ tail)) rest
+        (left_as x.are l)
+        (h.0.back i (elements_bytes level false es (lf ∷ tail)) l) (λ j m. line_back es after_placeable j h.1 g f m)
+    line_back (elements (text_element v) no_elements) s i h g f l =
+        text_ends v i (left_true (is_text v) _ g) (not_true (has_lf v) (left_true (not (has_lf v)) true f))
+        (left_true (ends_plainly v)
+        _ (right_true (stands_well edition false s v no_elements) _ (right_true (is_text v) _ g))) l
+    line_back (elements (text_element v) (elements (placeable e) es)) s i h g f l =
+        text_before v e es i (left_true (is_text v) _ g) (not_true (has_lf v) (left_true (not (has_lf v)) _ f))
+        (left_as (ap (λ b. v ++
+        (line_indent level b ++ element_bytes level (placeable e) (elements_bytes level false es (lf ∷ tail))))
+        (no_lf_end v (not_true (has_lf v) (left_true (not (has_lf v)) _ f)))) l)
+        (λ j m. line_back (elements (placeable e) es) (stand_after v) j h
+        (right_true (stands_well edition false s v (elements (placeable e) es)) _ (right_true (is_text v) _ g))
+        (right_true (not (has_lf v)) _ f) m)
+    line_back (elements (text_element v) (elements (text_element w) es)) s i h g f l =
+        absurd (text_after_text v w es (not_true (has_lf v) (left_true (not (has_lf v)) _ f))
+        (left_true (stands_well edition false (stand_after v) w es)
+        _ (right_true (is_text w)
+        _ (right_true (stands_well edition false s v (elements (text_element w) es))
+        _ (right_true (is_text v) _ g)))))
+
+-- ---- the pattern
+
+eol_none : (x y : Bool) (a b : Option ℕ) → (x || y) ≡ false → (if x then a else if y then b else None) ≡ None
+eol_none false false a b e = refl
+eol_none true y a b e = absurd cc
+eol_none false true a b e = absurd cc
+
+-- a place where a pattern may open within its line: no space stands there, and no line end begins
+pub record OpensAt (t : List ℕ) (i : ℕ) (bs : List ℕ) : Type 0 where
+  pub no_space : holds is_space (first bs) ≡ false
+  pub no_eol : after_eol t i ≡ None
+
+module _ (edition : Edition) (t : List ℕ) where
+  pub opens_run : (i b : ℕ) (bs ys : List ℕ) → is_space b ≡ false → list_all is_run_byte (b ∷ bs) ≡ true →
+      ends_in_cr_before (b ∷ bs) ys ≡ false → Left t i (b ∷ (bs ++ ys)) → OpensAt t i (b ∷ (bs ++ ys))
+  opens_run i b bs ys s a c l =
+      let on : is_run_place t i ≡ true =
+      run_place t i b (bs ++ ys) (left_true (is_run_byte b) (list_all is_run_byte bs) a)
+      (inside b bs ys (right_true (is_run_byte b) (list_all is_run_byte bs) a) c) l in
+      record {
+        no_space = s;
+        no_eol =
+            eol_none (has_byte t lf i) (has_byte t cr i && has_byte t lf (i + 1)) (Some (i + 1)) (Some (i + 2))
+            (without _ (has_eol t i) on);
+      }
+
+  pub opens_brace : (i : ℕ) (bs ys : List ℕ) → bs ≡ 123 ∷ ys → Left t i bs → OpensAt t i bs
+  opens_brace i bs ys e l = record { no_space = rw e refl; no_eol = left_no_eol_after (left_as e l) refl refl }
+
+  -- the layout of a pattern that opens within its line
+  reads_layout : (i j at end : ℕ) (ps : List Piece) (ls : List Line) (bs : List ℕ) → InlineBlank t i j →
+      after_eol t j ≡ None → (family edition t).more_pieces j (Read ps at) → Left t at (lf ∷ bs) →
+      (family edition t).more_lines (at + 1) (Read ls end) →
+      layout t (family edition t) i
+      (Read (record {
+        opening = Some (record { start = j; spaces = 0; pieces = ps; ending = layouts.lf_at at });
+        lines = ls;
+      }) end)
+  reads_layout i j at end ps ls bs w e p l m =
+      let y : Layout =
+      record {
+        opening = Some (record { start = j; spaces = 0; pieces = ps; ending = layouts.lf_at at });
+        lines = ls;
+      } in
+      goes_on (passed w)
+      (chosen (subst (λ o. layout_at t (family edition t) o j (Read y end)) (sym e)
+      (goes_on at_place (goes_on p (goes_on (reads_ending edition t l) (goes_on m given))))))
+
+  -- a pattern that opens within its line is read back, if its elements are
+  pub opening_back :
+      (common : Option ℕ) (numbers : List ℕ) (e : ElementTree Text) (es : PatternTree Text) (i : ℕ) (bs rest : List ℕ) →
+      least numbers ≡ common → Left t i (space ∷ bs) → OpensAt t (i + 1) bs →
+      Mid edition t common (elements e es) numbers (i + 1) rest →
+      Reads t (grammar.pattern edition t) (option_map (pattern_map (bytes_at t))) i (Some (elements e es)) rest
+  opening_back common numbers e es i bs rest c l o m =
+      let y : Layout =
+      record {
+        opening =
+            Some (record { start = i + 1; spaces = 0; pieces = m.pieces; ending = layouts.lf_at m.at });
+        lines = m.lines;
+      } in
+      let same :
+      items edition y ≡ with_ending m.pieces (layouts.lf_at m.at) ++ flat_map (line_items edition common) m.lines =
+      ap (λ c. with_ending m.pieces (layouts.lf_at m.at) ++ flat_map (line_items edition c) m.lines)
+      (ap least m.counts ∙ c) in
+      record {
+        value = pattern_of edition t y;
+        end = m.end;
+        reads =
+            goes_on (reads_layout i (i + 1) m.at m.end m.pieces m.lines m.after
+            (left_word is_space (space ∷ []) bs refl o.no_space l) o.no_eol m.reads_pieces m.ends m.reads_lines)
+            given;
+        spells =
+            ap (λ xs. option_map (pattern_map (bytes_at t)) (if_any (spelled t (cut t xs)))) same
+            ∙ spelled_pattern t
+            (with_ending m.pieces (layouts.lf_at m.at) ++ flat_map (line_items edition common) m.lines) e es m.spells;
+        rest = m.left;
+      }

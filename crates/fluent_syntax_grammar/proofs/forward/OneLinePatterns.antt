@@ -1,0 +1,111 @@
+-- Patterns that are not multiline are read back.
+use Rattle.std.proofs.Common.{◌≡◌, ℕ, ◌+◌, List, [], ◌∷◌, ◌++◌, Some, None, Bool, true, false, refl, ◌∙◌, ap}
+use Rattle.std.specs.Prelude.{option_map}
+use Rattle.fluent_syntax_tree.specs.Tree.{ElementTree, text_element, placeable, PatternTree, no_elements, elements}
+use Rattle.fluent_syntax_tree.specs.Tree.{pattern_map}
+use Rattle.fluent_syntax_tree.specs.Spans.{bytes_at}
+use Rattle.fluent_syntax_grammar.specs.PatternTexts.{ends_plainly}
+use Rattle.fluent_syntax_grammar.specs.Grammar as grammar
+use Rattle.fluent_syntax_grammar.proofs.forward.Reading.{Reads}
+use Rattle.fluent_syntax_tree.specs.declared.edition.Edition.{Edition}
+use Rattle.fluent_syntax_grammar.specs.Bytes.{lf, cr, space, is_space}
+use Rattle.fluent_syntax_grammar.specs.Written.{Text, is_last, last_of, has_lf, is_multiline}
+use Rattle.fluent_syntax_grammar.specs.Readable.{opening, is_text, are_elements, stands_well, opens_well}
+use Rattle.fluent_syntax_grammar.specs.Readable.{is_pattern, stand_after}
+use Rattle.fluent_syntax_grammar.specs.Elements.{is_nonblank}
+use Rattle.fluent_syntax_grammar.proofs.Facts.{left_true, right_true}
+use Rattle.fluent_syntax_grammar.proofs.Left.{Left, left_as, left_next}
+use Rattle.fluent_syntax_grammar.proofs.marks.WrittenBytes.{element_bytes, elements_bytes, pattern_bytes, line_indent}
+use Rattle.fluent_syntax_grammar.proofs.forward.Lines.{Ends}
+use Rattle.fluent_syntax_grammar.proofs.forward.OneLine.{ElementsBack, has_no_lf, element_brace, plain_no_cr, no_lf_end}
+use Rattle.fluent_syntax_grammar.proofs.forward.OneLine.{text_bytes, text_after_text, line_back, OpensAt, opens_run}
+use Rattle.fluent_syntax_grammar.proofs.forward.OneLine.{opens_brace, opening_back}
+use Rattle.fluent_syntax_grammar.proofs.forward.Entries.{PatternBack}
+use Rattle.fluent_syntax_grammar.proofs.Tests.{and_false, neither_left, neither_right, not_true}
+
+one_line_texts : (p : PatternTree Text) → is_multiline p ≡ false → has_no_lf p ≡ true
+one_line_texts no_elements e = refl
+one_line_texts (elements (text_element v) es) e =
+    rw (neither_left (has_lf v) (is_multiline es) e) (one_line_texts es (neither_right (has_lf v) (is_multiline es) e))
+one_line_texts (elements (placeable x) es) e = one_line_texts es (neither_right _ (is_multiline es) e)
+
+one_line_bytes : (level : ℕ) (p : PatternTree Text) (tail : Text) → is_multiline p ≡ false →
+    pattern_bytes level p tail ≡ space ∷ elements_bytes level false p tail
+one_line_bytes level p tail e = rw e refl
+
+opens_as : {t : List ℕ} {i : ℕ} {bs cs : List ℕ} → bs ≡ cs → OpensAt t i cs → OpensAt t i bs
+opens_as e o = record { no_space = rw e (o.no_space); no_eol = o.no_eol }
+
+module _ (edition : Edition) (t : List ℕ) (level : ℕ) (tail rest : List ℕ) (ends : Ends tail rest) where
+  -- how a pattern opens
+  opens : (p : PatternTree Text) (i : ℕ) → is_multiline p ≡ false → are_elements edition false opening p ≡ true →
+      Left t i (elements_bytes level false p (lf ∷ tail)) → (p ≡ no_elements → ⊥) →
+      OpensAt t i (elements_bytes level false p (lf ∷ tail))
+  opens no_elements i e g l n = absurd (n refl)
+  opens (elements (placeable x) es) i e g l n =
+      let b = element_brace level x (elements_bytes level false es (lf ∷ tail)) in
+      opens_brace edition t i _ b.rest b.are l
+  opens (elements (text_element []) es) i e g l n = absurd cc
+  opens (elements (text_element (b ∷ bs)) no_elements) i e g l n =
+      let is : is_text (b ∷ bs) ≡ true = left_true (is_text (b ∷ bs)) _ g in
+      let more = right_true (is_text (b ∷ bs)) _ g in
+      let begins =
+      not_true (is_space b)
+      (right_true (is_nonblank (b ∷ bs)) _ (left_true (opens_well edition false (b ∷ bs) no_elements) _ more)) in
+      let plain : ends_plainly (b ∷ bs) ≡ true =
+      left_true (ends_plainly (b ∷ bs)) _ (right_true (opens_well edition false (b ∷ bs) no_elements) _ more) in
+      opens_run edition t i b bs (lf ∷ tail) begins
+      (text_bytes edition t level None tail rest ends (b ∷ bs) is (neither_left (has_lf (b ∷ bs)) false e))
+      (rw (plain_no_cr (b ∷ bs) plain) refl) l
+  opens (elements (text_element (b ∷ bs)) (elements (placeable x) es)) i e g l n =
+      let is : is_text (b ∷ bs) ≡ true = left_true (is_text (b ∷ bs)) _ g in
+      let begins =
+      not_true (is_space b)
+      (right_true (is_nonblank (b ∷ bs))
+      _ (left_true (opens_well edition false (b ∷ bs) (elements (placeable x) es))
+      _ (right_true (is_text (b ∷ bs)) _ g))) in
+      let brace = element_brace level x (elements_bytes level false es (lf ∷ tail)) in
+      let no_lf : has_lf (b ∷ bs) ≡ false =
+      neither_left (has_lf (b ∷ bs)) (is_multiline (elements (placeable x) es)) e in
+      let are =
+      ap (λ c. b ∷
+      (bs ++
+      (line_indent level c ++ element_bytes level (placeable x) (elements_bytes level false es (lf ∷ tail)))))
+      (no_lf_end (b ∷ bs) no_lf) ∙ ap (λ xs. b ∷ (bs ++ xs)) brace.are in
+      opens_as are (opens_run edition t i b bs (123 ∷ brace.rest) begins
+      (text_bytes edition t level None tail rest ends (b ∷ bs) is no_lf)
+      (and_false (is_last cr (last_of None (b ∷ bs)))) (left_as are l))
+  opens (elements (text_element (b ∷ bs)) (elements (text_element w) es)) i e g l n =
+      absurd (text_after_text edition t level None tail rest ends (b ∷ bs) w es
+      (neither_left (has_lf (b ∷ bs)) (is_multiline (elements (text_element w) es)) e)
+      (left_true (stands_well edition false (stand_after (b ∷ bs)) w es)
+      _ (right_true (is_text w)
+      _ (right_true (opens_well edition false (b ∷ bs) (elements (text_element w) es))
+      _ (right_true (is_text (b ∷ bs)) _ g)))))
+
+  one_line_at : (e : ElementTree Text) (es : PatternTree Text) (i : ℕ) → is_multiline (elements e es) ≡ false →
+      is_pattern edition (elements e es) ≡ true → ElementsBack edition t level (elements e es) →
+      Left t i (pattern_bytes level (elements e es) (lf ∷ tail)) →
+      Reads t (grammar.pattern edition t) (option_map (pattern_map (bytes_at t))) i (Some (elements e es)) rest
+  one_line_at e es i a g h l =
+      let m = left_as (one_line_bytes level (elements e es) (lf ∷ tail) a) l in
+      let good = are_one_line (is_multiline (elements e es)) a g in
+      opening_back edition t None [] e es i (elements_bytes level false (elements e es) (lf ∷ tail)) rest refl m
+      (opens (elements e es) (i + 1) a good (left_next m) none_absurd)
+      (line_back edition t level None tail rest ends (elements e es) opening (i + 1) h good
+      (one_line_texts (elements e es) a) (left_next m))
+    where
+      are_one_line : (b : Bool) → b ≡ false → are_elements edition b opening (elements e es) ≡ true →
+          are_elements edition false opening (elements e es) ≡ true
+      are_one_line false e g = g
+      are_one_line true e g = absurd cc
+
+      none_absurd : elements e es ≡ no_elements → ⊥
+      none_absurd e = cc
+
+-- a pattern that is not multiline is read back, if its placeables are
+pub one_line_back : (edition : Edition) (t : List ℕ) (level : ℕ) (p : PatternTree Text) → is_multiline p ≡ false →
+    is_pattern edition p ≡ true → ElementsBack edition t level p → PatternBack edition t level p
+one_line_back edition t level no_elements a g h = absurd cc
+one_line_back edition t level (elements e es) a g h =
+    record { back = λ i tail rest ends l. one_line_at edition t level tail rest ends e es i a g h l }

@@ -1,0 +1,257 @@
+-- The elements of a written pattern, read forwards as the pieces and lines of a layout.
+use Rattle.std.proofs.Common.{◌≡◌, ℕ, suc, ◌+◌, ◌<◌, List, [], ◌∷◌, ◌++◌, length, Option, None, Bool, true, false, refl}
+use Rattle.std.proofs.Common.{sym, subst, arith}
+use Rattle.std.specs.Prelude.{◌==◌, ◌||◌, not}
+use Rattle.std.specs.List.{list_all, flat_map}
+use Rattle.fluent_syntax_tree.specs.Tree.{ExpressionTree, expression_map, ElementTree, text_element, placeable}
+use Rattle.fluent_syntax_tree.specs.Tree.{PatternTree, no_elements, elements}
+use Rattle.fluent_syntax_tree.specs.Spans.{bytes_at}
+use Rattle.fluent_syntax_tree.specs.declared.spans.Span.{Span}
+use Rattle.fluent_syntax_tree.specs.declared.edition.Edition.{Edition}
+use Rattle.fluent_syntax_grammar.specs.PatternTexts.{ends_plainly}
+use Rattle.fluent_syntax_grammar.specs.Bytes.{lf, cr}
+use Rattle.fluent_syntax_grammar.specs.Places.{Stretch, has_eol}
+use Rattle.fluent_syntax_grammar.specs.Construct.{Read, goes_on, given, at_place, passed, chosen, first as first_of}
+use Rattle.fluent_syntax_grammar.specs.Construct.{second}
+use Rattle.fluent_syntax_grammar.specs.Layout.{Piece, run, placed, lf_at, Line, counted}
+use Rattle.fluent_syntax_grammar.specs.Elements.{Item, with_ending, line_items}
+use Rattle.fluent_syntax_grammar.specs.Lines.{is_run_place, pieces_at}
+use Rattle.fluent_syntax_grammar.specs.Grammar.{family}
+use Rattle.fluent_syntax_grammar.specs.Grammar as grammar
+use Rattle.fluent_syntax_grammar.specs.Written.{Text, is_last, last_of}
+use Rattle.fluent_syntax_grammar.proofs.Facts.{left_true}
+use Rattle.fluent_syntax_grammar.proofs.Nesting.{into_more_pieces}
+use Rattle.fluent_syntax_grammar.proofs.Left.{Left, left_first, left_next, left_past, left_no_eol}
+use Rattle.fluent_syntax_grammar.proofs.forward.Reading.{Reads}
+use Rattle.fluent_syntax_grammar.proofs.forward.Spells.{Spells, nothing, last_text, text_first, placed_first}
+use Rattle.fluent_syntax_grammar.proofs.forward.Runs.{is_run_byte, ends_in_cr_before, left_run}
+use Rattle.fluent_syntax_grammar.proofs.forward.Lines.{Ends, after_back, reads_no_pieces, lf_cut}
+use Rattle.fluent_syntax_grammar.proofs.Tests.{and_false, without}
+
+-- From a place within a line on, the rest of a pattern is read: the pieces of this line and its LF, and the later
+-- lines. Under this common indent their items spell the elements, and the lines count with these numbers.
+pub record Mid (edition : Edition) (t : List ℕ) (common : Option ℕ) (es : PatternTree Text) (numbers : List ℕ) (i : ℕ)
+    (rest : List ℕ) : Type 0 where
+  pub pieces : List Piece
+  pub at : ℕ
+  pub after : List ℕ
+  pub lines : List Line
+  pub end : ℕ
+  pub reads_pieces : (family edition t).more_pieces i (Read pieces at)
+  pub ends : Left t at (lf ∷ after)
+  pub reads_lines : (family edition t).more_lines (at + 1) (Read lines end)
+  pub left : Left t end rest
+  pub spells : Spells t (with_ending pieces (lf_at at) ++ flat_map (line_items edition common) lines) es
+  pub counts : flat_map (counted edition) lines ≡ numbers
+
+-- From the start of a later line on, the rest of a pattern is read.
+pub record Starts (edition : Edition) (t : List ℕ) (common : Option ℕ) (es : PatternTree Text) (numbers : List ℕ)
+    (i : ℕ) (rest : List ℕ) : Type 0 where
+  pub lines : List Line
+  pub end : ℕ
+  pub reads : (family edition t).more_lines i (Read lines end)
+  pub left : Left t end rest
+  pub spells : Spells t (flat_map (line_items edition common) lines) es
+  pub counts : flat_map (counted edition) lines ≡ numbers
+
+-- A run that begins at a place, and the rest of a pattern. The text that it is part of may begin earlier, with kept
+-- spaces; `source` is what is left after the text.
+pub record Run (edition : Edition) (t : List ℕ) (common : Option ℕ) (v : Text) (es : PatternTree Text)
+    (numbers : List ℕ) (i : ℕ) (source rest : List ℕ) : Type 0 where
+  pub to : ℕ
+  pub pieces : List Piece
+  pub at : ℕ
+  pub after : List ℕ
+  pub lines : List Line
+  pub end : ℕ
+  pub reads_pieces : (family edition t).more_pieces i (Read (run i to ∷ pieces) at)
+  pub ends : Left t at (lf ∷ after)
+  pub reads_lines : (family edition t).more_lines (at + 1) (Read lines end)
+  pub left : Left t end rest
+  pub spells : (kept : ℕ) → Left t kept (v ++ source) →
+      Spells t (with_ending (run kept to ∷ pieces) (lf_at at) ++ flat_map (line_items edition common) lines)
+      (elements (text_element v) es)
+  pub counts : flat_map (counted edition) lines ≡ numbers
+
+module _ (edition : Edition) (t : List ℕ) where
+  -- the end of the elements
+  pub mid_end : (common : Option ℕ) (tail rest : List ℕ) (i : ℕ) → Ends tail rest → Left t i (lf ∷ tail) →
+      Mid edition t common no_elements [] i rest
+  mid_end common tail rest i e l =
+      let a = after_back edition t common tail rest (i + 1) e (left_next l) in
+      record {
+        pieces = [];
+        at = i;
+        after = tail;
+        lines = a.lines;
+        end = a.end;
+        reads_pieces = reads_no_pieces edition t l;
+        ends = l;
+        reads_lines = a.reads;
+        left = a.left;
+        spells = nothing (lf_cut edition t i i tail (flat_map (line_items edition common) a.lines) refl l a.blank);
+        counts = a.counts;
+      }
+
+  -- a placeable within a line
+  reads_placed : {i j : ℕ} {bs : List ℕ} (x : ExpressionTree Span) (ps : List Piece) (at : ℕ) → Left t i (123 ∷ bs) →
+      grammar.placeable edition t i (Read x j) → (family edition t).more_pieces j (Read ps at) →
+      (family edition t).more_pieces i (Read (placed x ∷ ps) at)
+  reads_placed {i = i} x ps at l p q =
+      into_more_pieces edition t i
+      _ (chosen (subst (λ o. pieces_at t (family edition t) o i (Read (placed x ∷ ps) at)) (sym (left_first l))
+      (chosen (second (left_no_eol l refl refl) (second refl (first_of refl (goes_on p (goes_on q given))))))))
+
+  pub mid_placeable :
+      (common : Option ℕ) (e : ExpressionTree Text) (es : PatternTree Text) (numbers : List ℕ) (i : ℕ)
+      (bs left rest : List ℕ) → Left t i (123 ∷ bs) →
+      Reads t (grammar.placeable edition t) (expression_map (bytes_at t)) i e left →
+      ((j : ℕ) → Left t j left → Mid edition t common es numbers j rest) →
+      Mid edition t common (elements (placeable e) es) numbers i rest
+  mid_placeable common e es numbers i bs left rest l r k =
+      let m = k r.end r.rest in
+      record {
+        pieces = placed r.value ∷ m.pieces;
+        at = m.at;
+        after = m.after;
+        lines = m.lines;
+        end = m.end;
+        reads_pieces = reads_placed r.value m.pieces m.at l r.reads m.reads_pieces;
+        ends = m.ends;
+        reads_lines = m.reads_lines;
+        left = m.left;
+        spells = placed_first r.spells m.spells;
+        counts = m.counts;
+      }
+
+  -- ---- runs
+
+  third_false : (x y z : Bool) → not (x || y || z) ≡ true → (y ≡ false) × (z ≡ false)
+  third_false false false false e = (refl, refl)
+  third_false true y z e = absurd cc
+  third_false false true z e = absurd cc
+  third_false false false true e = absurd cc
+
+  reads_run : {i j b : ℕ} {bs : List ℕ} (ps : List Piece) (at : ℕ) → is_run_byte b ≡ true → Left t i (b ∷ bs) → i < j →
+      Stretch (is_run_place t) i j → (family edition t).more_pieces j (Read ps at) →
+      (family edition t).more_pieces i (Read (run i j ∷ ps) at)
+  reads_run {i = i} {j = j} {b = b} ps at e l m w q =
+      let f = third_false (b == lf) (b == 123) (b == 125) e in
+      let no_eol : has_eol t i ≡ false = without _ (has_eol t i) (w.each i (omega arith) m) in
+      into_more_pieces edition t i
+      _ (chosen (subst (λ o. pieces_at t (family edition t) o i (Read (run i j ∷ ps) at)) (sym (left_first l))
+      (chosen (second no_eol
+      (second f.1 (second f.0 (goes_on at_place (goes_on (passed w) (goes_on at_place (goes_on q given))))))))))
+
+  -- a text that ends the pattern
+  pub run_end : (common : Option ℕ) (v tail rest : List ℕ) (i b : ℕ) (bs : List ℕ) → ends_plainly v ≡ true →
+      Ends tail rest → list_all is_run_byte (b ∷ bs) ≡ true → ends_in_cr_before (b ∷ bs) (lf ∷ tail) ≡ false →
+      Left t i (b ∷ (bs ++ (lf ∷ tail))) → Run edition t common v no_elements [] i (lf ∷ tail) rest
+  run_end common v tail rest i b bs p e a c l =
+      let to = i + suc (length bs) in
+      let m : Left t to (lf ∷ tail) = left_past (b ∷ bs) l in
+      let r = after_back edition t common tail rest (to + 1) e (left_next m) in
+      record {
+        to = to;
+        pieces = [];
+        at = to;
+        after = tail;
+        lines = r.lines;
+        end = r.end;
+        reads_pieces =
+            reads_run [] to (left_true (is_run_byte b) (list_all is_run_byte bs) a) l (omega arith)
+            (left_run t (b ∷ bs) (lf ∷ tail) i a c refl l) (reads_no_pieces edition t m);
+        ends = m;
+        reads_lines = r.reads;
+        left = r.left;
+        spells = λ kept k. last_text k (left_next m) p r.blank;
+        counts = r.counts;
+      }
+
+  -- a run before a placeable is a text of its own
+  run_before :
+      (kept to at : ℕ) (v source : List ℕ) (ps : List Piece) (xs : List Item) (e : ExpressionTree Text)
+      (es : PatternTree Text) → Left t kept (v ++ source) → Left t to source →
+      Spells t (with_ending ps (lf_at at) ++ xs) (elements (placeable e) es) →
+      Spells t (with_ending (run kept to ∷ ps) (lf_at at) ++ xs) (elements (text_element v) (elements (placeable e) es))
+  run_before kept to at v source [] xs e es k l s = elim s [ ]
+  run_before kept to at v source (run from o ∷ []) xs e es k l s = elim s [ ]
+  run_before kept to at v source (run from o ∷ p ∷ ps) xs e es k l s = elim s [ ]
+  run_before kept to at v source (placed x ∷ ps) xs e es k l s = text_first k l s
+
+  -- a text before a placeable
+  pub run_more :
+      (common : Option ℕ) (v : List ℕ) (e : ExpressionTree Text) (es : PatternTree Text) (numbers rest : List ℕ)
+      (i b : ℕ) (bs more : List ℕ) → list_all is_run_byte (b ∷ bs) ≡ true → Left t i (b ∷ (bs ++ (123 ∷ more))) →
+      ((j : ℕ) → Left t j (123 ∷ more) → Mid edition t common (elements (placeable e) es) numbers j rest) →
+      Run edition t common v (elements (placeable e) es) numbers i (123 ∷ more) rest
+  run_more common v e es numbers rest i b bs more a l k =
+      let to = i + suc (length bs) in
+      let n : Left t to (123 ∷ more) = left_past (b ∷ bs) l in
+      let m = k to n in
+      record {
+        to = to;
+        pieces = m.pieces;
+        at = m.at;
+        after = m.after;
+        lines = m.lines;
+        end = m.end;
+        reads_pieces =
+            reads_run m.pieces m.at (left_true (is_run_byte b) (list_all is_run_byte bs) a) l (omega arith)
+            (left_run t (b ∷ bs) (123 ∷ more) i a (and_false (is_last cr (last_of None (b ∷ bs)))) refl l)
+            m.reads_pieces;
+        ends = m.ends;
+        reads_lines = m.reads_lines;
+        left = m.left;
+        spells =
+            λ kept x. run_before kept to m.at v (123 ∷ more) m.pieces (flat_map (line_items edition common) m.lines) e
+            es x n m.spells;
+        counts = m.counts;
+      }
+
+  -- a text that ends its line, and the lines after it
+  pub run_line :
+      (common : Option ℕ) (v : List ℕ) (e : ElementTree Text) (es : PatternTree Text) (numbers rest : List ℕ) (i b : ℕ)
+      (bs more : List ℕ) → list_all is_run_byte (b ∷ bs) ≡ true → is_last cr (last_of None (b ∷ bs)) ≡ false →
+      Left t i (b ∷ (bs ++ (lf ∷ more))) →
+      ((j : ℕ) → Left t j more → Starts edition t common (elements e es) numbers j rest) →
+      Run edition t common v (elements e es) numbers i more rest
+  run_line common v e es numbers rest i b bs more a c l k =
+      let to = i + suc (length bs) in
+      let n : Left t to (lf ∷ more) = left_past (b ∷ bs) l in
+      let m = k (to + 1) (left_next n) in
+      record {
+        to = to;
+        pieces = [];
+        at = to;
+        after = more;
+        lines = m.lines;
+        end = m.end;
+        reads_pieces =
+            reads_run [] to (left_true (is_run_byte b) (list_all is_run_byte bs) a) l (omega arith)
+            (left_run t (b ∷ bs) (lf ∷ more) i a (rw c refl) refl l) (reads_no_pieces edition t n);
+        ends = n;
+        reads_lines = m.reads;
+        left = m.left;
+        spells = λ kept x. text_first x (left_next n) m.spells;
+        counts = m.counts;
+      }
+
+  -- a run that begins its text
+  pub mid_run :
+      (common : Option ℕ) (v : List ℕ) (es : PatternTree Text) (numbers source rest : List ℕ) (i : ℕ)
+      (r : Run edition t common v es numbers i source rest) → Left t i (v ++ source) →
+      Mid edition t common (elements (text_element v) es) numbers i rest
+  mid_run common v es numbers source rest i r l = record {
+    pieces = run i r.to ∷ r.pieces;
+    at = r.at;
+    after = r.after;
+    lines = r.lines;
+    end = r.end;
+    reads_pieces = r.reads_pieces;
+    ends = r.ends;
+    reads_lines = r.reads_lines;
+    left = r.left;
+    spells = r.spells i l;
+    counts = r.counts;
+  }

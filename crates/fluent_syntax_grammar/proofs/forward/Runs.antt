@@ -1,0 +1,144 @@
+-- Runs of text: the texts of a readable pattern are runs, or runs and an LF.
+use Rattle.std.proofs.Common.{◌≡◌, ℕ, suc, ◌+◌, List, [], ◌∷◌, ◌++◌, length, Some, None, Bool, true, false, refl, sym}
+use Rattle.std.proofs.Common.{◌∙◌, subst, ap, arith}
+use Rattle.std.specs.Prelude.{◌==◌, ◌||◌, ◌&&◌, not}
+use Rattle.std.specs.List.{list_all, list_any}
+use Rattle.fluent_syntax_grammar.specs.PatternTexts.{is_brace, has_crlf}
+use Rattle.fluent_syntax_grammar.specs.Bytes.{lf, cr}
+use Rattle.fluent_syntax_grammar.specs.Places.{holds, Stretch}
+use Rattle.fluent_syntax_grammar.specs.Lines.{is_run_place}
+use Rattle.fluent_syntax_grammar.specs.Elements.{without_last_lf}
+use Rattle.fluent_syntax_grammar.specs.Written.{last_of, is_last, has_lf}
+use Rattle.fluent_syntax_grammar.specs.Readable.{is_text}
+use Rattle.fluent_syntax_grammar.proofs.Facts.{left_true, right_true, equal}
+use Rattle.fluent_syntax_grammar.proofs.Tests.{both}
+use Rattle.fluent_syntax_grammar.proofs.Computed.{find_here, find_on}
+use Rattle.fluent_syntax_grammar.proofs.Left.{Left, first, left_first, left_next}
+use Rattle.fluent_syntax_grammar.proofs.forward.Spells.{last_from}
+use Rattle.fluent_syntax_grammar.proofs.Tests.{neither_left, neither_right, not_true}
+
+-- a byte that no run ends at
+abbrev pub is_run_byte : ℕ → Bool
+is_run_byte b = not (b == lf || b == 123 || b == 125)
+
+-- the last byte is a CR and an LF follows
+abbrev pub ends_in_cr_before : List ℕ → List ℕ → Bool
+ends_in_cr_before xs ys = is_last cr (last_of None xs) && holds (λ b. b == lf) (first ys)
+
+pub run_no_lf : (b : ℕ) → is_run_byte b ≡ true → (b == lf) ≡ false
+run_no_lf b e = first_false (b == lf) (b == 123) (b == 125) e
+  where
+    first_false : (x y z : Bool) → not (x || y || z) ≡ true → x ≡ false
+    first_false false y z e = refl
+    first_false true y z e = cc
+
+and_false : (x y : Bool) → y ≡ false → (x && y) ≡ false
+and_false true y e = e
+and_false false y e = refl
+
+-- no line end begins inside a run
+pub inside : (x : ℕ) (xs ys : List ℕ) → list_all is_run_byte xs ≡ true → ends_in_cr_before (x ∷ xs) ys ≡ false →
+    ((x == cr) && holds (λ b. b == lf) (first (xs ++ ys))) ≡ false
+inside x [] ys a e = e
+inside x (y ∷ xs) ys a e =
+    and_false (x == cr) (y == lf) (run_no_lf y (left_true (is_run_byte y) (list_all is_run_byte xs) a))
+
+rest_safe : (x : ℕ) (xs ys : List ℕ) → ends_in_cr_before (x ∷ xs) ys ≡ false → ends_in_cr_before xs ys ≡ false
+rest_safe x [] ys e = refl
+rest_safe x (y ∷ xs) ys e = e
+
+pub run_place : (t : List ℕ) (i x : ℕ) (bs : List ℕ) → is_run_byte x ≡ true →
+    ((x == cr) && holds (λ b. b == lf) (first bs)) ≡ false → Left t i (x ∷ bs) → is_run_place t i ≡ true
+run_place t i x bs e f l = rw (left_first l, left_first (left_next l), e, run_no_lf x e, f) refl
+
+run_ends : (t : List ℕ) (i : ℕ) (bs : List ℕ) → holds is_run_byte (first bs) ≡ false → Left t i bs →
+    is_run_place t i ≡ false
+run_ends t i bs e l = rw (left_first l, e) refl
+
+-- a run reaches over these bytes
+pub left_run : (t xs ys : List ℕ) (i : ℕ) → list_all is_run_byte xs ≡ true → ends_in_cr_before xs ys ≡ false →
+    holds is_run_byte (first ys) ≡ false → Left t i (xs ++ ys) → Stretch (is_run_place t) i (i + length xs)
+left_run t [] ys i a f e l = let s : i ≡ i + 0 = omega arith in
+    subst (λ n. Stretch (is_run_place t) i n) s (find_here (is_run_place t) i i (run_ends t i ys e l) refl)
+left_run t (x ∷ xs) ys i a f e l =
+    let s : (i + 1) + length xs ≡ i + suc (length xs) = omega arith in
+    let more = right_true (is_run_byte x) (list_all is_run_byte xs) a in
+    subst (λ n. Stretch (is_run_place t) i n) s
+    (find_on (is_run_place t) i
+    _ (run_place t i x (xs ++ ys) (left_true (is_run_byte x) (list_all is_run_byte xs) a) (inside x xs ys more f)
+    l) (left_run t xs ys (i + 1) more (rest_safe x xs ys f) e (left_next l)))
+
+-- ---- the texts of a pattern
+
+-- a run alone, or a run that may be empty and an LF
+pub data TextForm (v : List ℕ) : Type 0 where
+  alone : list_all is_run_byte v ≡ true → TextForm v
+  with_lf : (body : List ℕ) → v ≡ body ++ (lf ∷ []) → list_all is_run_byte body ≡ true →
+      is_last cr (last_of None body) ≡ false → TextForm v
+
+-- an LF that ends a text is taken off
+pub without_of : (u : List ℕ) → without_last_lf (u ++ (lf ∷ [])) ≡ u
+without_of [] = refl
+without_of (x ∷ []) = refl
+without_of (x ∷ y ∷ u) = ap (λ v. x ∷ v) (without_of (y ∷ u))
+
+without_other : (u : List ℕ) (b : ℕ) → (b == lf) ≡ false → without_last_lf (u ++ (b ∷ [])) ≡ u ++ (b ∷ [])
+without_other [] b e = rw e refl
+without_other (x ∷ []) b e = rw e refl
+without_other (x ∷ y ∷ u) b e = ap (λ v. x ∷ v) (without_other (y ∷ u) b e)
+
+pub run_all : (v : List ℕ) → list_any is_brace v ≡ false → has_lf v ≡ false → list_all is_run_byte v ≡ true
+run_all [] e f = refl
+run_all (b ∷ v) e f =
+    both (byte_of (b == lf) (b == 123) (b == 125) (neither_left (b == lf) (has_lf v) f)
+    (neither_left (is_brace b) (list_any is_brace v) e))
+    (run_all v (neither_right (is_brace b) (list_any is_brace v) e) (neither_right (b == lf) (has_lf v) f))
+  where
+    byte_of : (x y z : Bool) → x ≡ false → (y || z) ≡ false → not (x || y || z) ≡ true
+    byte_of false false false e f = refl
+    byte_of true y z e f = cc
+    byte_of false true z e f = cc
+    byte_of false false true e f = cc
+
+any_front : (p : ℕ → Bool) (u w : List ℕ) → list_any p (u ++ w) ≡ false → list_any p u ≡ false
+any_front p [] w e = refl
+any_front p (x ∷ u) w e = front_of (p x) (list_any p (u ++ w)) (list_any p u) e (any_front p u w)
+  where
+    front_of : (x y z : Bool) → (x || y) ≡ false → (y ≡ false → z ≡ false) → (x || z) ≡ false
+    front_of false y z e f = f e
+    front_of true y z e f = cc
+
+no_cr_before : (x : ℕ) (u : List ℕ) → has_crlf ((x ∷ u) ++ (lf ∷ [])) ≡ false → is_last cr (last_of (Some x) u) ≡ false
+no_cr_before x [] e = cr_of (x == cr) e
+  where
+    cr_of : (b : Bool) → (b && true || false) ≡ false → b ≡ false
+    cr_of true e = cc
+    cr_of false e = refl
+no_cr_before x (y ∷ u) e = no_cr_before y u (neither_right (x == cr && y == lf) (has_crlf ((y ∷ u) ++ (lf ∷ []))) e)
+
+no_cr_of : (u : List ℕ) → has_crlf (u ++ (lf ∷ [])) ≡ false → is_last cr (last_of None u) ≡ false
+no_cr_of [] e = refl
+no_cr_of (x ∷ u) e = no_cr_before x u e
+
+form_at : (u : List ℕ) (b : ℕ) (x : Bool) → (b == lf) ≡ x → list_any is_brace (u ++ (b ∷ [])) ≡ false →
+    has_crlf (u ++ (b ∷ [])) ≡ false → has_lf (without_last_lf (u ++ (b ∷ []))) ≡ false → TextForm (u ++ (b ∷ []))
+form_at u b true e f g h =
+    let same : b ≡ lf = equal b lf e in
+    subst (λ b. TextForm (u ++ (b ∷ []))) (sym same)
+    (with_lf u refl
+    (run_all u (any_front is_brace u (b ∷ []) f)
+    (sym (ap has_lf (subst (λ b. without_last_lf (u ++ (b ∷ [])) ≡ u) (sym same) (without_of u))) ∙ h))
+    (no_cr_of u (subst (λ b. has_crlf (u ++ (b ∷ [])) ≡ false) same g)))
+form_at u b false e f g h = alone (run_all (u ++ (b ∷ [])) f (sym (ap has_lf (without_other u b e)) ∙ h))
+
+pub text_form : (v : List ℕ) → is_text v ≡ true → TextForm v
+text_form [] e = absurd cc
+text_form (c ∷ v) e =
+    let r = last_from c v in
+    let a = not_true (list_any is_brace (c ∷ v)) (left_true (not (list_any is_brace (c ∷ v))) _ e) in
+    let b = right_true (not (list_any is_brace (c ∷ v))) _ e in
+    let d = not_true (has_crlf (c ∷ v)) (left_true (not (has_crlf (c ∷ v))) _ b) in
+    let g = not_true (has_lf (without_last_lf (c ∷ v))) (right_true (not (has_crlf (c ∷ v))) _ b) in
+    subst TextForm (sym r.is)
+    (form_at r.front r.byte (r.byte == lf) refl (subst (λ v. list_any is_brace v ≡ false) r.is a)
+    (subst (λ v. has_crlf v ≡ false) r.is d) (subst (λ v. has_lf (without_last_lf v) ≡ false) r.is g))

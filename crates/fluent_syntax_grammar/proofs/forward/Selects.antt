@@ -1,0 +1,295 @@
+-- Selects are read back, if their selectors and the patterns of their variants are.
+use Rattle.std.proofs.Common.{◌≡◌, ℕ, zero, suc, ◌+◌, ◌*◌, ◌-◌, List, [], ◌∷◌, ◌++◌, replicate, Option, Some, None}
+use Rattle.std.proofs.Common.{Bool, true, false, refl, sym, ◌∙◌, subst, ap, append_assoc, inl, inr}
+use Rattle.std.specs.Prelude.{◌==◌, ◌||◌, ◌&&◌, option_map, is_none}
+use Rattle.std.specs.List.{list_all}
+use Rattle.fluent_syntax_tree.specs.Tree.{KeyTree, key_map, name_key, number_key, select, expression_map, InlineTree}
+use Rattle.fluent_syntax_tree.specs.Tree.{inline_map, PatternTree, pattern_map, VariantTrees, variants_map, no_variants}
+use Rattle.fluent_syntax_tree.specs.Tree.{variants, variant}
+use Rattle.fluent_syntax_tree.specs.Spans.{bytes_at}
+use Rattle.fluent_syntax_tree.specs.declared.spans.Span.{Span}
+use Rattle.fluent_syntax_tree.specs.declared.edition.Edition.{Edition}
+use Rattle.fluent_syntax_tree.specs.declared.edition.Edition.TheVariants.{One, Two}
+use Rattle.fluent_syntax_grammar.specs.Bytes.{lf, cr, space, is_space, is_letter, is_digit, is_name_byte}
+use Rattle.fluent_syntax_grammar.specs.Places.{after_eol}
+use Rattle.fluent_syntax_grammar.specs.Construct.{at_each}
+use Rattle.fluent_syntax_grammar.specs.Written.{Text, indent, short_indent, key_text}
+use Rattle.fluent_syntax_grammar.specs.Spellings.{is_name, is_number, is_number_rest, is_unsigned}
+use Rattle.fluent_syntax_grammar.specs.Placeables.{arrow_line_end, has_arrow, selector_fault, select_with}
+use Rattle.fluent_syntax_grammar.specs.Variants.{is_number_start, variant_key, variants_end, variant_and_more}
+use Rattle.fluent_syntax_grammar.specs.Variants.{variant_after}
+use Rattle.fluent_syntax_grammar.specs.Grammar.{family}
+use Rattle.fluent_syntax_grammar.proofs.Facts.{left_true, right_true, equal}
+use Rattle.fluent_syntax_grammar.proofs.Tests.{both, or_cases, differ}
+use Rattle.fluent_syntax_grammar.proofs.Nesting.{into_inline_expression, into_more_variants}
+use Rattle.fluent_syntax_grammar.proofs.Left.{Left, left_as, left_first, left_next, left_has}
+use Rattle.fluent_syntax_grammar.proofs.forward.Reading.{Reads, Passes, reads_bind, reads_gives, passes_nothing}
+use Rattle.fluent_syntax_grammar.proofs.forward.Reading.{passes_then, passes_over, reads_at_each, reads_look}
+use Rattle.fluent_syntax_grammar.proofs.forward.Reading.{reads_first, reads_second, reads_into, reads_present}
+use Rattle.fluent_syntax_grammar.proofs.forward.Reading.{reads_absent, passes_token, passes_two, passes_inline_blank}
+use Rattle.fluent_syntax_grammar.proofs.forward.Words.{reads_name, reads_number}
+use Rattle.fluent_syntax_grammar.proofs.marks.WrittenBytes.{inline_bytes, variants_bytes, pattern_bytes}
+use Rattle.fluent_syntax_grammar.proofs.forward.Inline.{Follows, passes_blanks, letter_no_digit}
+use Rattle.fluent_syntax_grammar.proofs.forward.Arguments.{Begins, InlineBack, inline_begins, name_begins}
+use Rattle.fluent_syntax_grammar.proofs.forward.Arguments.{number_begins, begins_other}
+use Rattle.fluent_syntax_grammar.proofs.forward.Expressions.{ExpressionBack, passes_after, same_fault, spaces_blank}
+use Rattle.fluent_syntax_grammar.proofs.forward.Lines.{lf_after, stop, Stops, column, indented, is_mark_byte}
+use Rattle.fluent_syntax_grammar.proofs.forward.Lines.{is_column_byte}
+use Rattle.fluent_syntax_grammar.proofs.forward.Entries.{PatternBack}
+use Rattle.fluent_syntax_grammar.proofs.Tests.{and_false, or_left, or_right}
+
+-- a line that begins, perhaps after spaces, with a mark that is no pattern's
+stops_gap : (gap : List ℕ) (b : ℕ) (bs : List ℕ) → list_all is_space gap ≡ true → is_mark_byte b ≡ true →
+    is_column_byte b ≡ true → Stops (gap ++ (b ∷ bs))
+stops_gap [] b bs a e f = column f
+stops_gap (x ∷ gap) b bs a e f =
+    let s : x ≡ space = equal x space (left_true (is_space x) (list_all is_space gap) a) in
+    subst (λ x. Stops (x ∷ (gap ++ (b ∷ bs)))) (sym s)
+    (indented gap b bs (right_true (is_space x) (list_all is_space gap) a) e)
+
+pub spaces_of : (n : ℕ) → list_all is_space (replicate n space) ≡ true
+spaces_of zero = refl
+spaces_of (suc n) = spaces_of n
+
+pub all_append : (xs ys : List ℕ) → list_all is_space xs ≡ true → list_all is_space ys ≡ true →
+    list_all is_space (xs ++ ys) ≡ true
+all_append [] ys e f = f
+all_append (x ∷ xs) ys e f =
+    both (left_true (is_space x) (list_all is_space xs) e)
+    (all_append xs ys (right_true (is_space x) (list_all is_space xs) e) f)
+
+-- the variants from the first one's mark on
+abbrev pub bare_bytes : ℕ → VariantTrees Text → (close more : Text) → Text
+bare_bytes level no_variants close more = 125 ∷ more
+bare_bytes level (variants (variant key value true) vs) close more =
+    42 ∷ 91 ∷ (key_text key ++ (93 ∷ pattern_bytes level value (lf ∷ variants_bytes level vs (close ++ (125 ∷ more)))))
+bare_bytes level (variants (variant key value false) vs) close more =
+    91 ∷ (key_text key ++ (93 ∷ pattern_bytes level value (lf ∷ variants_bytes level vs (close ++ (125 ∷ more)))))
+
+variants_stop : (level : ℕ) (vs : VariantTrees Text) (close more : Text) → list_all is_space close ≡ true →
+    Stops (variants_bytes level vs (close ++ (125 ∷ more)))
+variants_stop level no_variants close more a = stops_gap close 125 more a refl refl
+variants_stop level (variants (variant key value true) vs) close more a =
+    stops_gap (short_indent level) 42 _ (spaces_of (4 * level - 1)) refl refl
+variants_stop level (variants (variant key value false) vs) close more a =
+    stops_gap (indent level) 91 _ (spaces_of (4 * level)) refl refl
+
+-- The rest of a list of variants is read back; the flag says whether a default stood before.
+pub record VariantsBack (edition : Edition) (t : List ℕ) (level : ℕ) (starred : Bool) (vs : VariantTrees Text) :
+    Type 0 where
+  pub back : (i : ℕ) (close more : List ℕ) → list_all is_space close ≡ true →
+      Left t i (bare_bytes level vs close more) →
+      Reads t ((family edition t).more_variants starred) (variants_map (bytes_at t)) i vs (125 ∷ more)
+
+abbrev pub key_obeys' : KeyTree Text → Bool
+key_obeys' (name_key v) = is_name v
+key_obeys' (number_key v) = is_number v
+
+module _ (edition : Edition) (t : List ℕ) where
+  -- the blank before variants
+  passes_indent : (level : ℕ) (vs : VariantTrees Text) (close more : Text) (i : ℕ) → list_all is_space close ≡ true →
+      Left t i (variants_bytes level vs (close ++ (125 ∷ more))) →
+      Passes t (Rattle.fluent_syntax_grammar.specs.Words.blank t) i (bare_bytes level vs close more)
+  passes_indent level no_variants close more i a l =
+      passes_blanks close (125 ∷ more) (spaces_blank close a) refl refl refl l
+  passes_indent level (variants (variant key value true) vs) close more i a l =
+      passes_blanks (short_indent level) _ (spaces_blank (short_indent level) (spaces_of (4 * level - 1))) refl refl
+      refl l
+  passes_indent level (variants (variant key value false) vs) close more i a l =
+      passes_blanks (indent level) _ (spaces_blank (indent level) (spaces_of (4 * level))) refl refl refl l
+
+  -- the end of the list, which has a default
+  pub variants_end_back : (level : ℕ) → VariantsBack edition t level true no_variants
+  variants_end_back level =
+      record {
+        back =
+            λ i close more a l.
+            reads_into (λ o x. into_more_variants edition t true i o x)
+            (reads_bind (reads_absent 42 refl l)
+            (λ b j e m. rw e
+            (passes_then (reads_second refl (passes_nothing m))
+            (λ k n. reads_bind (reads_absent 91 refl n)
+            (λ c p f o. rw f (reads_second refl (ends_with edition o)))))));
+      }
+    where
+      ends_with : (d : Edition) {p : ℕ} {left : List ℕ} → Left t p left →
+          Reads t (variants_end d true false) (variants_map (bytes_at t)) p no_variants left
+      ends_with One o = reads_first refl (reads_gives refl o)
+      ends_with Two o = reads_first refl (reads_gives refl o)
+
+  -- a key before its bracket
+  key_back : (key : KeyTree Text) (i : ℕ) (tail : Text) → key_obeys' key ≡ true →
+      Left t i (key_text key ++ (93 ∷ tail)) → Reads t (variant_key t) (key_map (bytes_at t)) i key (93 ∷ tail)
+  key_back (name_key []) i tail e l = absurd cc
+  key_back (name_key (b ∷ bs)) i tail e l =
+      reads_at_each false
+      (left_has is_number_start l ∙ no_number b (left_true (is_letter b) (list_all is_name_byte bs) e))
+      (reads_second refl
+      (reads_bind (reads_name (b ∷ bs) (93 ∷ tail) e refl l) (λ s j f m. reads_gives (ap name_key f) m)))
+    where
+      no_number : (b : ℕ) → is_letter b ≡ true → is_number_start b ≡ false
+      no_number b e = rw (letter_no_digit b e, differ is_letter b 45 e refl) refl
+  key_back (number_key []) i tail e l = absurd cc
+  key_back (number_key (b ∷ bs)) i tail e l =
+      reads_at_each true (left_has is_number_start l ∙ starts_number b bs e)
+      (reads_first refl
+      (reads_bind (reads_number (b ∷ bs) (93 ∷ tail) e refl refl l) (λ s j f m. reads_gives (ap number_key f) m)))
+    where
+      starts_number : (b : ℕ) (bs : List ℕ) → is_number (b ∷ bs) ≡ true → is_number_start b ≡ true
+      starts_number b bs e = elim (or_cases (b == 45 && is_unsigned bs) (is_unsigned (b ∷ bs)) e) [
+        | inl f ↦ or_right (is_digit b) (b == 45) (left_true (b == 45) (is_unsigned bs) f)
+        | inr f ↦ or_left (is_digit b) (b == 45) (left_true (is_digit b) (is_number_rest bs) f)
+      ]
+
+  key_begins : (key : KeyTree Text) (tail : Text) → key_obeys' key ≡ true → Begins (key_text key ++ tail)
+  key_begins (name_key v) tail e = name_begins v tail e
+  key_begins (number_key v) tail e = number_begins v tail e
+
+  -- from the end of a variant's pattern on
+  after_value :
+      (level : ℕ) (starred star : Bool) (key : KeyTree Text) (value : PatternTree Text) (vs : VariantTrees Text)
+      (k : KeyTree Span) (v : Option (PatternTree Span)) (i : ℕ) (close more : Text) →
+      list_all is_space close ≡ true → key_map (bytes_at t) k ≡ key →
+      option_map (pattern_map (bytes_at t)) v ≡ Some value →
+      VariantsBack edition t level (starred || star) vs → Left t i (variants_bytes level vs (close ++ (125 ∷ more))) →
+      Reads t (variant_and_more edition t (family edition t) starred star k v) (variants_map (bytes_at t)) i
+      (variants (variant key value star) vs) (125 ∷ more)
+  after_value level starred star key value vs k None i close more a e f h l = absurd cc
+  after_value level starred star key value vs k (Some v) i close more a e f h l =
+      passes_then (passes_indent level vs close more i a l)
+      (λ j m. reads_bind (h.back j close more a m)
+      (λ ws q g n. reads_gives (same_variants k v ws e (some_is f) g) n))
+    where
+      some_is : {x y : PatternTree Text} → Some x ≡ Some y → x ≡ y
+      some_is e = cc
+
+      same_variants : (k : KeyTree Span) (v : PatternTree Span) (ws : VariantTrees Span) →
+          key_map (bytes_at t) k ≡ key → pattern_map (bytes_at t) v ≡ value → variants_map (bytes_at t) ws ≡ vs →
+          variants_map (bytes_at t) (variants (variant k v star) ws) ≡ variants (variant key value star) vs
+      same_variants k v ws e f g = cc
+
+  -- a variant from its key on
+  from_bracket :
+      (level : ℕ) (starred star : Bool) (key : KeyTree Text) (value : PatternTree Text) (vs : VariantTrees Text) (i : ℕ)
+      (close more : Text) → list_all is_space close ≡ true → key_obeys' key ≡ true →
+      PatternBack edition t level value → VariantsBack edition t level (starred || star) vs →
+      Left t i (key_text key ++
+      (93 ∷ pattern_bytes level value (lf ∷ variants_bytes level vs (close ++ (125 ∷ more))))) →
+      Reads t (variant_after edition t (family edition t) starred star) (variants_map (bytes_at t)) i
+      (variants (variant key value star) vs) (125 ∷ more)
+  from_bracket level starred star key value vs i close more a o p h l =
+      let b =
+      key_begins key (93 ∷ pattern_bytes level value (lf ∷ variants_bytes level vs (close ++ (125 ∷ more)))) o in
+      passes_then (passes_blanks [] _ refl (begins_other 32 b refl) (begins_other lf b refl) (begins_other cr b refl) l)
+      (λ j m. reads_bind (key_back key j _ o m) (λ k q e n.
+      passes_then (passes_blanks [] _ refl refl refl refl n) (λ r x. passes_then (passes_token 93 refl x) (λ y z.
+      reads_bind (p.back y (variants_bytes level vs (close ++ (125 ∷ more)))
+      (variants_bytes level vs (close ++ (125 ∷ more))) (stop (variants_stop level vs close more a)) z)
+      (λ v w f u. after_value level starred star key value vs k v w close more a e f h u)))))
+
+  -- one more variant, which is not the default
+  pub variant_back :
+      (level : ℕ) (starred : Bool) (key : KeyTree Text) (value : PatternTree Text) (vs : VariantTrees Text) →
+      key_obeys' key ≡ true → PatternBack edition t level value → VariantsBack edition t level starred vs →
+      VariantsBack edition t level starred (variants (variant key value false) vs)
+  variant_back level starred key value vs o p h = record {
+    back = λ i close more a l. reads_into (λ o x. into_more_variants edition t starred i o x)
+        (reads_bind (reads_absent 42 refl l)
+        (λ b j e m. rw e
+        (passes_then (reads_second (and_false starred) (passes_nothing m))
+        (λ k n. reads_bind (reads_present 91 refl n)
+        (λ c q f x. rw f
+        (reads_first refl
+        (from_bracket level starred false key value vs q close more a o p (same_starred h) x)))))));
+  }
+    where
+      or_false : (b : Bool) → b ≡ (b || false)
+      or_false true = refl
+      or_false false = refl
+
+      same_starred : VariantsBack edition t level starred vs → VariantsBack edition t level (starred || false) vs
+      same_starred h = subst (λ b. VariantsBack edition t level b vs) (or_false starred) h
+
+  -- the default
+  pub default_back : (level : ℕ) (key : KeyTree Text) (value : PatternTree Text) (vs : VariantTrees Text) →
+      key_obeys' key ≡ true → PatternBack edition t level value → VariantsBack edition t level true vs →
+      VariantsBack edition t level false (variants (variant key value true) vs)
+  default_back level key value vs o p h = record {
+    back = λ i close more a l. reads_into (λ o x. into_more_variants edition t false i o x)
+        (reads_bind (reads_present 42 refl l)
+        (λ b j e m. rw e
+        (passes_then (reads_second refl (passes_nothing m))
+        (λ k n. reads_bind (reads_present 91 refl n)
+        (λ c q f x. rw f
+        (reads_first refl (from_bracket level false true key value vs q close more a o p h x)))))));
+  }
+
+  -- ---- the select
+
+  arrow_there : (i : ℕ) (more : List ℕ) → Left t i (45 ∷ 62 ∷ more) → has_arrow t i ≡ true
+  arrow_there i more l = rw (left_first l, left_first (left_next l)) refl
+
+  follows_arrow : (more : List ℕ) → Follows (32 ∷ []) (45 ∷ 62 ∷ more)
+  follows_arrow more =
+      record {
+        spaces = refl;
+        no_name = refl;
+        no_digit = refl;
+        no_point = refl;
+        no_space = refl;
+        no_lf = refl;
+        no_cr = refl;
+        no_list = refl;
+        no_attribute = refl;
+      }
+
+  none_of : {X : Type 0} (o : Option X) → is_none o ≡ true → o ≡ None
+  none_of None e = refl
+  none_of (Some x) e = cc
+
+  -- from the arrow on
+  from_arrow :
+      (level : ℕ) (e : InlineTree Text) (vs : VariantTrees Text) (v : InlineTree Span) (i : ℕ) (close more : Text) →
+      list_all is_space close ≡ true → inline_map (bytes_at t) v ≡ e → is_none (selector_fault e) ≡ true →
+      VariantsBack edition t (level + 1) false vs →
+      Left t i (45 ∷ 62 ∷ lf ∷ variants_bytes (level + 1) vs (close ++ (125 ∷ more))) →
+      Reads t (select_with t (family edition t) v (selector_fault v)) (expression_map (bytes_at t)) i (select e vs)
+      (125 ∷ more)
+  from_arrow level e vs v i close more a f g h l =
+      let none : selector_fault v ≡ None =
+      sym (same_fault (bytes_at t) v) ∙ ap selector_fault f ∙ none_of (selector_fault e) g in
+      rw none (reads_bind
+      (passes_then (passes_two l)
+      (λ j m. passes_then (passes_inline_blank [] _ refl refl m)
+      (λ k n. passes_then (line_end_passes k n)
+      (λ p o. passes_then (passes_indent (level + 1) vs close more p a o)
+      (λ q x. h.back q close more a x))))) (λ ws y d z. reads_gives (same_select ws d) z))
+    where
+      line_end_passes : {bs : List ℕ} (k : ℕ) → Left t k (lf ∷ bs) →
+          Passes t (at_each (after_eol t) arrow_line_end) k bs
+      line_end_passes k n =
+          reads_at_each (Some (k + 1)) (lf_after edition t n)
+          (passes_over {j = k + 1} (record { there = refl }) (left_next n))
+
+      same_select : (ws : VariantTrees Span) → variants_map (bytes_at t) ws ≡ vs →
+          expression_map (bytes_at t) (select v ws) ≡ select e vs
+      same_select ws d = cc
+
+  pub select_is_back : (level : ℕ) (e : InlineTree Text) (vs : VariantTrees Text) → is_none (selector_fault e) ≡ true →
+      InlineBack edition t level e → VariantsBack edition t (level + 1) false vs →
+      ExpressionBack edition t level (select e vs)
+  select_is_back level e vs g h k = record {
+    begins = λ tail. inline_begins edition level e _ h.obeys;
+    back = λ i gap more a l.
+        let close = indent level ++ gap in
+        let spaces : list_all is_space close ≡ true = all_append (indent level) gap (spaces_of (4 * level)) a in
+        let m =
+        left_as (ap (λ x. inline_bytes level e (32 ∷ 45 ∷ 62 ∷ lf ∷ variants_bytes (level + 1) vs x))
+        (sym (append_assoc (indent level) gap (125 ∷ more)))) l in
+        reads_bind (reads_into (λ o x. into_inline_expression edition t i o x)
+        (h.back i (32 ∷ []) (45 ∷ 62 ∷ lf ∷ variants_bytes (level + 1) vs (close ++ (125 ∷ more)))
+        (follows_arrow _) m)) (λ v j f n.
+        passes_then (passes_after edition t e (32 ∷ []) _ j (follows_arrow _) n)
+        (λ p o. reads_look true (arrow_there p _ o)
+        (reads_first refl (from_arrow level e vs v p close more spaces f g k o))));
+  }

@@ -1,0 +1,303 @@
+-- Each node is read back: down the tree.
+use Rattle.std.proofs.Common.{◌≡◌, ℕ, ◌+◌, List, [], ◌∷◌, Option, Bool, true, false, refl, arith}
+use Rattle.std.specs.Prelude.{◌&&◌, ◌==◌, not, nat_le, is_none}
+use Rattle.std.specs.List.{list_all}
+use Rattle.fluent_syntax_tree.specs.Tree.{KeyTree, name_key, number_key, ExpressionTree, select, inline, InlineTree}
+use Rattle.fluent_syntax_tree.specs.Tree.{string_literal, number_literal, function_reference, message_reference}
+use Rattle.fluent_syntax_tree.specs.Tree.{term_reference, variable_reference, inline_placeable, ArgumentsTree}
+use Rattle.fluent_syntax_tree.specs.Tree.{arguments, MaybeArguments, no_arguments, some_arguments, InlineTrees}
+use Rattle.fluent_syntax_tree.specs.Tree.{no_inlines, inlines, NamedTrees, no_named, nameds, named_argument}
+use Rattle.fluent_syntax_tree.specs.Tree.{VariantTrees, no_variants, variants, variant, PatternTree, no_elements}
+use Rattle.fluent_syntax_tree.specs.Tree.{elements, text_element, placeable}
+use Rattle.fluent_syntax_tree.specs.declared.edition.Edition.{Edition}
+use Rattle.fluent_syntax_grammar.specs.Written.{Text, is_multiline}
+use Rattle.fluent_syntax_grammar.specs.Spellings.{is_name}
+use Rattle.fluent_syntax_grammar.specs.Inline.{is_callee_byte}
+use Rattle.fluent_syntax_grammar.specs.Arguments.{is_used}
+use Rattle.fluent_syntax_grammar.specs.Placeables.{is_term_attribute, selector_fault}
+use Rattle.fluent_syntax_grammar.specs.Rules.{inline_obeys, maybe_obeys, arguments_obey, inlines_obey, nameds_obey}
+use Rattle.fluent_syntax_grammar.specs.Rules.{named_obeys, expression_obeys, variants_obey, variant_obeys, key_obeys}
+use Rattle.fluent_syntax_grammar.specs.Rules.{option_obeys, elements_obey, pattern_obeys}
+use Rattle.fluent_syntax_grammar.specs.Readable.{are_named_well, is_argument_value, is_expression, is_pattern, defaults}
+use Rattle.fluent_syntax_grammar.specs.Canonical.{canonical_rules, is_flush}
+use Rattle.fluent_syntax_grammar.proofs.Obeys.{inline_part, select_parts}
+use Rattle.fluent_syntax_grammar.proofs.Facts.{left_true, right_true, equal}
+use Rattle.fluent_syntax_grammar.proofs.forward.Arguments.{InlineBack, ListBack, nothing_back, positional_back}
+use Rattle.fluent_syntax_grammar.proofs.forward.Arguments.{named_back}
+use Rattle.fluent_syntax_grammar.proofs.forward.References.{MaybeBack, string_is_back, number_is_back, variable_is_back}
+use Rattle.fluent_syntax_grammar.proofs.forward.References.{message_is_back, function_is_back, term_is_back}
+use Rattle.fluent_syntax_grammar.proofs.forward.References.{no_arguments_back, some_arguments_back}
+use Rattle.fluent_syntax_grammar.proofs.forward.Expressions.{ExpressionBack, inline_is_back, placeable_is_back}
+use Rattle.fluent_syntax_grammar.proofs.forward.Expressions.{placeable_back, double_back}
+use Rattle.fluent_syntax_grammar.proofs.forward.Selects.{VariantsBack, select_is_back, variants_end_back, variant_back}
+use Rattle.fluent_syntax_grammar.proofs.forward.Selects.{default_back, key_obeys'}
+use Rattle.fluent_syntax_grammar.proofs.forward.OneLine.{ElementBack, ElementsBack}
+use Rattle.fluent_syntax_grammar.proofs.forward.OneLinePatterns.{one_line_back}
+use Rattle.fluent_syntax_grammar.proofs.forward.Patterns.{multiline_back}
+use Rattle.fluent_syntax_grammar.proofs.forward.Entries.{PatternBack}
+use Rattle.fluent_syntax_grammar.proofs.Tests.{not_true}
+
+-- An argument list is read back.
+abbrev ListOf : (edition : Edition) (t : List ℕ) (level : ℕ) → ArgumentsTree Text → Type 0
+ListOf edition t level (arguments ps ns) = ListBack edition t level [] ps ns
+
+module _ (edition : Edition) (t : List ℕ) where
+  -- a pattern by whether it is multiline
+  pattern_by : (p : PatternTree Text) (x : Bool) → is_multiline p ≡ x → is_pattern edition p ≡ true →
+      is_flush edition p ≡ true → ((level : ℕ) → ElementsBack edition t level p) → (level : ℕ) →
+      PatternBack edition t level p
+  pattern_by p true e g f h level = multiline_back edition t level p e g f (h (level + 1))
+  pattern_by p false e g f h level = one_line_back edition t level p e g (h level)
+
+  select_element : (level : ℕ) (e : InlineTree Text) (vs : VariantTrees Text) →
+      ExpressionBack edition t level (select e vs) → ElementBack edition t level (select e vs)
+  select_element level e vs h =
+      record { back = λ i tail l. placeable_back edition t level (select e vs) (32 ∷ []) [] tail i refl refl h l }
+
+  double_element : (level : ℕ) (e : ExpressionTree Text) → ExpressionBack edition t level e →
+      ElementBack edition t level (inline (inline_placeable e))
+  double_element level e h = record { back = λ i tail l. double_back edition t level e i tail h l }
+
+  string_element : (level : ℕ) (v : Text) → InlineBack edition t level (string_literal v) →
+      ElementBack edition t level (inline (string_literal v))
+  string_element level v h =
+      record {
+        back =
+            λ i tail l. placeable_back edition t level (inline (string_literal v)) (32 ∷ []) (32 ∷ []) tail i refl refl
+            (inline_is_back edition t level (string_literal v) refl h) l;
+      }
+
+  number_element : (level : ℕ) (v : Text) → InlineBack edition t level (number_literal v) →
+      ElementBack edition t level (inline (number_literal v))
+  number_element level v h =
+      record {
+        back =
+            λ i tail l. placeable_back edition t level (inline (number_literal v)) (32 ∷ []) (32 ∷ []) tail i refl refl
+            (inline_is_back edition t level (number_literal v) refl h) l;
+      }
+
+  function_element : (level : ℕ) (id : Text) (a : ArgumentsTree Text) →
+      InlineBack edition t level (function_reference id a) →
+      ElementBack edition t level (inline (function_reference id a))
+  function_element level id a h =
+      record {
+        back =
+            λ i tail l. placeable_back edition t level (inline (function_reference id a)) (32 ∷ []) (32 ∷ []) tail i
+            refl
+            refl (inline_is_back edition t level (function_reference id a) refl h) l;
+      }
+
+  message_element : (level : ℕ) (id : Text) (a : Option Text) → InlineBack edition t level (message_reference id a) →
+      ElementBack edition t level (inline (message_reference id a))
+  message_element level id a h =
+      record {
+        back =
+            λ i tail l. placeable_back edition t level (inline (message_reference id a)) (32 ∷ []) (32 ∷ []) tail i refl
+            refl (inline_is_back edition t level (message_reference id a) refl h) l;
+      }
+
+  term_element : (level : ℕ) (id : Text) (a : Option Text) (c : MaybeArguments Text) →
+      is_term_attribute (term_reference id a c) ≡ false → InlineBack edition t level (term_reference id a c) →
+      ElementBack edition t level (inline (term_reference id a c))
+  term_element level id a c e h =
+      record {
+        back =
+            λ i tail l. placeable_back edition t level (inline (term_reference id a c)) (32 ∷ []) (32 ∷ []) tail i refl
+            refl
+            (inline_is_back edition t level (term_reference id a c) e h) l;
+      }
+
+  variable_element : (level : ℕ) (id : Text) → InlineBack edition t level (variable_reference id) →
+      ElementBack edition t level (inline (variable_reference id))
+  variable_element level id h =
+      record {
+        back =
+            λ i tail l. placeable_back edition t level (inline (variable_reference id)) (32 ∷ []) (32 ∷ []) tail i refl
+            refl
+            (inline_is_back edition t level (variable_reference id) refl h) l;
+      }
+
+  -- what an expression is asked
+  no_attribute : (e : InlineTree Text) → expression_obeys (canonical_rules edition) (inline e) ≡ true →
+      is_term_attribute e ≡ false
+  no_attribute e h =
+      not_true (is_term_attribute e)
+      (left_true (not (is_term_attribute e)) true (left_true (not (is_term_attribute e) && true) _ h))
+
+  select_simple : (e : InlineTree Text) (vs : VariantTrees Text) →
+      expression_obeys (canonical_rules edition) (select e vs) ≡ true → is_none (selector_fault e) ≡ true
+  select_simple e vs h =
+      left_true (is_none (selector_fault e)) (nat_le (defaults vs) 1)
+      (left_true (is_expression (select e vs)) (defaults vs == 1)
+      (left_true (is_expression (select e vs) && (defaults vs == 1)) _ h))
+
+  select_one : (e : InlineTree Text) (vs : VariantTrees Text) →
+      expression_obeys (canonical_rules edition) (select e vs) ≡ true → defaults vs ≡ 1
+  select_one e vs h =
+      equal (defaults vs) 1
+      (right_true (is_expression (select e vs)) (defaults vs == 1)
+      (left_true (is_expression (select e vs) && (defaults vs == 1)) _ h))
+
+  pub key_is : (key : KeyTree Text) → key_obeys (canonical_rules edition) key ≡ true → key_obeys' key ≡ true
+  key_is (name_key v) h = h
+  key_is (number_key v) h = h
+
+  pattern_is : (p : PatternTree Text) (b : Bool) → ((is_pattern edition p && is_flush edition p) && b) ≡ true →
+      (is_pattern edition p ≡ true) × (is_flush edition p ≡ true) × (b ≡ true)
+  pattern_is p b h =
+      let c = left_true (is_pattern edition p && is_flush edition p) b h in (
+        left_true (is_pattern edition p) (is_flush edition p) c,
+        right_true (is_pattern edition p) (is_flush edition p) c,
+        right_true (is_pattern edition p && is_flush edition p) b h,
+      )
+
+  mutual
+    pub expression_back : (level : ℕ) (e : ExpressionTree Text) → expression_obeys (canonical_rules edition) e ≡ true →
+        ExpressionBack edition t level e
+    expression_back level (inline e) h =
+        inline_is_back edition t level e
+        (not_true (is_term_attribute e)
+        (left_true (not (is_term_attribute e)) true (left_true (not (is_term_attribute e) && true) _ h)))
+        (inline_back level e (right_true (not (is_term_attribute e) && true) _ h))
+    expression_back level (select e vs) h =
+        select_is_back edition t level e vs (select_simple e vs h)
+        (inline_back level e (left_true (inline_obeys (canonical_rules edition) e) _ (select_parts edition e vs h)))
+        (one_back (level + 1) vs (select_one e vs h)
+        (right_true (inline_obeys (canonical_rules edition) e) _ (select_parts edition e vs h)))
+
+    pub inline_back : (level : ℕ) (e : InlineTree Text) → inline_obeys (canonical_rules edition) e ≡ true →
+        InlineBack edition t level e
+    inline_back level (string_literal v) h = string_is_back edition t level v h
+    inline_back level (number_literal v) h = number_is_back edition t level v h
+    inline_back level (function_reference id (arguments ps ns)) h =
+        function_is_back edition t level id ps ns h
+        (list_back level (arguments ps ns) (right_true (list_all is_callee_byte id) _ (right_true (is_name id) _ h)))
+    inline_back level (message_reference id a) h = message_is_back edition t level id a h
+    inline_back level (term_reference id a c) h =
+        term_is_back edition t level id a c h
+        (maybe_back level c (right_true (option_obeys is_name a) _ (right_true (is_name id) _ h)))
+    inline_back level (variable_reference id) h = variable_is_back edition t level id h
+    inline_back level (inline_placeable e) h = placeable_is_back edition t level e h (expression_back level e h)
+
+    maybe_back : (level : ℕ) (a : MaybeArguments Text) → maybe_obeys (canonical_rules edition) a ≡ true →
+        MaybeBack edition t level a
+    maybe_back level no_arguments h = no_arguments_back edition t level
+    maybe_back level (some_arguments (arguments ps ns)) h =
+        some_arguments_back edition t level ps ns (list_back level (arguments ps ns) h)
+
+    list_back : (level : ℕ) (a : ArgumentsTree Text) → arguments_obey (canonical_rules edition) a ≡ true →
+        ListOf edition t level a
+    list_back level (arguments ps ns) h =
+        let rest = right_true (are_named_well [] ns) _ h in
+        positionals_back level ps ns (left_true (inlines_obey (canonical_rules edition) ps) _ rest)
+        (nameds_back level [] ns (left_true (are_named_well [] ns) _ h)
+        (right_true (inlines_obey (canonical_rules edition) ps) _ rest))
+
+    positionals_back : (level : ℕ) (ps : InlineTrees Text) (ns : NamedTrees Text) →
+        inlines_obey (canonical_rules edition) ps ≡ true → ListBack edition t level [] no_inlines ns →
+        ListBack edition t level [] ps ns
+    positionals_back level no_inlines ns h k = k
+    positionals_back level (inlines e es) ns h k =
+        positional_back edition t level e es ns
+        (inline_back level e (left_true (inline_obeys (canonical_rules edition) e) _ h))
+        (positionals_back level es ns (right_true (inline_obeys (canonical_rules edition) e) _ h) k)
+
+    nameds_back : (level : ℕ) (names : List Text) (ns : NamedTrees Text) → are_named_well names ns ≡ true →
+        nameds_obey (canonical_rules edition) ns ≡ true → ListBack edition t level names no_inlines ns
+    nameds_back level names no_named g h = nothing_back edition t level names
+    nameds_back level names (nameds (named_argument name e) ns) g h =
+        let this = left_true (named_obeys (canonical_rules edition) (named_argument name e)) _ h in
+        let more = right_true (not (is_used name names)) _ g in
+        named_back edition t level names name e ns (left_true (is_name name) _ this)
+        (inline_back level e (right_true (is_name name) _ this))
+        (not_true (is_used name names) (left_true (not (is_used name names)) _ g))
+        (left_true (is_argument_value e) _ more)
+        (nameds_back level (name ∷ names) ns (right_true (is_argument_value e) _ more)
+        (right_true (named_obeys (canonical_rules edition) (named_argument name e)) _ h))
+
+    -- variants, of which one is the default
+    one_back : (level : ℕ) (vs : VariantTrees Text) → defaults vs ≡ 1 →
+        variants_obey (canonical_rules edition) vs ≡ true → VariantsBack edition t level false vs
+    one_back level no_variants e h = absurd (omega arith)
+    one_back level (variants (variant key value false) vs) e h =
+        let this = left_true (variant_obeys (canonical_rules edition) (variant key value false)) _ h in
+        variant_back edition t level false key value vs
+        (key_is key (left_true (key_obeys (canonical_rules edition) key) _ this))
+        (pattern_back value (right_true (key_obeys (canonical_rules edition) key) _ this) level)
+        (one_back level vs e (right_true (variant_obeys (canonical_rules edition) (variant key value false)) _ h))
+    one_back level (variants (variant key value true) vs) e h =
+        let this = left_true (variant_obeys (canonical_rules edition) (variant key value true)) _ h in
+        default_back edition t level key value vs
+        (key_is key (left_true (key_obeys (canonical_rules edition) key) _ this))
+        (pattern_back value (right_true (key_obeys (canonical_rules edition) key) _ this) level)
+        (none_back level vs (omega arith)
+        (right_true (variant_obeys (canonical_rules edition) (variant key value true)) _ h))
+
+    -- variants after the default
+    none_back : (level : ℕ) (vs : VariantTrees Text) → defaults vs ≡ 0 →
+        variants_obey (canonical_rules edition) vs ≡ true → VariantsBack edition t level true vs
+    none_back level no_variants e h = variants_end_back edition t level
+    none_back level (variants (variant key value false) vs) e h =
+        let this = left_true (variant_obeys (canonical_rules edition) (variant key value false)) _ h in
+        variant_back edition t level true key value vs
+        (key_is key (left_true (key_obeys (canonical_rules edition) key) _ this))
+        (pattern_back value (right_true (key_obeys (canonical_rules edition) key) _ this) level)
+        (none_back level vs e (right_true (variant_obeys (canonical_rules edition) (variant key value false)) _ h))
+    none_back level (variants (variant key value true) vs) e h = absurd (omega arith)
+
+    -- Every pattern is read back.
+    pub pattern_back : (p : PatternTree Text) → pattern_obeys (canonical_rules edition) p ≡ true → (level : ℕ) →
+        PatternBack edition t level p
+    pattern_back no_elements h level = absurd cc
+    pattern_back (elements (text_element v) es) h level =
+        let c = pattern_is (elements (text_element v) es) _ h in
+        pattern_by (elements (text_element v) es) (is_multiline (elements (text_element v) es)) refl c.0 c.1
+        (λ l. elements_back es c.2 l) level
+    pattern_back (elements (placeable x) es) h level =
+        let c = pattern_is (elements (placeable x) es) _ h in
+        pattern_by (elements (placeable x) es) (is_multiline (elements (placeable x) es)) refl c.0 c.1
+        (λ l. (
+          element_back x (left_true (expression_obeys (canonical_rules edition) x) _ c.2) l,
+          elements_back es (right_true (expression_obeys (canonical_rules edition) x) _ c.2) l,
+        )) level
+
+    elements_back : (es : PatternTree Text) → elements_obey (canonical_rules edition) es ≡ true → (level : ℕ) →
+        ElementsBack edition t level es
+    elements_back no_elements h level = tt
+    elements_back (elements (text_element v) es) h level = elements_back es h level
+    elements_back (elements (placeable x) es) h level = (
+      element_back x (left_true (expression_obeys (canonical_rules edition) x) _ h) level,
+      elements_back es (right_true (expression_obeys (canonical_rules edition) x) _ h) level,
+    )
+
+    element_back : (e : ExpressionTree Text) → expression_obeys (canonical_rules edition) e ≡ true → (level : ℕ) →
+        ElementBack edition t level e
+    element_back (select e vs) h level =
+        select_element level e vs
+        (select_is_back edition t level e vs (select_simple e vs h)
+        (inline_back level e (left_true (inline_obeys (canonical_rules edition) e) _ (select_parts edition e vs h)))
+        (one_back (level + 1) vs (select_one e vs h)
+        (right_true (inline_obeys (canonical_rules edition) e) _ (select_parts edition e vs h))))
+    element_back (inline (string_literal v)) h level =
+        string_element level v (string_is_back edition t level v (inline_part edition (string_literal v) h))
+    element_back (inline (number_literal v)) h level =
+        number_element level v (number_is_back edition t level v (inline_part edition (number_literal v) h))
+    element_back (inline (function_reference id (arguments ps ns))) h level =
+        function_element level id (arguments ps ns)
+        (function_is_back edition t level id ps ns (inline_part edition (function_reference id (arguments ps ns)) h)
+        (list_back level (arguments ps ns)
+        (right_true (list_all is_callee_byte id)
+        _ (right_true (is_name id) _ (inline_part edition (function_reference id (arguments ps ns)) h)))))
+    element_back (inline (message_reference id a)) h level =
+        message_element level id a
+        (message_is_back edition t level id a (inline_part edition (message_reference id a) h))
+    element_back (inline (term_reference id a c)) h level =
+        term_element level id a c (no_attribute (term_reference id a c) h)
+        (term_is_back edition t level id a c (inline_part edition (term_reference id a c) h)
+        (maybe_back level c
+        (right_true (option_obeys is_name a)
+        _ (right_true (is_name id) _ (inline_part edition (term_reference id a c) h)))))
+    element_back (inline (variable_reference id)) h level =
+        variable_element level id (variable_is_back edition t level id (inline_part edition (variable_reference id) h))
+    element_back (inline (inline_placeable e)) h level =
+        double_element level e (expression_back level e (inline_part edition (inline_placeable e) h))

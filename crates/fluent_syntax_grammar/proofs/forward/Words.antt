@@ -1,0 +1,137 @@
+-- Names, numbers and strings, read forwards.
+use Rattle.std.proofs.Common.{◌≡◌, ℕ, List, [], ◌∷◌, ◌++◌, Bool, true, false, refl, sym, ◌∙◌, ap, append_assoc, inl}
+use Rattle.std.proofs.Common.{inr}
+use Rattle.std.specs.Prelude.{◌==◌, ◌||◌, ◌&&◌}
+use Rattle.std.specs.List.{list_all}
+use Rattle.std.specs.Int.{is_in_range}
+use Rattle.fluent_syntax_tree.specs.Spans.{bytes_at}
+use Rattle.fluent_syntax_grammar.specs.Bytes.{is_letter, is_name_byte, is_digit}
+use Rattle.fluent_syntax_grammar.specs.Places.{holds}
+use Rattle.fluent_syntax_grammar.specs.Construct.{Construct, ◌>>=◌, gives, either}
+use Rattle.fluent_syntax_grammar.specs.Words.{optional, digits, identifier, number}
+use Rattle.fluent_syntax_grammar.specs.Spellings.{is_name, is_digits, is_number_rest, is_unsigned, is_number}
+use Rattle.fluent_syntax_grammar.proofs.Facts.{left_true, right_true, equal}
+use Rattle.fluent_syntax_grammar.proofs.Tests.{both, or_cases, differ}
+use Rattle.fluent_syntax_grammar.proofs.Left.{Left, left_as, first, left_past, left_has, left_word}
+use Rattle.fluent_syntax_grammar.proofs.forward.Reading.{Reads, Passes, reads_bind, passes_nothing, passes_then}
+use Rattle.fluent_syntax_grammar.proofs.forward.Reading.{reads_here, passes_over, reads_at_each, reads_look}
+use Rattle.fluent_syntax_grammar.proofs.forward.Reading.{reads_first, reads_second, reads_present, reads_absent}
+use Rattle.fluent_syntax_grammar.proofs.forward.Reading.{reads_spanned}
+
+widened : (d u l x y : Bool) → (u || l) ≡ true → (((d || u) || l) || x || y) ≡ true
+widened true u l x y e = refl
+widened false true l x y e = refl
+widened false false true x y e = refl
+widened false false false x y e = cc
+
+pub letter_in_name : (b : ℕ) → is_letter b ≡ true → is_name_byte b ≡ true
+letter_in_name b e = widened (is_in_range 48 57 b) (is_in_range 65 90 b) (is_in_range 97 122 b) (b == 45) (b == 95) e
+
+pub name_bytes : (bs : List ℕ) → is_name bs ≡ true → list_all is_name_byte bs ≡ true
+name_bytes [] e = refl
+name_bytes (b ∷ bs) e =
+    rw (letter_in_name b (left_true (is_letter b) (list_all is_name_byte bs) e))
+    (right_true (is_letter b) (list_all is_name_byte bs) e)
+
+name_begins : (bs ys : List ℕ) → is_name bs ≡ true → holds is_letter (first (bs ++ ys)) ≡ true
+name_begins [] ys e = cc
+name_begins (b ∷ bs) ys e = left_true (is_letter b) (list_all is_name_byte bs) e
+
+-- ---- parts of numbers
+
+-- what may follow the digits of a number: nothing, or a point and digits
+pub data Fraction : List ℕ → Type 0 where
+  none : Fraction []
+  point : {ds : List ℕ} → is_digits ds ≡ true → Fraction (46 ∷ ds)
+
+-- digits and what follows them
+pub record NumberRest (v : List ℕ) : Type 0 where
+  pub whole : List ℕ
+  pub fraction : List ℕ
+  pub joins : whole ++ fraction ≡ v
+  pub digits : list_all is_digit whole ≡ true
+  pub is : Fraction fraction
+
+rest_digit : (b : ℕ) (bs : List ℕ) → is_digit b ≡ true → NumberRest bs → NumberRest (b ∷ bs)
+rest_digit b bs e r =
+    record {
+      whole = b ∷ r.whole;
+      fraction = r.fraction;
+      joins = ap (λ v. b ∷ v) r.joins;
+      digits = rw e (r.digits);
+      is = r.is;
+    }
+
+rest_point : (b : ℕ) (bs : List ℕ) → b ≡ 46 → is_digits bs ≡ true → NumberRest (b ∷ bs)
+rest_point b bs e f =
+    record { whole = []; fraction = 46 ∷ bs; joins = ap (λ b. b ∷ bs) (sym e); digits = refl; is = point f }
+
+number_rest : (v : List ℕ) → is_number_rest v ≡ true → NumberRest v
+number_rest [] e = record { whole = []; fraction = []; joins = refl; digits = refl; is = none }
+number_rest (b ∷ bs) e = elim (or_cases (is_digit b && is_number_rest bs) (b == 46 && is_digits bs) e) [
+  | inl f ↦ rest_digit b bs (left_true (is_digit b) (is_number_rest bs) f)
+      (number_rest bs (right_true (is_digit b) (is_number_rest bs) f))
+  | inr f ↦ rest_point b bs (equal b 46 (left_true (b == 46) (is_digits bs) f)) (right_true (b == 46) (is_digits bs) f)
+]
+
+fraction_begins : (v more : List ℕ) → Fraction v → holds is_digit (first more) ≡ false →
+    holds is_digit (first (v ++ more)) ≡ false
+fraction_begins v more none f = f
+fraction_begins v more (point x) f = refl
+
+module _ {t : List ℕ} where
+  -- a name, before a byte that is in no name
+  pub reads_name : {i : ℕ} (name more : List ℕ) → is_name name ≡ true → holds is_name_byte (first more) ≡ false →
+      Left t i (name ++ more) → Reads t (identifier t) (bytes_at t) i name more
+  reads_name name more e f l =
+      reads_here (reads_look true (left_has is_letter l ∙ name_begins name more e)
+      (reads_first refl
+      (reads_bind (passes_over (left_word is_name_byte name more (name_bytes name e) f l) (left_past name l))
+      (λ u k h n. reads_spanned name more l n))))
+
+  -- ---- numbers
+
+  passes_digits : {i : ℕ} (ds more : List ℕ) → is_digits ds ≡ true → holds is_digit (first more) ≡ false →
+      Left t i (ds ++ more) → Passes t (digits t) i more
+  passes_digits [] more e f l = cc
+  passes_digits (d ∷ ds) more e f l =
+      reads_at_each true (left_has is_digit l ∙ left_true (is_digit d) (list_all is_digit ds) e)
+      (reads_first refl (passes_over (left_word is_digit (d ∷ ds) more e f l) (left_past (d ∷ ds) l)))
+
+  -- the fraction of a number, if it has one, and what follows it
+  then_fraction : {B Y : Type 0} {c : Construct B} {r : B → Y} {y : Y} {left : List ℕ} {i : ℕ} (v more : List ℕ) →
+      Fraction v → holds is_digit (first more) ≡ false → holds (λ c. c == 46) (first more) ≡ false →
+      Left t i (v ++ more) → ((j : ℕ) → Left t j more → Reads t c r j y left) →
+      Reads t (optional t 46 >>= λ p. either p (digits t) (gives tt) >>= λ u. c) r i y left
+  then_fraction v more none f g l k =
+      reads_bind (reads_absent 46 g l) (λ p j e m. passes_then (reads_second e (passes_nothing m)) k)
+  then_fraction v more (point {ds = ds} x) f g l k =
+      reads_bind (reads_present 46 refl l) (λ p j e m. passes_then (reads_first e (passes_digits ds more x f m)) k)
+
+  -- digits and a fraction, and what follows them
+  then_unsigned : {B Y : Type 0} {c : Construct B} {r : B → Y} {y : Y} {left : List ℕ} {i : ℕ} (v more : List ℕ) →
+      is_unsigned v ≡ true → holds is_digit (first more) ≡ false → holds (λ c. c == 46) (first more) ≡ false →
+      Left t i (v ++ more) → ((j : ℕ) → Left t j more → Reads t c r j y left) →
+      Reads t (digits t >>= λ d. optional t 46 >>= λ p. either p (digits t) (gives tt) >>= λ u. c) r i y left
+  then_unsigned [] more e f g l k = cc
+  then_unsigned (b ∷ bs) more e f g l k =
+      let r = number_rest bs (right_true (is_digit b) (is_number_rest bs) e) in
+      let parts : (b ∷ r.whole) ++ (r.fraction ++ more) ≡ (b ∷ bs) ++ more =
+      ap (λ v. b ∷ v) (sym (append_assoc r.whole r.fraction more) ∙ ap (λ v. v ++ more) r.joins) in
+      passes_then (passes_digits (b ∷ r.whole) (r.fraction ++ more)
+      (both (left_true (is_digit b) (is_number_rest bs) e) r.digits) (fraction_begins r.fraction more r.is f)
+      (left_as (sym parts) l)) (λ j m. then_fraction r.fraction more r.is f g m k)
+
+  -- a number, before a byte that is no digit and no point
+  pub reads_number : {i : ℕ} (v more : List ℕ) → is_number v ≡ true → holds is_digit (first more) ≡ false →
+      holds (λ c. c == 46) (first more) ≡ false → Left t i (v ++ more) → Reads t (number t) (bytes_at t) i v more
+  reads_number [] more e f g l = cc
+  reads_number (b ∷ bs) more e f g l = elim (or_cases (b == 45 && is_unsigned bs) (is_unsigned (b ∷ bs)) e) [
+    | inl h ↦ reads_here
+        (reads_bind (reads_present 45 (left_true (b == 45) (is_unsigned bs) h) l)
+        (λ m j n o. then_unsigned bs more (right_true (b == 45) (is_unsigned bs) h) f g o
+        (λ k q. reads_spanned (b ∷ bs) more l q)))
+    | inr h ↦ reads_here
+        (reads_bind (reads_absent 45 (differ is_digit b 45 (left_true (is_digit b) (is_number_rest bs) h) refl) l)
+        (λ m j n o. then_unsigned (b ∷ bs) more h f g o (λ k q. reads_spanned (b ∷ bs) more l q)))
+  ]

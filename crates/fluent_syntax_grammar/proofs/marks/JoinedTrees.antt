@@ -1,0 +1,476 @@
+-- A tree and its joined tree are written as the same text.
+use Rattle.std.proofs.Common.{◌≡◌, ℕ, zero, suc, ◌+◌, ◌*◌, List, [], ◌∷◌, ◌++◌, replicate, map, Option, Some, None}
+use Rattle.std.proofs.Common.{Bool, true, false, refl, sym, ◌∙◌, subst, ap, append_assoc}
+use Rattle.std.specs.Prelude.{◌==◌, not, codes, if◌then◌else◌, option_map}
+use Rattle.fluent_syntax_tree.specs.Tree.{KeyTree, ExpressionTree, select, inline, InlineTree, string_literal}
+use Rattle.fluent_syntax_tree.specs.Tree.{number_literal, function_reference, message_reference, term_reference}
+use Rattle.fluent_syntax_tree.specs.Tree.{variable_reference, inline_placeable, ArgumentsTree, arguments}
+use Rattle.fluent_syntax_tree.specs.Tree.{MaybeArguments, no_arguments, some_arguments, InlineTrees, no_inlines}
+use Rattle.fluent_syntax_tree.specs.Tree.{inlines, NamedTree, NamedTrees, no_named, nameds, named_argument}
+use Rattle.fluent_syntax_tree.specs.Tree.{text_element, placeable, PatternTree, no_elements, elements, VariantTrees}
+use Rattle.fluent_syntax_tree.specs.Tree.{no_variants, variants, variant}
+use Rattle.fluent_syntax_tree.specs.Entry.{AttributeTree, MessageTree, TermTree, message, term, comment, junk, BodyTree}
+use Rattle.fluent_syntax_tree.specs.declared.edition.Edition.{Edition}
+use Rattle.fluent_syntax_tree.specs.declared.edition.Edition.TheVariants.{One}
+use Rattle.fluent_syntax_grammar.specs.PatternTexts.{ends_in_lf, is_empty, is_lone_lf}
+use Rattle.fluent_syntax_grammar.specs.Bytes.{lf, space}
+use Rattle.fluent_syntax_grammar.specs.Spellings.{is_name}
+use Rattle.fluent_syntax_grammar.specs.Written.{Text, Mark, literal, line_end, last_of, is_last, mark_text, text_after}
+use Rattle.fluent_syntax_grammar.specs.Written.{begins_with_mark}
+use Rattle.fluent_syntax_grammar.specs.Written.{has_leading_mark, opening_mark, inner_level, attribute_marks}
+use Rattle.fluent_syntax_grammar.specs.Written.{default_marks, key_text, joined, more_joined, expression_marks}
+use Rattle.fluent_syntax_grammar.specs.Written.{variants_marks, variant_marks, inline_marks, maybe_marks}
+use Rattle.fluent_syntax_grammar.specs.Written.{arguments_marks, positional_marks, named_marks, argument_marks}
+use Rattle.fluent_syntax_grammar.specs.Written.{elements_marks, element_marks, pattern_marks, own_comment_marks}
+use Rattle.fluent_syntax_grammar.specs.Written.{attribute_line_marks, attributes_marks, value_marks, message_marks}
+use Rattle.fluent_syntax_grammar.specs.Written.{term_marks, body_marks, written}
+use Rattle.fluent_syntax_grammar.specs.Readable.{has_field}
+use Rattle.fluent_syntax_grammar.specs.Rules.{option_obeys, message_obeys, term_obeys, entry_obeys, body_obeys}
+use Rattle.fluent_syntax_grammar.specs.Canonical.{canonical_rules, is_canonical}
+use Rattle.fluent_syntax_grammar.specs.Joined.{is_joined, joined_expression, joined_inline, joined_maybe}
+use Rattle.fluent_syntax_grammar.specs.Joined.{joined_arguments, joined_inlines, joined_nameds, joined_named}
+use Rattle.fluent_syntax_grammar.specs.Joined.{joined_variants, joined_pattern, joined_after, joined_attribute}
+use Rattle.fluent_syntax_grammar.specs.Joined.{joined_message, joined_term, joined_body}
+use Rattle.fluent_syntax_grammar.specs.RoundTrip.{ReadsBackJoined}
+use Rattle.fluent_syntax_grammar.proofs.Facts.{left_true, right_true, equal, append_nothing}
+use Rattle.fluent_syntax_grammar.proofs.forward.Bodies.{IsWritten, nothing, a_message, a_term, a_comment, reads_back}
+use Rattle.fluent_syntax_grammar.proofs.marks.WrittenBytes.{line_indent}
+use Rattle.fluent_syntax_grammar.proofs.JoinedLines.{multiline_same}
+use Rattle.fluent_syntax_grammar.proofs.marks.LastBytes.{last_append}
+use Rattle.fluent_syntax_grammar.proofs.marks.Words.{literal_after, literal_at}
+use Rattle.fluent_syntax_grammar.proofs.marks.Entries.{message_then, term_then, free_then, Starting, message_starts}
+use Rattle.fluent_syntax_grammar.proofs.marks.Entries.{term_starts, free_starts}
+use Rattle.fluent_syntax_grammar.proofs.Tests.{not_true}
+
+-- ---- marks that give the same text, whatever stands before and after them
+
+abbrev pub SameText : (xs ys : List Mark) → Type 0
+SameText xs ys = (last : Option ℕ) (ms : List Mark) → text_after last (xs ++ ms) ≡ text_after last (ys ++ ms)
+
+same : (xs : List Mark) → SameText xs xs
+same xs last ms = refl
+
+same_cons : (m : Mark) (xs ys : List Mark) → SameText xs ys → SameText (m ∷ xs) (m ∷ ys)
+same_cons m xs ys h last ms = ap (λ t. mark_text last m ++ t) (h (last_of last (mark_text last m)) ms)
+
+same_under : (front xs ys : List Mark) → SameText xs ys → SameText (front ++ xs) (front ++ ys)
+same_under [] xs ys h = h
+same_under (m ∷ front) xs ys h = same_cons m (front ++ xs) (front ++ ys) (same_under front xs ys h)
+
+same_append : (as' bs xs ys : List Mark) → SameText as' bs → SameText xs ys → SameText (as' ++ xs) (bs ++ ys)
+same_append as' bs xs ys g h last ms =
+    ap (text_after last) (append_assoc as' xs ms) ∙ g last (xs ++ ms)
+    ∙ sym (ap (text_after last) (append_assoc bs xs ms)) ∙ same_under bs xs ys h last ms
+
+-- lists of marks, each of which gives the same
+data SameLists : (xs ys : List (List Mark)) → Type 0 where
+  no_lists : SameLists [] []
+  more_lists : {x y : List Mark} {xs ys : List (List Mark)} → SameText x y → SameLists xs ys →
+      SameLists (x ∷ xs) (y ∷ ys)
+
+lists_append : (as' bs xs ys : List (List Mark)) → SameLists as' bs → SameLists xs ys → SameLists (as' ++ xs) (bs ++ ys)
+lists_append [] [] xs ys no_lists h = h
+lists_append [] (b ∷ bs) xs ys g h = elim g [ ]
+lists_append (a ∷ as') [] xs ys g h = elim g [ ]
+lists_append (a ∷ as') (b ∷ bs) xs ys (more_lists g gs) h = more_lists g (lists_append as' bs xs ys gs h)
+
+same_more : (level : ℕ) (xs ys : List (List Mark)) → SameLists xs ys →
+    SameText (more_joined level xs) (more_joined level ys)
+same_more level [] [] no_lists = same []
+same_more level [] (y ∷ ys) g = elim g [ ]
+same_more level (x ∷ xs) [] g = elim g [ ]
+same_more level (x ∷ xs) (y ∷ ys) (more_lists g gs) =
+    same_cons (literal level (codes ", ")) (x ++ more_joined level xs) (y ++ more_joined level ys)
+    (same_append x y (more_joined level xs) (more_joined level ys) g (same_more level xs ys gs))
+
+same_joined : (level : ℕ) (xs ys : List (List Mark)) → SameLists xs ys → SameText (joined level xs) (joined level ys)
+same_joined level [] [] no_lists = same []
+same_joined level [] (y ∷ ys) g = elim g [ ]
+same_joined level (x ∷ xs) [] g = elim g [ ]
+same_joined level (x ∷ xs) (y ∷ ys) (more_lists g gs) =
+    same_append x y (more_joined level xs) (more_joined level ys) g (same_more level xs ys gs)
+
+-- ---- a text and a lone LF
+
+lone_is : (w : Text) → is_lone_lf w ≡ true → w ≡ lf ∷ []
+lone_is [] e = cc
+lone_is (b ∷ bs) e =
+    lone_at b bs (equal b lf (left_true (b == lf) (is_empty bs) e)) (right_true (b == lf) (is_empty bs) e)
+  where
+    lone_at : (b : ℕ) (bs : Text) → b ≡ lf → is_empty bs ≡ true → b ∷ bs ≡ lf ∷ []
+    lone_at b [] e f = ap (λ b. b ∷ []) e
+    lone_at b (c ∷ bs) e f = cc
+
+spaces_end : (n : ℕ) → is_last lf (last_of (Some space) (replicate n space)) ≡ false
+spaces_end zero = refl
+spaces_end (suc n) = spaces_end n
+
+-- after nothing
+nothing_then : (at_line : Bool) (n : ℕ) (last : Option ℕ) (ms : List Mark) → is_last lf last ≡ at_line →
+    ((if at_line then replicate n space else []) ++ []) ++
+    (((if is_last lf (last_of last ((if at_line then replicate n space else []) ++ [])) then replicate n space else
+    []) ++ (lf ∷ [])) ++
+    text_after (last_of (last_of last ((if at_line then replicate n space else []) ++ []))
+    ((if is_last lf (last_of last ((if at_line then replicate n space else []) ++ [])) then replicate n space
+    else []) ++ (lf ∷ []))) ms)
+    ≡ ((if at_line then replicate n space else []) ++ (lf ∷ [])) ++
+    text_after (last_of last ((if at_line then replicate n space else []) ++ (lf ∷ []))) ms
+nothing_then false n last ms e = rw e refl
+nothing_then true zero last ms e = rw e refl
+nothing_then true (suc n) last ms e =
+    rw (append_nothing (replicate n space), spaces_end n, last_append (replicate n space) (Some space) lf [])
+    (ap (λ t. space ∷ t) (sym (append_assoc (replicate n space) (lf ∷ []) (text_after (Some lf) ms))))
+
+two_as_one : (level : ℕ) (v : Text) (ms : List Mark) (last : Option ℕ) → ends_in_lf v ≡ false →
+    text_after last (literal level v ∷ literal level (lf ∷ []) ∷ ms)
+    ≡ text_after last (literal level (v ++ (lf ∷ [])) ∷ ms)
+two_as_one level [] ms last e = nothing_then (is_last lf last) (4 * level) last ms refl
+two_as_one level (c ∷ v) ms last e =
+    let at_line = is_last lf last in
+    literal_at last at_line level c v (literal level (lf ∷ []) ∷ ms) refl
+    ∙ ap (λ t. line_indent level at_line ++ ((c ∷ v) ++ t))
+    (literal_after (last_of None (c ∷ v)) level (lf ∷ []) ms e)
+    ∙ ap (λ t. line_indent level at_line ++ t)
+    (sym (append_assoc (c ∷ v) (lf ∷ []) (text_after (Some lf) ms))
+    ∙ ap (λ o. (c ∷ (v ++ (lf ∷ []))) ++ text_after o ms) (sym (last_append v (Some c) lf [])))
+    ∙ sym (literal_at last at_line level c (v ++ (lf ∷ [])) ms refl)
+
+joined_parts : (v w : Text) → is_joined v w ≡ true → (w ≡ lf ∷ []) × (ends_in_lf v ≡ false)
+joined_parts v w e = (
+  lone_is w (left_true (is_lone_lf w) (not (ends_in_lf v)) e),
+  not_true (ends_in_lf v) (right_true (is_lone_lf w) (not (ends_in_lf v)) e),
+)
+
+-- a text, a lone LF and more
+two_same : (level : ℕ) (v w : Text) (xs ys : List Mark) → is_joined v w ≡ true → SameText xs ys →
+    SameText (literal level v ∷ literal level w ∷ xs) (literal level (v ++ w) ∷ ys)
+two_same level v w xs ys e h last ms =
+    let p = joined_parts v w e in
+    subst (λ w. text_after last (literal level v ∷ literal level w ∷ (xs ++ ms))
+    ≡ text_after last (literal level (v ++ w) ∷ (ys ++ ms))) (sym p.0)
+    (two_as_one level v (xs ++ ms) last p.1 ∙ same_cons (literal level (v ++ (lf ∷ []))) xs ys h last ms)
+
+-- ---- how a joined pattern opens
+
+begins_same : (v w : Text) → is_joined v w ≡ true → begins_with_mark (v ++ w) ≡ begins_with_mark v
+begins_same [] w e = let p = joined_parts [] w e in rw (p.0) refl
+begins_same (b ∷ v) w e = refl
+
+after_text_leading : (v w : Text) (es : PatternTree Text) (x : Bool) → is_joined v w ≡ x →
+    has_leading_mark
+    (if x then elements (text_element (v ++ w)) (joined_pattern es) else elements (text_element v)
+    (joined_after w es)) ≡ begins_with_mark v
+after_text_leading v w es true e = begins_same v w e
+after_text_leading v w es false e = refl
+
+leading_same : (p : PatternTree Text) → has_leading_mark (joined_pattern p) ≡ has_leading_mark p
+leading_same no_elements = refl
+leading_same (elements (placeable e) es) = refl
+leading_same (elements (text_element v) no_elements) = refl
+leading_same (elements (text_element v) (elements (placeable e) es)) = refl
+leading_same (elements (text_element v) (elements (text_element w) es)) = after_text_leading v w es (is_joined v w) refl
+
+opening_same : (level : ℕ) (p : PatternTree Text) → opening_mark level (joined_pattern p) ≡ opening_mark level p
+opening_same level p = rw (multiline_same p, leading_same p) refl
+
+inner_same : (level : ℕ) (p : PatternTree Text) → inner_level level (joined_pattern p) ≡ inner_level level p
+inner_same level p = rw (multiline_same p) refl
+
+-- ---- each node
+
+same_pattern : (level : ℕ) (p : PatternTree Text) →
+    ((l : ℕ) → SameText (elements_marks l p) (elements_marks l (joined_pattern p))) →
+    SameText (pattern_marks level p) (pattern_marks level (joined_pattern p))
+same_pattern level p h =
+    subst (λ m. SameText (pattern_marks level p)
+    (m ∷ elements_marks (inner_level level (joined_pattern p)) (joined_pattern p))) (sym (opening_same level p))
+    (subst (λ l. SameText (pattern_marks level p) (opening_mark level p ∷ elements_marks l (joined_pattern p)))
+    (sym (inner_same level p))
+    (same_cons (opening_mark level p) (elements_marks (inner_level level p) p)
+    (elements_marks (inner_level level p) (joined_pattern p)) (h (inner_level level p))))
+
+-- in braces
+same_wrapped : (front close : Mark) (xs ys : List Mark) → SameText xs ys →
+    SameText (front ∷ (xs ++ (close ∷ []))) (front ∷ (ys ++ (close ∷ [])))
+same_wrapped front close xs ys h =
+    same_cons front (xs ++ (close ∷ [])) (ys ++ (close ∷ []))
+    (same_append xs ys (close ∷ []) (close ∷ []) h (same (close ∷ [])))
+
+after_text : (level : ℕ) (v w : Text) (es : PatternTree Text) (x : Bool) → is_joined v w ≡ x →
+    SameText (elements_marks level es) (elements_marks level (joined_pattern es)) →
+    SameText (literal level w ∷ elements_marks level es) (elements_marks level (joined_after w es)) →
+    SameText (literal level v ∷ literal level w ∷ elements_marks level es)
+    (elements_marks level
+    (if x then elements (text_element (v ++ w)) (joined_pattern es) else elements (text_element v)
+    (joined_after w es)))
+after_text level v w es true e g h =
+    two_same level v w (elements_marks level es) (elements_marks level (joined_pattern es)) e g
+after_text level v w es false e g h =
+    same_cons (literal level v) (literal level w ∷ elements_marks level es) (elements_marks level (joined_after w es)) h
+
+same_select : (level : ℕ) (e : InlineTree Text) (vs : VariantTrees Text) →
+    SameText (inline_marks level e) (inline_marks level (joined_inline e)) →
+    SameText (variants_marks (level + 1) vs) (variants_marks (level + 1) (joined_variants vs)) →
+    SameText (expression_marks level (select e vs)) (expression_marks level (joined_expression (select e vs)))
+same_select level e vs g h =
+    let xs = variants_marks (level + 1) vs in
+    let ys = variants_marks (level + 1) (joined_variants vs) in
+    same_append (inline_marks level e) (inline_marks level (joined_inline e))
+    (literal level (codes " ->") ∷ line_end ∷ xs) (literal level (codes " ->") ∷ line_end ∷ ys) g
+    (same_cons (literal level (codes " ->")) (line_end ∷ xs) (line_end ∷ ys) (same_cons line_end xs ys h))
+
+same_variant : (level : ℕ) (key : KeyTree Text) (value : PatternTree Text) (default : Bool) →
+    SameText (pattern_marks level value) (pattern_marks level (joined_pattern value)) →
+    SameText (variant_marks level (variant key value default))
+    (variant_marks level (variant key (joined_pattern value) default))
+same_variant level key value default h =
+    let k = literal level (key_text key) in
+    let c = literal level (codes "]") in
+    let xs = pattern_marks level value in
+    let ys = pattern_marks level (joined_pattern value) in
+    same_under (default_marks level default) (literal level (codes "[") ∷ k ∷ c ∷ xs)
+    (literal level (codes "[") ∷ k ∷ c ∷ ys)
+    (same_cons (literal level (codes "[")) (k ∷ c ∷ xs) (k ∷ c ∷ ys)
+    (same_cons k (c ∷ xs) (c ∷ ys) (same_cons c xs ys h)))
+
+same_function : (level : ℕ) (id : Text) (a : ArgumentsTree Text) →
+    SameText (arguments_marks level a) (arguments_marks level (joined_arguments a)) →
+    SameText (inline_marks level (function_reference id a))
+    (inline_marks level (joined_inline (function_reference id a)))
+same_function level id a h =
+    same_cons (literal level id) (arguments_marks level a) (arguments_marks level (joined_arguments a)) h
+
+same_term : (level : ℕ) (id : Text) (b : Option Text) (a : MaybeArguments Text) →
+    SameText (maybe_marks level a) (maybe_marks level (joined_maybe a)) →
+    SameText (inline_marks level (term_reference id b a)) (inline_marks level (joined_inline (term_reference id b a)))
+same_term level id b a h =
+    let xs = attribute_marks level b ++ maybe_marks level a in
+    let ys = attribute_marks level b ++ maybe_marks level (joined_maybe a) in
+    same_cons (literal level (codes "-")) (literal level id ∷ xs) (literal level id ∷ ys)
+    (same_cons (literal level id) xs ys
+    (same_under (attribute_marks level b) (maybe_marks level a) (maybe_marks level (joined_maybe a)) h))
+
+mutual
+  same_expression : (level : ℕ) (e : ExpressionTree Text) →
+      SameText (expression_marks level e) (expression_marks level (joined_expression e))
+  same_expression level (select e vs) = same_select level e vs (same_inline level e) (same_variants (level + 1) vs)
+  same_expression level (inline e) = same_inline level e
+
+  same_inline : (level : ℕ) (e : InlineTree Text) →
+      SameText (inline_marks level e) (inline_marks level (joined_inline e))
+  same_inline level (string_literal v) = λ last ms. refl
+  same_inline level (number_literal v) = λ last ms. refl
+  same_inline level (function_reference id a) = same_function level id a (same_arguments level a)
+  same_inline level (message_reference id a) = λ last ms. refl
+  same_inline level (term_reference id b a) = same_term level id b a (same_maybe level a)
+  same_inline level (variable_reference id) = λ last ms. refl
+  same_inline level (inline_placeable e) =
+      same_wrapped (literal level (codes "{")) (literal level (codes "}")) (expression_marks level e)
+      (expression_marks level (joined_expression e)) (same_expression level e)
+
+  same_maybe : (level : ℕ) (a : MaybeArguments Text) →
+      SameText (maybe_marks level a) (maybe_marks level (joined_maybe a))
+  same_maybe level no_arguments = same []
+  same_maybe level (some_arguments a) = same_arguments level a
+
+  same_arguments : (level : ℕ) (a : ArgumentsTree Text) →
+      SameText (arguments_marks level a) (arguments_marks level (joined_arguments a))
+  same_arguments level (arguments ps ns) =
+      let xs = positional_marks level ps ++ named_marks level ns in
+      let ys = positional_marks level (joined_inlines ps) ++ named_marks level (joined_nameds ns) in
+      same_wrapped (literal level (codes "(")) (literal level (codes ")")) (joined level xs) (joined level ys)
+      (same_joined level xs ys
+      (lists_append (positional_marks level ps) (positional_marks level (joined_inlines ps))
+      (named_marks level ns) (named_marks level (joined_nameds ns)) (same_inlines level ps)
+      (same_nameds level ns)))
+
+  same_inlines : (level : ℕ) (ps : InlineTrees Text) →
+      SameLists (positional_marks level ps) (positional_marks level (joined_inlines ps))
+  same_inlines level no_inlines = no_lists
+  same_inlines level (inlines e es) = more_lists (same_inline level e) (same_inlines level es)
+
+  same_nameds : (level : ℕ) (ns : NamedTrees Text) →
+      SameLists (named_marks level ns) (named_marks level (joined_nameds ns))
+  same_nameds level no_named = no_lists
+  same_nameds level (nameds n ns) = more_lists (same_named level n) (same_nameds level ns)
+
+  same_named : (level : ℕ) (n : NamedTree Text) →
+      SameText (argument_marks level n) (argument_marks level (joined_named n))
+  same_named level (named_argument name e) =
+      let xs = inline_marks level e in
+      let ys = inline_marks level (joined_inline e) in
+      same_cons (literal level name) (literal level (codes ": ") ∷ xs) (literal level (codes ": ") ∷ ys)
+      (same_cons (literal level (codes ": ")) xs ys (same_inline level e))
+
+  same_variants : (level : ℕ) (vs : VariantTrees Text) →
+      SameText (variants_marks level vs) (variants_marks level (joined_variants vs))
+  same_variants level no_variants = same []
+  same_variants level (variants (variant key value default) vs) =
+      let xs = variants_marks level vs in
+      let ys = variants_marks level (joined_variants vs) in
+      same_append (variant_marks level (variant key value default))
+      (variant_marks level (variant key (joined_pattern value) default)) (line_end ∷ xs) (line_end ∷ ys)
+      (same_variant level key value default (same_pattern level value (λ l. same_elements l value)))
+      (same_cons line_end xs ys (same_variants level vs))
+
+  pub same_elements : (level : ℕ) (p : PatternTree Text) →
+      SameText (elements_marks level p) (elements_marks level (joined_pattern p))
+  same_elements level no_elements = same []
+  same_elements level (elements (placeable e) es) =
+      same_append (element_marks level (placeable e)) (element_marks level (placeable (joined_expression e)))
+      (elements_marks level es) (elements_marks level (joined_pattern es)) (same_placeable level e)
+      (same_elements level es)
+  same_elements level (elements (text_element v) es) = same_after level es v
+
+  same_after : (level : ℕ) (es : PatternTree Text) (v : Text) →
+      SameText (literal level v ∷ elements_marks level es) (elements_marks level (joined_after v es))
+  same_after level no_elements v = λ last ms. refl
+  same_after level (elements (placeable e) es) v =
+      let xs = element_marks level (placeable e) ++ elements_marks level es in
+      let ys = element_marks level (placeable (joined_expression e)) ++ elements_marks level (joined_pattern es) in
+      same_cons (literal level v) xs ys
+      (same_append (element_marks level (placeable e)) (element_marks level (placeable (joined_expression e)))
+      (elements_marks level es) (elements_marks level (joined_pattern es)) (same_placeable level e)
+      (same_elements level es))
+  same_after level (elements (text_element w) es) v =
+      after_text level v w es (is_joined v w) refl (same_elements level es) (same_after level es w)
+
+  same_placeable : (level : ℕ) (e : ExpressionTree Text) →
+      SameText (element_marks level (placeable e)) (element_marks level (placeable (joined_expression e)))
+  same_placeable level (select e vs) =
+      same_wrapped (literal level (codes "{ ")) (literal level (codes "}")) (expression_marks level (select e vs))
+      (expression_marks level (joined_expression (select e vs)))
+      (same_select level e vs (same_inline level e) (same_variants (level + 1) vs))
+  same_placeable level (inline (string_literal v)) = λ last ms. refl
+  same_placeable level (inline (number_literal v)) = λ last ms. refl
+  same_placeable level (inline (function_reference id a)) =
+      same_wrapped (literal level (codes "{ ")) (literal level (codes " }"))
+      (inline_marks level (function_reference id a)) (inline_marks level (joined_inline (function_reference id a)))
+      (same_function level id a (same_arguments level a))
+  same_placeable level (inline (message_reference id a)) = λ last ms. refl
+  same_placeable level (inline (term_reference id b a)) =
+      same_wrapped (literal level (codes "{ ")) (literal level (codes " }"))
+      (inline_marks level (term_reference id b a)) (inline_marks level (joined_inline (term_reference id b a)))
+      (same_term level id b a (same_maybe level a))
+  same_placeable level (inline (variable_reference id)) = λ last ms. refl
+  same_placeable level (inline (inline_placeable e)) =
+      same_wrapped (literal level (codes "{{ ")) (literal level (codes " }}")) (expression_marks level e)
+      (expression_marks level (joined_expression e)) (same_expression level e)
+
+-- ---- entries
+
+pattern_text : (level : ℕ) (p : PatternTree Text) →
+    SameText (pattern_marks level p) (pattern_marks level (joined_pattern p))
+pattern_text level p = same_pattern level p (λ l. same_elements l p)
+
+value_text : (value : Option (PatternTree Text)) →
+    SameText (value_marks value) (value_marks (option_map joined_pattern value))
+value_text None = same []
+value_text (Some p) = pattern_text 0 p
+
+attribute_text : (a : AttributeTree Text) →
+    SameText (attribute_line_marks a) (attribute_line_marks (joined_attribute a))
+attribute_text a =
+    let i = literal 1 a.id in
+    let q = literal 1 (codes " =") in
+    let xs = pattern_marks 1 a.value in
+    let ys = pattern_marks 1 (joined_pattern a.value) in
+    same_cons line_end (literal 1 (codes ".") ∷ i ∷ q ∷ xs) (literal 1 (codes ".") ∷ i ∷ q ∷ ys)
+    (same_cons (literal 1 (codes ".")) (i ∷ q ∷ xs) (i ∷ q ∷ ys)
+    (same_cons i (q ∷ xs) (q ∷ ys) (same_cons q xs ys (pattern_text 1 a.value))))
+
+attributes_text : (more : List (AttributeTree Text)) →
+    SameText (attributes_marks more) (attributes_marks (map joined_attribute more))
+attributes_text [] = same []
+attributes_text (a ∷ rest) =
+    same_append (attribute_line_marks a) (attribute_line_marks (joined_attribute a)) (attributes_marks rest)
+    (attributes_marks (map joined_attribute rest)) (attribute_text a) (attributes_text rest)
+
+-- the value, the attributes and the line end
+fields_text : (xs ys : List Mark) (more : List (AttributeTree Text)) → SameText xs ys →
+    SameText (xs ++ (attributes_marks more ++ (line_end ∷ [])))
+    (ys ++ (attributes_marks (map joined_attribute more) ++ (line_end ∷ [])))
+fields_text xs ys more h =
+    same_append xs ys (attributes_marks more ++ (line_end ∷ []))
+    (attributes_marks (map joined_attribute more) ++ (line_end ∷ [])) h
+    (same_append (attributes_marks more) (attributes_marks (map joined_attribute more)) (line_end ∷ [])
+    (line_end ∷ []) (attributes_text more) (same (line_end ∷ [])))
+
+message_text : (m : MessageTree Text) → SameText (message_marks m) (message_marks (joined_message m))
+message_text m =
+    let i = literal 0 m.id in
+    let q = literal 0 (codes " =") in
+    let xs = value_marks m.value ++ (attributes_marks m.attributes ++ (line_end ∷ [])) in
+    let ys =
+    value_marks (option_map joined_pattern m.value) ++
+    (attributes_marks (map joined_attribute m.attributes) ++ (line_end ∷ [])) in
+    same_under (own_comment_marks m.comment) (i ∷ q ∷ xs) (i ∷ q ∷ ys)
+    (same_cons i (q ∷ xs) (q ∷ ys)
+    (same_cons q xs ys
+    (fields_text (value_marks m.value) (value_marks (option_map joined_pattern m.value)) m.attributes
+    (value_text m.value))))
+
+term_text : (m : TermTree Text) → SameText (term_marks m) (term_marks (joined_term m))
+term_text m =
+    let d = literal 0 (codes "-") in
+    let i = literal 0 m.id in
+    let q = literal 0 (codes " =") in
+    let xs = pattern_marks 0 m.value ++ (attributes_marks m.attributes ++ (line_end ∷ [])) in
+    let ys =
+    pattern_marks 0 (joined_pattern m.value) ++
+    (attributes_marks (map joined_attribute m.attributes) ++ (line_end ∷ [])) in
+    same_under (own_comment_marks m.comment) (d ∷ i ∷ q ∷ xs) (d ∷ i ∷ q ∷ ys)
+    (same_cons d (i ∷ q ∷ xs) (i ∷ q ∷ ys)
+    (same_cons i (q ∷ xs) (q ∷ ys)
+    (same_cons q xs ys
+    (fields_text (pattern_marks 0 m.value) (pattern_marks 0 (joined_pattern m.value)) m.attributes
+    (pattern_text 0 m.value)))))
+
+-- ---- bodies, without junk
+
+module _ (edition : Edition) where
+  joined_then : (es : BodyTree Text) (follows : Bool) → body_obeys (canonical_rules edition) (joined_body es) ≡ true →
+      IsWritten (joined_body es) (text_after (Some lf) (body_marks false follows es))
+  joined_then [] follows h = nothing
+  joined_then (message m ∷ es) follows h =
+      let rest = body_marks false true es in
+      let this = left_true (message_obeys (canonical_rules edition) (joined_message m)) _ h in
+      subst (IsWritten (joined_body (message m ∷ es)))
+      (sym (message_text m (Some lf) rest ∙ message_then edition (joined_message m) rest this))
+      (a_message (joined_message m) (joined_body es) (text_after (Some lf) rest)
+      (joined_then es true (right_true (message_obeys (canonical_rules edition) (joined_message m)) _ h)))
+  joined_then (term m ∷ es) follows h =
+      let rest = body_marks false true es in
+      let this = left_true (term_obeys (canonical_rules edition) (joined_term m)) _ h in
+      subst (IsWritten (joined_body (term m ∷ es)))
+      (sym (term_text m (Some lf) rest ∙ term_then edition (joined_term m) rest this))
+      (a_term (joined_term m) (joined_body es) (text_after (Some lf) rest)
+      (joined_then es true (right_true (term_obeys (canonical_rules edition) (joined_term m)) _ h)))
+  joined_then (comment level content ∷ es) follows h =
+      let rest = body_marks false true es in
+      subst (IsWritten (joined_body (comment level content ∷ es))) (sym (free_then edition follows level content rest))
+      (a_comment follows level content (joined_body es) (text_after (Some lf) rest)
+      (joined_then es true (right_true (entry_obeys (canonical_rules edition) (comment level content)) _ h)))
+  joined_then (junk x ∷ es) follows h = joined_then es false h
+
+  joined_starts : (es : BodyTree Text) → body_obeys (canonical_rules edition) (joined_body es) ≡ true →
+      Starting (body_marks false false es)
+  joined_starts [] h = refl
+  joined_starts (message m ∷ es) h =
+      let this = left_true (message_obeys (canonical_rules edition) (joined_message m)) _ h in
+      message_starts m (body_marks false true es)
+      (left_true (is_name m.id)
+      _ (right_true (option_obeys (canonical_rules edition).comment m.comment)
+      _ (right_true (has_field (option_map joined_pattern m.value) (map joined_attribute m.attributes))
+      _ this)))
+  joined_starts (term m ∷ es) h = term_starts m (body_marks false true es)
+  joined_starts (comment level content ∷ es) h = free_starts level content (body_marks false true es)
+  joined_starts (junk x ∷ es) h = joined_starts es h
+
+joined_written : (es : BodyTree Text) → is_canonical One (joined_body es) ≡ true →
+    IsWritten (joined_body es) (written false es)
+unfolding written
+joined_written es h = subst (IsWritten (joined_body es)) (sym (joined_starts One es h)) (joined_then One es false h)
+
+pub joined_back : (es : BodyTree Text) → ReadsBackJoined es
+joined_back es h = reads_back One (joined_body es) (written false es) h (joined_written es h)

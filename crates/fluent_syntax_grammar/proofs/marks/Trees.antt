@@ -1,0 +1,513 @@
+-- From marks to bytes, down the tree.
+use Rattle.std.proofs.Common.{◌≡◌, ℕ, ◌+◌, List, [], ◌∷◌, ◌++◌, Option, Some, None, Bool, true, false, refl, sym, ◌∙◌}
+use Rattle.std.proofs.Common.{ap, append_assoc}
+use Rattle.std.specs.Prelude.{◌==◌, ◌&&◌, codes, if◌then◌else◌}
+use Rattle.std.specs.List.{list_all}
+use Rattle.fluent_syntax_tree.specs.Tree.{KeyTree, ExpressionTree, select, inline, InlineTree, string_literal}
+use Rattle.fluent_syntax_tree.specs.Tree.{number_literal, function_reference, message_reference, term_reference}
+use Rattle.fluent_syntax_tree.specs.Tree.{variable_reference, inline_placeable, ArgumentsTree, arguments}
+use Rattle.fluent_syntax_tree.specs.Tree.{MaybeArguments, no_arguments, some_arguments, InlineTrees, no_inlines}
+use Rattle.fluent_syntax_tree.specs.Tree.{inlines, NamedTree, NamedTrees, no_named, nameds, named_argument, ElementTree}
+use Rattle.fluent_syntax_tree.specs.Tree.{text_element, placeable, PatternTree, no_elements, elements, VariantTrees}
+use Rattle.fluent_syntax_tree.specs.Tree.{no_variants, variants, variant}
+use Rattle.fluent_syntax_tree.specs.declared.edition.Edition.{Edition}
+use Rattle.fluent_syntax_grammar.specs.PatternTexts.{ends_in_lf}
+use Rattle.fluent_syntax_grammar.specs.Bytes.{lf, cr, space}
+use Rattle.fluent_syntax_grammar.specs.Inline.{is_callee_byte}
+use Rattle.fluent_syntax_grammar.specs.Spellings.{is_name}
+use Rattle.fluent_syntax_grammar.specs.Written.{Text, Mark, literal, line_end, last_of, is_last, text_after, indent}
+use Rattle.fluent_syntax_grammar.specs.Written.{short_indent, key_text, opens_line, inner_level, is_multiline}
+use Rattle.fluent_syntax_grammar.specs.Written.{attribute_marks, more_joined, expression_marks, variants_marks}
+use Rattle.fluent_syntax_grammar.specs.Written.{variant_marks, inline_marks, maybe_marks, arguments_marks}
+use Rattle.fluent_syntax_grammar.specs.Written.{positional_marks, named_marks, argument_marks, elements_marks}
+use Rattle.fluent_syntax_grammar.specs.Written.{element_marks, pattern_marks}
+use Rattle.fluent_syntax_grammar.specs.Rules.{inline_obeys, maybe_obeys, arguments_obey, inlines_obey, nameds_obey}
+use Rattle.fluent_syntax_grammar.specs.Rules.{named_obeys, expression_obeys, variants_obey, variant_obeys, key_obeys}
+use Rattle.fluent_syntax_grammar.specs.Rules.{option_obeys, elements_obey, pattern_obeys}
+use Rattle.fluent_syntax_grammar.specs.Readable.{Stand, opening, stand_after, after_placeable, are_named_well}
+use Rattle.fluent_syntax_grammar.specs.Readable.{ends_well, is_pattern, is_text, stands_well}
+use Rattle.fluent_syntax_grammar.specs.Readable.{are_elements}
+use Rattle.fluent_syntax_grammar.specs.Canonical.{canonical_rules, is_flush}
+use Rattle.fluent_syntax_grammar.proofs.Obeys.{inline_part, select_parts}
+use Rattle.fluent_syntax_grammar.proofs.Facts.{left_true, right_true}
+use Rattle.fluent_syntax_grammar.proofs.marks.WrittenBytes.{attribute_bytes, line_indent, opening_byte}
+use Rattle.fluent_syntax_grammar.proofs.marks.WrittenBytes.{expression_bytes, variants_bytes, variant_bytes}
+use Rattle.fluent_syntax_grammar.proofs.marks.WrittenBytes.{inline_bytes, maybe_bytes, arguments_bytes}
+use Rattle.fluent_syntax_grammar.proofs.marks.WrittenBytes.{positional_bytes, named_bytes, argument_bytes}
+use Rattle.fluent_syntax_grammar.proofs.marks.WrittenBytes.{elements_bytes, element_bytes, pattern_bytes}
+use Rattle.fluent_syntax_grammar.proofs.marks.LastBytes.{Plain, none_plain, plain_same, literal_then, literal_at_line}
+use Rattle.fluent_syntax_grammar.proofs.marks.LastBytes.{last_append, plain_text}
+use Rattle.fluent_syntax_grammar.proofs.marks.Words.{id_plain, number_plain, key_plain, string_last, literal_after}
+use Rattle.fluent_syntax_grammar.proofs.marks.Words.{literal_at, ending, closing_then, plain_byte}
+use Rattle.fluent_syntax_grammar.proofs.forward.Trees.{key_is}
+
+-- a space, an LF and a CR differ from the byte that these marks end with
+pub after_byte : (b : ℕ) (ms : List Mark) → (b == lf) ≡ false → (b == cr) ≡ false →
+    text_after (Some b) ms ≡ text_after None ms
+after_byte b ms e f = plain_same ms (Some b) (plain_byte b e f)
+
+-- ---- what is said of each node
+
+abbrev pub InlineMarks : ℕ → InlineTree Text → Type 0
+InlineMarks level e =
+    (ms : List Mark) → text_after None (inline_marks level e ++ ms) ≡ inline_bytes level e (text_after None ms)
+
+abbrev pub ExpressionMarks : ℕ → ExpressionTree Text → Type 0
+ExpressionMarks level e =
+    (ms : List Mark) →
+    text_after None (expression_marks level e ++ ms) ≡ expression_bytes level e (text_after (ending e) ms)
+
+abbrev MaybeMarks : ℕ → MaybeArguments Text → Type 0
+MaybeMarks level a =
+    (ms : List Mark) → text_after None (maybe_marks level a ++ ms) ≡ maybe_bytes level a (text_after None ms)
+
+abbrev ArgumentsMarks : ℕ → ArgumentsTree Text → Type 0
+ArgumentsMarks level a =
+    (ms : List Mark) → text_after None (arguments_marks level a ++ ms) ≡ arguments_bytes level a (text_after None ms)
+
+-- arguments after the first one
+abbrev MoreMarks : ℕ → InlineTrees Text → Type 0
+MoreMarks level es =
+    (rest : List (List Mark)) (ms : List Mark) →
+    text_after None (more_joined level (positional_marks level es ++ rest) ++ ms)
+    ≡ positional_bytes level false es (text_after None (more_joined level rest ++ ms))
+
+abbrev NamedMarks : ℕ → NamedTrees Text → Type 0
+NamedMarks level ns =
+    (ms : List Mark) →
+    text_after None (more_joined level (named_marks level ns) ++ ms) ≡ named_bytes level false ns (text_after None ms)
+
+abbrev OneMarks : ℕ → NamedTree Text → Type 0
+OneMarks level n =
+    (ms : List Mark) → text_after None (argument_marks level n ++ ms) ≡ argument_bytes level n (text_after None ms)
+
+abbrev VariantsMarks : ℕ → VariantTrees Text → Type 0
+VariantsMarks level vs =
+    (ms : List Mark) →
+    text_after (Some lf) (variants_marks level vs ++ ms) ≡ variants_bytes level vs (text_after (Some lf) ms)
+
+-- an element at the beginning of a line or not
+abbrev PlaceableMarks : ℕ → ExpressionTree Text → Type 0
+PlaceableMarks level x =
+    (last : Option ℕ) (at_line : Bool) (ms : List Mark) → is_last lf last ≡ at_line →
+    text_after last (element_marks level (placeable x) ++ ms)
+    ≡ line_indent level at_line ++ element_bytes level (placeable x) (text_after None ms)
+
+-- where no element follows, the text so far ends plainly
+abbrev Closed : PatternTree Text → Option ℕ → Type 0
+Closed no_elements last = Plain last
+Closed (elements e es) last = Unit {0}
+
+abbrev ElementsMarks : ℕ → PatternTree Text → Type 0
+ElementsMarks level es =
+    (last : Option ℕ) (at_line : Bool) (ms : List Mark) → is_last lf last ≡ at_line → Closed es last →
+    text_after last (elements_marks level es ++ ms) ≡ elements_bytes level at_line es (text_after None ms)
+
+abbrev pub PatternMarks : ℕ → PatternTree Text → Type 0
+PatternMarks level p =
+    (ms : List Mark) → text_after None (pattern_marks level p ++ ms) ≡ pattern_bytes level p (text_after None ms)
+
+-- ---- inline expressions
+
+string_marks : (level : ℕ) (v : Text) → is_last lf (last_of (Some 34) v) ≡ false → InlineMarks level (string_literal v)
+string_marks level v e ms =
+    ap (λ x. 34 ∷ x)
+    (literal_after (Some 34) level v (literal level (34 ∷ []) ∷ ms) refl
+    ∙ ap (λ x. v ++ x)
+    (literal_after (last_of (Some 34) v) level (34 ∷ []) ms e ∙ ap (λ o. 34 ∷ text_after o ms) refl
+    ∙ ap (λ x. 34 ∷ x) (after_byte 34 ms refl refl)))
+
+number_marks : (level : ℕ) (v : Text) → Plain (last_of None v) → InlineMarks level (number_literal v)
+number_marks level v p ms = literal_then level v ms p
+
+attribute_then : (level : ℕ) (a : Option Text) (ms : List Mark) → option_obeys is_name a ≡ true →
+    text_after None (attribute_marks level a ++ ms) ≡ attribute_bytes a (text_after None ms)
+attribute_then level None ms h = refl
+attribute_then level (Some a) ms h =
+    ap (λ x. 46 ∷ x) (after_byte 46 (literal level a ∷ ms) refl refl ∙ literal_then level a ms (id_plain a h))
+
+message_marks : (level : ℕ) (id : Text) (a : Option Text) → is_name id ≡ true → option_obeys is_name a ≡ true →
+    InlineMarks level (message_reference id a)
+message_marks level id a h g ms =
+    literal_then level id (attribute_marks level a ++ ms) (id_plain id h)
+    ∙ ap (λ x. id ++ x) (attribute_then level a ms g)
+
+function_marks : (level : ℕ) (id : Text) (a : ArgumentsTree Text) → is_name id ≡ true → ArgumentsMarks level a →
+    InlineMarks level (function_reference id a)
+function_marks level id a h k ms =
+    literal_then level id (arguments_marks level a ++ ms) (id_plain id h) ∙ ap (λ x. id ++ x) (k ms)
+
+term_marks : (level : ℕ) (id : Text) (a : Option Text) (c : MaybeArguments Text) → is_name id ≡ true →
+    option_obeys is_name a ≡ true → MaybeMarks level c → InlineMarks level (term_reference id a c)
+term_marks level id a c h g k ms =
+    ap (λ x. 45 ∷ x)
+    (after_byte 45 (literal level id ∷ ((attribute_marks level a ++ maybe_marks level c) ++ ms)) refl refl
+    ∙ literal_then level id ((attribute_marks level a ++ maybe_marks level c) ++ ms) (id_plain id h)
+    ∙ ap (λ x. id ++ x)
+    (ap (text_after None) (append_assoc (attribute_marks level a) (maybe_marks level c) ms)
+    ∙ attribute_then level a (maybe_marks level c ++ ms) g ∙ ap (attribute_bytes a) (k ms)))
+
+variable_marks : (level : ℕ) (id : Text) → is_name id ≡ true → InlineMarks level (variable_reference id)
+variable_marks level id h ms =
+    ap (λ x. 36 ∷ x) (after_byte 36 (literal level id ∷ ms) refl refl ∙ literal_then level id ms (id_plain id h))
+
+braces_marks : (level : ℕ) (e : ExpressionTree Text) → ExpressionMarks level e → InlineMarks level (inline_placeable e)
+braces_marks level e k ms =
+    let close = literal level (125 ∷ []) in
+    ap (λ x. 123 ∷ x)
+    (after_byte 123 ((expression_marks level e ++ (close ∷ [])) ++ ms) refl refl
+    ∙ ap (text_after None) (append_assoc (expression_marks level e) (close ∷ []) ms) ∙ k (close ∷ ms)
+    ∙ ap (expression_bytes level e) (closing_then level e 125 [] ms (plain_byte 125 refl refl)))
+
+-- ---- arguments
+
+more_marks : (level : ℕ) (e : InlineTree Text) (es : InlineTrees Text) → InlineMarks level e → MoreMarks level es →
+    MoreMarks level (inlines e es)
+more_marks level e es h k rest ms =
+    let more = more_joined level (positional_marks level es ++ rest) in
+    ap (λ x. 44 ∷ 32 ∷ x)
+    (after_byte 32 ((inline_marks level e ++ more) ++ ms) refl refl
+    ∙ ap (text_after None) (append_assoc (inline_marks level e) more ms) ∙ h (more ++ ms)
+    ∙ ap (inline_bytes level e) (k rest ms))
+
+named_more : (level : ℕ) (n : NamedTree Text) (ns : NamedTrees Text) → OneMarks level n → NamedMarks level ns →
+    NamedMarks level (nameds n ns)
+named_more level n ns h k ms =
+    let more = more_joined level (named_marks level ns) in
+    ap (λ x. 44 ∷ 32 ∷ x)
+    (after_byte 32 ((argument_marks level n ++ more) ++ ms) refl refl
+    ∙ ap (text_after None) (append_assoc (argument_marks level n) more ms) ∙ h (more ++ ms)
+    ∙ ap (argument_bytes level n) (k ms))
+
+one_marks : (level : ℕ) (name : Text) (e : InlineTree Text) → is_name name ≡ true → InlineMarks level e →
+    OneMarks level (named_argument name e)
+one_marks level name e h k ms =
+    literal_then level name (literal level (58 ∷ 32 ∷ []) ∷ (inline_marks level e ++ ms)) (id_plain name h)
+    ∙ ap (λ x. name ++ (58 ∷ 32 ∷ x)) (after_byte 32 (inline_marks level e ++ ms) refl refl ∙ k ms)
+
+-- the list between its parentheses
+parentheses : (level : ℕ) (inside : List Mark) (bytes : Text → Text) →
+    ((ms : List Mark) → text_after None (inside ++ ms) ≡ bytes (text_after None ms)) → (ms : List Mark) →
+    text_after None ((literal level (40 ∷ []) ∷ (inside ++ (literal level (41 ∷ []) ∷ []))) ++ ms)
+    ≡ 40 ∷ bytes (41 ∷ text_after None ms)
+parentheses level inside bytes k ms =
+    let close = literal level (41 ∷ []) in
+    ap (λ x. 40 ∷ x)
+    (after_byte 40 ((inside ++ (close ∷ [])) ++ ms) refl refl
+    ∙ ap (text_after None) (append_assoc inside (close ∷ []) ms) ∙ k (close ∷ ms)
+    ∙ ap (λ x. bytes (41 ∷ x)) (after_byte 41 ms refl refl))
+
+nothing_marks : (level : ℕ) → ArgumentsMarks level (arguments no_inlines no_named)
+nothing_marks level ms = parentheses level [] (λ x. x) (λ ms. refl) ms
+
+named_first : (level : ℕ) (n : NamedTree Text) (ns : NamedTrees Text) → OneMarks level n → NamedMarks level ns →
+    ArgumentsMarks level (arguments no_inlines (nameds n ns))
+named_first level n ns h k ms =
+    let more = more_joined level (named_marks level ns) in
+    parentheses level (argument_marks level n ++ more) (λ x. argument_bytes level n (named_bytes level false ns x))
+    (λ ms. ap (text_after None) (append_assoc (argument_marks level n) more ms) ∙ h (more ++ ms)
+    ∙ ap (argument_bytes level n) (k ms)) ms
+
+positional_first : (level : ℕ) (e : InlineTree Text) (es : InlineTrees Text) (ns : NamedTrees Text) →
+    InlineMarks level e → MoreMarks level es → NamedMarks level ns → ArgumentsMarks level (arguments (inlines e es) ns)
+positional_first level e es ns h k q ms =
+    let more = more_joined level (positional_marks level es ++ named_marks level ns) in
+    parentheses level (inline_marks level e ++ more)
+    (λ x. inline_bytes level e (positional_bytes level false es (named_bytes level false ns x)))
+    (λ ms. ap (text_after None) (append_assoc (inline_marks level e) more ms) ∙ h (more ++ ms)
+    ∙ ap (inline_bytes level e) (k (named_marks level ns) ms ∙ ap (positional_bytes level false es) (q ms))) ms
+
+-- ---- selects
+
+select_marks : (level : ℕ) (e : InlineTree Text) (vs : VariantTrees Text) → InlineMarks level e →
+    VariantsMarks (level + 1) vs → ExpressionMarks level (select e vs)
+select_marks level e vs h k ms =
+    let rest = variants_marks (level + 1) vs in
+    ap (text_after None) (append_assoc (inline_marks level e) (literal level (codes " ->") ∷ line_end ∷ rest) ms)
+    ∙ h (literal level (codes " ->") ∷ line_end ∷ (rest ++ ms))
+    ∙ ap (λ x. inline_bytes level e (32 ∷ 45 ∷ 62 ∷ lf ∷ x)) (k ms)
+
+-- from the bracket on
+bracket : (level : ℕ) (key : KeyTree Text) (value : PatternTree Text) (ms : List Mark) →
+    Plain (last_of None (key_text key)) → PatternMarks level value →
+    text_after None
+    (literal level (codes "[") ∷ literal level (key_text key) ∷ literal level (codes "]") ∷
+    (pattern_marks level value ++ ms))
+    ≡ 91 ∷ (key_text key ++ (93 ∷ pattern_bytes level value (text_after None ms)))
+bracket level key value ms p k =
+    ap (λ x. 91 ∷ x)
+    (after_byte 91 (literal level (key_text key) ∷ literal level (codes "]") ∷ (pattern_marks level value ++ ms))
+    refl refl
+    ∙ literal_then level (key_text key) (literal level (codes "]") ∷ (pattern_marks level value ++ ms)) p
+    ∙ ap (λ x. key_text key ++ (93 ∷ x)) (after_byte 93 (pattern_marks level value ++ ms) refl refl ∙ k ms))
+
+variant_then : (level : ℕ) (key : KeyTree Text) (value : PatternTree Text) (default : Bool) (ms : List Mark) →
+    Plain (last_of None (key_text key)) → PatternMarks level value →
+    text_after (Some lf) (variant_marks level (variant key value default) ++ ms)
+    ≡ variant_bytes level (variant key value default) (text_after None ms)
+variant_then level key value false ms p k =
+    let rest = literal level (key_text key) ∷ literal level (codes "]") ∷ (pattern_marks level value ++ ms) in
+    literal_at_line level 91 [] rest (plain_byte 91 refl refl)
+    ∙ ap (λ x. indent level ++ x) (bracket_same rest ∙ bracket level key value ms p k)
+  where
+    bracket_same : (rest : List Mark) → 91 ∷ text_after None rest ≡ text_after None (literal level (91 ∷ []) ∷ rest)
+    bracket_same rest = ap (λ x. 91 ∷ x) (sym (after_byte 91 rest refl refl))
+variant_then level key value true ms p k =
+    let rest =
+    literal level (codes "[") ∷ literal level (key_text key) ∷ literal level (codes "]") ∷
+    (pattern_marks level value ++ ms) in
+    ap (λ o. (short_indent level ++ (42 ∷ [])) ++ text_after o rest) (last_append (short_indent level) (Some lf) 42 [])
+    ∙ append_assoc (short_indent level) (42 ∷ []) (text_after (Some 42) rest)
+    ∙ ap (λ x. short_indent level ++ (42 ∷ x)) (after_byte 42 rest refl refl ∙ bracket level key value ms p k)
+
+variants_more : (level : ℕ) (key : KeyTree Text) (value : PatternTree Text) (default : Bool) (vs : VariantTrees Text) →
+    Plain (last_of None (key_text key)) → PatternMarks level value → VariantsMarks level vs →
+    VariantsMarks level (variants (variant key value default) vs)
+variants_more level key value default vs p k h ms =
+    let v = variant key value default in
+    ap (text_after (Some lf)) (append_assoc (variant_marks level v) (line_end ∷ variants_marks level vs) ms)
+    ∙ variant_then level key value default (line_end ∷ (variants_marks level vs ++ ms)) p k
+    ∙ ap (λ x. variant_bytes level v (lf ∷ x)) (h ms)
+
+-- ---- elements
+
+select_element : (level : ℕ) (e : InlineTree Text) (vs : VariantTrees Text) → ExpressionMarks level (select e vs) →
+    PlaceableMarks level (select e vs)
+select_element level e vs k last at_line ms s =
+    let x = expression_marks level (select e vs) in
+    let close = literal level (125 ∷ []) in
+    literal_at last at_line level 123 (32 ∷ []) ((x ++ (close ∷ [])) ++ ms) s
+    ∙ ap (λ y. line_indent level at_line ++ (123 ∷ 32 ∷ y))
+    (after_byte 32 ((x ++ (close ∷ [])) ++ ms) refl refl ∙ ap (text_after None) (append_assoc x (close ∷ []) ms)
+    ∙ k (close ∷ ms)
+    ∙ ap (expression_bytes level (select e vs)) (closing_then level (select e vs) 125 [] ms (plain_byte 125 refl refl)))
+
+double_element : (level : ℕ) (e : ExpressionTree Text) → ExpressionMarks level e →
+    PlaceableMarks level (inline (inline_placeable e))
+double_element level e k last at_line ms s =
+    let x = expression_marks level e in
+    let close = literal level (32 ∷ 125 ∷ 125 ∷ []) in
+    literal_at last at_line level 123 (123 ∷ 32 ∷ []) ((x ++ (close ∷ [])) ++ ms) s
+    ∙ ap (λ y. line_indent level at_line ++ (123 ∷ 123 ∷ 32 ∷ y))
+    (after_byte 32 ((x ++ (close ∷ [])) ++ ms) refl refl ∙ ap (text_after None) (append_assoc x (close ∷ []) ms)
+    ∙ k (close ∷ ms)
+    ∙ ap (expression_bytes level e) (closing_then level e 32 (125 ∷ 125 ∷ []) ms (plain_byte 125 refl refl)))
+
+-- any other inline expression between its braces
+spaced : (level : ℕ) (e : InlineTree Text) → InlineMarks level e → (last : Option ℕ) (at_line : Bool) (ms : List Mark) →
+    is_last lf last ≡ at_line →
+    text_after last
+    (literal level (123 ∷ 32 ∷ []) ∷ ((inline_marks level e ++ (literal level (32 ∷ 125 ∷ []) ∷ [])) ++ ms))
+    ≡ line_indent level at_line ++ (123 ∷ 32 ∷ inline_bytes level e (32 ∷ 125 ∷ text_after None ms))
+spaced level e k last at_line ms s =
+    let x = inline_marks level e in
+    let close = literal level (32 ∷ 125 ∷ []) in
+    literal_at last at_line level 123 (32 ∷ []) ((x ++ (close ∷ [])) ++ ms) s
+    ∙ ap (λ y. line_indent level at_line ++ (123 ∷ 32 ∷ y))
+    (after_byte 32 ((x ++ (close ∷ [])) ++ ms) refl refl ∙ ap (text_after None) (append_assoc x (close ∷ []) ms)
+    ∙ k (close ∷ ms)
+    ∙ ap (λ y. inline_bytes level e (32 ∷ 125 ∷ y)) (after_byte 125 ms refl refl))
+
+nothing_more : (level : ℕ) → ElementsMarks level no_elements
+nothing_more level last at_line ms s c = plain_same ms last c
+
+text_more : (level b : ℕ) (bs : Text) (es : PatternTree Text) → Closed es (last_of None (b ∷ bs)) →
+    ElementsMarks level es → ElementsMarks level (elements (text_element (b ∷ bs)) es)
+text_more level b bs es c k last at_line ms s d =
+    literal_at last at_line level b bs (elements_marks level es ++ ms) s
+    ∙ ap (λ x. line_indent level at_line ++ ((b ∷ bs) ++ x))
+    (k (last_of None (b ∷ bs)) (ends_in_lf (b ∷ bs)) ms refl c)
+
+placeable_more : (level : ℕ) (x : ExpressionTree Text) (es : PatternTree Text) → PlaceableMarks level x →
+    ElementsMarks level es → ElementsMarks level (elements (placeable x) es)
+placeable_more level x es h k last at_line ms s d =
+    ap (text_after last) (append_assoc (element_marks level (placeable x)) (elements_marks level es) ms)
+    ∙ h last at_line (elements_marks level es ++ ms) s
+    ∙ ap (λ y. line_indent level at_line ++ element_bytes level (placeable x) y)
+    (k None false ms refl (none_closed es))
+  where
+    none_closed : (es : PatternTree Text) → Closed es None
+    none_closed no_elements = none_plain
+    none_closed (elements e es) = tt
+
+text_closes : (v : Text) (es : PatternTree Text) → ends_well v es ≡ true → Closed es (last_of None v)
+text_closes v no_elements e = plain_text v e
+text_closes v (elements x es) e = tt
+
+-- ---- patterns
+
+opened : (level : ℕ) (opens : Bool) (ms : List Mark) →
+    text_after None ((if opens then line_end else literal level (space ∷ [])) ∷ ms)
+    ≡ opening_byte opens ∷ text_after (if opens then Some lf else None) ms
+opened level true ms = refl
+opened level false ms = ap (λ x. 32 ∷ x) (after_byte 32 ms refl refl)
+
+opened_last : (opens : Bool) → is_last lf (if opens then Some lf else None) ≡ opens
+opened_last true = refl
+opened_last false = refl
+
+pattern_then : (level : ℕ) (e : ElementTree Text) (es : PatternTree Text) →
+    ((l : ℕ) → ElementsMarks l (elements e es)) → PatternMarks level (elements e es)
+pattern_then level e es k ms =
+    let p = elements e es in
+    opened level (opens_line p) (elements_marks (inner_level level p) p ++ ms)
+    ∙ ap (λ x. opening_byte (opens_line p) ∷ x)
+    (k (inner_level level p) (if opens_line p then Some lf else None) (opens_line p) ms
+    (opened_last (opens_line p)) tt)
+
+module _ (edition : Edition) where
+  elements_rest : (multiline : Bool) (s : Stand) (b : ℕ) (bs : Text) (es : PatternTree Text) →
+      are_elements edition multiline s (elements (text_element (b ∷ bs)) es) ≡ true → (ends_well (b ∷ bs) es ≡ true) ×
+      (are_elements edition multiline (stand_after (b ∷ bs)) es ≡ true)
+  elements_rest multiline s b bs es g =
+      let m = right_true (stands_well edition multiline s (b ∷ bs) es) _ (right_true (is_text (b ∷ bs)) _ g) in
+      (left_true (ends_well (b ∷ bs) es) _ m, right_true (ends_well (b ∷ bs) es) _ m)
+
+  mutual
+    expression_then : (level : ℕ) (e : ExpressionTree Text) → expression_obeys (canonical_rules edition) e ≡ true →
+        ExpressionMarks level e
+    expression_then level (inline e) h = inline_then level e (inline_part edition e h)
+    expression_then level (select e vs) h =
+        select_marks level e vs
+        (inline_then level e (left_true (inline_obeys (canonical_rules edition) e) _ (select_parts edition e vs h)))
+        (variants_then (level + 1) vs
+        (right_true (inline_obeys (canonical_rules edition) e) _ (select_parts edition e vs h)))
+
+    inline_then : (level : ℕ) (e : InlineTree Text) → inline_obeys (canonical_rules edition) e ≡ true →
+        InlineMarks level e
+    inline_then level (string_literal v) h = string_marks level v (string_last v h)
+    inline_then level (number_literal v) h = number_marks level v (number_plain v h)
+    inline_then level (function_reference id a) h =
+        function_marks level id a (left_true (is_name id) _ h)
+        (arguments_then level a (right_true (list_all is_callee_byte id) _ (right_true (is_name id) _ h)))
+    inline_then level (message_reference id a) h =
+        message_marks level id a (left_true (is_name id) _ h) (right_true (is_name id) _ h)
+    inline_then level (term_reference id a c) h =
+        term_marks level id a c (left_true (is_name id) _ h)
+        (left_true (option_obeys is_name a) _ (right_true (is_name id) _ h))
+        (maybe_then level c (right_true (option_obeys is_name a) _ (right_true (is_name id) _ h)))
+    inline_then level (variable_reference id) h = variable_marks level id h
+    inline_then level (inline_placeable e) h = braces_marks level e (expression_then level e h)
+
+    maybe_then : (level : ℕ) (a : MaybeArguments Text) → maybe_obeys (canonical_rules edition) a ≡ true →
+        MaybeMarks level a
+    maybe_then level no_arguments h = λ ms. refl
+    maybe_then level (some_arguments a) h = arguments_then level a h
+
+    arguments_then : (level : ℕ) (a : ArgumentsTree Text) → arguments_obey (canonical_rules edition) a ≡ true →
+        ArgumentsMarks level a
+    arguments_then level (arguments no_inlines no_named) h = nothing_marks level
+    arguments_then level (arguments no_inlines (nameds n ns)) h =
+        let rest = right_true (are_named_well [] (nameds n ns)) _ h in
+        named_first level n ns (one_then level n (left_true (named_obeys (canonical_rules edition) n) _ rest))
+        (nameds_then level ns (right_true (named_obeys (canonical_rules edition) n) _ rest))
+    arguments_then level (arguments (inlines e es) ns) h =
+        let rest = right_true (are_named_well [] ns) _ h in
+        let ps = left_true (inlines_obey (canonical_rules edition) (inlines e es)) _ rest in
+        positional_first level e es ns (inline_then level e (left_true (inline_obeys (canonical_rules edition) e) _ ps))
+        (inlines_then level es (right_true (inline_obeys (canonical_rules edition) e) _ ps))
+        (nameds_then level ns (right_true (inlines_obey (canonical_rules edition) (inlines e es)) _ rest))
+
+    inlines_then : (level : ℕ) (es : InlineTrees Text) → inlines_obey (canonical_rules edition) es ≡ true →
+        MoreMarks level es
+    inlines_then level no_inlines h = λ rest ms. refl
+    inlines_then level (inlines e es) h =
+        more_marks level e es (inline_then level e (left_true (inline_obeys (canonical_rules edition) e) _ h))
+        (inlines_then level es (right_true (inline_obeys (canonical_rules edition) e) _ h))
+
+    nameds_then : (level : ℕ) (ns : NamedTrees Text) → nameds_obey (canonical_rules edition) ns ≡ true →
+        NamedMarks level ns
+    nameds_then level no_named h = λ ms. refl
+    nameds_then level (nameds n ns) h =
+        named_more level n ns (one_then level n (left_true (named_obeys (canonical_rules edition) n) _ h))
+        (nameds_then level ns (right_true (named_obeys (canonical_rules edition) n) _ h))
+
+    one_then : (level : ℕ) (n : NamedTree Text) → named_obeys (canonical_rules edition) n ≡ true → OneMarks level n
+    one_then level (named_argument name e) h =
+        one_marks level name e (left_true (is_name name) _ h) (inline_then level e (right_true (is_name name) _ h))
+
+    variants_then : (level : ℕ) (vs : VariantTrees Text) → variants_obey (canonical_rules edition) vs ≡ true →
+        VariantsMarks level vs
+    variants_then level no_variants h = λ ms. refl
+    variants_then level (variants (variant key value default) vs) h =
+        let this = left_true (variant_obeys (canonical_rules edition) (variant key value default)) _ h in
+        variants_more level key value default vs
+        (key_plain key (key_is edition [] key (left_true (key_obeys (canonical_rules edition) key) _ this)))
+        (pattern_marks_then level value (right_true (key_obeys (canonical_rules edition) key) _ this))
+        (variants_then level vs
+        (right_true (variant_obeys (canonical_rules edition) (variant key value default)) _ h))
+
+    pub pattern_marks_then : (level : ℕ) (p : PatternTree Text) → pattern_obeys (canonical_rules edition) p ≡ true →
+        PatternMarks level p
+    pattern_marks_then level no_elements h = absurd cc
+    pattern_marks_then level (elements (placeable x) es) h =
+        let p = elements (placeable x) es in
+        let are =
+        left_true (is_pattern edition p) (is_flush edition p)
+        (left_true (is_pattern edition p && is_flush edition p) _ h) in
+        let rest = right_true (is_pattern edition p && is_flush edition p) _ h in
+        pattern_then level (placeable x) es
+        (λ l. placeable_more l x es
+        (placeable_then l x (left_true (expression_obeys (canonical_rules edition) x) _ rest))
+        (elements_then l es (is_multiline p) after_placeable are
+        (right_true (expression_obeys (canonical_rules edition) x) _ rest)))
+    pattern_marks_then level (elements (text_element []) es) h = absurd cc
+    pattern_marks_then level (elements (text_element (b ∷ bs)) es) h =
+        let p = elements (text_element (b ∷ bs)) es in
+        let are =
+        left_true (is_pattern edition p) (is_flush edition p)
+        (left_true (is_pattern edition p && is_flush edition p) _ h) in
+        let rest = right_true (is_pattern edition p && is_flush edition p) _ h in
+        let more = elements_rest (is_multiline p) opening b bs es are in
+        pattern_then level (text_element (b ∷ bs)) es
+        (λ l. text_more l b bs es (text_closes (b ∷ bs) es more.0)
+        (elements_then l es (is_multiline p) (stand_after (b ∷ bs)) more.1 rest))
+
+    elements_then : (level : ℕ) (es : PatternTree Text) (multiline : Bool) (s : Stand) →
+        are_elements edition multiline s es ≡ true → elements_obey (canonical_rules edition) es ≡ true →
+        ElementsMarks level es
+    elements_then level no_elements multiline s g h = nothing_more level
+    elements_then level (elements (placeable x) es) multiline s g h =
+        placeable_more level x es
+        (placeable_then level x (left_true (expression_obeys (canonical_rules edition) x) _ h))
+        (elements_then level es multiline after_placeable g
+        (right_true (expression_obeys (canonical_rules edition) x) _ h))
+    elements_then level (elements (text_element []) es) multiline s g h = absurd cc
+    elements_then level (elements (text_element (b ∷ bs)) es) multiline s g h =
+        let more = elements_rest multiline s b bs es g in
+        text_more level b bs es (text_closes (b ∷ bs) es more.0)
+        (elements_then level es multiline (stand_after (b ∷ bs)) more.1 h)
+
+    placeable_then : (level : ℕ) (x : ExpressionTree Text) → expression_obeys (canonical_rules edition) x ≡ true →
+        PlaceableMarks level x
+    placeable_then level (select e vs) h =
+        select_element level e vs
+        (select_marks level e vs
+        (inline_then level e (left_true (inline_obeys (canonical_rules edition) e) _ (select_parts edition e vs h)))
+        (variants_then (level + 1) vs
+        (right_true (inline_obeys (canonical_rules edition) e) _ (select_parts edition e vs h))))
+    placeable_then level (inline (string_literal v)) h =
+        spaced level (string_literal v)
+        (string_marks level v (string_last v (inline_part edition (string_literal v) h)))
+    placeable_then level (inline (number_literal v)) h =
+        spaced level (number_literal v)
+        (number_marks level v (number_plain v (inline_part edition (number_literal v) h)))
+    placeable_then level (inline (function_reference id a)) h =
+        let i = inline_part edition (function_reference id a) h in
+        spaced level (function_reference id a)
+        (function_marks level id a (left_true (is_name id) _ i)
+        (arguments_then level a (right_true (list_all is_callee_byte id) _ (right_true (is_name id) _ i))))
+    placeable_then level (inline (message_reference id a)) h =
+        let i = inline_part edition (message_reference id a) h in
+        spaced level (message_reference id a)
+        (message_marks level id a (left_true (is_name id) _ i) (right_true (is_name id) _ i))
+    placeable_then level (inline (term_reference id a c)) h =
+        let i = inline_part edition (term_reference id a c) h in
+        spaced level (term_reference id a c)
+        (term_marks level id a c (left_true (is_name id) _ i)
+        (left_true (option_obeys is_name a) _ (right_true (is_name id) _ i))
+        (maybe_then level c (right_true (option_obeys is_name a) _ (right_true (is_name id) _ i))))
+    placeable_then level (inline (variable_reference id)) h =
+        spaced level (variable_reference id) (variable_marks level id (inline_part edition (variable_reference id) h))
+    placeable_then level (inline (inline_placeable e)) h =
+        double_element level e (expression_then level e (inline_part edition (inline_placeable e) h))

@@ -1,0 +1,168 @@
+-- From marks to bytes: how names, numbers and strings end, and literals at each place of a line.
+use Rattle.std.proofs.Common.{◌≡◌, ℕ, zero, suc, List, [], ◌∷◌, ◌++◌, Option, Some, None, Bool, true, false, refl, ◌∙◌}
+use Rattle.std.proofs.Common.{ap, append_assoc, inl, inr}
+use Rattle.std.specs.Prelude.{◌==◌, ◌||◌, ◌&&◌, not}
+use Rattle.std.specs.List.{list_all}
+use Rattle.std.specs.Char.{is_ascii_hexdigit}
+use Rattle.fluent_syntax_tree.specs.Tree.{KeyTree, name_key, number_key, ExpressionTree, select, inline}
+use Rattle.fluent_syntax_grammar.specs.Bytes.{lf, cr, is_digit}
+use Rattle.fluent_syntax_grammar.specs.Written.{Text, Mark, literal, last_of, is_last, text_after, indent, has_lf}
+use Rattle.fluent_syntax_grammar.specs.Written.{key_text}
+use Rattle.fluent_syntax_grammar.specs.Spellings.{is_name, is_digits, is_number_rest, is_unsigned, is_number, is_units}
+use Rattle.fluent_syntax_grammar.specs.Spellings.{is_escape, is_string}
+use Rattle.fluent_syntax_grammar.proofs.Facts.{left_true, right_true}
+use Rattle.fluent_syntax_grammar.proofs.Tests.{both, or_cases, differ}
+use Rattle.fluent_syntax_grammar.proofs.forward.Words.{name_bytes}
+use Rattle.fluent_syntax_grammar.proofs.forward.Strings.{neither}
+use Rattle.fluent_syntax_grammar.proofs.forward.Selects.{key_obeys'}
+use Rattle.fluent_syntax_grammar.proofs.marks.WrittenBytes.{line_indent, closing_indent}
+use Rattle.fluent_syntax_grammar.proofs.marks.LastBytes.{Plain, none_plain, literal_then, literal_at_line, last_append}
+use Rattle.fluent_syntax_grammar.proofs.marks.LastBytes.{name_plain}
+use Rattle.fluent_syntax_grammar.proofs.Tests.{neither_left, neither_right, or_left, or_right}
+
+-- ---- how words end
+
+all_last : (p : ℕ → Bool) → p lf ≡ false → p cr ≡ false → (bs : Text) (c : ℕ) → p c ≡ true → list_all p bs ≡ true →
+    Plain (last_of (Some c) bs)
+all_last p n m [] c e f = record { no_lf = differ p c lf e n; no_cr = differ p c cr e m }
+all_last p n m (b ∷ bs) c e f =
+    all_last p n m bs b (left_true (p b) (list_all p bs) f) (right_true (p b) (list_all p bs) f)
+
+all_plain : (p : ℕ → Bool) → p lf ≡ false → p cr ≡ false → (bs : Text) → list_all p bs ≡ true → Plain (last_of None bs)
+all_plain p n m [] e = none_plain
+all_plain p n m (b ∷ bs) e =
+    all_last p n m bs b (left_true (p b) (list_all p bs) e) (right_true (p b) (list_all p bs) e)
+
+-- a byte of a number
+abbrev is_number_byte : ℕ → Bool
+is_number_byte b = is_digit b || (b == 46 || b == 45)
+
+digits_all : (v : Text) → list_all is_digit v ≡ true → list_all is_number_byte v ≡ true
+digits_all [] e = refl
+digits_all (b ∷ v) e =
+    both (or_left (is_digit b) (b == 46 || b == 45) (left_true (is_digit b) (list_all is_digit v) e))
+    (digits_all v (right_true (is_digit b) (list_all is_digit v) e))
+
+fraction_all : (v : Text) → is_digits v ≡ true → list_all is_number_byte v ≡ true
+fraction_all [] e = refl
+fraction_all (b ∷ v) e = digits_all (b ∷ v) e
+
+rest_all : (v : Text) → is_number_rest v ≡ true → list_all is_number_byte v ≡ true
+rest_all [] e = refl
+rest_all (b ∷ v) e = elim (or_cases (is_digit b && is_number_rest v) (b == 46 && is_digits v) e) [
+  | inl f ↦ both (or_left (is_digit b) (b == 46 || b == 45) (left_true (is_digit b) (is_number_rest v) f))
+      (rest_all v (right_true (is_digit b) (is_number_rest v) f))
+  | inr f ↦ both
+      (or_right (is_digit b) (b == 46 || b == 45) (or_left (b == 46) (b == 45) (left_true (b == 46) (is_digits v) f)))
+      (fraction_all v (right_true (b == 46) (is_digits v) f))
+]
+
+unsigned_all : (v : Text) → is_unsigned v ≡ true → list_all is_number_byte v ≡ true
+unsigned_all [] e = cc
+unsigned_all (b ∷ v) e =
+    both (or_left (is_digit b) (b == 46 || b == 45) (left_true (is_digit b) (is_number_rest v) e))
+    (rest_all v (right_true (is_digit b) (is_number_rest v) e))
+
+number_all : (v : Text) → is_number v ≡ true → list_all is_number_byte v ≡ true
+number_all [] e = cc
+number_all (b ∷ v) e = elim (or_cases (b == 45 && is_unsigned v) (is_unsigned (b ∷ v)) e) [
+  | inl f ↦ both
+      (or_right (is_digit b) (b == 46 || b == 45)
+      (or_right (b == 46) (b == 45) (left_true (b == 45) (is_unsigned v) f)))
+      (unsigned_all v (right_true (b == 45) (is_unsigned v) f))
+  | inr f ↦ unsigned_all (b ∷ v) f
+]
+
+pub number_plain : (v : Text) → is_number v ≡ true → Plain (last_of None v)
+number_plain v e = all_plain is_number_byte refl refl v (number_all v e)
+
+pub id_plain : (v : Text) → is_name v ≡ true → Plain (last_of None v)
+id_plain v e = name_plain v (name_bytes v e)
+
+pub key_plain : (key : KeyTree Text) → key_obeys' key ≡ true → Plain (last_of None (key_text key))
+key_plain (name_key v) e = id_plain v e
+key_plain (number_key v) e = number_plain v e
+
+-- ---- a string holds no LF
+
+no_lf_more : (b : ℕ) (bs : Text) → (b == lf) ≡ false → has_lf bs ≡ false → has_lf (b ∷ bs) ≡ false
+no_lf_more b bs e f = rw (e, f) refl
+
+mutual
+  units_no_lf : (v : Text) (n : ℕ) → is_units n v ≡ true → has_lf v ≡ false
+  units_no_lf [] n e = refl
+  units_no_lf (b ∷ bs) (suc n) e =
+      no_lf_more b bs (differ is_ascii_hexdigit b lf (left_true (is_ascii_hexdigit b) (is_units n bs) e) refl)
+      (units_no_lf bs n (right_true (is_ascii_hexdigit b) (is_units n bs) e))
+  units_no_lf (b ∷ bs) zero e =
+      elim (or_cases (b == 92 && is_escape bs) (not (b == 92 || b == 34 || b == lf) && is_units zero bs) e) [
+        | inl f ↦ no_lf_more b bs (differ (λ c. c == 92) b lf (left_true (b == 92) (is_escape bs) f) refl)
+            (escape_no_lf bs (right_true (b == 92) (is_escape bs) f))
+        | inr f ↦ let n =
+            neither (b == 92) (b == 34) (b == lf)
+            (left_true (not (b == 92 || b == 34 || b == lf)) (is_units zero bs) f) in
+            no_lf_more b bs n.2
+            (units_no_lf bs zero (right_true (not (b == 92 || b == 34 || b == lf)) (is_units zero bs) f))
+      ]
+
+  escape_no_lf : (v : Text) → is_escape v ≡ true → has_lf v ≡ false
+  escape_no_lf [] e = cc
+  escape_no_lf (b ∷ bs) e =
+      elim (or_cases ((b == 92 || b == 34 || b == 123) && is_units zero bs || b == 117 && is_units 4 bs)
+      (b == 85 && is_units 6 bs) e) [
+        | inr f ↦ no_lf_more b bs (differ (λ c. c == 85) b lf (left_true (b == 85) (is_units 6 bs) f) refl)
+            (units_no_lf bs 6 (right_true (b == 85) (is_units 6 bs) f))
+        | inl g ↦ elim (or_cases ((b == 92 || b == 34 || b == 123) && is_units zero bs) (b == 117 && is_units 4 bs) g) [
+          | inl f ↦ no_lf_more b bs
+              (differ (λ c. c == 92 || c == 34 || c == 123) b lf
+              (left_true (b == 92 || b == 34 || b == 123) (is_units zero bs) f) refl)
+              (units_no_lf bs zero (right_true (b == 92 || b == 34 || b == 123) (is_units zero bs) f))
+          | inr f ↦ no_lf_more b bs (differ (λ c. c == 117) b lf (left_true (b == 117) (is_units 4 bs) f) refl)
+              (units_no_lf bs 4 (right_true (b == 117) (is_units 4 bs) f))
+        ]
+      ]
+
+last_no_lf : (v : Text) (c : ℕ) → (c == lf) ≡ false → has_lf v ≡ false → is_last lf (last_of (Some c) v) ≡ false
+last_no_lf [] c e f = e
+last_no_lf (b ∷ v) c e f = last_no_lf v b (neither_left (b == lf) (has_lf v) f) (neither_right (b == lf) (has_lf v) f)
+
+pub string_last : (v : Text) → is_string v ≡ true → is_last lf (last_of (Some 34) v) ≡ false
+string_last v e = last_no_lf v 34 refl (units_no_lf v zero e)
+
+-- ---- literals
+
+-- after a byte that is no LF
+pub literal_after : (last : Option ℕ) (level : ℕ) (bs : Text) (ms : List Mark) → is_last lf last ≡ false →
+    text_after last (literal level bs ∷ ms) ≡ bs ++ text_after (last_of last bs) ms
+literal_after last level bs ms e = rw e refl
+
+-- at the beginning of a line or not
+pub literal_at : (last : Option ℕ) (at_line : Bool) (level b : ℕ) (bs : Text) (ms : List Mark) →
+    is_last lf last ≡ at_line →
+    text_after last (literal level (b ∷ bs) ∷ ms)
+    ≡ line_indent level at_line ++ ((b ∷ bs) ++ text_after (last_of None (b ∷ bs)) ms)
+literal_at last false level b bs ms e = rw e refl
+literal_at last true level b bs ms e =
+    same_at last e ∙ ap (λ o. (indent level ++ (b ∷ bs)) ++ text_after o ms) (last_append (indent level) last b bs)
+    ∙ append_assoc (indent level) (b ∷ bs) (text_after (last_of (Some b) bs) ms)
+  where
+    same_at : (last : Option ℕ) → is_last lf last ≡ true →
+        text_after last (literal level (b ∷ bs) ∷ ms)
+        ≡ (indent level ++ (b ∷ bs)) ++ text_after (last_of last (indent level ++ (b ∷ bs))) ms
+    same_at last e = rw e refl
+
+-- the last byte after an expression: a select has ended its line
+abbrev pub ending : ExpressionTree Text → Option ℕ
+ending (select e vs) = Some lf
+ending (inline e) = None
+
+-- what closes an expression
+pub closing_then : (level : ℕ) (e : ExpressionTree Text) (b : ℕ) (bs : Text) (ms : List Mark) →
+    Plain (last_of None (b ∷ bs)) →
+    text_after (ending e) (literal level (b ∷ bs) ∷ ms) ≡ closing_indent level e ++ ((b ∷ bs) ++ text_after None ms)
+closing_then level (select e vs) b bs ms p = literal_at_line level b bs ms p
+closing_then level (inline e) b bs ms p = literal_then level (b ∷ bs) ms p
+
+-- ASCII marks are plain
+pub plain_byte : (b : ℕ) → (b == lf) ≡ false → (b == cr) ≡ false → Plain (Some b)
+plain_byte b e f = record { no_lf = e; no_cr = f }

@@ -1,0 +1,198 @@
+//! Trees that are written and read again.
+
+use crate::outline::outline;
+use fluent_syntax::ast::*;
+use fluent_syntax::laws::{reads_back, reads_readable, reparse, same_texts};
+use fluent_syntax::parser::{ParseFault, parse};
+use std::alloc::{AllocError, Global};
+use std::test::Fail;
+
+type Text = &'static str;
+
+/// Texts without errors, whose trees are read back as they are.
+const SAME: [(&str, Text); 8] = [
+    (
+        "blank lines around a message",
+        "\n\nhello-world = Hello World!\n\n",
+    ),
+    ("a blank line in a block of text", "key =\n    a\n\n      b\n"),
+    (
+        "comments of two levels, free and hung",
+        "## g\n\n# f\n\n# m\nkey = v\n",
+    ),
+    (
+        "a select",
+        "key = { $var ->\n    [key1] Value 1\n   *[other] Value 2\n}\n",
+    ),
+    (
+        "a select among the arguments of a function",
+        "key = { F({$x ->\n   *[a] b\n}) }\n",
+    ),
+    (
+        "a message reference with an attribute",
+        "key = { foo\n .bar }",
+    ),
+    (
+        "abnormal spacing",
+        "\nunnormalized-message=This message has\n  abnormal spacing and indentation",
+    ),
+    ("a text that begins with a mark", "key = [a\n  b"),
+];
+
+/// What it shows, the text, and the outline of what its written tree is read as.
+const OTHER: [(&str, Text, &str); 8] = [
+    (
+        "spaces that no line of the pattern lacks are lost",
+        "key =\n{x}\n    b\n",
+        "key = {x} \"\\n\" \"b\"\n",
+    ),
+    (
+        "an empty text is no value",
+        "key = \r",
+        "Junk \"key = \\n\"\n0..7 0..7 ExpectedMessageField(\"key\")\n",
+    ),
+    (
+        "a select without a default variant",
+        "key = { $x ->\n * }",
+        "Junk \"key =\\n    { $x ->\\n    }\\n\"\n22..23 0..24 MissingDefaultVariant\n",
+    ),
+    ("a line of spaces in a comment", "#   ", "# \"\"\n"),
+    ("a comment without lines", "#", ""),
+    (
+        "the LF of a CRLF is joined to the text before it",
+        "key = a\r\n    b",
+        "key = \"a\\n\" \"b\"\n",
+    ),
+    (
+        "junk is left out",
+        "key = a\n  .b\nc = d",
+        "key = \"a\"\nc = \"d\"\n",
+    ),
+    (
+        "a comment before junk hangs on nothing",
+        "# a\n  x\nk = v\n",
+        "# \"a\"\nk = \"v\"\n",
+    ),
+];
+
+/// The tree of the text, which may have errors.
+fn tree(alloc: Global, text: Text) -> Result<Resource<String>, Fail> {
+    match parse(alloc, String::from_str(alloc, text)?) {
+        Ok(tree) | Err(ParseFault::Syntax(tree, _)) => Ok(tree),
+        Err(ParseFault::Memory) => Err("no memory".into()),
+    }
+}
+
+#[test]
+fn reads_the_same_tree(rt: HostRuntime) -> Result<(), Fail> {
+    let alloc = rt.alloc();
+    for (what, text) in SAME {
+        let Ok(tree) = parse(alloc, String::from_str(alloc, text)?) else {
+            return Err(what.into());
+        };
+        let Ok(back) = reparse(alloc, &tree) else {
+            return Err(what.into());
+        };
+        assert!(rt; same_texts(&tree, &back), "{what}");
+        reads_back(&tree);
+        reads_readable(text);
+    }
+    Ok(())
+}
+
+#[test]
+fn reads_another_tree(rt: HostRuntime) -> Result<(), Fail> {
+    let alloc = rt.alloc();
+    for (what, text, expected) in OTHER {
+        let mut found = String::new(alloc);
+        outline(&mut found, &reparse(alloc, &tree(alloc, text)?))?;
+        assert_eq!(rt; found.as_str(), expected, "{what}");
+    }
+    Ok(())
+}
+
+/// The outline of what the entry is read as once it is written.
+fn reparsed(alloc: Global, entry: Entry<Text>) -> Result<String, AllocError> {
+    let tree = Resource {
+        body: vec![in alloc; entry]?,
+    };
+    let mut found = String::new(alloc);
+    outline(&mut found, &reparse(alloc, &tree))?;
+    Ok(found)
+}
+
+fn text(value: Text) -> PatternElement<Text> {
+    PatternElement::TextElement { value }
+}
+
+fn message(
+    alloc: Global,
+    name: Text,
+    value: Option<Pattern<Text>>,
+    attributes: Vec<Attribute<Text>>,
+) -> Entry<Text> {
+    Entry::Message(Message {
+        id: Identifier { name },
+        value,
+        attributes,
+        comment: None,
+    })
+}
+
+fn valued(alloc: Global, elements: Vec<PatternElement<Text>>) -> Entry<Text> {
+    message(alloc, "key", Some(Pattern { elements }), Vec::new(alloc))
+}
+
+#[test]
+fn reads_marks_that_begin_a_pattern(rt: HostRuntime) -> Result<(), Fail> {
+    let alloc = rt.alloc();
+    let found = reparsed(
+        alloc,
+        valued(alloc, vec![in alloc; text("[a\n"), text("b")]?),
+    )?;
+    assert_eq!(rt; found.as_str(), "key = \"[a\\n\" \"b\"\n");
+
+    let found = reparsed(
+        alloc,
+        valued(alloc, vec![in alloc; text(".a\n"), text("b")]?),
+    )?;
+    assert_eq!(rt; found.as_str(), "key = \".a\\n\" \"b\"\n");
+
+    let attribute = Attribute {
+        id: Identifier { name: "t" },
+        value: Pattern {
+            elements: vec![in alloc; text(".a\n"), text("b")]?,
+        },
+    };
+    let found = reparsed(
+        alloc,
+        message(alloc, "k", None, vec![in alloc; attribute]?),
+    )?;
+    assert_eq!(rt; found.as_str(), "k = | .t = \".a\\n\" \"b\"\n");
+
+    let placeable = PatternElement::Placeable {
+        expression: Expression::Inline(InlineExpression::VariableReference {
+            id: Identifier { name: "x" },
+        }),
+    };
+    let found = reparsed(
+        alloc,
+        valued(
+            alloc,
+            vec![in alloc; text("[a\n"), text("\n"), placeable]?,
+        ),
+    )?;
+    assert_eq!(rt; found.as_str(), "key = \"[a\\n\" \"\\n\" {$x}\n");
+    Ok(())
+}
+
+#[test]
+fn reads_a_cr_that_ends_a_comment(rt: HostRuntime) -> Result<(), Fail> {
+    let alloc = rt.alloc();
+    let comment = Comment {
+        content: vec![in alloc; "a\r"]?,
+    };
+    let found = reparsed(alloc, Entry::Comment(comment))?;
+    assert_eq!(rt; found.as_str(), "# \"a\\r\"\n");
+    Ok(())
+}
