@@ -1,5 +1,5 @@
 -- An entry that is read where no `#` stands is no comment, and has none hung.
-use Rattle.std.proofs.Common.{◌≡◌, ℕ, List, [], ◌∷◌, Option, Some, None, Bool, true, false, refl}
+use Rattle.std.proofs.Common.{◌≡◌, ℕ, List, [], ◌∷◌, Option, Some, None, true, false, refl}
 use Rattle.std.specs.Prelude.{slice_get, ◌==◌}
 use Rattle.fluent_syntax_tree.specs.Kind.{Kind}
 use Rattle.fluent_syntax_tree.specs.Tree.{PatternTree}
@@ -13,6 +13,7 @@ use Rattle.fluent_syntax_tree.specs.declared.edition.Edition.{Edition}
 use Rattle.fluent_syntax_tree.specs.declared.spans.Span.{Span}
 use Rattle.fluent_syntax_grammar.proofs.Holds.{Holds, holds_bind, holds_gives, holds_fails_from}
 use Rattle.fluent_syntax_grammar.proofs.Runtime.{IsBare, IsBareTile}
+use Rattle.fluent_syntax_grammar.proofs.Facts.{differs}
 
 abbrev Anywhere : ℕ → Type 0
 Anywhere i = Unit {0}
@@ -49,9 +50,6 @@ module _ (edition : Edition) (t : List ℕ) where
 
   a_hash : (i b : ℕ) (o : Option ℕ) → o ≡ Some b → (b == 35) ≡ true → holds (λ c. c == 35) o ≡ true
   a_hash i b o e f = rw e f
-
-  differs : {b : Bool} {X : Type 0} → b ≡ true → b ≡ false → X
-  differs e f = cc
 
   bare_of : (i j : ℕ) (e : EntryTree Span) (o : Option ℕ) → slice_get t i ≡ o → has_byte t 35 i ≡ false → entry_of edition t o i (Read e j) → IsBare e
   bare_of i j e None p h x = message_bare.on_read i j e tt x

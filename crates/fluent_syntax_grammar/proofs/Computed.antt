@@ -3,7 +3,7 @@ use Rattle.std.proofs.Common.{◌≡◌, ℕ, zero, suc, ◌+◌, ◌<◌, ◌�
 use Rattle.fluent_syntax_tree.specs.Kind.{Kind}
 use Rattle.fluent_syntax_grammar.specs.Places.{Stretch, Steps, Reaches}
 use Rattle.fluent_syntax_grammar.specs.Construct.{Outcome, Read, Refused, Construct, ◌>>=◌, stops, goes_on, gives, given, here, at_place, fails, failed, fails_from, failed_from, over, passed, at_each, chosen, either, first, second}
-use Rattle.fluent_syntax_grammar.proofs.Facts.{here_or_on}
+use Rattle.fluent_syntax_grammar.proofs.Facts.{here_or_on, some_same}
 
 pub record Computed {A : Type 0} (c : Construct A) : Type 0 where
   pub run : ℕ → Option (Outcome A)
@@ -81,9 +81,6 @@ computed_either {test = test} {c = c} {d = d} x y = record { run = λ i. choose 
 
 pub none_some : {A X : Type 0} {a : A} → None ≡ Some a → X
 none_some e = cc
-
-pub some_same : {a b : ℕ} → Some a ≡ Some b → a ≡ b
-some_same e = cc
 
 abbrev pub computed_steps : {n : ℕ} → ComputedWord (Steps n)
 computed_steps {n = n} = record { run = λ i. Some (i + n); sound = λ i j h. record { by = sym (some_same h) } }

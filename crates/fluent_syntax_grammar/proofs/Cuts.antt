@@ -1,13 +1,13 @@
 -- Places at which words of the grammar begin and end, for any kind of place that is closed under ASCII bytes.
-use Rattle.std.proofs.Common.{◌≡◌, ℕ, zero, suc, ◌+◌, ◌-◌, ◌<◌, ◌≤◌, List, length, Option, Some, None, Bool, true, false, ◌||◌, ◌&&◌, ◌==◌, not, refl, sym, ◌∙◌, subst, arith, inl, inr}
+use Rattle.std.proofs.Common.{◌≡◌, ℕ, zero, suc, ◌+◌, ◌<◌, ◌≤◌, List, length, Option, Some, None, Bool, true, false, ◌||◌, ◌&&◌, ◌==◌, not, refl, sym, ◌∙◌, subst, arith, inl, inr}
 use Rattle.std.specs.Prelude.{slice_get, is_some, ◌⊎◌, if◌then◌else◌}
 use Rattle.std.proofs.lemmas.Option.{slice_get_within, slice_get_cases}
 use Rattle.std.proofs.lemmas.Bool.Decides.{nat_tests}
-use Rattle.fluent_syntax_grammar.specs.Bytes.{lf, cr, space, is_space, is_letter, is_digit, is_name_byte}
+use Rattle.fluent_syntax_grammar.specs.Bytes.{lf, cr, space, is_space, is_digit, is_name_byte}
 use Rattle.std.specs.Char.{is_ascii_hexdigit}
 use Rattle.fluent_syntax_grammar.specs.Places.{holds, Stretch, Word, has, has_byte, has_eol, after_eol, is_line_place, is_blank_place, Blank, BlankBlock, no_line, line}
 use Rattle.fluent_syntax_grammar.specs.Lines.{is_run_place}
-use Rattle.fluent_syntax_grammar.proofs.Facts.{byte_found, two_on}
+use Rattle.fluent_syntax_grammar.proofs.Facts.{byte_found, stretch_in_text, two_on}
 
 -- an ASCII byte stands there
 pub record AsciiAt (t : List ℕ) (i : ℕ) : Type 0 where
@@ -42,9 +42,6 @@ ascii_space = record { small = λ b e. grind (arith, nat_tests) }
 
 pub ascii_digit : IsAsciiSet is_digit
 ascii_digit = record { small = λ b e. grind (arith, nat_tests) }
-
-pub ascii_letter : IsAsciiSet is_letter
-ascii_letter = record { small = λ b e. grind (arith, nat_tests) }
 
 pub ascii_name : IsAsciiSet is_name_byte
 ascii_name = record { small = λ b e. grind (arith, nat_tests) }
@@ -164,16 +161,10 @@ module _ (t : List ℕ) (P : ℕ → Type 0) (cuts : IsCuts t P) where
   stop_place : (j : ℕ) → j ≤ length t → (slice_get t j ≡ None) ⊎ AsciiAt t j → P j
   stop_place j l x = elim x [ inl e ↦ (let c = (slice_get_cases t j).1 in elim c [ inl y ↦ absurd (none_some e y.2) | inr y ↦ (let same : length t ≡ j = omega arith in subst P same cuts.at_end) ]) | inr a ↦ cuts.before j a ]
 
-  stretch_in_text : (test : ℕ → Bool) → ((k : ℕ) → test k ≡ true → k < length t) → (i j : ℕ) → i ≤ length t → Stretch test i j → j ≤ length t
-  stretch_in_text test inside i j l s =
-      let forward = s.forward in
-      let split : (i < j) ⊎ (i ≡ j) = grind arith in
-      elim split [ inl m ↦ (let last = inside (j - 1) (s.each (j - 1) (omega arith) (omega arith)) in omega arith) | inr e ↦ omega arith ]
-
   -- the rest of a line stops at a line end or at the text's end
   pub line_stop : (i j : ℕ) → P i → Stretch (is_line_place t) i j → P j
-  line_stop i j p s = stop_place j (stretch_in_text (is_line_place t) (line_inside t) i j (cuts.in_text i p) s) (line_ends t j s.longest)
+  line_stop i j p s = stop_place j (stretch_in_text (length t) (is_line_place t) (line_inside t) i j (cuts.in_text i p) s) (line_ends t j s.longest)
 
   -- a run stops at a line end, a brace or the text's end
   pub run_stop : (i j : ℕ) → P i → Stretch (is_run_place t) i j → P j
-  run_stop i j p s = stop_place j (stretch_in_text (is_run_place t) (run_inside t) i j (cuts.in_text i p) s) (run_ends t j s.longest)
+  run_stop i j p s = stop_place j (stretch_in_text (length t) (is_run_place t) (run_inside t) i j (cuts.in_text i p) s) (run_ends t j s.longest)

@@ -1,5 +1,5 @@
 -- The elements that a layout spells lie in the text, if the layout does.
-use Rattle.std.proofs.Common.{◌≡◌, ℕ, zero, suc, ◌+◌, ◌-◌, ◌<◌, ◌≤◌, min, List, [], ◌∷◌, ◌++◌, length, drop, get_or, Option, Some, None, Bool, true, false, refl, sym, ◌∙◌, subst, ap, arith}
+use Rattle.std.proofs.Common.{◌≡◌, ℕ, zero, suc, ◌+◌, ◌-◌, ◌<◌, ◌≤◌, min, List, [], ◌∷◌, length, drop, get_or, Option, Some, None, Bool, true, false, refl, sym, ◌∙◌, subst, ap, arith}
 use Rattle.std.specs.Prelude.{slice_range, nat_lt, if◌then◌else◌}
 use Rattle.std.specs.List.{flat_map}
 use Rattle.std.proofs.lemmas.Bool.Decides.{nat_tests}
@@ -16,6 +16,7 @@ use Rattle.fluent_syntax_tree.specs.declared.edition.Edition.TheVariants.{One, T
 use Rattle.fluent_syntax_tree.specs.declared.spans.Span.{Span}
 use Rattle.fluent_syntax_grammar.proofs.Cuts.{AsciiAt, IsCuts}
 use Rattle.fluent_syntax_grammar.proofs.Sound.{IsSpan}
+use Rattle.fluent_syntax_tree.proofs.Every.{every-append}
 
 module _ (P : ℕ → Type 0) where
   -- a piece that lies between two places
@@ -62,13 +63,9 @@ module _ (P : ℕ → Type 0) where
   good_with s e l (run from to ∷ p ∷ ps) x ((a, b, c, d, f), g) h = ((b, d, f), good_with s e l (p ∷ ps) x g h)
   good_with s e l (placed y ∷ ps) x (g, h) m = (g, good_with s e l ps x h m)
 
-  pub every_append : {X : Type 0} (Q : X → Type 0) (xs ys : List X) → list_every Q xs → list_every Q ys → list_every Q (xs ++ ys)
-  every_append Q [] ys g h = h
-  every_append Q (x ∷ xs) ys (g, k) h = (g, every_append Q xs ys k h)
-
   every_flat : {X Y : Type 0} (Q : X → Type 0) (R : Y → Type 0) (f : X → List Y) → ((x : X) → Q x → list_every R (f x)) → (xs : List X) → list_every Q xs → list_every R (flat_map f xs)
   every_flat Q R f g [] h = tt
-  every_flat Q R f g (x ∷ xs) (h, k) = every_append R (f x) (flat_map f xs) (g x h) (every_flat Q R f g xs k)
+  every_flat Q R f g (x ∷ xs) (h, k) = every-append R (f x) (flat_map f xs) (g x h) (every_flat Q R f g xs k)
 
   good_text_if : (b : Bool) (from to : ℕ) → from ≤ to → P from → P to → list_every GoodItem (if b then text from to ∷ [] else [])
   good_text_if true from to l p q = ((l, p, q), tt)
@@ -85,7 +82,7 @@ module _ (P : ℕ → Type 0) where
   good_items_from edition kept first e l m p q (run from to ∷ ps) x ((a, b, c, d, f), g) h =
       good_with kept e (omega arith) (run kept to ∷ ps) x ((omega arith, omega arith, c, p, f), earlier_pieces first kept e l ps g) h
   good_items_from edition kept first e l m p q (placed y ∷ ps) x (g, h) k =
-      every_append GoodItem (indented edition kept first) (filled y ∷ with_ending ps x) (good_indented edition kept first l p q) (g, good_with first e m ps x h k)
+      every-append GoodItem (indented edition kept first) (filled y ∷ with_ending ps x) (good_indented edition kept first l p q) (g, good_with first e m ps x h k)
 
   good_kept : (common : Option ℕ) (l : Line) → GoodLine l → (kept_from common l ≤ l.start + l.spaces) × P (kept_from common l)
   good_kept None l g = (omega arith, g.leading l.spaces (omega arith))
@@ -101,7 +98,7 @@ module _ (P : ℕ → Type 0) where
   good_opening (Some l) g = good_with (l.start + l.spaces) g.end g.late l.pieces l.ending g.pieces g.ending
 
   good_items : (edition : Edition) (y : Layout) → GoodLayout y → list_every GoodItem (items edition y)
-  good_items edition y g = every_append GoodItem (opening_items y.opening) (flat_map (line_items edition (common_indent edition y)) y.lines)
+  good_items edition y g = every-append GoodItem (opening_items y.opening) (flat_map (line_items edition (common_indent edition y)) y.lines)
       (good_opening y.opening g.opening)
       (every_flat GoodLine GoodItem (line_items edition (common_indent edition y)) (good_line_items edition (common_indent edition y)) y.lines g.lines)
 

@@ -1,13 +1,13 @@
 -- What stands in blank blocks and on lines.
-use Rattle.std.proofs.Common.{◌≡◌, ℕ, ◌+◌, ◌-◌, ◌<◌, ◌≤◌, List, length, Option, Some, None, Bool, true, false, refl, sym, subst, arith, inl, inr}
+use Rattle.std.proofs.Common.{◌≡◌, ℕ, ◌+◌, ◌-◌, ◌<◌, ◌≤◌, List, length, Some, None, Bool, true, false, refl, sym, subst, arith, inl, inr}
 use Rattle.std.specs.Prelude.{slice_get, ◌==◌, ◌||◌, ◌&&◌, ◌⊎◌, if◌then◌else◌}
 use Rattle.std.proofs.lemmas.Bool.Decides.{nat_tests}
 use Rattle.std.proofs.lemmas.Option.{slice_get_past}
 use Rattle.fluent_syntax_grammar.specs.Bytes.{lf, cr, space, is_space}
-use Rattle.fluent_syntax_grammar.specs.Places.{holds, has, has_byte, after_eol, starts_line, BlankBlock, no_line, line}
+use Rattle.fluent_syntax_grammar.specs.Places.{has, has_byte, after_eol, starts_line, BlankBlock, no_line, line}
 use Rattle.fluent_syntax_grammar.specs.Tiling.{is_entry_byte}
 use Rattle.fluent_syntax_grammar.proofs.Cuts.{eol_cases}
-use Rattle.fluent_syntax_grammar.proofs.Facts.{excludes, implies}
+use Rattle.fluent_syntax_grammar.proofs.Facts.{excludes, implies, none_holds}
 
 -- spaces and the bytes of line ends
 abbrev pub is_blank_byte : ℕ → Bool
@@ -74,9 +74,6 @@ module _ (t : List ℕ) where
   -- where an entry may begin, and at the text's end, the blank block is empty
   pub block_at_entry : (i : ℕ) → has t is_entry_byte i ≡ true → BlankBlock t i i
   block_at_entry i e = empty_block i (excludes is_entry_byte is_space (slice_get t i) entry_no_space e) (excludes is_entry_byte (λ b. b == lf) (slice_get t i) entry_no_lf e) (excludes is_entry_byte (λ b. b == cr) (slice_get t i) entry_no_cr e)
-
-  none_holds : (p : ℕ → Bool) (o : Option ℕ) → o ≡ None → holds p o ≡ false
-  none_holds p o e = rw e
 
   pub past_end : (p : ℕ → Bool) → has t p (length t) ≡ false
   past_end p = none_holds p (slice_get t (length t)) (slice_get_past t (length t) (omega arith))

@@ -61,10 +61,6 @@ here_refused : {B : Type 0} (t : List ℕ) (P : ℕ → Type 0) (s : ℕ) (Good 
 here_refused t P s Good f g i from to k p (stops x) = elim x [ ]
 here_refused t P s Good f g i from to k p (goes_on at_place y) = weaker_fault s i p.late k from to ((g i p).holds.on_refused i from to k (record { late = omega arith; place = p.place }) y)
 
--- from a place on, it is sound from an earlier one on
-pub sound_later : {A : Type 0} {t : List ℕ} {P : ℕ → Type 0} {c : Construct A} {Good : A → Type 0} (s m : ℕ) → s ≤ m → Sound t P m c Good → Holds (Inside P m) c (Ended P s Good) (IsFault t s)
-sound_later {Good = Good} s m l x = holds_weaker (λ i p. p) (weaker_end {Good = Good} s m l) (weaker_fault s m l) x.holds
-
 module _ {t : List ℕ} {P : ℕ → Type 0} {s : ℕ} where
   pub known : {A B : Type 0} {Mid : A → Type 0} {Good : B → Type 0} {a : A} {c : Construct B} → (Mid a → Sound t P s c Good) → Holds (Ended P s Mid a) c (Ended P s Good) (IsFault t s)
   known f = record {

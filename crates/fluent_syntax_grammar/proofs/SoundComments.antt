@@ -12,7 +12,7 @@ use Rattle.fluent_syntax_grammar.proofs.Holds.{Holds, holds_bind, holds_over}
 use Rattle.fluent_syntax_grammar.proofs.Cuts.{IsCuts, ascii_byte}
 use Rattle.fluent_syntax_grammar.proofs.Sound.{IsSpan, Inside, Ended, IsFault, Sound, sound_bind, sound_gives, sound_at_each, sound_here, sound_spanned, known, sound_rest_of_line, sound_optional_eol}
 use Rattle.fluent_syntax_grammar.proofs.SoundWords.{sound_token}
-use Rattle.fluent_syntax_grammar.proofs.GoodLayout.{every_append}
+use Rattle.fluent_syntax_tree.proofs.Every.{every-append}
 use Rattle.fluent_syntax_grammar.proofs.CommentFaults.{some_hash}
 use Rattle.fluent_syntax_grammar.proofs.SoundEntries.{IsEntryFault, entry_fault, earlier_fault}
 
@@ -55,7 +55,7 @@ module _ (t : List ℕ) (P : ℕ → Type 0) (cuts : IsCuts t P) where
       let late = p.late in
       let q = (line_from s i level (omega arith) p.place e).on_read i m content refl x in
       let r = lines_read s level m j more (record { late = q.late; place = q.place }) y in
-      record { late = r.late; place = r.place; good = every_append P (IsSpan P) content more q.good r.good }
+      record { late = r.late; place = r.place; good = every-append (IsSpan P) content more q.good r.good }
 
   lines_refused : (X : Type 0) (level i from to : ℕ) (k : Kind) → comment_lines t level i (Refused k from to) → X
   lines_refused X level i from to k x = elim x [ ]
@@ -65,7 +65,7 @@ module _ (t : List ℕ) (P : ℕ → Type 0) (cuts : IsCuts t P) where
 
   comment_from : (i level : ℕ) → P i → hashes t i ≡ level → Holds (λ j. j ≡ i) (comment_of t level) (Ended P (i + level) (entry_every (IsSpan P))) (IsFault t (i + level))
   comment_from i level p e = holds_bind (line_from (i + level) i level (omega arith) p e) (λ content.
-      known {Mid = list_every (IsSpan P)} (λ g. sound_bind (sound_lines level) (λ rest k. sound_gives (every_append P (IsSpan P) content rest g k))))
+      known {Mid = list_every (IsSpan P)} (λ g. sound_bind (sound_lines level) (λ rest k. sound_gives (every-append (IsSpan P) content rest g k))))
 
   pub comment_read : (i j : ℕ) (a : EntryTree Span) → P i → has_byte t 35 i ≡ true → comment_entry t i (Read a j) → Ended P (i + 1) (entry_every (IsSpan P)) a j
   comment_read i j a p e (chosen x) =

@@ -23,8 +23,8 @@ use Rattle.fluent_syntax_grammar.proofs.SoundLines.{sound_family}
 use Rattle.fluent_syntax_grammar.proofs.Boundaries.{text_cuts}
 use Rattle.fluent_syntax_grammar.proofs.Nesting.{into_inline_expression, into_more_arguments, into_more_variants, into_more_pieces, into_more_lines, from_family}
 use Rattle.fluent_syntax_grammar.proofs.Total.{From, AnyFault, Total, Both, Strict, total_bind, total_weaker, total_over, total_at_each, total_either, both_bind, both_gives, both_here, both_fails, both_either, both_strict}
-use Rattle.fluent_syntax_grammar.proofs.TotalWords.{on_sound, word_of, both_inline_blank, both_blank, both_blank_block, optional_on, total_optional, both_optional, strict_token}
-use Rattle.fluent_syntax_grammar.proofs.TotalRules.{BothFamily, both_key, both_ending, strict_inline, strict_arguments, both_pieces, eol_text, more_read, ending_after}
+use Rattle.fluent_syntax_grammar.proofs.TotalWords.{both_blank, both_blank_block, both_inline_blank, both_optional, eol_text, on_sound, optional_on, strict_token, total_optional, word_of}
+use Rattle.fluent_syntax_grammar.proofs.TotalRules.{BothFamily, both_key, both_ending, strict_inline, strict_arguments, both_pieces, more_read, ending_after}
 
 module _ (edition : Edition) (t : List ℕ) where
   abbrev R : Family

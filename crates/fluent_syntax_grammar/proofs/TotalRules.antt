@@ -1,5 +1,5 @@
 -- What nests has an outcome at each place of the text.
-use Rattle.std.proofs.Common.{◌≡◌, ℕ, ◌+◌, ◌<◌, ◌≤◌, List, [], ◌∷◌, length, Option, Some, None, Bool, true, false, refl, sym, ◌∙◌, subst, arith, inl, inr}
+use Rattle.std.proofs.Common.{◌≡◌, ℕ, ◌+◌, ◌<◌, List, [], ◌∷◌, Option, Some, None, Bool, true, false, refl, sym, ◌∙◌, subst, arith, inl, inr}
 use Rattle.std.specs.Prelude.{slice_get, ◌⊎◌, ◌==◌, ◌||◌, ◌&&◌, not, if◌then◌else◌}
 use Rattle.std.proofs.lemmas.Bool.{false≢true}
 use Rattle.fluent_syntax_tree.specs.Kind.{Kind, TermAttributeAsPlaceable, UnbalancedClosingBrace}
@@ -18,13 +18,13 @@ use Rattle.fluent_syntax_grammar.specs.Lines.{is_run_place, ending_of, ending, p
 use Rattle.fluent_syntax_grammar.specs.Variants.{variant_key}
 use Rattle.fluent_syntax_tree.specs.declared.spans.Span.{Span}
 use Rattle.fluent_syntax_grammar.proofs.Holds.{Holds, gave, holds_weaker, holds_bind, holds_gives, holds_here, holds_fails, holds_over, holds_at_each, holds_either}
-use Rattle.fluent_syntax_grammar.proofs.Cuts.{eol_forward, eol_place}
+use Rattle.fluent_syntax_grammar.proofs.Cuts.{eol_forward}
 use Rattle.fluent_syntax_grammar.proofs.SoundStrings.{InText}
 use Rattle.fluent_syntax_grammar.proofs.SoundLines.{ending_holds}
 use Rattle.fluent_syntax_grammar.proofs.Boundaries.{text_cuts}
 use Rattle.fluent_syntax_grammar.proofs.Total.{From, AnyFault, Total, Both, Strict, total_bind, total_weaker, total_gives, total_here, total_fails, total_over, total_at_each, total_either, both_bind, both_gives, both_here, both_fails, both_at_each, both_either, both_strict, strict_first, strict_fails, strict_at_each, strict_either}
-use Rattle.fluent_syntax_grammar.proofs.TotalWords.{run_word, both_inline_blank, both_blank, both_optional, strict_token, strict_identifier, strict_number, strict_string}
-use Rattle.fluent_syntax_grammar.proofs.Facts.{byte_inside, differs, right_true}
+use Rattle.fluent_syntax_grammar.proofs.TotalWords.{both_blank, both_inline_blank, both_optional, eol_text, run_word, strict_identifier, strict_number, strict_string, strict_token}
+use Rattle.fluent_syntax_grammar.proofs.Facts.{byte_inside, differs, lt_or_same, right_true}
 
 -- each construct of the family has an outcome at each place from s on
 pub record BothFamily (t : List ℕ) (s : ℕ) (R : Family) : Type 0 where
@@ -51,16 +51,13 @@ module _ (t : List ℕ) where
   pub both_key : {s : ℕ} → Both t s (variant_key t)
   both_key = both_at_each (λ n. both_either (both_bind (both_strict (strict_number t)) (λ v. both_gives)) (both_bind (both_strict (strict_identifier t)) (λ v. both_gives)))
 
-  pub eol_text : (i k : ℕ) → after_eol t i ≡ Some k → k ≤ length t
-  eol_text i k e = eol_place t (InText t) (text_cuts t) i k e
-
   arrow_total : (s : ℕ) (o : Option ℕ) → Total (λ i. From t s i × (after_eol t i ≡ o)) (arrow_line_end o)
   arrow_total s None = total_fails
   arrow_total s (Some k) = total_over (λ i p. (k, record { there = refl }))
 
   arrow_on : (s : ℕ) (o : Option ℕ) → Holds (λ i. From t s i × (after_eol t i ≡ o)) (arrow_line_end o) (λ u. From t s) AnyFault
   arrow_on s None = holds_fails (λ i p. tt)
-  arrow_on s (Some k) = holds_over (λ i j p w. let q = p.0 in let late = q.late in let there = w.there in let f = eol_forward t i k p.1 in let l = eol_text i k p.1 in record { late = omega arith; in_text = omega arith })
+  arrow_on s (Some k) = holds_over (λ i j p w. let q = p.0 in let late = q.late in let there = w.there in let f = eol_forward t i k p.1 in let l = eol_text t i k p.1 in record { late = omega arith; in_text = omega arith })
 
   both_arrow : {s : ℕ} → Both t s (at_each (after_eol t) arrow_line_end)
   both_arrow {s = s} = record { total = total_at_each (arrow_total s); on = holds_at_each (arrow_on s) }
@@ -90,7 +87,7 @@ module _ (t : List ℕ) where
       let late = p.late in
       let there = w.there in
       let on = eol_forward t i k f in
-      let l = eol_text i k f in
+      let l = eol_text t i k f in
       let g = gave _ x m j y in
       let same = g.1 in
       record { late = omega arith; in_text = omega arith }
@@ -115,9 +112,6 @@ module _ (t : List ℕ) where
 
   run_place : (i b : ℕ) → slice_get t i ≡ Some b → has_eol t i ≡ false → (b == 123) ≡ false → (b == 125) ≡ false → is_run_place t i ≡ true
   run_place i b h e y z = run_at i b (slice_get t i) (has_eol t i) h e (byte_is i b lf h (no_line_feed (has_byte t lf i) (has_byte t cr i) (has_byte t lf (i + 1)) e)) y z
-
-  lt_or_same : (i j : ℕ) → i ≤ j → (i < j) ⊎ (i ≡ j)
-  lt_or_same i j l = grind arith
 
   run_on : (i j : ℕ) → is_run_place t i ≡ true → Stretch (is_run_place t) i j → i < j
   run_on i j e w = elim (lt_or_same i j w.forward) [ inl l ↦ l | inr same ↦ absurd (false≢true (sym w.longest ∙ subst (λ k. is_run_place t k ≡ true) same e)) ]

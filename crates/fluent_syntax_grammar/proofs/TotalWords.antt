@@ -1,5 +1,5 @@
 -- Words, marks, names, numbers and strings have an outcome at each place of the text.
-use Rattle.std.proofs.Common.{◌≡◌, ℕ, zero, suc, ◌+◌, ◌-◌, ◌<◌, ◌≤◌, List, length, Option, Some, None, Bool, true, false, refl, sym, ◌∙◌, subst, arith, inl, inr}
+use Rattle.std.proofs.Common.{◌≡◌, ℕ, zero, suc, ◌+◌, ◌<◌, ◌≤◌, List, length, Option, Some, None, Bool, true, false, refl, sym, ◌∙◌, subst, arith, inl, inr}
 use Rattle.std.specs.Prelude.{slice_get, ◌==◌}
 use Rattle.std.proofs.lemmas.Bool.{false≢true}
 use Rattle.std.proofs.lemmas.Option.{slice_get_within}
@@ -18,7 +18,7 @@ use Rattle.fluent_syntax_grammar.proofs.Boundaries.{text_cuts}
 use Rattle.fluent_syntax_grammar.proofs.Computed.{find_here, find_on}
 use Rattle.fluent_syntax_grammar.proofs.ComputedRules.{computed_hex, hex_run, hex_end}
 use Rattle.fluent_syntax_grammar.proofs.Total.{From, AnyFault, Total, Both, Strict, IsWord, total_bind, total_gives, total_fails, total_over, total_at_each, total_either, both_bind, both_gives, both_here, both_fails, both_over, both_at_each, both_either, both_strict, strict_first, strict_then}
-use Rattle.fluent_syntax_grammar.proofs.Facts.{byte_inside, lt_or_same}
+use Rattle.fluent_syntax_grammar.proofs.Facts.{byte_inside, lt_or_same, stretch_in_text}
 
 true_false : {X : Type 0} → false ≡ true → X
 true_false e = cc
@@ -39,16 +39,11 @@ module _ (t : List ℕ) where
   stretch_exists test inside zero i l = stretch_at test inside zero i l (test i) refl (λ e. let x = inside i e in absurd (omega arith))
   stretch_exists test inside (suc m) i l = stretch_at test inside (suc m) i l (test i) refl (λ e. stretch_exists test inside m (i + 1) (omega arith))
 
-  stretch_in_text : (test : ℕ → Bool) → ((k : ℕ) → test k ≡ true → k < length t) → (i j : ℕ) → i ≤ length t → Stretch test i j → j ≤ length t
-  stretch_in_text test inside i j l s =
-      let forward = s.forward in
-      elim (lt_or_same i j forward) [ inl m ↦ (let last = inside (j - 1) (s.each (j - 1) (omega arith) (omega arith)) in omega arith) | inr e ↦ omega arith ]
-
   pub stretch_word : (test : ℕ → Bool) → ((k : ℕ) → test k ≡ true → k < length t) → IsWord t (Stretch test)
   stretch_word test inside = record {
     exists = λ i l. stretch_exists test inside (length t) i (omega arith);
     forward = λ i j s. s.forward;
-    in_text = λ i j l s. stretch_in_text test inside i j l s;
+    in_text = λ i j l s. stretch_in_text (length t) test inside i j l s;
   }
 
   has_inside : (set : ℕ → Bool) (k : ℕ) → has t set k ≡ true → k < length t
@@ -65,7 +60,7 @@ module _ (t : List ℕ) where
 
   -- ---- blank blocks
 
-  eol_text : (i k : ℕ) → after_eol t i ≡ Some k → k ≤ length t
+  pub eol_text : (i k : ℕ) → after_eol t i ≡ Some k → k ≤ length t
   eol_text i k e = eol_place t (InText t) (text_cuts t) i k e
 
   block_at : (m i k : ℕ) → length t ≤ i + m → i ≤ length t → InlineBlank t i k → (o : Option ℕ) → after_eol t k ≡ o → ((q : ℕ) → i < q → q ≤ length t → (j : ℕ) × BlankBlock t q j) → (j : ℕ) × BlankBlock t i j

@@ -13,7 +13,7 @@ use Rattle.fluent_syntax_grammar.specs.Comments.{hashes, comment_text, comment_r
 use Rattle.fluent_syntax_tree.specs.declared.spans.Span.{Span}
 use Rattle.fluent_syntax_grammar.proofs.Cuts.{eol_cases, eol_forward}
 use Rattle.fluent_syntax_grammar.proofs.LineEnds.{IsLineStart, eol_start, split_at}
-use Rattle.fluent_syntax_grammar.proofs.Facts.{byte_found, excludes, none_holds}
+use Rattle.fluent_syntax_grammar.proofs.Facts.{byte_found, excludes, none_holds, some_same}
 
 -- a line from i on, with its line end, reaches to j
 pub record IsLine (t : List ℕ) (i j : ℕ) : Type 0 where
@@ -40,9 +40,6 @@ byte_stands (Some b) false h = (refl, (b, refl))
 or_left_false : (a b : Bool) → (a || b) ≡ false → a ≡ false
 or_left_false true b e = e
 or_left_false false b e = refl
-
-some_same : {a b : ℕ} → Some a ≡ Some b → a ≡ b
-some_same e = cc
 
 some_none : {o : Option ℕ} {b : ℕ} {X : Type 0} → o ≡ Some b → o ≡ None → X
 some_none e f = cc

@@ -6,15 +6,6 @@ use Rattle.serde_json.specs.Find.{as_str}
 use Rattle.fluent_syntax_json.specs.Object.{Text}
 use Rattle.fluent_syntax_json.specs.Reading.{list_by, lines_in}
 
--- one text is one line
-pub one_line : (d : Data) (s : Text) → as_str d ≡ Some s → lines_in d ≡ Some (s ∷ [])
-one_line null s is = absurd (none-some _ is)
-one_line (boolean b) s is = absurd (none-some _ is)
-one_line (number n) s is = absurd (none-some _ is)
-one_line (string x) s is = ap (λ y. Some (y ∷ [])) (same_Some _ _ is)
-one_line (array ds) s is = absurd (none-some _ is)
-one_line (object ms) s is = absurd (none-some _ is)
-
 -- what is no text has to be a list of lines
 pub list_of_lines : (d : Data) → is_some (as_str d) ≡ false → lines_in d ≡ list_by as_str d
 list_of_lines null e = refl

@@ -1,6 +1,5 @@
 -- What holds of each text of a value holds of each text of its parts, and the other way round.
-use Rattle.std.proofs.Common.{◌≡◌, ℕ, zero, suc, ◌+◌, ◌<◌, List, [], ◌∷◌, ◌++◌, length, get_or, map, Option, Some, None, option_map, Vec, Box, Global, sym, ap, ◌∙◌, subst, arith}
-use Rattle.std.proofs.lemmas.List.{map-append}
+use Rattle.std.proofs.Common.{◌≡◌, ℕ, zero, suc, ◌<◌, List, [], ◌∷◌, ◌++◌, length, get_or, map, Option, Some, None, option_map, Vec, Box, Global, sym, ap, ◌∙◌, subst, arith}
 use Rattle.fluent_syntax_tree.specs.Tree.{KeyTree, name_key, number_key, ExpressionTree, select, inline, InlineTree, string_literal, number_literal, function_reference, message_reference, term_reference, variable_reference, inline_placeable, ArgumentsTree, arguments, MaybeArguments, no_arguments, some_arguments, InlineTrees, no_inlines, inlines, NamedTree, named_argument, NamedTrees, no_named, nameds, ElementTree, text_element, placeable, PatternTree, no_elements, elements, VariantTree, variant, VariantTrees, no_variants, variants, inlines_of, nameds_of, elements_of, variants_of, arguments_of}
 use Rattle.fluent_syntax_tree.specs.Entry.{AttributeTree, MessageTree, TermTree, EntryTree, message, term, comment, junk, BodyTree}
 use Rattle.fluent_syntax_tree.specs.Every.{key_every, option_every, list_every, expression_every, inline_every, arguments_every, maybe_every, inlines_every, named_every, nameds_every, element_every, pattern_every, variant_every, variants_every, attribute_every, message_every, term_every, entry_every, body_every}
@@ -32,11 +31,6 @@ every_item P v xs items i d h e l is =
 pub every-append : {X : Type 0} (P : X → Type 0) (xs ys : List X) → list_every P xs → list_every P ys → list_every P (xs ++ ys)
 every-append P [] ys h k = k
 every-append P (x ∷ xs) ys h k = (h.0, every-append P xs ys h.1 k)
-
--- of a list with one more
-pub every-pushed : {A X : Type 0} (P : X → Type 0) (v : A → X) (xs ys : List A) (y : A) → list_every P (map v xs) → P (v y) → ys ≡ xs ++ y ∷ [] → list_every P (map v ys)
-every-pushed P v xs ys y h k e =
-    subst (λ l. list_every P l) (sym (ap (map v) e ∙ map-append v xs (y ∷ []))) (every-append P (map v xs) (v y ∷ []) h (k, tt))
 
 pub inlines_list : {X : Type 0} (P : X → Type 0) (xs : List (InlineTree X)) → inlines_every P (inlines_of xs) → list_every (inline_every P) xs
 inlines_list P [] h = tt

@@ -13,10 +13,6 @@ Appends-more (Some u) None c xs ys h k = absurd h
 Appends-more (Some u) (Some v) None xs ys h k = absurd k
 Appends-more (Some u) (Some v) (Some w) xs ys h k = k ∙ ap (λ l. l ++ ys) h ∙ append_assoc u xs ys
 
-pub Consumes-none : (a : Option (List ℕ)) → Consumes a a []
-Consumes-none None = tt
-Consumes-none (Some xs) = refl
-
 pub Consumes-more : (a b c : Option (List ℕ)) (xs ys : List ℕ) → Consumes a b xs → Consumes b c ys → Consumes a c (xs ++ ys)
 Consumes-more None b c xs ys h k = tt
 Consumes-more (Some u) None c xs ys h k = absurd h

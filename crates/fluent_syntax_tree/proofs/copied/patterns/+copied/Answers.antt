@@ -4,7 +4,7 @@ use Rattle.fluent_syntax_tree.specs.Every.{inline_every, element_every, named_ev
 use Rattle.fluent_syntax_tree.specs.Tree.{arguments_of}
 use Rattle.fluent_syntax_tree.proofs.Every.{every_item, every-Select, every-Inline, every-FunctionReference, every-TermReference, every-InlinePlaceable, every-Placeable, every-Variant, every-NamedArgument, every-Pattern, every-CallArguments}
 use Rattle.fluent_syntax_tree.proofs.Lists.{map_pushed, map_finished}
-use Rattle.fluent_syntax_tree.proofs.Views.{views, view-Pattern, view-Select, same-CallArguments, same-TermReference}
+use Rattle.fluent_syntax_tree.proofs.Views.{view-Pattern, view-Select, same-CallArguments, same-TermReference}
 use Rattle.fluent_syntax_tree.specs.Tree.{elements_of}
 use Rattle.fluent_syntax_tree.specs.View.{inline_view, element_view, arguments_view, named_view, variant_view}
 use Rattle.fluent_syntax_tree.specs.declared.ast.CallArguments.{out-CallArguments}
