@@ -1,40 +1,128 @@
 #!/usr/bin/env bash
 # Runs ftl on standard input: ./ftl check|format|runtime|json|check-two|format-two < FILE
-# The first use proves and builds the program; later uses start at once.
-set -eu
-top="$(cd "$(dirname "$0")" && pwd)"
-crates="fluent_syntax_tree fluent_syntax_grammar fluent_syntax_laws fluent_syntax_reader fluent_syntax_writer fluent_syntax_json fluent_syntax ftl ftl_program"
-program="$top/crates/ftl_program/out/ftl_program"
-stamp="$top/crates/ftl_program/out/built-from"
+#
+# The first use proves and builds the program, and says on standard error how far it is; later uses start at once.
+# What runs was built from the sources as they are: an older program is never run.
+set -euo pipefail
+unset CDPATH
+top="$(dirname "$(readlink -f "${BASH_SOURCE[0]}")")"
+made="$top/crates/ftl_program/out"
+jobs_running=()
 
-# the sources that the program is made of
-sources() {
-    for crate in $crates; do
-        find "$top/crates/$crate" -path '*/out' -prune -o -type f \( -name '*.rt' -o -name '*.antt' \) -newer "$stamp" -print
-    done
+say() { printf 'ftl: %s\n' "$*" >&2; }
+
+# Says why there is no program, and ends with a status of its own.
+fail() { say "$*"; exit 70; }
+
+# The crates that the program is made of, each with its level: a crate stands on crates of lower levels alone.
+crates() {
+    awk -F: '
+        /^[^#]/ { below[$1] = $2 }
+        function level(name,    names, n, i, most, at) {
+            if (name in found) return found[name]
+            most = 0
+            n = split(below[name], names, " ")
+            for (i = 1; i <= n; i++) if (names[i] in below) { at = level(names[i]); if (at > most) most = at }
+            return found[name] = most + 1
+        }
+        END { level("ftl_program"); for (name in found) print found[name], name }' "$top/crates.txt" | sort -n
 }
 
-build() {
-    log="$(mktemp)"
-    for crate in $crates; do
-        case "$crate" in
-            ftl_program) command="run" ;;
-            *) command="lib" ;;
-        esac
-        if ! (cd "$top/crates/$crate" && rt $command </dev/null >"$log" 2>&1); then
-            if [ "$crate" != ftl_program ] || [ ! -x "$program" ]; then
-                cat "$log" >&2
-                echo "ftl: $crate was not built" >&2
-                rm -f "$log"
-                exit 70
-            fi
+# One sum of all the text that the program is made from.
+sum_of_sources() (
+    cd "$top"
+    crates | sed 's/.* /crates\//' | xargs -I{} find {} -name out -prune -o -type f \( -name '*.rt' -o -name '*.antt' \) -print0 |
+        sort -z | xargs -0 sha256sum crates.txt | sha256sum
+)
+
+is_built() { [ -x "$made/ftl" ] && [ "$(cat "$made/built-from" 2>/dev/null)" = "$1" ]; }
+
+# Ends what was begun.
+interrupt() {
+    trap - INT TERM HUP
+    for job in "${jobs_running[@]}"; do kill -TERM -- "-$job" 2>/dev/null || true; done
+    rm -rf "$made/rooms"
+    say "interrupted: what was proved is kept, and the next use goes on from there"
+    exit 130
+}
+
+# Proves a crate in the folder, where it stands with the crates below it, and builds what those above it need.
+prove() (
+    cd "$1/crates/$2"
+    if [ "$2" = ftl_program ]; then rt run -- check; else rt lib; fi </dev/null
+) >"$made/$2.log" 2>&1
+
+# A copy of the crate and all crates of lower levels: rt lets one check at a time into a crate and those below it.
+room_for() {
+    local room="$made/rooms/$1" crate
+    mkdir -p "$room/crates"
+    cp "$top/crates.txt" "$room"
+    for crate in "$1" "${below[@]}"; do cp -a "$top/crates/$crate" "$room/crates"; done
+    echo "$room"
+}
+
+# Proves the crates of one level: from nothing side by side, where there are processors for it.
+prove_level() {
+    local crate room rooms=() job failed=""
+    jobs_running=()
+    for crate in "$@"; do
+        say "proving $crate ($((++number)) of $total)"
+        room="$top"
+        if [ "$#" -gt 1 ] && [ "$(nproc)" -ge 4 ] && [ ! -d "$top/crates/$crate/out" ]; then room="$(room_for "$crate")"; fi
+        set -m
+        prove "$room" "$crate" 9>&- &
+        set +m
+        jobs_running+=($!)
+        rooms+=("$room")
+        if [ "$room" = "$top" ]; then wait $! || failed="$crate"; fi
+        [ -z "$failed" ] || break
+    done
+    for job in "${!rooms[@]}"; do
+        crate="${@:job+1:1}"
+        if [ "${rooms[job]}" != "$top" ]; then
+            wait "${jobs_running[job]}" || { failed="$crate"; continue; }
+            mv "${rooms[job]}/crates/$crate/out" "$top/crates/$crate/out"
         fi
     done
-    rm -f "$log"
-    touch "$stamp"
+    rm -rf "$made/rooms"
+    jobs_running=()
+    [ -z "$failed" ] || { cat "$made/$failed.log" >&2; fail "$failed was not built"; }
 }
 
-if [ ! -x "$program" ] || [ ! -e "$stamp" ] || [ -n "$(sources | head -n 1)" ]; then
-    build
-fi
-exec "$program" "$@"
+# Proves all that the program is made of, lowest first, and builds it.
+build() {
+    local levels total number=0 level below=() now=()
+    levels="$(crates)"
+    total="$(wc -l <<<"$levels")"
+    rm -rf "$made/built-from" "$made/rooms"
+    for level in $(cut -d' ' -f1 <<<"$levels" | uniq); do
+        mapfile -t now < <(sed -n "s/^$level //p" <<<"$levels")
+        prove_level "${now[@]}"
+        below+=("${now[@]}")
+    done
+    cp "$made/ftl_program" "$made/ftl.new"
+    mv "$made/ftl.new" "$made/ftl"
+    rm -f "$made"/*.log
+}
+
+# Builds the program unless another run does; then waits for that.
+build_once() {
+    command -v rt >/dev/null || fail "the program is not built yet, and the Rattle toolchain, which builds it, is not there (no rt on the PATH)"
+    { mkdir -p "$made" && : >"$made/lock"; } 2>/dev/null || fail "the program is not built yet, and $top cannot be written to"
+    exec 9>"$made/lock"
+    flock -n 9 || { say "another ftl builds the program: waiting for it"; flock 9; }
+    trap interrupt INT TERM HUP
+    while sum="$(sum_of_sources)"; ! is_built "$sum"; do
+        say "building the program; from nothing that takes some 15 to 40 minutes, once"
+        build
+        echo "$sum" >"$made/built-from"
+    done
+    trap - INT TERM HUP
+    exec 9>&-
+}
+
+sum="$(sum_of_sources)"
+is_built "$sum" || build_once
+# deep nesting needs stack
+ulimit -S -s "$(ulimit -H -s)" 2>/dev/null || true
+exec "$made/ftl" "$@"

@@ -4,7 +4,7 @@ ghost use Rattle.fluent_syntax.specs.Errors.{ErrorsAscend, JunkIsRefused};
 ghost use Rattle.fluent_syntax.specs.RoundTrip.{AnswersReadable};
 ghost use Rattle.fluent_syntax_grammar.specs.Places.{BlankBlock};
 ghost use Rattle.fluent_syntax_grammar.specs.Tiling.{Tile};
-ghost use Rattle.fluent_syntax_reader.specs.Answers.{Answers, AnswersRuntimeTiling, AnswersTiling};
+ghost use Rattle.fluent_syntax_reader.specs.Answers.{Answers, AnswersRuntimeTiling, AnswersTiling, ErrorsInText};
 ghost use Rattle.fluent_syntax_reader.specs.Parts.{HasParts};
 ghost use Rattle.fluent_syntax_tree.specs.Entry.{body_map};
 ghost use Rattle.fluent_syntax_tree.specs.Spans.{bytes_at};
@@ -27,7 +27,7 @@ pub type Result<S> = std::result::Result<Resource<S>, ParseFault<S>>;
 /// Reads a text by edition one of the grammar, with its comments.
 ///
 /// `Syntax` where at least one error was found: the tree and the errors, one for each junk, in
-/// order. `Memory` where a growth was refused, whatever was found before. The text has to have fewer
+/// order; the place of each begins within the text, as `line_column` asks. `Memory` where a growth was refused, whatever was found before. The text has to have fewer
 /// bytes than the greatest `usize`, as every text that can be made has.
 pub fn parse<'s, S: Slice<'s>>(alloc: Global, input: S) -> Result<S>
     requires { length (S.text input) + 1 < 2 ^ 64 }
@@ -36,6 +36,7 @@ pub fn parse<'s, S: Slice<'s>>(alloc: Global, input: S) -> Result<S>
     ensures blank { BlankBlock (S.text input) 0 (length (S.text input)) → IsOk result }
     ensures junk { JunkIsRefused (S.text input) S.text result }
     ensures errors { ErrorsAscend (S.text input) result }
+    ensures places { ErrorsInText (S.text input) result }
 {
     parse_edition(alloc, input, Edition::One)
 }
@@ -47,6 +48,7 @@ pub fn parse_edition<'s, S: Slice<'s>>(alloc: Global, input: S, edition: Edition
     ensures blank { BlankBlock (S.text input) 0 (length (S.text input)) → IsOk result }
     ensures junk { JunkIsRefused (S.text input) S.text result }
     ensures errors { ErrorsAscend (S.text input) result }
+    ensures places { ErrorsInText (S.text input) result }
 {
     let spans = parse_spans_edition(alloc, input.as_str(), edition);
     with_texts(alloc, &input, spans)
@@ -62,6 +64,7 @@ pub fn parse_runtime<'s, S: Slice<'s>>(alloc: Global, input: S) -> Result<S>
     ensures blank { BlankBlock (S.text input) 0 (length (S.text input)) → IsOk result }
     ensures junk { JunkIsRefused (S.text input) S.text result }
     ensures errors { ErrorsAscend (S.text input) result }
+    ensures places { ErrorsInText (S.text input) result }
 {
     parse_runtime_edition(alloc, input, Edition::One)
 }
@@ -77,6 +80,7 @@ pub fn parse_runtime_edition<'s, S: Slice<'s>>(
     ensures blank { BlankBlock (S.text input) 0 (length (S.text input)) → IsOk result }
     ensures junk { JunkIsRefused (S.text input) S.text result }
     ensures errors { ErrorsAscend (S.text input) result }
+    ensures places { ErrorsInText (S.text input) result }
 {
     let spans = parse_runtime_spans_edition(alloc, input.as_str(), edition);
     with_texts(alloc, &input, spans)

@@ -128,7 +128,7 @@ module _ (t : List ℕ) (R : Family) (h : IsFunctionalFamily R) where
   functional_pieces : IsFunctional (more_pieces t R)
   functional_pieces = search (words, functional_pieces_at) depth 30
 
-  functional_line : IsFunctional (line t R)
+  pub functional_line : IsFunctional (line t R)
   functional_line = search (words, functional_ending, nested_pieces) depth 30
 
   functional_line_and_more : IsFunctional (line_and_more t R)

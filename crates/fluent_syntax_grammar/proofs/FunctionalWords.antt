@@ -4,7 +4,7 @@ use Rattle.std.specs.Char.{is_ascii_hexdigit}
 use Rattle.std.specs.Prelude.{slice_get}
 use Rattle.fluent_syntax_grammar.specs.Places.{has}
 use Rattle.fluent_syntax_grammar.specs.Construct.{Outcome}
-use Rattle.fluent_syntax_grammar.specs.Words.{optional, token, past_eol, optional_eol, rest_of_line, digits, identifier, number}
+use Rattle.fluent_syntax_grammar.specs.Words.{optional, token, inline_blank, blank, blank_block, past_eol, optional_eol, rest_of_line, digits, identifier, number}
 use Rattle.fluent_syntax_grammar.specs.Strings.{hex_digits, all_there, too_few, escaped, string_unit, string_units, before_quote, unit_and_more, bad_unit, string_literal}
 use Rattle.fluent_syntax_grammar.specs.Laws.{IsFunctional}
 use Rattle.fluent_syntax_grammar.proofs.Functional.{functional}
@@ -31,6 +31,15 @@ module _ (t : List ℕ) where
 
   pub functional_rest_of_line : IsFunctional (rest_of_line t)
   functional_rest_of_line = search functional depth 30
+
+  pub functional_inline_blank : IsFunctional (inline_blank t)
+  functional_inline_blank = search functional depth 30
+
+  pub functional_blank : IsFunctional (blank t)
+  functional_blank = search functional depth 30
+
+  pub functional_blank_block : IsFunctional (blank_block t)
+  functional_blank_block = search functional depth 30
 
   pub functional_token : (b : ℕ) → IsFunctional (token t b)
   functional_token b = search functional depth 30

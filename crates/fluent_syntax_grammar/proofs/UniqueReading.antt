@@ -4,11 +4,11 @@ use Rattle.fluent_syntax_tree.specs.Every.{list_every}
 use Rattle.fluent_syntax_grammar.specs.Grammar.{family}
 use Rattle.fluent_syntax_grammar.specs.Tiling.{Tile, entry, refused, dropped}
 use Rattle.fluent_syntax_grammar.specs.Body.{faults}
-use Rattle.fluent_syntax_grammar.specs.Laws.{OneReading, OneTiling, OneRuntimeTiling, FaultMeans, KindsMean, RuntimeKindsMean, SameMessagesAndTerms, NoNewErrors, SameWithoutComments, messages_and_terms}
+use Rattle.fluent_syntax_grammar.specs.Laws.{OneReading, OneTiling, OneRuntimeTiling, FaultMeans, KindsMean, RuntimeKindsMean, HasNoComments, SameMessagesAndTerms, NoNewErrors, SameWithoutComments, messages_and_terms}
 use Rattle.fluent_syntax_tree.specs.declared.edition.Edition.{Edition}
-use Rattle.fluent_syntax_grammar.proofs.FunctionalWords.{functional_identifier, functional_number, functional_string}
+use Rattle.fluent_syntax_grammar.proofs.FunctionalWords.{functional_token, functional_inline_blank, functional_blank, functional_blank_block, functional_optional_eol, functional_rest_of_line, functional_identifier, functional_number, functional_string}
 use Rattle.fluent_syntax_grammar.proofs.FunctionalRules as rules
-use Rattle.fluent_syntax_grammar.proofs.FunctionalEntries.{functional_pattern, functional_attribute, functional_attributes, functional_message, functional_term, functional_comment, functional_entry}
+use Rattle.fluent_syntax_grammar.proofs.FunctionalEntries.{functional_pattern, functional_attribute, functional_attributes, functional_message, functional_term, functional_comment_line, functional_comment_lines, functional_comment, functional_entry}
 use Rattle.fluent_syntax_grammar.proofs.Nesting.{functional_family}
 use Rattle.fluent_syntax_grammar.proofs.OneTiling as tilings
 use Rattle.fluent_syntax_grammar.proofs.SoundStrings.{InText}
@@ -24,21 +24,39 @@ module _ (edition : Edition) (t : List ℕ) where
       let R = family edition t in
       let h = functional_family edition t in
       record {
+        token = functional_token t;
+        inline_blank = functional_inline_blank t;
+        blank = functional_blank t;
+        blank_block = functional_blank_block t;
+        line_end = functional_optional_eol t;
+        rest_of_line = functional_rest_of_line t;
         identifier = functional_identifier t;
         number = functional_number t;
         string_literal = functional_string t;
         inline_expression = rules.functional_inline t R h;
+        attribute_accessor = rules.functional_accessor t;
         call_arguments = rules.functional_call t R h;
+        more_arguments = h.more_arguments;
         expression = rules.functional_expression t R h;
         placeable = rules.functional_placeable t R h;
+        variant_key = rules.functional_key t;
         variant_list = rules.functional_variants edition t R h _;
+        more_variants = h.more_variants;
+        pieces = h.more_pieces;
+        line_ending = rules.functional_ending t;
+        line = rules.functional_line t R h;
+        lines = h.more_lines;
+        layout = rules.functional_layout t R h;
         pattern = functional_pattern edition t;
         attribute = functional_attribute edition t;
         attributes = functional_attributes edition t;
         message = functional_message edition t;
         term = functional_term edition t;
+        comment_line = functional_comment_line t;
+        comment_lines = functional_comment_lines t;
         comment = functional_comment t;
         entry = functional_entry edition t;
+        dropped_line = tilings.functional_whole_line t;
       }
 
   pub one_tiling : OneTiling edition t
@@ -58,6 +76,9 @@ module _ (edition : Edition) (t : List ℕ) where
 
   pub runtime_kinds_mean : RuntimeKindsMean edition t
   runtime_kinds_mean = λ tiles a. faults_mean tiles (runtime_good edition t (InText t) (text_cuts t) 0 tiles (omega arith) a)
+
+  pub has_no_comments : HasNoComments edition t
+  has_no_comments = λ tiles a. body_bare tiles (bare_runtime edition t 0 tiles a) ∙ sym (bare_body tiles)
 
   pub same_messages_and_terms : SameMessagesAndTerms edition t
   same_messages_and_terms = λ xs ys a b.

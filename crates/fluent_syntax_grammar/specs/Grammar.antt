@@ -1,5 +1,5 @@
 -- The grammar of what nests: the family that its own rules make.
-use Rattle.std.specs.Prelude.{ℕ, zero, suc, List, false, Option}
+use Rattle.std.specs.Prelude.{ℕ, zero, suc, List, Bool, false, Option}
 use Rattle.fluent_syntax_grammar.specs.Construct.{Construct}
 use Rattle.fluent_syntax_grammar.specs.Family.{Family}
 use Rattle.fluent_syntax_grammar.specs.Arguments as arguments
@@ -8,7 +8,8 @@ use Rattle.fluent_syntax_grammar.specs.Inline as inline
 use Rattle.fluent_syntax_grammar.specs.Lines as lines
 use Rattle.fluent_syntax_grammar.specs.Patterns as patterns
 use Rattle.fluent_syntax_grammar.specs.Variants as variants
-use Rattle.fluent_syntax_tree.specs.Tree.{ExpressionTree, InlineTree, MaybeArguments, PatternTree, VariantTrees}
+use Rattle.fluent_syntax_grammar.specs.Layout.{Piece, Line, Layout}
+use Rattle.fluent_syntax_tree.specs.Tree.{ArgumentsTree, ExpressionTree, InlineTree, MaybeArguments, PatternTree, VariantTrees}
 use Rattle.fluent_syntax_tree.specs.declared.edition.Edition.{Edition}
 use Rattle.fluent_syntax_tree.specs.declared.spans.Span.{Span}
 
@@ -52,6 +53,10 @@ module _ (edition : Edition) (t : List ℕ) where
   abbrev pub call_arguments : Construct (MaybeArguments Span)
   call_arguments = arguments.call_arguments t family
 
+  -- the rest of an argument list, after named arguments of these names
+  abbrev pub more_arguments : List (List ℕ) → Construct (ArgumentsTree Span)
+  more_arguments names = family.more_arguments names
+
   -- an expression in a placeable
   abbrev pub expression : Construct (ExpressionTree Span)
   expression = placeables.expression t family
@@ -60,9 +65,29 @@ module _ (edition : Edition) (t : List ℕ) where
   abbrev pub placeable : Construct (ExpressionTree Span)
   placeable = placeables.placeable t family
 
+  -- the rest of a list of variants; the flag says whether a default stood before
+  abbrev pub more_variants : (starred : Bool) → Construct (VariantTrees Span)
+  more_variants starred = family.more_variants starred
+
   -- the variants of a select
   abbrev pub variant_list : Construct (VariantTrees Span)
   variant_list = variants.more_variants edition t family false
+
+  -- the rest of a line of a pattern, up to its ending
+  abbrev pub more_pieces : Construct (List Piece)
+  more_pieces = family.more_pieces
+
+  -- a line of a pattern
+  abbrev pub line : Construct Line
+  line = lines.line t family
+
+  -- the lines that belong to a pattern, from a line's start on
+  abbrev pub more_lines : Construct (List Line)
+  more_lines = family.more_lines
+
+  -- the layout of a pattern
+  abbrev pub layout : Construct Layout
+  layout = patterns.layout t family
 
   -- a pattern
   abbrev pub pattern : Construct (Option (PatternTree Span))

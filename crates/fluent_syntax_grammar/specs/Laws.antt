@@ -1,5 +1,5 @@
 -- The laws of unique reading, as statements.
-use Rattle.std.specs.Prelude.{◌≡◌, ℕ, ◌<◌, ◌≤◌, List, [], ◌∷◌, length, map, None}
+use Rattle.std.specs.Prelude.{◌≡◌, ℕ, ◌<◌, ◌≤◌, List, [], ◌∷◌, length, map, Bool, None}
 use Rattle.std.specs.Str.{IsUtf8}
 use Rattle.std.specs.List.{flat_map}
 use Rattle.fluent_syntax_tree.specs.Entry.{EntryTree, message, term, comment, junk, BodyTree}
@@ -8,10 +8,13 @@ use Rattle.fluent_syntax_tree.specs.Spans.{IsPart}
 use Rattle.fluent_syntax_grammar.specs.Construct.{Outcome, Construct}
 use Rattle.fluent_syntax_grammar.specs.Words as words
 use Rattle.fluent_syntax_grammar.specs.Strings as strings
+use Rattle.fluent_syntax_grammar.specs.Arguments as arguments
+use Rattle.fluent_syntax_grammar.specs.Variants as variants
+use Rattle.fluent_syntax_grammar.specs.Lines as lines
 use Rattle.fluent_syntax_grammar.specs.Grammar as grammar
 use Rattle.fluent_syntax_grammar.specs.Entries as entries
 use Rattle.fluent_syntax_grammar.specs.Comments as comments
-use Rattle.fluent_syntax_grammar.specs.Tiling.{Fault, Tile, entry_at, Tiling, RuntimeTiling}
+use Rattle.fluent_syntax_grammar.specs.Tiling.{Fault, Tile, whole_line, entry_at, Tiling, RuntimeTiling}
 use Rattle.fluent_syntax_grammar.specs.Body.{faults, body}
 use Rattle.fluent_syntax_grammar.specs.Meaning.{kind_means}
 use Rattle.fluent_syntax_tree.specs.declared.edition.Edition.{Edition}
@@ -70,23 +73,42 @@ abbrev pub fault_slice : Fault → Span
 fault_slice f = f.slice
 
 module _ (edition : Edition) (t : List ℕ) where
-  -- each construct of the grammar has at most one outcome at a place
+  -- Each construct of the grammar has at most one outcome at a place: entries, what they are made of, and the parts of these down to
+  -- bytes and blanks.
   pub record OneReading : Type 0 where
+    pub token : (byte : ℕ) → IsFunctional (words.token t byte)
+    pub inline_blank : IsFunctional (words.inline_blank t)
+    pub blank : IsFunctional (words.blank t)
+    pub blank_block : IsFunctional (words.blank_block t)
+    pub line_end : IsFunctional (words.optional_eol t)
+    pub rest_of_line : IsFunctional (words.rest_of_line t)
     pub identifier : IsFunctional (words.identifier t)
     pub number : IsFunctional (words.number t)
     pub string_literal : IsFunctional (strings.string_literal t)
     pub inline_expression : IsFunctional (grammar.inline_expression edition t)
+    pub attribute_accessor : IsFunctional (arguments.accessor t)
     pub call_arguments : IsFunctional (grammar.call_arguments edition t)
+    pub more_arguments : (names : List (List ℕ)) → IsFunctional (grammar.more_arguments edition t names)
     pub expression : IsFunctional (grammar.expression edition t)
     pub placeable : IsFunctional (grammar.placeable edition t)
+    pub variant_key : IsFunctional (variants.variant_key t)
     pub variant_list : IsFunctional (grammar.variant_list edition t)
+    pub more_variants : (starred : Bool) → IsFunctional (grammar.more_variants edition t starred)
+    pub pieces : IsFunctional (grammar.more_pieces edition t)
+    pub line_ending : IsFunctional (lines.ending t)
+    pub line : IsFunctional (grammar.line edition t)
+    pub lines : IsFunctional (grammar.more_lines edition t)
+    pub layout : IsFunctional (grammar.layout edition t)
     pub pattern : IsFunctional (grammar.pattern edition t)
     pub attribute : IsFunctional (entries.attribute edition t)
     pub attributes : IsFunctional (entries.attributes edition t)
     pub message : IsFunctional (entries.message_entry edition t)
     pub term : IsFunctional (entries.term_entry edition t)
+    pub comment_line : (level : ℕ) → IsFunctional (comments.comment_line t level)
+    pub comment_lines : (level : ℕ) → IsFunctional (comments.comment_lines t level)
     pub comment : IsFunctional (comments.comment_entry t)
     pub entry : IsFunctional (entry_at edition t)
+    pub dropped_line : IsFunctional (whole_line t)
 
   -- the text has a tiling
   abbrev pub SomeTiling : Type 0
@@ -135,6 +157,10 @@ module _ (edition : Edition) (t : List ℕ) where
   -- the same, without comments
   abbrev pub RuntimeBodyInText : Type 0
   RuntimeBodyInText = (tiles : List Tile) → IsUtf8 t → RuntimeTiling edition t tiles → body_every (IsPart t) (body tiles)
+
+  -- the tiling without comments gives no comment, and hangs none, also where it has errors
+  abbrev pub HasNoComments : Type 0
+  HasNoComments = (tiles : List Tile) → RuntimeTiling edition t tiles → body tiles ≡ without_comments (body tiles)
 
   -- the messages and terms of the tiling without comments are those of the tiling, in order, with no comment hung
   abbrev pub SameMessagesAndTerms : Type 0

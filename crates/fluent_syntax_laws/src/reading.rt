@@ -3,6 +3,7 @@
 ghost use Rattle.fluent_syntax_grammar.specs.Laws.{
   BodyInText,
   ErrorsAscend,
+  HasNoComments,
   JunkOfErrors,
   KindsMean,
   NoNewErrors,
@@ -22,8 +23,8 @@ ghost use Rattle.fluent_syntax_tree.specs.declared.edition.Edition.{Edition};
 
 /// The laws of unique reading, of a text and both editions of the grammar.
 ///
-/// - `one_reading`: at each place each construct is read in at most one way, with one end and one tree, and never both
-///   read and refused; a refusal has one kind and one place.
+/// - `one_reading`: at each place each construct, from entries down to blanks, is read in at most one way, with one end and
+///   one tree, and never both read and refused; a refusal has one kind and one place.
 /// - `some_tiling`, `some_runtime_tiling`: the text has a tiling, and one without comments.
 /// - `one_tiling`, `one_runtime_tiling`: it has at most one of each.
 /// - `kinds`, `runtime_kinds`: `ExpectedToken(c)` means that the byte where the error's place begins isn't `c` or the text
@@ -32,6 +33,7 @@ ghost use Rattle.fluent_syntax_tree.specs.declared.edition.Edition.{Edition};
 /// - `errors`, `runtime_errors`: these stretches are nonempty and ascend, disjoint, within the text; each error's place begins
 ///   within its stretch, both ends included.
 /// - `body`, `runtime_body`: each text of the tree is an ordered range of the source between character boundaries.
+/// - `no_comments`: the tiling without comments gives no comment and hangs none, with errors or without.
 /// - `same_entries`: the messages and terms without comments are those of the tiling, in order, with no comment hung.
 /// - `no_new_errors`, `same_body`: where the tiling has no error, the one without comments has none, and its body is that of
 ///   the tiling without comment entries and with no comment hung.
@@ -49,6 +51,7 @@ pub fn unique_reading(text: &str)
     ensures runtime_errors { (edition : Edition) → RuntimeErrorsAscend edition text.now }
     ensures body { (edition : Edition) → BodyInText edition text.now }
     ensures runtime_body { (edition : Edition) → RuntimeBodyInText edition text.now }
+    ensures no_comments { (edition : Edition) → HasNoComments edition text.now }
     ensures same_entries { (edition : Edition) → SameMessagesAndTerms edition text.now }
     ensures no_new_errors { (edition : Edition) → NoNewErrors edition text.now }
     ensures same_body { (edition : Edition) → SameWithoutComments edition text.now }

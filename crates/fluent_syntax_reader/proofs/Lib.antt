@@ -24,3 +24,4 @@ pub mod CommentOutcomes
 pub mod EntryOutcomes
 pub mod TileLemmas
 pub mod PartsOfTiling
+pub mod ErrorPlaces

@@ -1,5 +1,5 @@
 -- What parsing answers: the tree and the errors of a tiling.
-use Rattle.std.specs.Prelude.{◌≡◌, ◌≢◌, ℕ, List, [], map, Option, Some, option_map, Result, Ok, Err}
+use Rattle.std.specs.Prelude.{◌≡◌, ◌≢◌, ℕ, ◌≤◌, List, [], length, map, All, Option, Some, option_map, Result, Ok, Err}
 use Rattle.fluent_syntax_tree.specs.Kind.{kind_of}
 use Rattle.fluent_syntax_tree.specs.Entry.{BodyTree}
 use Rattle.fluent_syntax_tree.specs.View.{resource_view}
@@ -35,3 +35,9 @@ module _ {S X : Type 0} (text : S → X) (whole : BodyTree Span → BodyTree X) 
   -- The answer is that of a tiling of the text without comments.
   abbrev pub AnswersRuntimeTiling : Edition → List ℕ → Result (Resource S) (ParseFault S) → Type 0
   AnswersRuntimeTiling edition t result = (tiles : List Tile) × RuntimeTiling edition t tiles × Answers tiles result
+
+-- The place of each error begins within the text.
+abbrev pub ErrorsInText : {S : Type 0} → List ℕ → Result (Resource S) (ParseFault S) → Type 0
+ErrorsInText t (Ok tree) = Unit {0}
+ErrorsInText t (Err (Syntax tree errors)) = All (λ e. e.pos.start ≤ length t) errors.items
+ErrorsInText t (Err Memory) = Unit {0}

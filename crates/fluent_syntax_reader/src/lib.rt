@@ -7,7 +7,7 @@
 
 ghost use Rattle.std.specs.Prelude.{◌+◌, ◌<◌, ◌^◌, length, IsOk};
 ghost use Rattle.fluent_syntax_grammar.specs.Places.{BlankBlock};
-ghost use Rattle.fluent_syntax_reader.specs.Answers.{AnswersTiling, AnswersRuntimeTiling};
+ghost use Rattle.fluent_syntax_reader.specs.Answers.{AnswersTiling, AnswersRuntimeTiling, ErrorsInText};
 ghost use Rattle.fluent_syntax_reader.specs.Parts.{HasParts};
 
 mod comment;
@@ -30,12 +30,13 @@ use std::alloc::Global;
 ///
 /// Answers the tree with a span of the source, in bytes, in place of each text. Where parts of the
 /// source are refused, the answer is `ParseFault::Syntax` with the tree, which has them as junk, and
-/// one error for each. It is `ParseFault::Memory` where a growth was refused, whatever was found
+/// one error for each, whose place begins within the source. It is `ParseFault::Memory` where a growth was refused, whatever was found
 /// before. A text that is only blank lines takes no memory.
 pub fn parse_spans(alloc: Global, source: &str) -> Result<Resource<Span>, ParseFault<Span>>
     requires { length source.now + 1 < 2 ^ 64 }
     ensures spans { HasParts source.now result }
     ensures tiling { AnswersTiling (λ s. s) (λ b. b) Edition.One source.now result }
+    ensures places { ErrorsInText source.now result }
     ensures blank { BlankBlock source.now 0 (length source.now) → IsOk result }
 {
     parse_spans_edition(alloc, source, Edition::One)
@@ -50,6 +51,7 @@ pub fn parse_spans_edition(
     requires { length source.now + 1 < 2 ^ 64 }
     ensures spans { HasParts source.now result }
     ensures tiling { AnswersTiling (λ s. s) (λ b. b) edition source.now result }
+    ensures places { ErrorsInText source.now result }
     ensures blank { BlankBlock source.now 0 (length source.now) → IsOk result }
 {
     Parser::new(source).parse(alloc, edition)
@@ -63,6 +65,7 @@ pub fn parse_runtime_spans(alloc: Global, source: &str) -> Result<Resource<Span>
     requires { length source.now + 1 < 2 ^ 64 }
     ensures spans { HasParts source.now result }
     ensures tiling { AnswersRuntimeTiling (λ s. s) (λ b. b) Edition.One source.now result }
+    ensures places { ErrorsInText source.now result }
     ensures blank { BlankBlock source.now 0 (length source.now) → IsOk result }
 {
     parse_runtime_spans_edition(alloc, source, Edition::One)
@@ -77,6 +80,7 @@ pub fn parse_runtime_spans_edition(
     requires { length source.now + 1 < 2 ^ 64 }
     ensures spans { HasParts source.now result }
     ensures tiling { AnswersRuntimeTiling (λ s. s) (λ b. b) edition source.now result }
+    ensures places { ErrorsInText source.now result }
     ensures blank { BlankBlock source.now 0 (length source.now) → IsOk result }
 {
     Parser::new(source).parse_runtime(alloc, edition)

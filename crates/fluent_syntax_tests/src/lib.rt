@@ -12,6 +12,8 @@ mod json;
 #[cfg(test)]
 mod outline;
 #[cfg(test)]
+mod places;
+#[cfg(test)]
 mod program;
 #[cfg(test)]
 mod round_trip;

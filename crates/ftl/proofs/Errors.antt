@@ -1,11 +1,10 @@
 -- Lists of errors, and the lines that they become.
-use Rattle.std.proofs.Common.{◌≡◌, ◌≢◌, ◌<◌, ◌≤◌, ◌+◌, ◌++◌, ◌∷◌, [], ℕ, List, length, take, get_or, map, Option, Some, None, sym, ap, ◌∙◌, refl, append-nil, subst, arith, option_map, unwrap_or}
+use Rattle.std.proofs.Common.{◌≡◌, ◌≢◌, ◌<◌, ◌≤◌, ◌+◌, ◌++◌, ◌∷◌, [], ℕ, List, length, take, get_or, map, Option, Some, None, sym, ap, ◌∙◌, refl, subst, option_map, unwrap_or}
 use Rattle.std.specs.List.{flat_map, All}
-use Rattle.std.proofs.lemmas.List.Elements.{All-nil, All-cons, All-get_or}
+use Rattle.std.proofs.lemmas.List.Elements.{All-get_or}
 use Rattle.fluent_syntax_tree.specs.declared.errors.ParserError.{ParserError}
 use Rattle.fluent_syntax.specs.Lines.{line_at, column_at}
 use Rattle.fluent_syntax_tree.specs.Kind.{Kind, kind_of}
-use Rattle.fluent_syntax_grammar.specs.Laws.{Ascend}
 use Rattle.fluent_syntax_grammar.specs.Tiling.{Fault}
 use Rattle.fluent_syntax_reader.specs.Answers.{fault_of}
 use Rattle.fluent_syntax_writer.proofs.Loops.{flat_map-to}
@@ -49,21 +48,6 @@ lines_of_faults t (e ∷ errors) (f ∷ fs) h =
     let first : fault_of e ≡ Some f = cc in
     let others : map fault_of errors ≡ map Some fs = cc in
     ap (λ x. error_line t x ++ flat_map (λ e. error_line t (told e)) errors) (told_is e f first) ∙ ap (λ xs. error_line t f ++ xs) (lines_of_faults t errors fs others)
-
-ascend_within : (t : List ℕ) (from : ℕ) (fs : List Fault) → Ascend t from fs → from ≤ length t
-ascend_within t from [] h = h
-ascend_within t from (f ∷ fs) h = let after = ascend_within t f.slice.end fs h.4 in omega (arith, h.0, h.1)
-
--- errors that tell of faults which ascend lie within the text
-pub faults_within : (t : List ℕ) (from : ℕ) (errors : List ParserError) (fs : List Fault) → map fault_of errors ≡ map Some fs → Ascend t from fs → All (λ e. e.pos.start ≤ length t) errors
-faults_within t from [] fs h up = All-nil (λ e. e.pos.start ≤ length t)
-faults_within t from (e ∷ errors) [] h up = absurd cc
-faults_within t from (e ∷ errors) (f ∷ fs) h up =
-    let first : fault_of e ≡ Some f = cc in
-    let others : map fault_of errors ≡ map Some fs = cc in
-    let after = ascend_within t f.slice.end fs up.4 in
-    let start : e.pos.start ≡ f.pos.start = ap (λ x. x.pos.start) (told_is e f first) in
-    All-cons (λ e. e.pos.start ≤ length t) e errors (omega (arith, up.3)) (faults_within t f.slice.end errors fs others up.4)
 
 -- where there are faults, the outcome tells of them
 pub outcome_of_faults : (fs : List Fault) → fs ≢ [] → SyntaxErrors ≡ outcome_with fs

@@ -2,6 +2,7 @@
 use Rattle.std.specs.Prelude.{◌≡◌, ℕ, List, [], ◌∷◌, ◌++◌, codes, false, unwrap_or}
 use Rattle.std.specs.Fmt.{decimal}
 use Rattle.std.specs.List.{flat_map}
+use Rattle.std.specs.Str.{IsUtf8}
 use Rattle.fluent_syntax_tree.specs.Entry.{body_map}
 use Rattle.fluent_syntax_tree.specs.Kind.{kind_name, kind_of}
 use Rattle.fluent_syntax_tree.specs.Spans.{bytes_at}
@@ -79,8 +80,9 @@ text_of Json t tiles = json_text t tiles
 text_of CheckTwo t tiles = error_lines t tiles
 text_of FormatTwo t tiles = normal_text t tiles
 
--- The text and the outcome are the command's of the source.
+-- The source is UTF-8, and the text and the outcome are the command's of it.
 pub record IsAnswer (command : Command) (t : List ℕ) (text : List ℕ) (outcome : Outcome) : Type 0 where
+  pub is_utf8 : IsUtf8 t
   pub tiles : List Tile
   pub has_tiles : HasTiles command t tiles
   pub text_is : text ≡ text_of command t tiles

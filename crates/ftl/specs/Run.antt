@@ -30,7 +30,8 @@ pub record IsRunAnswer (command : Command) (input : Option (List ℕ)) (text : L
   pub is_input : IfSome input (λ bytes. read ≡ bytes)
   pub answer : IsAnswer command read text outcome
 
--- The command's text of what was read was written, with its outcome; after `Output` a beginning of it.
+-- The command's text of what was read was written, with its outcome; after `Output` a beginning of it. Only UTF-8 has such a text: for
+-- any other bytes the result is `Input` or `Memory`.
 abbrev pub WritesAnswer : Command → (input old new : Option (List ℕ)) → Result Outcome RunFault → Type 0
 WritesAnswer command input old new (Ok outcome) = (text : List ℕ) × IsRunAnswer command input text outcome × Appends old new text
 WritesAnswer command input old new (Err Output) = (text : List ℕ) × (outcome : Outcome) × IsRunAnswer command input text outcome × AppendsBeginning old new text

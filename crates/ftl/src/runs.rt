@@ -17,7 +17,8 @@ const BLOCK: usize = 65_536;
 /// Reads the whole input, and writes the command's text of it.
 ///
 /// `Input`: a read failed, or the input is not UTF-8. `Memory`: a growth was refused. After both
-/// nothing was written. `Output`: a write failed; what was written is a beginning of the text.
+/// nothing was written. `Output`: a write failed; what was written is a beginning of the text. For
+/// an input that is not UTF-8 the result is `Input` or `Memory`, and nothing else.
 pub fn run<R: Read, W: Write>(
     alloc: Global,
     command: Command,

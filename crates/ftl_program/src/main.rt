@@ -2,6 +2,7 @@
 #![tactic(auto)]
 
 use ftl::{Command, RunFault, Watched, run, usage};
+use std::io::ErrorKind;
 use std::process::ExitCode;
 use std::rt::Env;
 use std::{env, io};
@@ -17,12 +18,15 @@ fn main(rt: HostRuntime) -> ExitCode {
     })
 }
 
-/// The command that the one word names; None where there is no such word, or not just one.
+/// The command that the one word names; None where there is no such word, not just one, or one that
+/// is not UTF-8.
 fn command<R: Env + AllocGlobal>(rt: &R) -> Result<Option<Command>, RunFault> {
-    let Ok(words) = env::args(rt) else {
-        return Err(RunFault::Memory);
+    let mut words = match env::args(rt) {
+        Ok(words) => words.skip(1),
+        // A word that is not UTF-8 is no command's.
+        Err(error) if error.kind() == ErrorKind::InvalidData => return Ok(None),
+        Err(_) => return Err(RunFault::Memory),
     };
-    let mut words = words.skip(1);
     Ok(match (words.next(), words.next()) {
         (Some(word), None) => Command::from_word(word.as_str()),
         _ => None,

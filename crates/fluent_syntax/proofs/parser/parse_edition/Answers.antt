@@ -1,4 +1,7 @@
 use Rattle.fluent_syntax.proofs.ErrorLemmas.{junk_answered, errors_answered, nothing_answered}
+use Rattle.fluent_syntax_reader.proofs.ErrorPlaces.{errors_in_text}
+use Rattle.fluent_syntax_tree.specs.Entry.{body_map}
+use Rattle.fluent_syntax_tree.specs.Spans.{bytes_at}
 use Rattle.fluent_syntax.proofs.parser.parse_edition.Goals as goal
 
 pub returns-clause-tiling : goal.returns-clause-tiling
@@ -16,3 +19,8 @@ returns-clause-junk g c = junk_answered g.S.Slice.text c.args.edition (g.S.Slice
 
 pub returns-clause-errors : goal.returns-clause-errors
 returns-clause-errors g c = errors_answered g.S.Slice.text c.args.edition (g.S.Slice.text c.args.input) c.with_texts.result (returns-clause-tiling g c)
+
+pub returns-clause-places : goal.returns-clause-places
+returns-clause-places g c =
+    let t = g.S.Slice.text c.args.input in
+    errors_in_text t g.S.Slice.text (body_map (bytes_at t)) c.args.edition c.with_texts.result (returns-clause-tiling g c)

@@ -1,18 +1,11 @@
 use Rattle.std.proofs.Common.{◌∙◌, subst, Err}
 use Rattle.fluent_syntax_grammar.specs.Body.{faults}
-use Rattle.fluent_syntax_grammar.proofs.JunkAndSpans.{errors_ascend}
 use Rattle.fluent_syntax_tree.specs.Entry.{BodyTree}
 use Rattle.fluent_syntax_tree.specs.declared.spans.Span.{Span}
 use Rattle.fluent_syntax_reader.specs.Answers.{Answers}
 use Rattle.fluent_syntax_reader.specs.declared.fault.ParseFault.{ParseFault}
-use Rattle.ftl.proofs.Errors.{faults_within, lines_of_faults, outcome_of_faults}
+use Rattle.ftl.proofs.Errors.{lines_of_faults, outcome_of_faults}
 use Rattle.ftl.proofs.answers.check.Goals as goal
-
-pub lines-requires-clause-within : goal.lines-requires-clause-within
-lines-requires-clause-within c =
-    let h = c.in-Err-Syntax.ensures.tiling in
-    let told = subst (λ (f : ParseFault Span). Answers (λ (s : Span). s) (λ (b : BodyTree Span). b) h.0 (Err f)) c.in-Err-Syntax.field-0-is h.2 in
-    faults_within c.args.text.now 0 c.in-Err-Syntax.errors.items (faults h.0) told.1 (errors_ascend c.args.edition c.args.text.now h.0 h.1)
 
 pub returns-in-Ok-lines-clause-text : goal.returns-in-Ok-lines-clause-text
 returns-in-Ok-lines-clause-text c =

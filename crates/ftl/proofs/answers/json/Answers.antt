@@ -1,14 +1,10 @@
-use Rattle.std.proofs.Common.{◌≡◌, ◌++◌, ℕ, List, string_bytes, codes, sym, ap, ◌∙◌, subst, Err}
+use Rattle.std.proofs.Common.{◌++◌, codes, ap, ◌∙◌}
 use Rattle.std.proofs.lemmas.Result.{IfOk-weaker}
 use Rattle.serde_json.specs.Written.{compact_text}
 use Rattle.fluent_syntax_json.specs.Form.{body_form}
 use Rattle.fluent_syntax_json.specs.Object.{Text}
-use Rattle.fluent_syntax_tree.specs.Entry.{BodyTree, body_map}
-use Rattle.fluent_syntax_tree.specs.Spans.{bytes_at}
-use Rattle.fluent_syntax_tree.specs.declared.edition.Edition.TheVariants.{One}
+use Rattle.fluent_syntax_tree.specs.Entry.{BodyTree}
 use Rattle.fluent_syntax_grammar.specs.Body.{faults}
-use Rattle.fluent_syntax_grammar.specs.Tiling.{Tile, Tiling}
-use Rattle.fluent_syntax_reader.specs.Answers.{Answers, AnswersTiling}
 use Rattle.ftl.proofs.Errors.{outcome_of_faults, outcome_of_none}
 use Rattle.ftl.proofs.answers.json.Goals as goal
 
