@@ -15,7 +15,10 @@ const SAME: [(&str, Text); 8] = [
         "blank lines around a message",
         "\n\nhello-world = Hello World!\n\n",
     ),
-    ("a blank line in a block of text", "key =\n    a\n\n      b\n"),
+    (
+        "a blank line in a block of text",
+        "key =\n    a\n\n      b\n",
+    ),
     (
         "comments of two levels, free and hung",
         "## g\n\n# f\n\n# m\nkey = v\n",
@@ -164,10 +167,7 @@ fn reads_marks_that_begin_a_pattern(rt: HostRuntime) -> Result<(), Fail> {
             elements: vec![in alloc; text(".a\n"), text("b")]?,
         },
     };
-    let found = reparsed(
-        alloc,
-        message(alloc, "k", None, vec![in alloc; attribute]?),
-    )?;
+    let found = reparsed(alloc, message(alloc, "k", None, vec![in alloc; attribute]?))?;
     assert_eq!(rt; found.as_str(), "k = | .t = \".a\\n\" \"b\"\n");
 
     let placeable = PatternElement::Placeable {
@@ -177,10 +177,7 @@ fn reads_marks_that_begin_a_pattern(rt: HostRuntime) -> Result<(), Fail> {
     };
     let found = reparsed(
         alloc,
-        valued(
-            alloc,
-            vec![in alloc; text("[a\n"), text("\n"), placeable]?,
-        ),
+        valued(alloc, vec![in alloc; text("[a\n"), text("\n"), placeable]?),
     )?;
     assert_eq!(rt; found.as_str(), "key = \"[a\\n\" \"\\n\" {$x}\n");
     Ok(())
