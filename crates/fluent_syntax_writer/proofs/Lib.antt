@@ -1,6 +1,10 @@
+pub mod Arguments
+pub mod Bytes
+pub mod Elements
 pub mod Escapes
-pub mod Lines
-pub mod Loops
+pub mod Indents
+pub mod Leaves
 pub mod Marks
 pub mod Placeables
 pub mod Sinks
+pub mod Splits

@@ -1,5 +1,5 @@
 -- What a writer does with marks.
-use Rattle.std.specs.Prelude.{◌≡◌, ℕ, ◌+◌, List, [], ◌∷◌, Bool, if◌then◌else◌, codes, Result, Ok, Err}
+use Rattle.std.specs.Prelude.{◌≡◌, ℕ, ◌+◌, List, [], ◌∷◌, Bool, true, false, if◌then◌else◌, codes}
 use Rattle.fluent_syntax_grammar.specs.Written.{Mark, literal, line_end, last_of, text_after}
 use Rattle.fluent_syntax_writer.specs.Sink.{Takes, TakesBeginning}
 use Rattle.fluent_syntax_writer.specs.declared.serializer.text_writer.TextWriter.{TextWriter}
@@ -19,24 +19,21 @@ abbrev pub separator_marks : ℕ → Bool → List Mark
 separator_marks level follows = if follows then literal level (codes ", ") ∷ [] else []
 
 module _ {T W : Type 0} (text : W → List ℕ) (room : W → ℕ) where
-  -- The sink took the bytes, and the writer knows the last byte.
-  pub record Appended (old new : TextWriter T W) (bs : List ℕ) : Type 0 where
-    pub taken : Takes text room old.sink.now new.sink.now bs
-    pub last_is : new.last ≡ last_of old.last bs
+  -- What became of bytes that a writer was given: its sink took them and the writer knows the last byte; the sink took
+  -- a beginning of them and
+  -- refused; or it had refused before, and is as it was.
+  pub data Outcome (old new : TextWriter T W) (bs : List ℕ) : Type 0 where
+    appended : old.refused ≡ false → new.refused ≡ false → Takes text room old.sink.now new.sink.now bs
+        → new.last ≡ last_of old.last bs → Outcome old new bs
+    stopped : old.refused ≡ false → new.refused ≡ true → TakesBeginning text room old.sink.now new.sink.now bs
+        → Outcome old new bs
+    silent : old.refused ≡ true → new.refused ≡ true → new.sink.now ≡ old.sink.now → Outcome old new bs
 
-  -- The sink took a beginning of the bytes, for which it had not room enough.
-  pub record Stopped (old new : TextWriter T W) (bs : List ℕ) : Type 0 where
-    pub beginning : TakesBeginning text room old.sink.now new.sink.now bs
-
-  -- the one with `Ok`, the other with `Err`
-  pub data Appends {X E : Type 0} (old new : TextWriter T W) (bs : List ℕ) : Result X E → Type 0 where
-    appended : {x : X} → Appended old new bs → Appends old new bs (Ok x)
-    stopped : {e : E} → Stopped old new bs → Appends old new bs (Err e)
+  -- The bytes were handed to the sink, and the writer keeps it.
+  pub record Appends (old new : TextWriter T W) (bs : List ℕ) : Type 0 where
+    pub same_sink : new.sink.ghost_name ≡ old.sink.ghost_name
+    pub outcome : Outcome old new bs
 
   -- the same of the text of marks
-  pub record Writes {X E : Type 0} (old new : TextWriter T W) (ms : List Mark) (result : Result X E) : Type 0 where
-    pub text_appended : Appends old new (text_after old.last ms) result
-
-  -- All of the marks are written.
-  abbrev pub Wrote : (old new : TextWriter T W) → List Mark → Type 0
-  Wrote old new ms = Writes {X = Unit {0}} {E = Unit {0}} old new ms (Ok tt)
+  pub record Writes (old new : TextWriter T W) (ms : List Mark) : Type 0 where
+    pub text_appended : Appends old new (text_after old.last ms)

@@ -7,7 +7,7 @@ use Rattle.fluent_syntax.specs.Lines.{line_at, column_at}
 use Rattle.fluent_syntax_tree.specs.Kind.{Kind, kind_of}
 use Rattle.fluent_syntax_grammar.specs.Tiling.{Fault}
 use Rattle.fluent_syntax_reader.specs.Answers.{fault_of}
-use Rattle.fluent_syntax_writer.proofs.Loops.{flat_map-to}
+use Rattle.fluent_syntax_tree.proofs.Lists.{flat_map-to}
 use Rattle.ftl.specs.declared.outcome.Outcome.TheVariants.{Clean, SyntaxErrors}
 use Rattle.ftl.specs.Answer.{error_line, error_text, outcome_with, told}
 

@@ -2,7 +2,7 @@ use Rattle.std.proofs.Common.{ℕ, List, sym, ap, ◌∙◌}
 use Rattle.fluent_syntax_tree.specs.declared.errors.ParserError.{ParserError}
 use Rattle.std.specs.List.{flat_map}
 use Rattle.ftl.specs.Answer.{error_line, told}
-use Rattle.fluent_syntax_writer.proofs.Loops.{flat_map-end}
+use Rattle.fluent_syntax_tree.proofs.Lists.{flat_map-end}
 use Rattle.ftl.proofs.Errors.{line_added, lies_within}
 use Rattle.ftl.proofs.answers.lines.Goals as goal
 

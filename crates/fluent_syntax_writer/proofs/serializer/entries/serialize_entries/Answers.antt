@@ -1,33 +1,17 @@
-use Rattle.std.proofs.Common.{not, sym, ap, ◌∙◌, refl}
-use Rattle.fluent_syntax_tree.specs.View.{entry_view}
-use Rattle.fluent_syntax_writer.proofs.Marks.{follow, stop, Writes-none, Writes-marks, Writes-done}
-use Rattle.fluent_syntax_writer.proofs.Loops.{body_marks-at, body_marks-to, body_marks-end, follows_after-to}
+use Rattle.std.proofs.lemmas.List.{drop_all}
+use Rattle.fluent_syntax_writer.proofs.Leaves.{Leaves-more, Leaves-end, drop_at}
 use Rattle.fluent_syntax_writer.proofs.serializer.entries.serialize_entries.Goals as goal
-
-pub returns-in_err-serialize_entry-clause-written : goal.returns-in_err-serialize_entry-clause-written
-returns-in_err-serialize_entry-clause-written g c =
-    let text = g.W.TextSink.text in
-    let room = g.W.TextSink.room in
-    let f = g.T.Texts.text in
-    Writes-marks text room (body_marks-at c.args.with_junk (entry_view f) c.args.entries.now c.loop-entry.entry-index c.entry-item.result c.loop-entry-test.true c.entry-item.is c.loop-entry.follows c.loop-entry.invariant.follows) (follow text room _ _ _ c.loop-entry.invariant.so_far (stop text room _ _ c.from_residual.ensures.0 c.in_err-serialize_entry.ensures.written))
-
-pub loop-entry-init : goal.loop-entry-init
-loop-entry-init g c =
-    let text = g.W.TextSink.text in
-    let room = g.W.TextSink.room in
-    let f = g.T.Texts.text in
-    record { same_sink = refl; follows = refl; so_far = Writes-none text room _ _ }
 
 pub loop-entry-preserved : goal.loop-entry-preserved
 loop-entry-preserved g c =
-    let text = g.W.TextSink.text in
-    let room = g.W.TextSink.room in
-    let f = g.T.Texts.text in
-    record { same_sink = cc; follows = ap not c.is_junk-follows.ensures ∙ sym (follows_after-to c.args.with_junk (entry_view f) c.args.entries.now c.loop-entry.entry-index c.entry-item.result c.loop-entry-test.true c.entry-item.is); so_far = Writes-marks text room (body_marks-to c.args.with_junk (entry_view f) c.args.entries.now c.loop-entry.entry-index c.entry-item.result c.loop-entry-test.true c.entry-item.is c.loop-entry.follows c.loop-entry.invariant.follows) (follow text room _ _ _ c.loop-entry.invariant.so_far (Writes-done text room c.in_ok-serialize_entry.ensures.written)) }
+    let next = drop_at c.args.entries.now _ _ c.loop-entry-test.true c.entry-item.is in
+    let after = Leaves-more (rw next at c.loop-entry.invariant.rest) c.serialize_entry.ensures.written in
+    record { rest = rw c.is_junk-follows.ensures after }
 
 pub returns-clause-written : goal.returns-clause-written
 returns-clause-written g c =
-    let text = g.W.TextSink.text in
-    let room = g.W.TextSink.room in
-    let f = g.T.Texts.text in
-    Writes-marks text room (body_marks-end c.args.with_junk (entry_view f) c.args.entries.now c.loop-entry.entry-index c.loop-entry-test.false) (follow text room _ _ _ c.loop-entry.invariant.so_far (Writes-none text room _ _))
+    let none = drop_all _ c.args.entries.now c.loop-entry-test.false in
+    Leaves-end (rw none at c.loop-entry.invariant.rest)
+
+pub returns-clause-same_sink : goal.returns-clause-same_sink
+returns-clause-same_sink g c = (returns-clause-written g c).text_appended.same_sink

@@ -1,0 +1,33 @@
+-- Loops that write a list of marks: who writes those that are left has written them all.
+use Rattle.std.proofs.Common.{◌≡◌, ℕ, suc, ◌+◌, ◌<◌, List, [], ◌∷◌, ◌++◌, length, get_or, drop, sym, ap, ◌∙◌, arith}
+use Rattle.std.proofs.Math.Seq.{drop-cons}
+use Rattle.fluent_syntax_grammar.specs.Written.{Mark}
+use Rattle.fluent_syntax_writer.specs.Writing.{Writes}
+use Rattle.fluent_syntax_writer.proofs.Marks.{Writes-none, Writes-append}
+use Rattle.fluent_syntax_writer.specs.declared.serializer.text_writer.TextWriter.{TextWriter}
+
+module _ {T W : Type 0} (text : W → List ℕ) (room : W → ℕ) where
+  pub record Leaves (old now : TextWriter T W) (left all : List Mark) : Type 0 where
+    pub finish : {new : TextWriter T W} → Writes text room now new left → Writes text room old new all
+
+module _ {T W : Type 0} {text : W → List ℕ} {room : W → ℕ} where
+  pub Leaves-start : {a : TextWriter T W} {all : List Mark} → Leaves text room a a all all
+  Leaves-start = record { finish = λ {new} written. written }
+
+  pub Leaves-more : {a b c : TextWriter T W} {ms rest all : List Mark}
+      → Leaves text room a b (ms ++ rest) all → Writes text room b c ms → Leaves text room a c rest all
+  Leaves-more h k = record { finish = λ {new} written. h.finish (Writes-append k written) }
+
+  pub Leaves-end : {a b : TextWriter T W} {all : List Mark} → Leaves text room a b [] all → Writes text room a b all
+  Leaves-end {b = b} h = h.finish (Writes-none b)
+
+  pub Leaves-last : {a b c : TextWriter T W} {left all : List Mark}
+      → Leaves text room a b left all → Writes text room b c left → Writes text room a c all
+  Leaves-last h k = h.finish k
+
+-- the item that a loop takes next, and those after it
+pub drop_at : {A : Type 0} (xs : List A) (i : ℕ) (x : A) → i < length xs → x ≡ get_or xs i x
+    → drop i xs ≡ x ∷ drop (i + 1) xs
+drop_at xs i x h e =
+    let next : i + 1 ≡ suc i = omega arith in
+    drop-cons xs i x h ∙ ap (λ y. y ∷ drop (suc i) xs) (sym e) ∙ ap (λ n. x ∷ drop n xs) (sym next)
