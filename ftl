@@ -41,7 +41,7 @@ is_built() { [ -x "$made/ftl" ] && [ "$(cat "$made/built-from" 2>/dev/null)" = "
 interrupt() {
     trap - INT TERM HUP
     for job in "${jobs_running[@]}"; do kill -TERM -- "-$job" 2>/dev/null || true; done
-    rm -rf "$made/rooms"
+    rm -rf "$made/rooms" "$made"/*.log
     say "interrupted: what was proved is kept, and the next use goes on from there"
     exit 130
 }

@@ -42,7 +42,8 @@ module _ (t : List ℕ) where
   abbrev fault_text : Fault → List ℕ
   fault_text f = bytes_at t f.slice
 
-  text_at : {R : Type 0} (o : Option R) (text : R → List ℕ) (fault : R → Fault) → ((r : R) → text r ≡ fault_text (fault r)) → option_map text o ≡ option_map fault_text (option_map fault o)
+  text_at : {R : Type 0} (o : Option R) (text : R → List ℕ) (fault : R → Fault) →
+      ((r : R) → text r ≡ fault_text (fault r)) → option_map text o ≡ option_map fault_text (option_map fault o)
   text_at None text fault same = refl
   text_at (Some r) text fault same = ap Some (same r)
 
@@ -53,7 +54,8 @@ module _ (t : List ℕ) where
     slice = record { start = r.start; end = r.end };
   }) (λ r. refl)
 
-  refused_texts : (errors : List ParserError) (fs : List Fault) → map fault_of errors ≡ map Some fs → map (refused_text t) errors ≡ map Some (map (bytes_at t) (map fault_slice fs))
+  refused_texts : (errors : List ParserError) (fs : List Fault) → map fault_of errors ≡ map Some fs →
+      map (refused_text t) errors ≡ map Some (map (bytes_at t) (map fault_slice fs))
   refused_texts [] [] h = refl
   refused_texts [] (f ∷ fs) h = cc
   refused_texts (e ∷ errors) [] h = cc
@@ -70,50 +72,69 @@ module _ {S : Type 0} (text : S → List ℕ) (t : List ℕ) (tiles : List Tile)
   abbrev Given : Result (Resource S) (ParseFault S) → Type 0
   Given result = Answers text (body_map (bytes_at t)) tiles result
 
-  junk_of : (tree : Resource S) → resource_view text tree ≡ body_map (bytes_at t) (body tiles) → flat_map junk_slice (body tiles) ≡ map fault_slice (faults tiles) →
+  junk_of : (tree : Resource S) → resource_view text tree ≡ body_map (bytes_at t) (body tiles) →
+      flat_map junk_slice (body tiles) ≡ map fault_slice (faults tiles) →
       junk_texts (resource_view text tree) ≡ map (bytes_at t) (map fault_slice (faults tiles))
-  junk_of tree same law = ap junk_texts same ∙ (junk_mapped (bytes_at t) (body tiles) ∙ ap (map (bytes_at t)) (junk_spans (body tiles) ∙ law))
+  junk_of tree same law =
+      ap junk_texts same
+      ∙ (junk_mapped (bytes_at t) (body tiles) ∙ ap (map (bytes_at t)) (junk_spans (body tiles) ∙ law))
 
-  junk_given : (result : Result (Resource S) (ParseFault S)) → flat_map junk_slice (body tiles) ≡ map fault_slice (faults tiles) → Given result → JunkIsRefused t text result
+  junk_given : (result : Result (Resource S) (ParseFault S)) →
+      flat_map junk_slice (body tiles) ≡ map fault_slice (faults tiles) → Given result → JunkIsRefused t text result
   junk_given (Ok tree) law (same, none) = junk_of tree same law ∙ ap (λ fs. map (bytes_at t) (map fault_slice fs)) none
-  junk_given (Err (Syntax tree errors)) law (same, told, some) = ap (map Some) (junk_of tree same law) ∙ sym (refused_texts t errors.items (faults tiles) told)
+  junk_given (Err (Syntax tree errors)) law (same, told, some) =
+      ap (map Some) (junk_of tree same law) ∙ sym (refused_texts t errors.items (faults tiles) told)
   junk_given (Err Memory) law given = tt
 
-  errors_given : (result : Result (Resource S) (ParseFault S)) → laws.Ascend t 0 (faults tiles) → Given result → ErrorsAscend t result
+  errors_given : (result : Result (Resource S) (ParseFault S)) → laws.Ascend t 0 (faults tiles) → Given result →
+      ErrorsAscend t result
   errors_given (Ok tree) law given = tt
   errors_given (Err (Syntax tree errors)) law (same, told, some) = (faults tiles, told, law)
   errors_given (Err Memory) law given = tt
 
-module _ {S : Type 0} (text : S → List ℕ) (edition : Edition) (t : List ℕ) (result : Result (Resource S) (ParseFault S)) where
+module _ {S : Type 0} (text : S → List ℕ) (edition : Edition) (t : List ℕ) (result : Result (Resource S) (ParseFault S))
+    where
   pub junk_answered : AnswersTiling text (body_map (bytes_at t)) edition t result → JunkIsRefused t text result
   junk_answered (tiles, tiling, given) = junk_given text t tiles result (junk_of_errors edition t tiles tiling) given
 
   pub errors_answered : AnswersTiling text (body_map (bytes_at t)) edition t result → ErrorsAscend t result
   errors_answered (tiles, tiling, given) = errors_given text t tiles result (errors_ascend edition t tiles tiling) given
 
-  pub runtime_junk_answered : AnswersRuntimeTiling text (body_map (bytes_at t)) edition t result → JunkIsRefused t text result
-  runtime_junk_answered (tiles, tiling, given) = junk_given text t tiles result (runtime_junk_of_errors edition t tiles tiling) given
+  pub runtime_junk_answered : AnswersRuntimeTiling text (body_map (bytes_at t)) edition t result →
+      JunkIsRefused t text result
+  runtime_junk_answered (tiles, tiling, given) =
+      junk_given text t tiles result (runtime_junk_of_errors edition t tiles tiling) given
 
-  pub runtime_errors_answered : AnswersRuntimeTiling text (body_map (bytes_at t)) edition t result → ErrorsAscend t result
-  runtime_errors_answered (tiles, tiling, given) = errors_given text t tiles result (runtime_errors_ascend edition t tiles tiling) given
+  pub runtime_errors_answered : AnswersRuntimeTiling text (body_map (bytes_at t)) edition t result →
+      ErrorsAscend t result
+  runtime_errors_answered (tiles, tiling, given) =
+      errors_given text t tiles result (runtime_errors_ascend edition t tiles tiling) given
 
 -- ---- blank texts
 
-nothing_tiled : (t : List ℕ) (at : (i j : ℕ) → Tile → Type 0) (tiles : List Tile) → BlankBlock t 0 (length t) → Tiled t at 0 tiles → tiles ≡ []
+nothing_tiled : (t : List ℕ) (at : (i j : ℕ) → Tile → Type 0) (tiles : List Tile) → BlankBlock t 0 (length t) →
+    Tiled t at 0 tiles → tiles ≡ []
 nothing_tiled t at tiles b (done c) = refl
-nothing_tiled t at tiles b (next {start = start} c l x m) = let end : start ≡ length t = single_block.same 0 start (length t) c b in absurd (omega arith)
+nothing_tiled t at tiles b (next {start = start} c l x m) =
+    let end : start ≡ length t = single_block.same 0 start (length t) c b in absurd (omega arith)
 
 no_entries : {X Y : Type 0} (view : X → Y) (xs : List X) → map view xs ≡ [] → xs ≡ []
 no_entries view [] e = refl
 no_entries view (x ∷ xs) e = cc
 
-nothing_given : (tiles : List Tile) (result : Result (Resource Span) (ParseFault Span)) → tiles ≡ [] → IsOk result → Answers (λ s. s) (λ b. b) tiles result → IsOkAnd result (λ tree. tree.body.items ≡ [])
+nothing_given : (tiles : List Tile) (result : Result (Resource Span) (ParseFault Span)) → tiles ≡ [] → IsOk result →
+    Answers (λ s. s) (λ b. b) tiles result → IsOkAnd result (λ tree. tree.body.items ≡ [])
 nothing_given tiles (Ok tree) e ok (same, none) = no_entries _ tree.body.items (same ∙ ap body e)
 nothing_given tiles (Err fault) e ok given = cc
 
-module _ (edition : Edition) (t : List ℕ) (result : Result (Resource Span) (ParseFault Span)) (b : BlankBlock t 0 (length t)) (ok : IsOk result) where
-  pub nothing_answered : AnswersTiling (λ s. s) (λ b. b) edition t result → IsOkAnd result (λ tree. tree.body.items ≡ [])
-  nothing_answered (tiles, tiling, given) = nothing_given tiles result (nothing_tiled t (TileAt edition t) tiles b tiling) ok given
+module _ (edition : Edition) (t : List ℕ) (result : Result (Resource Span) (ParseFault Span))
+    (b : BlankBlock t 0 (length t)) (ok : IsOk result) where
+  pub nothing_answered : AnswersTiling (λ s. s) (λ b. b) edition t result →
+      IsOkAnd result (λ tree. tree.body.items ≡ [])
+  nothing_answered (tiles, tiling, given) =
+      nothing_given tiles result (nothing_tiled t (TileAt edition t) tiles b tiling) ok given
 
-  pub runtime_nothing_answered : AnswersRuntimeTiling (λ s. s) (λ b. b) edition t result → IsOkAnd result (λ tree. tree.body.items ≡ [])
-  runtime_nothing_answered (tiles, tiling, given) = nothing_given tiles result (nothing_tiled t (RuntimeTileAt edition t) tiles b tiling) ok given
+  pub runtime_nothing_answered : AnswersRuntimeTiling (λ s. s) (λ b. b) edition t result →
+      IsOkAnd result (λ tree. tree.body.items ≡ [])
+  runtime_nothing_answered (tiles, tiling, given) =
+      nothing_given tiles result (nothing_tiled t (RuntimeTileAt edition t) tiles b tiling) ok given

@@ -13,18 +13,26 @@ use Rattle.fluent_syntax_reader.specs.declared.fault.ParseFault.TheVariants.{Syn
 use Rattle.fluent_syntax.specs.SameAnswers.{SameAnswers}
 
 module _ {S Z : Type 0} (text : S → List ℕ) (other : Z → List ℕ) (whole : BodyTree Span → BodyTree (List ℕ)) where
-  of_one_tiling : (tiles : List Tile) (a : Result (Resource S) (ParseFault S)) (b : Result (Resource Z) (ParseFault Z)) → Answers text whole tiles a → Answers other whole tiles b → SameAnswers text other a b
+  of_one_tiling :
+      (tiles : List Tile) (a : Result (Resource S) (ParseFault S)) (b : Result (Resource Z) (ParseFault Z)) →
+      Answers text whole tiles a → Answers other whole tiles b → SameAnswers text other a b
   of_one_tiling tiles (Ok x) (Ok y) (p, e) (q, f) = p ∙ sym q
   of_one_tiling tiles (Ok x) (Err (Syntax y others)) (p, e) (q, told, some) = some e
   of_one_tiling tiles (Ok x) (Err Memory) h k = tt
   of_one_tiling tiles (Err (Syntax x errors)) (Ok y) (p, told, some) (q, f) = some f
-  of_one_tiling tiles (Err (Syntax x errors)) (Err (Syntax y others)) (p, told, some) (q, found, any) = (p ∙ sym q, told ∙ sym found)
+  of_one_tiling tiles (Err (Syntax x errors)) (Err (Syntax y others)) (p, told, some) (q, found, any) =
+      (p ∙ sym q, told ∙ sym found)
   of_one_tiling tiles (Err (Syntax x errors)) (Err Memory) h k = tt
   of_one_tiling tiles (Err Memory) b h k = tt
 
-  module _ (edition : Edition) (t : List ℕ) (a : Result (Resource S) (ParseFault S)) (b : Result (Resource Z) (ParseFault Z)) where
-    pub answers_same : AnswersTiling text whole edition t a → AnswersTiling other whole edition t b → SameAnswers text other a b
-    answers_same (xs, p, h) (ys, q, k) = of_one_tiling ys a b (subst (λ tiles. Answers text whole tiles a) (one_tiling edition t xs ys p q) h) k
+  module _ (edition : Edition) (t : List ℕ) (a : Result (Resource S) (ParseFault S))
+      (b : Result (Resource Z) (ParseFault Z)) where
+    pub answers_same : AnswersTiling text whole edition t a → AnswersTiling other whole edition t b →
+        SameAnswers text other a b
+    answers_same (xs, p, h) (ys, q, k) =
+        of_one_tiling ys a b (subst (λ tiles. Answers text whole tiles a) (one_tiling edition t xs ys p q) h) k
 
-    pub runtime_answers_same : AnswersRuntimeTiling text whole edition t a → AnswersRuntimeTiling other whole edition t b → SameAnswers text other a b
-    runtime_answers_same (xs, p, h) (ys, q, k) = of_one_tiling ys a b (subst (λ tiles. Answers text whole tiles a) (one_runtime_tiling edition t xs ys p q) h) k
+    pub runtime_answers_same : AnswersRuntimeTiling text whole edition t a →
+        AnswersRuntimeTiling other whole edition t b → SameAnswers text other a b
+    runtime_answers_same (xs, p, h) (ys, q, k) =
+        of_one_tiling ys a b (subst (λ tiles. Answers text whole tiles a) (one_runtime_tiling edition t xs ys p q) h) k

@@ -30,12 +30,14 @@ module _ {S : Type 0} (t : List ℕ) where
   -- There are as many errors as junk entries, in the same order; each junk is the source's text at its error's stretch.
   abbrev pub JunkIsRefused : (text : S → List ℕ) → Result (Resource S) (ParseFault S) → Type 0
   JunkIsRefused text (Ok tree) = junk_texts (resource_view text tree) ≡ []
-  JunkIsRefused text (Err (Syntax tree errors)) = map Some (junk_texts (resource_view text tree)) ≡ map (refused_text t) errors.items
+  JunkIsRefused text (Err (Syntax tree errors)) =
+      map Some (junk_texts (resource_view text tree)) ≡ map (refused_text t) errors.items
   JunkIsRefused text (Err Memory) = Unit {0}
 
-  -- The errors tell of faults that ascend: their stretches are nonempty and disjoint, in order, and each error's place begins within its
-  -- stretch, both ends included.
+  -- The errors tell of faults that ascend: their stretches are nonempty and disjoint, in order, and each error's place
+  -- begins within its stretch, both ends included.
   abbrev pub ErrorsAscend : Result (Resource S) (ParseFault S) → Type 0
   ErrorsAscend (Ok tree) = Unit {0}
-  ErrorsAscend (Err (Syntax tree errors)) = (fs : List Fault) × (map fault_of errors.items ≡ map Some fs) × Ascend t 0 fs
+  ErrorsAscend (Err (Syntax tree errors)) =
+      (fs : List Fault) × (map fault_of errors.items ≡ map Some fs) × Ascend t 0 fs
   ErrorsAscend (Err Memory) = Unit {0}

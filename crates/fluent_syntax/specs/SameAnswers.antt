@@ -7,11 +7,13 @@ use Rattle.fluent_syntax_reader.specs.declared.fault.ParseFault.{ParseFault}
 use Rattle.fluent_syntax_reader.specs.declared.fault.ParseFault.TheVariants.{Syntax, Memory}
 
 -- Both have trees that are equal text by text, and equal errors or none. Where memory ran out for one, nothing is said.
-abbrev pub SameAnswers : {S Z : Type 0} (text : S → List ℕ) (other : Z → List ℕ) → Result (Resource S) (ParseFault S) → Result (Resource Z) (ParseFault Z) → Type 0
+abbrev pub SameAnswers : {S Z : Type 0} (text : S → List ℕ) (other : Z → List ℕ) → Result (Resource S) (ParseFault S) →
+    Result (Resource Z) (ParseFault Z) → Type 0
 SameAnswers text other (Ok x) (Ok y) = resource_view text x ≡ resource_view other y
 SameAnswers text other (Ok x) (Err (Syntax y others)) = ⊥
 SameAnswers text other (Ok x) (Err Memory) = Unit {0}
 SameAnswers text other (Err (Syntax x errors)) (Ok y) = ⊥
-SameAnswers text other (Err (Syntax x errors)) (Err (Syntax y others)) = (resource_view text x ≡ resource_view other y) × (map fault_of errors.items ≡ map fault_of others.items)
+SameAnswers text other (Err (Syntax x errors)) (Err (Syntax y others)) =
+    (resource_view text x ≡ resource_view other y) × (map fault_of errors.items ≡ map fault_of others.items)
 SameAnswers text other (Err (Syntax x errors)) (Err Memory) = Unit {0}
 SameAnswers text other (Err Memory) b = Unit {0}

@@ -26,12 +26,13 @@ use Rattle.fluent_syntax_grammar.proofs.WholeLines.{IsLine, line_of, line_to, li
 use Rattle.fluent_syntax_grammar.proofs.CommentFaults.{IsAt, comment_fault, name_fault, some_hash}
 use Rattle.fluent_syntax_grammar.proofs.Facts.{byte_found, byte_stands, differs, implies, left_true, lt_or_same, right_false, right_true}
 
--- Tiles of the one and of the other that are the same; comments of the one and dropped lines of the other; and junk that a
--- malformed comment makes in the one, which in the other is a dropped line and perhaps junk.
+-- Tiles of the one and of the other that are the same; comments of the one and dropped lines of the other; and junk
+-- that a malformed comment makes in the one, which in the other is a dropped line and perhaps junk.
 pub data Aligned : List Tile → List Tile → Type 0 where
   nothing : Aligned [] []
   both : {x : Tile} {xs ys : List Tile} → Aligned xs ys → Aligned (x ∷ xs) (x ∷ ys)
-  comment_left : {s : Span} {level : Level} {content : List Span} {xs ys : List Tile} → Aligned xs ys → Aligned (entry s (comment level content) ∷ xs) ys
+  comment_left : {s : Span} {level : Level} {content : List Span} {xs ys : List Tile} → Aligned xs ys →
+      Aligned (entry s (comment level content) ∷ xs) ys
   dropped_right : {xs ys : List Tile} → Aligned xs ys → Aligned xs (dropped ∷ ys)
   junk_left : {f : Fault} {xs ys : List Tile} → Aligned xs ys → Aligned (refused f ∷ xs) ys
   junk_both : {f g : Fault} {xs ys : List Tile} → Aligned xs ys → Aligned (refused f ∷ xs) (refused g ∷ ys)
@@ -59,8 +60,10 @@ module _ (edition : Edition) (t : List ℕ) where
 
   -- from the end of a blank block on
   runtime_at : (i s : ℕ) (ys : List Tile) → BlankBlock t i s → Runtime i ys → Runtime s ys
-  runtime_at i s ys b (done c) = let same : length t ≡ s = single_block.same i _ _ c b in done (subst (λ s. BlankBlock t s (length t)) same (block_end t i (length t) c))
-  runtime_at i s ys b (next {start = start} c l x m) = let same : start ≡ s = single_block.same i _ _ c b in next (subst (λ s. BlankBlock t s start) same (block_end t i start c)) l x m
+  runtime_at i s ys b (done c) = let same : length t ≡ s = single_block.same i _ _ c b in
+      done (subst (λ s. BlankBlock t s (length t)) same (block_end t i (length t) c))
+  runtime_at i s ys b (next {start = start} c l x m) = let same : start ≡ s = single_block.same i _ _ c b in
+      next (subst (λ s. BlankBlock t s start) same (block_end t i start c)) l x m
 
   -- a line that begins with `#` is dropped
   drop_line : (i j : ℕ) (ys : List Tile) → has_byte t 35 i ≡ true → IsLine t i j → Runtime i ys → Rest j ys (λ xs. xs)
@@ -77,7 +80,8 @@ module _ (edition : Edition) (t : List ℕ) where
       let same : start ≡ i = single_block.same i _ _ b (block_at_entry t i (hash_there t i e)) in
       differs e (subst (λ k. has_byte t 35 k ≡ false) same h)
 
-  drop_lines : (level i j : ℕ) (content : List Span) (ys : List Tile) → 1 ≤ level → comment_lines t level i (Read content j) → Runtime i ys → Rest j ys (λ xs. xs)
+  drop_lines : (level i j : ℕ) (content : List Span) (ys : List Tile) → 1 ≤ level →
+      comment_lines t level i (Read content j) → Runtime i ys → Rest j ys (λ xs. xs)
   drop_lines level i j content ys l (other_level x) r = record { rest = ys; tiled = r; aligned = λ xs a. a }
   drop_lines level i j content ys l (no_comment_line e x) r = record { rest = ys; tiled = r; aligned = λ xs a. a }
   drop_lines level i j content ys l (one_more {j = m} {content = c} {rest = more} e x y) r =
@@ -86,13 +90,16 @@ module _ (edition : Edition) (t : List ℕ) where
       record { rest = p.rest; tiled = p.tiled; aligned = λ xs a. q.aligned xs (p.aligned xs a) }
 
   -- the lines of a comment are dropped
-  comment_step : (i j : ℕ) (s : Span) (a : EntryTree Span) (ys : List Tile) → has_byte t 35 i ≡ true → comment_entry t i (Read a j) → Runtime i ys → Rest j ys (λ xs. entry s a ∷ xs)
+  comment_step : (i j : ℕ) (s : Span) (a : EntryTree Span) (ys : List Tile) → has_byte t 35 i ≡ true →
+      comment_entry t i (Read a j) → Runtime i ys → Rest j ys (λ xs. entry s a ∷ xs)
   comment_step i j s a ys h (chosen (goes_on {j = m} {a = c} x (goes_on {j = n} {a = more} y z))) r =
       let one = some_hash t i h in
       let q = drop_line i m ys h (comment_whole t (hashes t i) i m c refl x) r in
       let p = drop_lines (hashes t i) m n more q.rest one y q.tiled in
       let g = gave (comment (level_of (hashes t i)) (c ++ more)) a n j z in
-      record { rest = p.rest; tiled = subst (λ k. Runtime k p.rest) g.1 p.tiled; aligned = λ xs al. subst (λ a. Aligned (entry s a ∷ xs) ys) g.0 (comment_left (q.aligned xs (p.aligned xs al))) }
+      record { rest = p.rest; tiled = subst (λ k. Runtime k p.rest) g.1 p.tiled;
+            aligned =
+            λ xs al. subst (λ a. Aligned (entry s a ∷ xs) ys) g.0 (comment_left (q.aligned xs (p.aligned xs al))) }
 
   -- a line that begins with `#`, as it is dropped
   pub record Dropped (i : ℕ) (ys : List Tile) : Type 0 where
@@ -108,7 +115,8 @@ module _ (edition : Edition) (t : List ℕ) where
       differs (hash_there t i e) (block_no_entry t i (length t) i b (omega arith) l)
   dropped_first i ys e (next {start = start} {end = end} {tiles = more} b l (drops h w) m) =
       let same : start ≡ i = single_block.same i _ _ b (block_at_entry t i (hash_there t i e)) in
-      record { end = end; line = line_of t i end (subst (λ k. whole_line t k (Read tt end)) same w); more = more; tiled = m; aligned = λ xs a. dropped_right a }
+      record { end = end; line = line_of t i end (subst (λ k. whole_line t k (Read tt end)) same w); more = more;
+            tiled = m; aligned = λ xs a. dropped_right a }
   dropped_first i ys e (next {start = start} b l (stands h y) m) =
       let same : start ≡ i = single_block.same i _ _ b (block_at_entry t i (hash_there t i e)) in
       differs e (subst (λ k. has_byte t 35 k ≡ false) same h)
@@ -132,36 +140,48 @@ module _ (edition : Edition) (t : List ℕ) where
   minus_entry : (b : ℕ) → (b == 45) ≡ true → is_entry_byte b ≡ true
   minus_entry b e = grind (arith, nat_tests)
 
-  message_there : (i : ℕ) (o : Outcome (EntryTree Span)) → has t is_entry_byte i ≡ false → message_entry edition t i o → (k : Kind) × (from : ℕ) × (to : ℕ) × (o ≡ Refused k from to) × IsAt i k from to
+  message_there : (i : ℕ) (o : Outcome (EntryTree Span)) → has t is_entry_byte i ≡ false → message_entry edition t i o →
+      (k : Kind) × (from : ℕ) × (to : ℕ) × (o ≡ Refused k from to) × IsAt i k from to
   message_there i o e (stops x) = elim x [ ]
-  message_there i o e (goes_on at_place (stops {from = from} {to = to} {k = k} x)) = (k, from, to, refl, name_fault t i from to k x)
-  message_there i o e (goes_on at_place (goes_on {j = j} {a = a} x y)) = differs (implies is_letter is_entry_byte (slice_get t i) letter_entry (letter_of i j a x)) e
+  message_there i o e (goes_on at_place (stops {from = from} {to = to} {k = k} x)) =
+      (k, from, to, refl, name_fault t i from to k x)
+  message_there i o e (goes_on at_place (goes_on {j = j} {a = a} x y)) =
+      differs (implies is_letter is_entry_byte (slice_get t i) letter_entry (letter_of i j a x)) e
 
-  entry_there : (i : ℕ) (o : Outcome (EntryTree Span)) (b : Option ℕ) → slice_get t i ≡ b → has t is_entry_byte i ≡ false → entry_of edition t b i o → (k : Kind) × (from : ℕ) × (to : ℕ) × (o ≡ Refused k from to) × IsAt i k from to
+  entry_there : (i : ℕ) (o : Outcome (EntryTree Span)) (b : Option ℕ) → slice_get t i ≡ b →
+      has t is_entry_byte i ≡ false → entry_of edition t b i o → (k : Kind) × (from : ℕ) × (to : ℕ) ×
+      (o ≡ Refused k from to) × IsAt i k from to
   entry_there i o None f e x = message_there i o e x
   entry_there i o (Some b) f e (first g x) = differs (byte_stands is_entry_byte (slice_get t i) b f (hash_entry b g)) e
-  entry_there i o (Some b) f e (second g (first h x)) = differs (byte_stands is_entry_byte (slice_get t i) b f (minus_entry b h)) e
+  entry_there i o (Some b) f e (second g (first h x)) =
+      differs (byte_stands is_entry_byte (slice_get t i) b f (minus_entry b h)) e
   entry_there i o (Some b) f e (second g (second h x)) = message_there i o e x
 
   -- where no entry may begin, every entry is refused at once
-  refused_there : (i : ℕ) (o : Outcome (EntryTree Span)) → has t is_entry_byte i ≡ false → entry_at edition t i o → (k : Kind) × (from : ℕ) × (to : ℕ) × (o ≡ Refused k from to) × IsAt i k from to
+  refused_there : (i : ℕ) (o : Outcome (EntryTree Span)) → has t is_entry_byte i ≡ false → entry_at edition t i o →
+      (k : Kind) × (from : ℕ) × (to : ℕ) × (o ≡ Refused k from to) × IsAt i k from to
   refused_there i o e (chosen x) = entry_there i o (slice_get t i) refl e x
 
   earlier_end : (p m e : ℕ) → p ≤ m → m ≤ e → JunkEnd t p e → JunkEnd t m e
-  earlier_end p m e l n j = record { forward = n; nearest = λ k a b. j.nearest k (omega arith) b; stop = j.stop; in_text = j.in_text }
+  earlier_end p m e l n j =
+      record { forward = n; nearest = λ k a b. j.nearest k (omega arith) b; stop = j.stop; in_text = j.in_text }
 
   start_there : (m s e : ℕ) → IsLineStart t m → BlankBlock t m s → m ≤ s → s < e → e ≤ length t → starts_line t s ≡ true
   start_there m s e (inl h) b l x y = block_start t m s h b
   start_there m s e (inr n) b l x y = absurd (omega arith)
 
   -- within the reach of junk no entry may begin
-  no_entry_there : (m s e : ℕ) → IsLineStart t m → BlankBlock t m s → m ≤ s → s < e → JunkEnd t m e → has t is_entry_byte s ≡ false
-  no_entry_there m s e h b l x j = right_false (starts_line t s) (has t is_entry_byte s) (j.nearest s l x) (start_there m s e h b l x j.in_text)
+  no_entry_there : (m s e : ℕ) → IsLineStart t m → BlankBlock t m s → m ≤ s → s < e → JunkEnd t m e →
+      has t is_entry_byte s ≡ false
+  no_entry_there m s e h b l x j =
+      right_false (starts_line t s) (has t is_entry_byte s) (j.nearest s l x) (start_there m s e h b l x j.in_text)
 
   -- junk from the start of a line on: without comments there is junk up to the same place, or nothing
-  junk_inside : (m s e end : ℕ) (f : Fault) (tile : Tile) (more ys : List Tile) → IsLineStart t m → BlankBlock t m s → m ≤ s → s < e → JunkEnd t m e →
+  junk_inside : (m s e end : ℕ) (f : Fault) (tile : Tile) (more ys : List Tile) → IsLineStart t m → BlankBlock t m s →
+      m ≤ s → s < e → JunkEnd t m e →
       RuntimeTileAt edition t s end tile → Runtime end more → tile ∷ more ≡ ys → Rest e ys (λ xs. refused f ∷ xs)
-  junk_inside m s e end f tile more ys h b l x j (drops g w) r same = differs (hash_there t s g) (no_entry_there m s e h b l x j)
+  junk_inside m s e end f tile more ys h b l x j (drops g w) r same =
+      differs (hash_there t s g) (no_entry_there m s e h b l x j)
   junk_inside m s e end f tile more ys h b l x j (stands g (reads {e = a} y)) r same =
       let k = refused_there s (Read a end) (no_entry_there m s e h b l x j) y in
       let wrong = k.3 in
@@ -172,17 +192,23 @@ module _ (edition : Edition) (t : List ℕ) where
       let at = k.4 in
       let same_kind : k.0 ≡ kind = cc in
       let same_from : k.1 ≡ from = cc in
-      let place : failing_place kind from to ≡ s = plain_place kind (subst IsPlain same_kind at.plain) from to ∙ (sym same_from ∙ at.at) in
-      let same_end : end ≡ e = junk_same t s end e (subst (λ p. JunkEnd t p end) place n) (earlier_end m s e l (omega arith) j) in
-      record { rest = more; tiled = subst (λ k. Runtime k more) same_end r; aligned = λ xs a. subst (λ ys. Aligned (refused f ∷ xs) ys) same (junk_both a) }
+      let place : failing_place kind from to ≡ s =
+          plain_place kind (subst IsPlain same_kind at.plain) from to ∙ (sym same_from ∙ at.at) in
+      let same_end : end ≡ e =
+          junk_same t s end e (subst (λ p. JunkEnd t p end) place n) (earlier_end m s e l (omega arith) j) in
+      record { rest = more; tiled = subst (λ k. Runtime k more) same_end r;
+            aligned = λ xs a. subst (λ ys. Aligned (refused f ∷ xs) ys) same (junk_both a) }
 
-  junk_align : (m e : ℕ) (f : Fault) (ys : List Tile) → IsLineStart t m → JunkEnd t m e → Runtime m ys → Rest e ys (λ xs. refused f ∷ xs)
+  junk_align : (m e : ℕ) (f : Fault) (ys : List Tile) → IsLineStart t m → JunkEnd t m e → Runtime m ys →
+      Rest e ys (λ xs. refused f ∷ xs)
   junk_align m e f ys h j (done b) =
       let inside = j.in_text in
       let forward = j.forward in
       elim (split_at t e (length t)) [
         | inl l ↦ absurd (no_entry_in_block m (length t) e b forward l (omega arith) j)
-        | inr l ↦ (let same : length t ≡ e = omega arith in record { rest = []; tiled = subst (λ k. Runtime k []) same (done (block_at_end t)); aligned = λ xs a. junk_left a })
+        | inr l ↦ (let same : length t ≡ e = omega arith in
+              record { rest = []; tiled = subst (λ k. Runtime k []) same (done (block_at_end t));
+                aligned = λ xs a. junk_left a })
       ]
   junk_align m e f ys h j (next {start = s} {end = end} {tile = tile} {tiles = more} b l x r) =
       let inside = j.in_text in
@@ -193,16 +219,22 @@ module _ (edition : Edition) (t : List ℕ) where
         | inr y ↦ elim (lt_or_same s e y) [
           | inl z ↦ junk_inside m s e end f tile more (tile ∷ more) h b on z j x r refl
           | inr same ↦ (let there = entry_at_stop e (omega arith) j.stop in
-              record { rest = tile ∷ more; tiled = subst (λ k. Runtime k (tile ∷ more)) same (next (block_end t m s b) l x r); aligned = λ xs a. junk_left a })
+              record { rest = tile ∷ more;
+                    tiled = subst (λ k. Runtime k (tile ∷ more)) same (next (block_end t m s b) l x r);
+                    aligned = λ xs a. junk_left a })
         ]
       ]
 
   past_line : (i m e : ℕ) → IsLine t i m → i < e → m ≤ length t → (starts_entry t e ≡ true) ⊎ (e ≡ length t) → m ≤ e
-  past_line i m e x l n (inl h) = elim (split_at t e m) [ inl y ↦ differs (left_true (starts_line t e) (has t is_entry_byte e) h) (no_start t i m e x l y) | inr y ↦ y ]
+  past_line i m e x l n (inl h) =
+      elim (split_at t e m)
+        [ inl y ↦ differs (left_true (starts_line t e) (has t is_entry_byte e) h) (no_start t i m e x l y) | inr y ↦ y ]
   past_line i m e x l n (inr f) = omega arith
 
   -- the junk of a malformed comment begins on the comment's line
-  junk_step : (i e from to : ℕ) (k : Kind) (f : Fault) (ys : List Tile) → has_byte t 35 i ≡ true → comment_entry t i (Refused k from to) → JunkEnd t (failing_place k from to) e → Runtime i ys → Rest e ys (λ xs. refused f ∷ xs)
+  junk_step : (i e from to : ℕ) (k : Kind) (f : Fault) (ys : List Tile) → has_byte t 35 i ≡ true →
+      comment_entry t i (Refused k from to) → JunkEnd t (failing_place k from to) e → Runtime i ys →
+      Rest e ys (λ xs. refused f ∷ xs)
   junk_step i e from to k f ys h x j r =
       let d = dropped_first i ys h r in
       let at = comment_fault t i from to k x in
@@ -224,32 +256,42 @@ module _ (edition : Edition) (t : List ℕ) where
   other_byte : (i b : ℕ) → has_byte t 35 i ≡ true → slice_get t i ≡ Some b → (b == 35) ≡ false → ⊥
   other_byte i b h e f = false≢true (sym f ∙ (rw e at h))
 
-  hash_entry_of : (i : ℕ) (o : Outcome (EntryTree Span)) (b : Option ℕ) → slice_get t i ≡ b → has_byte t 35 i ≡ true → entry_of edition t b i o → comment_entry t i o
+  hash_entry_of : (i : ℕ) (o : Outcome (EntryTree Span)) (b : Option ℕ) → slice_get t i ≡ b → has_byte t 35 i ≡ true →
+      entry_of edition t b i o → comment_entry t i o
   hash_entry_of i o None e h x = absurd (hash_not i None is_letter h e refl)
   hash_entry_of i o (Some b) e h (first f x) = x
   hash_entry_of i o (Some b) e h (second f x) = absurd (other_byte i b h e f)
 
   -- where a `#` stands, an entry is a comment
-  hash_comment : (i : ℕ) (o : Outcome (EntryTree Span)) → has_byte t 35 i ≡ true → entry_at edition t i o → comment_entry t i o
+  hash_comment : (i : ℕ) (o : Outcome (EntryTree Span)) → has_byte t 35 i ≡ true → entry_at edition t i o →
+      comment_entry t i o
   hash_comment i o h (chosen x) = hash_entry_of i o (slice_get t i) refl h x
 
   -- a tile of the one, where a `#` stands or not
-  tile_step : (i j : ℕ) (x : Tile) (ys : List Tile) → has_byte t 35 i ≡ true → TileAt edition t i j x → Runtime i ys → Rest j ys (λ xs. x ∷ xs)
-  tile_step i j x ys h (reads {e = e} y) r = comment_step i j (record { start = i; end = j }) e ys h (hash_comment i (Read e j) h y) r
+  tile_step : (i j : ℕ) (x : Tile) (ys : List Tile) → has_byte t 35 i ≡ true → TileAt edition t i j x → Runtime i ys →
+      Rest j ys (λ xs. x ∷ xs)
+  tile_step i j x ys h (reads {e = e} y) r =
+      comment_step i j (record { start = i; end = j }) e ys h (hash_comment i (Read e j) h y) r
   tile_step i j x ys h (refuses {from = from} {to = to} {k = k} y e) r =
-      junk_step i j from to k (record { kind = k; pos = record { start = from; end = to }; slice = record { start = i; end = j } }) ys h (hash_comment i (Refused k from to) h y) e r
+      junk_step i j from to k
+          (record { kind = k; pos = record { start = from; end = to }; slice = record { start = i; end = j } }) ys h
+          (hash_comment i (Refused k from to) h y) e r
 
-  other_step : (i j : ℕ) (x : Tile) (ys : List Tile) → has_byte t 35 i ≡ false → i < length t → BlankBlock t i i → TileAt edition t i j x → Runtime i ys → Rest j ys (λ xs. x ∷ xs)
+  other_step : (i j : ℕ) (x : Tile) (ys : List Tile) → has_byte t 35 i ≡ false → i < length t → BlankBlock t i i →
+      TileAt edition t i j x → Runtime i ys → Rest j ys (λ xs. x ∷ xs)
   other_step i j x ys h l b y (done c) = let same = single_block.same i _ _ c b in absurd (omega arith)
-  other_step i j x ys h l b y (next {start = s} c m (drops g w) r) = let same : s ≡ i = single_block.same i _ _ c b in differs g (subst (λ k. has_byte t 35 k ≡ false) (sym same) h)
+  other_step i j x ys h l b y (next {start = s} c m (drops g w) r) = let same : s ≡ i = single_block.same i _ _ c b in
+      differs g (subst (λ k. has_byte t 35 k ≡ false) (sym same) h)
   other_step i j x ys h l b y (next {start = s} {end = end} {tile = tile} {tiles = more} c m (stands g z) r) =
       let same : s ≡ i = single_block.same i _ _ c b in
       let z' = subst (λ k. TileAt edition t k end tile) same z in
       let same_end : end ≡ j = (one_tile edition t).same_end i end j tile x z' y in
       let same_tile : x ≡ tile = sym ((one_tile edition t).same_tile i end j tile x z' y) in
-      record { rest = more; tiled = subst (λ k. Runtime k more) same_end r; aligned = λ xs a. subst (λ x. Aligned (x ∷ xs) (tile ∷ more)) (sym same_tile) (both a) }
+      record { rest = more; tiled = subst (λ k. Runtime k more) same_end r;
+            aligned = λ xs a. subst (λ x. Aligned (x ∷ xs) (tile ∷ more)) (sym same_tile) (both a) }
 
-  step : (i j : ℕ) (x : Tile) (ys : List Tile) (hash : Bool) → has_byte t 35 i ≡ hash → i < length t → BlankBlock t i i → TileAt edition t i j x → Runtime i ys → Rest j ys (λ xs. x ∷ xs)
+  step : (i j : ℕ) (x : Tile) (ys : List Tile) (hash : Bool) → has_byte t 35 i ≡ hash → i < length t →
+      BlankBlock t i i → TileAt edition t i j x → Runtime i ys → Rest j ys (λ xs. x ∷ xs)
   step i j x ys true h l b y r = tile_step i j x ys h y r
   step i j x ys false h l b y r = other_step i j x ys h l b y r
 

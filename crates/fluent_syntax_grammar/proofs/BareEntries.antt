@@ -31,27 +31,41 @@ any : {A : Type 0} {c : Construct A} → Holds Anywhere c Anything AnyFault
 any = record { on_read = λ i j a p x. tt; on_refused = λ i from to k p x. tt }
 
 module _ (edition : Edition) (t : List ℕ) where
-  bare_message : (start : ℕ) (id : Span) (value : Option (PatternTree Span)) (rest : List (AttributeTree Span)) → Holds Anywhere (message_with t start id value rest) Bare AnyFault
+  bare_message : (start : ℕ) (id : Span) (value : Option (PatternTree Span)) (rest : List (AttributeTree Span)) →
+      Holds Anywhere (message_with t start id value rest) Bare AnyFault
   bare_message start id None [] = holds_fails_from (λ i p. tt)
   bare_message start id None (a ∷ rest) = holds_gives (λ i p. refl)
   bare_message start id (Some value) rest = holds_gives (λ i p. refl)
 
-  bare_term : (start : ℕ) (id : Span) (value : Option (PatternTree Span)) (rest : List (AttributeTree Span)) → Holds Anywhere (term_with t start id value rest) Bare AnyFault
+  bare_term : (start : ℕ) (id : Span) (value : Option (PatternTree Span)) (rest : List (AttributeTree Span)) →
+      Holds Anywhere (term_with t start id value rest) Bare AnyFault
   bare_term start id None rest = holds_fails_from (λ i p. tt)
   bare_term start id (Some value) rest = holds_gives (λ i p. refl)
 
   pub message_bare : Holds Anywhere (message_entry edition t) Bare AnyFault
-  message_bare = holds_bind {mid = Anything} any (λ start. holds_bind {mid = Anything} any (λ id. holds_bind {mid = Anything} any (λ u. holds_bind {mid = Anything} any (λ v.
-      holds_bind {mid = Anything} any (λ value. holds_bind {mid = Anything} any (λ w. holds_bind {mid = Anything} any (λ rest. bare_message start id value rest)))))))
+  message_bare =
+      holds_bind {mid = Anything} any
+        (λ start. holds_bind {mid = Anything} any
+          (λ id. holds_bind {mid = Anything} any (λ u. holds_bind {mid = Anything} any (λ v.
+      holds_bind {mid = Anything} any
+          (λ value. holds_bind {mid = Anything} any
+            (λ w. holds_bind {mid = Anything} any (λ rest. bare_message start id value rest)))))))
 
   pub term_bare : Holds Anywhere (term_entry edition t) Bare AnyFault
-  term_bare = holds_bind {mid = Anything} any (λ start. holds_bind {mid = Anything} any (λ z. holds_bind {mid = Anything} any (λ id. holds_bind {mid = Anything} any (λ u. holds_bind {mid = Anything} any (λ v.
-      holds_bind {mid = Anything} any (λ value. holds_bind {mid = Anything} any (λ w. holds_bind {mid = Anything} any (λ rest. bare_term start id value rest))))))))
+  term_bare =
+      holds_bind {mid = Anything} any
+        (λ start. holds_bind {mid = Anything} any
+          (λ z. holds_bind {mid = Anything} any
+            (λ id. holds_bind {mid = Anything} any (λ u. holds_bind {mid = Anything} any (λ v.
+      holds_bind {mid = Anything} any
+          (λ value. holds_bind {mid = Anything} any
+            (λ w. holds_bind {mid = Anything} any (λ rest. bare_term start id value rest))))))))
 
   a_hash : (i b : ℕ) (o : Option ℕ) → o ≡ Some b → (b == 35) ≡ true → holds (λ c. c == 35) o ≡ true
   a_hash i b o e f = rw e f
 
-  bare_of : (i j : ℕ) (e : EntryTree Span) (o : Option ℕ) → slice_get t i ≡ o → has_byte t 35 i ≡ false → entry_of edition t o i (Read e j) → IsBare e
+  bare_of : (i j : ℕ) (e : EntryTree Span) (o : Option ℕ) → slice_get t i ≡ o → has_byte t 35 i ≡ false →
+      entry_of edition t o i (Read e j) → IsBare e
   bare_of i j e None p h x = message_bare.on_read i j e tt x
   bare_of i j e (Some b) p h (first f x) = differs (a_hash i b (slice_get t i) p f) h
   bare_of i j e (Some b) p h (second f (first g x)) = term_bare.on_read i j e tt x
@@ -67,6 +81,8 @@ module _ (edition : Edition) (t : List ℕ) where
   bare_runtime_tile i j tile (stands h x) = bare_tile_at i j tile h x
 
   -- the tiling without comments has none
-  pub bare_runtime : (i : ℕ) (tiles : List Tile) → Tiled t (RuntimeTileAt edition t) i tiles → list_every IsBareTile tiles
+  pub bare_runtime : (i : ℕ) (tiles : List Tile) → Tiled t (RuntimeTileAt edition t) i tiles →
+      list_every IsBareTile tiles
   bare_runtime i tiles (done b) = tt
-  bare_runtime i tiles (next {start = s} {end = j} {tile = x} {tiles = more} b l y m) = (bare_runtime_tile s j x y, bare_runtime j more m)
+  bare_runtime i tiles (next {start = s} {end = j} {tile = x} {tiles = more} b l y m) =
+      (bare_runtime_tile s j x y, bare_runtime j more m)

@@ -44,10 +44,13 @@ module _ (t : List ℕ) (F : Kind → ℕ → ℕ → Type 0) where
   never_eol = holds_at_each never_past
 
   never_line : Holds Anywhere (rest_of_line t) Anything F
-  never_line = holds_bind {mid = Anything} (holds_here (λ i p. tt)) (λ start. holds_bind {mid = Anything} (holds_over (λ i j p w. tt)) (λ u. never_spanned start))
+  never_line =
+      holds_bind {mid = Anything} (holds_here (λ i p. tt))
+        (λ start. holds_bind {mid = Anything} (holds_over (λ i j p w. tt)) (λ u. never_spanned start))
 
   never_lines : (level : ℕ) → Holds Anywhere (comment_lines t level) Anything F
-  never_lines level = record { on_read = λ i j a p x. tt; on_refused = λ i from to k p x. no_fault (F k from to) t level i from to k x }
+  never_lines level =
+      record { on_read = λ i j a p x. tt; on_refused = λ i from to k p x. no_fault (F k from to) t level i from to k x }
 
 module _ (t : List ℕ) (p : ℕ) where
   token_at : (b : ℕ) → Holds (λ i. i ≡ p) (token t b) Anything (IsAt p)
@@ -62,18 +65,24 @@ module _ (t : List ℕ) (p : ℕ) where
 
   rest_at : (o : Option ℕ) → Holds (λ i. i ≡ p) (comment_rest t o) Anything (IsAt p)
   rest_at None = holds_gives (λ i q. tt)
-  rest_at (Some b) = holds_bind {mid = Anything} (holds_at_each (λ eol. holds_weaker {pre = λ i. i ≡ p} (λ i q. q.0) (λ a j x. x) (λ k from to x. x) (text_at eol)))
+  rest_at (Some b) =
+      holds_bind {mid = Anything}
+        (holds_at_each
+          (λ eol. holds_weaker {pre = λ i. i ≡ p} (λ i q. q.0) (λ a j x. x) (λ k from to x. x) (text_at eol)))
       (λ content. holds_bind (never_eol t (IsAt p)) (λ u. holds_gives (λ i q. tt)))
 
 module _ (t : List ℕ) where
   comment_at : (i level : ℕ) → Holds (λ j. j ≡ i) (comment_of t level) Anything (IsAt (i + level))
   comment_at i level = holds_bind {mid = Anything}
       (holds_bind {mid = λ u j. j ≡ i + level} (holds_over (λ j m e w. let by = w.by in omega arith))
-      (λ u. holds_at_each (λ o. holds_weaker {pre = λ j. j ≡ i + level} (λ j q. q.0) (λ a j x. x) (λ k from to x. x) (rest_at t (i + level) o))))
+      (λ u. holds_at_each
+            (λ o. holds_weaker {pre = λ j. j ≡ i + level} (λ j q. q.0) (λ a j x. x) (λ k from to x. x)
+              (rest_at t (i + level) o))))
       (λ content. holds_bind (never_lines t (IsAt (i + level)) level) (λ rest. holds_gives (λ j q. tt)))
 
   -- a comment is refused at the place after its hashes
-  pub comment_fault : (i from to : ℕ) (k : Kind) → comment_entry t i (Refused k from to) → IsAt (i + hashes t i) k from to
+  pub comment_fault : (i from to : ℕ) (k : Kind) → comment_entry t i (Refused k from to) →
+      IsAt (i + hashes t i) k from to
   comment_fault i from to k (chosen x) = (comment_at i (hashes t i)).on_refused i from to k refl x
 
   -- where a `#` stands, hashes do
@@ -81,7 +90,9 @@ module _ (t : List ℕ) where
   some_hash i e = some_hashes (has_byte t 35 i) (has_byte t 35 (i + 1)) (has_byte t 35 (i + 2)) e
 
   name_at : (p : ℕ) → Holds (λ i. i ≡ p) (identifier t) Anything (IsAt p)
-  name_at p = holds_bind {mid = λ start i. i ≡ p} (holds_here (λ i q. q)) (λ start. holds_bind {mid = λ letter i. i ≡ p} (holds_at_each (λ letter. holds_gives (λ i q. q.0)))
+  name_at p =
+      holds_bind {mid = λ start i. i ≡ p} (holds_here (λ i q. q))
+        (λ start. holds_bind {mid = λ letter i. i ≡ p} (holds_at_each (λ letter. holds_gives (λ i q. q.0)))
       (λ letter. holds_either
       (λ e. holds_bind {mid = Anything} (holds_over (λ i j q w. tt)) (λ u. never_spanned t (IsAt p) start))
       (λ e. holds_fails (λ i q. record { at = q; plain = tt }))))

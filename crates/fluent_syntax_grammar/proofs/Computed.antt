@@ -23,14 +23,20 @@ then_run None f = None
 then_run (Some (Read a j)) f = f a j
 then_run (Some (Refused k from to)) f = Some (Refused k from to)
 
-pub then_sound : {A B : Type 0} (c : Construct A) (f : A → Construct B) (x : Computed c) (g : (a : A) → Computed (f a)) (i : ℕ) (o : Outcome B) (r : Option (Outcome A)) →
+pub then_sound :
+    {A B : Type 0} (c : Construct A) (f : A → Construct B) (x : Computed c) (g : (a : A) → Computed (f a)) (i : ℕ)
+      (o : Outcome B) (r : Option (Outcome A)) →
     x.run i ≡ r → then_run r (λ a j. (g a).run j) ≡ Some o → (c >>= f) i o
 then_sound c f x g i o None e h = cc
 then_sound c f x g i o (Some (Read a j)) e h = goes_on (x.sound i (Read a j) e) ((g a).sound j o h)
-then_sound c f x g i o (Some (Refused k from to)) e h = let same : Refused k from to ≡ o = cc in subst (λ o. (c >>= f) i o) same (stops (x.sound i (Refused k from to) e))
+then_sound c f x g i o (Some (Refused k from to)) e h = let same : Refused k from to ≡ o = cc in
+    subst (λ o. (c >>= f) i o) same (stops (x.sound i (Refused k from to) e))
 
-abbrev pub computed_bind : {A B : Type 0} {c : Construct A} {f : A → Construct B} → Computed c → ((a : A) → Computed (f a)) → Computed (c >>= f)
-computed_bind {c = c} {f = f} x g = record { run = λ i. then_run (x.run i) (λ a j. (g a).run j); sound = λ i o h. then_sound c f x g i o (x.run i) refl h }
+abbrev pub computed_bind : {A B : Type 0} {c : Construct A} {f : A → Construct B} → Computed c →
+    ((a : A) → Computed (f a)) → Computed (c >>= f)
+computed_bind {c = c} {f = f} x g =
+    record { run = λ i. then_run (x.run i) (λ a j. (g a).run j);
+      sound = λ i o h. then_sound c f x g i o (x.run i) refl h }
 
 pub gives_sound : {A : Type 0} (a : A) (i : ℕ) (o : Outcome A) → Some (Read a i) ≡ Some o → gives a i o
 gives_sound a i o h = let same : Read a i ≡ o = cc in subst (λ o. gives a i o) same given
@@ -50,7 +56,8 @@ fails_sound k i o h = let same : Refused k i (i + 1) ≡ o = cc in subst (λ o. 
 abbrev pub computed_fails : {A : Type 0} {k : Kind} → Computed (fails {A = A} k)
 computed_fails {k = k} = record { run = λ i. Some (Refused k i (i + 1)); sound = fails_sound k }
 
-pub from_sound : {A : Type 0} (k : Kind) (start i : ℕ) (o : Outcome A) → Some (Refused k start i) ≡ Some o → fails_from k start i o
+pub from_sound : {A : Type 0} (k : Kind) (start i : ℕ) (o : Outcome A) → Some (Refused k start i) ≡ Some o →
+    fails_from k start i o
 from_sound k start i o h = let same : Refused k start i ≡ o = cc in subst (λ o. fails_from k start i o) same failed_from
 
 abbrev pub computed_fails_from : {A : Type 0} {k : Kind} {start : ℕ} → Computed (fails_from {A = A} k start)
@@ -60,22 +67,29 @@ abbrev pub over_run : Option ℕ → Option (Outcome (Unit {0}))
 over_run None = None
 over_run (Some j) = Some (Read tt j)
 
-pub over_sound : (W : ℕ → ℕ → Type 0) (w : ComputedWord W) (i : ℕ) (o : Outcome (Unit {0})) (r : Option ℕ) → w.run i ≡ r → over_run r ≡ Some o → over W i o
+pub over_sound : (W : ℕ → ℕ → Type 0) (w : ComputedWord W) (i : ℕ) (o : Outcome (Unit {0})) (r : Option ℕ) →
+    w.run i ≡ r → over_run r ≡ Some o → over W i o
 over_sound W w i o None e h = cc
 over_sound W w i o (Some j) e h = let same : Read tt j ≡ o = cc in subst (λ o. over W i o) same (passed (w.sound i j e))
 
 abbrev pub computed_over : {W : ℕ → ℕ → Type 0} → ComputedWord W → Computed (over W)
 computed_over {W = W} w = record { run = λ i. over_run (w.run i); sound = λ i o h. over_sound W w i o (w.run i) refl h }
 
-abbrev pub computed_at_each : {A B : Type 0} {look : ℕ → A} {part : A → Construct B} → ((a : A) → Computed (part a)) → Computed (at_each look part)
-computed_at_each {look = look} {part = part} g = record { run = λ i. (g (look i)).run i; sound = λ i o h. chosen ((g (look i)).sound i o h) }
+abbrev pub computed_at_each : {A B : Type 0} {look : ℕ → A} {part : A → Construct B} → ((a : A) → Computed (part a)) →
+    Computed (at_each look part)
+computed_at_each {look = look} {part = part} g =
+    record { run = λ i. (g (look i)).run i; sound = λ i o h. chosen ((g (look i)).sound i o h) }
 
-pub either_sound : {A : Type 0} (test : Bool) (c d : Construct A) (x : Computed c) (y : Computed d) (i : ℕ) (o : Outcome A) → choose test (λ u. x.run i) (λ u. y.run i) ≡ Some o → either test c d i o
+pub either_sound :
+    {A : Type 0} (test : Bool) (c d : Construct A) (x : Computed c) (y : Computed d) (i : ℕ) (o : Outcome A) →
+    choose test (λ u. x.run i) (λ u. y.run i) ≡ Some o → either test c d i o
 either_sound true c d x y i o h = first refl (x.sound i o h)
 either_sound false c d x y i o h = second refl (y.sound i o h)
 
-abbrev pub computed_either : {A : Type 0} {test : Bool} {c d : Construct A} → Computed c → Computed d → Computed (either test c d)
-computed_either {test = test} {c = c} {d = d} x y = record { run = λ i. choose test (λ u. x.run i) (λ u. y.run i); sound = λ i o h. either_sound test c d x y i o h }
+abbrev pub computed_either : {A : Type 0} {test : Bool} {c d : Construct A} → Computed c → Computed d →
+    Computed (either test c d)
+computed_either {test = test} {c = c} {d = d} x y =
+    record { run = λ i. choose test (λ u. x.run i) (λ u. y.run i); sound = λ i o h. either_sound test c d x y i o h }
 
 -- ---- words
 
@@ -93,15 +107,20 @@ find test zero i = None
 find test (suc n) i = choose (test i) (λ u. find test n (i + 1)) (λ u. Some i)
 
 pub find_here : (test : ℕ → Bool) (i j : ℕ) → test i ≡ false → Some i ≡ Some j → Stretch test i j
-find_here test i j e h = let same : i ≡ j = some_same h in subst (λ j. Stretch test i j) same (record { forward = omega arith; each = λ k a b. absurd (omega arith); longest = e })
+find_here test i j e h = let same : i ≡ j = some_same h in
+    subst (λ j. Stretch test i j) same
+      (record { forward = omega arith; each = λ k a b. absurd (omega arith); longest = e })
 
 find_each : (test : ℕ → Bool) (i j k : ℕ) → test i ≡ true → Stretch test (i + 1) j → i ≤ k → k < j → test k ≡ true
-find_each test i j k e s a b = elim (here_or_on i k a) [ inl same ↦ subst (λ k. test k ≡ true) same e | inr l ↦ s.each k l b ]
+find_each test i j k e s a b =
+    elim (here_or_on i k a) [ inl same ↦ subst (λ k. test k ≡ true) same e | inr l ↦ s.each k l b ]
 
 pub find_on : (test : ℕ → Bool) (i j : ℕ) → test i ≡ true → Stretch test (i + 1) j → Stretch test i j
-find_on test i j e s = let f = s.forward in record { forward = omega arith; each = λ k a b. find_each test i j k e s a b; longest = s.longest }
+find_on test i j e s = let f = s.forward in
+    record { forward = omega arith; each = λ k a b. find_each test i j k e s a b; longest = s.longest }
 
-find_sound : (test : ℕ → Bool) (n i j : ℕ) (b : Bool) → test i ≡ b → choose b (λ u. find test n (i + 1)) (λ u. Some i) ≡ Some j → Stretch test i j
+find_sound : (test : ℕ → Bool) (n i j : ℕ) (b : Bool) → test i ≡ b →
+    choose b (λ u. find test n (i + 1)) (λ u. Some i) ≡ Some j → Stretch test i j
 find_sound test n i j false e h = find_here test i j e h
 find_sound test zero i j true e h = cc
 find_sound test (suc n) i j true e h = find_on test i j e (find_sound test n (i + 1) j (test (i + 1)) refl h)

@@ -41,10 +41,13 @@ computed_end edition starred star = computed_either computed_gives computed_fail
 
 module _ (t : List ℕ) (n : ℕ) where
   abbrev pub computed_accessor : Computed (accessor t)
-  computed_accessor = computed_bind (computed_optional t n 46) (λ dot. computed_either (computed_bind (computed_identifier t n) (λ a. computed_gives)) computed_gives)
+  computed_accessor =
+      computed_bind (computed_optional t n 46)
+        (λ dot. computed_either (computed_bind (computed_identifier t n) (λ a. computed_gives)) computed_gives)
 
   abbrev pub computed_separator : Computed (separator t)
-  computed_separator = computed_bind (computed_blank t n) (λ u. computed_bind (computed_optional t n 44) (λ u. computed_blank t n))
+  computed_separator =
+      computed_bind (computed_blank t n) (λ u. computed_bind (computed_optional t n 44) (λ u. computed_blank t n))
 
   abbrev pub computed_named : (id : Span) (a : MaybeArguments Span) → Computed (named_reference t id a)
   computed_named id no_arguments = computed_bind computed_accessor (λ a. computed_gives)
@@ -58,15 +61,23 @@ module _ (t : List ℕ) (n : ℕ) where
   computed_ending = computed_bind computed_here (λ i. computed_at_each (computed_ending_of i))
 
   abbrev pub computed_key : Computed (variant_key t)
-  computed_key = computed_at_each (λ is_number. computed_either (computed_bind (computed_number t n) (λ v. computed_gives)) (computed_bind (computed_identifier t n) (λ v. computed_gives)))
+  computed_key =
+      computed_at_each
+        (λ is_number.
+          computed_either (computed_bind (computed_number t n) (λ v. computed_gives))
+          (computed_bind (computed_identifier t n) (λ v. computed_gives)))
 
 module _ (t : List ℕ) (n : ℕ) (R : Family) (h : ComputedFamily R) where
   abbrev pub computed_call : Computed (call_arguments t R)
-  computed_call = computed_bind (computed_blank t n) (λ u. computed_bind (computed_optional t n 40) (λ bracket. computed_either
-      (computed_bind (computed_bind (computed_blank t n) (λ u. h.more_arguments [])) (λ a. computed_gives)) computed_gives))
+  computed_call =
+      computed_bind (computed_blank t n) (λ u. computed_bind (computed_optional t n 40) (λ bracket. computed_either
+      (computed_bind (computed_bind (computed_blank t n) (λ u. h.more_arguments [])) (λ a. computed_gives))
+          computed_gives))
 
   abbrev pub computed_variants_of_select : Computed (variants_of_select t R)
-  computed_variants_of_select = computed_bind (computed_over computed_steps) (λ u. computed_bind (computed_inline_blank t n) (λ u. computed_bind (computed_at_each computed_arrow) (λ u.
+  computed_variants_of_select =
+      computed_bind (computed_over computed_steps)
+        (λ u. computed_bind (computed_inline_blank t n) (λ u. computed_bind (computed_at_each computed_arrow) (λ u.
       computed_bind (computed_blank t n) (λ u. h.more_variants false))))
 
   abbrev pub computed_select : (e : InlineTree Span) (o : Option Kind) → Computed (select_with t R e o)
@@ -74,20 +85,29 @@ module _ (t : List ℕ) (n : ℕ) (R : Family) (h : ComputedFamily R) where
   computed_select e (Some k) = computed_fails
 
   abbrev pub computed_expression : Computed (expression t R)
-  computed_expression = computed_bind h.inline_expression (λ e. computed_bind (computed_blank t n) (λ u. computed_bind (computed_at_each (λ a. computed_gives)) (λ arrow.
+  computed_expression =
+      computed_bind h.inline_expression
+        (λ e. computed_bind (computed_blank t n) (λ u. computed_bind (computed_at_each (λ a. computed_gives)) (λ arrow.
       computed_either (computed_select e (selector_fault e)) (computed_either computed_fails computed_gives))))
 
   abbrev pub computed_placeable : Computed (placeable t R)
-  computed_placeable = computed_bind (computed_token t n 123) (λ u. computed_bind (computed_blank t n) (λ u. computed_bind computed_expression (λ e.
+  computed_placeable =
+      computed_bind (computed_token t n 123)
+        (λ u. computed_bind (computed_blank t n) (λ u. computed_bind computed_expression (λ e.
       computed_bind (computed_inline_blank t n) (λ u. computed_bind (computed_token t n 125) (λ u. computed_gives)))))
 
   abbrev pub computed_inline_of : (s : Start) → Computed (inline_of t R s)
   computed_inline_of quote = computed_bind (computed_string t n) (λ v. computed_gives)
   computed_inline_of digit = computed_bind (computed_number t n) (λ v. computed_gives)
   computed_inline_of minus = computed_bind (computed_number t n) (λ v. computed_gives)
-  computed_inline_of term = computed_bind (computed_token t n 45) (λ u. computed_bind (computed_identifier t n) (λ id. computed_bind (computed_accessor t n) (λ a. computed_bind computed_call (λ c. computed_gives))))
-  computed_inline_of dollar = computed_bind (computed_token t n 36) (λ u. computed_bind (computed_identifier t n) (λ id. computed_gives))
-  computed_inline_of letter = computed_bind (computed_identifier t n) (λ id. computed_bind computed_call (λ a. computed_named t n id a))
+  computed_inline_of term =
+      computed_bind (computed_token t n 45)
+        (λ u. computed_bind (computed_identifier t n)
+          (λ id. computed_bind (computed_accessor t n) (λ a. computed_bind computed_call (λ c. computed_gives))))
+  computed_inline_of dollar =
+      computed_bind (computed_token t n 36) (λ u. computed_bind (computed_identifier t n) (λ id. computed_gives))
+  computed_inline_of letter =
+      computed_bind (computed_identifier t n) (λ id. computed_bind computed_call (λ a. computed_named t n id a))
   computed_inline_of brace = computed_bind computed_placeable (λ e. computed_gives)
   computed_inline_of other = computed_fails
 
@@ -105,14 +125,21 @@ module _ (t : List ℕ) (n : ℕ) (R : Family) (h : ComputedFamily R) where
   computed_value other = computed_fails
 
   abbrev pub computed_named_argument : (names : List (List ℕ)) (name : Span) → Computed (named_and_more t R names name)
-  computed_named_argument names name = computed_either computed_fails (computed_bind (computed_token t n 58) (λ u. computed_bind (computed_blank t n) (λ u.
-      computed_bind (computed_at_each computed_value) (λ e. computed_bind (computed_separator t n) (λ u. computed_bind (h.more_arguments _) (λ a. computed_gives))))))
+  computed_named_argument names name =
+      computed_either computed_fails
+        (computed_bind (computed_token t n 58) (λ u. computed_bind (computed_blank t n) (λ u.
+      computed_bind (computed_at_each computed_value)
+          (λ e. computed_bind (computed_separator t n)
+            (λ u. computed_bind (h.more_arguments _) (λ a. computed_gives))))))
 
-  abbrev pub computed_positional : (names : List (List ℕ)) (e : InlineTree Span) → Computed (positional_and_more t R names e)
-  computed_positional [] e = computed_bind (computed_separator t n) (λ u. computed_bind (h.more_arguments []) (λ a. computed_gives))
+  abbrev pub computed_positional : (names : List (List ℕ)) (e : InlineTree Span) →
+      Computed (positional_and_more t R names e)
+  computed_positional [] e =
+      computed_bind (computed_separator t n) (λ u. computed_bind (h.more_arguments []) (λ a. computed_gives))
   computed_positional (m ∷ ms) e = computed_fails
 
-  abbrev pub computed_argument : (names : List (List ℕ)) (e : InlineTree Span) (o : Option Span) (colon : Bool) → Computed (argument_and_more t R names e o colon)
+  abbrev pub computed_argument : (names : List (List ℕ)) (e : InlineTree Span) (o : Option Span) (colon : Bool) →
+      Computed (argument_and_more t R names e o colon)
   computed_argument names e None colon = computed_positional names e
   computed_argument names e (Some m) true = computed_named_argument names m
   computed_argument names e (Some m) false = computed_positional names e
@@ -120,23 +147,33 @@ module _ (t : List ℕ) (n : ℕ) (R : Family) (h : ComputedFamily R) where
   abbrev pub computed_arguments_at : (names : List (List ℕ)) (b : Option ℕ) → Computed (more_arguments_at t R names b)
   computed_arguments_at names None = computed_fails
   computed_arguments_at names (Some b) = computed_either (computed_bind (computed_token t n 41) (λ u. computed_gives))
-      (computed_bind h.inline_expression (λ e. computed_bind (computed_at_each (λ colon. computed_gives)) (λ colon. computed_argument names e (argument_name e) colon)))
+      (computed_bind h.inline_expression
+            (λ e. computed_bind (computed_at_each (λ colon. computed_gives))
+              (λ colon. computed_argument names e (argument_name e) colon)))
 
   abbrev pub computed_arguments : (names : List (List ℕ)) → Computed (more_arguments t R names)
   computed_arguments names = computed_at_each (computed_arguments_at names)
 
   abbrev pub computed_pieces_at : (b : Option ℕ) → Computed (pieces_at t R b)
   computed_pieces_at None = computed_gives
-  computed_pieces_at (Some b) = computed_at_each (λ eol. computed_either computed_gives (computed_either computed_fails (computed_either
+  computed_pieces_at (Some b) =
+      computed_at_each (λ eol. computed_either computed_gives (computed_either computed_fails (computed_either
       (computed_bind computed_placeable (λ e. computed_bind h.more_pieces (λ ps. computed_gives)))
-      (computed_bind computed_here (λ from. computed_bind (computed_over (computed_stretch n)) (λ u. computed_bind computed_here (λ to. computed_bind h.more_pieces (λ ps. computed_gives))))))))
+      (computed_bind computed_here
+            (λ from. computed_bind (computed_over (computed_stretch n))
+              (λ u. computed_bind computed_here (λ to. computed_bind h.more_pieces (λ ps. computed_gives))))))))
 
   abbrev pub computed_pieces : Computed (more_pieces t R)
   computed_pieces = computed_at_each computed_pieces_at
 
   abbrev pub computed_line : Computed (line_and_more t R)
-  computed_line = computed_bind (computed_bind computed_here (λ start. computed_bind (computed_inline_blank t n) (λ u. computed_bind computed_here (λ first. computed_bind h.more_pieces (λ ps.
-      computed_bind (computed_ending t n) (λ e. computed_gives)))))) (λ l. computed_bind h.more_lines (λ ls. computed_gives))
+  computed_line =
+      computed_bind
+        (computed_bind computed_here
+          (λ start. computed_bind (computed_inline_blank t n)
+            (λ u. computed_bind computed_here (λ first. computed_bind h.more_pieces (λ ps.
+      computed_bind (computed_ending t n) (λ e. computed_gives))))))
+          (λ l. computed_bind h.more_lines (λ ls. computed_gives))
 
   abbrev pub lines_at : ℕ → ℕ → Option ℕ → Option (Outcome (List Line))
   lines_at i k None = Some (Read [] k)
@@ -146,28 +183,39 @@ module _ (t : List ℕ) (n : ℕ) (R : Family) (h : ComputedFamily R) where
   lines_run i None = None
   lines_run i (Some k) = lines_at i k (slice_get t k)
 
-  lines_choose : (i k b : ℕ) (own : Bool) (o : Outcome (List Line)) → find (has t is_space) n i ≡ Some k → slice_get t k ≡ Some b → belongs t (nat_lt i k) k ≡ own →
+  lines_choose : (i k b : ℕ) (own : Bool) (o : Outcome (List Line)) → find (has t is_space) n i ≡ Some k →
+      slice_get t k ≡ Some b → belongs t (nat_lt i k) k ≡ own →
       choose own (λ u. computed_line.run i) (λ u. Some (Read [] i)) ≡ Some o → more_lines t R i o
   lines_choose i k b true o e f g x = own_line (found_stretch (has t is_space) n i k e) f g (computed_line.sound i o x)
-  lines_choose i k b false o e f g x = let same : Read [] i ≡ o = cc in subst (λ o. more_lines t R i o) same (other_line (found_stretch (has t is_space) n i k e) f g)
+  lines_choose i k b false o e f g x = let same : Read [] i ≡ o = cc in
+      subst (λ o. more_lines t R i o) same (other_line (found_stretch (has t is_space) n i k e) f g)
 
-  lines_byte : (i k : ℕ) (b : Option ℕ) (o : Outcome (List Line)) → find (has t is_space) n i ≡ Some k → slice_get t k ≡ b → lines_at i k b ≡ Some o → more_lines t R i o
-  lines_byte i k None o e f x = let same : Read [] k ≡ o = cc in subst (λ o. more_lines t R i o) same (no_byte (found_stretch (has t is_space) n i k e) f)
+  lines_byte : (i k : ℕ) (b : Option ℕ) (o : Outcome (List Line)) → find (has t is_space) n i ≡ Some k →
+      slice_get t k ≡ b → lines_at i k b ≡ Some o → more_lines t R i o
+  lines_byte i k None o e f x = let same : Read [] k ≡ o = cc in
+      subst (λ o. more_lines t R i o) same (no_byte (found_stretch (has t is_space) n i k e) f)
   lines_byte i k (Some b) o e f x = lines_choose i k b (belongs t (nat_lt i k) k) o e f refl x
 
-  lines_sound : (i : ℕ) (k : Option ℕ) (o : Outcome (List Line)) → find (has t is_space) n i ≡ k → lines_run i k ≡ Some o → more_lines t R i o
+  lines_sound : (i : ℕ) (k : Option ℕ) (o : Outcome (List Line)) → find (has t is_space) n i ≡ k →
+      lines_run i k ≡ Some o → more_lines t R i o
   lines_sound i None o e x = cc
   lines_sound i (Some k) o e x = lines_byte i k (slice_get t k) o e refl x
 
-  pub lines_found : (i : ℕ) (o : Outcome (List Line)) → lines_run i (find (has t is_space) n i) ≡ Some o → more_lines t R i o
+  pub lines_found : (i : ℕ) (o : Outcome (List Line)) → lines_run i (find (has t is_space) n i) ≡ Some o →
+      more_lines t R i o
   lines_found i o x = lines_sound i (find (has t is_space) n i) o refl x
 
   abbrev pub computed_lines : Computed (more_lines t R)
   computed_lines = record { run = λ i. lines_run i (find (has t is_space) n i); sound = lines_found }
 
   abbrev pub computed_layout_at : (o : Option ℕ) → Computed (layout_at t R o)
-  computed_layout_at None = computed_bind computed_here (λ start. computed_bind h.more_pieces (λ ps. computed_bind (computed_ending t n) (λ e. computed_bind h.more_lines (λ ls. computed_gives))))
-  computed_layout_at (Some k) = computed_bind (computed_over computed_reaches) (λ u. computed_bind (computed_blank_block t n) (λ u. computed_bind h.more_lines (λ ls. computed_gives)))
+  computed_layout_at None =
+      computed_bind computed_here
+        (λ start. computed_bind h.more_pieces
+          (λ ps. computed_bind (computed_ending t n) (λ e. computed_bind h.more_lines (λ ls. computed_gives))))
+  computed_layout_at (Some k) =
+      computed_bind (computed_over computed_reaches)
+        (λ u. computed_bind (computed_blank_block t n) (λ u. computed_bind h.more_lines (λ ls. computed_gives)))
 
   abbrev pub computed_layout : Computed (layout t R)
   computed_layout = computed_bind (computed_inline_blank t n) (λ u. computed_at_each computed_layout_at)
@@ -176,16 +224,23 @@ module _ (edition : Edition) (t : List ℕ) (n : ℕ) (R : Family) (h : Computed
   abbrev pub computed_pattern : Computed (pattern edition t R)
   computed_pattern = computed_bind (computed_layout t n R h) (λ y. computed_gives)
 
-  abbrev pub computed_variant : (starred star : Bool) (key : KeyTree Span) (p : Option (PatternTree Span)) → Computed (variant_and_more edition t R starred star key p)
+  abbrev pub computed_variant : (starred star : Bool) (key : KeyTree Span) (p : Option (PatternTree Span)) →
+      Computed (variant_and_more edition t R starred star key p)
   computed_variant starred star key None = computed_fails
-  computed_variant starred star key (Some p) = computed_bind (computed_blank t n) (λ u. computed_bind (h.more_variants (starred || star)) (λ vs. computed_gives))
+  computed_variant starred star key (Some p) =
+      computed_bind (computed_blank t n) (λ u. computed_bind (h.more_variants (starred || star)) (λ vs. computed_gives))
 
   abbrev pub computed_after : (starred star : Bool) → Computed (variant_after edition t R starred star)
-  computed_after starred star = computed_bind (computed_blank t n) (λ u. computed_bind (computed_key t n) (λ key. computed_bind (computed_blank t n) (λ u. computed_bind (computed_token t n 93) (λ u.
+  computed_after starred star =
+      computed_bind (computed_blank t n)
+        (λ u. computed_bind (computed_key t n)
+          (λ key. computed_bind (computed_blank t n) (λ u. computed_bind (computed_token t n 93) (λ u.
       computed_bind computed_pattern (λ value. computed_variant starred star key value)))))
 
   abbrev pub computed_variants : (starred : Bool) → Computed (more_variants edition t R starred)
-  computed_variants starred = computed_bind (computed_optional t n 42) (λ star. computed_bind (computed_only starred star) (λ u. computed_bind (computed_optional t n 91) (λ bracket.
+  computed_variants starred =
+      computed_bind (computed_optional t n 42)
+        (λ star. computed_bind (computed_only starred star) (λ u. computed_bind (computed_optional t n 91) (λ bracket.
       computed_either (computed_after starred star) (computed_end edition starred star))))
 
 module _ (edition : Edition) (t : List ℕ) (n : ℕ) where
@@ -201,22 +256,32 @@ module _ (edition : Edition) (t : List ℕ) (n : ℕ) where
   computed_family (suc m) = record {
     inline_expression = record {
       run = λ i. (computed_inline t n (family edition t) (computed_family m)).run i;
-      sound = λ i o x. into_inline_expression edition t i o ((computed_inline t n (family edition t) (computed_family m)).sound i o x);
+      sound =
+          λ i o x. into_inline_expression edition t i o
+            ((computed_inline t n (family edition t) (computed_family m)).sound i o x);
     };
     more_arguments = λ names. record {
       run = λ i. (computed_arguments t n (family edition t) (computed_family m) names).run i;
-      sound = λ i o x. into_more_arguments edition t names i o ((computed_arguments t n (family edition t) (computed_family m) names).sound i o x);
+      sound =
+          λ i o x. into_more_arguments edition t names i o
+            ((computed_arguments t n (family edition t) (computed_family m) names).sound i o x);
     };
     more_variants = λ starred. record {
       run = λ i. (computed_variants edition t n (family edition t) (computed_family m) starred).run i;
-      sound = λ i o x. into_more_variants edition t starred i o ((computed_variants edition t n (family edition t) (computed_family m) starred).sound i o x);
+      sound =
+          λ i o x. into_more_variants edition t starred i o
+            ((computed_variants edition t n (family edition t) (computed_family m) starred).sound i o x);
     };
     more_pieces = record {
       run = λ i. (computed_pieces t n (family edition t) (computed_family m)).run i;
-      sound = λ i o x. into_more_pieces edition t i o ((computed_pieces t n (family edition t) (computed_family m)).sound i o x);
+      sound =
+          λ i o x. into_more_pieces edition t i o
+            ((computed_pieces t n (family edition t) (computed_family m)).sound i o x);
     };
     more_lines = record {
       run = λ i. (computed_lines t n (family edition t) (computed_family m)).run i;
-      sound = λ i o x. into_more_lines edition t i o ((computed_lines t n (family edition t) (computed_family m)).sound i o x);
+      sound =
+          λ i o x. into_more_lines edition t i o
+            ((computed_lines t n (family edition t) (computed_family m)).sound i o x);
     };
   }

@@ -29,7 +29,8 @@ pub record IsAsciiSet (test : ℕ → Bool) : Type 0 where
   pub small : (b : ℕ) → test b ≡ true → b < 128
 
 pub ascii_has : (t : List ℕ) (test : ℕ → Bool) (i : ℕ) → IsAsciiSet test → has t test i ≡ true → AsciiAt t i
-ascii_has t test i s e = let f = byte_found test (slice_get t i) e in record { byte = f.0; stands = f.1; ascii = s.small f.0 f.2 }
+ascii_has t test i s e = let f = byte_found test (slice_get t i) e in
+    record { byte = f.0; stands = f.1; ascii = s.small f.0 f.2 }
 
 small_byte : (c : ℕ) → c < 128 → (b : ℕ) → (b == c) ≡ true → b < 128
 small_byte c l b e = grind (arith, nat_tests)
@@ -69,14 +70,18 @@ either_true false true c e = inr refl
 either_true false false c e = cc
 
 pub ascii_eol : (t : List ℕ) (i : ℕ) → has_eol t i ≡ true → AsciiAt t i
-ascii_eol t i e = elim (either_true (has_byte t lf i) (has_byte t cr i) (has_byte t lf (i + 1)) e) [ inl x ↦ ascii_byte t lf i (omega arith) x | inr x ↦ ascii_byte t cr i (omega arith) x ]
+ascii_eol t i e =
+    elim (either_true (has_byte t lf i) (has_byte t cr i) (has_byte t lf (i + 1)) e)
+      [ inl x ↦ ascii_byte t lf i (omega arith) x | inr x ↦ ascii_byte t cr i (omega arith) x ]
 
 or_true : (a b : Bool) → (a || b) ≡ true → (a ≡ true) ⊎ (b ≡ true)
 or_true true b e = inl refl
 or_true false b e = inr e
 
 pub ascii_blank : (t : List ℕ) (i : ℕ) → is_blank_place t i ≡ true → AsciiAt t i
-ascii_blank t i e = elim (or_true (has_byte t space i) (has_eol t i) e) [ inl x ↦ ascii_byte t space i (omega arith) x | inr x ↦ ascii_eol t i x ]
+ascii_blank t i e =
+    elim (or_true (has_byte t space i) (has_eol t i) e)
+      [ inl x ↦ ascii_byte t space i (omega arith) x | inr x ↦ ascii_eol t i x ]
 
 -- ---- words
 
@@ -86,7 +91,8 @@ add_one k = omega arith
 none_some : {o : Option ℕ} {b : ℕ} {X : Type 0} → o ≡ None → o ≡ Some b → X
 none_some e f = cc
 
-some_inside : (t : List ℕ) (k : ℕ) (o : Option ℕ) (e : Bool) → slice_get t k ≡ o → (is_some o && not e) ≡ true → k < length t
+some_inside : (t : List ℕ) (k : ℕ) (o : Option ℕ) (e : Bool) → slice_get t k ≡ o → (is_some o && not e) ≡ true →
+    k < length t
 some_inside t k None e g h = cc
 some_inside t k (Some b) e g h = slice_get_within t k b g
 
@@ -104,7 +110,8 @@ line_ends t j h = elim (some_stops (slice_get t j) (has_eol t j) h) [ inl e ↦ 
 abbrev is_run_byte : ℕ → Bool
 is_run_byte b = not (b == lf || b == 123 || b == 125)
 
-run_some : (t : List ℕ) (k : ℕ) (o : Option ℕ) (e : Bool) → slice_get t k ≡ o → (holds is_run_byte o && not e) ≡ true → k < length t
+run_some : (t : List ℕ) (k : ℕ) (o : Option ℕ) (e : Bool) → slice_get t k ≡ o → (holds is_run_byte o && not e) ≡ true →
+    k < length t
 run_some t k None e g h = cc
 run_some t k (Some b) e g h = slice_get_within t k b g
 
@@ -118,7 +125,8 @@ and_true_is false h = refl
 brace_small : (b : ℕ) → is_run_byte b ≡ false → b < 128
 brace_small b e = grind (arith, nat_tests)
 
-run_stops : (o : Option ℕ) (e : Bool) → (holds is_run_byte o && not e) ≡ false → (o ≡ None) ⊎ ((b : ℕ) × (o ≡ Some b) × (is_run_byte b ≡ false)) ⊎ (e ≡ true)
+run_stops : (o : Option ℕ) (e : Bool) → (holds is_run_byte o && not e) ≡ false → (o ≡ None) ⊎
+    ((b : ℕ) × (o ≡ Some b) × (is_run_byte b ≡ false)) ⊎ (e ≡ true)
 run_stops None e h = inl refl
 run_stops (Some b) true h = inr (inr refl)
 run_stops (Some b) false h = inr (inl (b, refl, (and_true_is (is_run_byte b) h)))
@@ -135,15 +143,18 @@ eol_forward t i k e = elim (eol_cases t i k e) [ inl x ↦ omega arith | inr x �
 
 pub block_forward : (t : List ℕ) (i j : ℕ) → BlankBlock t i j → i ≤ j
 block_forward t i j (no_line a b) = omega arith
-block_forward t i j (line {k = k} {m = m} a b c) = let f = a.forward in let g = eol_forward t k m b in let h = block_forward t m j c in omega arith
+block_forward t i j (line {k = k} {m = m} a b c) = let f = a.forward in let g = eol_forward t k m b in
+    let h = block_forward t m j c in omega arith
 
 module _ (t : List ℕ) (P : ℕ → Type 0) (cuts : IsCuts t P) where
   -- every place of a stretch over ASCII bytes
-  pub stretch_places : (test : ℕ → Bool) → ((k : ℕ) → test k ≡ true → AsciiAt t k) → (i j : ℕ) → P i → Stretch test i j → (k : ℕ) → i ≤ k → k ≤ j → P k
+  pub stretch_places : (test : ℕ → Bool) → ((k : ℕ) → test k ≡ true → AsciiAt t k) → (i j : ℕ) → P i →
+      Stretch test i j → (k : ℕ) → i ≤ k → k ≤ j → P k
   stretch_places test ascii i j p s zero a b = let e : i ≡ 0 = omega arith in subst P e p
   stretch_places test ascii i j p s (suc k) a b =
       let split : (i ≤ k) ⊎ (i ≡ suc k) = grind arith in
-      elim split [ inl l ↦ subst P (add_one k) (cuts.after k (ascii k (s.each k l (omega arith)))) | inr e ↦ subst P e p ]
+      elim split [ inl l ↦ subst P (add_one k) (cuts.after k (ascii k (s.each k l (omega arith))))
+            | inr e ↦ subst P e p ]
 
   pub word_place : (set : ℕ → Bool) → IsAsciiSet set → (i j : ℕ) → P i → Word t set i j → P j
   word_place set s i j p w = stretch_places (has t set) (λ k e. ascii_has t set k s e) i j p w j w.forward (omega arith)
@@ -152,19 +163,30 @@ module _ (t : List ℕ) (P : ℕ → Type 0) (cuts : IsCuts t P) where
   blank_place i j p w = stretch_places (is_blank_place t) (λ k e. ascii_blank t k e) i j p w j w.forward (omega arith)
 
   pub eol_place : (i k : ℕ) → after_eol t i ≡ Some k → P k
-  eol_place i k e = elim (eol_cases t i k e) [ inl x ↦ subst P (sym x.1) (cuts.after i (ascii_byte t lf i (omega arith) x.0)) | inr x ↦ subst P (two_on i ∙ sym x.2) (cuts.after (i + 1) (ascii_byte t lf (i + 1) (omega arith) x.1)) ]
+  eol_place i k e =
+      elim (eol_cases t i k e)
+        [ inl x ↦ subst P (sym x.1) (cuts.after i (ascii_byte t lf i (omega arith) x.0))
+        | inr x ↦ subst P (two_on i ∙ sym x.2) (cuts.after (i + 1) (ascii_byte t lf (i + 1) (omega arith) x.1)) ]
 
   pub block_place : (i j : ℕ) → P i → BlankBlock t i j → P j
   block_place i j p (no_line a b) = p
   block_place i j p (line {m = m} a b c) = block_place m j (eol_place _ m b) c
 
   stop_place : (j : ℕ) → j ≤ length t → (slice_get t j ≡ None) ⊎ AsciiAt t j → P j
-  stop_place j l x = elim x [ inl e ↦ (let c = (slice_get_cases t j).1 in elim c [ inl y ↦ absurd (none_some e y.2) | inr y ↦ (let same : length t ≡ j = omega arith in subst P same cuts.at_end) ]) | inr a ↦ cuts.before j a ]
+  stop_place j l x =
+      elim x [ inl e ↦
+        (let c = (slice_get_cases t j).1 in
+          elim c [ inl y ↦ absurd (none_some e y.2)
+            | inr y ↦ (let same : length t ≡ j = omega arith in subst P same cuts.at_end) ]) | inr a ↦ cuts.before j a ]
 
   -- the rest of a line stops at a line end or at the text's end
   pub line_stop : (i j : ℕ) → P i → Stretch (is_line_place t) i j → P j
-  line_stop i j p s = stop_place j (stretch_in_text (length t) (is_line_place t) (line_inside t) i j (cuts.in_text i p) s) (line_ends t j s.longest)
+  line_stop i j p s =
+      stop_place j (stretch_in_text (length t) (is_line_place t) (line_inside t) i j (cuts.in_text i p) s)
+        (line_ends t j s.longest)
 
   -- a run stops at a line end, a brace or the text's end
   pub run_stop : (i j : ℕ) → P i → Stretch (is_run_place t) i j → P j
-  run_stop i j p s = stop_place j (stretch_in_text (length t) (is_run_place t) (run_inside t) i j (cuts.in_text i p) s) (run_ends t j s.longest)
+  run_stop i j p s =
+      stop_place j (stretch_in_text (length t) (is_run_place t) (run_inside t) i j (cuts.in_text i p) s)
+        (run_ends t j s.longest)

@@ -10,7 +10,8 @@ use Rattle.fluent_syntax_grammar.specs.Laws.{IsFunctional}
 pub record IsSingle (W : ℕ → ℕ → Type 0) : Type 0 where
   pub same : (i j k : ℕ) → W i j → W i k → j ≡ k
 
-bind_same : {A B : Type 0} (c : Construct A) (f : A → Construct B) → IsFunctional c → ((a : A) → IsFunctional (f a)) → (i : ℕ) (o p : Outcome B) → (c >>= f) i o → (c >>= f) i p → o ≡ p
+bind_same : {A B : Type 0} (c : Construct A) (f : A → Construct B) → IsFunctional c → ((a : A) → IsFunctional (f a)) →
+    (i : ℕ) (o p : Outcome B) → (c >>= f) i o → (c >>= f) i p → o ≡ p
 bind_same c f cf ff i o p (stops r) (stops s) = let e = cf.same i _ _ r s in cc
 bind_same c f cf ff i o p (stops r) (goes_on x y) = let e = cf.same i _ _ r x in cc
 bind_same c f cf ff i o p (goes_on x y) (stops r) = let e = cf.same i _ _ r x in cc
@@ -20,7 +21,8 @@ bind_same c f cf ff i o p (goes_on {j = j} {a = a} x y) (goes_on {j = k} {a = b}
     let same_j : j ≡ k = cc in
     (ff a).same j o p y (subst (λ b. f b j p) (sym same_a) (subst (λ k. f b k p) (sym same_j) w))
 
-pub functional_bind : {A B : Type 0} {c : Construct A} {f : A → Construct B} → IsFunctional c → ((a : A) → IsFunctional (f a)) → IsFunctional (c >>= f)
+pub functional_bind : {A B : Type 0} {c : Construct A} {f : A → Construct B} → IsFunctional c →
+    ((a : A) → IsFunctional (f a)) → IsFunctional (c >>= f)
 functional_bind {c = c} {f = f} cf ff = record { same = bind_same c f cf ff }
 
 gives_same : {A : Type 0} (a : A) (i : ℕ) (o p : Outcome A) → gives a i o → gives a i p → o ≡ p
@@ -41,7 +43,8 @@ fails_same k i o p (failed e) (failed f) = cc
 pub functional_fails : {A : Type 0} {k : Kind} → IsFunctional (fails {A = A} k)
 functional_fails {k = k} = record { same = fails_same k }
 
-fails_from_same : {A : Type 0} (k : Kind) (from i : ℕ) (o p : Outcome A) → fails_from k from i o → fails_from k from i p → o ≡ p
+fails_from_same : {A : Type 0} (k : Kind) (from i : ℕ) (o p : Outcome A) → fails_from k from i o →
+    fails_from k from i p → o ≡ p
 fails_from_same k from i o p failed_from failed_from = refl
 
 pub functional_fails_from : {A : Type 0} {k : Kind} {from : ℕ} → IsFunctional (fails_from {A = A} k from)
@@ -53,19 +56,23 @@ over_same W single i o p (passed x) (passed y) = let e = single.same i _ _ x y i
 pub functional_over : {W : ℕ → ℕ → Type 0} → IsSingle W → IsFunctional (over W)
 functional_over {W = W} single = record { same = over_same W single }
 
-at_each_same : {A B : Type 0} (look : ℕ → A) (part : A → Construct B) → ((a : A) → IsFunctional (part a)) → (i : ℕ) (o p : Outcome B) → at_each look part i o → at_each look part i p → o ≡ p
+at_each_same : {A B : Type 0} (look : ℕ → A) (part : A → Construct B) → ((a : A) → IsFunctional (part a)) →
+    (i : ℕ) (o p : Outcome B) → at_each look part i o → at_each look part i p → o ≡ p
 at_each_same look part f i o p (chosen x) (chosen y) = (f (look i)).same i o p x y
 
-pub functional_at_each : {A B : Type 0} {look : ℕ → A} {part : A → Construct B} → ((a : A) → IsFunctional (part a)) → IsFunctional (at_each look part)
+pub functional_at_each : {A B : Type 0} {look : ℕ → A} {part : A → Construct B} → ((a : A) → IsFunctional (part a)) →
+    IsFunctional (at_each look part)
 functional_at_each {look = look} {part = part} f = record { same = at_each_same look part f }
 
-either_same : {A : Type 0} (b : Bool) (c d : Construct A) → IsFunctional c → IsFunctional d → (i : ℕ) (o p : Outcome A) → either b c d i o → either b c d i p → o ≡ p
+either_same : {A : Type 0} (b : Bool) (c d : Construct A) → IsFunctional c → IsFunctional d →
+    (i : ℕ) (o p : Outcome A) → either b c d i o → either b c d i p → o ≡ p
 either_same b c d cf df i o p (first e x) (first f y) = cf.same i o p x y
 either_same b c d cf df i o p (first e x) (second f y) = cc
 either_same b c d cf df i o p (second e x) (first f y) = cc
 either_same b c d cf df i o p (second e x) (second f y) = df.same i o p x y
 
-pub functional_either : {A : Type 0} {b : Bool} {c d : Construct A} → IsFunctional c → IsFunctional d → IsFunctional (either b c d)
+pub functional_either : {A : Type 0} {b : Bool} {c d : Construct A} → IsFunctional c → IsFunctional d →
+    IsFunctional (either b c d)
 functional_either {b = b} {c = c} {d = d} cf df = record { same = either_same b c d cf df }
 
 -- ---- longest words
@@ -100,4 +107,6 @@ block_same t i j k (line {m = m} a b c) (line {m = n} d e f) =
 pub single_block : {t : List ℕ} → IsSingle (BlankBlock t)
 single_block {t = t} = record { same = block_same t }
 
-pub ruleset functional = (functional_bind, functional_gives, functional_here, functional_fails, functional_fails_from, functional_over, functional_at_each, functional_either, single_stretch, single_steps, single_reaches, single_block)
+pub ruleset functional =
+    (functional_bind, functional_gives, functional_here, functional_fails, functional_fails_from, functional_over,
+      functional_at_each, functional_either, single_stretch, single_steps, single_reaches, single_block)

@@ -22,12 +22,16 @@ functional_attribute_with : (id : Span) (value : Option (PatternTree Span)) → 
 functional_attribute_with id None = search words depth 30
 functional_attribute_with id (Some value) = search words depth 30
 
-functional_message_with : (t : List ℕ) (start : ℕ) (id : Span) (value : Option (PatternTree Span)) (rest : List (AttributeTree Span)) → IsFunctional (message_with t start id value rest)
+functional_message_with :
+    (t : List ℕ) (start : ℕ) (id : Span) (value : Option (PatternTree Span)) (rest : List (AttributeTree Span)) →
+    IsFunctional (message_with t start id value rest)
 functional_message_with t start id None [] = search words depth 30
 functional_message_with t start id None (a ∷ rest) = search words depth 30
 functional_message_with t start id (Some value) rest = search words depth 30
 
-functional_term_with : (t : List ℕ) (start : ℕ) (id : Span) (value : Option (PatternTree Span)) (rest : List (AttributeTree Span)) → IsFunctional (term_with t start id value rest)
+functional_term_with :
+    (t : List ℕ) (start : ℕ) (id : Span) (value : Option (PatternTree Span)) (rest : List (AttributeTree Span)) →
+    IsFunctional (term_with t start id value rest)
 functional_term_with t start id None rest = search words depth 30
 functional_term_with t start id (Some value) rest = search words depth 30
 
@@ -38,15 +42,18 @@ module _ (edition : Edition) (t : List ℕ) where
   pub functional_attribute : IsFunctional (attribute edition t)
   functional_attribute = search (words, functional_attribute_with, functional_pattern) depth 30
 
-  attributes_same : (i : ℕ) (o p : Outcome (List (AttributeTree Span))) → attributes edition t i o → attributes edition t i p → o ≡ p
+  attributes_same : (i : ℕ) (o p : Outcome (List (AttributeTree Span))) → attributes edition t i o →
+      attributes edition t i p → o ≡ p
   attributes_same i o p (no_more a) (no_more b) = refl
   attributes_same i o p (no_more a) (one_more b c) = let h = functional_attribute.same i _ _ a b in cc
   attributes_same i o p (one_more a b) (no_more c) = let h = functional_attribute.same i _ _ a c in cc
-  attributes_same i o p (one_more {j = j} {end = e} {a = x} {rest = xs} a b) (one_more {j = k} {end = f} {a = y} {rest = ys} c d) =
+  attributes_same i o p (one_more {j = j} {end = e} {a = x} {rest = xs} a b)
+      (one_more {j = k} {end = f} {a = y} {rest = ys} c d) =
       let h = functional_attribute.same i _ _ a c in
       let same_j : j ≡ k = cc in
       let same_x : x ≡ y = cc in
-      let rest : Read xs e ≡ Read ys f = attributes_same j _ _ b (subst (λ k. attributes edition t k (Read ys f)) (sym same_j) d) in
+      let rest : Read xs e ≡ Read ys f =
+          attributes_same j _ _ b (subst (λ k. attributes edition t k (Read ys f)) (sym same_j) d) in
       cc
 
   pub functional_attributes : IsFunctional (attributes edition t)
@@ -70,20 +77,25 @@ module _ (t : List ℕ) where
   pub functional_comment_line : (level : ℕ) → IsFunctional (comment_line t level)
   functional_comment_line level = search (words, functional_comment_rest) depth 30
 
-  comment_lines_same : (level i : ℕ) (o p : Outcome (List Span)) → comment_lines t level i o → comment_lines t level i p → o ≡ p
+  comment_lines_same : (level i : ℕ) (o p : Outcome (List Span)) → comment_lines t level i o →
+      comment_lines t level i p → o ≡ p
   comment_lines_same level i o p (other_level a) (other_level b) = refl
   comment_lines_same level i o p (other_level a) (no_comment_line b c) = refl
   comment_lines_same level i o p (other_level a) (comments.one_more b c d) = absurd (a b)
   comment_lines_same level i o p (no_comment_line a b) (other_level c) = refl
   comment_lines_same level i o p (no_comment_line a b) (no_comment_line c d) = refl
-  comment_lines_same level i o p (no_comment_line a b) (comments.one_more c d e) = let h = (functional_comment_line level).same i _ _ b d in cc
+  comment_lines_same level i o p (no_comment_line a b) (comments.one_more c d e) =
+      let h = (functional_comment_line level).same i _ _ b d in cc
   comment_lines_same level i o p (comments.one_more a b c) (other_level d) = absurd (d a)
-  comment_lines_same level i o p (comments.one_more a b c) (no_comment_line d e) = let h = (functional_comment_line level).same i _ _ b e in cc
-  comment_lines_same level i o p (comments.one_more {j = j} {end = m} {content = x} {rest = xs} a b c) (comments.one_more {j = k} {end = n} {content = y} {rest = ys} d e f) =
+  comment_lines_same level i o p (comments.one_more a b c) (no_comment_line d e) =
+      let h = (functional_comment_line level).same i _ _ b e in cc
+  comment_lines_same level i o p (comments.one_more {j = j} {end = m} {content = x} {rest = xs} a b c)
+      (comments.one_more {j = k} {end = n} {content = y} {rest = ys} d e f) =
       let h = (functional_comment_line level).same i _ _ b e in
       let same_j : j ≡ k = cc in
       let same_x : x ≡ y = cc in
-      let rest : Read xs m ≡ Read ys n = comment_lines_same level j _ _ c (subst (λ k. comment_lines t level k (Read ys n)) (sym same_j) f) in
+      let rest : Read xs m ≡ Read ys n =
+          comment_lines_same level j _ _ c (subst (λ k. comment_lines t level k (Read ys n)) (sym same_j) f) in
       cc
 
   pub functional_comment_lines : (level : ℕ) → IsFunctional (comment_lines t level)

@@ -19,7 +19,8 @@ use Rattle.fluent_syntax_grammar.specs.Laws.{IsFunctional}
 use Rattle.fluent_syntax_grammar.proofs.Functional.{functional, single_stretch}
 use Rattle.fluent_syntax_grammar.proofs.FunctionalWords.{functional_optional, functional_token, functional_identifier, functional_number, functional_string}
 
-ruleset words = (functional, functional_optional, functional_token, functional_identifier, functional_number, functional_string)
+ruleset words =
+    (functional, functional_optional, functional_token, functional_identifier, functional_number, functional_string)
 
 pub record IsFunctionalFamily (R : Family) : Type 0 where
   pub inline_expression : IsFunctional R.inline_expression
@@ -103,13 +104,15 @@ module _ (t : List ℕ) (R : Family) (h : IsFunctionalFamily R) where
   functional_value other = search words depth 30
 
   functional_named_argument : (names : List (List ℕ)) (name : Span) → IsFunctional (named_and_more t R names name)
-  functional_named_argument names name = search (words, functional_separator, functional_value, h.more_arguments) depth 30
+  functional_named_argument names name =
+      search (words, functional_separator, functional_value, h.more_arguments) depth 30
 
   functional_positional : (names : List (List ℕ)) (e : InlineTree Span) → IsFunctional (positional_and_more t R names e)
   functional_positional [] e = search (words, functional_separator, h.more_arguments) depth 30
   functional_positional (n ∷ ns) e = search words depth 30
 
-  functional_argument : (names : List (List ℕ)) (e : InlineTree Span) (o : Option Span) (colon : Bool) → IsFunctional (argument_and_more t R names e o colon)
+  functional_argument : (names : List (List ℕ)) (e : InlineTree Span) (o : Option Span) (colon : Bool) →
+      IsFunctional (argument_and_more t R names e o colon)
   functional_argument names e None colon = functional_positional names e
   functional_argument names e (Some n) true = functional_named_argument names n
   functional_argument names e (Some n) false = functional_positional names e
@@ -140,9 +143,11 @@ module _ (t : List ℕ) (R : Family) (h : IsFunctionalFamily R) where
   lines_same i o p (no_byte a b) (own_line c d e f) = let h = single_stretch.same i _ _ a c in cc
   lines_same i o p (other_line a b c) (no_byte d e) = let h = single_stretch.same i _ _ a d in cc
   lines_same i o p (other_line a b c) (other_line d e f) = refl
-  lines_same i o p (other_line {k = k} a b c) (own_line {k = m} d e f g) = let h : k ≡ m = single_stretch.same i _ _ a d in cc
+  lines_same i o p (other_line {k = k} a b c) (own_line {k = m} d e f g) =
+      let h : k ≡ m = single_stretch.same i _ _ a d in cc
   lines_same i o p (own_line a b c d) (no_byte e f) = let h = single_stretch.same i _ _ a e in cc
-  lines_same i o p (own_line {k = k} a b c d) (other_line {k = m} e f g) = let h : k ≡ m = single_stretch.same i _ _ a e in cc
+  lines_same i o p (own_line {k = k} a b c d) (other_line {k = m} e f g) =
+      let h : k ≡ m = single_stretch.same i _ _ a e in cc
   lines_same i o p (own_line a b c d) (own_line e f g x) = functional_line_and_more.same i o p d x
 
   functional_lines : IsFunctional (more_lines t R)
@@ -159,7 +164,8 @@ module _ (edition : Edition) (t : List ℕ) (R : Family) (h : IsFunctionalFamily
   pub functional_pattern : IsFunctional (pattern edition t R)
   functional_pattern = search (words, functional_layout t R h) depth 30
 
-  functional_variant : (starred star : Bool) (key : KeyTree Span) (p : Option (PatternTree Span)) → IsFunctional (variant_and_more edition t R starred star key p)
+  functional_variant : (starred star : Bool) (key : KeyTree Span) (p : Option (PatternTree Span)) →
+      IsFunctional (variant_and_more edition t R starred star key p)
   functional_variant starred star key None = search words depth 30
   functional_variant starred star key (Some p) = search (words, h.more_variants) depth 30
 

@@ -12,9 +12,12 @@ use Rattle.fluent_syntax_grammar.proofs.Functional.{functional}
 module _ (t : List ℕ) where
   hex_same : (w i : ℕ) (o p : Outcome (Unit {0})) → hex_digits t w i o → hex_digits t w i p → o ≡ p
   hex_same w i o p (all_there a e) (all_there b f) = cc
-  hex_same w i o p (all_there {j = j} a e) (too_few {k = k} b f g) = let yes : has t is_ascii_hexdigit k ≡ true = a.each k b.forward (omega arith) in let no = b.longest f in cc
-  hex_same w i o p (too_few {k = k} a f g) (all_there {j = j} b e) = let yes : has t is_ascii_hexdigit k ≡ true = b.each k a.forward (omega arith) in let no = a.longest f in cc
-  hex_same w i o p (too_few {k = j} a e f) (too_few {k = k} b g h) = let same : j ≡ k = grind (arith, a.each k b.forward, b.each j a.forward, a.longest e, b.longest g) in cc
+  hex_same w i o p (all_there {j = j} a e) (too_few {k = k} b f g) =
+      let yes : has t is_ascii_hexdigit k ≡ true = a.each k b.forward (omega arith) in let no = b.longest f in cc
+  hex_same w i o p (too_few {k = k} a f g) (all_there {j = j} b e) =
+      let yes : has t is_ascii_hexdigit k ≡ true = b.each k a.forward (omega arith) in let no = a.longest f in cc
+  hex_same w i o p (too_few {k = j} a e f) (too_few {k = k} b g h) =
+      let same : j ≡ k = grind (arith, a.each k b.forward, b.each j a.forward, a.longest e, b.longest g) in cc
 
   pub functional_hex : {w : ℕ} → IsFunctional (hex_digits t w)
   functional_hex {w = w} = record { same = hex_same w }
@@ -67,9 +70,11 @@ module _ (t : List ℕ) where
       let h = (functional_string_unit (slice_get t i)).same i _ _ b e in
       let same_j : j ≡ k = cc in
       units_same j o p c (subst (λ k. string_units t k p) (sym same_j) f)
-  units_same i o p (unit_and_more a b c) (bad_unit d e) = let h = (functional_string_unit (slice_get t i)).same i _ _ b e in cc
+  units_same i o p (unit_and_more a b c) (bad_unit d e) =
+      let h = (functional_string_unit (slice_get t i)).same i _ _ b e in cc
   units_same i o p (bad_unit a b) (before_quote d) = cc
-  units_same i o p (bad_unit a b) (unit_and_more d e f) = let h = (functional_string_unit (slice_get t i)).same i _ _ b e in cc
+  units_same i o p (bad_unit a b) (unit_and_more d e f) =
+      let h = (functional_string_unit (slice_get t i)).same i _ _ b e in cc
   units_same i o p (bad_unit a b) (bad_unit d e) = let h = (functional_string_unit (slice_get t i)).same i _ _ b e in cc
 
   pub functional_units : IsFunctional (string_units t)

@@ -4,20 +4,26 @@ use Rattle.fluent_syntax_tree.specs.Kind.{Kind}
 use Rattle.fluent_syntax_grammar.specs.Construct.{Read, Refused, Construct, ◌>>=◌, stops, goes_on, gives, given, here, at_place, fails, failed, fails_from, failed_from, over, passed, at_each, chosen, either, first, second}
 
 -- From each place with `pre`, every reading has `read value end`, and every refusal `refused kind from to`.
-pub record Holds {A : Type 0} (pre : ℕ → Type 0) (c : Construct A) (read : A → ℕ → Type 0) (refused : Kind → ℕ → ℕ → Type 0) : Type 0 where
+pub record Holds {A : Type 0} (pre : ℕ → Type 0) (c : Construct A) (read : A → ℕ → Type 0)
+    (refused : Kind → ℕ → ℕ → Type 0) : Type 0 where
   pub on_read : (i j : ℕ) (a : A) → pre i → c i (Read a j) → read a j
   pub on_refused : (i from to : ℕ) (k : Kind) → pre i → c i (Refused k from to) → refused k from to
 
 -- less is asked, more is held
-pub holds_weaker : {A : Type 0} {pre pre' : ℕ → Type 0} {c : Construct A} {read read' : A → ℕ → Type 0} {refused refused' : Kind → ℕ → ℕ → Type 0} →
-    ((i : ℕ) → pre' i → pre i) → ((a : A) (j : ℕ) → read a j → read' a j) → ((k : Kind) (from to : ℕ) → refused k from to → refused' k from to) →
+pub holds_weaker :
+    {A : Type 0} {pre pre' : ℕ → Type 0} {c : Construct A} {read read' : A → ℕ → Type 0}
+      {refused refused' : Kind → ℕ → ℕ → Type 0} →
+    ((i : ℕ) → pre' i → pre i) → ((a : A) (j : ℕ) → read a j → read' a j) →
+        ((k : Kind) (from to : ℕ) → refused k from to → refused' k from to) →
     Holds pre c read refused → Holds pre' c read' refused'
 holds_weaker p r f h = record {
   on_read = λ i j a pi x. r a j (h.on_read i j a (p i pi) x);
   on_refused = λ i from to k pi x. f k from to (h.on_refused i from to k (p i pi) x);
 }
 
-module _ {A B : Type 0} (pre : ℕ → Type 0) (c : Construct A) (f : A → Construct B) (mid : A → ℕ → Type 0) (read : B → ℕ → Type 0) (refused : Kind → ℕ → ℕ → Type 0) (h : Holds pre c mid refused) (g : (a : A) → Holds (mid a) (f a) read refused) where
+module _ {A B : Type 0} (pre : ℕ → Type 0) (c : Construct A) (f : A → Construct B) (mid : A → ℕ → Type 0)
+    (read : B → ℕ → Type 0) (refused : Kind → ℕ → ℕ → Type 0) (h : Holds pre c mid refused)
+    (g : (a : A) → Holds (mid a) (f a) read refused) where
   bind_read : (i j : ℕ) (b : B) → pre i → (c >>= f) i (Read b j) → read b j
   bind_read i j b p (goes_on {j = m} {a = a} x y) = (g a).on_read m j b (h.on_read i m a p x) y
 
@@ -26,11 +32,15 @@ module _ {A B : Type 0} (pre : ℕ → Type 0) (c : Construct A) (f : A → Cons
   bind_refused i from to k p (goes_on {j = m} {a = a} x y) = (g a).on_refused m from to k (h.on_read i m a p x) y
 
 -- what holds after the first part is where the second one begins
-pub holds_bind : {A B : Type 0} {pre : ℕ → Type 0} {c : Construct A} {f : A → Construct B} {mid : A → ℕ → Type 0} {read : B → ℕ → Type 0} {refused : Kind → ℕ → ℕ → Type 0} →
+pub holds_bind :
+    {A B : Type 0} {pre : ℕ → Type 0} {c : Construct A} {f : A → Construct B} {mid : A → ℕ → Type 0}
+      {read : B → ℕ → Type 0} {refused : Kind → ℕ → ℕ → Type 0} →
     Holds pre c mid refused → ((a : A) → Holds (mid a) (f a) read refused) → Holds pre (c >>= f) read refused
-holds_bind {pre = pre} {c = c} {f = f} {mid = mid} {read = read} {refused = refused} h g = record { on_read = bind_read pre c f mid read refused h g; on_refused = bind_refused pre c f mid read refused h g }
+holds_bind {pre = pre} {c = c} {f = f} {mid = mid} {read = read} {refused = refused} h g =
+    record { on_read = bind_read pre c f mid read refused h g; on_refused = bind_refused pre c f mid read refused h g }
 
-gives_read : {A : Type 0} (pre : ℕ → Type 0) (a : A) (read : A → ℕ → Type 0) → ((i : ℕ) → pre i → read a i) → (i j : ℕ) (b : A) → pre i → gives a i (Read b j) → read b j
+gives_read : {A : Type 0} (pre : ℕ → Type 0) (a : A) (read : A → ℕ → Type 0) → ((i : ℕ) → pre i → read a i) →
+    (i j : ℕ) (b : A) → pre i → gives a i (Read b j) → read b j
 gives_read pre a read h i j b p given = h i p
 
 gives_refused : {A : Type 0} (a : A) (X : Type 0) (i from to : ℕ) (k : Kind) → gives a i (Refused k from to) → X
@@ -40,46 +50,69 @@ gives_refused a X i from to k x = elim x [ ]
 pub gave : {A : Type 0} (a b : A) (i j : ℕ) → gives a i (Read b j) → (a ≡ b) × (i ≡ j)
 gave a b i j given = (refl, refl)
 
-pub holds_gives : {A : Type 0} {pre : ℕ → Type 0} {a : A} {read : A → ℕ → Type 0} {refused : Kind → ℕ → ℕ → Type 0} → ((i : ℕ) → pre i → read a i) → Holds pre (gives a) read refused
-holds_gives {pre = pre} {a = a} {read = read} {refused = refused} h = record { on_read = gives_read pre a read h; on_refused = λ i from to k p x. gives_refused a (refused k from to) i from to k x }
+pub holds_gives : {A : Type 0} {pre : ℕ → Type 0} {a : A} {read : A → ℕ → Type 0} {refused : Kind → ℕ → ℕ → Type 0} →
+    ((i : ℕ) → pre i → read a i) → Holds pre (gives a) read refused
+holds_gives {pre = pre} {a = a} {read = read} {refused = refused} h =
+    record { on_read = gives_read pre a read h;
+      on_refused = λ i from to k p x. gives_refused a (refused k from to) i from to k x }
 
-here_read : (pre : ℕ → Type 0) (read : ℕ → ℕ → Type 0) → ((i : ℕ) → pre i → read i i) → (i j a : ℕ) → pre i → here i (Read a j) → read a j
+here_read : (pre : ℕ → Type 0) (read : ℕ → ℕ → Type 0) → ((i : ℕ) → pre i → read i i) → (i j a : ℕ) → pre i →
+    here i (Read a j) → read a j
 here_read pre read h i j a p at_place = h i p
 
 here_refused : (X : Type 0) (i from to : ℕ) (k : Kind) → here i (Refused k from to) → X
 here_refused X i from to k x = elim x [ ]
 
-pub holds_here : {pre : ℕ → Type 0} {read : ℕ → ℕ → Type 0} {refused : Kind → ℕ → ℕ → Type 0} → ((i : ℕ) → pre i → read i i) → Holds pre here read refused
-holds_here {pre = pre} {read = read} {refused = refused} h = record { on_read = here_read pre read h; on_refused = λ i from to k p x. here_refused (refused k from to) i from to k x }
+pub holds_here : {pre : ℕ → Type 0} {read : ℕ → ℕ → Type 0} {refused : Kind → ℕ → ℕ → Type 0} →
+    ((i : ℕ) → pre i → read i i) → Holds pre here read refused
+holds_here {pre = pre} {read = read} {refused = refused} h =
+    record { on_read = here_read pre read h;
+      on_refused = λ i from to k p x. here_refused (refused k from to) i from to k x }
 
 fails_read : {A : Type 0} (k : Kind) (X : Type 0) (i j : ℕ) (a : A) → fails k i (Read a j) → X
 fails_read k X i j a x = elim x [ ]
 
-fails_refused : {A : Type 0} (pre : ℕ → Type 0) (k : Kind) (refused : Kind → ℕ → ℕ → Type 0) → ((i : ℕ) → pre i → refused k i (i + 1)) → (i from to : ℕ) (l : Kind) → pre i → fails {A = A} k i (Refused l from to) → refused l from to
+fails_refused : {A : Type 0} (pre : ℕ → Type 0) (k : Kind) (refused : Kind → ℕ → ℕ → Type 0) →
+    ((i : ℕ) → pre i → refused k i (i + 1)) → (i from to : ℕ) (l : Kind) → pre i →
+    fails {A = A} k i (Refused l from to) → refused l from to
 fails_refused pre k refused h i from to l p (failed e) = rw e (h i p)
 
-pub holds_fails : {A : Type 0} {pre : ℕ → Type 0} {k : Kind} {read : A → ℕ → Type 0} {refused : Kind → ℕ → ℕ → Type 0} → ((i : ℕ) → pre i → refused k i (i + 1)) → Holds pre (fails k) read refused
-holds_fails {pre = pre} {k = k} {read = read} {refused = refused} h = record { on_read = λ i j a p x. fails_read k (read a j) i j a x; on_refused = fails_refused pre k refused h }
+pub holds_fails : {A : Type 0} {pre : ℕ → Type 0} {k : Kind} {read : A → ℕ → Type 0} {refused : Kind → ℕ → ℕ → Type 0} →
+    ((i : ℕ) → pre i → refused k i (i + 1)) → Holds pre (fails k) read refused
+holds_fails {pre = pre} {k = k} {read = read} {refused = refused} h =
+    record { on_read = λ i j a p x. fails_read k (read a j) i j a x; on_refused = fails_refused pre k refused h }
 
 from_read : {A : Type 0} (k : Kind) (start : ℕ) (X : Type 0) (i j : ℕ) (a : A) → fails_from k start i (Read a j) → X
 from_read k start X i j a x = elim x [ ]
 
-from_refused : {A : Type 0} (pre : ℕ → Type 0) (k : Kind) (start : ℕ) (refused : Kind → ℕ → ℕ → Type 0) → ((i : ℕ) → pre i → refused k start i) → (i from to : ℕ) (l : Kind) → pre i → fails_from {A = A} k start i (Refused l from to) → refused l from to
+from_refused : {A : Type 0} (pre : ℕ → Type 0) (k : Kind) (start : ℕ) (refused : Kind → ℕ → ℕ → Type 0) →
+    ((i : ℕ) → pre i → refused k start i) → (i from to : ℕ) (l : Kind) → pre i →
+    fails_from {A = A} k start i (Refused l from to) → refused l from to
 from_refused pre k start refused h i from to l p failed_from = h i p
 
-pub holds_fails_from : {A : Type 0} {pre : ℕ → Type 0} {k : Kind} {start : ℕ} {read : A → ℕ → Type 0} {refused : Kind → ℕ → ℕ → Type 0} → ((i : ℕ) → pre i → refused k start i) → Holds pre (fails_from k start) read refused
-holds_fails_from {pre = pre} {k = k} {start = start} {read = read} {refused = refused} h = record { on_read = λ i j a p x. from_read k start (read a j) i j a x; on_refused = from_refused pre k start refused h }
+pub holds_fails_from :
+    {A : Type 0} {pre : ℕ → Type 0} {k : Kind} {start : ℕ} {read : A → ℕ → Type 0} {refused : Kind → ℕ → ℕ → Type 0} →
+    ((i : ℕ) → pre i → refused k start i) → Holds pre (fails_from k start) read refused
+holds_fails_from {pre = pre} {k = k} {start = start} {read = read} {refused = refused} h =
+    record { on_read = λ i j a p x. from_read k start (read a j) i j a x;
+      on_refused = from_refused pre k start refused h }
 
-over_read : (pre : ℕ → Type 0) (W : ℕ → ℕ → Type 0) (read : Unit {0} → ℕ → Type 0) → ((i j : ℕ) → pre i → W i j → read tt j) → (i j : ℕ) (a : Unit {0}) → pre i → over W i (Read a j) → read a j
+over_read : (pre : ℕ → Type 0) (W : ℕ → ℕ → Type 0) (read : Unit {0} → ℕ → Type 0) →
+    ((i j : ℕ) → pre i → W i j → read tt j) → (i j : ℕ) (a : Unit {0}) → pre i → over W i (Read a j) → read a j
 over_read pre W read h i j a p (passed w) = h i j p w
 
 over_refused : (W : ℕ → ℕ → Type 0) (X : Type 0) (i from to : ℕ) (k : Kind) → over W i (Refused k from to) → X
 over_refused W X i from to k x = elim x [ ]
 
-pub holds_over : {pre : ℕ → Type 0} {W : ℕ → ℕ → Type 0} {read : Unit {0} → ℕ → Type 0} {refused : Kind → ℕ → ℕ → Type 0} → ((i j : ℕ) → pre i → W i j → read tt j) → Holds pre (over W) read refused
-holds_over {pre = pre} {W = W} {read = read} {refused = refused} h = record { on_read = over_read pre W read h; on_refused = λ i from to k p x. over_refused W (refused k from to) i from to k x }
+pub holds_over :
+    {pre : ℕ → Type 0} {W : ℕ → ℕ → Type 0} {read : Unit {0} → ℕ → Type 0} {refused : Kind → ℕ → ℕ → Type 0} →
+    ((i j : ℕ) → pre i → W i j → read tt j) → Holds pre (over W) read refused
+holds_over {pre = pre} {W = W} {read = read} {refused = refused} h =
+    record { on_read = over_read pre W read h;
+      on_refused = λ i from to k p x. over_refused W (refused k from to) i from to k x }
 
-module _ {A B : Type 0} (pre : ℕ → Type 0) (look : ℕ → A) (part : A → Construct B) (read : B → ℕ → Type 0) (refused : Kind → ℕ → ℕ → Type 0) (h : (a : A) → Holds (λ i. pre i × (look i ≡ a)) (part a) read refused) where
+module _ {A B : Type 0} (pre : ℕ → Type 0) (look : ℕ → A) (part : A → Construct B) (read : B → ℕ → Type 0)
+    (refused : Kind → ℕ → ℕ → Type 0) (h : (a : A) → Holds (λ i. pre i × (look i ≡ a)) (part a) read refused) where
   at_each_read : (i j : ℕ) (b : B) → pre i → at_each look part i (Read b j) → read b j
   at_each_read i j b p (chosen x) = (h (look i)).on_read i j b (p, refl) x
 
@@ -87,11 +120,17 @@ module _ {A B : Type 0} (pre : ℕ → Type 0) (look : ℕ → A) (part : A → 
   at_each_refused i from to k p (chosen x) = (h (look i)).on_refused i from to k (p, refl) x
 
 -- a part is read where it was chosen
-pub holds_at_each : {A B : Type 0} {pre : ℕ → Type 0} {look : ℕ → A} {part : A → Construct B} {read : B → ℕ → Type 0} {refused : Kind → ℕ → ℕ → Type 0} →
+pub holds_at_each :
+    {A B : Type 0} {pre : ℕ → Type 0} {look : ℕ → A} {part : A → Construct B} {read : B → ℕ → Type 0}
+      {refused : Kind → ℕ → ℕ → Type 0} →
     ((a : A) → Holds (λ i. pre i × (look i ≡ a)) (part a) read refused) → Holds pre (at_each look part) read refused
-holds_at_each {pre = pre} {look = look} {part = part} {read = read} {refused = refused} h = record { on_read = at_each_read pre look part read refused h; on_refused = at_each_refused pre look part read refused h }
+holds_at_each {pre = pre} {look = look} {part = part} {read = read} {refused = refused} h =
+    record { on_read = at_each_read pre look part read refused h;
+      on_refused = at_each_refused pre look part read refused h }
 
-module _ {A : Type 0} (pre : ℕ → Type 0) (test : Bool) (yes no : Construct A) (read : A → ℕ → Type 0) (refused : Kind → ℕ → ℕ → Type 0) (h : test ≡ true → Holds pre yes read refused) (g : test ≡ false → Holds pre no read refused) where
+module _ {A : Type 0} (pre : ℕ → Type 0) (test : Bool) (yes no : Construct A) (read : A → ℕ → Type 0)
+    (refused : Kind → ℕ → ℕ → Type 0) (h : test ≡ true → Holds pre yes read refused)
+    (g : test ≡ false → Holds pre no read refused) where
   either_read : (i j : ℕ) (a : A) → pre i → either test yes no i (Read a j) → read a j
   either_read i j a p (first e x) = (h e).on_read i j a p x
   either_read i j a p (second e x) = (g e).on_read i j a p x
@@ -100,6 +139,11 @@ module _ {A : Type 0} (pre : ℕ → Type 0) (test : Bool) (yes no : Construct A
   either_refused i from to k p (first e x) = (h e).on_refused i from to k p x
   either_refused i from to k p (second e x) = (g e).on_refused i from to k p x
 
-pub holds_either : {A : Type 0} {pre : ℕ → Type 0} {test : Bool} {yes no : Construct A} {read : A → ℕ → Type 0} {refused : Kind → ℕ → ℕ → Type 0} →
-    (test ≡ true → Holds pre yes read refused) → (test ≡ false → Holds pre no read refused) → Holds pre (either test yes no) read refused
-holds_either {pre = pre} {test = test} {yes = c} {no = d} {read = read} {refused = refused} h g = record { on_read = either_read pre test c d read refused h g; on_refused = either_refused pre test c d read refused h g }
+pub holds_either :
+    {A : Type 0} {pre : ℕ → Type 0} {test : Bool} {yes no : Construct A} {read : A → ℕ → Type 0}
+      {refused : Kind → ℕ → ℕ → Type 0} →
+    (test ≡ true → Holds pre yes read refused) → (test ≡ false → Holds pre no read refused) →
+        Holds pre (either test yes no) read refused
+holds_either {pre = pre} {test = test} {yes = c} {no = d} {read = read} {refused = refused} h g =
+    record { on_read = either_read pre test c d read refused h g;
+      on_refused = either_refused pre test c d read refused h g }

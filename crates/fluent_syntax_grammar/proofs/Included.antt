@@ -25,24 +25,30 @@ pub record IsIncluded {A : Type 0} (c d : Construct A) : Type 0 where
 pub included_same : {A : Type 0} {c : Construct A} → IsIncluded c c
 included_same = record { part = λ i o x. x }
 
-bind_part : {A B : Type 0} (c d : Construct A) (f g : A → Construct B) → IsIncluded c d → ((a : A) → IsIncluded (f a) (g a)) → (i : ℕ) (o : Outcome B) → (c >>= f) i o → (d >>= g) i o
+bind_part : {A B : Type 0} (c d : Construct A) (f g : A → Construct B) → IsIncluded c d →
+    ((a : A) → IsIncluded (f a) (g a)) → (i : ℕ) (o : Outcome B) → (c >>= f) i o → (d >>= g) i o
 bind_part c d f g cd fg i o (stops r) = stops (cd.part i _ r)
 bind_part c d f g cd fg i o (goes_on x y) = goes_on (cd.part i _ x) ((fg _).part _ o y)
 
-pub included_bind : {A B : Type 0} {c d : Construct A} {f g : A → Construct B} → IsIncluded c d → ((a : A) → IsIncluded (f a) (g a)) → IsIncluded (c >>= f) (d >>= g)
+pub included_bind : {A B : Type 0} {c d : Construct A} {f g : A → Construct B} → IsIncluded c d →
+    ((a : A) → IsIncluded (f a) (g a)) → IsIncluded (c >>= f) (d >>= g)
 included_bind {c = c} {d = d} {f = f} {g = g} cd fg = record { part = bind_part c d f g cd fg }
 
-at_each_part : {A B : Type 0} (look : ℕ → A) (f g : A → Construct B) → ((a : A) → IsIncluded (f a) (g a)) → (i : ℕ) (o : Outcome B) → at_each look f i o → at_each look g i o
+at_each_part : {A B : Type 0} (look : ℕ → A) (f g : A → Construct B) → ((a : A) → IsIncluded (f a) (g a)) →
+    (i : ℕ) (o : Outcome B) → at_each look f i o → at_each look g i o
 at_each_part look f g fg i o (chosen x) = chosen ((fg (look i)).part i o x)
 
-pub included_at_each : {A B : Type 0} {look : ℕ → A} {f g : A → Construct B} → ((a : A) → IsIncluded (f a) (g a)) → IsIncluded (at_each look f) (at_each look g)
+pub included_at_each : {A B : Type 0} {look : ℕ → A} {f g : A → Construct B} → ((a : A) → IsIncluded (f a) (g a)) →
+    IsIncluded (at_each look f) (at_each look g)
 included_at_each {look = look} {f = f} {g = g} fg = record { part = at_each_part look f g fg }
 
-either_part : {A : Type 0} (b : Bool) (c c' d d' : Construct A) → IsIncluded c c' → IsIncluded d d' → (i : ℕ) (o : Outcome A) → either b c d i o → either b c' d' i o
+either_part : {A : Type 0} (b : Bool) (c c' d d' : Construct A) → IsIncluded c c' → IsIncluded d d' →
+    (i : ℕ) (o : Outcome A) → either b c d i o → either b c' d' i o
 either_part b c c' d d' p q i o (first e x) = first e (p.part i o x)
 either_part b c c' d d' p q i o (second e x) = second e (q.part i o x)
 
-pub included_either : {A : Type 0} {b : Bool} {c c' d d' : Construct A} → IsIncluded c c' → IsIncluded d d' → IsIncluded (either b c d) (either b c' d')
+pub included_either : {A : Type 0} {b : Bool} {c c' d d' : Construct A} → IsIncluded c c' → IsIncluded d d' →
+    IsIncluded (either b c d) (either b c' d')
 included_either {b = b} {c = c} {c' = c'} {d = d} {d' = d'} p q = record { part = either_part b c c' d d' p q }
 
 pub ruleset inclusions = (included_same, included_bind, included_at_each, included_either)
@@ -105,19 +111,23 @@ module _ (t : List ℕ) (R S : Family) (h : IsIncludedFamily R S) where
   included_value brace = search inclusions depth 30
   included_value other = search inclusions depth 30
 
-  included_named : (names : List (List ℕ)) (name : Span) → IsIncluded (named_and_more t R names name) (named_and_more t S names name)
+  included_named : (names : List (List ℕ)) (name : Span) →
+      IsIncluded (named_and_more t R names name) (named_and_more t S names name)
   included_named names name = search (inclusions, included_value, h.more_arguments) depth 30
 
-  included_positional : (names : List (List ℕ)) (e : InlineTree Span) → IsIncluded (positional_and_more t R names e) (positional_and_more t S names e)
+  included_positional : (names : List (List ℕ)) (e : InlineTree Span) →
+      IsIncluded (positional_and_more t R names e) (positional_and_more t S names e)
   included_positional [] e = search (inclusions, h.more_arguments) depth 30
   included_positional (n ∷ ns) e = search inclusions depth 30
 
-  included_argument : (names : List (List ℕ)) (e : InlineTree Span) (o : Option Span) (colon : Bool) → IsIncluded (argument_and_more t R names e o colon) (argument_and_more t S names e o colon)
+  included_argument : (names : List (List ℕ)) (e : InlineTree Span) (o : Option Span) (colon : Bool) →
+      IsIncluded (argument_and_more t R names e o colon) (argument_and_more t S names e o colon)
   included_argument names e None colon = included_positional names e
   included_argument names e (Some n) true = included_named names n
   included_argument names e (Some n) false = included_positional names e
 
-  included_arguments_at : (names : List (List ℕ)) (b : Option ℕ) → IsIncluded (more_arguments_at t R names b) (more_arguments_at t S names b)
+  included_arguments_at : (names : List (List ℕ)) (b : Option ℕ) →
+      IsIncluded (more_arguments_at t R names b) (more_arguments_at t S names b)
   included_arguments_at names None = search inclusions depth 30
   included_arguments_at names (Some b) = search (inclusions, included_argument, nested_inline) depth 30
 
@@ -153,14 +163,17 @@ module _ (edition : Edition) (t : List ℕ) (R S : Family) (h : IsIncludedFamily
   included_pattern : IsIncluded (pattern edition t R) (pattern edition t S)
   included_pattern = search (inclusions, included_layout t R S h) depth 30
 
-  included_variant : (starred star : Bool) (key : KeyTree Span) (p : Option (PatternTree Span)) → IsIncluded (variant_and_more edition t R starred star key p) (variant_and_more edition t S starred star key p)
+  included_variant : (starred star : Bool) (key : KeyTree Span) (p : Option (PatternTree Span)) →
+      IsIncluded (variant_and_more edition t R starred star key p) (variant_and_more edition t S starred star key p)
   included_variant starred star key None = search inclusions depth 30
   included_variant starred star key (Some p) = search (inclusions, h.more_variants) depth 30
 
-  included_after : (starred star : Bool) → IsIncluded (variant_after edition t R starred star) (variant_after edition t S starred star)
+  included_after : (starred star : Bool) →
+      IsIncluded (variant_after edition t R starred star) (variant_after edition t S starred star)
   included_after starred star = search (inclusions, included_pattern, included_variant) depth 30
 
-  included_variants : (starred : Bool) → IsIncluded (more_variants edition t R starred) (more_variants edition t S starred)
+  included_variants : (starred : Bool) →
+      IsIncluded (more_variants edition t R starred) (more_variants edition t S starred)
   included_variants starred = search (inclusions, included_after) depth 30
 
   -- the rules over a family are included in the rules over a larger one

@@ -38,13 +38,17 @@ module _ (P : ℕ → Type 0) where
   GoodGiven (refused f) = IsSpan P f.slice
   GoodGiven dropped = Unit {0}
 
-  good_hung : (content : List Span) (e : EntryTree Span) (o : Option (EntryTree Span)) → hung content e ≡ o → list_every (IsSpan P) content → GoodEntry e → (h : EntryTree Span) → o ≡ Some h → GoodEntry h
-  good_hung content (message m) o p c (a, b, d, f) h q = let same : message (record m { comment = Some content }) ≡ h = cc in subst GoodEntry same (a, b, d, c)
-  good_hung content (term m) o p c (a, b, d, f) h q = let same : term (record m { comment = Some content }) ≡ h = cc in subst GoodEntry same (a, b, d, c)
+  good_hung : (content : List Span) (e : EntryTree Span) (o : Option (EntryTree Span)) → hung content e ≡ o →
+      list_every (IsSpan P) content → GoodEntry e → (h : EntryTree Span) → o ≡ Some h → GoodEntry h
+  good_hung content (message m) o p c (a, b, d, f) h q =
+      let same : message (record m { comment = Some content }) ≡ h = cc in subst GoodEntry same (a, b, d, c)
+  good_hung content (term m) o p c (a, b, d, f) h q = let same : term (record m { comment = Some content }) ≡ h = cc in
+      subst GoodEntry same (a, b, d, c)
   good_hung content (comment level x) o p c g h q = cc
   good_hung content (junk s) o p c g h q = cc
 
-  good_if : (b : Bool) (content : List Span) (e h : EntryTree Span) → list_every (IsSpan P) content → GoodEntry e → (if b then hung content e else None) ≡ Some h → GoodEntry h
+  good_if : (b : Bool) (content : List Span) (e h : EntryTree Span) → list_every (IsSpan P) content → GoodEntry e →
+      (if b then hung content e else None) ≡ Some h → GoodEntry h
   good_if true content e h c g p = good_hung content e (hung content e) refl c g h p
   good_if false content e h c g p = cc
 
@@ -69,14 +73,17 @@ module _ (P : ℕ → Type 0) where
   good_append [] ys g h = h
   good_append (x ∷ xs) ys (g, k) h = (g, good_append xs ys k h)
 
-  good_joined : (x y : Tile) (others after : BodyTree Span) (o : Option (EntryTree Span)) → hangs x y ≡ o → GoodGiven x → GoodGiven y → GoodBody others → GoodBody after → GoodBody (joined o (alone x) others after)
+  good_joined : (x y : Tile) (others after : BodyTree Span) (o : Option (EntryTree Span)) → hangs x y ≡ o →
+      GoodGiven x → GoodGiven y → GoodBody others → GoodBody after → GoodBody (joined o (alone x) others after)
   good_joined x y others after None e g h p q = good_append (alone x) others (good_alone x g) p
   good_joined x y others after (Some z) e g h p q = (good_hangs x y z g h e, q)
 
   good_body : (xs : List Tile) → list_every GoodGiven xs → GoodBody (body xs)
   good_body [] g = tt
   good_body (x ∷ []) (g, h) = good_alone x g
-  good_body (x ∷ y ∷ tiles) (g, (h, k)) = good_joined x y (body (y ∷ tiles)) (body tiles) (hangs x y) refl g h (good_body (y ∷ tiles) (h, k)) (good_body tiles k)
+  good_body (x ∷ y ∷ tiles) (g, (h, k)) =
+      good_joined x y (body (y ∷ tiles)) (body tiles) (hangs x y) refl g h (good_body (y ∷ tiles) (h, k))
+        (good_body tiles k)
 
 module _ (edition : Edition) (t : List ℕ) (P : ℕ → Type 0) (cuts : IsCuts t P) where
   given : (x : Tile) → GoodTile edition t P cuts x → GoodGiven P x
@@ -93,13 +100,15 @@ module _ (edition : Edition) (t : List ℕ) where
   body_in_text = λ tiles u a.
       let P = IsCharBoundary t in
       let cuts = boundary_cuts t u in
-      good_body P tiles (all_given edition t P cuts tiles (tiled_good edition t P cuts 0 tiles (IsCharBoundary-start t u) a))
+      good_body P tiles
+          (all_given edition t P cuts tiles (tiled_good edition t P cuts 0 tiles (IsCharBoundary-start t u) a))
 
   pub runtime_body_in_text : RuntimeBodyInText edition t
   runtime_body_in_text = λ tiles u a.
       let P = IsCharBoundary t in
       let cuts = boundary_cuts t u in
-      good_body P tiles (all_given edition t P cuts tiles (runtime_good edition t P cuts 0 tiles (IsCharBoundary-start t u) a))
+      good_body P tiles
+          (all_given edition t P cuts tiles (runtime_good edition t P cuts 0 tiles (IsCharBoundary-start t u) a))
 
   -- ---- errors ascend
 
@@ -110,7 +119,9 @@ module _ (edition : Edition) (t : List ℕ) where
   abbrev AllPlaces : ℕ → Type 0
   AllPlaces = InText t
 
-  ascend_tile : (i start end : ℕ) (tile : Tile) (more : List Tile) → BlankBlock t i start → AllPlaces i → start < length t → TileAt edition t start end tile → Ascend t end (faults more) → Ascend t i (faults (tile ∷ more))
+  ascend_tile : (i start end : ℕ) (tile : Tile) (more : List Tile) → BlankBlock t i start → AllPlaces i →
+      start < length t → TileAt edition t start end tile → Ascend t end (faults more) →
+      Ascend t i (faults (tile ∷ more))
   ascend_tile i start end tile more b p l (reads {e = e} x) a =
       let q = tile_good edition t AllPlaces (text_cuts t) start end _ (omega arith) l (reads x) in
       let on = q.onward in
@@ -122,13 +133,15 @@ module _ (edition : Edition) (t : List ℕ) where
       let g = q.good in
       (blank, g.0, g.2, g.3, a)
 
-  ascend_from : (i : ℕ) (tiles : List Tile) → AllPlaces i → Tiled t (TileAt edition t) i tiles → Ascend t i (faults tiles)
+  ascend_from : (i : ℕ) (tiles : List Tile) → AllPlaces i → Tiled t (TileAt edition t) i tiles →
+      Ascend t i (faults tiles)
   ascend_from i tiles p (done b) = p
   ascend_from i tiles p (next {start = start} {end = end} {tile = tile} {tiles = more} b l x m) =
       let q = tile_good edition t AllPlaces (text_cuts t) start end tile (omega arith) l x in
       ascend_tile i start end tile more b p l x (ascend_from end more q.place m)
 
-  runtime_ascend : (i : ℕ) (tiles : List Tile) → AllPlaces i → Tiled t (RuntimeTileAt edition t) i tiles → Ascend t i (faults tiles)
+  runtime_ascend : (i : ℕ) (tiles : List Tile) → AllPlaces i → Tiled t (RuntimeTileAt edition t) i tiles →
+      Ascend t i (faults tiles)
   runtime_ascend i tiles p (done b) = p
   runtime_ascend i tiles p (next {start = start} {end = end} {tiles = more} b l (drops h x) m) =
       let q = line_end edition t AllPlaces (text_cuts t) start end (omega arith) x in
@@ -166,7 +179,8 @@ bare_is (junk s) b = b
 
 module _ (edition : Edition) (t : List ℕ) where
   comment_is : (i j : ℕ) (e : EntryTree Span) → comment_entry t i (Read e j) → IsEntry e
-  comment_is i j e (chosen (goes_on {a = c} x (goes_on {j = m} {a = more} y z))) = subst IsEntry (gave (comment (level_of (hashes t i)) (c ++ more)) e m j z).0 tt
+  comment_is i j e (chosen (goes_on {a = c} x (goes_on {j = m} {a = more} y z))) =
+      subst IsEntry (gave (comment (level_of (hashes t i)) (c ++ more)) e m j z).0 tt
 
   entry_is : (i j : ℕ) (e : EntryTree Span) (o : Option ℕ) → entry_of edition t o i (Read e j) → IsEntry e
   entry_is i j e None x = bare_is e ((message_bare edition t).on_read i j e tt x)
@@ -188,7 +202,8 @@ module _ (edition : Edition) (t : List ℕ) where
 
   runtime_are : (i : ℕ) (xs : List Tile) → Tiled t (RuntimeTileAt edition t) i xs → list_every HoldsEntry xs
   runtime_are i xs (done b) = tt
-  runtime_are i xs (next {start = s} {end = j} {tile = x} {tiles = more} b l y m) = (runtime_is s j x y, runtime_are j more m)
+  runtime_are i xs (next {start = s} {end = j} {tile = x} {tiles = more} b l y m) =
+      (runtime_is s j x y, runtime_are j more m)
 
 abbrev tile_junk : Tile → List Span
 tile_junk (entry s e) = []
@@ -206,17 +221,22 @@ alone_junk (entry s e) b = append_nothing (junk_slice e) ∙ no_junk e b
 alone_junk (refused f) b = refl
 alone_junk dropped b = refl
 
-hung_junk : (content : List Span) (e : EntryTree Span) (o : Option (EntryTree Span)) → hung content e ≡ o → (h : EntryTree Span) → o ≡ Some h → junk_slice h ≡ []
-hung_junk content (message m) o p h q = let same : message (record m { comment = Some content }) ≡ h = cc in ap junk_slice (sym same)
-hung_junk content (term m) o p h q = let same : term (record m { comment = Some content }) ≡ h = cc in ap junk_slice (sym same)
+hung_junk : (content : List Span) (e : EntryTree Span) (o : Option (EntryTree Span)) → hung content e ≡ o →
+    (h : EntryTree Span) → o ≡ Some h → junk_slice h ≡ []
+hung_junk content (message m) o p h q = let same : message (record m { comment = Some content }) ≡ h = cc in
+    ap junk_slice (sym same)
+hung_junk content (term m) o p h q = let same : term (record m { comment = Some content }) ≡ h = cc in
+    ap junk_slice (sym same)
 hung_junk content (comment level c) o p h q = cc
 hung_junk content (junk s) o p h q = cc
 
-if_junk : (b : Bool) (content : List Span) (e h : EntryTree Span) → (if b then hung content e else None) ≡ Some h → junk_slice h ≡ []
+if_junk : (b : Bool) (content : List Span) (e h : EntryTree Span) → (if b then hung content e else None) ≡ Some h →
+    junk_slice h ≡ []
 if_junk true content e h p = hung_junk content e (hung content e) refl h p
 if_junk false content e h p = cc
 
-hangs_junk : (x y : Tile) (h : EntryTree Span) → hangs x y ≡ Some h → (junk_slice h ≡ []) × (tile_junk x ≡ []) × (tile_junk y ≡ [])
+hangs_junk : (x y : Tile) (h : EntryTree Span) → hangs x y ≡ Some h → (junk_slice h ≡ []) × (tile_junk x ≡ []) ×
+    (tile_junk y ≡ [])
 hangs_junk (entry s (comment regular c)) (entry r e) h p = (if_junk (s.end == r.start) c e h p, refl, refl)
 hangs_junk (entry s (comment regular c)) (refused f) h p = cc
 hangs_junk (entry s (comment regular c)) dropped h p = cc
@@ -228,13 +248,18 @@ hangs_junk (entry s (junk x)) y h p = cc
 hangs_junk (refused f) y h p = cc
 hangs_junk dropped y h p = cc
 
-joined_junk : (x y : Tile) (others after : BodyTree Span) (tiles : List Tile) (o : Option (EntryTree Span)) → hangs x y ≡ o → HoldsEntry x →
-    flat_map junk_slice others ≡ tile_junk y ++ flat_map tile_junk tiles → flat_map junk_slice after ≡ flat_map tile_junk tiles →
+joined_junk : (x y : Tile) (others after : BodyTree Span) (tiles : List Tile) (o : Option (EntryTree Span)) →
+    hangs x y ≡ o → HoldsEntry x →
+    flat_map junk_slice others ≡ tile_junk y ++ flat_map tile_junk tiles →
+        flat_map junk_slice after ≡ flat_map tile_junk tiles →
     flat_map junk_slice (joined o (alone x) others after) ≡ tile_junk x ++ (tile_junk y ++ flat_map tile_junk tiles)
-joined_junk x y others after tiles None e b p q = flat_append junk_slice (alone x) others ∙ (ap (λ zs. zs ++ flat_map junk_slice others) (alone_junk x b) ∙ ap (λ zs. tile_junk x ++ zs) p)
+joined_junk x y others after tiles None e b p q =
+    flat_append junk_slice (alone x) others
+    ∙ (ap (λ zs. zs ++ flat_map junk_slice others) (alone_junk x b) ∙ ap (λ zs. tile_junk x ++ zs) p)
 joined_junk x y others after tiles (Some h) e b p q =
     let z = hangs_junk x y h e in
-    let left : junk_slice h ++ flat_map junk_slice after ≡ flat_map tile_junk tiles = ap (λ zs. zs ++ flat_map junk_slice after) z.0 ∙ q in
+    let left : junk_slice h ++ flat_map junk_slice after ≡ flat_map tile_junk tiles =
+        ap (λ zs. zs ++ flat_map junk_slice after) z.0 ∙ q in
     let right : tile_junk x ++ (tile_junk y ++ flat_map tile_junk tiles) ≡ flat_map tile_junk tiles =
     ap (λ zs. zs ++ (tile_junk y ++ flat_map tile_junk tiles)) z.1 ∙ ap (λ zs. zs ++ flat_map tile_junk tiles) z.2 in
     left ∙ sym right
@@ -242,7 +267,9 @@ joined_junk x y others after tiles (Some h) e b p q =
 body_junk : (xs : List Tile) → list_every HoldsEntry xs → flat_map junk_slice (body xs) ≡ flat_map tile_junk xs
 body_junk [] b = refl
 body_junk (x ∷ []) (b, c) = alone_junk x b ∙ sym (append_nothing (tile_junk x))
-body_junk (x ∷ y ∷ tiles) (b, (c, d)) = joined_junk x y (body (y ∷ tiles)) (body tiles) tiles (hangs x y) refl b (body_junk (y ∷ tiles) (c, d)) (body_junk tiles d)
+body_junk (x ∷ y ∷ tiles) (b, (c, d)) =
+    joined_junk x y (body (y ∷ tiles)) (body tiles) tiles (hangs x y) refl b (body_junk (y ∷ tiles) (c, d))
+      (body_junk tiles d)
 
 junk_faults : (xs : List Tile) → flat_map tile_junk xs ≡ map fault_slice (faults xs)
 junk_faults [] = refl

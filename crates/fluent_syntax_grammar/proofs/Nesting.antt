@@ -1,4 +1,5 @@
--- The grammar is the family that its rules make: what a rule gives over the family, the family gives, and the other way round.
+-- The grammar is the family that its rules make: what a rule gives over the family, the family gives, and the other way
+-- round.
 use Rattle.std.proofs.Common.{◌≡◌, ℕ, zero, suc, ◌+◌, ◌≤◌, List, Bool, arith}
 use Rattle.fluent_syntax_tree.specs.Tree.{InlineTree, ArgumentsTree, VariantTrees}
 use Rattle.fluent_syntax_grammar.specs.Construct.{Outcome}
@@ -25,7 +26,8 @@ module _ (edition : Edition) (t : List ℕ) where
     more_lines = record { part = λ i o x. absurd x };
   }
 
-  next_included : (m n : ℕ) → IsIncludedFamily (within edition t m) (within edition t n) → IsIncludedFamily (within edition t (suc m)) (within edition t (suc n))
+  next_included : (m n : ℕ) → IsIncludedFamily (within edition t m) (within edition t n) →
+      IsIncludedFamily (within edition t (suc m)) (within edition t (suc n))
   unfolding within
   next_included m n h = included_next edition t (within edition t m) (within edition t n) h
 
@@ -52,50 +54,69 @@ module _ (edition : Edition) (t : List ℕ) where
     grows = within_grows;
     inline_expression = record { grows = λ m n l. (within_grows m n l).inline_expression; found = λ i o x. x };
     more_arguments = λ names. record { grows = λ m n l. (within_grows m n l).more_arguments names; found = λ i o x. x };
-    more_variants = λ starred. record { grows = λ m n l. (within_grows m n l).more_variants starred; found = λ i o x. x };
+    more_variants =
+        λ starred. record { grows = λ m n l. (within_grows m n l).more_variants starred; found = λ i o x. x };
     more_pieces = record { grows = λ m n l. (within_grows m n l).more_pieces; found = λ i o x. x };
     more_lines = record { grows = λ m n l. (within_grows m n l).more_lines; found = λ i o x. x };
   }
 
-  inline_expression_at : (n i : ℕ) (o : Outcome (InlineTree Span)) → inline.inline_expression t (within edition t n) i o → (family edition t).inline_expression i o
+  inline_expression_at : (n i : ℕ) (o : Outcome (InlineTree Span)) →
+      inline.inline_expression t (within edition t n) i o → (family edition t).inline_expression i o
   unfolding family within
   inline_expression_at n i o x = (suc n, x)
 
   -- what the rule gives over the family, the family gives
-  pub into_inline_expression : (i : ℕ) (o : Outcome (InlineTree Span)) → inline.inline_expression t (family edition t) i o → (family edition t).inline_expression i o
-  into_inline_expression i o x = let m = (union_inline t (family edition t) (within edition t) union_family).found i o x in inline_expression_at m.0 i o m.1
+  pub into_inline_expression : (i : ℕ) (o : Outcome (InlineTree Span)) →
+      inline.inline_expression t (family edition t) i o → (family edition t).inline_expression i o
+  into_inline_expression i o x =
+      let m = (union_inline t (family edition t) (within edition t) union_family).found i o x in
+      inline_expression_at m.0 i o m.1
 
-  more_arguments_at : (names : List (List ℕ)) → (n i : ℕ) (o : Outcome (ArgumentsTree Span)) → arguments.more_arguments t (within edition t n) names i o → (family edition t).more_arguments names i o
+  more_arguments_at : (names : List (List ℕ)) → (n i : ℕ) (o : Outcome (ArgumentsTree Span)) →
+      arguments.more_arguments t (within edition t n) names i o → (family edition t).more_arguments names i o
   unfolding family within
   more_arguments_at names n i o x = (suc n, x)
 
   -- what the rule gives over the family, the family gives
-  pub into_more_arguments : (names : List (List ℕ)) → (i : ℕ) (o : Outcome (ArgumentsTree Span)) → arguments.more_arguments t (family edition t) names i o → (family edition t).more_arguments names i o
-  into_more_arguments names i o x = let m = (union_arguments t (family edition t) (within edition t) union_family names).found i o x in more_arguments_at names m.0 i o m.1
+  pub into_more_arguments : (names : List (List ℕ)) → (i : ℕ) (o : Outcome (ArgumentsTree Span)) →
+      arguments.more_arguments t (family edition t) names i o → (family edition t).more_arguments names i o
+  into_more_arguments names i o x =
+      let m = (union_arguments t (family edition t) (within edition t) union_family names).found i o x in
+      more_arguments_at names m.0 i o m.1
 
-  more_variants_at : (starred : Bool) → (n i : ℕ) (o : Outcome (VariantTrees Span)) → variants.more_variants edition t (within edition t n) starred i o → (family edition t).more_variants starred i o
+  more_variants_at : (starred : Bool) → (n i : ℕ) (o : Outcome (VariantTrees Span)) →
+      variants.more_variants edition t (within edition t n) starred i o → (family edition t).more_variants starred i o
   unfolding family within
   more_variants_at starred n i o x = (suc n, x)
 
   -- what the rule gives over the family, the family gives
-  pub into_more_variants : (starred : Bool) → (i : ℕ) (o : Outcome (VariantTrees Span)) → variants.more_variants edition t (family edition t) starred i o → (family edition t).more_variants starred i o
-  into_more_variants starred i o x = let m = (union_variants edition t (family edition t) (within edition t) union_family starred).found i o x in more_variants_at starred m.0 i o m.1
+  pub into_more_variants : (starred : Bool) → (i : ℕ) (o : Outcome (VariantTrees Span)) →
+      variants.more_variants edition t (family edition t) starred i o → (family edition t).more_variants starred i o
+  into_more_variants starred i o x =
+      let m = (union_variants edition t (family edition t) (within edition t) union_family starred).found i o x in
+      more_variants_at starred m.0 i o m.1
 
-  more_pieces_at : (n i : ℕ) (o : Outcome (List Piece)) → lines.more_pieces t (within edition t n) i o → (family edition t).more_pieces i o
+  more_pieces_at : (n i : ℕ) (o : Outcome (List Piece)) → lines.more_pieces t (within edition t n) i o →
+      (family edition t).more_pieces i o
   unfolding family within
   more_pieces_at n i o x = (suc n, x)
 
   -- what the rule gives over the family, the family gives
-  pub into_more_pieces : (i : ℕ) (o : Outcome (List Piece)) → lines.more_pieces t (family edition t) i o → (family edition t).more_pieces i o
-  into_more_pieces i o x = let m = (union_pieces t (family edition t) (within edition t) union_family).found i o x in more_pieces_at m.0 i o m.1
+  pub into_more_pieces : (i : ℕ) (o : Outcome (List Piece)) → lines.more_pieces t (family edition t) i o →
+      (family edition t).more_pieces i o
+  into_more_pieces i o x = let m = (union_pieces t (family edition t) (within edition t) union_family).found i o x in
+      more_pieces_at m.0 i o m.1
 
-  more_lines_at : (n i : ℕ) (o : Outcome (List Line)) → lines.more_lines t (within edition t n) i o → (family edition t).more_lines i o
+  more_lines_at : (n i : ℕ) (o : Outcome (List Line)) → lines.more_lines t (within edition t n) i o →
+      (family edition t).more_lines i o
   unfolding family within
   more_lines_at n i o x = (suc n, x)
 
   -- what the rule gives over the family, the family gives
-  pub into_more_lines : (i : ℕ) (o : Outcome (List Line)) → lines.more_lines t (family edition t) i o → (family edition t).more_lines i o
-  into_more_lines i o x = let m = (union_lines t (family edition t) (within edition t) union_family).found i o x in more_lines_at m.0 i o m.1
+  pub into_more_lines : (i : ℕ) (o : Outcome (List Line)) → lines.more_lines t (family edition t) i o →
+      (family edition t).more_lines i o
+  into_more_lines i o x = let m = (union_lines t (family edition t) (within edition t) union_family).found i o x in
+      more_lines_at m.0 i o m.1
 
   from_within : (n : ℕ) → IsIncludedFamily (within edition t n) (next edition t (family edition t))
   unfolding within
@@ -137,30 +158,43 @@ module _ (edition : Edition) (t : List ℕ) where
   functional_within zero = functional_nothing
   functional_within (suc n) = functional_suc n (functional_within n)
 
-  same_inline_expression : (i : ℕ) (o p : Outcome (InlineTree Span)) → (family edition t).inline_expression i o → (family edition t).inline_expression i p → o ≡ p
+  same_inline_expression : (i : ℕ) (o p : Outcome (InlineTree Span)) → (family edition t).inline_expression i o →
+      (family edition t).inline_expression i p → o ≡ p
   unfolding family
   same_inline_expression i o p (m, x) (n, y) =
-      (functional_within (m + n)).inline_expression.same i o p ((within_grows m (m + n) (omega arith)).inline_expression.part i o x) ((within_grows n (m + n) (omega arith)).inline_expression.part i p y)
+      (functional_within (m + n)).inline_expression.same i o p
+          ((within_grows m (m + n) (omega arith)).inline_expression.part i o x)
+          ((within_grows n (m + n) (omega arith)).inline_expression.part i p y)
 
-  same_more_arguments : (names : List (List ℕ)) → (i : ℕ) (o p : Outcome (ArgumentsTree Span)) → (family edition t).more_arguments names i o → (family edition t).more_arguments names i p → o ≡ p
+  same_more_arguments : (names : List (List ℕ)) → (i : ℕ) (o p : Outcome (ArgumentsTree Span)) →
+      (family edition t).more_arguments names i o → (family edition t).more_arguments names i p → o ≡ p
   unfolding family
   same_more_arguments names i o p (m, x) (n, y) =
-      ((functional_within (m + n)).more_arguments names).same i o p (((within_grows m (m + n) (omega arith)).more_arguments names).part i o x) (((within_grows n (m + n) (omega arith)).more_arguments names).part i p y)
+      ((functional_within (m + n)).more_arguments names).same i o p
+          (((within_grows m (m + n) (omega arith)).more_arguments names).part i o x)
+          (((within_grows n (m + n) (omega arith)).more_arguments names).part i p y)
 
-  same_more_variants : (starred : Bool) → (i : ℕ) (o p : Outcome (VariantTrees Span)) → (family edition t).more_variants starred i o → (family edition t).more_variants starred i p → o ≡ p
+  same_more_variants : (starred : Bool) → (i : ℕ) (o p : Outcome (VariantTrees Span)) →
+      (family edition t).more_variants starred i o → (family edition t).more_variants starred i p → o ≡ p
   unfolding family
   same_more_variants starred i o p (m, x) (n, y) =
-      ((functional_within (m + n)).more_variants starred).same i o p (((within_grows m (m + n) (omega arith)).more_variants starred).part i o x) (((within_grows n (m + n) (omega arith)).more_variants starred).part i p y)
+      ((functional_within (m + n)).more_variants starred).same i o p
+          (((within_grows m (m + n) (omega arith)).more_variants starred).part i o x)
+          (((within_grows n (m + n) (omega arith)).more_variants starred).part i p y)
 
-  same_more_pieces : (i : ℕ) (o p : Outcome (List Piece)) → (family edition t).more_pieces i o → (family edition t).more_pieces i p → o ≡ p
+  same_more_pieces : (i : ℕ) (o p : Outcome (List Piece)) → (family edition t).more_pieces i o →
+      (family edition t).more_pieces i p → o ≡ p
   unfolding family
   same_more_pieces i o p (m, x) (n, y) =
-      (functional_within (m + n)).more_pieces.same i o p ((within_grows m (m + n) (omega arith)).more_pieces.part i o x) ((within_grows n (m + n) (omega arith)).more_pieces.part i p y)
+      (functional_within (m + n)).more_pieces.same i o p ((within_grows m (m + n) (omega arith)).more_pieces.part i o x)
+          ((within_grows n (m + n) (omega arith)).more_pieces.part i p y)
 
-  same_more_lines : (i : ℕ) (o p : Outcome (List Line)) → (family edition t).more_lines i o → (family edition t).more_lines i p → o ≡ p
+  same_more_lines : (i : ℕ) (o p : Outcome (List Line)) → (family edition t).more_lines i o →
+      (family edition t).more_lines i p → o ≡ p
   unfolding family
   same_more_lines i o p (m, x) (n, y) =
-      (functional_within (m + n)).more_lines.same i o p ((within_grows m (m + n) (omega arith)).more_lines.part i o x) ((within_grows n (m + n) (omega arith)).more_lines.part i p y)
+      (functional_within (m + n)).more_lines.same i o p ((within_grows m (m + n) (omega arith)).more_lines.part i o x)
+          ((within_grows n (m + n) (omega arith)).more_lines.part i p y)
 
   -- the constructs that nest have at most one outcome at a place
   pub functional_family : IsFunctionalFamily (family edition t)

@@ -10,7 +10,8 @@ use Rattle.fluent_syntax_grammar.proofs.FunctionalEntries.{functional_entry}
 
 module _ (t : List ℕ) where
   not_before : (place end other : ℕ) → JunkEnd t place end → JunkEnd t place other → end < other → ⊥
-  not_before place end other a b l = let in_text = b.in_text in elim a.stop [ inl e ↦ false≢true (sym (b.nearest end a.forward l) ∙ e) | inr e ↦ omega arith ]
+  not_before place end other a b l = let in_text = b.in_text in
+      elim a.stop [ inl e ↦ false≢true (sym (b.nearest end a.forward l) ∙ e) | inr e ↦ omega arith ]
 
   -- junk has one end
   pub junk_same : (place end other : ℕ) → JunkEnd t place end → JunkEnd t place other → end ≡ other
@@ -24,16 +25,19 @@ pub record IsOneTile (at : (i j : ℕ) → Tile → Type 0) : Type 0 where
   pub same_end : (i j k : ℕ) (x y : Tile) → at i j x → at i k y → j ≡ k
   pub same_tile : (i j k : ℕ) (x y : Tile) → at i j x → at i k y → x ≡ y
 
-pub tiled_same : (t : List ℕ) (at : (i j : ℕ) → Tile → Type 0) → IsOneTile at → (i : ℕ) (xs ys : List Tile) → Tiled t at i xs → Tiled t at i ys → xs ≡ ys
+pub tiled_same : (t : List ℕ) (at : (i j : ℕ) → Tile → Type 0) → IsOneTile at → (i : ℕ) (xs ys : List Tile) →
+    Tiled t at i xs → Tiled t at i ys → xs ≡ ys
 tiled_same t at one i xs ys (done a) (done b) = refl
 tiled_same t at one i xs ys (done a) (next b l c d) = let h = single_block.same i _ _ a b in absurd (omega arith)
 tiled_same t at one i xs ys (next a l b c) (done d) = let h = single_block.same i _ _ a d in absurd (omega arith)
-tiled_same t at one i xs ys (next {start = start} {end = j} {tile = x} {tiles = more} a l b c) (next {start = start'} {end = k} {tile = y} {tiles = others} d m e f) =
+tiled_same t at one i xs ys (next {start = start} {end = j} {tile = x} {tiles = more} a l b c)
+    (next {start = start'} {end = k} {tile = y} {tiles = others} d m e f) =
     let same_start : start ≡ start' = single_block.same i _ _ a d in
     let e' = subst (λ s. at s k y) (sym same_start) e in
     let same_end : j ≡ k = one.same_end start j k x y b e' in
     let same_tile : x ≡ y = one.same_tile start j k x y b e' in
-    let rest : more ≡ others = tiled_same t at one j more others c (subst (λ k. Tiled t at k others) (sym same_end) f) in
+    let rest : more ≡ others =
+        tiled_same t at one j more others c (subst (λ k. Tiled t at k others) (sym same_end) f) in
     cc
 
 module _ (edition : Edition) (t : List ℕ) where
@@ -41,7 +45,8 @@ module _ (edition : Edition) (t : List ℕ) where
   tile_end i j k x y (reads a) (reads b) = let h = (functional_entry edition t).same i _ _ a b in cc
   tile_end i j k x y (reads a) (refuses b c) = let h = (functional_entry edition t).same i _ _ a b in cc
   tile_end i j k x y (refuses a b) (reads c) = let h = (functional_entry edition t).same i _ _ a c in cc
-  tile_end i j k x y (refuses {from = from} {to = to} {k = kind} a b) (refuses {from = from'} {to = to'} {k = kind'} c d) =
+  tile_end i j k x y (refuses {from = from} {to = to} {k = kind} a b)
+      (refuses {from = from'} {to = to'} {k = kind'} c d) =
       let h = (functional_entry edition t).same i _ _ a c in
       let same_kind : kind ≡ kind' = cc in
       let same_from : from ≡ from' = cc in

@@ -27,13 +27,17 @@ alone_bare (entry s e) = append_nothing (bare e)
 alone_bare (refused f) = refl
 alone_bare dropped = refl
 
-hung_bare : (content : List Span) (e : EntryTree Span) (o : Option (EntryTree Span)) → hung content e ≡ o → (h : EntryTree Span) → o ≡ Some h → bare h ≡ bare e
-hung_bare content (message m) o p h q = let same : message (record m { comment = Some content }) ≡ h = cc in ap bare (sym same)
-hung_bare content (term m) o p h q = let same : term (record m { comment = Some content }) ≡ h = cc in ap bare (sym same)
+hung_bare : (content : List Span) (e : EntryTree Span) (o : Option (EntryTree Span)) → hung content e ≡ o →
+    (h : EntryTree Span) → o ≡ Some h → bare h ≡ bare e
+hung_bare content (message m) o p h q = let same : message (record m { comment = Some content }) ≡ h = cc in
+    ap bare (sym same)
+hung_bare content (term m) o p h q = let same : term (record m { comment = Some content }) ≡ h = cc in
+    ap bare (sym same)
 hung_bare content (comment level c) o p h q = cc
 hung_bare content (junk s) o p h q = cc
 
-if_hung : (b : Bool) (content : List Span) (e h : EntryTree Span) → (if b then hung content e else None) ≡ Some h → bare h ≡ bare e
+if_hung : (b : Bool) (content : List Span) (e h : EntryTree Span) → (if b then hung content e else None) ≡ Some h →
+    bare h ≡ bare e
 if_hung true content e h p = hung_bare content e (hung content e) refl h p
 if_hung false content e h p = cc
 
@@ -49,19 +53,24 @@ hangs_bare (entry s (junk x)) y h p = cc
 hangs_bare (refused f) y h p = cc
 hangs_bare dropped y h p = cc
 
-bare_joined : (x y : Tile) (others after : BodyTree Span) (tiles : List Tile) (o : Option (EntryTree Span)) → hangs x y ≡ o →
+bare_joined : (x y : Tile) (others after : BodyTree Span) (tiles : List Tile) (o : Option (EntryTree Span)) →
+    hangs x y ≡ o →
     without_comments others ≡ bare_tile y ++ bare_tiles tiles → without_comments after ≡ bare_tiles tiles →
     without_comments (joined o (alone x) others after) ≡ bare_tile x ++ (bare_tile y ++ bare_tiles tiles)
-bare_joined x y others after tiles None e p q = flat_append bare (alone x) others ∙ (ap (λ zs. zs ++ without_comments others) (alone_bare x) ∙ ap (λ zs. bare_tile x ++ zs) p)
+bare_joined x y others after tiles None e p q =
+    flat_append bare (alone x) others
+    ∙ (ap (λ zs. zs ++ without_comments others) (alone_bare x) ∙ ap (λ zs. bare_tile x ++ zs) p)
 bare_joined x y others after tiles (Some h) e p q =
     let b = hangs_bare x y h e in
-    ap (λ zs. zs ++ without_comments after) b.1 ∙ (ap (λ zs. bare_tile y ++ zs) q ∙ sym (ap (λ zs. zs ++ (bare_tile y ++ bare_tiles tiles)) b.0))
+    ap (λ zs. zs ++ without_comments after) b.1
+        ∙ (ap (λ zs. bare_tile y ++ zs) q ∙ sym (ap (λ zs. zs ++ (bare_tile y ++ bare_tiles tiles)) b.0))
 
 -- the body without comments is what the tiles give without comments
 pub bare_body : (xs : List Tile) → without_comments (body xs) ≡ bare_tiles xs
 bare_body [] = refl
 bare_body (x ∷ []) = alone_bare x ∙ sym (append_nothing (bare_tile x))
-bare_body (x ∷ y ∷ tiles) = bare_joined x y (body (y ∷ tiles)) (body tiles) tiles (hangs x y) refl (bare_body (y ∷ tiles)) (bare_body tiles)
+bare_body (x ∷ y ∷ tiles) =
+    bare_joined x y (body (y ∷ tiles)) (body tiles) tiles (hangs x y) refl (bare_body (y ∷ tiles)) (bare_body tiles)
 
 -- ---- the tiling without comments
 
@@ -102,10 +111,13 @@ body_bare (x ∷ y ∷ tiles) (b, c) =
 
 -- ---- beside one another
 
-pub aligned_named : (xs ys : List Tile) → Aligned xs ys → messages_and_terms (bare_tiles ys) ≡ messages_and_terms (bare_tiles xs)
+pub aligned_named : (xs ys : List Tile) → Aligned xs ys →
+    messages_and_terms (bare_tiles ys) ≡ messages_and_terms (bare_tiles xs)
 aligned_named xs ys nothing = refl
 aligned_named xs ys (both {x = x} {xs = more} {ys = others} a) =
-    flat_append named (bare_tile x) (bare_tiles others) ∙ (ap (λ zs. messages_and_terms (bare_tile x) ++ zs) (aligned_named more others a) ∙ sym (flat_append named (bare_tile x) (bare_tiles more)))
+    flat_append named (bare_tile x) (bare_tiles others)
+        ∙ (ap (λ zs. messages_and_terms (bare_tile x) ++ zs) (aligned_named more others a)
+          ∙ sym (flat_append named (bare_tile x) (bare_tiles more)))
 aligned_named xs ys (comment_left {xs = more} a) = aligned_named more ys a
 aligned_named xs ys (dropped_right {ys = others} a) = aligned_named xs others a
 aligned_named xs ys (junk_left {xs = more} a) = aligned_named more ys a
@@ -123,7 +135,8 @@ aligned_faults xs ys (junk_both a) e = cc
 
 pub aligned_bare : (xs ys : List Tile) → Aligned xs ys → faults xs ≡ [] → bare_tiles ys ≡ bare_tiles xs
 aligned_bare xs ys nothing e = refl
-aligned_bare xs ys (both {x = entry s x} {xs = more} {ys = others} a) e = ap (λ zs. bare x ++ zs) (aligned_bare more others a e)
+aligned_bare xs ys (both {x = entry s x} {xs = more} {ys = others} a) e =
+    ap (λ zs. bare x ++ zs) (aligned_bare more others a e)
 aligned_bare xs ys (both {x = refused f} {xs = more} {ys = others} a) e = cc
 aligned_bare xs ys (both {x = dropped} {xs = more} {ys = others} a) e = aligned_bare more others a e
 aligned_bare xs ys (comment_left {xs = more} a) e = aligned_bare more ys a e

@@ -1,4 +1,5 @@
--- What holds of every construct: it does not go back, it stays in the text at places of a kind, and its faults mean what their kinds say.
+-- What holds of every construct: it does not go back, it stays in the text at places of a kind, and its faults mean
+-- what their kinds say.
 use Rattle.std.proofs.Common.{◌≡◌, ℕ, ◌+◌, ◌≤◌, List, length, Option, Some, None, Bool, true, false, refl, sym, subst, arith}
 use Rattle.fluent_syntax_tree.specs.Kind.{Kind, ExpectedMessageField, ExpectedTermField}
 use Rattle.fluent_syntax_grammar.specs.Places.{Stretch, after_eol, Word, Blank, BlankBlock, is_line_place}
@@ -48,47 +49,73 @@ pub record IsOnward (P : ℕ → Type 0) (W : ℕ → ℕ → Type 0) : Type 0 w
   pub forward : (i j : ℕ) → W i j → i ≤ j
   pub place : (i j : ℕ) → P i → W i j → P j
 
-pub weaker_end : {A : Type 0} {P : ℕ → Type 0} {Good : A → Type 0} (s m : ℕ) → s ≤ m → (a : A) (j : ℕ) → Ended P m Good a j → Ended P s Good a j
+pub weaker_end : {A : Type 0} {P : ℕ → Type 0} {Good : A → Type 0} (s m : ℕ) → s ≤ m → (a : A) (j : ℕ) →
+    Ended P m Good a j → Ended P s Good a j
 weaker_end s m l a j e = let f = e.late in record { late = omega arith; place = e.place; good = e.good }
 
-pub weaker_fault : {t : List ℕ} (s m : ℕ) → s ≤ m → (k : Kind) (from to : ℕ) → IsFault t m k from to → IsFault t s k from to
-weaker_fault s m l k from to e = let f = e.late in record { late = omega arith; in_text = e.in_text; one = e.one; plain = e.plain; means = e.means }
+pub weaker_fault : {t : List ℕ} (s m : ℕ) → s ≤ m → (k : Kind) (from to : ℕ) → IsFault t m k from to →
+    IsFault t s k from to
+weaker_fault s m l k from to e = let f = e.late in
+    record { late = omega arith; in_text = e.in_text; one = e.one; plain = e.plain; means = e.means }
 
-here_read : {B : Type 0} (t : List ℕ) (P : ℕ → Type 0) (s : ℕ) (Good : B → Type 0) (f : ℕ → Construct B) → ((m : ℕ) → Inside P s m → Sound t P m (f m) Good) → (i j : ℕ) (b : B) → Inside P s i → (here >>= f) i (Read b j) → Ended P s Good b j
-here_read t P s Good f g i j b p (goes_on at_place y) = weaker_end {Good = Good} s i p.late b j ((g i p).holds.on_read i j b (record { late = omega arith; place = p.place }) y)
+here_read : {B : Type 0} (t : List ℕ) (P : ℕ → Type 0) (s : ℕ) (Good : B → Type 0) (f : ℕ → Construct B) →
+    ((m : ℕ) → Inside P s m → Sound t P m (f m) Good) → (i j : ℕ) (b : B) → Inside P s i → (here >>= f) i (Read b j) →
+    Ended P s Good b j
+here_read t P s Good f g i j b p (goes_on at_place y) =
+    weaker_end {Good = Good} s i p.late b j
+      ((g i p).holds.on_read i j b (record { late = omega arith; place = p.place }) y)
 
-here_refused : {B : Type 0} (t : List ℕ) (P : ℕ → Type 0) (s : ℕ) (Good : B → Type 0) (f : ℕ → Construct B) → ((m : ℕ) → Inside P s m → Sound t P m (f m) Good) → (i from to : ℕ) (k : Kind) → Inside P s i → (here >>= f) i (Refused k from to) → IsFault t s k from to
+here_refused : {B : Type 0} (t : List ℕ) (P : ℕ → Type 0) (s : ℕ) (Good : B → Type 0) (f : ℕ → Construct B) →
+    ((m : ℕ) → Inside P s m → Sound t P m (f m) Good) → (i from to : ℕ) (k : Kind) → Inside P s i →
+    (here >>= f) i (Refused k from to) → IsFault t s k from to
 here_refused t P s Good f g i from to k p (stops x) = elim x [ ]
-here_refused t P s Good f g i from to k p (goes_on at_place y) = weaker_fault s i p.late k from to ((g i p).holds.on_refused i from to k (record { late = omega arith; place = p.place }) y)
+here_refused t P s Good f g i from to k p (goes_on at_place y) =
+    weaker_fault s i p.late k from to
+      ((g i p).holds.on_refused i from to k (record { late = omega arith; place = p.place }) y)
 
 module _ {t : List ℕ} {P : ℕ → Type 0} {s : ℕ} where
-  pub known : {A B : Type 0} {Mid : A → Type 0} {Good : B → Type 0} {a : A} {c : Construct B} → (Mid a → Sound t P s c Good) → Holds (Ended P s Mid a) c (Ended P s Good) (IsFault t s)
+  pub known : {A B : Type 0} {Mid : A → Type 0} {Good : B → Type 0} {a : A} {c : Construct B} →
+      (Mid a → Sound t P s c Good) → Holds (Ended P s Mid a) c (Ended P s Good) (IsFault t s)
   known f = record {
     on_read = λ i j b p x. (f p.good).holds.on_read i j b (record { late = p.late; place = p.place }) x;
-    on_refused = λ i from to k p x. (f p.good).holds.on_refused i from to k (record { late = p.late; place = p.place }) x;
+    on_refused =
+        λ i from to k p x. (f p.good).holds.on_refused i from to k (record { late = p.late; place = p.place }) x;
   }
 
-  pub sound_bind : {A B : Type 0} {Mid : A → Type 0} {Good : B → Type 0} {c : Construct A} {f : A → Construct B} → Sound t P s c Mid → ((a : A) → Mid a → Sound t P s (f a) Good) → Sound t P s (c >>= f) Good
+  pub sound_bind : {A B : Type 0} {Mid : A → Type 0} {Good : B → Type 0} {c : Construct A} {f : A → Construct B} →
+      Sound t P s c Mid → ((a : A) → Mid a → Sound t P s (f a) Good) → Sound t P s (c >>= f) Good
   sound_bind {Mid = Mid} x g = record { holds = holds_bind x.holds (λ a. known {Mid = Mid} (g a)) }
 
   pub sound_gives : {A : Type 0} {Good : A → Type 0} {a : A} → Good a → Sound t P s (gives a) Good
   sound_gives g = record { holds = holds_gives (λ i p. record { late = p.late; place = p.place; good = g }) }
 
-  pub sound_fails : {A : Type 0} {Good : A → Type 0} {k : Kind} → ((i : ℕ) → P i → i ≤ length t) → IsPlain k → ((i : ℕ) → kind_means t k i) → Sound t P s (fails k) Good
-  sound_fails inside plain m = record { holds = holds_fails (λ i p. record { late = p.late; in_text = inside i p.place; one = refl; plain = plain; means = m i }) }
+  pub sound_fails : {A : Type 0} {Good : A → Type 0} {k : Kind} → ((i : ℕ) → P i → i ≤ length t) → IsPlain k →
+      ((i : ℕ) → kind_means t k i) → Sound t P s (fails k) Good
+  sound_fails inside plain m =
+      record { holds =
+        holds_fails (λ i p.
+          record { late = p.late; in_text = inside i p.place; one = refl; plain = plain; means = m i }) }
 
   pub sound_over : {W : ℕ → ℕ → Type 0} → IsOnward P W → Sound t P s (over W) (λ u. Unit {0})
-  sound_over w = record { holds = holds_over (λ i j p x. let f = w.forward i j x in let l = p.late in record { late = omega arith; place = w.place i j p.place x; good = tt }) }
+  sound_over w =
+      record { holds =
+        holds_over (λ i j p x. let f = w.forward i j x in let l = p.late in
+          record { late = omega arith; place = w.place i j p.place x; good = tt }) }
 
-  pub sound_at_each : {A B : Type 0} {Good : B → Type 0} {look : ℕ → A} {part : A → Construct B} → ((a : A) → Sound t P s (part a) Good) → Sound t P s (at_each look part) Good
-  sound_at_each g = record { holds = holds_at_each (λ a. holds_weaker (λ i p. p.0) (λ b j e. e) (λ k from to e. e) (g a).holds) }
+  pub sound_at_each : {A B : Type 0} {Good : B → Type 0} {look : ℕ → A} {part : A → Construct B} →
+      ((a : A) → Sound t P s (part a) Good) → Sound t P s (at_each look part) Good
+  sound_at_each g =
+      record { holds = holds_at_each (λ a. holds_weaker (λ i p. p.0) (λ b j e. e) (λ k from to e. e) (g a).holds) }
 
-  pub sound_either : {A : Type 0} {Good : A → Type 0} {test : Bool} {c d : Construct A} → (test ≡ true → Sound t P s c Good) → (test ≡ false → Sound t P s d Good) → Sound t P s (either test c d) Good
+  pub sound_either : {A : Type 0} {Good : A → Type 0} {test : Bool} {c d : Construct A} →
+      (test ≡ true → Sound t P s c Good) → (test ≡ false → Sound t P s d Good) → Sound t P s (either test c d) Good
   sound_either g h = record { holds = holds_either (λ e. (g e).holds) (λ e. (h e).holds) }
 
   -- after a place, what follows goes on from it
-  pub sound_here : {B : Type 0} {Good : B → Type 0} {f : ℕ → Construct B} → ((m : ℕ) → Inside P s m → Sound t P m (f m) Good) → Sound t P s (here >>= f) Good
-  sound_here {Good = Good} {f = f} g = record { holds = record { on_read = here_read t P s Good f g; on_refused = here_refused t P s Good f g } }
+  pub sound_here : {B : Type 0} {Good : B → Type 0} {f : ℕ → Construct B} →
+      ((m : ℕ) → Inside P s m → Sound t P m (f m) Good) → Sound t P s (here >>= f) Good
+  sound_here {Good = Good} {f = f} g =
+      record { holds = record { on_read = here_read t P s Good f g; on_refused = here_refused t P s Good f g } }
 
 -- the text from an earlier place to here
 pub sound_spanned : {t : List ℕ} {P : ℕ → Type 0} {s : ℕ} → P s → Sound t P s (spanned s) (IsSpan P)
@@ -96,7 +123,8 @@ sound_spanned p = sound_here (λ m q. sound_gives (q.late, p, q.place))
 
 module _ (t : List ℕ) (P : ℕ → Type 0) (cuts : IsCuts t P) where
   pub onward_word : {set : ℕ → Bool} → IsAsciiSet set → IsOnward P (Word t set)
-  onward_word {set = set} a = record { forward = λ i j w. w.forward; place = λ i j p w. word_place t P cuts set a i j p w }
+  onward_word {set = set} a =
+      record { forward = λ i j w. w.forward; place = λ i j p w. word_place t P cuts set a i j p w }
 
   pub onward_blank : IsOnward P (Blank t)
   onward_blank = record { forward = λ i j w. w.forward; place = λ i j p w. blank_place t P cuts i j p w }
@@ -122,9 +150,12 @@ module _ (t : List ℕ) (P : ℕ → Type 0) (cuts : IsCuts t P) where
   pub sound_rest_of_line : {s : ℕ} → Sound t P s (rest_of_line t) (IsSpan P)
   sound_rest_of_line = sound_here (λ m q. sound_bind (sound_over onward_line) (λ u v. sound_spanned q.place))
 
-  past_holds : (s : ℕ) (o : Option ℕ) → Holds (λ i. Inside P s i × (after_eol t i ≡ o)) (past_eol o) (Ended P s (λ u. Unit {0})) (IsFault t s)
+  past_holds : (s : ℕ) (o : Option ℕ) →
+      Holds (λ i. Inside P s i × (after_eol t i ≡ o)) (past_eol o) (Ended P s (λ u. Unit {0})) (IsFault t s)
   past_holds s None = holds_gives (λ i p. let q = p.0 in record { late = q.late; place = q.place; good = tt })
-  past_holds s (Some k) = holds_over (λ i j p w. let q = p.0 in let l = q.late in let f = eol_forward t i k p.1 in let e = w.there in record { late = omega arith; place = subst P (sym e) (eol_place t P cuts i k p.1); good = tt })
+  past_holds s (Some k) =
+      holds_over (λ i j p w. let q = p.0 in let l = q.late in let f = eol_forward t i k p.1 in let e = w.there in
+        record { late = omega arith; place = subst P (sym e) (eol_place t P cuts i k p.1); good = tt })
 
   pub sound_optional_eol : {s : ℕ} → Sound t P s (optional_eol t) (λ u. Unit {0})
   sound_optional_eol {s = s} = record { holds = holds_at_each (past_holds s) }

@@ -16,7 +16,8 @@ use Rattle.fluent_syntax_tree.proofs.Every.{every-append}
 use Rattle.fluent_syntax_grammar.proofs.CommentFaults.{some_hash}
 use Rattle.fluent_syntax_grammar.proofs.SoundEntries.{IsEntryFault, entry_fault, earlier_fault}
 
-hashes_place : (P : ℕ → Type 0) (i : ℕ) (a b c : Bool) → P i → (a ≡ true → P (i + 1)) → (b ≡ true → P (i + 2)) → (c ≡ true → P (i + 3)) →
+hashes_place : (P : ℕ → Type 0) (i : ℕ) (a b c : Bool) → P i → (a ≡ true → P (i + 1)) → (b ≡ true → P (i + 2)) →
+    (c ≡ true → P (i + 3)) →
     P (i + (if not a then 0 else if not b then 1 else if not c then 2 else 3))
 hashes_place P i false b c p f g h = let e : i ≡ i + 0 = omega arith in subst P e p
 hashes_place P i true false c p f g h = f refl
@@ -32,7 +33,8 @@ module _ (t : List ℕ) (P : ℕ → Type 0) (cuts : IsCuts t P) where
 
   pub after_hashes : (i : ℕ) → P i → P (i + hashes t i)
   after_hashes i p = hashes_place P i (has_byte t 35 i) (has_byte t 35 (i + 1)) (has_byte t 35 (i + 2)) p
-      (λ e. cuts.after i (ascii_byte t 35 i (omega arith) e)) (λ e. hash_after i 1 2 refl e) (λ e. hash_after i 2 3 refl e)
+      (λ e. cuts.after i (ascii_byte t 35 i (omega arith) e)) (λ e. hash_after i 1 2 refl e)
+          (λ e. hash_after i 2 3 refl e)
 
   sound_text : {s : ℕ} (eol : Bool) → Sound t P s (comment_text t eol) (IsSpan P)
   sound_text true = sound_here (λ m q. sound_spanned q.place)
@@ -40,15 +42,20 @@ module _ (t : List ℕ) (P : ℕ → Type 0) (cuts : IsCuts t P) where
 
   sound_rest : {s : ℕ} (b : Option ℕ) → Sound t P s (comment_rest t b) (list_every (IsSpan P))
   sound_rest None = sound_gives tt
-  sound_rest (Some b) = sound_bind (sound_at_each sound_text) (λ content g. sound_bind (sound_optional_eol t P cuts) (λ u v. sound_gives (g, tt)))
+  sound_rest (Some b) =
+      sound_bind (sound_at_each sound_text)
+        (λ content g. sound_bind (sound_optional_eol t P cuts) (λ u v. sound_gives (g, tt)))
 
   -- a comment line, from a place with that many hashes
-  pub line_from : (s i level : ℕ) → s ≤ i + level → P i → hashes t i ≡ level → Holds (λ j. j ≡ i) (comment_line t level) (Ended P s (list_every (IsSpan P))) (IsFault t s)
+  pub line_from : (s i level : ℕ) → s ≤ i + level → P i → hashes t i ≡ level →
+      Holds (λ j. j ≡ i) (comment_line t level) (Ended P s (list_every (IsSpan P))) (IsFault t s)
   line_from s i level l p e = holds_bind {mid = λ u. Inside P s}
-      (holds_over (λ j m q w. let by = w.by in let same : i + hashes t i ≡ m = omega arith in record { late = omega arith; place = subst P same (after_hashes i p) }))
+      (holds_over (λ j m q w. let by = w.by in let same : i + hashes t i ≡ m = omega arith in
+              record { late = omega arith; place = subst P same (after_hashes i p) }))
       (λ u. (sound_at_each sound_rest).holds)
 
-  lines_read : (s level i j : ℕ) (rest : List Span) → Inside P s i → comment_lines t level i (Read rest j) → Ended P s (list_every (IsSpan P)) rest j
+  lines_read : (s level i j : ℕ) (rest : List Span) → Inside P s i → comment_lines t level i (Read rest j) →
+      Ended P s (list_every (IsSpan P)) rest j
   lines_read s level i j rest p (other_level x) = record { late = p.late; place = p.place; good = tt }
   lines_read s level i j rest p (no_comment_line e x) = record { late = p.late; place = p.place; good = tt }
   lines_read s level i j rest p (one_more {j = m} {content = content} {rest = more} e x y) =
@@ -61,21 +68,29 @@ module _ (t : List ℕ) (P : ℕ → Type 0) (cuts : IsCuts t P) where
   lines_refused X level i from to k x = elim x [ ]
 
   sound_lines : {s : ℕ} (level : ℕ) → Sound t P s (comment_lines t level) (list_every (IsSpan P))
-  sound_lines {s = s} level = record { holds = record { on_read = λ i j a p x. lines_read s level i j a p x; on_refused = λ i from to k p x. lines_refused (IsFault t s k from to) level i from to k x } }
+  sound_lines {s = s} level =
+      record { holds =
+        record { on_read = λ i j a p x. lines_read s level i j a p x;
+          on_refused = λ i from to k p x. lines_refused (IsFault t s k from to) level i from to k x } }
 
-  comment_from : (i level : ℕ) → P i → hashes t i ≡ level → Holds (λ j. j ≡ i) (comment_of t level) (Ended P (i + level) (entry_every (IsSpan P))) (IsFault t (i + level))
+  comment_from : (i level : ℕ) → P i → hashes t i ≡ level →
+      Holds (λ j. j ≡ i) (comment_of t level) (Ended P (i + level) (entry_every (IsSpan P))) (IsFault t (i + level))
   comment_from i level p e = holds_bind (line_from (i + level) i level (omega arith) p e) (λ content.
-      known {Mid = list_every (IsSpan P)} (λ g. sound_bind (sound_lines level) (λ rest k. sound_gives (every-append (IsSpan P) content rest g k))))
+      known {Mid = list_every (IsSpan P)}
+          (λ g. sound_bind (sound_lines level) (λ rest k. sound_gives (every-append (IsSpan P) content rest g k))))
 
-  pub comment_read : (i j : ℕ) (a : EntryTree Span) → P i → has_byte t 35 i ≡ true → comment_entry t i (Read a j) → Ended P (i + 1) (entry_every (IsSpan P)) a j
+  pub comment_read : (i j : ℕ) (a : EntryTree Span) → P i → has_byte t 35 i ≡ true → comment_entry t i (Read a j) →
+      Ended P (i + 1) (entry_every (IsSpan P)) a j
   comment_read i j a p e (chosen x) =
       let q = (comment_from i (hashes t i) p refl).on_read i j a refl x in
       let late = q.late in
       let one = some_hash t i e in
       record { late = omega arith; place = q.place; good = q.good }
 
-  pub comment_refused : (i from to : ℕ) (k : Kind) → P i → has_byte t 35 i ≡ true → comment_entry t i (Refused k from to) → IsEntryFault t i (i + 1) k from to
+  pub comment_refused : (i from to : ℕ) (k : Kind) → P i → has_byte t 35 i ≡ true →
+      comment_entry t i (Refused k from to) → IsEntryFault t i (i + 1) k from to
   comment_refused i from to k p e (chosen x) =
       let one = some_hash t i e in
       earlier_fault t i (i + hashes t i) (i + 1) (omega arith) k from to
-      (entry_fault t i (i + hashes t i) (omega arith) k from to ((comment_from i (hashes t i) p refl).on_refused i from to k refl x))
+      (entry_fault t i (i + hashes t i) (omega arith) k from to
+            ((comment_from i (hashes t i) p refl).on_refused i from to k refl x))

@@ -1,4 +1,5 @@
--- Entries are sound: one that is read passes over a byte at least, and a refusal's failing place is not before the entry.
+-- Entries are sound: one that is read passes over a byte at least, and a refusal's failing place is not before the
+-- entry.
 use Rattle.std.proofs.Common.{◌≡◌, ℕ, ◌+◌, ◌<◌, ◌≤◌, List, [], ◌∷◌, length, Option, Some, None, true, refl, sym, ◌∙◌, subst, arith, inl, inr}
 use Rattle.std.specs.Prelude.{slice_get, ◌⊎◌}
 use Rattle.std.proofs.lemmas.Bool.Decides.{nat_tests}
@@ -38,29 +39,39 @@ plain_place (ExpectedMessageField id) p from to = absurd p
 plain_place (ExpectedTermField id) p from to = absurd p
 plain_place k p from to = refl
 
-pub entry_fault : (t : List ℕ) (i s : ℕ) → i ≤ s → (k : Kind) (from to : ℕ) → IsFault t s k from to → IsEntryFault t i s k from to
+pub entry_fault : (t : List ℕ) (i s : ℕ) → i ≤ s → (k : Kind) (from to : ℕ) → IsFault t s k from to →
+    IsEntryFault t i s k from to
 entry_fault t i s l k from to f =
     let late = f.late in
     let inside = f.in_text in
     let e = plain_place k f.plain from to in
     record { late = omega arith; ordered = omega arith; onward = omega arith; in_text = omega arith; means = f.means }
 
-pub earlier_fault : (t : List ℕ) (i s s' : ℕ) → s' ≤ s → (k : Kind) (from to : ℕ) → IsEntryFault t i s k from to → IsEntryFault t i s' k from to
-earlier_fault t i s s' l k from to f = let o = f.onward in record { late = f.late; ordered = f.ordered; onward = omega arith; in_text = f.in_text; means = f.means }
+pub earlier_fault : (t : List ℕ) (i s s' : ℕ) → s' ≤ s → (k : Kind) (from to : ℕ) → IsEntryFault t i s k from to →
+    IsEntryFault t i s' k from to
+earlier_fault t i s s' l k from to f = let o = f.onward in
+    record { late = f.late; ordered = f.ordered; onward = omega arith; in_text = f.in_text; means = f.means }
 
 -- sound from s on, in an entry that begins at i
-pub record SoundEntry {A : Type 0} (t : List ℕ) (P : ℕ → Type 0) (i s : ℕ) (c : Construct A) (Good : A → Type 0) : Type 0 where
+pub record SoundEntry {A : Type 0} (t : List ℕ) (P : ℕ → Type 0) (i s : ℕ) (c : Construct A) (Good : A → Type 0) :
+    Type 0 where
   pub holds : Holds (Inside P s) c (Ended P s Good) (IsEntryFault t i s)
 
 module _ {t : List ℕ} {P : ℕ → Type 0} {i s : ℕ} where
-  pub known_entry : {A B : Type 0} {Mid : A → Type 0} {Good : B → Type 0} {a : A} {c : Construct B} → (Mid a → SoundEntry t P i s c Good) → Holds (Ended P s Mid a) c (Ended P s Good) (IsEntryFault t i s)
+  pub known_entry : {A B : Type 0} {Mid : A → Type 0} {Good : B → Type 0} {a : A} {c : Construct B} →
+      (Mid a → SoundEntry t P i s c Good) → Holds (Ended P s Mid a) c (Ended P s Good) (IsEntryFault t i s)
   known_entry f = record {
     on_read = λ i j b p x. (f p.good).holds.on_read i j b (record { late = p.late; place = p.place }) x;
-    on_refused = λ i from to k p x. (f p.good).holds.on_refused i from to k (record { late = p.late; place = p.place }) x;
+    on_refused =
+        λ i from to k p x. (f p.good).holds.on_refused i from to k (record { late = p.late; place = p.place }) x;
   }
 
-  pub entry_bind : {A B : Type 0} {Mid : A → Type 0} {Good : B → Type 0} {c : Construct A} {f : A → Construct B} → i ≤ s → Sound t P s c Mid → ((a : A) → Mid a → SoundEntry t P i s (f a) Good) → SoundEntry t P i s (c >>= f) Good
-  entry_bind {Mid = Mid} l x g = record { holds = holds_bind (holds_weaker (λ i p. p) (λ a j e. e) (entry_fault t i s l) x.holds) (λ a. known_entry {Mid = Mid} (g a)) }
+  pub entry_bind : {A B : Type 0} {Mid : A → Type 0} {Good : B → Type 0} {c : Construct A} {f : A → Construct B} →
+      i ≤ s → Sound t P s c Mid → ((a : A) → Mid a → SoundEntry t P i s (f a) Good) → SoundEntry t P i s (c >>= f) Good
+  entry_bind {Mid = Mid} l x g =
+      record { holds =
+        holds_bind (holds_weaker (λ i p. p) (λ a j e. e) (entry_fault t i s l) x.holds)
+          (λ a. known_entry {Mid = Mid} (g a)) }
 
   pub entry_gives : {A : Type 0} {Good : A → Type 0} {a : A} → Good a → SoundEntry t P i s (gives a) Good
   entry_gives g = record { holds = holds_gives (λ i p. record { late = p.late; place = p.place; good = g }) }
@@ -69,15 +80,21 @@ module _ (edition : Edition) (t : List ℕ) (P : ℕ → Type 0) (cuts : IsCuts 
   pub sound_pattern : {s : ℕ} → Sound t P s (pattern edition t) (option_every (pattern_every (IsSpan P)))
   sound_pattern = lines.sound_pattern edition t P cuts (family edition t) (sound_family edition t P cuts)
 
-  sound_with : {s : ℕ} (id : Span) (value : Option (PatternTree Span)) → IsSpan P id → option_every (pattern_every (IsSpan P)) value → Sound t P s (attribute_with id value) (attribute_every (IsSpan P))
+  sound_with : {s : ℕ} (id : Span) (value : Option (PatternTree Span)) → IsSpan P id →
+      option_every (pattern_every (IsSpan P)) value → Sound t P s (attribute_with id value) (attribute_every (IsSpan P))
   sound_with id None g k = sound_fails (inside_places t P cuts) tt (λ i. tt)
   sound_with id (Some value) g k = sound_gives (g, k)
 
   pub sound_attribute : {s : ℕ} → Sound t P s (attribute edition t) (attribute_every (IsSpan P))
-  sound_attribute = sound_bind (sound_inline_blank t P cuts) (λ u v. sound_bind (sound_token t P cuts 46 refl) (λ u v. sound_bind (sound_identifier t P cuts) (λ id g.
-      sound_bind (sound_inline_blank t P cuts) (λ u v. sound_bind (sound_token t P cuts 61 refl) (λ u v. sound_bind sound_pattern (λ value k. sound_with id value g k))))))
+  sound_attribute =
+      sound_bind (sound_inline_blank t P cuts)
+        (λ u v. sound_bind (sound_token t P cuts 46 refl) (λ u v. sound_bind (sound_identifier t P cuts) (λ id g.
+      sound_bind (sound_inline_blank t P cuts)
+          (λ u v. sound_bind (sound_token t P cuts 61 refl)
+            (λ u v. sound_bind sound_pattern (λ value k. sound_with id value g k))))))
 
-  attributes_read : (s i j : ℕ) (rest : List (AttributeTree Span)) → Inside P s i → attributes edition t i (Read rest j) → Ended P s (list_every (attribute_every (IsSpan P))) rest j
+  attributes_read : (s i j : ℕ) (rest : List (AttributeTree Span)) → Inside P s i →
+      attributes edition t i (Read rest j) → Ended P s (list_every (attribute_every (IsSpan P))) rest j
   attributes_read s i j rest p (no_more x) = record { late = p.late; place = p.place; good = tt }
   attributes_read s i j rest p (one_more {j = m} {a = a} {rest = more} x y) =
       let q = sound_attribute.holds.on_read i m a p x in
@@ -88,21 +105,38 @@ module _ (edition : Edition) (t : List ℕ) (P : ℕ → Type 0) (cuts : IsCuts 
   attributes_refused X i from to k x = elim x [ ]
 
   pub sound_attributes : {s : ℕ} → Sound t P s (attributes edition t) (list_every (attribute_every (IsSpan P)))
-  sound_attributes {s = s} = record { holds = record { on_read = λ i j a p x. attributes_read s i j a p x; on_refused = λ i from to k p x. attributes_refused (IsFault t s k from to) i from to k x } }
+  sound_attributes {s = s} =
+      record { holds =
+        record { on_read = λ i j a p x. attributes_read s i j a p x;
+          on_refused = λ i from to k p x. attributes_refused (IsFault t s k from to) i from to k x } }
 
   abbrev Good : EntryTree Span → Type 0
   Good = entry_every (IsSpan P)
 
-  sound_message_with : (i : ℕ) (id : Span) (value : Option (PatternTree Span)) (rest : List (AttributeTree Span)) → IsSpan P id → option_every (pattern_every (IsSpan P)) value → list_every (attribute_every (IsSpan P)) rest → SoundEntry t P i (i + 1) (message_with t i id value rest) Good
-  sound_message_with i id None [] f g k = record { holds = holds_fails_from (λ j p. let late = p.late in let inside = cuts.in_text j p.place in record { late = omega arith; ordered = omega arith; onward = late; in_text = inside; means = tt }) }
+  sound_message_with : (i : ℕ) (id : Span) (value : Option (PatternTree Span)) (rest : List (AttributeTree Span)) →
+      IsSpan P id → option_every (pattern_every (IsSpan P)) value → list_every (attribute_every (IsSpan P)) rest →
+      SoundEntry t P i (i + 1) (message_with t i id value rest) Good
+  sound_message_with i id None [] f g k =
+      record { holds =
+        holds_fails_from
+          (λ j p. let late = p.late in let inside = cuts.in_text j p.place in
+          record { late = omega arith; ordered = omega arith; onward = late; in_text = inside; means = tt }) }
   sound_message_with i id None (a ∷ rest) f g k = entry_gives (f, tt, k, tt)
   sound_message_with i id (Some value) rest f g k = entry_gives (f, g, k, tt)
 
-  sound_term_with : (i : ℕ) (id : Span) (value : Option (PatternTree Span)) (rest : List (AttributeTree Span)) → IsSpan P id → option_every (pattern_every (IsSpan P)) value → list_every (attribute_every (IsSpan P)) rest → SoundEntry t P i (i + 1) (term_with t i id value rest) Good
-  sound_term_with i id None rest f g k = record { holds = holds_fails_from (λ j p. let late = p.late in let inside = cuts.in_text j p.place in record { late = omega arith; ordered = omega arith; onward = late; in_text = inside; means = tt }) }
+  sound_term_with : (i : ℕ) (id : Span) (value : Option (PatternTree Span)) (rest : List (AttributeTree Span)) →
+      IsSpan P id → option_every (pattern_every (IsSpan P)) value → list_every (attribute_every (IsSpan P)) rest →
+      SoundEntry t P i (i + 1) (term_with t i id value rest) Good
+  sound_term_with i id None rest f g k =
+      record { holds =
+        holds_fails_from
+          (λ j p. let late = p.late in let inside = cuts.in_text j p.place in
+          record { late = omega arith; ordered = omega arith; onward = late; in_text = inside; means = tt }) }
   sound_term_with i id (Some value) rest f g k = entry_gives (f, g, k, tt)
 
-  abbrev AfterName : ℕ → Span → (Span → Option (PatternTree Span) → List (AttributeTree Span) → Construct (EntryTree Span)) → Construct (EntryTree Span)
+  abbrev AfterName : ℕ → Span →
+      (Span → Option (PatternTree Span) → List (AttributeTree Span) → Construct (EntryTree Span)) →
+      Construct (EntryTree Span)
   AfterName i id last = do
     inline_blank t
     token t 61
@@ -111,12 +145,18 @@ module _ (edition : Edition) (t : List ℕ) (P : ℕ → Type 0) (cuts : IsCuts 
     rest ← attributes edition t
     last id value rest
 
-  after_name : (i : ℕ) (id : Span) (last : Span → Option (PatternTree Span) → List (AttributeTree Span) → Construct (EntryTree Span)) → IsSpan P id →
-      ((value : Option (PatternTree Span)) (rest : List (AttributeTree Span)) → option_every (pattern_every (IsSpan P)) value → list_every (attribute_every (IsSpan P)) rest → SoundEntry t P i (i + 1) (last id value rest) Good) →
+  after_name :
+      (i : ℕ) (id : Span)
+        (last : Span → Option (PatternTree Span) → List (AttributeTree Span) → Construct (EntryTree Span)) →
+      IsSpan P id →
+      ((value : Option (PatternTree Span)) (rest : List (AttributeTree Span)) →
+            option_every (pattern_every (IsSpan P)) value → list_every (attribute_every (IsSpan P)) rest →
+            SoundEntry t P i (i + 1) (last id value rest) Good) →
       SoundEntry t P i (i + 1) (AfterName i id last) Good
   after_name i id last f g =
       let l : i ≤ i + 1 = omega arith in
-      entry_bind l (sound_inline_blank t P cuts) (λ u v. entry_bind l (sound_token t P cuts 61 refl) (λ u v. entry_bind l sound_pattern (λ value k.
+      entry_bind l (sound_inline_blank t P cuts)
+          (λ u v. entry_bind l (sound_token t P cuts 61 refl) (λ u v. entry_bind l sound_pattern (λ value k.
       entry_bind l (sound_blank_block t P cuts) (λ u v. entry_bind l sound_attributes (λ rest m. g value rest k m)))))
 
 letter_name : (b : ℕ) → is_letter b ≡ true → is_name_byte b ≡ true
@@ -131,7 +171,8 @@ name_goes_on t i j e w =
 
 module _ (t : List ℕ) (P : ℕ → Type 0) (cuts : IsCuts t P) where
   pub name_read : (i j : ℕ) (a : Span) → P i → identifier t i (Read a j) → Ended P (i + 1) (IsSpan P) a j
-  name_read i j a p (goes_on at_place (goes_on (chosen given) (first e (goes_on (passed w) (goes_on at_place given))))) =
+  name_read i j a p
+      (goes_on at_place (goes_on (chosen given) (first e (goes_on (passed w) (goes_on at_place given))))) =
       let forward = w.forward in
       let place = word_place t P cuts is_name_byte ascii_name i j p w in
       let on = name_goes_on t i j e w in
@@ -142,8 +183,10 @@ module _ (t : List ℕ) (P : ℕ → Type 0) (cuts : IsCuts t P) where
   name_refused i from to k e (stops x) = elim x [ ]
   name_refused i from to k e (goes_on at_place (stops (chosen x))) = elim x [ ]
   name_refused i from to k e (goes_on at_place (goes_on (chosen given) (first f (stops x)))) = elim x [ ]
-  name_refused i from to k e (goes_on at_place (goes_on (chosen given) (first f (goes_on (passed w) (stops x))))) = elim x [ ]
-  name_refused i from to k e (goes_on at_place (goes_on (chosen given) (first f (goes_on (passed w) (goes_on at_place x))))) = elim x [ ]
+  name_refused i from to k e (goes_on at_place (goes_on (chosen given) (first f (goes_on (passed w) (stops x))))) =
+      elim x [ ]
+  name_refused i from to k e
+      (goes_on at_place (goes_on (chosen given) (first f (goes_on (passed w) (goes_on at_place x))))) = elim x [ ]
   name_refused i from to k e (goes_on at_place (goes_on (chosen given) (second f x))) = differs e f
 
   at_name : (i j : ℕ) (a : Span) → P i → j ≡ i → (m : ℕ) → identifier t j (Read a m) → Ended P (i + 1) (IsSpan P) a m
@@ -154,21 +197,27 @@ module _ (t : List ℕ) (P : ℕ → Type 0) (cuts : IsCuts t P) where
   name_holds i p = record {
     on_read = λ j m a e x. at_name i j a p e m x;
     on_refused = λ j from to k e x.
-        entry_fault t i i (omega arith) k from to ((sound_identifier t P cuts {s = i}).holds.on_refused j from to k (record { late = omega arith; place = subst P (sym e) p }) x);
+        entry_fault t i i (omega arith) k from to
+            ((sound_identifier t P cuts {s = i}).holds.on_refused j from to k
+              (record { late = omega arith; place = subst P (sym e) p }) x);
   }
 
-  name_there : (i : ℕ) → P i → has t is_letter i ≡ true → Holds (λ j. j ≡ i) (identifier t) (Ended P (i + 1) (IsSpan P)) (IsEntryFault t i (i + 1))
+  name_there : (i : ℕ) → P i → has t is_letter i ≡ true →
+      Holds (λ j. j ≡ i) (identifier t) (Ended P (i + 1) (IsSpan P)) (IsEntryFault t i (i + 1))
   name_there i p l = record {
     on_read = λ j m a e x. at_name i j a p e m x;
-    on_refused = λ j from to k e x. absurd (name_refused i from to k l (subst (λ j. identifier t j (Refused k from to)) e x));
+    on_refused =
+        λ j from to k e x. absurd (name_refused i from to k l (subst (λ j. identifier t j (Refused k from to)) e x));
   }
 
   -- a byte that stands there is read
-  token_there : (b i : ℕ) → b < 128 → has_byte t b i ≡ true → (F : Kind → ℕ → ℕ → Type 0) → Holds (λ j. j ≡ i) (token t b) (λ u. Inside P (i + 1)) F
+  token_there : (b i : ℕ) → b < 128 → has_byte t b i ≡ true → (F : Kind → ℕ → ℕ → Type 0) →
+      Holds (λ j. j ≡ i) (token t b) (λ u. Inside P (i + 1)) F
   token_there b i l h F = holds_bind {mid = λ found j. (found ≡ true) × Inside P (i + 1) j}
       (holds_at_each (λ found. holds_either
       (λ e. holds_bind {mid = λ u. Inside P (i + 1)}
-      (holds_over (λ j m p w. let e = p.0 in let by = w.by in let same : i + 1 ≡ m = omega arith in record { late = omega arith; place = subst P same (cuts.after i (ascii_byte t b i l h)) }))
+      (holds_over (λ j m p w. let e = p.0 in let by = w.by in let same : i + 1 ≡ m = omega arith in
+              record { late = omega arith; place = subst P same (cuts.after i (ascii_byte t b i l h)) }))
       (λ u. holds_gives (λ j p. (refl, p))))
       (λ e. holds_gives (λ j p. differs (subst (λ j. has_byte t b j ≡ true) (sym p.0) h) (p.1 ∙ e)))))
       (λ found. holds_either (λ e. holds_gives (λ j p. p.1)) (λ e. holds_fails (λ j p. differs p.0 e)))
@@ -183,28 +232,46 @@ module _ (edition : Edition) (t : List ℕ) (P : ℕ → Type 0) (cuts : IsCuts 
   abbrev NameTerm : ℕ → Construct (EntryTree Span)
   NameTerm i = identifier t >>= λ id. AfterName edition t P cuts i id (term_with t i)
 
-  message_from : (i s : ℕ) → s ≤ i + 1 → Holds (λ j. j ≡ i) (identifier t) (Ended P (i + 1) (IsSpan P)) (IsEntryFault t i s) → Holds (λ j. j ≡ i) (NameAndMore i) (Ended P (i + 1) IsGood) (IsEntryFault t i s)
-  message_from i s l name = holds_bind name (λ id. holds_weaker {pre = Ended P (i + 1) (IsSpan P) id} (λ j p. p) (λ a j x. x) (earlier_fault t i (i + 1) s l)
-      (known_entry {Mid = IsSpan P} (λ f. after_name edition t P cuts i id (message_with t i) f (λ value rest g k. sound_message_with edition t P cuts i id value rest f g k))))
+  message_from : (i s : ℕ) → s ≤ i + 1 →
+      Holds (λ j. j ≡ i) (identifier t) (Ended P (i + 1) (IsSpan P)) (IsEntryFault t i s) →
+      Holds (λ j. j ≡ i) (NameAndMore i) (Ended P (i + 1) IsGood) (IsEntryFault t i s)
+  message_from i s l name =
+      holds_bind name
+        (λ id. holds_weaker {pre = Ended P (i + 1) (IsSpan P) id} (λ j p. p) (λ a j x. x)
+          (earlier_fault t i (i + 1) s l)
+      (known_entry {Mid = IsSpan P}
+            (λ f. after_name edition t P cuts i id (message_with t i) f
+              (λ value rest g k. sound_message_with edition t P cuts i id value rest f g k))))
 
-  pub message_read : (i j : ℕ) (a : EntryTree Span) → P i → message_entry edition t i (Read a j) → Ended P (i + 1) IsGood a j
-  message_read i j a p (goes_on at_place x) = (message_from i i (omega arith) (name_holds t P cuts i p)).on_read i j a refl x
+  pub message_read : (i j : ℕ) (a : EntryTree Span) → P i → message_entry edition t i (Read a j) →
+      Ended P (i + 1) IsGood a j
+  message_read i j a p (goes_on at_place x) =
+      (message_from i i (omega arith) (name_holds t P cuts i p)).on_read i j a refl x
 
-  pub message_refused : (i from to : ℕ) (k : Kind) → P i → message_entry edition t i (Refused k from to) → IsEntryFault t i i k from to
+  pub message_refused : (i from to : ℕ) (k : Kind) → P i → message_entry edition t i (Refused k from to) →
+      IsEntryFault t i i k from to
   message_refused i from to k p (stops x) = elim x [ ]
-  message_refused i from to k p (goes_on at_place x) = (message_from i i (omega arith) (name_holds t P cuts i p)).on_refused i from to k refl x
+  message_refused i from to k p (goes_on at_place x) =
+      (message_from i i (omega arith) (name_holds t P cuts i p)).on_refused i from to k refl x
 
-  pub letter_refused : (i from to : ℕ) (k : Kind) → P i → has t is_letter i ≡ true → message_entry edition t i (Refused k from to) → IsEntryFault t i (i + 1) k from to
+  pub letter_refused : (i from to : ℕ) (k : Kind) → P i → has t is_letter i ≡ true →
+      message_entry edition t i (Refused k from to) → IsEntryFault t i (i + 1) k from to
   letter_refused i from to k p l (stops x) = elim x [ ]
-  letter_refused i from to k p l (goes_on at_place x) = (message_from i (i + 1) (omega arith) (name_there t P cuts i p l)).on_refused i from to k refl x
+  letter_refused i from to k p l (goes_on at_place x) =
+      (message_from i (i + 1) (omega arith) (name_there t P cuts i p l)).on_refused i from to k refl x
 
-  term_from : (i : ℕ) → has_byte t 45 i ≡ true → Holds (λ j. j ≡ i) (token t 45 >> NameTerm i) (Ended P (i + 1) IsGood) (IsEntryFault t i (i + 1))
+  term_from : (i : ℕ) → has_byte t 45 i ≡ true →
+      Holds (λ j. j ≡ i) (token t 45 >> NameTerm i) (Ended P (i + 1) IsGood) (IsEntryFault t i (i + 1))
   term_from i e = holds_bind (token_there t P cuts 45 i (omega arith) e (IsEntryFault t i (i + 1)))
-      (λ u. (entry_bind (omega arith) (sound_identifier t P cuts) (λ id f. after_name edition t P cuts i id (term_with t i) f (λ value rest g k. sound_term_with edition t P cuts i id value rest f g k))).holds)
+      (λ u. (entry_bind (omega arith) (sound_identifier t P cuts)
+              (λ id f. after_name edition t P cuts i id (term_with t i) f
+                (λ value rest g k. sound_term_with edition t P cuts i id value rest f g k))).holds)
 
-  pub term_read : (i j : ℕ) (a : EntryTree Span) → has_byte t 45 i ≡ true → term_entry edition t i (Read a j) → Ended P (i + 1) IsGood a j
+  pub term_read : (i j : ℕ) (a : EntryTree Span) → has_byte t 45 i ≡ true → term_entry edition t i (Read a j) →
+      Ended P (i + 1) IsGood a j
   term_read i j a e (goes_on at_place x) = (term_from i e).on_read i j a refl x
 
-  pub term_refused : (i from to : ℕ) (k : Kind) → has_byte t 45 i ≡ true → term_entry edition t i (Refused k from to) → IsEntryFault t i (i + 1) k from to
+  pub term_refused : (i from to : ℕ) (k : Kind) → has_byte t 45 i ≡ true → term_entry edition t i (Refused k from to) →
+      IsEntryFault t i (i + 1) k from to
   term_refused i from to k e (stops x) = elim x [ ]
   term_refused i from to k e (goes_on at_place x) = (term_from i e).on_refused i from to k refl x

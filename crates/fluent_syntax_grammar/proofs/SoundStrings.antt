@@ -26,42 +26,72 @@ module _ (t : List ℕ) where
   hex_in_text i w k l h =
       let forward = h.forward in
       let split : (i < k) ⊎ (i ≡ k) = grind arith in
-      elim split [ inl m ↦ (let last = inside_text (k - 1) (ascii_has t is_ascii_hexdigit (k - 1) ascii_hex (h.each (k - 1) (omega arith) (omega arith))) in omega arith) | inr e ↦ omega arith ]
+      elim split [ inl m ↦
+            (let last =
+              inside_text (k - 1)
+                (ascii_has t is_ascii_hexdigit (k - 1) ascii_hex (h.each (k - 1) (omega arith) (omega arith))) in
+              omega arith) | inr e ↦ omega arith ]
 
   abbrev Any : Unit {0} → Type 0
   Any u = Unit {0}
 
-  hex_read : (s w i j : ℕ) (a : Unit {0}) → Inside (InText t) s i → hex_digits t w i (Read a j) → Ended (InText t) s Any a j
-  hex_read s w i j a p (all_there h e) = let f = h.forward in let late = p.late in record { late = omega arith; place = hex_in_text i w j p.place h; good = tt }
+  hex_read : (s w i j : ℕ) (a : Unit {0}) → Inside (InText t) s i → hex_digits t w i (Read a j) →
+      Ended (InText t) s Any a j
+  hex_read s w i j a p (all_there h e) = let f = h.forward in let late = p.late in
+      record { late = omega arith; place = hex_in_text i w j p.place h; good = tt }
 
-  hex_refused : (s w i from to : ℕ) (k : Kind) → Inside (InText t) s i → hex_digits t w i (Refused k from to) → IsFault t s k from to
-  hex_refused s w i from to k p (too_few h l e) = let f = h.forward in let late = p.late in record { late = omega arith; in_text = hex_in_text i w from p.place h; one = e; plain = tt; means = tt }
+  hex_refused : (s w i from to : ℕ) (k : Kind) → Inside (InText t) s i → hex_digits t w i (Refused k from to) →
+      IsFault t s k from to
+  hex_refused s w i from to k p (too_few h l e) = let f = h.forward in let late = p.late in
+      record { late = omega arith; in_text = hex_in_text i w from p.place h; one = e; plain = tt; means = tt }
 
   hex_holds : (s w : ℕ) → Holds (Inside (InText t) s) (hex_digits t w) (Ended (InText t) s Any) (IsFault t s)
   hex_holds s w = record { on_read = hex_read s w; on_refused = hex_refused s w }
 
   -- two bytes on
-  over_two : (s i j : ℕ) (b : ℕ) → Inside (InText t) s i → slice_get t (i + 1) ≡ Some b → Steps 2 i j → Inside (InText t) s j
-  over_two s i j b p e w = let late = p.late in let by = w.by in let l = slice_get_within t (i + 1) b e in record { late = omega arith; place = omega arith }
+  over_two : (s i j : ℕ) (b : ℕ) → Inside (InText t) s i → slice_get t (i + 1) ≡ Some b → Steps 2 i j →
+      Inside (InText t) s j
+  over_two s i j b p e w = let late = p.late in let by = w.by in let l = slice_get_within t (i + 1) b e in
+      record { late = omega arith; place = omega arith }
 
-  escaped_holds : (s : ℕ) (o : Option ℕ) → Holds (λ i. Inside (InText t) s i × (slice_get t (i + 1) ≡ o)) (escaped t o) (Ended (InText t) s Any) (IsFault t s)
-  escaped_holds s None = holds_fails (λ i p. let q = p.0 in record { late = q.late; in_text = q.place; one = refl; plain = tt; means = tt })
+  escaped_holds : (s : ℕ) (o : Option ℕ) →
+      Holds (λ i. Inside (InText t) s i × (slice_get t (i + 1) ≡ o)) (escaped t o) (Ended (InText t) s Any)
+        (IsFault t s)
+  escaped_holds s None =
+      holds_fails (λ i p. let q = p.0 in
+        record { late = q.late; in_text = q.place; one = refl; plain = tt; means = tt })
   escaped_holds s (Some b) =
-      holds_either (λ e. holds_over (λ i j p w. let q = over_two s i j b p.0 p.1 w in record { late = q.late; place = q.place; good = tt }))
-      (λ e. holds_either (λ e. holds_bind {mid = λ u. Inside (InText t) s} (holds_over (λ i j p w. over_two s i j b p.0 p.1 w)) (λ u. hex_holds s 4))
-      (λ e. holds_either (λ e. holds_bind {mid = λ u. Inside (InText t) s} (holds_over (λ i j p w. over_two s i j b p.0 p.1 w)) (λ u. hex_holds s 6))
-      (λ e. holds_fails (λ i p. let q = p.0 in record { late = q.late; in_text = q.place; one = refl; plain = tt; means = tt }))))
+      holds_either (λ e.
+            holds_over (λ i j p w. let q = over_two s i j b p.0 p.1 w in
+              record { late = q.late; place = q.place; good = tt }))
+      (λ e. holds_either
+            (λ e. holds_bind {mid = λ u. Inside (InText t) s} (holds_over (λ i j p w. over_two s i j b p.0 p.1 w))
+              (λ u. hex_holds s 4))
+      (λ e. holds_either
+            (λ e. holds_bind {mid = λ u. Inside (InText t) s} (holds_over (λ i j p w. over_two s i j b p.0 p.1 w))
+              (λ u. hex_holds s 6))
+      (λ e. holds_fails
+            (λ i p. let q = p.0 in record { late = q.late; in_text = q.place; one = refl; plain = tt; means = tt }))))
 
   -- before a unit stands no quote
   abbrev AtUnit : ℕ → Option ℕ → ℕ → Type 0
   AtUnit s o i = Inside (InText t) s i × (slice_get t i ≡ o) × (has_byte t 34 i ≡ false)
 
   pub unit_holds : (s : ℕ) (o : Option ℕ) → Holds (AtUnit s o) (string_unit t o) (Ended (InText t) s Any) (IsFault t s)
-  unit_holds s None = holds_fails (λ i p. let q = p.0 in record { late = q.late; in_text = q.place; one = refl; plain = tt; means = p.2 })
+  unit_holds s None =
+      holds_fails (λ i p. let q = p.0 in
+        record { late = q.late; in_text = q.place; one = refl; plain = tt; means = p.2 })
   unit_holds s (Some b) =
-      holds_either (λ e. holds_fails (λ i p. let q = p.0 in record { late = q.late; in_text = q.place; one = refl; plain = tt; means = byte_stands (λ c. c == lf) (slice_get t i) b p.1 e }))
-      (λ e. holds_either (λ e. holds_at_each (λ o. holds_weaker (λ i p. (p.0.0, p.1)) (λ a j x. x) (λ k from to x. x) (escaped_holds s o)))
-      (λ e. holds_over (λ i j p w. let q = p.0 in let late = q.late in let by = w.by in let l = slice_get_within t i b p.1 in record { late = omega arith; place = omega arith; good = tt })))
+      holds_either (λ e.
+            holds_fails (λ i p. let q = p.0 in
+              record { late = q.late; in_text = q.place; one = refl; plain = tt;
+                means = byte_stands (λ c. c == lf) (slice_get t i) b p.1 e }))
+      (λ e. holds_either
+            (λ e. holds_at_each
+              (λ o. holds_weaker (λ i p. (p.0.0, p.1)) (λ a j x. x) (λ k from to x. x) (escaped_holds s o)))
+      (λ e. holds_over
+            (λ i j p w. let q = p.0 in let late = q.late in let by = w.by in let l = slice_get_within t i b p.1 in
+              record { late = omega arith; place = omega arith; good = tt })))
 
   abbrev AtQuote : ℕ → Unit {0} → ℕ → Type 0
   AtQuote s u j = Inside (InText t) s j × (has_byte t 34 j ≡ true)
@@ -72,7 +102,8 @@ module _ (t : List ℕ) where
       let q = (unit_holds s (slice_get t i)).on_read i m tt (p, refl, e) x in
       units_read s m j a (record { late = q.late; place = q.place }) y
 
-  units_refused : (s i from to : ℕ) (k : Kind) → Inside (InText t) s i → string_units t i (Refused k from to) → IsFault t s k from to
+  units_refused : (s i from to : ℕ) (k : Kind) → Inside (InText t) s i → string_units t i (Refused k from to) →
+      IsFault t s k from to
   units_refused s i from to k p (unit_and_more {j = m} e x y) =
       let q = (unit_holds s (slice_get t i)).on_read i m tt (p, refl, e) x in
       units_refused s m from to k (record { late = q.late; place = q.place }) y
@@ -85,11 +116,13 @@ module _ (t : List ℕ) (P : ℕ → Type 0) (cuts : IsCuts t P) where
   pub sound_units : {s : ℕ} → Sound t P s (string_units t) (λ u. Unit {0})
   sound_units {s = s} = record {
     holds = record {
-      on_read = λ i j a p x. let q = units_read t s i j a (to_text s i p) x in let r = q.0 in record { late = r.late; place = cuts.before j (ascii_byte t 34 j (omega arith) q.1); good = tt };
+      on_read = λ i j a p x. let q = units_read t s i j a (to_text s i p) x in let r = q.0 in
+          record { late = r.late; place = cuts.before j (ascii_byte t 34 j (omega arith) q.1); good = tt };
       on_refused = λ i from to k p x. units_refused t s i from to k (to_text s i p) x;
     };
   }
 
   pub sound_string : {s : ℕ} → Sound t P s (string_literal t) (IsSpan P)
   sound_string = sound_bind (sound_token t P cuts 34 refl) (λ u v. sound_here (λ m q. sound_bind sound_units (λ u v.
-      sound_bind (sound_spanned q.place) (λ value good. sound_bind (sound_token t P cuts 34 refl) (λ u v. sound_gives good)))))
+      sound_bind (sound_spanned q.place)
+          (λ value good. sound_bind (sound_token t P cuts 34 refl) (λ u v. sound_gives good)))))

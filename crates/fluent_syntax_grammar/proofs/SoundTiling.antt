@@ -38,40 +38,56 @@ module _ (edition : Edition) (t : List ℕ) (P : ℕ → Type 0) (cuts : IsCuts 
   abbrev IsGood : EntryTree Span → Type 0
   IsGood = entry_every (IsSpan P)
 
-  entry_read_of : (i j : ℕ) (a : EntryTree Span) (o : Option ℕ) → slice_get t i ≡ o → P i → entry_of edition t o i (Read a j) → Ended P (i + 1) IsGood a j
+  entry_read_of : (i j : ℕ) (a : EntryTree Span) (o : Option ℕ) → slice_get t i ≡ o → P i →
+      entry_of edition t o i (Read a j) → Ended P (i + 1) IsGood a j
   entry_read_of i j a None e p x = message_read edition t P cuts i j a p x
-  entry_read_of i j a (Some b) e p (first f x) = comment_read t P cuts i j a p (byte_stands (λ c. c == 35) (slice_get t i) b e f) x
-  entry_read_of i j a (Some b) e p (second f (first g x)) = term_read edition t P cuts i j a (byte_stands (λ c. c == 45) (slice_get t i) b e g) x
+  entry_read_of i j a (Some b) e p (first f x) =
+      comment_read t P cuts i j a p (byte_stands (λ c. c == 35) (slice_get t i) b e f) x
+  entry_read_of i j a (Some b) e p (second f (first g x)) =
+      term_read edition t P cuts i j a (byte_stands (λ c. c == 45) (slice_get t i) b e g) x
   entry_read_of i j a (Some b) e p (second f (second g x)) = message_read edition t P cuts i j a p x
 
   -- an entry that is read passes over a byte at least, and its texts lie in the source
   pub entry_read : (i j : ℕ) (a : EntryTree Span) → P i → entry_at edition t i (Read a j) → Ended P (i + 1) IsGood a j
   entry_read i j a p (chosen x) = entry_read_of i j a (slice_get t i) refl p x
 
-  entry_refused_of : (i from to : ℕ) (k : Kind) (o : Option ℕ) → slice_get t i ≡ o → P i → entry_of edition t o i (Refused k from to) → IsEntryFault t i i k from to
+  entry_refused_of : (i from to : ℕ) (k : Kind) (o : Option ℕ) → slice_get t i ≡ o → P i →
+      entry_of edition t o i (Refused k from to) → IsEntryFault t i i k from to
   entry_refused_of i from to k None e p x = message_refused edition t P cuts i from to k p x
-  entry_refused_of i from to k (Some b) e p (first f x) = weaker i from to k (comment_refused t P cuts i from to k p (byte_stands (λ c. c == 35) (slice_get t i) b e f) x)
-  entry_refused_of i from to k (Some b) e p (second f (first g x)) = weaker i from to k (term_refused edition t P cuts i from to k (byte_stands (λ c. c == 45) (slice_get t i) b e g) x)
+  entry_refused_of i from to k (Some b) e p (first f x) =
+      weaker i from to k (comment_refused t P cuts i from to k p (byte_stands (λ c. c == 35) (slice_get t i) b e f) x)
+  entry_refused_of i from to k (Some b) e p (second f (first g x)) =
+      weaker i from to k
+        (term_refused edition t P cuts i from to k (byte_stands (λ c. c == 45) (slice_get t i) b e g) x)
   entry_refused_of i from to k (Some b) e p (second f (second g x)) = message_refused edition t P cuts i from to k p x
 
-  pub entry_refused : (i from to : ℕ) (k : Kind) → P i → entry_at edition t i (Refused k from to) → IsEntryFault t i i k from to
+  pub entry_refused : (i from to : ℕ) (k : Kind) → P i → entry_at edition t i (Refused k from to) →
+      IsEntryFault t i i k from to
   entry_refused i from to k p (chosen x) = entry_refused_of i from to k (slice_get t i) refl p x
 
-  entry_onward_of : (i from to : ℕ) (k : Kind) (o : Option ℕ) → slice_get t i ≡ o → P i → has t is_entry_byte i ≡ true → entry_of edition t o i (Refused k from to) → IsEntryFault t i (i + 1) k from to
+  entry_onward_of : (i from to : ℕ) (k : Kind) (o : Option ℕ) → slice_get t i ≡ o → P i → has t is_entry_byte i ≡ true →
+      entry_of edition t o i (Refused k from to) → IsEntryFault t i (i + 1) k from to
   entry_onward_of i from to k None e p h x = absurd (no_byte_of is_entry_byte (slice_get t i) e h)
-  entry_onward_of i from to k (Some b) e p h (first f x) = comment_refused t P cuts i from to k p (byte_stands (λ c. c == 35) (slice_get t i) b e f) x
-  entry_onward_of i from to k (Some b) e p h (second f (first g x)) = term_refused edition t P cuts i from to k (byte_stands (λ c. c == 45) (slice_get t i) b e g) x
+  entry_onward_of i from to k (Some b) e p h (first f x) =
+      comment_refused t P cuts i from to k p (byte_stands (λ c. c == 35) (slice_get t i) b e f) x
+  entry_onward_of i from to k (Some b) e p h (second f (first g x)) =
+      term_refused edition t P cuts i from to k (byte_stands (λ c. c == 45) (slice_get t i) b e g) x
   entry_onward_of i from to k (Some b) e p h (second f (second g x)) =
-      letter_refused edition t P cuts i from to k p (byte_stands is_letter (slice_get t i) b e (entry_letter b f g (byte_of is_entry_byte (slice_get t i) b e h))) x
+      letter_refused edition t P cuts i from to k p
+          (byte_stands is_letter (slice_get t i) b e (entry_letter b f g (byte_of is_entry_byte (slice_get t i) b e h)))
+          x
 
   -- where an entry may begin, a refusal's failing place is after its first byte
-  pub entry_onward : (i from to : ℕ) (k : Kind) → P i → has t is_entry_byte i ≡ true → entry_at edition t i (Refused k from to) → IsEntryFault t i (i + 1) k from to
+  pub entry_onward : (i from to : ℕ) (k : Kind) → P i → has t is_entry_byte i ≡ true →
+      entry_at edition t i (Refused k from to) → IsEntryFault t i (i + 1) k from to
   entry_onward i from to k p h (chosen x) = entry_onward_of i from to k (slice_get t i) refl p h x
 
   -- what holds of a tile that reaches from i to j
   abbrev pub GoodTile : Tile → Type 0
   GoodTile (entry s e) = (s.start < s.end) × IsSpan P s × IsGood e
-  GoodTile (refused f) = (f.slice.start < f.slice.end) × IsSpan P f.slice × (f.slice.start ≤ f.pos.start) × (f.pos.start ≤ f.slice.end) × kind_means t f.kind f.pos.start
+  GoodTile (refused f) =
+      (f.slice.start < f.slice.end) × IsSpan P f.slice × (f.slice.start ≤ f.pos.start) × (f.pos.start ≤ f.slice.end) ×
+      kind_means t f.kind f.pos.start
   GoodTile dropped = Unit {0}
 
   pub record EndedTile (i j : ℕ) (tile : Tile) : Type 0 where
@@ -81,18 +97,22 @@ module _ (edition : Edition) (t : List ℕ) (P : ℕ → Type 0) (cuts : IsCuts 
 
   junk_place : (place j : ℕ) → JunkEnd t place j → P j
   junk_place place j e = elim e.stop [
-    | inl h ↦ cuts.before j (ascii_has t is_entry_byte j ascii_entry (right_true (starts_line t j) (has t is_entry_byte j) h))
+    | inl h ↦ cuts.before j
+        (ascii_has t is_entry_byte j ascii_entry (right_true (starts_line t j) (has t is_entry_byte j) h))
     | inr n ↦ subst P (sym n) cuts.at_end
   ]
 
-  junk_not_empty : (i j place : ℕ) → i < length t → (has t is_entry_byte i ≡ true → i + 1 ≤ place) → i ≡ j → place ≤ j → (starts_entry t j ≡ true) ⊎ (j ≡ length t) → i < j
+  junk_not_empty : (i j place : ℕ) → i < length t → (has t is_entry_byte i ≡ true → i + 1 ≤ place) → i ≡ j → place ≤ j →
+      (starts_entry t j ≡ true) ⊎ (j ≡ length t) → i < j
   junk_not_empty i j place l f same forward stop = elim stop [
-    | inl h ↦ (let there = right_true (starts_line t j) (has t is_entry_byte j) h in let on = f (subst (λ k. has t is_entry_byte k ≡ true) (sym same) there) in omega arith)
+    | inl h ↦ (let there = right_true (starts_line t j) (has t is_entry_byte j) h in
+          let on = f (subst (λ k. has t is_entry_byte k ≡ true) (sym same) there) in omega arith)
     | inr n ↦ omega arith
   ]
 
   -- junk is not empty
-  junk_onward : (i j place : ℕ) → i < length t → i ≤ place → (has t is_entry_byte i ≡ true → i + 1 ≤ place) → JunkEnd t place j → i < j
+  junk_onward : (i j place : ℕ) → i < length t → i ≤ place → (has t is_entry_byte i ≡ true → i + 1 ≤ place) →
+      JunkEnd t place j → i < j
   junk_onward i j place l m f e =
       let forward = e.forward in
       elim (lt_or_same i j (omega arith)) [ inl x ↦ x | inr same ↦ junk_not_empty i j place l f same forward e.stop ]
@@ -113,7 +133,9 @@ module _ (edition : Edition) (t : List ℕ) (P : ℕ → Type 0) (cuts : IsCuts 
 
   pub line_end : (i j : ℕ) → P i → whole_line t i (Read tt j) → Inside P i j
   line_end i j p x =
-      let q = (sound_bind (sound_rest_of_line t P cuts) (λ s g. sound_optional_eol t P cuts {s = i})).holds.on_read i j tt (record { late = omega arith; place = p }) x in
+      let q =
+          (sound_bind (sound_rest_of_line t P cuts) (λ s g. sound_optional_eol t P cuts {s = i})).holds.on_read i j tt
+            (record { late = omega arith; place = p }) x in
       record { late = q.late; place = q.place }
 
   pub tiled_good : (i : ℕ) (tiles : List Tile) → P i → Tiled t (TileAt edition t) i tiles → list_every GoodTile tiles
@@ -122,7 +144,8 @@ module _ (edition : Edition) (t : List ℕ) (P : ℕ → Type 0) (cuts : IsCuts 
       let q = tile_good start end tile (block_place t P cuts i start p b) l x in
       (q.good, tiled_good end more q.place y)
 
-  pub runtime_good : (i : ℕ) (tiles : List Tile) → P i → Tiled t (RuntimeTileAt edition t) i tiles → list_every GoodTile tiles
+  pub runtime_good : (i : ℕ) (tiles : List Tile) → P i → Tiled t (RuntimeTileAt edition t) i tiles →
+      list_every GoodTile tiles
   runtime_good i tiles p (done b) = tt
   runtime_good i tiles p (next {start = start} {end = end} {tiles = more} b l (drops h x) y) =
       let q = line_end start end (block_place t P cuts i start p b) x in

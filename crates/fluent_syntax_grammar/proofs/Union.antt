@@ -26,33 +26,43 @@ pub record IsUnion {A : Type 0} (c : Construct A) (cs : ℕ → Construct A) : T
 pub union_same : {A : Type 0} {c : Construct A} → IsUnion c (λ n. c)
 union_same {c = c} = record { grows = λ m n l. included_same; found = λ i o x. (0, x) }
 
-bind_found : {A B : Type 0} (c : Construct A) (cs : ℕ → Construct A) (f : A → Construct B) (fs : ℕ → A → Construct B) → IsUnion c cs → ((a : A) → IsUnion (f a) (λ n. fs n a)) → (i : ℕ) (o : Outcome B) → (c >>= f) i o → (n : ℕ) × (cs n >>= fs n) i o
+bind_found : {A B : Type 0} (c : Construct A) (cs : ℕ → Construct A) (f : A → Construct B) (fs : ℕ → A → Construct B) →
+    IsUnion c cs → ((a : A) → IsUnion (f a) (λ n. fs n a)) → (i : ℕ) (o : Outcome B) → (c >>= f) i o → (n : ℕ) ×
+    (cs n >>= fs n) i o
 bind_found c cs f fs u v i o (stops r) = let m = u.found i _ r in (m.0, stops m.1)
 bind_found c cs f fs u v i o (goes_on {j = j} {a = a} x y) =
     let m = u.found i _ x in
     let n = (v a).found j o y in
-    (m.0 + n.0, goes_on ((u.grows m.0 (m.0 + n.0) (omega arith)).part i _ m.1) (((v a).grows n.0 (m.0 + n.0) (omega arith)).part j o n.1))
+    (m.0 + n.0, goes_on ((u.grows m.0 (m.0 + n.0) (omega arith)).part i _ m.1)
+          (((v a).grows n.0 (m.0 + n.0) (omega arith)).part j o n.1))
 
-pub union_bind : {A B : Type 0} {c : Construct A} {cs : ℕ → Construct A} {f : A → Construct B} {fs : ℕ → A → Construct B} → IsUnion c cs → ((a : A) → IsUnion (f a) (λ n. fs n a)) → IsUnion (c >>= f) (λ n. cs n >>= fs n)
+pub union_bind :
+    {A B : Type 0} {c : Construct A} {cs : ℕ → Construct A} {f : A → Construct B} {fs : ℕ → A → Construct B} →
+    IsUnion c cs → ((a : A) → IsUnion (f a) (λ n. fs n a)) → IsUnion (c >>= f) (λ n. cs n >>= fs n)
 union_bind {c = c} {cs = cs} {f = f} {fs = fs} u v = record {
   grows = λ m n l. included_bind (u.grows m n l) (λ a. (v a).grows m n l);
   found = bind_found c cs f fs u v;
 }
 
-at_each_found : {A B : Type 0} (look : ℕ → A) (f : A → Construct B) (fs : ℕ → A → Construct B) → ((a : A) → IsUnion (f a) (λ n. fs n a)) → (i : ℕ) (o : Outcome B) → at_each look f i o → (n : ℕ) × at_each look (fs n) i o
+at_each_found : {A B : Type 0} (look : ℕ → A) (f : A → Construct B) (fs : ℕ → A → Construct B) →
+    ((a : A) → IsUnion (f a) (λ n. fs n a)) → (i : ℕ) (o : Outcome B) → at_each look f i o → (n : ℕ) ×
+    at_each look (fs n) i o
 at_each_found look f fs v i o (chosen x) = let m = (v (look i)).found i o x in (m.0, chosen m.1)
 
-pub union_at_each : {A B : Type 0} {look : ℕ → A} {f : A → Construct B} {fs : ℕ → A → Construct B} → ((a : A) → IsUnion (f a) (λ n. fs n a)) → IsUnion (at_each look f) (λ n. at_each look (fs n))
+pub union_at_each : {A B : Type 0} {look : ℕ → A} {f : A → Construct B} {fs : ℕ → A → Construct B} →
+    ((a : A) → IsUnion (f a) (λ n. fs n a)) → IsUnion (at_each look f) (λ n. at_each look (fs n))
 union_at_each {look = look} {f = f} {fs = fs} v = record {
   grows = λ m n l. included_at_each (λ a. (v a).grows m n l);
   found = at_each_found look f fs v;
 }
 
-either_found : {A : Type 0} (b : Bool) (c d : Construct A) (cs ds : ℕ → Construct A) → IsUnion c cs → IsUnion d ds → (i : ℕ) (o : Outcome A) → either b c d i o → (n : ℕ) × either b (cs n) (ds n) i o
+either_found : {A : Type 0} (b : Bool) (c d : Construct A) (cs ds : ℕ → Construct A) → IsUnion c cs → IsUnion d ds →
+    (i : ℕ) (o : Outcome A) → either b c d i o → (n : ℕ) × either b (cs n) (ds n) i o
 either_found b c d cs ds u v i o (first e x) = let m = u.found i o x in (m.0, first e m.1)
 either_found b c d cs ds u v i o (second e x) = let m = v.found i o x in (m.0, second e m.1)
 
-pub union_either : {A : Type 0} {b : Bool} {c d : Construct A} {cs ds : ℕ → Construct A} → IsUnion c cs → IsUnion d ds → IsUnion (either b c d) (λ n. either b (cs n) (ds n))
+pub union_either : {A : Type 0} {b : Bool} {c d : Construct A} {cs ds : ℕ → Construct A} → IsUnion c cs → IsUnion d ds →
+    IsUnion (either b c d) (λ n. either b (cs n) (ds n))
 union_either {b = b} {c = c} {d = d} {cs = cs} {ds = ds} u v = record {
   grows = λ m n l. included_either (u.grows m n l) (v.grows m n l);
   found = either_found b c d cs ds u v;
@@ -120,23 +130,28 @@ module _ (t : List ℕ) (R : Family) (Rs : ℕ → Family) (h : IsUnionFamily R 
   union_value brace = search unions depth 30
   union_value other = search unions depth 30
 
-  union_named : (names : List (List ℕ)) (name : Span) → IsUnion (named_and_more t R names name) (λ n. named_and_more t (Rs n) names name)
+  union_named : (names : List (List ℕ)) (name : Span) →
+      IsUnion (named_and_more t R names name) (λ n. named_and_more t (Rs n) names name)
   union_named names name = search (unions, union_value, h.more_arguments) depth 30
 
-  union_positional : (names : List (List ℕ)) (e : InlineTree Span) → IsUnion (positional_and_more t R names e) (λ n. positional_and_more t (Rs n) names e)
+  union_positional : (names : List (List ℕ)) (e : InlineTree Span) →
+      IsUnion (positional_and_more t R names e) (λ n. positional_and_more t (Rs n) names e)
   union_positional [] e = search (unions, h.more_arguments) depth 30
   union_positional (n ∷ ns) e = search unions depth 30
 
-  union_argument : (names : List (List ℕ)) (e : InlineTree Span) (o : Option Span) (colon : Bool) → IsUnion (argument_and_more t R names e o colon) (λ n. argument_and_more t (Rs n) names e o colon)
+  union_argument : (names : List (List ℕ)) (e : InlineTree Span) (o : Option Span) (colon : Bool) →
+      IsUnion (argument_and_more t R names e o colon) (λ n. argument_and_more t (Rs n) names e o colon)
   union_argument names e None colon = union_positional names e
   union_argument names e (Some n) true = union_named names n
   union_argument names e (Some n) false = union_positional names e
 
-  union_arguments_at : (names : List (List ℕ)) (b : Option ℕ) → IsUnion (more_arguments_at t R names b) (λ n. more_arguments_at t (Rs n) names b)
+  union_arguments_at : (names : List (List ℕ)) (b : Option ℕ) →
+      IsUnion (more_arguments_at t R names b) (λ n. more_arguments_at t (Rs n) names b)
   union_arguments_at names None = search unions depth 30
   union_arguments_at names (Some b) = search (unions, union_argument, nested_inline) depth 30
 
-  pub union_arguments : (names : List (List ℕ)) → IsUnion (more_arguments t R names) (λ n. more_arguments t (Rs n) names)
+  pub union_arguments : (names : List (List ℕ)) →
+      IsUnion (more_arguments t R names) (λ n. more_arguments t (Rs n) names)
   union_arguments names = search (unions, union_arguments_at) depth 30
 
   union_pieces_at : (b : Option ℕ) → IsUnion (pieces_at t R b) (λ n. pieces_at t (Rs n) b)
@@ -168,12 +183,16 @@ module _ (edition : Edition) (t : List ℕ) (R : Family) (Rs : ℕ → Family) (
   pub union_pattern : IsUnion (pattern edition t R) (λ n. pattern edition t (Rs n))
   union_pattern = search (unions, union_layout t R Rs h) depth 30
 
-  union_variant : (starred star : Bool) (key : KeyTree Span) (p : Option (PatternTree Span)) → IsUnion (variant_and_more edition t R starred star key p) (λ n. variant_and_more edition t (Rs n) starred star key p)
+  union_variant : (starred star : Bool) (key : KeyTree Span) (p : Option (PatternTree Span)) →
+      IsUnion (variant_and_more edition t R starred star key p)
+        (λ n. variant_and_more edition t (Rs n) starred star key p)
   union_variant starred star key None = search unions depth 30
   union_variant starred star key (Some p) = search (unions, h.more_variants) depth 30
 
-  union_after : (starred star : Bool) → IsUnion (variant_after edition t R starred star) (λ n. variant_after edition t (Rs n) starred star)
+  union_after : (starred star : Bool) →
+      IsUnion (variant_after edition t R starred star) (λ n. variant_after edition t (Rs n) starred star)
   union_after starred star = search (unions, union_pattern, union_variant) depth 30
 
-  pub union_variants : (starred : Bool) → IsUnion (more_variants edition t R starred) (λ n. more_variants edition t (Rs n) starred)
+  pub union_variants : (starred : Bool) →
+      IsUnion (more_variants edition t R starred) (λ n. more_variants edition t (Rs n) starred)
   union_variants starred = search (unions, union_after) depth 30

@@ -65,7 +65,8 @@ module _ (edition : Edition) (t : List ℕ) where
   pub one_runtime_tiling : OneRuntimeTiling edition t
   one_runtime_tiling = tilings.one_runtime_tiling edition t
 
-  faults_mean : (tiles : List Tile) → list_every (GoodTile edition t (InText t) (text_cuts t)) tiles → list_every (FaultMeans t) (faults tiles)
+  faults_mean : (tiles : List Tile) → list_every (GoodTile edition t (InText t) (text_cuts t)) tiles →
+      list_every (FaultMeans t) (faults tiles)
   faults_mean [] g = tt
   faults_mean (entry s e ∷ tiles) (g, h) = faults_mean tiles h
   faults_mean (refused f ∷ tiles) (g, h) = (g.4, faults_mean tiles h)
@@ -75,18 +76,21 @@ module _ (edition : Edition) (t : List ℕ) where
   kinds_mean = λ tiles a. faults_mean tiles (tiled_good edition t (InText t) (text_cuts t) 0 tiles (omega arith) a)
 
   pub runtime_kinds_mean : RuntimeKindsMean edition t
-  runtime_kinds_mean = λ tiles a. faults_mean tiles (runtime_good edition t (InText t) (text_cuts t) 0 tiles (omega arith) a)
+  runtime_kinds_mean =
+      λ tiles a. faults_mean tiles (runtime_good edition t (InText t) (text_cuts t) 0 tiles (omega arith) a)
 
   pub has_no_comments : HasNoComments edition t
   has_no_comments = λ tiles a. body_bare tiles (bare_runtime edition t 0 tiles a) ∙ sym (bare_body tiles)
 
   pub same_messages_and_terms : SameMessagesAndTerms edition t
   same_messages_and_terms = λ xs ys a b.
-      ap messages_and_terms (body_bare ys (bare_runtime edition t 0 ys b)) ∙ (aligned_named xs ys (aligned edition t xs ys a b) ∙ sym (ap messages_and_terms (bare_body xs)))
+      ap messages_and_terms (body_bare ys (bare_runtime edition t 0 ys b))
+          ∙ (aligned_named xs ys (aligned edition t xs ys a b) ∙ sym (ap messages_and_terms (bare_body xs)))
 
   pub no_new_errors : NoNewErrors edition t
   no_new_errors = λ xs ys a b e. aligned_faults xs ys (aligned edition t xs ys a b) e
 
   pub same_without_comments : SameWithoutComments edition t
   same_without_comments = λ xs ys a b e.
-      body_bare ys (bare_runtime edition t 0 ys b) ∙ (aligned_bare xs ys (aligned edition t xs ys a b) e ∙ sym (bare_body xs))
+      body_bare ys (bare_runtime edition t 0 ys b)
+          ∙ (aligned_bare xs ys (aligned edition t xs ys a b) e ∙ sym (bare_body xs))

@@ -21,7 +21,8 @@ pub record IsLine (t : List ℕ) (i j : ℕ) : Type 0 where
   pub stretch : Stretch (is_line_place t) i end
   pub eol : (after_eol t end ≡ Some j) ⊎ ((after_eol t end ≡ None) × (j ≡ end))
 
-no_eol : (a b c : Bool) (i : ℕ) → (if a then Some (i + 1) else if b && c then Some (i + 2) else None) ≡ None → (a || b && c) ≡ false
+no_eol : (a b c : Bool) (i : ℕ) → (if a then Some (i + 1) else if b && c then Some (i + 2) else None) ≡ None →
+    (a || b && c) ≡ false
 no_eol true b c i e = cc
 no_eol false true true i e = cc
 no_eol false true false i e = refl
@@ -57,36 +58,45 @@ or_false a b e f = rw (e, f)
 not_zero : (m : ℕ) → (suc m == 0) ≡ false
 not_zero m = grind (arith, nat_tests)
 
-no_lf_eol : (a b c : Bool) (i : ℕ) → a ≡ false → b ≡ false → (if a then Some (i + 1) else if b && c then Some (i + 2) else None) ≡ None
+no_lf_eol : (a b c : Bool) (i : ℕ) → a ≡ false → b ≡ false →
+    (if a then Some (i + 1) else if b && c then Some (i + 2) else None) ≡ None
 no_lf_eol a b c i e f = rw (e, f)
 
 module _ (t : List ℕ) where
-  past_of : (i j : ℕ) (o : Option ℕ) → after_eol t i ≡ o → past_eol o i (Read tt j) → (after_eol t i ≡ Some j) ⊎ ((after_eol t i ≡ None) × (j ≡ i))
+  past_of : (i j : ℕ) (o : Option ℕ) → after_eol t i ≡ o → past_eol o i (Read tt j) → (after_eol t i ≡ Some j) ⊎
+      ((after_eol t i ≡ None) × (j ≡ i))
   past_of i j None e given = inr (e, refl)
   past_of i j (Some k) e (passed w) = inl (e ∙ ap Some (sym w.there))
 
   pub line_of : (i j : ℕ) → whole_line t i (Read tt j) → IsLine t i j
-  line_of i j (goes_on (goes_on at_place (goes_on (passed {j = k} w) (goes_on at_place given))) (chosen y)) = record { end = k; stretch = w; eol = past_of k j (after_eol t k) refl y }
+  line_of i j (goes_on (goes_on at_place (goes_on (passed {j = k} w) (goes_on at_place given))) (chosen y)) =
+      record { end = k; stretch = w; eol = past_of k j (after_eol t k) refl y }
 
-  past_to : (i j : ℕ) (o : Option ℕ) → after_eol t i ≡ o → (after_eol t i ≡ Some j) ⊎ ((after_eol t i ≡ None) × (j ≡ i)) → past_eol o i (Read tt j)
+  past_to : (i j : ℕ) (o : Option ℕ) → after_eol t i ≡ o → (after_eol t i ≡ Some j) ⊎
+      ((after_eol t i ≡ None) × (j ≡ i)) → past_eol o i (Read tt j)
   past_to i j None e (inl f) = cc
   past_to i j None e (inr (f, g)) = subst (λ j. past_eol None i (Read tt j)) (sym g) given
   past_to i j (Some k) e (inl f) = passed (record { there = some_same (sym f ∙ e) })
   past_to i j (Some k) e (inr (f, g)) = cc
 
   pub line_to : (i j : ℕ) → IsLine t i j → whole_line t i (Read tt j)
-  line_to i j l = goes_on (goes_on at_place (goes_on (passed l.stretch) (goes_on at_place given))) (chosen (past_to l.end j (after_eol t l.end) refl l.eol))
+  line_to i j l =
+      goes_on (goes_on at_place (goes_on (passed l.stretch) (goes_on at_place given)))
+        (chosen (past_to l.end j (after_eol t l.end) refl l.eol))
 
   place_inside : (k : ℕ) → is_line_place t k ≡ true → k < length t
   place_inside k e = let b = byte_stands (slice_get t k) (has_eol t k) e in slice_get_within t k b.1.0 b.1.1
 
   place_no_lf : (k : ℕ) → is_line_place t k ≡ true → has_byte t lf k ≡ false
-  place_no_lf k e = let b = byte_stands (slice_get t k) (has_eol t k) e in or_left_false (has_byte t lf k) (has_byte t cr k && has_byte t lf (k + 1)) b.0
+  place_no_lf k e = let b = byte_stands (slice_get t k) (has_eol t k) e in
+      or_left_false (has_byte t lf k) (has_byte t cr k && has_byte t lf (k + 1)) b.0
 
   stretch_inside : (i k : ℕ) → i ≤ length t → Stretch (is_line_place t) i k → k ≤ length t
   stretch_inside i k l s =
       let forward = s.forward in
-      elim (split_at t i k) [ inl x ↦ (let last = place_inside (k - 1) (s.each (k - 1) (omega arith) (omega arith)) in omega arith) | inr x ↦ omega arith ]
+      elim (split_at t i k)
+          [ inl x ↦ (let last = place_inside (k - 1) (s.each (k - 1) (omega arith) (omega arith)) in omega arith)
+            | inr x ↦ omega arith ]
 
   no_byte_at : (k : ℕ) → slice_get t k ≡ None → length t ≤ k
   no_byte_at k e = elim (slice_get_cases t k).1 [ inl x ↦ some_none x.2 e | inr x ↦ x.0 ]
@@ -94,21 +104,28 @@ module _ (t : List ℕ) where
   line_none : (i k : ℕ) → i ≤ length t → Stretch (is_line_place t) i k → after_eol t k ≡ None → k ≡ length t
   line_none i k l s e =
       let inside = stretch_inside i k l s in
-      let past = no_byte_at k (no_byte_stands (slice_get t k) (has_eol t k) s.longest (no_eol (has_byte t lf k) (has_byte t cr k) (has_byte t lf (k + 1)) k e)) in
+      let past =
+          no_byte_at k (no_byte_stands (slice_get t k) (has_eol t k) s.longest
+            (no_eol (has_byte t lf k) (has_byte t cr k) (has_byte t lf (k + 1)) k e)) in
       omega arith
 
   -- a line leads to the start of a line, or to the text's end
   pub line_start : (i j : ℕ) → i ≤ length t → IsLine t i j → IsLineStart t j
-  line_start i j l x = elim x.eol [ inl e ↦ inl (eol_start t x.end j e) | inr e ↦ inr (e.1 ∙ line_none i x.end l x.stretch e.0) ]
+  line_start i j l x =
+      elim x.eol [ inl e ↦ inl (eol_start t x.end j e) | inr e ↦ inr (e.1 ∙ line_none i x.end l x.stretch e.0) ]
 
   eol_inside : (k j : ℕ) → after_eol t k ≡ Some j → j ≤ length t
   eol_inside k j e = elim (eol_cases t k j e) [
-    | inl x ↦ (let b = byte_found (λ b. b == lf) (slice_get t k) x.0 in let l = slice_get_within t k b.0 b.1 in let f = x.1 in omega arith)
-    | inr x ↦ (let b = byte_found (λ b. b == lf) (slice_get t (k + 1)) x.1 in let l = slice_get_within t (k + 1) b.0 b.1 in let f = x.2 in omega arith)
+    | inl x ↦ (let b = byte_found (λ b. b == lf) (slice_get t k) x.0 in let l = slice_get_within t k b.0 b.1 in
+          let f = x.1 in omega arith)
+    | inr x ↦ (let b = byte_found (λ b. b == lf) (slice_get t (k + 1)) x.1 in
+          let l = slice_get_within t (k + 1) b.0 b.1 in let f = x.2 in omega arith)
   ]
 
   pub line_in_text : (i j : ℕ) → i ≤ length t → IsLine t i j → j ≤ length t
-  line_in_text i j l x = elim x.eol [ inl e ↦ eol_inside x.end j e | inr e ↦ (let f = line_none i x.end l x.stretch e.0 in let g = e.1 in omega arith) ]
+  line_in_text i j l x =
+      elim x.eol [ inl e ↦ eol_inside x.end j e
+        | inr e ↦ (let f = line_none i x.end l x.stretch e.0 in let g = e.1 in omega arith) ]
 
   eol_onward : (k j : ℕ) → (after_eol t k ≡ Some j) ⊎ ((after_eol t k ≡ None) × (j ≡ k)) → k ≤ j
   eol_onward k j (inl e) = let f = eol_forward t k j e in omega arith
@@ -119,10 +136,12 @@ module _ (t : List ℕ) where
   line_onward i j x = eol_onward x.end j x.eol
 
   -- each LF of a line ends it
-  lf_ends : (k j m : ℕ) → (after_eol t k ≡ Some j) ⊎ ((after_eol t k ≡ None) × (j ≡ k)) → k ≤ m → m + 1 < j → has_byte t lf m ≡ false
+  lf_ends : (k j m : ℕ) → (after_eol t k ≡ Some j) ⊎ ((after_eol t k ≡ None) × (j ≡ k)) → k ≤ m → m + 1 < j →
+      has_byte t lf m ≡ false
   lf_ends k j m (inl e) a b = elim (eol_cases t k j e) [
     | inl x ↦ absurd (omega arith)
-    | inr x ↦ (let same : k ≡ m = omega arith in subst (λ m. has_byte t lf m ≡ false) same (cr_no_lf (slice_get t k) x.0))
+    | inr x ↦ (let same : k ≡ m = omega arith in
+          subst (λ m. has_byte t lf m ≡ false) same (cr_no_lf (slice_get t k) x.0))
   ]
   lf_ends k j m (inr e) a b = let f = e.1 in absurd (omega arith)
 
@@ -130,7 +149,10 @@ module _ (t : List ℕ) where
   pub no_start : (i j k : ℕ) → IsLine t i j → i < k → k < j → starts_line t k ≡ false
   no_start i j zero x a b = absurd (omega arith)
   no_start i j (suc m) x a b =
-      let none : has_byte t lf m ≡ false = elim (split_at t m x.end) [ inl l ↦ place_no_lf m (x.stretch.each m (omega arith) l) | inr l ↦ lf_ends x.end j m x.eol l (omega arith) ] in
+      let none : has_byte t lf m ≡ false =
+          elim (split_at t m x.end)
+            [ inl l ↦ place_no_lf m (x.stretch.each m (omega arith) l)
+            | inr l ↦ lf_ends x.end j m x.eol l (omega arith) ] in
       let same : m ≡ suc m - 1 = omega arith in
       or_false (suc m == 0) (has_byte t lf (suc m - 1)) (not_zero m) (subst (λ k. has_byte t lf k ≡ false) same none)
 
@@ -142,10 +164,12 @@ module _ (t : List ℕ) where
   token_read b i j (goes_on (chosen (second e given)) (first f given)) = cc
   token_read b i j (goes_on (chosen (second e given)) (second f x)) = elim x [ ]
 
-  joined_stretch : (test : ℕ → Bool) (i m k : ℕ) → i ≤ m → ((n : ℕ) → i ≤ n → n < m → test n ≡ true) → Stretch test m k → Stretch test i k
+  joined_stretch : (test : ℕ → Bool) (i m k : ℕ) → i ≤ m → ((n : ℕ) → i ≤ n → n < m → test n ≡ true) →
+      Stretch test m k → Stretch test i k
   joined_stretch test i m k l f s =
       let forward = s.forward in
-      record { forward = omega arith; each = λ n a b. elim (split_at t n m) [ inl x ↦ f n a x | inr x ↦ s.each n x b ]; longest = s.longest }
+      record { forward = omega arith; each = λ n a b. elim (split_at t n m) [ inl x ↦ f n a x | inr x ↦ s.each n x b ];
+            longest = s.longest }
 
   abbrev Eol : ℕ → ℕ → Type 0
   Eol k j = (after_eol t k ≡ Some j) ⊎ ((after_eol t k ≡ None) × (j ≡ k))
@@ -167,24 +191,34 @@ module _ (t : List ℕ) where
   line_place o e b f g = rw (f, g)
 
   none_eol : (k : ℕ) → slice_get t k ≡ None → after_eol t k ≡ None
-  none_eol k e = no_lf_eol (has_byte t lf k) (has_byte t cr k) (has_byte t lf (k + 1)) k (none_holds (λ b. b == lf) (slice_get t k) e) (none_holds (λ b. b == cr) (slice_get t k) e)
+  none_eol k e =
+      no_lf_eol (has_byte t lf k) (has_byte t cr k) (has_byte t lf (k + 1)) k
+        (none_holds (λ b. b == lf) (slice_get t k) e) (none_holds (λ b. b == cr) (slice_get t k) e)
 
-  text_line : (i k j : ℕ) (span : Span) (b : ℕ) (eol : Bool) → has_eol t i ≡ eol → slice_get t i ≡ Some b → comment_text t eol i (Read span k) → Eol k j → IsLine t i j
-  text_line i k j span b true e f (goes_on at_place (goes_on at_place given)) g = record { end = i; stretch = empty_stretch i (eol_place (slice_get t i) (has_eol t i) e); eol = g }
-  text_line i k j span b false e f (goes_on {j = m} x (goes_on at_place (goes_on (passed s) (goes_on at_place given)))) g =
+  text_line : (i k j : ℕ) (span : Span) (b : ℕ) (eol : Bool) → has_eol t i ≡ eol → slice_get t i ≡ Some b →
+      comment_text t eol i (Read span k) → Eol k j → IsLine t i j
+  text_line i k j span b true e f (goes_on at_place (goes_on at_place given)) g =
+      record { end = i; stretch = empty_stretch i (eol_place (slice_get t i) (has_eol t i) e); eol = g }
+  text_line i k j span b false e f (goes_on {j = m} x (goes_on at_place (goes_on (passed s) (goes_on at_place given))))
+      g =
       let by = token_read 32 i m x in
       let on = by.1 in
       record {
         end = k;
         stretch = joined_stretch (is_line_place t) i m k (omega arith)
-            (λ n a c. (let same : i ≡ n = omega arith in subst (λ n. is_line_place t n ≡ true) same (line_place (slice_get t i) (has_eol t i) b f e))) s;
+            (λ n a c. (let same : i ≡ n = omega arith in
+                    subst (λ n. is_line_place t n ≡ true) same (line_place (slice_get t i) (has_eol t i) b f e))) s;
         eol = g;
       }
 
   -- what a comment line has after its hashes is the rest of a line
-  rest_line : (i j : ℕ) (content : List Span) (o : Option ℕ) → slice_get t i ≡ o → comment_rest t o i (Read content j) → IsLine t i j
-  rest_line i j content None e given = record { end = i; stretch = empty_stretch i (none_place (slice_get t i) (has_eol t i) e); eol = inr (none_eol i e, refl) }
-  rest_line i j content (Some b) e (goes_on {j = k} {a = span} (chosen x) (goes_on y given)) = text_line i k j span b (has_eol t i) refl e x (eol_read k j y)
+  rest_line : (i j : ℕ) (content : List Span) (o : Option ℕ) → slice_get t i ≡ o → comment_rest t o i (Read content j) →
+      IsLine t i j
+  rest_line i j content None e given =
+      record { end = i; stretch = empty_stretch i (none_place (slice_get t i) (has_eol t i) e);
+        eol = inr (none_eol i e, refl) }
+  rest_line i j content (Some b) e (goes_on {j = k} {a = span} (chosen x) (goes_on y given)) =
+      text_line i k j span b (has_eol t i) refl e x (eol_read k j y)
 
 hash_line : (b : ℕ) → (b == 35) ≡ true → (b == lf) ≡ false
 hash_line b e = grind (arith, nat_tests)
@@ -202,13 +236,17 @@ module _ (t : List ℕ) where
   hash_place : (k : ℕ) → has_byte t 35 k ≡ true → is_line_place t k ≡ true
   hash_place k e =
       let b = byte_found (λ c. c == 35) (slice_get t k) e in
-      line_place t (slice_get t k) (has_eol t k) b.0 b.1 (no_line_end (has_byte t lf k) (has_byte t cr k) (has_byte t lf (k + 1))
-      (excludes (λ c. c == 35) (λ c. c == lf) (slice_get t k) hash_line e) (excludes (λ c. c == 35) (λ c. c == cr) (slice_get t k) hash_no_cr e))
+      line_place t (slice_get t k) (has_eol t k) b.0 b.1
+          (no_line_end (has_byte t lf k) (has_byte t cr k) (has_byte t lf (k + 1))
+      (excludes (λ c. c == 35) (λ c. c == lf) (slice_get t k) hash_line e)
+          (excludes (λ c. c == 35) (λ c. c == cr) (slice_get t k) hash_no_cr e))
 
-  hash_bytes_of : (i k : ℕ) (a b c : Bool) → has_byte t 35 i ≡ a → has_byte t 35 (i + 1) ≡ b → has_byte t 35 (i + 2) ≡ c → i ≤ k →
+  hash_bytes_of : (i k : ℕ) (a b c : Bool) → has_byte t 35 i ≡ a → has_byte t 35 (i + 1) ≡ b →
+      has_byte t 35 (i + 2) ≡ c → i ≤ k →
       k < i + (if not a then 0 else if not b then 1 else if not c then 2 else 3) → has_byte t 35 k ≡ true
   hash_bytes_of i k false b c e f g l m = absurd (omega arith)
-  hash_bytes_of i k true false c e f g l m = let same : i ≡ k = omega arith in subst (λ k. has_byte t 35 k ≡ true) same e
+  hash_bytes_of i k true false c e f g l m = let same : i ≡ k = omega arith in
+      subst (λ k. has_byte t 35 k ≡ true) same e
   hash_bytes_of i k true true false e f g l m = elim (three i k l (omega arith)) [
     | inl x ↦ subst (λ k. has_byte t 35 k ≡ true) x e
     | inr (inl x) ↦ subst (λ k. has_byte t 35 k ≡ true) x f
@@ -221,18 +259,22 @@ module _ (t : List ℕ) where
   ]
 
   pub hash_bytes : (i k : ℕ) → i ≤ k → k < i + hashes t i → has_byte t 35 k ≡ true
-  hash_bytes i k l m = hash_bytes_of i k (has_byte t 35 i) (has_byte t 35 (i + 1)) (has_byte t 35 (i + 2)) refl refl refl l m
+  hash_bytes i k l m =
+      hash_bytes_of i k (has_byte t 35 i) (has_byte t 35 (i + 1)) (has_byte t 35 (i + 2)) refl refl refl l m
 
   -- where hashes stand, a line goes on
   hashes_line : (i j : ℕ) → IsLine t (i + hashes t i) j → IsLine t i j
   hashes_line i j x = record {
     end = x.end;
-    stretch = joined_stretch t (is_line_place t) i (i + hashes t i) x.end (omega arith) (λ n a b. hash_place n (hash_bytes i n a b)) x.stretch;
+    stretch =
+        joined_stretch t (is_line_place t) i (i + hashes t i) x.end (omega arith)
+          (λ n a b. hash_place n (hash_bytes i n a b)) x.stretch;
     eol = x.eol;
   }
 
   -- a comment line is a whole line
-  pub comment_whole : (level i j : ℕ) (content : List Span) → hashes t i ≡ level → comment_line t level i (Read content j) → IsLine t i j
+  pub comment_whole : (level i j : ℕ) (content : List Span) → hashes t i ≡ level →
+      comment_line t level i (Read content j) → IsLine t i j
   comment_whole level i j content e (goes_on {j = m} (passed w) (chosen x)) =
       let by = w.by in
       let same : m ≡ i + hashes t i = omega arith in
@@ -243,6 +285,7 @@ module _ (t : List ℕ) where
   hashes_onward i j x =
       let on = line_onward t i j x in
       elim (split_at t x.end (i + hashes t i)) [
-        | inl l ↦ absurd (false≢true (sym x.stretch.longest ∙ hash_place x.end (hash_bytes i x.end x.stretch.forward l)))
+        | inl l ↦ absurd
+            (false≢true (sym x.stretch.longest ∙ hash_place x.end (hash_bytes i x.end x.stretch.forward l)))
         | inr l ↦ omega arith
       ]

@@ -52,14 +52,16 @@ module _ (t : List ℕ) where
     blank t
 
 module _ (t : List ℕ) (R : Family) where
-  -- Arguments: a blank, and where `(` follows, that, a blank, and the list with its `)`. Else there are none, and the blank stays passed.
+  -- Arguments: a blank, and where `(` follows, that, a blank, and the list with its `)`. Else there are none, and the
+  -- blank stays passed.
   abbrev pub call_arguments : Construct (MaybeArguments Span)
   call_arguments = do
     blank t
     bracket ← optional t left_parenthesis
     either bracket (blank t >> R.more_arguments [] >>= λ a. gives (some_arguments a)) (gives no_arguments)
 
-  -- The value of a named argument, by its start: a string, a number without `-`, a function or a message reference. No other start is taken.
+  -- The value of a named argument, by its start: a string, a number without `-`, a function or a message reference. No
+  -- other start is taken.
   abbrev pub argument_value : Start → Construct (InlineTree Span)
   argument_value quote = R.inline_expression
   argument_value digit = R.inline_expression
@@ -70,9 +72,11 @@ module _ (t : List ℕ) (R : Family) where
   argument_value brace = fails ExpectedLiteral
   argument_value other = fails ExpectedLiteral
 
-  -- From the `:` of a named argument on: a name that was used is refused there. Else `:`, a blank, the value, and the rest of the list.
+  -- From the `:` of a named argument on: a name that was used is refused there. Else `:`, a blank, the value, and the
+  -- rest of the list.
   abbrev pub named_and_more : List (List ℕ) → Span → Construct (ArgumentsTree Span)
-  named_and_more names name = either (is_used (bytes_at t name) names) (fails (DuplicatedNamedArgument (bytes_at t name))) (do
+  named_and_more names name =
+      either (is_used (bytes_at t name) names) (fails (DuplicatedNamedArgument (bytes_at t name))) (do
     token t colon
     blank t
     e ← at_each (start t) argument_value
@@ -88,8 +92,10 @@ module _ (t : List ℕ) (R : Family) where
     gives (add_positional e a)
   positional_and_more (name ∷ names) e = fails PositionalArgumentFollowsNamed
 
-  -- From the end of an argument's expression on: a message reference without attribute that `:` follows is the name of a named argument.
-  abbrev pub argument_and_more : List (List ℕ) → InlineTree Span → (name : Option Span) → (is_named : Bool) → Construct (ArgumentsTree Span)
+  -- From the end of an argument's expression on: a message reference without attribute that `:` follows is the name of
+  -- a named argument.
+  abbrev pub argument_and_more : List (List ℕ) → InlineTree Span → (name : Option Span) → (is_named : Bool) →
+      Construct (ArgumentsTree Span)
   argument_and_more names e (Some name) true = named_and_more names name
   argument_and_more names e (Some name) false = positional_and_more names e
   argument_and_more names e None is_named = positional_and_more names e
@@ -97,7 +103,8 @@ module _ (t : List ℕ) (R : Family) where
   -- the rest of an argument list by the byte there: `)` ends it
   abbrev pub more_arguments_at : List (List ℕ) → Option ℕ → Construct (ArgumentsTree Span)
   more_arguments_at names None = fails (ExpectedToken right_parenthesis)
-  more_arguments_at names (Some b) = either (b == right_parenthesis) (token t right_parenthesis >> gives (arguments no_inlines no_named)) (do
+  more_arguments_at names (Some b) =
+      either (b == right_parenthesis) (token t right_parenthesis >> gives (arguments no_inlines no_named)) (do
     e ← R.inline_expression
     is_named ← at_each (has_byte t colon) gives
     argument_and_more names e (argument_name e) is_named)

@@ -18,7 +18,8 @@ hung content (term m) = Some (term (record m { comment = Some content }))
 hung content (comment level c) = None
 hung content (junk s) = None
 
--- What two tiles give together: a comment of level 1 becomes the comment of a message or a term whose tile begins where the comment's tile ends.
+-- What two tiles give together: a comment of level 1 becomes the comment of a message or a term whose tile begins where
+-- the comment's tile ends.
 abbrev pub hangs : Tile → Tile → Option (EntryTree Span)
 hangs (entry s (comment regular content)) (entry r e) = if s.end == r.start then hung content e else None
 hangs x y = None
@@ -29,7 +30,8 @@ alone (entry s e) = e ∷ []
 alone (refused f) = junk f.slice ∷ []
 alone dropped = []
 
--- Two tiles that give an entry together, and what the tiles after them give; or what the first gives alone, and what the others give.
+-- Two tiles that give an entry together, and what the tiles after them give; or what the first gives alone, and what
+-- the others give.
 abbrev pub joined : Option (EntryTree Span) → (first others after : List (EntryTree Span)) → List (EntryTree Span)
 joined None first others after = first ++ others
 joined (Some e) first others after = e ∷ after

@@ -21,7 +21,8 @@ module _ (t : List ℕ) where
       else if not (has_byte t hash (i + 2)) then 2
       else 3
 
-  -- After its hashes, by whether a line end follows: the empty line; else a space, and the line's text up to a line end or the text's end.
+  -- After its hashes, by whether a line end follows: the empty line; else a space, and the line's text up to a line end
+  -- or the text's end.
   abbrev pub comment_text : (eol : Bool) → Construct Span
   comment_text true = here >>= λ i. spanned i
   comment_text false = token t space >> rest_of_line t
@@ -41,8 +42,10 @@ module _ (t : List ℕ) where
   -- The longest run of comment lines of one level. A line that is none ends the comment before it.
   pub data comment_lines (level : ℕ) : ℕ → Outcome (List Span) → Type 0 where
     other_level : {i : ℕ} → hashes i ≢ level → comment_lines level i (Read [] i)
-    no_comment_line : {i from to : ℕ} {k : Kind} → hashes i ≡ level → comment_line level i (Refused k from to) → comment_lines level i (Read [] i)
-    one_more : {i j end : ℕ} {content rest : List Span} → hashes i ≡ level → comment_line level i (Read content j) → comment_lines level j (Read rest end) → comment_lines level i (Read (content ++ rest) end)
+    no_comment_line : {i from to : ℕ} {k : Kind} → hashes i ≡ level → comment_line level i (Refused k from to) →
+        comment_lines level i (Read [] i)
+    one_more : {i j end : ℕ} {content rest : List Span} → hashes i ≡ level → comment_line level i (Read content j) →
+        comment_lines level j (Read rest end) → comment_lines level i (Read (content ++ rest) end)
 
   -- a comment with that many hashes: its first line, which has to be one, and the others
   abbrev pub comment_of : ℕ → Construct (EntryTree Span)

@@ -3,7 +3,8 @@
 use Rattle.std.specs.Prelude.{◌≡◌, ℕ, ◌+◌, Bool, true, false}
 use Rattle.fluent_syntax_tree.specs.Kind.{Kind}
 
--- It is read and spells a value, and ends at the place; or it is refused, for a kind of fault, from the one place to the other.
+-- It is read and spells a value, and ends at the place; or it is refused, for a kind of fault, from the one place to
+-- the other.
 pub data Outcome (A : Type 0) : Type 0 where
   Read : A → (end : ℕ) → Outcome A
   Refused : Kind → (from to : ℕ) → Outcome A

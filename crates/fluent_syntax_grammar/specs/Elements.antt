@@ -16,8 +16,8 @@ pub data Item : Type 0 where
 
 -- ---- line by line
 
--- The pieces of a line and its ending. An ending LF joins the run directly before it, and is a text of its own after a placeable;
--- an ending CRLF is a text of its own that is one LF.
+-- The pieces of a line and its ending. An ending LF joins the run directly before it, and is a text of its own after a
+-- placeable; an ending CRLF is a text of its own that is one LF.
 abbrev pub with_ending : List Piece → Ending → List Item
 with_ending [] (lf_at p) = text p (p + 1) ∷ []
 with_ending [] (crlf_at p) = text (p + 1) (p + 2) ∷ []
@@ -28,18 +28,21 @@ with_ending (run from to ∷ []) text_end = text from to ∷ []
 with_ending (run from to ∷ p ∷ ps) ending = text from to ∷ with_ending (p ∷ ps) ending
 with_ending (placed e ∷ ps) ending = filled e ∷ with_ending ps ending
 
--- Where the leading spaces of a line beyond the common indent begin. Where there is no common indent, none are beyond it.
+-- Where the leading spaces of a line beyond the common indent begin. Where there is no common indent, none are beyond
+-- it.
 abbrev pub kept_from : Option ℕ → Line → ℕ
 kept_from None l = l.start + l.spaces
 kept_from (Some common) l = l.start + min l.spaces common
 
--- Leading spaces before a placeable are dropped. In edition two those beyond the common indent, if there are any, are a text.
+-- Leading spaces before a placeable are dropped. In edition two those beyond the common indent, if there are any, are a
+-- text.
 abbrev pub indented : Edition → (kept first : ℕ) → List Item
 indented One kept first = []
 indented Two kept first = if nat_lt kept first then text kept first ∷ [] else []
 
--- The items of a line that is not the opening line; its leading spaces beyond the common indent reach from the one place to the other.
--- A run that begins the line is one text with these spaces. A blank line with LF gives them and the LF as one text, one with CRLF the LF alone.
+-- The items of a line that is not the opening line; its leading spaces beyond the common indent reach from the one
+-- place to the other. A run that begins the line is one text with these spaces. A blank line with LF gives them and the
+-- LF as one text, one with CRLF the LF alone.
 abbrev pub items_from : Edition → (kept first : ℕ) → List Piece → Ending → List Item
 items_from edition kept first [] (lf_at p) = text kept (p + 1) ∷ []
 items_from edition kept first [] (crlf_at p) = text (p + 1) (p + 2) ∷ []

@@ -17,15 +17,20 @@ attribute_with id None = fails MissingValue
 attribute_with id (Some value) = gives (record { id = id; value = value })
 
 -- A message with neither pattern nor attribute is refused, from its start up to where its list of attributes ended.
-abbrev pub message_with : List ℕ → (start : ℕ) → Span → Option (PatternTree Span) → List (AttributeTree Span) → Construct (EntryTree Span)
+abbrev pub message_with : List ℕ → (start : ℕ) → Span → Option (PatternTree Span) → List (AttributeTree Span) →
+    Construct (EntryTree Span)
 message_with t start id None [] = fails_from (ExpectedMessageField (bytes_at t id)) start
-message_with t start id None (a ∷ rest) = gives (message (record { id = id; value = None; attributes = a ∷ rest; comment = None }))
-message_with t start id (Some value) rest = gives (message (record { id = id; value = Some value; attributes = rest; comment = None }))
+message_with t start id None (a ∷ rest) =
+    gives (message (record { id = id; value = None; attributes = a ∷ rest; comment = None }))
+message_with t start id (Some value) rest =
+    gives (message (record { id = id; value = Some value; attributes = rest; comment = None }))
 
 -- A term without pattern is refused, from its start up to where its list of attributes ended.
-abbrev pub term_with : List ℕ → (start : ℕ) → Span → Option (PatternTree Span) → List (AttributeTree Span) → Construct (EntryTree Span)
+abbrev pub term_with : List ℕ → (start : ℕ) → Span → Option (PatternTree Span) → List (AttributeTree Span) →
+    Construct (EntryTree Span)
 term_with t start id None rest = fails_from (ExpectedTermField (bytes_at t id)) start
-term_with t start id (Some value) rest = gives (term (record { id = id; value = value; attributes = rest; comment = None }))
+term_with t start id (Some value) rest =
+    gives (term (record { id = id; value = value; attributes = rest; comment = None }))
 
 module _ (edition : Edition) (t : List ℕ) where
   -- Attribute: an inline blank, `.`, identifier, inline blank, `=`, pattern.
@@ -39,11 +44,12 @@ module _ (edition : Edition) (t : List ℕ) where
     value ← pattern edition t
     attribute_with id value
 
-  -- The longest list of attributes that are read one after the other. One that is refused ends the list without an error,
-  -- at the place where it would begin.
+  -- The longest list of attributes that are read one after the other. One that is refused ends the list without an
+  -- error, at the place where it would begin.
   pub data attributes : ℕ → Outcome (List (AttributeTree Span)) → Type 0 where
     no_more : {i from to : ℕ} {k : Kind} → attribute i (Refused k from to) → attributes i (Read [] i)
-    one_more : {i j end : ℕ} {a : AttributeTree Span} {rest : List (AttributeTree Span)} → attribute i (Read a j) → attributes j (Read rest end) → attributes i (Read (a ∷ rest) end)
+    one_more : {i j end : ℕ} {a : AttributeTree Span} {rest : List (AttributeTree Span)} → attribute i (Read a j) →
+        attributes j (Read rest end) → attributes i (Read (a ∷ rest) end)
 
   -- Message: identifier, inline blank, `=`, an optional pattern, blank block, attributes.
   abbrev pub message_entry : Construct (EntryTree Span)

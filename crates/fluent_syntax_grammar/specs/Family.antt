@@ -5,8 +5,9 @@ use Rattle.fluent_syntax_grammar.specs.Construct.{Construct}
 use Rattle.fluent_syntax_grammar.specs.Layout.{Piece, Line}
 use Rattle.fluent_syntax_tree.specs.declared.spans.Span.{Span}
 
--- An expression holds arguments, variants and patterns, and these hold expressions. Each rule of such a construct is written over a family R
--- that reads what the construct holds; the grammar is the family that the rules make of themselves.
+-- An expression holds arguments, variants and patterns, and these hold expressions. Each rule of such a construct is
+-- written over a family R that reads what the construct holds; the grammar is the family that the rules make of
+-- themselves.
 pub record Family : Type 1 where
   pub inline_expression : Construct (InlineTree Span)
   -- the rest of an argument list, after named arguments of these names

@@ -35,7 +35,8 @@ module _ (edition : Edition) (t : List ℕ) where
   }
   within (suc n) = next (within n)
 
-  -- The constructs that nest to any depth. There is no limit: each text that is read or refused is so within some number.
+  -- The constructs that nest to any depth. There is no limit: each text that is read or refused is so within some
+  -- number.
   unfoldable pub family : Family
   family = record {
     inline_expression = λ i o. (n : ℕ) × (within n).inline_expression i o;

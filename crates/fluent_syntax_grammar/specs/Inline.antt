@@ -21,7 +21,8 @@ is_callee_byte b = is_capital b || is_digit b || b == underscore || b == hyphen
 -- After a name and its arguments: with arguments a function reference, whose name holds only callee bytes; without them
 -- a message reference, which has an attribute where `.` follows.
 abbrev pub named_reference : List ℕ → Span → MaybeArguments Span → Construct (InlineTree Span)
-named_reference t id (some_arguments a) = either (list_all is_callee_byte (bytes_at t id)) (gives (function_reference id a)) (fails ForbiddenCallee)
+named_reference t id (some_arguments a) =
+    either (list_all is_callee_byte (bytes_at t id)) (gives (function_reference id a)) (fails ForbiddenCallee)
 named_reference t id no_arguments = accessor t >>= λ a. gives (message_reference id a)
 
 module _ (t : List ℕ) (R : Family) where

@@ -20,8 +20,8 @@ use Rattle.fluent_syntax_grammar.specs.Meaning.{kind_means}
 use Rattle.fluent_syntax_tree.specs.declared.edition.Edition.{Edition}
 use Rattle.fluent_syntax_tree.specs.declared.spans.Span.{Span}
 
--- At each place the construct has at most one outcome: it is read in at most one way, with one end and one value, and never both
--- read and refused; and a refusal has one kind and one place.
+-- At each place the construct has at most one outcome: it is read in at most one way, with one end and one value, and
+-- never both read and refused; and a refusal has one kind and one place.
 pub record IsFunctional {A : Type 0} (c : Construct A) : Type 0 where
   pub same : (i : ℕ) (o p : Outcome A) → c i o → c i p → o ≡ p
 
@@ -55,11 +55,13 @@ messages_and_terms = flat_map named
 abbrev pub FaultMeans : List ℕ → Fault → Type 0
 FaultMeans t f = kind_means t f.kind f.pos.start
 
--- The stretches of the errors are nonempty and ascend, disjoint, from the place on to the text's end, and each error lies at its stretch.
+-- The stretches of the errors are nonempty and ascend, disjoint, from the place on to the text's end, and each error
+-- lies at its stretch.
 abbrev pub Ascend : List ℕ → ℕ → List Fault → Type 0
 Ascend t from [] = from ≤ length t
 Ascend t from (f ∷ fs) =
-    (from ≤ f.slice.start) × (f.slice.start < f.slice.end) × (f.slice.start ≤ f.pos.start) × (f.pos.start ≤ f.slice.end) × Ascend t f.slice.end fs
+    (from ≤ f.slice.start) × (f.slice.start < f.slice.end) × (f.slice.start ≤ f.pos.start) ×
+        (f.pos.start ≤ f.slice.end) × Ascend t f.slice.end fs
 
 -- the stretches of a body's junk, in order
 abbrev pub junk_slice : EntryTree Span → List Span
@@ -73,8 +75,8 @@ abbrev pub fault_slice : Fault → Span
 fault_slice f = f.slice
 
 module _ (edition : Edition) (t : List ℕ) where
-  -- Each construct of the grammar has at most one outcome at a place: entries, what they are made of, and the parts of these down to
-  -- bytes and blanks.
+  -- Each construct of the grammar has at most one outcome at a place: entries, what they are made of, and the parts of
+  -- these down to bytes and blanks.
   pub record OneReading : Type 0 where
     pub token : (byte : ℕ) → IsFunctional (words.token t byte)
     pub inline_blank : IsFunctional (words.inline_blank t)
@@ -136,11 +138,14 @@ module _ (edition : Edition) (t : List ℕ) where
 
   -- there are as many errors as junk entries, in the same order, and each has its junk's stretch
   abbrev pub JunkOfErrors : Type 0
-  JunkOfErrors = (tiles : List Tile) → Tiling edition t tiles → flat_map junk_slice (body tiles) ≡ map fault_slice (faults tiles)
+  JunkOfErrors =
+      (tiles : List Tile) → Tiling edition t tiles → flat_map junk_slice (body tiles) ≡ map fault_slice (faults tiles)
 
   -- the same, without comments
   abbrev pub RuntimeJunkOfErrors : Type 0
-  RuntimeJunkOfErrors = (tiles : List Tile) → RuntimeTiling edition t tiles → flat_map junk_slice (body tiles) ≡ map fault_slice (faults tiles)
+  RuntimeJunkOfErrors =
+      (tiles : List Tile) → RuntimeTiling edition t tiles →
+      flat_map junk_slice (body tiles) ≡ map fault_slice (faults tiles)
 
   -- the stretches of the errors ascend, and each error lies at its own
   abbrev pub ErrorsAscend : Type 0
@@ -156,7 +161,8 @@ module _ (edition : Edition) (t : List ℕ) where
 
   -- the same, without comments
   abbrev pub RuntimeBodyInText : Type 0
-  RuntimeBodyInText = (tiles : List Tile) → IsUtf8 t → RuntimeTiling edition t tiles → body_every (IsPart t) (body tiles)
+  RuntimeBodyInText =
+      (tiles : List Tile) → IsUtf8 t → RuntimeTiling edition t tiles → body_every (IsPart t) (body tiles)
 
   -- the tiling without comments gives no comment, and hangs none, also where it has errors
   abbrev pub HasNoComments : Type 0

@@ -35,8 +35,8 @@ pub record Layout : Type 0 where
 
 -- ---- the common indent
 
--- The leading spaces that a line counts with, by what it begins with: a run counts; a placeable counts at column 0, and in edition two anywhere;
--- a blank line does not count.
+-- The leading spaces that a line counts with, by what it begins with: a run counts; a placeable counts at column 0, and
+-- in edition two anywhere; a blank line does not count.
 abbrev pub counted_spaces : Edition → (spaces : ℕ) → List Piece → List ℕ
 counted_spaces edition spaces [] = []
 counted_spaces edition spaces (run from to ∷ ps) = spaces ∷ []

@@ -28,12 +28,13 @@ module _ (t : List ℕ) where
   -- Whether a line belongs to a pattern, by what stands after its leading spaces, if it has some. A blank line does.
   -- With leading spaces: any byte but `.`, `}`, `[` and `*`. Without: `{`, or a CR that begins no line end.
   abbrev pub belongs : (indented : Bool) → ℕ → Bool
-  belongs true i = has_eol t i || has t (λ b. not (b == full_stop || b == right_brace || b == left_bracket || b == asterisk)) i
+  belongs true i =
+      has_eol t i || has t (λ b. not (b == full_stop || b == right_brace || b == left_bracket || b == asterisk)) i
   belongs false i = has_eol t i || has_byte t left_brace i || has_byte t cr i
 
 module _ (t : List ℕ) (R : Family) where
-  -- The rest of a line by the byte there. It ends before a line end and at the text's end; `}` is refused; `{` begins a placeable;
-  -- any other byte begins a run, which reaches to the next of these.
+  -- The rest of a line by the byte there. It ends before a line end and at the text's end; `}` is refused; `{` begins a
+  -- placeable; any other byte begins a run, which reaches to the next of these.
   abbrev pub pieces_at : Option ℕ → Construct (List Piece)
   pieces_at None = gives []
   pieces_at (Some b) =
@@ -70,9 +71,11 @@ module _ (t : List ℕ) (R : Family) where
     ls ← R.more_lines
     gives (l ∷ ls)
 
-  -- The lines that belong to a pattern, from a line's start on. They stop at the start of the first line that does not belong.
-  -- Spaces alone at the text's end are passed over and give nothing.
+  -- The lines that belong to a pattern, from a line's start on. They stop at the start of the first line that does not
+  -- belong. Spaces alone at the text's end are passed over and give nothing.
   pub data more_lines : ℕ → Outcome (List Line) → Type 0 where
     no_byte : {i k : ℕ} → InlineBlank t i k → slice_get t k ≡ None → more_lines i (Read [] k)
-    other_line : {i k b : ℕ} → InlineBlank t i k → slice_get t k ≡ Some b → belongs t (nat_lt i k) k ≡ false → more_lines i (Read [] i)
-    own_line : {i k b : ℕ} {o : Outcome (List Line)} → InlineBlank t i k → slice_get t k ≡ Some b → belongs t (nat_lt i k) k ≡ true → line_and_more i o → more_lines i o
+    other_line : {i k b : ℕ} → InlineBlank t i k → slice_get t k ≡ Some b → belongs t (nat_lt i k) k ≡ false →
+        more_lines i (Read [] i)
+    own_line : {i k b : ℕ} {o : Outcome (List Line)} → InlineBlank t i k → slice_get t k ≡ Some b →
+        belongs t (nat_lt i k) k ≡ true → line_and_more i o → more_lines i o

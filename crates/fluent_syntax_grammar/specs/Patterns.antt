@@ -12,8 +12,9 @@ use Rattle.fluent_syntax_tree.specs.declared.spans.Span.{Span}
 use Rattle.fluent_syntax_tree.specs.declared.edition.Edition.{Edition}
 
 module _ (t : List ℕ) (R : Family) where
-  -- The layout, after the inline blank that opens it. If a line end follows, it and the blank block after it are dropped, and there is
-  -- no opening line; otherwise what follows on this line is the opening line, which has no leading spaces.
+  -- The layout, after the inline blank that opens it. If a line end follows, it and the blank block after it are
+  -- dropped, and there is no opening line; otherwise what follows on this line is the opening line, which has no
+  -- leading spaces.
   abbrev pub layout_at : Option ℕ → Construct Layout
   layout_at (Some k) = do
     over (Reaches k)

@@ -1,5 +1,5 @@
--- Places of a text, longest words, line ends and blanks.
--- A text is its list of bytes. A place is a number: 0 is before the first byte, and the text's length is after the last one.
+-- Places of a text, longest words, line ends and blanks. A text is its list of bytes. A place is a number: 0 is before
+-- the first byte, and the text's length is after the last one.
 use Rattle.std.specs.Prelude.{◌≡◌, ℕ, ◌+◌, ◌-◌, ◌<◌, ◌≤◌, List, slice_get, Option, Some, None, Bool, true, false, ◌&&◌, ◌||◌, ◌==◌, not, is_some, if◌then◌else◌}
 use Rattle.fluent_syntax_grammar.specs.Bytes.{lf, cr, space, is_space}
 
@@ -35,7 +35,8 @@ module _ (t : List ℕ) where
   abbrev pub Word : (ℕ → Bool) → ℕ → ℕ → Type 0
   Word set = Stretch (has set)
 
-  -- Where a line end that begins at the place ends. A line end is LF, or CR followed by LF; a CR elsewhere is an ordinary byte.
+  -- Where a line end that begins at the place ends. A line end is LF, or CR followed by LF; a CR elsewhere is an
+  -- ordinary byte.
   abbrev pub after_eol : ℕ → Option ℕ
   after_eol i =
       if has_byte lf i then Some (i + 1)
@@ -66,7 +67,8 @@ module _ (t : List ℕ) where
   abbrev pub starts_line : ℕ → Bool
   starts_line i = i == 0 || has_byte lf (i - 1)
 
--- Blank block: the longest run of whole lines that are spaces, perhaps none, and a line end. Spaces that no line end follows are not in it.
+-- Blank block: the longest run of whole lines that are spaces, perhaps none, and a line end. Spaces that no line end
+-- follows are not in it.
 pub data BlankBlock (t : List ℕ) : ℕ → ℕ → Type 0 where
   no_line : {i k : ℕ} → InlineBlank t i k → after_eol t k ≡ None → BlankBlock t i i
   line : {i k m j : ℕ} → InlineBlank t i k → after_eol t k ≡ Some m → BlankBlock t m j → BlankBlock t i j

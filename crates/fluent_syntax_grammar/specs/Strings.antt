@@ -10,7 +10,7 @@ use Rattle.fluent_syntax_grammar.specs.Words.{spanned, token}
 use Rattle.fluent_syntax_tree.specs.declared.spans.Span.{Span}
 
 module _ (t : List ℕ) where
-  -- From i to k stand hexadecimal digits: as many of the next w bytes as are some, without a gap.
+  -- From i to k stand hexadecimal digits: w of them, or fewer, and then none stands at k.
   pub record HexDigits (i w k : ℕ) : Type 0 where
     pub forward : i ≤ k
     pub most : k ≤ i + w
@@ -30,10 +30,12 @@ module _ (t : List ℕ) where
   -- the fault carries the digits read and the whole character after them, if there is one.
   pub data hex_digits (w : ℕ) : ℕ → Outcome (Unit {0}) → Type 0 where
     all_there : {i j : ℕ} → HexDigits i w j → j ≡ i + w → hex_digits w i (Read tt j)
-    too_few : {i k to : ℕ} → HexDigits i w k → k < i + w → to ≡ k + 1 → hex_digits w i (Refused (InvalidUnicodeEscapeSequence (slice_range t i (after_character k))) k to)
+    too_few : {i k to : ℕ} → HexDigits i w k → k < i + w → to ≡ k + 1 →
+        hex_digits w i (Refused (InvalidUnicodeEscapeSequence (slice_range t i (after_character k))) k to)
 
-  -- An escape, from its backslash on, by the byte after that: `\\`, `\"`, `\{`, `\u` with 4 and `\U` with 6 hexadecimal digits.
-  -- Before any other byte the backslash is refused, with the byte's decimal number; at the text's end with that of a space.
+  -- An escape, from its backslash on, by the byte after that: `\\`, `\"`, `\{`, `\u` with 4 and `\U` with 6 hexadecimal
+  -- digits. Before any other byte the backslash is refused, with the byte's decimal number; at the text's end with that
+  -- of a space.
   abbrev pub escaped : Option ℕ → Construct (Unit {0})
   escaped None = fails (UnknownEscapeSequence (codes "32"))
   escaped (Some b) =
@@ -53,8 +55,10 @@ module _ (t : List ℕ) where
   -- the units up to the next quote
   pub data string_units : ℕ → Outcome (Unit {0}) → Type 0 where
     before_quote : {i : ℕ} → has_byte t double_quote i ≡ true → string_units i (Read tt i)
-    unit_and_more : {i j : ℕ} {o : Outcome (Unit {0})} → has_byte t double_quote i ≡ false → string_unit (slice_get t i) i (Read tt j) → string_units j o → string_units i o
-    bad_unit : {i from to : ℕ} {k : Kind} → has_byte t double_quote i ≡ false → string_unit (slice_get t i) i (Refused k from to) → string_units i (Refused k from to)
+    unit_and_more : {i j : ℕ} {o : Outcome (Unit {0})} → has_byte t double_quote i ≡ false →
+        string_unit (slice_get t i) i (Read tt j) → string_units j o → string_units i o
+    bad_unit : {i from to : ℕ} {k : Kind} → has_byte t double_quote i ≡ false →
+        string_unit (slice_get t i) i (Refused k from to) → string_units i (Refused k from to)
 
   -- String literal: a quote, units, and a quote. Its value is the text between the quotes as it is spelled.
   abbrev pub string_literal : Construct Span

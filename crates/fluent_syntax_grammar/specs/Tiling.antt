@@ -55,13 +55,15 @@ module _ (t : List ℕ) where
   -- From the place on: a blank block, a tile, a blank block and so on up to the text's end.
   pub data Tiled (at : (i j : ℕ) → Tile → Type 0) : ℕ → List Tile → Type 0 where
     done : {i : ℕ} → BlankBlock t i (length t) → Tiled at i []
-    next : {i start end : ℕ} {tile : Tile} {tiles : List Tile} → BlankBlock t i start → start < length t → at start end tile → Tiled at end tiles → Tiled at i (tile ∷ tiles)
+    next : {i start end : ℕ} {tile : Tile} {tiles : List Tile} → BlankBlock t i start → start < length t →
+        at start end tile → Tiled at end tiles → Tiled at i (tile ∷ tiles)
 
 module _ (edition : Edition) (t : List ℕ) where
   -- an entry, by its first byte: `#` a comment, `-` a term, any other a message
   abbrev pub entry_of : Option ℕ → Construct (EntryTree Span)
   entry_of None = message_entry edition t
-  entry_of (Some b) = either (b == hash) (comment_entry t) (either (b == hyphen) (term_entry edition t) (message_entry edition t))
+  entry_of (Some b) =
+      either (b == hash) (comment_entry t) (either (b == hyphen) (term_entry edition t) (message_entry edition t))
 
   -- Entry: what stands at the place decides its form.
   abbrev pub entry_at : Construct (EntryTree Span)
@@ -70,9 +72,14 @@ module _ (edition : Edition) (t : List ℕ) where
   -- The tile that stands from i to j: the entry that is read there; or, where it is refused, junk that reaches
   -- from there to the first entry start at or after the failing place.
   pub data TileAt : (i j : ℕ) → Tile → Type 0 where
-    reads : {i j : ℕ} {e : EntryTree Span} → entry_at i (Read e j) → TileAt i j (entry (record { start = i; end = j }) e)
+    reads : {i j : ℕ} {e : EntryTree Span} → entry_at i (Read e j) →
+        TileAt i j (entry (record { start = i; end = j }) e)
     refuses : {i j from to : ℕ} {k : Kind} → entry_at i (Refused k from to) → JunkEnd t (failing_place k from to) j →
-        TileAt i j (refused (record { kind = k; pos = record { start = from; end = to }; slice = record { start = i; end = j } }))
+        TileAt i j (refused (record {
+          kind = k;
+          pos = record { start = from; end = to };
+          slice = record { start = i; end = j };
+        }))
 
   -- Without comments: a line that begins with `#` is dropped with its end, malformed or not; other tiles are the same.
   pub data RuntimeTileAt : (i j : ℕ) → Tile → Type 0 where

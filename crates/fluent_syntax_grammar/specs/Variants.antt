@@ -12,7 +12,8 @@ use Rattle.fluent_syntax_tree.specs.declared.spans.Span.{Span}
 use Rattle.fluent_syntax_tree.specs.declared.edition.Edition.{Edition}
 use Rattle.fluent_syntax_tree.specs.declared.edition.Edition.TheVariants.{One, Two}
 
--- Whether the list of variants has a default where it ends: one of its variants does, or in edition one a star that no `[` follows stands there.
+-- Whether the list of variants has a default where it ends: one of its variants does, or in edition one a star that no
+-- `[` follows stands there.
 abbrev pub has_default : Edition → (starred star : Bool) → Bool
 has_default One starred star = starred || star
 has_default Two starred star = starred
@@ -23,7 +24,9 @@ is_number_start b = is_digit b || b == hyphen
 
 -- Key: a number where a digit or `-` stands, else an identifier.
 abbrev pub variant_key : List ℕ → Construct (KeyTree Span)
-variant_key t = at_each (has t is_number_start) (λ is_number. either is_number (number t >>= λ v. gives (number_key v)) (identifier t >>= λ v. gives (name_key v)))
+variant_key t = at_each (has t is_number_start) (λ is_number. either is_number
+    (number t >>= λ v. gives (number_key v))
+    (identifier t >>= λ v. gives (name_key v)))
 
 -- A star, where one stood before: refused at the place after it.
 abbrev pub only_star : (starred star : Bool) → Construct (Unit {0})
@@ -31,11 +34,13 @@ only_star starred star = either (starred && star) (fails MultipleDefaultVariants
 
 -- the end of a list of variants, which has to have a default
 abbrev pub variants_end : Edition → (starred star : Bool) → Construct (VariantTrees Span)
-variants_end edition starred star = either (has_default edition starred star) (gives no_variants) (fails MissingDefaultVariant)
+variants_end edition starred star =
+    either (has_default edition starred star) (gives no_variants) (fails MissingDefaultVariant)
 
 module _ (edition : Edition) (t : List ℕ) (R : Family) where
   -- From the end of a variant's pattern on: there has to be one. Then a blank, and the rest of the list.
-  abbrev pub variant_and_more : (starred star : Bool) → KeyTree Span → Option (PatternTree Span) → Construct (VariantTrees Span)
+  abbrev pub variant_and_more : (starred star : Bool) → KeyTree Span → Option (PatternTree Span) →
+      Construct (VariantTrees Span)
   variant_and_more starred star key None = fails MissingValue
   variant_and_more starred star key (Some value) = do
     blank t
@@ -52,7 +57,8 @@ module _ (edition : Edition) (t : List ℕ) (R : Family) where
     value ← pattern edition t R
     variant_and_more starred star key value
 
-  -- The rest of a list of variants: an optional `*`, and where `[` follows a variant and more; else the list ends there.
+  -- The rest of a list of variants: an optional `*`, and where `[` follows a variant and more; else the list ends
+  -- there.
   abbrev pub more_variants : (starred : Bool) → Construct (VariantTrees Span)
   more_variants starred = do
     star ← optional t asterisk

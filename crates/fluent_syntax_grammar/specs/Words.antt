@@ -53,7 +53,9 @@ module _ (t : List ℕ) where
 
   -- the longest run of digits, which is not empty
   abbrev pub digits : Construct (Unit {0})
-  digits = at_each (has t is_digit) (λ found. either found (over (Word t is_digit)) (fails (ExpectedCharRange (codes "0-9"))))
+  digits =
+      at_each (has t is_digit)
+        (λ found. either found (over (Word t is_digit)) (fails (ExpectedCharRange (codes "0-9"))))
 
   -- Identifier: a letter, then the longest run of letters, digits, `-` and `_`.
   abbrev pub identifier : Construct Span

@@ -1,5 +1,5 @@
--- The text that a tree is written as. A tree gives a list of marks: literals, stars and line ends. Marks stand at levels, and only where the
--- list is turned into text do levels become spaces.
+-- The text that a tree is written as. A tree gives a list of marks: literals, stars and line ends. Marks stand at
+-- levels, and only where the list is turned into text do levels become spaces.
 use Rattle.std.specs.Prelude.{ℕ, ◌+◌, ◌-◌, ◌*◌, List, [], ◌∷◌, ◌++◌, replicate, Option, Some, None, Bool, true, false, ◌&&◌, ◌||◌, ◌==◌, not, if◌then◌else◌, codes}
 use Rattle.std.specs.List.{list_any}
 use Rattle.fluent_syntax_grammar.specs.Bytes.{lf, cr, space, asterisk, full_stop, left_bracket}
@@ -36,8 +36,8 @@ indent level = replicate (4 * level) space
 abbrev pub short_indent : ℕ → Text
 short_indent level = replicate (4 * level - 1) space
 
--- A literal that follows an LF, the empty one too, is preceded by the indent of its level. A star takes the place of the last space of that
--- indent. A line end is LF, preceded by one more CR where the text so far ends in CR.
+-- A literal that follows an LF, the empty one too, is preceded by the indent of its level. A star takes the place of
+-- the last space of that indent. A line end is LF, preceded by one more CR where the text so far ends in CR.
 abbrev pub mark_text : Option ℕ → Mark → Text
 mark_text last (literal level bs) = (if is_last lf last then indent level else []) ++ bs
 mark_text last (star level) = (if is_last lf last then short_indent level else []) ++ codes "*"
@@ -132,9 +132,11 @@ joined level [] = []
 joined level (a ∷ rest) = a ++ more_joined level rest
 
 abbrev mutual
-  -- an inline expression is written as it is; a select is its selector, ` ->` and a line end, and one level deeper its variants
+  -- an inline expression is written as it is; a select is its selector, ` ->` and a line end, and one level deeper its
+  -- variants
   pub expression_marks : ℕ → ExpressionTree Text → List Mark
-  expression_marks level (select e vs) = inline_marks level e ++ (literal level (codes " ->") ∷ line_end ∷ variants_marks (level + 1) vs)
+  expression_marks level (select e vs) =
+      inline_marks level e ++ (literal level (codes " ->") ∷ line_end ∷ variants_marks (level + 1) vs)
   expression_marks level (inline e) = inline_marks level e
 
   -- each variant and a line end
@@ -145,17 +147,22 @@ abbrev mutual
   -- the key in brackets, after the star of a default; then the pattern, as `pattern_marks` below
   pub variant_marks : ℕ → VariantTree Text → List Mark
   variant_marks level (variant key value default) =
-      default_marks level default ++ (literal level (codes "[") ∷ literal level (key_text key) ∷ literal level (codes "]") ∷ opening_mark level value ∷ elements_marks (inner_level level value) value)
+      default_marks level default ++
+          (literal level (codes "[") ∷ literal level (key_text key) ∷ literal level (codes "]") ∷
+            opening_mark level value ∷ elements_marks (inner_level level value) value)
 
-  -- A string stands in quotes, as it is spelled. A variable has a `$` and a term a `-` before its name. A placeable stands in braces.
+  -- A string stands in quotes, as it is spelled. A variable has a `$` and a term a `-` before its name. A placeable
+  -- stands in braces.
   pub inline_marks : ℕ → InlineTree Text → List Mark
   inline_marks level (string_literal v) = literal level (codes "\"") ∷ literal level v ∷ literal level (codes "\"") ∷ []
   inline_marks level (number_literal v) = literal level v ∷ []
   inline_marks level (function_reference id a) = literal level id ∷ arguments_marks level a
   inline_marks level (message_reference id attribute) = literal level id ∷ attribute_marks level attribute
-  inline_marks level (term_reference id attribute a) = literal level (codes "-") ∷ literal level id ∷ (attribute_marks level attribute ++ maybe_marks level a)
+  inline_marks level (term_reference id attribute a) =
+      literal level (codes "-") ∷ literal level id ∷ (attribute_marks level attribute ++ maybe_marks level a)
   inline_marks level (variable_reference id) = literal level (codes "$") ∷ literal level id ∷ []
-  inline_marks level (inline_placeable e) = literal level (codes "{") ∷ (expression_marks level e ++ (literal level (codes "}") ∷ []))
+  inline_marks level (inline_placeable e) =
+      literal level (codes "{") ∷ (expression_marks level e ++ (literal level (codes "}") ∷ []))
 
   -- a term's arguments, if any
   pub maybe_marks : ℕ → MaybeArguments Text → List Mark
@@ -164,7 +171,9 @@ abbrev mutual
 
   -- in parentheses the positional arguments, then the named ones
   pub arguments_marks : ℕ → ArgumentsTree Text → List Mark
-  arguments_marks level (arguments ps ns) = literal level (codes "(") ∷ (joined level (positional_marks level ps ++ named_marks level ns) ++ (literal level (codes ")") ∷ []))
+  arguments_marks level (arguments ps ns) =
+      literal level (codes "(") ∷
+      (joined level (positional_marks level ps ++ named_marks level ns) ++ (literal level (codes ")") ∷ []))
 
   -- the marks of each
   pub positional_marks : ℕ → InlineTrees Text → List (List Mark)
@@ -182,13 +191,16 @@ abbrev mutual
   elements_marks level no_elements = []
   elements_marks level (elements e es) = element_marks level e ++ elements_marks level es
 
-  -- A text is one literal. A placeable stands in braces with a space inside each, but none after a select, which has ended its line, and
-  -- a placeable of a placeable in double braces.
+  -- A text is one literal. A placeable stands in braces with a space inside each, but none after a select, which has
+  -- ended its line, and a placeable of a placeable in double braces.
   pub element_marks : ℕ → ElementTree Text → List Mark
   element_marks level (text_element v) = literal level v ∷ []
-  element_marks level (placeable (select e vs)) = literal level (codes "{ ") ∷ (expression_marks level (select e vs) ++ (literal level (codes "}") ∷ []))
-  element_marks level (placeable (inline (inline_placeable e))) = literal level (codes "{{ ") ∷ (expression_marks level e ++ (literal level (codes " }}") ∷ []))
-  element_marks level (placeable (inline e)) = literal level (codes "{ ") ∷ (inline_marks level e ++ (literal level (codes " }") ∷ []))
+  element_marks level (placeable (select e vs)) =
+      literal level (codes "{ ") ∷ (expression_marks level (select e vs) ++ (literal level (codes "}") ∷ []))
+  element_marks level (placeable (inline (inline_placeable e))) =
+      literal level (codes "{{ ") ∷ (expression_marks level e ++ (literal level (codes " }}") ∷ []))
+  element_marks level (placeable (inline e)) =
+      literal level (codes "{ ") ∷ (inline_marks level e ++ (literal level (codes " }") ∷ []))
 
 -- a line end or a space, and the elements
 abbrev pub pattern_marks : ℕ → PatternTree Text → List Mark
@@ -224,7 +236,8 @@ own_comment_marks (Some content) = comment_marks (hashes_of regular) content
 
 -- one level deeper: a line end, `.`, the name, ` =` and the pattern
 abbrev pub attribute_line_marks : AttributeTree Text → List Mark
-attribute_line_marks a = line_end ∷ literal 1 (codes ".") ∷ literal 1 a.id ∷ literal 1 (codes " =") ∷ pattern_marks 1 a.value
+attribute_line_marks a =
+    line_end ∷ literal 1 (codes ".") ∷ literal 1 a.id ∷ literal 1 (codes " =") ∷ pattern_marks 1 a.value
 
 abbrev pub attributes_marks : List (AttributeTree Text) → List Mark
 attributes_marks [] = []
@@ -236,10 +249,16 @@ value_marks None = []
 value_marks (Some p) = pattern_marks 0 p
 
 abbrev pub message_marks : MessageTree Text → List Mark
-message_marks m = own_comment_marks m.comment ++ (literal 0 m.id ∷ literal 0 (codes " =") ∷ (value_marks m.value ++ (attributes_marks m.attributes ++ (line_end ∷ []))))
+message_marks m =
+    own_comment_marks m.comment ++
+    (literal 0 m.id ∷ literal 0 (codes " =") ∷
+      (value_marks m.value ++ (attributes_marks m.attributes ++ (line_end ∷ []))))
 
 abbrev pub term_marks : TermTree Text → List Mark
-term_marks m = own_comment_marks m.comment ++ (literal 0 (codes "-") ∷ literal 0 m.id ∷ literal 0 (codes " =") ∷ (pattern_marks 0 m.value ++ (attributes_marks m.attributes ++ (line_end ∷ []))))
+term_marks m =
+    own_comment_marks m.comment ++
+    (literal 0 (codes "-") ∷ literal 0 m.id ∷ literal 0 (codes " =") ∷
+      (pattern_marks 0 m.value ++ (attributes_marks m.attributes ++ (line_end ∷ []))))
 
 -- the line end before a free comment that follows an entry which is not junk
 abbrev pub gap_marks : (follows : Bool) → List Mark

@@ -77,7 +77,8 @@ mutual
   element-back (placeable e) = rw (element-is (element_form (placeable e)), expression-back e)
 
   expression-back : (e : ExpressionTree Text) → expression_in (expression_form e) ≡ Some e
-  expression-back (select e vs) = rw (expression-is (expression_form (select e vs)), inline-back e, variants-back vs, variants-list vs)
+  expression-back (select e vs) =
+      rw (expression-is (expression_form (select e vs)), inline-back e, variants-back vs, variants-list vs)
   expression-back (inline e) = rw (expression-is (inline_form e), no_selector e, inline-back e)
 
   variants-back : (vs : VariantTrees Text) → items_by variant_in (variant_forms vs) ≡ Some (variants_list vs)
@@ -85,23 +86,29 @@ mutual
   variants-back (variants x xs) = rw (variant-back x, variants-back xs)
 
   variant-back : (v : VariantTree Text) → variant_in (variant_form v) ≡ Some v
-  variant-back (variant k p d) = rw (variant-is (variant_form (variant k p d)), key-back k, pattern-is (pattern_form p), elements-back p, elements-list p)
+  variant-back (variant k p d) =
+      rw (variant-is (variant_form (variant k p d)), key-back k, pattern-is (pattern_form p), elements-back p,
+        elements-list p)
 
   inline-back : (e : InlineTree Text) → inline_in (inline_form e) ≡ Some e
   inline-back (string_literal x) = rw (inline-is (inline_form (string_literal x)))
   inline-back (number_literal x) = rw (inline-is (inline_form (number_literal x)))
   inline-back (function_reference x a) = rw (inline-is (inline_form (function_reference x a)), arguments-back a)
   inline-back (message_reference x a) = rw (inline-is (inline_form (message_reference x a)), attribute_name-back a)
-  inline-back (term_reference x a c) = rw (inline-is (inline_form (term_reference x a c)), attribute_name-back a, maybe-back c)
+  inline-back (term_reference x a c) =
+      rw (inline-is (inline_form (term_reference x a c)), attribute_name-back a, maybe-back c)
   inline-back (variable_reference x) = rw (inline-is (inline_form (variable_reference x)))
   inline-back (inline_placeable e) = rw (inline-is (inline_form (inline_placeable e)), expression-back e)
 
-  maybe-back : (c : MaybeArguments Text) → maybe_arguments_rule (unless_null (maybe_form c)) (arguments_in (maybe_form c)) ≡ Some c
+  maybe-back : (c : MaybeArguments Text) →
+      maybe_arguments_rule (unless_null (maybe_form c)) (arguments_in (maybe_form c)) ≡ Some c
   maybe-back no_arguments = refl
   maybe-back (some_arguments (arguments ps ns)) = rw (arguments-back (arguments ps ns))
 
   arguments-back : (a : ArgumentsTree Text) → arguments_in (arguments_form a) ≡ Some a
-  arguments-back (arguments ps ns) = rw (arguments-is (arguments_form (arguments ps ns)), inlines-back ps, nameds-back ns, inlines-list ps, nameds-list ns)
+  arguments-back (arguments ps ns) =
+      rw (arguments-is (arguments_form (arguments ps ns)), inlines-back ps, nameds-back ns, inlines-list ps,
+        nameds-list ns)
 
   inlines-back : (ps : InlineTrees Text) → items_by inline_in (inline_forms ps) ≡ Some (inlines_list ps)
   inlines-back no_inlines = refl
@@ -117,7 +124,8 @@ mutual
 pattern-back : (p : PatternTree Text) → pattern_in (pattern_form p) ≡ Some p
 pattern-back p = rw (pattern-is (pattern_form p), elements-back p, elements-list p)
 
-items-back : {A : Type 0} (read : Data → Option A) (form : A → Data) → ((x : A) → read (form x) ≡ Some x) → (xs : List A) → items_by read (items_of (map form xs)) ≡ Some xs
+items-back : {A : Type 0} (read : Data → Option A) (form : A → Data) → ((x : A) → read (form x) ≡ Some x) →
+    (xs : List A) → items_by read (items_of (map form xs)) ≡ Some xs
 items-back read form back [] = refl
 items-back read form back (x ∷ xs) = rw (back x, items-back read form back xs)
 
@@ -136,10 +144,12 @@ hung-back None = refl
 hung-back (Some xs) = rw (lines-back xs)
 
 message-back : (m : MessageTree Text) → message_in (message_form m) ≡ Some m
-message-back m = rw (value-back m.value, items-back attribute_in attribute_form attribute-back m.attributes, hung-back m.comment)
+message-back m =
+    rw (value-back m.value, items-back attribute_in attribute_form attribute-back m.attributes, hung-back m.comment)
 
 term-back : (m : TermTree Text) → term_in (term_form m) ≡ Some m
-term-back m = rw (pattern-back m.value, items-back attribute_in attribute_form attribute-back m.attributes, hung-back m.comment)
+term-back m =
+    rw (pattern-back m.value, items-back attribute_in attribute_form attribute-back m.attributes, hung-back m.comment)
 
 entry-back : (e : EntryTree Text) → entry_in (entry_form e) ≡ Some e
 entry-back (message m) = ap (option_map message) (message-back m)

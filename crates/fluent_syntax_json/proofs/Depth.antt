@@ -10,14 +10,16 @@ use Rattle.serde_json.specs.declared.value.Value.{Value}
 use Rattle.fluent_syntax_json.specs.Object.{Text}
 use Rattle.fluent_syntax_json.specs.Reading.{◌>>=◌, present, unless_null}
 
-either : (o : Ordering) (found : Option Data) (d e : Data) (n : ℕ) → (found ≡ Some e → depth e ≤ n) → match_ordering o found (Some d) found ≡ Some e → depth e ≤ max (depth d) n
+either : (o : Ordering) (found : Option Data) (d e : Data) (n : ℕ) → (found ≡ Some e → depth e ≤ n) →
+    match_ordering o found (Some d) found ≡ Some e → depth e ≤ max (depth d) n
 either Less found d e n h is = let below = h is in omega arith
 either Equal found d e n h is = let same = ap depth (same_Some d e is) in omega arith
 either Greater found d e n h is = let below = h is in omega arith
 
 member_depth : (k : Text) (ms : Members) (e : Data) → get_member k ms ≡ Some e → depth e ≤ members_depth ms
 member_depth k no_members e is = absurd (none-some _ is)
-member_depth k (member l d ms) e is = either (slice_cmp nat_cmp k l) (get_member k ms) d e (members_depth ms) (member_depth k ms e) is
+member_depth k (member l d ms) e is =
+    either (slice_cmp nat_cmp k l) (get_member k ms) d e (members_depth ms) (member_depth k ms e) is
 
 pub get_depth : (k : Text) (d e : Data) → get k d ≡ Some e → depth e < depth d
 get_depth k null e is = absurd (none-some _ is)
@@ -51,13 +53,15 @@ array_depth (string s) ds is = absurd (none-some _ is)
 array_depth (array es) ds is = let same = ap items_depth (same_Some es ds is) in omega arith
 array_depth (object ms) ds is = absurd (none-some _ is)
 
-value_depth : (vs : List Value) (i : ℕ) (d : Value) → i < length vs → depth (view (get_or vs i d)) ≤ items_depth (items_view vs)
+value_depth : (vs : List Value) (i : ℕ) (d : Value) → i < length vs →
+    depth (view (get_or vs i d)) ≤ items_depth (items_view vs)
 value_depth [] i d h = absurd (omega arith)
 value_depth (v ∷ vs) zero d h = omega arith
 value_depth (v ∷ vs) (suc i) d h = let below = value_depth vs i d (omega arith) in omega arith
 
 -- an item of the list at a key
-pub item_depth : (k : Text) (d e : Data) (vs items : List Value) (i : ℕ) (v : Value) → get k d ≡ Some e → as_array e ≡ Some (items_view vs) → items ≡ vs → i < length items → v ≡ get_or items i v → depth (view v) < depth d
+pub item_depth : (k : Text) (d e : Data) (vs items : List Value) (i : ℕ) (v : Value) → get k d ≡ Some e →
+    as_array e ≡ Some (items_view vs) → items ≡ vs → i < length items → v ≡ get_or items i v → depth (view v) < depth d
 item_depth k d e vs items i v found list same h is =
     let outer = get_depth k d e found in
     let inner = array_depth e (items_view vs) list in

@@ -66,7 +66,8 @@ mutual
 of_pattern : (p : PatternTree Text) → has_float (pattern_form p) ≡ false
 of_pattern p = rw (of_elements p)
 
-of_list : {A : Type 0} (form : A → Data) → ((x : A) → has_float (form x) ≡ false) → (xs : List A) → items_have_float (items_of (map form xs)) ≡ false
+of_list : {A : Type 0} (form : A → Data) → ((x : A) → has_float (form x) ≡ false) → (xs : List A) →
+    items_have_float (items_of (map form xs)) ≡ false
 of_list form each [] = refl
 of_list form each (x ∷ xs) = rw (each x, of_list form each xs)
 

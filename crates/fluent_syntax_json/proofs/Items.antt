@@ -10,7 +10,9 @@ use Rattle.fluent_syntax_json.specs.Answer.{Answers}
 use Rattle.fluent_syntax_json.specs.Reading.{◌>>=◌, one_more, items_by}
 
 -- a fault that is handed on: where the part is not spelled, the whole is not
-pub handed : {A U B : Type 0} (whole : U → B) (o : Option A) (p : Option B) (r : Result U ValueFault) (e y : ValueFault) → r ≡ Err y → y ≡ e → (o ≡ None → p ≡ None) → Answers (λ (x : A). x) o (Err e) → Answers whole p r
+pub handed :
+    {A U B : Type 0} (whole : U → B) (o : Option A) (p : Option B) (r : Result U ValueFault) (e y : ValueFault) →
+    r ≡ Err y → y ≡ e → (o ≡ None → p ≡ None) → Answers (λ (x : A). x) o (Err e) → Answers whole p r
 handed whole o p r Shape y is same none h = rw (is, same) (none h)
 handed whole o p r Memory y is same none h = rw (is, same) tt
 
@@ -30,21 +32,28 @@ one_before (Some x) (Some ys) None = refl
 one_before (Some x) (Some ys) (Some zs) = refl
 
 module _ {A : Type 0} (read : Data → Option A) where
-  joined : (cs bs : List Data) → items_by read (items_of (cs ++ bs)) ≡ joins (items_by read (items_of cs)) (items_by read (items_of bs))
+  joined : (cs bs : List Data) →
+      items_by read (items_of (cs ++ bs)) ≡ joins (items_by read (items_of cs)) (items_by read (items_of bs))
   joined [] bs = nothing_before (items_by read (items_of bs))
-  joined (a ∷ cs) bs = ap (one_more (read a)) (joined cs bs) ∙ one_before (read a) (items_by read (items_of cs)) (items_by read (items_of bs))
+  joined (a ∷ cs) bs =
+      ap (one_more (read a)) (joined cs bs)
+      ∙ one_before (read a) (items_by read (items_of cs)) (items_by read (items_of bs))
 
   -- what the values spell that were read so far
   abbrev pub so_far : List Value → ℕ → Option (List A)
   so_far xs n = items_by read (items_of (map view (take n xs)))
 
-  pub pushed : {T : Type 0} (f : T → A) (ys zs : List T) (y : T) (xs : List Value) (i : ℕ) (v : Value) → so_far xs i ≡ Some (map f ys) → zs ≡ ys ++ y ∷ [] → i < length xs → v ≡ get_or xs i v → read (view v) ≡ Some (f y) → so_far xs (i + 1) ≡ Some (map f zs)
+  pub pushed : {T : Type 0} (f : T → A) (ys zs : List T) (y : T) (xs : List Value) (i : ℕ) (v : Value) →
+      so_far xs i ≡ Some (map f ys) → zs ≡ ys ++ y ∷ [] → i < length xs → v ≡ get_or xs i v →
+      read (view v) ≡ Some (f y) → so_far xs (i + 1) ≡ Some (map f zs)
   unfolding joins
   pushed f ys zs y xs i v e made h is one =
       let here : read (view (get_or xs i v)) ≡ Some (f y) = ap (λ x. read (view x)) (sym is) ∙ one in
-      ap (λ l. items_by read (items_of l)) (map_more view xs i v h) ∙ joined (map view (take i xs)) (view (get_or xs i v) ∷ []) ∙ rw (e, here, made, map-append f ys (y ∷ []))
+      ap (λ l. items_by read (items_of l)) (map_more view xs i v h)
+          ∙ joined (map view (take i xs)) (view (get_or xs i v) ∷ []) ∙ rw (e, here, made, map-append f ys (y ∷ []))
 
-  pub finished : {T : Type 0} (f : T → A) (ys : List T) (xs items : List Value) (n : ℕ) → so_far items n ≡ Some (map f ys) → length items ≤ n → items ≡ xs → items_by read (items_view xs) ≡ Some (map f ys)
+  pub finished : {T : Type 0} (f : T → A) (ys : List T) (xs items : List Value) (n : ℕ) →
+      so_far items n ≡ Some (map f ys) → length items ≤ n → items ≡ xs → items_by read (items_view xs) ≡ Some (map f ys)
   finished f ys xs items n e h same =
       ap (λ l. items_by read (items_of (map view l))) (sym same ∙ sym (take_all n items h)) ∙ e
 
@@ -58,8 +67,13 @@ module _ {A : Type 0} (read : Data → Option A) where
   none_after None = refl
   none_after (Some x) = refl
 
-  pub stopped : (xs items : List Value) (i : ℕ) (v : Value) → i < length items → v ≡ get_or items i v → items ≡ xs → read (view v) ≡ None → items_by read (items_view xs) ≡ None
+  pub stopped : (xs items : List Value) (i : ℕ) (v : Value) → i < length items → v ≡ get_or items i v → items ≡ xs →
+      read (view v) ≡ None → items_by read (items_view xs) ≡ None
   stopped xs items i v h is same none =
       let here : read (view (get_or items i v)) ≡ None = ap (λ x. read (view x)) (sym is) ∙ none in
-      let apart = ap (map view) (sym same ∙ cut items i v h) ∙ map-append view (take i items) (get_or items i v ∷ drop (suc i) items) in
-      ap (λ l. items_by read (items_of l)) apart ∙ joined (map view (take i items)) (view (get_or items i v) ∷ map view (drop (suc i) items)) ∙ rw here (none_after (items_by read (items_of (map view (take i items)))))
+      let apart =
+          ap (map view) (sym same ∙ cut items i v h)
+          ∙ map-append view (take i items) (get_or items i v ∷ drop (suc i) items) in
+      ap (λ l. items_by read (items_of l)) apart
+          ∙ joined (map view (take i items)) (view (get_or items i v) ∷ map view (drop (suc i) items))
+          ∙ rw here (none_after (items_by read (items_of (map view (take i items)))))

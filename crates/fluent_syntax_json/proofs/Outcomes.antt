@@ -15,7 +15,8 @@ module _ {T A : Type 0} (view : T → A) (o : Option A) where
       let none : o ≡ None = rw is at h in
       none-some x (sym none ∙ some)
 
-  pub answers-none : (r : Result T ValueFault) → Answers view o r → ((x : A) → o ≡ Some x → ⊥) → (r ≡ Err Shape) ⊎ (r ≡ Err Memory)
+  pub answers-none : (r : Result T ValueFault) → Answers view o r → ((x : A) → o ≡ Some x → ⊥) → (r ≡ Err Shape) ⊎
+      (r ≡ Err Memory)
   answers-none (Ok x) h never = absurd (never (view x) h)
   answers-none (Err Shape) h never = inl refl
   answers-none (Err Memory) h never = inr refl

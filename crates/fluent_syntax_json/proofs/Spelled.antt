@@ -8,13 +8,16 @@ use Rattle.fluent_syntax_tree.specs.Tree.{elements_of}
 use Rattle.fluent_syntax_json.specs.Object.{Text}
 use Rattle.fluent_syntax_json.specs.Reading.{Spelled, spelled, items_spelled, part_spelled, ◌>>=◌, at, one_more, items_by, list_by, type_in, element_rule, inline_rule, expression_rule, arguments_rule, named_rule, variant_rule, pattern_in, element_in, expression_in, inline_in, arguments_in, named_in, variant_in}
 
-either : {A : Type 0} (f : Spelled → Option A) (read : Data → Option A) (o : Ordering) (a b : Option Spelled) (c d : Option Data) → a >>= f ≡ c >>= read → b >>= f ≡ d >>= read → match_ordering o a b a >>= f ≡ match_ordering o c d c >>= read
+either : {A : Type 0} (f : Spelled → Option A) (read : Data → Option A) (o : Ordering) (a b : Option Spelled)
+    (c d : Option Data) → a >>= f ≡ c >>= read → b >>= f ≡ d >>= read →
+    match_ordering o a b a >>= f ≡ match_ordering o c d c >>= read
 either f read Less a b c d e h = e
 either f read Equal a b c d e h = h
 either f read Greater a b c d e h = e
 
 -- a part that is read as a node expects it
-child : {A : Type 0} (f : Spelled → Option A) (read : Data → Option A) → ((d : Data) → f (spelled d) ≡ read d) → (k : Text) (ms : Members) → part_spelled ms k >>= f ≡ get_member k ms >>= read
+child : {A : Type 0} (f : Spelled → Option A) (read : Data → Option A) → ((d : Data) → f (spelled d) ≡ read d) →
+    (k : Text) (ms : Members) → part_spelled ms k >>= f ≡ get_member k ms >>= read
 child f read e k no_members = refl
 child f read e k (member l d ms) =
     either f read (slice_cmp nat_cmp k l) _ _ _ _ (child f read e k ms) (e d)
@@ -107,7 +110,9 @@ element-is (array no_items) = refl
 element-is (array (item d ds)) = refl
 element-is (object ms) = rw (child (λ s. s.as_expression) (expression_in) expression-itself (codes "expression") ms)
 
-pub inline-is : (d : Data) → inline_in d ≡ type_in d >>= inline_rule d (at arguments_in (codes "arguments") d) (at expression_in (codes "expression") d)
+pub inline-is : (d : Data) →
+    inline_in d
+    ≡ type_in d >>= inline_rule d (at arguments_in (codes "arguments") d) (at expression_in (codes "expression") d)
 unfolding inline_in
 inline-is null = refl
 inline-is (boolean b) = refl
@@ -115,9 +120,13 @@ inline-is (number n) = refl
 inline-is (string s) = refl
 inline-is (array no_items) = refl
 inline-is (array (item d ds)) = refl
-inline-is (object ms) = rw (child (λ s. s.as_arguments) (arguments_in) arguments-itself (codes "arguments") ms, child (λ s. s.as_expression) (expression_in) expression-itself (codes "expression") ms)
+inline-is (object ms) =
+    rw (child (λ s. s.as_arguments) (arguments_in) arguments-itself (codes "arguments") ms,
+      child (λ s. s.as_expression) (expression_in) expression-itself (codes "expression") ms)
 
-pub arguments-is : (d : Data) → arguments_in d ≡ arguments_rule (at (list_by inline_in) (codes "positional") d) (at (list_by named_in) (codes "named") d)
+pub arguments-is : (d : Data) →
+    arguments_in d
+    ≡ arguments_rule (at (list_by inline_in) (codes "positional") d) (at (list_by named_in) (codes "named") d)
 unfolding arguments_in
 arguments-is null = refl
 arguments-is (boolean b) = refl
@@ -125,7 +134,9 @@ arguments-is (number n) = refl
 arguments-is (string s) = refl
 arguments-is (array no_items) = refl
 arguments-is (array (item d ds)) = refl
-arguments-is (object ms) = rw (child (λ s. s.as_inlines) (list_by inline_in) inlines-are (codes "positional") ms, child (λ s. s.as_nameds) (list_by named_in) nameds-are (codes "named") ms)
+arguments-is (object ms) =
+    rw (child (λ s. s.as_inlines) (list_by inline_in) inlines-are (codes "positional") ms,
+      child (λ s. s.as_nameds) (list_by named_in) nameds-are (codes "named") ms)
 
 pub named-is : (d : Data) → named_in d ≡ named_rule d (at inline_in (codes "value") d)
 unfolding named_in
@@ -147,7 +158,10 @@ variant-is (array no_items) = refl
 variant-is (array (item d ds)) = refl
 variant-is (object ms) = rw (child (λ s. s.as_pattern) (pattern_in) pattern-itself (codes "value") ms)
 
-pub expression-is : (d : Data) → expression_in d ≡ expression_rule (get (codes "selector") d) (at inline_in (codes "selector") d) (at (list_by variant_in) (codes "variants") d) (inline_in d)
+pub expression-is : (d : Data) →
+    expression_in d
+    ≡ expression_rule (get (codes "selector") d) (at inline_in (codes "selector") d)
+      (at (list_by variant_in) (codes "variants") d) (inline_in d)
 unfolding expression_in inline_in
 expression-is null = refl
 expression-is (boolean b) = refl
@@ -155,4 +169,6 @@ expression-is (number n) = refl
 expression-is (string s) = refl
 expression-is (array no_items) = refl
 expression-is (array (item d ds)) = refl
-expression-is (object ms) = rw (child (λ s. s.as_inline) (inline_in) inline-itself (codes "selector") ms, child (λ s. s.as_variants) (list_by variant_in) variants-are (codes "variants") ms)
+expression-is (object ms) =
+    rw (child (λ s. s.as_inline) (inline_in) inline-itself (codes "selector") ms,
+      child (λ s. s.as_variants) (list_by variant_in) variants-are (codes "variants") ms)

@@ -1,5 +1,6 @@
--- The JSON form of a tree: an object for each node, with the name of its variant at the key `type`
--- and each of its fields at a key of the field's name; a list for a list, and null for what is not there.
+-- The JSON form of a tree: an object for each node, with each of its fields at a key of the field's name; a list for a
+-- list, and null for what is not there. Entries, elements, keys and inline expressions have the name of their variant at
+-- the key `type`; variants, argument lists and named arguments their own; no other node has a type.
 use Rattle.std.specs.Prelude.{List, [], ◌∷◌, Option, Some, None, codes, map}
 use Rattle.serde_json.specs.Data.{Data, null, boolean, string, array, Items, no_items, item}
 use Rattle.serde_json.specs.View.{items_of}

@@ -141,7 +141,8 @@ maybe_arguments_rule None given = Some no_arguments
 maybe_arguments_rule (Some d) given = option_map some_arguments given
 
 -- an inline expression, of which the name of its type is known
-abbrev pub inline_rule : Data → (given : Option (ArgumentsTree Text)) → (expression : Option (ExpressionTree Text)) → Text → Option (InlineTree Text)
+abbrev pub inline_rule : Data → (given : Option (ArgumentsTree Text)) → (expression : Option (ExpressionTree Text)) →
+    Text → Option (InlineTree Text)
 inline_rule d given expression t =
     if bytes_eq t (codes "StringLiteral") then option_map string_literal (at as_str (codes "value") d)
     else (if bytes_eq t (codes "NumberLiteral") then option_map number_literal (at as_str (codes "value") d)
@@ -164,7 +165,8 @@ inline_rule d given expression t =
 
 -- An expression: a select where there is a key `selector`, whatever else is there, and otherwise what the
 -- object itself spells as an inline expression.
-abbrev pub expression_rule : Option Data → (selector : Option (InlineTree Text)) → (choices : Option (List (VariantTree Text))) → (itself : Option (InlineTree Text)) → Option (ExpressionTree Text)
+abbrev pub expression_rule : Option Data → (selector : Option (InlineTree Text)) →
+    (choices : Option (List (VariantTree Text))) → (itself : Option (InlineTree Text)) → Option (ExpressionTree Text)
 expression_rule None selector choices itself = option_map inline itself
 expression_rule (Some d) selector choices itself = do
   e ← selector
@@ -172,7 +174,8 @@ expression_rule (Some d) selector choices itself = do
   Some (select e (variants_of vs))
 
 -- the arguments of a call
-abbrev pub arguments_rule : (positional : Option (List (InlineTree Text))) → (named : Option (List (NamedTree Text))) → Option (ArgumentsTree Text)
+abbrev pub arguments_rule : (positional : Option (List (InlineTree Text))) → (named : Option (List (NamedTree Text))) →
+    Option (ArgumentsTree Text)
 arguments_rule positional named = do
   ps ← positional
   ns ← named
@@ -202,16 +205,20 @@ module _ (d : Data) (part : Text → Option Spelled) where
   -- as an inline expression
   abbrev pub inline_of_object : Option (InlineTree Text)
   inline_of_object =
-      type_in d >>= inline_rule d (child (λ s. s.as_arguments) (codes "arguments")) (child (λ s. s.as_expression) (codes "expression"))
+      type_in d >>= inline_rule d (child (λ s. s.as_arguments) (codes "arguments"))
+          (child (λ s. s.as_expression) (codes "expression"))
 
   -- as each of the nodes, by the rule of that node
   abbrev pub object_spelled : Spelled
   object_spelled = record no_node {
     as_pattern = option_map elements_of (child (λ s. s.as_elements) (codes "elements"));
     as_element = type_in d >>= element_rule d (child (λ s. s.as_expression) (codes "expression"));
-    as_expression = expression_rule (get (codes "selector") d) (child (λ s. s.as_inline) (codes "selector")) (child (λ s. s.as_variants) (codes "variants")) inline_of_object;
+    as_expression =
+        expression_rule (get (codes "selector") d) (child (λ s. s.as_inline) (codes "selector"))
+          (child (λ s. s.as_variants) (codes "variants")) inline_of_object;
     as_inline = inline_of_object;
-    as_arguments = arguments_rule (child (λ s. s.as_inlines) (codes "positional")) (child (λ s. s.as_nameds) (codes "named"));
+    as_arguments =
+        arguments_rule (child (λ s. s.as_inlines) (codes "positional")) (child (λ s. s.as_nameds) (codes "named"));
     as_named = named_rule d (child (λ s. s.as_inline) (codes "value"));
     as_variant = variant_rule d (child (λ s. s.as_pattern) (codes "value"));
   }

@@ -36,6 +36,14 @@ module _ {S X : Type 0} (text : S → X) (whole : BodyTree Span → BodyTree X) 
   abbrev pub AnswersRuntimeTiling : Edition → List ℕ → Result (Resource S) (ParseFault S) → Type 0
   AnswersRuntimeTiling edition t result = (tiles : List Tile) × RuntimeTiling edition t tiles × Answers tiles result
 
+-- The answer is that of a tiling of the text, with the ranges of its texts as they are.
+abbrev pub AnswersSpans : Edition → List ℕ → Result (Resource Span) (ParseFault Span) → Type 0
+AnswersSpans edition t result = AnswersTiling (λ s. s) (λ b. b) edition t result
+
+-- The same of a tiling of the text without comments.
+abbrev pub AnswersRuntimeSpans : Edition → List ℕ → Result (Resource Span) (ParseFault Span) → Type 0
+AnswersRuntimeSpans edition t result = AnswersRuntimeTiling (λ s. s) (λ b. b) edition t result
+
 -- The place of each error begins within the text.
 abbrev pub ErrorsInText : {S : Type 0} → List ℕ → Result (Resource S) (ParseFault S) → Type 0
 ErrorsInText t (Ok tree) = Unit {0}

@@ -7,7 +7,7 @@
 
 ghost use Rattle.std.specs.Prelude.{◌+◌, ◌<◌, ◌^◌, length, IsOk};
 ghost use Rattle.fluent_syntax_grammar.specs.Places.{BlankBlock};
-ghost use Rattle.fluent_syntax_reader.specs.Answers.{AnswersTiling, AnswersRuntimeTiling, ErrorsInText};
+ghost use Rattle.fluent_syntax_reader.specs.Answers.{AnswersRuntimeSpans, AnswersSpans, ErrorsInText};
 ghost use Rattle.fluent_syntax_reader.specs.Parts.{HasParts};
 
 mod comment;
@@ -35,7 +35,7 @@ use std::alloc::Global;
 pub fn parse_spans(alloc: Global, source: &str) -> Result<Resource<Span>, ParseFault<Span>>
     requires { length source.now + 1 < 2 ^ 64 }
     ensures spans { HasParts source.now result }
-    ensures tiling { AnswersTiling (λ s. s) (λ b. b) Edition.One source.now result }
+    ensures tiling { AnswersSpans Edition.One source.now result }
     ensures places { ErrorsInText source.now result }
     ensures blank { BlankBlock source.now 0 (length source.now) → IsOk result }
 {
@@ -50,7 +50,7 @@ pub fn parse_spans_edition(
 ) -> Result<Resource<Span>, ParseFault<Span>>
     requires { length source.now + 1 < 2 ^ 64 }
     ensures spans { HasParts source.now result }
-    ensures tiling { AnswersTiling (λ s. s) (λ b. b) edition source.now result }
+    ensures tiling { AnswersSpans edition source.now result }
     ensures places { ErrorsInText source.now result }
     ensures blank { BlankBlock source.now 0 (length source.now) → IsOk result }
 {
@@ -64,7 +64,7 @@ pub fn parse_spans_edition(
 pub fn parse_runtime_spans(alloc: Global, source: &str) -> Result<Resource<Span>, ParseFault<Span>>
     requires { length source.now + 1 < 2 ^ 64 }
     ensures spans { HasParts source.now result }
-    ensures tiling { AnswersRuntimeTiling (λ s. s) (λ b. b) Edition.One source.now result }
+    ensures tiling { AnswersRuntimeSpans Edition.One source.now result }
     ensures places { ErrorsInText source.now result }
     ensures blank { BlankBlock source.now 0 (length source.now) → IsOk result }
 {
@@ -79,7 +79,7 @@ pub fn parse_runtime_spans_edition(
 ) -> Result<Resource<Span>, ParseFault<Span>>
     requires { length source.now + 1 < 2 ^ 64 }
     ensures spans { HasParts source.now result }
-    ensures tiling { AnswersRuntimeTiling (λ s. s) (λ b. b) edition source.now result }
+    ensures tiling { AnswersRuntimeSpans edition source.now result }
     ensures places { ErrorsInText source.now result }
     ensures blank { BlankBlock source.now 0 (length source.now) → IsOk result }
 {

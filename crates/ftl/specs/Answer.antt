@@ -24,9 +24,12 @@ use Rattle.ftl.specs.declared.outcome.Outcome.TheVariants.{Clean, SyntaxErrors}
 abbrev pub range_text : Span → List ℕ
 range_text s = decimal s.start ++ codes ".." ++ decimal s.end ++ codes " "
 
--- the line of an error: its line and column, its place and its junk in bytes, and the name of its kind; all numbers decimal
+-- the line of an error: its line and column, its place and its junk in bytes, and the name of its kind; all numbers
+-- decimal
 abbrev pub error_text : (line column : ℕ) → Fault → List ℕ
-error_text line column f = decimal line ++ codes ":" ++ decimal column ++ codes " " ++ range_text f.pos ++ range_text f.slice ++ kind_name f.kind ++ codes "\n"
+error_text line column f =
+    decimal line ++ codes ":" ++ decimal column ++ codes " " ++ range_text f.pos ++ range_text f.slice ++
+    kind_name f.kind ++ codes "\n"
 
 -- what an error tells, with its place for the junk where it tells of none
 abbrev pub told : ParserError → Fault

@@ -8,7 +8,7 @@ use Rattle.ftl.specs.declared.outcome.Outcome.{Outcome}
 use Rattle.ftl.specs.declared.outcome.RunFault.{RunFault}
 use Rattle.ftl.specs.declared.outcome.RunFault.TheVariants.{Input, Memory, Output}
 
--- the bytes, where they are known, are no UTF-8
+-- the bytes are no UTF-8; of bytes that are not known nothing is said
 abbrev pub IsNoText : Option (List ℕ) → Type 0
 IsNoText None = Unit {0}
 IsNoText (Some bytes) = ¬ (IsUtf8 bytes)
@@ -30,10 +30,12 @@ pub record IsRunAnswer (command : Command) (input : Option (List ℕ)) (text : L
   pub is_input : IfSome input (λ bytes. read ≡ bytes)
   pub answer : IsAnswer command read text outcome
 
--- The command's text of what was read was written, with its outcome; after `Output` a beginning of it. Only UTF-8 has such a text: for
--- any other bytes the result is `Input` or `Memory`.
+-- The command's text of what was read was written, with its outcome; after `Output` a beginning of it. Only UTF-8 has
+-- such a text: for any other bytes the result is `Input` or `Memory`.
 abbrev pub WritesAnswer : Command → (input old new : Option (List ℕ)) → Result Outcome RunFault → Type 0
-WritesAnswer command input old new (Ok outcome) = (text : List ℕ) × IsRunAnswer command input text outcome × Appends old new text
-WritesAnswer command input old new (Err Output) = (text : List ℕ) × (outcome : Outcome) × IsRunAnswer command input text outcome × AppendsBeginning old new text
+WritesAnswer command input old new (Ok outcome) =
+    (text : List ℕ) × IsRunAnswer command input text outcome × Appends old new text
+WritesAnswer command input old new (Err Output) =
+    (text : List ℕ) × (outcome : Outcome) × IsRunAnswer command input text outcome × AppendsBeginning old new text
 WritesAnswer command input old new (Err Input) = Unit {0}
 WritesAnswer command input old new (Err Memory) = Unit {0}

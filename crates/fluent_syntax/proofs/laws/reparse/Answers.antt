@@ -12,7 +12,8 @@ use Rattle.fluent_syntax.proofs.RoundTripLemmas.{nothing_written, tree_answered}
 use Rattle.fluent_syntax.proofs.laws.reparse.Goals as goal
 
 pub returns-in-Err-clause-answers : goal.returns-in-Err-clause-answers
-returns-in-Err-clause-answers g c = nothing_written (string_bytes {Z = Global}) (resource_view g.S.Slice.text c.args.r.now)
+returns-in-Err-clause-answers g c =
+    nothing_written (string_bytes {Z = Global}) (resource_view g.S.Slice.text c.args.r.now)
 
 pub returns-clause-answers : goal.returns-clause-answers
 returns-clause-answers g c =

@@ -11,6 +11,9 @@ loop-rest-preserved g c =
     let done : List ℕ = c.loop-rest.invariant.0 in
     let contents = g.W.Write.contents in (
       done ++ take n rest,
-      c.loop-rest.invariant.1 ∙ ap (λ l. done ++ l) (sym (take-append-drop n rest)) ∙ sym (append_assoc done (take n rest) (drop n rest)) ∙ ap (λ l. (done ++ take n rest) ++ l) (sym (take_all _ (drop n rest) (omega (arith, length-drop n rest)))),
-      Appends-more (contents (inner_of c.args.writer.now)) (contents (inner_of c.loop-rest.writer)) (contents (inner_of c.write.new.self)) done (take n rest) c.loop-rest.invariant.2 c.in-Some.ensures.bytes,
+      c.loop-rest.invariant.1 ∙ ap (λ l. done ++ l) (sym (take-append-drop n rest))
+          ∙ sym (append_assoc done (take n rest) (drop n rest))
+          ∙ ap (λ l. (done ++ take n rest) ++ l) (sym (take_all _ (drop n rest) (omega (arith, length-drop n rest)))),
+      Appends-more (contents (inner_of c.args.writer.now)) (contents (inner_of c.loop-rest.writer))
+          (contents (inner_of c.write.new.self)) done (take n rest) c.loop-rest.invariant.2 c.in-Some.ensures.bytes,
     )
