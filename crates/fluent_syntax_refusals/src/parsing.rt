@@ -1,100 +1,73 @@
 //! The parsers, and trees of spans with the texts put back.
 
-use crate::turns::{Tally, in_turn, over};
+use crate::turns::{Tally, in_turn, nothing, over};
+use fluent_syntax::ast::Resource;
 use fluent_syntax::parser::{ParseFault, Result as Parsed, parse, parse_runtime};
 use fluent_syntax::spans::{Span, parse_runtime_spans, parse_spans, resolve};
 use fluent_syntax_corpus::TEXTS;
 use std::alloc::{AllocError, Global};
 use std::io;
 
+/// Texts of blank lines alone, which take no memory.
+const BLANK: [&str; 3] = ["", "\n", "\n  \n"];
+
 pub fn calls<R: Print + AllocGlobal>(rt: &R) -> io::Result<Tally> {
-    let alloc = rt.alloc();
     let texts = TEXTS.as_slice();
-    let lent = over(rt, "parse of lent texts", texts, |text| parsed(alloc, text))?;
-    let owned = over(
-        rt,
-        "parse of owned texts",
-        texts,
-        |text| parsed_owned(alloc, text),
-    )?;
-    let runtime = over(
-        rt,
-        "parse_runtime",
-        texts,
-        |text| parsed_runtime(alloc, text),
-    )?;
-    let spans = over(rt, "parse_spans", texts, |text| spans(alloc, text))?;
-    let runtime_spans = over(
-        rt,
-        "parse_runtime_spans",
-        texts,
-        |text| runtime_spans(alloc, text),
-    )?;
-    let resolved = over(rt, "resolve", texts, |text| resolved(alloc, text))?;
-    Ok(
-        lent.and(owned)
-            .and(runtime)
-            .and(spans)
-            .and(runtime_spans)
-            .and(resolved),
-    )
+    let blank = over(rt, "parse of blank texts", BLANK.as_slice(), read_blank)?;
+    let lent = over(rt, "parse of lent texts", texts, read)?;
+    let owned = over(rt, "parse of owned texts", texts, read_owned)?;
+    let spans = over(rt, "parse_spans", texts, read_spans)?;
+    let resolved = over(rt, "resolve", texts, resolved)?;
+    Ok(blank.and(lent).and(owned).and(spans).and(resolved))
 }
 
-fn parsed(alloc: Global, text: &'static str) -> Result<Tally, AllocError> {
-    in_turn(alloc, || Ok(()), |_| parse(alloc, text))
+/// Both parsers over a lent text that takes no memory.
+fn read_blank(alloc: Global, text: &str) -> Result<Tally, AllocError> {
+    let tally = read(alloc, text)?;
+    Ok(tally.wrong_if(tally.refused > 0))
 }
 
-fn parsed_owned(alloc: Global, text: &'static str) -> Result<Tally, AllocError> {
-    let whole = in_turn(
-        alloc,
-        || String::from_str(alloc, text),
-        |input| parse_owned(alloc, input),
-    )?;
-    let runtime = in_turn(
-        alloc,
-        || String::from_str(alloc, text),
-        |input| parse_runtime_owned(alloc, input),
-    )?;
+/// Both parsers over a lent text.
+fn read(alloc: Global, text: &str) -> Result<Tally, AllocError> {
+    let whole = in_turn(alloc, nothing, |_| parse(alloc, text))?;
+    let runtime = in_turn(alloc, nothing, |_| parse_runtime(alloc, text))?;
     Ok(whole.and(runtime))
 }
 
-fn parse_owned(alloc: Global, input: String) -> Parsed<String> {
-    if input.len() == usize::MAX {
-        return Err(ParseFault::Memory);
+/// Both parsers over an owned text.
+fn read_owned(alloc: Global, text: &str) -> Result<Tally, AllocError> {
+    let owned = || String::from_str(alloc, text);
+    let whole = in_turn(alloc, owned, |input: String| parse(alloc, input))?;
+    let runtime = in_turn(alloc, owned, |input: String| parse_runtime(alloc, input))?;
+    Ok(whole.and(runtime))
+}
+
+/// Both parsers to spans.
+fn read_spans(alloc: Global, text: &str) -> Result<Tally, AllocError> {
+    let whole = in_turn(alloc, nothing, |_| parse_spans(alloc, text))?;
+    let runtime = in_turn(alloc, nothing, |_| parse_runtime_spans(alloc, text))?;
+    Ok(whole.and(runtime))
+}
+
+/// The tree of an answer.
+fn tree_of<S>(answer: Parsed<S>) -> Result<Resource<S>, AllocError> {
+    match answer {
+        Ok(tree) => Ok(tree),
+        Err(ParseFault::Syntax(tree, _errors)) => Ok(tree),
+        Err(ParseFault::Memory) => Err(AllocError),
     }
-    parse(alloc, input)
 }
 
-fn parse_runtime_owned(alloc: Global, input: String) -> Parsed<String> {
-    if input.len() == usize::MAX {
-        return Err(ParseFault::Memory);
-    }
-    parse_runtime(alloc, input)
-}
-
-fn parsed_runtime(alloc: Global, text: &'static str) -> Result<Tally, AllocError> {
-    in_turn(alloc, || Ok(()), |_| parse_runtime(alloc, text))
-}
-
-fn spans(alloc: Global, text: &'static str) -> Result<Tally, AllocError> {
-    in_turn(alloc, || Ok(()), |_| parse_spans(alloc, text))
-}
-
-fn runtime_spans(alloc: Global, text: &'static str) -> Result<Tally, AllocError> {
-    in_turn(alloc, || Ok(()), |_| parse_runtime_spans(alloc, text))
-}
-
-fn resolved(alloc: Global, text: &'static str) -> Result<Tally, AllocError> {
+/// The texts put back, lent and owned, in a tree of spans, which stays as it was.
+fn resolved(alloc: Global, text: &str) -> Result<Tally, AllocError> {
+    let before: Resource<Span> = tree_of(parse_spans(alloc, text))?;
     let tree = match parse_spans(alloc, text) {
         Ok(tree) => tree,
         Err(ParseFault::Syntax(tree, _errors)) => tree,
         Err(ParseFault::Memory) => return Err(AllocError),
     };
-    let owned = String::from_str(alloc, text)?;
-    let lent = in_turn(alloc, || Ok(()), |_| resolve(alloc, &text, &tree))?;
-    let owned = in_turn(alloc, || Ok(()), |_| resolve(alloc, &owned, &tree))?;
-    Ok(
-        lent.and(owned)
-            .wrong_if(parse_spans(alloc, text) != parse_spans(alloc, text)),
-    )
+    let source = String::from_str(alloc, text)?;
+    let lent = in_turn(alloc, nothing, |_| resolve(alloc, &text, &tree))?;
+    let owned = in_turn(alloc, nothing, |_| resolve(alloc, &source, &tree))?;
+    Ok(lent.and(owned).wrong_if(tree != before))
 }

@@ -1,7 +1,7 @@
 //! The engine of the program, with each command.
 
 use crate::answers::Answer;
-use crate::turns::{Tally, in_turn, over};
+use crate::turns::{Tally, in_turn, nothing, over};
 use fluent_syntax_corpus::TEXTS;
 use ftl::{Command, Outcome, RunFault, Watched, answer, run};
 use std::alloc::{AllocError, Global};
@@ -18,14 +18,14 @@ const COMMANDS: [(&str, Command); 6] = [
 ];
 
 pub fn calls<R: Print + AllocGlobal>(rt: &R) -> io::Result<Tally> {
-    let alloc = rt.alloc();
     let mut total = Tally::NONE;
     for (word, command) in COMMANDS {
+        let texts = TEXTS.as_slice();
         let tally = over(
             rt,
             word,
-            TEXTS.as_slice(),
-            |text| commanded(alloc, command, text),
+            texts,
+            move |alloc, text| commanded(alloc, command, text),
         )?;
         total = total.and(tally);
     }
@@ -39,8 +39,12 @@ fn commanded(alloc: Global, command: Command, text: &str) -> Result<Tally, Alloc
         return Err(AllocError);
     };
     let expected = expected.as_str().as_bytes();
-    let answers = in_turn(alloc, || Ok(()), |_| answer(alloc, command, input))?;
-    let runs = in_turn(alloc, || Ok(()), |_| ran(alloc, command, input, expected))?;
+    let answers = in_turn(alloc, nothing, |_| answer(alloc, command, input))?;
+    let runs = in_turn(
+        alloc,
+        nothing,
+        |_| run_once(alloc, command, input, expected),
+    )?;
     Ok(answers.and(runs))
 }
 
@@ -95,7 +99,7 @@ impl Write for Comparing<'_> {
     }
 }
 
-fn ran(alloc: Global, command: Command, input: &[u8], expected: &[u8]) -> Ran {
+fn run_once(alloc: Global, command: Command, input: &[u8], expected: &[u8]) -> Ran {
     let mut reader = Watched::new(input);
     let mut writer = Watched::new(Comparing {
         left: expected,

@@ -66,18 +66,23 @@ pub fn in_turn<I, A: Answer + Drop, M: Fn() -> Result<I, AllocError>, F: Fn(I) -
     Ok(tally.wrong_if(true))
 }
 
+/// For a call that is given nothing of its own.
+pub fn nothing() -> Result<(), AllocError> {
+    Ok(())
+}
+
 /// A call over each of the texts; prints what was seen of it.
-pub fn over<R: Print, F: Fn(&'static str) -> Result<Tally, AllocError>>(
+pub fn over<'t, R: Print + AllocGlobal, F: Fn(Global, &'t str) -> Result<Tally, AllocError>>(
     rt: &R,
     name: &str,
-    texts: &[&'static str],
+    texts: &[&'t str],
     call: F,
 ) -> io::Result<Tally>
     requires { F.IsAlwaysCallable call }
 {
     let mut total = Tally::NONE;
     for text in texts {
-        let tally = call(*text)?;
+        let tally = call(rt.alloc(), *text)?;
         if tally.wrong > 0 {
             println!(rt; "{name}: a wrong answer for {text:?}")?;
         }

@@ -55,12 +55,17 @@ fn written(alloc: Global, text: &str, edition: Edition) -> Result<String, Fail> 
     Ok(serialize(alloc, &tree)?)
 }
 
+/// Whether the tree of a text is read back from what it is written as.
+fn is_kept(alloc: Global, text: &str, edition: Edition) -> Result<bool, Fail> {
+    let again = written(alloc, text, edition)?;
+    let tree = parse_edition(alloc, String::from_str(alloc, text)?, edition);
+    Ok(parse_edition(alloc, again, edition) == tree)
+}
+
 #[test]
 fn trees_that_are_kept(rt: HostRuntime) -> Result<(), Fail> {
     for (shows, text) in KEPT {
-        let again = written(rt.alloc(), text, Edition::One)?;
-        let tree = parse(rt.alloc(), text);
-        assert!(rt; parse(rt.alloc(), again.as_str()) == tree, "{shows}");
+        assert!(rt; is_kept(rt.alloc(), text, Edition::One)?, "{shows}");
     }
     Ok(())
 }
@@ -83,12 +88,7 @@ fn trees_of_edition_two(rt: HostRuntime) -> Result<(), Fail> {
         "key =\n{x}\n    b\n",
         "key =\n    a\n      {x}\n",
     ] {
-        let again = written(rt.alloc(), text, Edition::Two)?;
-        let tree = parse_edition(rt.alloc(), text, Edition::Two);
-        assert!(rt;
-            parse_edition(rt.alloc(), again.as_str(), Edition::Two) == tree,
-            "{text:?}"
-        );
+        assert!(rt; is_kept(rt.alloc(), text, Edition::Two)?, "{text:?}");
     }
     Ok(())
 }
