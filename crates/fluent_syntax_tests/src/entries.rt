@@ -5,7 +5,7 @@ use fluent_syntax::parser::parse;
 use std::test::Fail;
 
 /// What it shows, the text, and the outline of the answer.
-const ROWS: [(&str, &str, &str); 31] = [
+const ROWS: [(&str, &str, &str); 34] = [
     (
         "blank lines around a message",
         "\n\nhello-world = Hello World!\n\n",
@@ -144,6 +144,21 @@ const ROWS: [(&str, &str, &str); 31] = [
         "a line mark may stand in the opening line",
         "key = [a\n  b\n",
         "key = \"[a\\n\" \"b\"\n",
+    ),
+    (
+        "a placeable that opens a block does not count for the common indent",
+        "key =\n  {x} a\n    b\n",
+        "key = {x} \" a\\n\" \"b\"\n",
+    ),
+    (
+        "blanks separate arguments",
+        "k = {F(a b: c)}",
+        "k = {F(a;b: c;)}\n",
+    ),
+    (
+        "a blank may stand before arguments",
+        "k = {-t.a (1) ->\n*[a] b\n}",
+        "k = {-t.a(number 1;) -> *[a] \"b\"}\n",
     ),
 ];
 

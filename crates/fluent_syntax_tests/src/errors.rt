@@ -5,7 +5,7 @@ use fluent_syntax::parser::parse;
 use std::test::Fail;
 
 /// What it shows, the text, and the outline of the answer.
-const ROWS: [(&str, &str, &str); 45] = [
+const ROWS: [(&str, &str, &str); 47] = [
     (
         "spaces alone",
         "  ",
@@ -230,6 +230,16 @@ const ROWS: [(&str, &str, &str); 45] = [
         "spaces behind a comment",
         "# a\n  ",
         "# \"a\"\nJunk \"  \"\n4..5 4..6 ExpectedCharRange(\"a-zA-Z\")\n",
+    ),
+    (
+        "a term's attribute follows its name at once",
+        "k = {-t .a}",
+        "Junk \"k = {-t .a}\"\n8..9 0..11 ExpectedToken('}')\n",
+    ),
+    (
+        "a term's attribute behind a blank",
+        "k ={ -t.a }",
+        "Junk \"k ={ -t.a }\"\n10..11 0..11 TermAttributeAsPlaceable\n",
     ),
 ];
 

@@ -2,7 +2,11 @@
 #![tactic(auto)]
 
 #[cfg(test)]
+mod copies;
+#[cfg(test)]
 mod editions;
+#[cfg(test)]
+mod ends;
 #[cfg(test)]
 mod entries;
 #[cfg(test)]
@@ -10,13 +14,17 @@ mod errors;
 #[cfg(test)]
 mod json;
 #[cfg(test)]
+mod kinds;
+#[cfg(test)]
 mod outline;
 #[cfg(test)]
 mod places;
 #[cfg(test)]
-mod program;
+mod read_back;
 #[cfg(test)]
 mod round_trip;
+#[cfg(test)]
+mod runs;
 #[cfg(test)]
 mod runtime;
 #[cfg(test)]
@@ -26,8 +34,12 @@ mod sinks;
 #[cfg(test)]
 mod spans;
 #[cfg(test)]
+mod surface;
+#[cfg(test)]
 mod trees;
 #[cfg(test)]
 mod unescaped;
+#[cfg(test)]
+mod words;
 #[cfg(test)]
 mod written;

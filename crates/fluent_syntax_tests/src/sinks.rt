@@ -73,6 +73,51 @@ impl TextSink for Refusing {
     }
 }
 
+/// A sink of a few bytes, which takes what fits.
+#[derive(Drop)]
+struct Small {
+    text: String,
+    room: usize,
+}
+
+impl TextSink for Small {
+    ghost text = { λ s. string_bytes s.text };
+
+    ghost room = { λ _. 0 };
+
+    fn write_str(&mut self, s: &str) -> Result<(), SinkError> {
+        if s.len() > self.room {
+            return Err(SinkError);
+        }
+        self.text.write_str(s)?;
+        self.room -= s.len();
+        Ok(())
+    }
+
+    fn write_char(&mut self, c: char) -> Result<(), SinkError> {
+        let mut bytes = [0; 4];
+        self.write_str(c.encode_utf8(&mut bytes))
+    }
+}
+
+#[test]
+fn an_escaped_text_to_a_sink_of_four_bytes(rt: HostRuntime) -> Result<(), Fail> {
+    for (text, whole, answer) in [
+        ("ab\\u00e9", "abé", Ok(())),
+        ("abc\\u00e9", "abcé", Err(SinkError)),
+    ] {
+        let mut sink = Small {
+            text: String::new(rt.alloc()),
+            room: 4,
+        };
+        let written = unescape_unicode(&mut sink, text);
+        assert_eq!(rt; sink.text.as_str() == whole, written.is_ok());
+        assert!(rt; whole.starts_with(sink.text.as_str()));
+        assert_eq!(rt; written, answer);
+    }
+    Ok(())
+}
+
 const TEXTS: [&str; 6] = [
     "",
     "k = v\n",

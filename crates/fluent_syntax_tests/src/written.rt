@@ -110,6 +110,22 @@ fn one(alloc: Global, entry: Entry<Text>) -> Result<String, AllocError> {
     )
 }
 
+/// A message whose value is a select of two variants.
+fn select_message(alloc: Global) -> Result<Resource<Text>, AllocError> {
+    let variants = vec![in alloc;
+        variant(alloc, "key1", "Value 1", false)?,
+        variant(alloc, "other", "Value 2", true)?,
+    ]?;
+    let expression = Expression::Select {
+        selector: variable("var"),
+        variants,
+    };
+    let elements = vec![in alloc; PatternElement::Placeable { expression }]?;
+    Ok(Resource {
+        body: vec![in alloc; message(alloc, "key", elements)?]?,
+    })
+}
+
 #[test]
 fn writes_messages(rt: HostRuntime) -> Result<(), Fail> {
     let alloc = rt.alloc();
@@ -216,24 +232,8 @@ fn writes_expressions(rt: HostRuntime) -> Result<(), Fail> {
 #[test]
 fn writes_selects(rt: HostRuntime) -> Result<(), Fail> {
     let alloc = rt.alloc();
-    let variants = vec![in alloc;
-        variant(alloc, "key1", "Value 1", false)?,
-        variant(alloc, "other", "Value 2", true)?,
-    ]?;
-    let select = Expression::Select {
-        selector: variable("var"),
-        variants,
-    };
-    let written = one(
-        alloc,
-        message(
-            alloc,
-            "key",
-            vec![in alloc; PatternElement::Placeable { expression: select }]?,
-        )?,
-    )?;
     assert_eq!(rt;
-        written.as_str(),
+        serialize(alloc, &select_message(alloc)?)?.as_str(),
         "key =\n    { $var ->\n        [key1] Value 1\n       *[other] Value 2\n    }\n"
     );
 
@@ -353,11 +353,28 @@ fn writes_after_what_a_sink_holds(rt: HostRuntime) -> Result<(), Fail> {
     assert_eq!(rt; serialize_to(&mut sink, &empty, Options::default()), Ok(()));
     assert_eq!(rt; sink.as_str(), "\r\n");
 
+    let select = select_message(alloc)?;
+    let mut sink = String::from_str(alloc, "x")?;
+    assert_eq!(rt;
+        serialize_to(&mut sink, &select, Options::default()),
+        Ok(())
+    );
+    assert_eq!(rt;
+        sink.as_str(),
+        "xkey =\n    { $var ->\n        [key1] Value 1\n       *[other] Value 2\n    }\n"
+    );
+    Ok(())
+}
+
+#[test]
+fn writes_a_line_end_behind_a_cr(rt: HostRuntime) -> Result<(), Fail> {
+    let alloc = rt.alloc();
     let cr = Resource {
         body: vec![in alloc; Entry::Comment(comment(alloc, "a\r")?)]?,
     };
-    let mut sink = String::from_str(alloc, "x")?;
+    assert_eq!(rt; serialize(alloc, &cr)?.as_str(), "# a\r\r\n\n");
+    let mut sink = String::new(alloc);
     assert_eq!(rt; serialize_to(&mut sink, &cr, Options::default()), Ok(()));
-    assert_eq!(rt; sink.as_str(), "x# a\r\r\n\n");
+    assert_eq!(rt; sink.as_str(), "# a\r\r\n\n");
     Ok(())
 }

@@ -1,0 +1,98 @@
+//! Each text cut at each of its characters, through the parsers and through a check.
+
+use crate::junk::junk_matches;
+use crate::texts::TEXTS;
+use fluent_syntax::ast::Resource;
+use fluent_syntax::parser::{ParseFault, ParserError, Result as Parsed, parse, parse_runtime};
+use fluent_syntax::spans::{parse_runtime_spans, parse_spans, resolve};
+use ftl::{Command, Outcome, Watched, run};
+use std::alloc::Global;
+use std::test::Fail;
+
+/// The tree of an answer, and its errors.
+fn parts<S>(alloc: Global, answer: Parsed<S>) -> Result<(Resource<S>, Vec<ParserError>), Fail> {
+    match answer {
+        Ok(tree) => Ok((tree, Vec::new(alloc))),
+        Err(ParseFault::Syntax(tree, errors)) => Ok((tree, errors)),
+        Err(ParseFault::Memory) => Err("no memory".into()),
+    }
+}
+
+/// Whether errors and junk match, with comments and without, in texts and in spans.
+fn errors_match(alloc: Global, text: &str) -> Result<bool, Fail> {
+    let (tree, errors) = parts(alloc, parse(alloc, text))?;
+    let (runtime, faults) = parts(alloc, parse_runtime(alloc, text))?;
+    let (spans, same_errors) = parts(alloc, parse_spans(alloc, text))?;
+    let (runtime_spans, same_faults) = parts(alloc, parse_runtime_spans(alloc, text))?;
+    Ok(
+        junk_matches(text, &tree, &errors)
+            && junk_matches(text, &runtime, &faults)
+            && junk_matches(text, &spans, &same_errors)
+            && junk_matches(text, &runtime_spans, &same_faults),
+    )
+}
+
+/// Whether the tree of spans with the texts put back, and its errors, are what `parse` answers.
+fn spans_agree(alloc: Global, text: &str) -> Result<bool, Fail> {
+    let answer = match parse_spans(alloc, text) {
+        Ok(tree) => Ok(resolve(alloc, &text, &tree)?),
+        Err(ParseFault::Syntax(tree, errors)) => {
+            Err(ParseFault::Syntax(resolve(alloc, &text, &tree)?, errors))
+        }
+        Err(ParseFault::Memory) => return Err("no memory".into()),
+    };
+    Ok(answer == parse(alloc, text))
+}
+
+/// The same without comments.
+fn runtime_spans_agree(alloc: Global, text: &str) -> Result<bool, Fail> {
+    let answer = match parse_runtime_spans(alloc, text) {
+        Ok(tree) => Ok(resolve(alloc, &text, &tree)?),
+        Err(ParseFault::Syntax(tree, errors)) => {
+            Err(ParseFault::Syntax(resolve(alloc, &text, &tree)?, errors))
+        }
+        Err(ParseFault::Memory) => return Err("no memory".into()),
+    };
+    Ok(answer == parse_runtime(alloc, text))
+}
+
+/// Whether a check of the text writes one line for each error.
+fn check_tells_all(alloc: Global, text: &str) -> Result<bool, Fail> {
+    let (_, errors) = parts(alloc, parse(alloc, text))?;
+    let mut reader = Watched::new(text.as_bytes());
+    let mut writer = Watched::new(Vec::new(alloc));
+    let expected = if errors.is_empty() {
+        Outcome::Clean
+    } else {
+        Outcome::SyntaxErrors
+    };
+    let ended = run(alloc, Command::Check, &mut reader, &mut writer);
+    let written = writer.into_inner();
+    let lines = written.iter().filter(|byte| **byte == b'\n').count();
+    Ok(ended == Ok(expected) && lines == errors.len())
+}
+
+/// The first beginning of the text for which one of these does not hold.
+fn beginning_that_fails<'t>(alloc: Global, text: &'t str) -> Result<Option<&'t str>, Fail> {
+    for end in 0..=text.len() {
+        let Some(cut) = text.get(..end) else {
+            continue;
+        };
+        let agrees = errors_match(alloc, cut)?
+            && spans_agree(alloc, cut)?
+            && runtime_spans_agree(alloc, cut)?
+            && check_tells_all(alloc, cut)?;
+        if !agrees {
+            return Ok(Some(cut));
+        }
+    }
+    Ok(None)
+}
+
+#[test]
+fn each_beginning_of_each_text(rt: HostRuntime) -> Result<(), Fail> {
+    for text in TEXTS {
+        assert_eq!(rt; beginning_that_fails(rt.alloc(), text)?, None);
+    }
+    Ok(())
+}

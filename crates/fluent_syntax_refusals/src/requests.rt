@@ -1,0 +1,19 @@
+//! Words to the library that refuses requests: requests of sizes that nothing else asks for.
+
+use std::alloc::Global;
+
+/// With `n` beyond it: refuse the n-th request from now on.
+const REFUSE: usize = 1 << 62;
+
+/// Refuse none from now on; the library grants it where it had refused one.
+const TELL: usize = 1 << 61;
+
+/// Has the n-th request from now on refused, counting from 1.
+pub fn refuse(alloc: Global, n: u32) {
+    let _ = Vec::<u8>::with_capacity(alloc, REFUSE + n as usize);
+}
+
+/// Whether the request was refused; from now on none is.
+pub fn was_refused(alloc: Global) -> bool {
+    Vec::<u8>::with_capacity(alloc, TELL).is_ok()
+}

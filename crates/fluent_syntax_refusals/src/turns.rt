@@ -1,0 +1,94 @@
+//! A call with its requests for memory refused in turn.
+
+use crate::answers::Answer;
+use crate::requests::{refuse, was_refused};
+use std::alloc::{AllocError, Global};
+use std::io;
+
+/// More requests than a call makes.
+const MOST: u32 = 100_000;
+
+/// What was seen of a call.
+#[derive(Clone, Copy)]
+pub struct Tally {
+    /// How many requests were refused.
+    pub refused: u64,
+    /// How many answers were wrong.
+    pub wrong: u64,
+}
+
+impl Tally {
+    pub const NONE: Tally = Tally {
+        refused: 0,
+        wrong: 0,
+    };
+
+    /// Both together.
+    pub fn and(self, other: Tally) -> Tally {
+        Tally {
+            refused: self.refused.saturating_add(other.refused),
+            wrong: self.wrong.saturating_add(other.wrong),
+        }
+    }
+
+    /// One wrong answer more, where it is one.
+    pub fn wrong_if(self, is_wrong: bool) -> Tally {
+        Tally {
+            refused: self.refused,
+            wrong: self.wrong.saturating_add(u64::from(is_wrong)),
+        }
+    }
+}
+
+/// Calls with the first request refused, then with the second, and so on, until a call made no request
+/// that was refused. What `make` gives the call is made with ample memory.
+pub fn in_turn<I, A: Answer + Drop, M: Fn() -> Result<I, AllocError>, F: Fn(I) -> A>(
+    alloc: Global,
+    make: M,
+    call: F,
+) -> Result<Tally, AllocError>
+    requires make { M.IsAlwaysCallable make }
+    requires call { F.IsAlwaysCallable call }
+{
+    let ample = call(make()?);
+    let mut tally = Tally::NONE.wrong_if(ample.is_want_of_memory(&ample));
+    for n in 1..MOST {
+        let given = make()?;
+        refuse(alloc, n);
+        let answer = call(given);
+        if !was_refused(alloc) {
+            return Ok(tally.wrong_if(!answer.is_same(&ample)));
+        }
+        tally.refused = tally.refused.saturating_add(1);
+        let fits = answer.is_same(&ample) || answer.is_want_of_memory(&ample);
+        tally = tally.wrong_if(!fits);
+    }
+    Ok(tally.wrong_if(true))
+}
+
+/// For a call that is given nothing of its own.
+pub fn nothing() -> Result<(), AllocError> {
+    Ok(())
+}
+
+/// A call over each of the texts; prints what was seen of it.
+pub fn over<'t, R: Print + AllocGlobal, F: Fn(Global, &'t str) -> Result<Tally, AllocError>>(
+    rt: &R,
+    name: &str,
+    texts: &[&'t str],
+    call: F,
+) -> io::Result<Tally>
+    requires { F.IsAlwaysCallable call }
+{
+    let mut total = Tally::NONE;
+    for text in texts {
+        let tally = call(rt.alloc(), *text)?;
+        if tally.wrong > 0 {
+            println!(rt; "{name}: a wrong answer for {text:?}")?;
+        }
+        total = total.and(tally);
+    }
+    let Tally { refused, wrong } = total;
+    println!(rt; "{name}: {refused} requests refused, {wrong} wrong answers")?;
+    Ok(total)
+}

@@ -1,0 +1,54 @@
+//! The serializer, and unescaping.
+
+use crate::answers::{HELD, Sunk};
+use crate::trees::lent_tree;
+use crate::turns::{Tally, in_turn, nothing, over};
+use fluent_syntax::serializer::{Options, serialize, serialize_to, serialize_with_options};
+use fluent_syntax::unicode::{unescape_unicode, unescape_unicode_to_string};
+use fluent_syntax_corpus::{ESCAPED, TEXTS};
+use std::alloc::{AllocError, Global};
+use std::io;
+
+pub fn calls<R: Print + AllocGlobal>(rt: &R) -> io::Result<Tally> {
+    let texts = TEXTS.as_slice();
+    let trees = over(rt, "serializing", texts, written)?;
+    let escaped = over(rt, "unescaping", ESCAPED.as_slice(), unescaped)?;
+    let corpus = over(rt, "unescaping the corpus", texts, unescaped)?;
+    Ok(trees.and(escaped).and(corpus))
+}
+
+/// The three ways to write a text's tree, which stays as it was.
+fn written(alloc: Global, text: &str) -> Result<Tally, AllocError> {
+    let (tree, _errors) = lent_tree(alloc, text)?;
+    let (before, _errors) = lent_tree(alloc, text)?;
+    let options = Options { with_junk: true };
+    let plain = in_turn(alloc, nothing, |_| serialize(alloc, &tree))?;
+    let with_junk = in_turn(
+        alloc,
+        nothing,
+        |_| serialize_with_options(alloc, &tree, options),
+    )?;
+    let sunk = in_turn(
+        alloc,
+        || String::from_str(alloc, HELD),
+        |mut sink| Sunk {
+            answer: serialize_to(&mut sink, &tree, options),
+            sink,
+        },
+    )?;
+    Ok(plain.and(with_junk).and(sunk).wrong_if(tree != before))
+}
+
+/// Both ways to unescape a text.
+fn unescaped(alloc: Global, text: &str) -> Result<Tally, AllocError> {
+    let sunk = in_turn(
+        alloc,
+        || String::from_str(alloc, HELD),
+        |mut sink| Sunk {
+            answer: unescape_unicode(&mut sink, text),
+            sink,
+        },
+    )?;
+    let given = in_turn(alloc, nothing, |_| unescape_unicode_to_string(alloc, text))?;
+    Ok(sunk.and(given))
+}

@@ -1,0 +1,157 @@
+//! A copy of each node of a tree, over lent and over owned texts, and of each kind of error.
+
+use crate::kinds::{KINDS, kind};
+use fluent_syntax::ast::*;
+use fluent_syntax::parser::{ParserError, Slice, parse};
+use std::alloc::Global;
+use std::test::Fail;
+
+/// A text that has each node of the tree.
+const TEXT: &str =
+    "# c\nkey = a { -t(\"p\", n: 1) }\n    .b = d\n-t = { $x ->\n   *[one] u\n }\n\n## g\n";
+
+/// Whether the copies of a message and of what it is made of are equal to them.
+fn copies_of_message<'s, S: Slice<'s>>(alloc: Global, message: &Message<S>) -> Result<bool, Fail> {
+    let Some(value) = &message.value else {
+        return Err("no value".into());
+    };
+    let Some(comment) = &message.comment else {
+        return Err("no comment".into());
+    };
+    let Some(attribute) = message.attributes.first() else {
+        return Err("no attribute".into());
+    };
+    Ok(
+        message.try_clone(alloc)? == *message
+            && message.id.try_clone(alloc)? == message.id
+            && value.try_clone(alloc)? == *value
+            && comment.try_clone(alloc)? == *comment
+            && attribute.try_clone(alloc)? == *attribute,
+    )
+}
+
+/// Whether the copies of a pattern's elements, and of the expression in the last one, are equal to them.
+fn copies_of_elements<'s, S: Slice<'s>>(alloc: Global, pattern: &Pattern<S>) -> Result<bool, Fail> {
+    let mut equal = true;
+    for element in &pattern.elements {
+        equal &= element.try_clone(alloc)? == *element;
+    }
+    let Some(PatternElement::Placeable { expression }) = pattern.elements.last() else {
+        return Err("no placeable".into());
+    };
+    Ok(equal && expression.try_clone(alloc)? == *expression)
+}
+
+/// Whether the copies of a term reference and of what it is made of are equal to them.
+fn copies_of_reference<'s, S: Slice<'s>>(
+    alloc: Global,
+    pattern: &Pattern<S>,
+) -> Result<bool, Fail> {
+    let Some(
+        PatternElement::Placeable {
+            expression: Expression::Inline(inline),
+        },
+    ) = pattern.elements.last()
+    else {
+        return Err("no inline expression".into());
+    };
+    let InlineExpression::TermReference {
+        arguments: Some(arguments),
+        ..
+    } = inline
+    else {
+        return Err("no arguments".into());
+    };
+    let Some(named) = arguments.named.first() else {
+        return Err("no named argument".into());
+    };
+    Ok(
+        inline.try_clone(alloc)? == *inline
+            && arguments.try_clone(alloc)? == *arguments
+            && named.try_clone(alloc)? == *named,
+    )
+}
+
+/// Whether the copies of a select's variant and of its key are equal to them.
+fn copies_of_variant<'s, S: Slice<'s>>(alloc: Global, pattern: &Pattern<S>) -> Result<bool, Fail> {
+    let Some(
+        PatternElement::Placeable {
+            expression: Expression::Select { variants, .. },
+        },
+    ) = pattern.elements.last()
+    else {
+        return Err("no select".into());
+    };
+    let Some(variant) = variants.first() else {
+        return Err("no variant".into());
+    };
+    Ok(variant.try_clone(alloc)? == *variant && variant.key.try_clone(alloc)? == variant.key)
+}
+
+/// Whether the copies of a tree and of each of its nodes are equal to them.
+fn copies_of_tree<'s, S: Slice<'s>>(alloc: Global, tree: &Resource<S>) -> Result<bool, Fail> {
+    let [first, second, third] = tree.body.as_slice() else {
+        return Err("not three entries".into());
+    };
+    let Entry::Message(message) = first else {
+        return Err("no message".into());
+    };
+    let Some(value) = &message.value else {
+        return Err("no value".into());
+    };
+    let Entry::Term(term) = second else {
+        return Err("no term".into());
+    };
+    Ok(
+        tree.try_clone(alloc)? == *tree
+            && first.try_clone(alloc)? == *first
+            && third.try_clone(alloc)? == *third
+            && term.try_clone(alloc)? == *term
+            && copies_of_message(alloc, message)?
+            && copies_of_elements(alloc, value)?
+            && copies_of_reference(alloc, value)?
+            && copies_of_elements(alloc, &term.value)?
+            && copies_of_variant(alloc, &term.value)?,
+    )
+}
+
+#[test]
+fn trees_over_lent_texts(rt: HostRuntime) -> Result<(), Fail> {
+    let Ok(tree) = parse(rt.alloc(), TEXT) else {
+        return Err("a text without errors was refused".into());
+    };
+    assert!(rt; copies_of_tree(rt.alloc(), &tree)?);
+    Ok(())
+}
+
+#[test]
+fn trees_over_owned_texts(rt: HostRuntime) -> Result<(), Fail> {
+    let Ok(tree) = parse(rt.alloc(), String::from_str(rt.alloc(), TEXT)?) else {
+        return Err("a text without errors was refused".into());
+    };
+    assert!(rt; copies_of_tree(rt.alloc(), &tree)?);
+    Ok(())
+}
+
+#[test]
+fn texts(rt: HostRuntime) -> Result<(), Fail> {
+    let lent = "key";
+    assert_eq!(rt; Slice::try_clone(&lent, rt.alloc())?, lent);
+    let owned = String::from_str(rt.alloc(), "key")?;
+    assert_eq!(rt; Slice::try_clone(&owned, rt.alloc())?.as_str(), "key");
+    Ok(())
+}
+
+#[test]
+fn errors_of_each_kind(rt: HostRuntime) -> Result<(), Fail> {
+    for (name, _) in KINDS {
+        let error = ParserError {
+            pos: 1..2,
+            slice: Some(0..3),
+            kind: kind(rt.alloc(), name)?,
+        };
+        assert!(rt; error.try_clone(rt.alloc())? == error, "{name}");
+        assert!(rt; error.kind.try_clone(rt.alloc())? == error.kind, "{name}");
+    }
+    Ok(())
+}
