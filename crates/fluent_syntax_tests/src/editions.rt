@@ -2,6 +2,7 @@
 
 use crate::outline::outline;
 use fluent_syntax::parser::{Edition, parse_edition, parse_runtime_edition};
+use fluent_syntax::serializer::serialize;
 use std::test::Fail;
 
 /// What it shows, the text, and the outlines of both answers.
@@ -52,6 +53,26 @@ fn editions(rt: HostRuntime) -> Result<(), Fail> {
             )?;
             assert_eq!(rt; runtime.as_str(), expected, "{shows}");
         }
+    }
+    Ok(())
+}
+
+/// Texts whose trees of edition two are read back from what they are written as.
+const KEPT: [&str; 3] = [
+    "key =\n  {x} a\n    b\n",
+    "key =\n{x}\n    b\n",
+    "key =\n    a\n      {x}\n",
+];
+
+#[test]
+fn trees_of_edition_two_read_back(rt: HostRuntime) -> Result<(), Fail> {
+    for text in KEPT {
+        let Ok(tree) = parse_edition(rt.alloc(), text, Edition::Two) else {
+            return Err("a text without errors was refused".into());
+        };
+        let written = serialize(rt.alloc(), &tree)?;
+        let again = parse_edition(rt.alloc(), written.as_str(), Edition::Two);
+        assert!(rt; again == Ok(tree), "{text:?}");
     }
     Ok(())
 }

@@ -20,8 +20,6 @@ mod outline;
 #[cfg(test)]
 mod places;
 #[cfg(test)]
-mod read_back;
-#[cfg(test)]
 mod round_trip;
 #[cfg(test)]
 mod runs;

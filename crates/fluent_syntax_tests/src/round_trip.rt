@@ -10,7 +10,7 @@ use std::test::Fail;
 type Text = &'static str;
 
 /// Texts without errors, whose trees are read back as they are.
-const SAME: [(&str, Text); 8] = [
+const SAME: [(&str, Text); 9] = [
     (
         "blank lines around a message",
         "\n\nhello-world = Hello World!\n\n",
@@ -40,6 +40,7 @@ const SAME: [(&str, Text); 8] = [
         "\nunnormalized-message=This message has\n  abnormal spacing and indentation",
     ),
     ("a text that begins with a mark", "key = [a\n  b"),
+    ("a placeable of a placeable", "key = { { \"p\" } }"),
 ];
 
 /// What it shows, the text, and the outline of what its written tree is read as.
