@@ -49,13 +49,15 @@ module _ (t : List ℕ) where
       let others : map fault_of errors ≡ map Some fs = cc in
       let after = ascend_in_text f.slice.end fs up.4 in
       let place = place_told e f first in
-      All-cons (λ e. e.pos.start ≤ length t) e errors (omega (arith, up.3)) (told_in_text f.slice.end errors fs others up.4)
+      All-cons (λ e. e.pos.start ≤ length t) e errors (omega (arith, up.3))
+          (told_in_text f.slice.end errors fs others up.4)
 
   module _ {S X : Type 0} (text : S → X) (whole : BodyTree Span → BodyTree X) where
     given_in_text : (tiles : List Tile) (result : Result (Resource S) (ParseFault S)) →
         Ascend t 0 (faults tiles) → Answers text whole tiles result → ErrorsInText t result
     given_in_text tiles (Ok tree) up given = tt
-    given_in_text tiles (Err (Syntax tree errors)) up (same, told, some) = told_in_text 0 errors.items (faults tiles) told up
+    given_in_text tiles (Err (Syntax tree errors)) up (same, told, some) =
+        told_in_text 0 errors.items (faults tiles) told up
     given_in_text tiles (Err Memory) up given = tt
 
     module _ (edition : Edition) (result : Result (Resource S) (ParseFault S)) where
