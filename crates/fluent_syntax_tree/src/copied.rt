@@ -1,5 +1,5 @@
 //! Trees made of trees: each text by a way of its own, all else the same.
-ghost use Rattle.std.specs.Prelude.{◌≡◌, ℕ, List, IfOk};
+ghost use Rattle.std.specs.Prelude.{◌≡◌, ℕ, List, [], IfOk};
 
 pub mod entries;
 pub mod names;
@@ -25,4 +25,14 @@ pub trait Copies<X, Y> {
     fn copy(&self, alloc: Global, text: &X) -> Result<Y, AllocError>
         requires { can self.now text.now }
         ensures { IfOk result (λ copy. made copy ≡ source self.now text.now) };
+}
+
+/// An empty list, with room for a copy of each item where there is memory for it. Where there is none the first push says so.
+fn list_for<X, Y>(alloc: Global, items: &Vec<X>) -> Vec<Y>
+    ensures { result.items ≡ [] }
+{
+    match Vec::with_capacity(alloc, items.len()) {
+        Ok(list) => list,
+        Err(_) => Vec::new(alloc),
+    }
 }
