@@ -3,11 +3,12 @@ ghost use Rattle.std.specs.Prelude.{◌≡◌, IfOk, map, option_map};
 ghost use Rattle.fluent_syntax_tree.specs.Every.{key_every, option_every, list_every};
 ghost use Rattle.fluent_syntax_tree.specs.View.{identifier_view, key_view, comment_view};
 
-use super::{Copies, list_for};
+use super::list_for;
 use crate::ast::{Comment, Identifier, VariantKey};
+use crate::texts::CopyTexts;
 use std::alloc::{AllocError, Global};
 
-pub(crate) fn identifier<X, Y: Drop, C: Copies<X, Y>>(
+pub(crate) fn identifier<X, Y: Drop, C: CopyTexts<X, Y>>(
     by: &C,
     alloc: Global,
     id: &Identifier<X>,
@@ -20,7 +21,7 @@ pub(crate) fn identifier<X, Y: Drop, C: Copies<X, Y>>(
     })
 }
 
-pub(crate) fn key<X, Y: Drop, C: Copies<X, Y>>(
+pub(crate) fn key<X, Y: Drop, C: CopyTexts<X, Y>>(
     by: &C,
     alloc: Global,
     key: &VariantKey<X>,
@@ -38,7 +39,7 @@ pub(crate) fn key<X, Y: Drop, C: Copies<X, Y>>(
     }
 }
 
-pub(crate) fn attribute<X, Y: Drop, C: Copies<X, Y>>(
+pub(crate) fn attribute<X, Y: Drop, C: CopyTexts<X, Y>>(
     by: &C,
     alloc: Global,
     id: &Option<Identifier<X>>,
@@ -53,7 +54,7 @@ pub(crate) fn attribute<X, Y: Drop, C: Copies<X, Y>>(
     }
 }
 
-pub(crate) fn comment<X, Y: Drop, C: Copies<X, Y>>(
+pub(crate) fn comment<X, Y: Drop, C: CopyTexts<X, Y>>(
     by: &C,
     alloc: Global,
     comment: &Comment<X>,

@@ -3,14 +3,15 @@ ghost use Rattle.std.specs.Prelude.{◌≡◌, IfOk, map, option_map};
 ghost use Rattle.fluent_syntax_tree.specs.Every.{expression_every, inline_every, element_every, arguments_every, named_every, pattern_every, variant_every};
 ghost use Rattle.fluent_syntax_tree.specs.View.{expression_view, inline_view, element_view, arguments_view, named_view, pattern_view, variant_view};
 
+use super::list_for;
 use super::names::{attribute, identifier, key};
-use super::{Copies, list_for};
 use crate::ast::*;
+use crate::texts::CopyTexts;
 use std::alloc::{AllocError, Global};
 
 #[cycle(copied)]
 #[tactic(auto, using(crate::proofs::Views::views))]
-pub(crate) fn pattern<X, Y: Drop, C: Copies<X, Y>>(
+pub(crate) fn pattern<X, Y: Drop, C: CopyTexts<X, Y>>(
     by: &C,
     alloc: Global,
     pattern: &Pattern<X>,
@@ -27,7 +28,7 @@ pub(crate) fn pattern<X, Y: Drop, C: Copies<X, Y>>(
 
 #[cycle(copied)]
 #[tactic(auto, using(crate::proofs::Views::views))]
-pub(crate) fn element<X, Y: Drop, C: Copies<X, Y>>(
+pub(crate) fn element<X, Y: Drop, C: CopyTexts<X, Y>>(
     by: &C,
     alloc: Global,
     element: &PatternElement<X>,
@@ -47,7 +48,7 @@ pub(crate) fn element<X, Y: Drop, C: Copies<X, Y>>(
 
 #[cycle(copied)]
 #[tactic(auto, using(crate::proofs::Views::views))]
-pub(crate) fn expression<X, Y: Drop, C: Copies<X, Y>>(
+pub(crate) fn expression<X, Y: Drop, C: CopyTexts<X, Y>>(
     by: &C,
     alloc: Global,
     expression: &Expression<X>,
@@ -72,7 +73,7 @@ pub(crate) fn expression<X, Y: Drop, C: Copies<X, Y>>(
 
 #[cycle(copied)]
 #[tactic(auto, using(crate::proofs::Views::views))]
-pub(crate) fn variant<X, Y: Drop, C: Copies<X, Y>>(
+pub(crate) fn variant<X, Y: Drop, C: CopyTexts<X, Y>>(
     by: &C,
     alloc: Global,
     variant: &Variant<X>,
@@ -89,7 +90,7 @@ pub(crate) fn variant<X, Y: Drop, C: Copies<X, Y>>(
 
 #[cycle(copied)]
 #[tactic(auto, using(crate::proofs::Views::views))]
-pub(crate) fn named<X, Y: Drop, C: Copies<X, Y>>(
+pub(crate) fn named<X, Y: Drop, C: CopyTexts<X, Y>>(
     by: &C,
     alloc: Global,
     argument: &NamedArgument<X>,
@@ -105,7 +106,7 @@ pub(crate) fn named<X, Y: Drop, C: Copies<X, Y>>(
 
 #[cycle(copied)]
 #[tactic(auto, using(crate::proofs::Views::views))]
-pub(crate) fn arguments<X, Y: Drop, C: Copies<X, Y>>(
+pub(crate) fn arguments<X, Y: Drop, C: CopyTexts<X, Y>>(
     by: &C,
     alloc: Global,
     arguments: &CallArguments<X>,
@@ -129,7 +130,7 @@ pub(crate) fn arguments<X, Y: Drop, C: Copies<X, Y>>(
 
 #[cycle(copied)]
 #[tactic(auto, using(crate::proofs::Views::views))]
-pub(crate) fn inline<X, Y: Drop, C: Copies<X, Y>>(
+pub(crate) fn inline<X, Y: Drop, C: CopyTexts<X, Y>>(
     by: &C,
     alloc: Global,
     inline: &InlineExpression<X>,
