@@ -3,8 +3,8 @@ use Rattle.std.proofs.Common.{◌≡◌, List, [], ◌∷◌, map, Option, Some,
 use Rattle.std.specs.Bool.{Decides, beq}
 use Rattle.std.specs.Cmp.Lexicographic.{pointwise}
 use Rattle.std.specs.Option.{option_eq}
-use Rattle.fluent_syntax_tree.specs.Tree.{ExpressionTree, select, inline, InlineTree, string_literal, number_literal, function_reference, message_reference, term_reference, variable_reference, inline_placeable, arguments, arguments_of, no_arguments, some_arguments, inlines_of, NamedTree, named_argument, nameds_of, ElementTree, text_element, placeable, elements_of, variant, variants_of}
-use Rattle.fluent_syntax_tree.specs.Entry.{AttributeTree, MessageTree, TermTree, EntryTree, message, term, comment, junk, regular, group, resource}
+use Rattle.fluent_syntax_tree.specs.Tree.{select, inline, string_literal, number_literal, function_reference, message_reference, term_reference, variable_reference, inline_placeable, arguments, arguments_of, some_arguments, inlines_of, named_argument, nameds_of, text_element, placeable, elements_of, variant, variants_of}
+use Rattle.fluent_syntax_tree.specs.Entry.{message, term, comment, junk, regular, group, resource}
 use Rattle.fluent_syntax_tree.specs.View.{identifier_view, key_view, expression_view, inline_view, element_view, arguments_view, named_view, pattern_view, variant_view, comment_view, attribute_view, message_view, term_view, entry_view, resource_view}
 use Rattle.fluent_syntax_tree.proofs.Views.{view-Select, view-Inline, view-StringLiteral, view-NumberLiteral, view-FunctionReference, view-MessageReference, view-TermReference, view-VariableReference, view-InlinePlaceable, view-TextElement, view-Placeable, view-Pattern, view-Variant, view-NamedArgument, view-roll-CallArguments, view-roll-Expression, view-roll-InlineExpression}
 use Rattle.fluent_syntax_tree.specs.declared.ast.Identifier.{Identifier}

@@ -1,7 +1,7 @@
 -- A view through two functions is the map of a view.
-use Rattle.std.proofs.Common.{◌≡◌, List, [], ◌∷◌, map, Option, Some, None, option_map, Vec, Box, Global, refl, sym, ap, ◌∙◌, subst}
-use Rattle.fluent_syntax_tree.specs.Tree.{key_map, option_texts, ExpressionTree, select, inline, expression_map, InlineTree, string_literal, number_literal, function_reference, message_reference, term_reference, variable_reference, inline_placeable, inline_map, ArgumentsTree, arguments, arguments_map, no_arguments, some_arguments, inlines_of, inlines_map, NamedTree, named_argument, named_map, nameds_of, nameds_map, ElementTree, text_element, placeable, element_map, PatternTree, elements_of, pattern_map, VariantTree, variant, variant_map, variants_of, variants_map}
-use Rattle.fluent_syntax_tree.specs.Entry.{AttributeTree, attribute_map, message_map, term_map, entry_map, body_map, message, term, comment, regular, group, resource}
+use Rattle.std.proofs.Common.{◌≡◌, List, [], ◌∷◌, map, Option, Some, None, option_map, refl, sym, ap, ◌∙◌, subst}
+use Rattle.fluent_syntax_tree.specs.Tree.{key_map, option_texts, select, inline, expression_map, function_reference, message_reference, term_reference, inline_placeable, inline_map, arguments, arguments_map, no_arguments, some_arguments, inlines_of, inlines_map, named_argument, named_map, nameds_of, nameds_map, placeable, element_map, elements_of, pattern_map, variant, variant_map, variants_of, variants_map}
+use Rattle.fluent_syntax_tree.specs.Entry.{attribute_map, message_map, term_map, entry_map, body_map, message, term, comment, regular, group, resource}
 use Rattle.fluent_syntax_tree.specs.View.{identifier_view, key_view, expression_view, inline_view, element_view, arguments_view, named_view, pattern_view, variant_view, attribute_view, comment_view, message_view, term_view, entry_view, resource_view}
 use Rattle.fluent_syntax_tree.specs.declared.ast.Identifier.{Identifier}
 use Rattle.fluent_syntax_tree.specs.declared.ast.VariantKey.{VariantKey}
