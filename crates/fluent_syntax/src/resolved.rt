@@ -6,9 +6,10 @@ ghost use Rattle.fluent_syntax_tree.specs.Spans.{IsPart, bytes_at};
 ghost use Rattle.fluent_syntax_tree.specs.View.{resource_view};
 
 use fluent_syntax_tree::ast::Resource;
-use fluent_syntax_tree::copied::{Copies, entries};
+use fluent_syntax_tree::copied::entries;
 use fluent_syntax_tree::slice::Slice;
 use fluent_syntax_tree::spans::Span;
+use fluent_syntax_tree::texts::CopyTexts;
 use std::alloc::{AllocError, Global};
 use std::marker::PhantomData;
 
@@ -16,7 +17,7 @@ use std::marker::PhantomData;
 #[derive(Drop)]
 struct Parts<'a, 's, S>(&'a S, PhantomData<&'s ()>);
 
-impl<'a, 's, S: Slice<'s>> Copies<Span, S> for Parts<'a, 's, S> {
+impl<'a, 's, S: Slice<'s>> CopyTexts<Span, S> for Parts<'a, 's, S> {
     ghost can = { λ parts span. IsPart (S.text parts.0.now) span };
 
     ghost source = { λ parts span. bytes_at (S.text parts.0.now) span };

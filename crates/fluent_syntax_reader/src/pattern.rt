@@ -383,7 +383,7 @@ impl<'s> Parser<'s> {
             return Ok(None);
         };
         let last = self.trimmed(common, last);
-        let mut elements = Vec::new(alloc);
+        let mut elements = Vec::with_capacity(alloc, placeholders.len() + 1)?;
         for placeholder in placeholders {
             self.push_element(edition, common, placeholder, &mut elements)?;
         }

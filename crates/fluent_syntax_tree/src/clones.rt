@@ -3,26 +3,10 @@ ghost use Rattle.std.specs.Prelude.{◌≡◌, IfOk};
 ghost use Rattle.fluent_syntax_tree.specs.View.{resource_view, entry_view, message_view, term_view, pattern_view, element_view, attribute_view, identifier_view, variant_view, key_view, comment_view, arguments_view, named_view, inline_view, expression_view};
 
 use crate::ast::*;
-use crate::copied::{Copies, entries, names, patterns};
+use crate::copied::{entries, names, patterns};
 use crate::slice::Slice;
+use crate::texts::BySlice;
 use std::alloc::{AllocError, Global};
-use std::marker::PhantomData;
-
-/// Each text by its own `try_clone`.
-#[derive(Drop)]
-struct Whole<'s>(PhantomData<&'s ()>);
-
-impl<'s, S: Slice<'s>> Copies<S, S> for Whole<'s> {
-    ghost can = { λ _ _. Unit {0} };
-
-    ghost source = { λ _ x. S.text x };
-
-    ghost made = { λ x. S.text x };
-
-    fn copy(&self, alloc: Global, text: &S) -> Result<S, AllocError> {
-        text.try_clone(alloc)
-    }
-}
 
 impl<S> Resource<S> {
     /// An equal copy, or `AllocError` where there is no memory for it.
@@ -31,7 +15,7 @@ impl<S> Resource<S> {
         S: Slice<'s>,
         ensures { IfOk result (λ copy. resource_view S.text copy ≡ resource_view S.text self.now) }
     {
-        let by: Whole<'s> = Whole(PhantomData);
+        let by: BySlice<'s> = BySlice::new();
         entries::resource(&by, alloc, self)
     }
 }
@@ -43,7 +27,7 @@ impl<S> Entry<S> {
         S: Slice<'s>,
         ensures { IfOk result (λ copy. entry_view S.text copy ≡ entry_view S.text self.now) }
     {
-        let by: Whole<'s> = Whole(PhantomData);
+        let by: BySlice<'s> = BySlice::new();
         entries::entry(&by, alloc, self)
     }
 }
@@ -55,7 +39,7 @@ impl<S> Message<S> {
         S: Slice<'s>,
         ensures { IfOk result (λ copy. message_view S.text copy ≡ message_view S.text self.now) }
     {
-        let by: Whole<'s> = Whole(PhantomData);
+        let by: BySlice<'s> = BySlice::new();
         entries::message(&by, alloc, self)
     }
 }
@@ -67,7 +51,7 @@ impl<S> Term<S> {
         S: Slice<'s>,
         ensures { IfOk result (λ copy. term_view S.text copy ≡ term_view S.text self.now) }
     {
-        let by: Whole<'s> = Whole(PhantomData);
+        let by: BySlice<'s> = BySlice::new();
         entries::term(&by, alloc, self)
     }
 }
@@ -79,7 +63,7 @@ impl<S> Pattern<S> {
         S: Slice<'s>,
         ensures { IfOk result (λ copy. pattern_view S.text copy ≡ pattern_view S.text self.now) }
     {
-        let by: Whole<'s> = Whole(PhantomData);
+        let by: BySlice<'s> = BySlice::new();
         patterns::pattern(&by, alloc, self)
     }
 }
@@ -91,7 +75,7 @@ impl<S> PatternElement<S> {
         S: Slice<'s>,
         ensures { IfOk result (λ copy. element_view S.text copy ≡ element_view S.text self.now) }
     {
-        let by: Whole<'s> = Whole(PhantomData);
+        let by: BySlice<'s> = BySlice::new();
         patterns::element(&by, alloc, self)
     }
 }
@@ -103,7 +87,7 @@ impl<S> Attribute<S> {
         S: Slice<'s>,
         ensures { IfOk result (λ copy. attribute_view S.text copy ≡ attribute_view S.text self.now) }
     {
-        let by: Whole<'s> = Whole(PhantomData);
+        let by: BySlice<'s> = BySlice::new();
         entries::attribute(&by, alloc, self)
     }
 }
@@ -115,7 +99,7 @@ impl<S> Identifier<S> {
         S: Slice<'s>,
         ensures { IfOk result (λ copy. identifier_view S.text copy ≡ identifier_view S.text self.now) }
     {
-        let by: Whole<'s> = Whole(PhantomData);
+        let by: BySlice<'s> = BySlice::new();
         names::identifier(&by, alloc, self)
     }
 }
@@ -127,7 +111,7 @@ impl<S> Variant<S> {
         S: Slice<'s>,
         ensures { IfOk result (λ copy. variant_view S.text copy ≡ variant_view S.text self.now) }
     {
-        let by: Whole<'s> = Whole(PhantomData);
+        let by: BySlice<'s> = BySlice::new();
         patterns::variant(&by, alloc, self)
     }
 }
@@ -139,7 +123,7 @@ impl<S> VariantKey<S> {
         S: Slice<'s>,
         ensures { IfOk result (λ copy. key_view S.text copy ≡ key_view S.text self.now) }
     {
-        let by: Whole<'s> = Whole(PhantomData);
+        let by: BySlice<'s> = BySlice::new();
         names::key(&by, alloc, self)
     }
 }
@@ -151,7 +135,7 @@ impl<S> Comment<S> {
         S: Slice<'s>,
         ensures { IfOk result (λ copy. comment_view S.text copy ≡ comment_view S.text self.now) }
     {
-        let by: Whole<'s> = Whole(PhantomData);
+        let by: BySlice<'s> = BySlice::new();
         names::comment(&by, alloc, self)
     }
 }
@@ -163,7 +147,7 @@ impl<S> CallArguments<S> {
         S: Slice<'s>,
         ensures { IfOk result (λ copy. arguments_view S.text copy ≡ arguments_view S.text self.now) }
     {
-        let by: Whole<'s> = Whole(PhantomData);
+        let by: BySlice<'s> = BySlice::new();
         patterns::arguments(&by, alloc, self)
     }
 }
@@ -175,7 +159,7 @@ impl<S> NamedArgument<S> {
         S: Slice<'s>,
         ensures { IfOk result (λ copy. named_view S.text copy ≡ named_view S.text self.now) }
     {
-        let by: Whole<'s> = Whole(PhantomData);
+        let by: BySlice<'s> = BySlice::new();
         patterns::named(&by, alloc, self)
     }
 }
@@ -187,7 +171,7 @@ impl<S> InlineExpression<S> {
         S: Slice<'s>,
         ensures { IfOk result (λ copy. inline_view S.text copy ≡ inline_view S.text self.now) }
     {
-        let by: Whole<'s> = Whole(PhantomData);
+        let by: BySlice<'s> = BySlice::new();
         patterns::inline(&by, alloc, self)
     }
 }
@@ -199,7 +183,7 @@ impl<S> Expression<S> {
         S: Slice<'s>,
         ensures { IfOk result (λ copy. expression_view S.text copy ≡ expression_view S.text self.now) }
     {
-        let by: Whole<'s> = Whole(PhantomData);
+        let by: BySlice<'s> = BySlice::new();
         patterns::expression(&by, alloc, self)
     }
 }

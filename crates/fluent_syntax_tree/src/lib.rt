@@ -10,3 +10,4 @@ pub mod errors;
 pub mod laws;
 pub mod slice;
 pub mod spans;
+pub mod texts;

@@ -3,13 +3,14 @@ ghost use Rattle.std.specs.Prelude.{◌≡◌, [], IsOk, IfOk, map, option_map};
 ghost use Rattle.fluent_syntax_tree.specs.Every.{pattern_every, attribute_every, message_every, term_every, entry_every, body_every, option_every, list_every};
 ghost use Rattle.fluent_syntax_tree.specs.View.{comment_view, pattern_view, attribute_view, message_view, term_view, entry_view, resource_view};
 
-use super::Copies;
+use super::list_for;
 use super::names::{comment, identifier};
 use super::patterns::pattern;
 use crate::ast::*;
+use crate::texts::CopyTexts;
 use std::alloc::{AllocError, Global};
 
-pub fn attribute<X, Y: Drop, C: Copies<X, Y>>(
+pub(crate) fn attribute<X, Y: Drop, C: CopyTexts<X, Y>>(
     by: &C,
     alloc: Global,
     attribute: &Attribute<X>,
@@ -23,7 +24,7 @@ pub fn attribute<X, Y: Drop, C: Copies<X, Y>>(
     })
 }
 
-fn attributes<X, Y: Drop, C: Copies<X, Y>>(
+fn attributes<X, Y: Drop, C: CopyTexts<X, Y>>(
     by: &C,
     alloc: Global,
     attributes: &Vec<Attribute<X>>,
@@ -32,14 +33,14 @@ fn attributes<X, Y: Drop, C: Copies<X, Y>>(
     ensures { IfOk result (λ copy. map (attribute_view C.made) copy.items
         ≡ map (attribute_view (C.source by.now)) attributes.now.items) }
 {
-    let mut copies = Vec::new(alloc);
+    let mut copies = list_for(alloc, attributes);
     for item in attributes {
         copies.push(attribute(by, alloc, item)?)?;
     }
     Ok(copies)
 }
 
-fn value<X, Y: Drop, C: Copies<X, Y>>(
+fn value<X, Y: Drop, C: CopyTexts<X, Y>>(
     by: &C,
     alloc: Global,
     value: &Option<Pattern<X>>,
@@ -54,7 +55,7 @@ fn value<X, Y: Drop, C: Copies<X, Y>>(
     }
 }
 
-fn hung<X, Y: Drop, C: Copies<X, Y>>(
+fn hung<X, Y: Drop, C: CopyTexts<X, Y>>(
     by: &C,
     alloc: Global,
     hung: &Option<Comment<X>>,
@@ -69,7 +70,7 @@ fn hung<X, Y: Drop, C: Copies<X, Y>>(
     }
 }
 
-pub fn message<X, Y: Drop, C: Copies<X, Y>>(
+pub(crate) fn message<X, Y: Drop, C: CopyTexts<X, Y>>(
     by: &C,
     alloc: Global,
     message: &Message<X>,
@@ -85,7 +86,7 @@ pub fn message<X, Y: Drop, C: Copies<X, Y>>(
     })
 }
 
-pub fn term<X, Y: Drop, C: Copies<X, Y>>(
+pub(crate) fn term<X, Y: Drop, C: CopyTexts<X, Y>>(
     by: &C,
     alloc: Global,
     term: &Term<X>,
@@ -101,7 +102,7 @@ pub fn term<X, Y: Drop, C: Copies<X, Y>>(
     })
 }
 
-pub fn entry<X, Y: Drop, C: Copies<X, Y>>(
+pub(crate) fn entry<X, Y: Drop, C: CopyTexts<X, Y>>(
     by: &C,
     alloc: Global,
     entry: &Entry<X>,
@@ -121,7 +122,7 @@ pub fn entry<X, Y: Drop, C: Copies<X, Y>>(
     }
 }
 
-pub fn resource<X, Y: Drop, C: Copies<X, Y>>(
+pub fn resource<X, Y: Drop, C: CopyTexts<X, Y>>(
     by: &C,
     alloc: Global,
     resource: &Resource<X>,
@@ -130,7 +131,7 @@ pub fn resource<X, Y: Drop, C: Copies<X, Y>>(
     ensures copy { IfOk result (λ copy. resource_view C.made copy ≡ resource_view (C.source by.now) resource.now) }
     ensures empty { resource.now.body.items ≡ [] → IsOk result }
 {
-    let mut body = Vec::new(alloc);
+    let mut body = list_for(alloc, &resource.body);
     for item in &resource.body {
         body.push(entry(by, alloc, item)?)?;
     }

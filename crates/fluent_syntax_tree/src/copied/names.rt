@@ -3,11 +3,12 @@ ghost use Rattle.std.specs.Prelude.{◌≡◌, IfOk, map, option_map};
 ghost use Rattle.fluent_syntax_tree.specs.Every.{key_every, option_every, list_every};
 ghost use Rattle.fluent_syntax_tree.specs.View.{identifier_view, key_view, comment_view};
 
-use super::Copies;
+use super::list_for;
 use crate::ast::{Comment, Identifier, VariantKey};
+use crate::texts::CopyTexts;
 use std::alloc::{AllocError, Global};
 
-pub fn identifier<X, Y: Drop, C: Copies<X, Y>>(
+pub(crate) fn identifier<X, Y: Drop, C: CopyTexts<X, Y>>(
     by: &C,
     alloc: Global,
     id: &Identifier<X>,
@@ -20,7 +21,7 @@ pub fn identifier<X, Y: Drop, C: Copies<X, Y>>(
     })
 }
 
-pub fn key<X, Y: Drop, C: Copies<X, Y>>(
+pub(crate) fn key<X, Y: Drop, C: CopyTexts<X, Y>>(
     by: &C,
     alloc: Global,
     key: &VariantKey<X>,
@@ -38,7 +39,7 @@ pub fn key<X, Y: Drop, C: Copies<X, Y>>(
     }
 }
 
-pub fn attribute<X, Y: Drop, C: Copies<X, Y>>(
+pub(crate) fn attribute<X, Y: Drop, C: CopyTexts<X, Y>>(
     by: &C,
     alloc: Global,
     id: &Option<Identifier<X>>,
@@ -53,7 +54,7 @@ pub fn attribute<X, Y: Drop, C: Copies<X, Y>>(
     }
 }
 
-pub fn comment<X, Y: Drop, C: Copies<X, Y>>(
+pub(crate) fn comment<X, Y: Drop, C: CopyTexts<X, Y>>(
     by: &C,
     alloc: Global,
     comment: &Comment<X>,
@@ -61,7 +62,7 @@ pub fn comment<X, Y: Drop, C: Copies<X, Y>>(
     requires each { list_every (C.can by.now) (comment_view (λ x. x) comment.now) }
     ensures { IfOk result (λ copy. comment_view C.made copy ≡ comment_view (C.source by.now) comment.now) }
 {
-    let mut content = Vec::new(alloc);
+    let mut content = list_for(alloc, &comment.content);
     for line in &comment.content {
         content.push(by.copy(alloc, line)?)?;
     }

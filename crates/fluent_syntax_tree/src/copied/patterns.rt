@@ -3,14 +3,15 @@ ghost use Rattle.std.specs.Prelude.{◌≡◌, IfOk, map, option_map};
 ghost use Rattle.fluent_syntax_tree.specs.Every.{expression_every, inline_every, element_every, arguments_every, named_every, pattern_every, variant_every};
 ghost use Rattle.fluent_syntax_tree.specs.View.{expression_view, inline_view, element_view, arguments_view, named_view, pattern_view, variant_view};
 
-use super::Copies;
+use super::list_for;
 use super::names::{attribute, identifier, key};
 use crate::ast::*;
+use crate::texts::CopyTexts;
 use std::alloc::{AllocError, Global};
 
 #[cycle(copied)]
 #[tactic(auto, using(crate::proofs::Views::views))]
-pub fn pattern<X, Y: Drop, C: Copies<X, Y>>(
+pub(crate) fn pattern<X, Y: Drop, C: CopyTexts<X, Y>>(
     by: &C,
     alloc: Global,
     pattern: &Pattern<X>,
@@ -18,7 +19,7 @@ pub fn pattern<X, Y: Drop, C: Copies<X, Y>>(
     requires each { pattern_every (C.can by.now) (pattern_view (λ x. x) pattern.now) }
     ensures { IfOk result (λ copy. pattern_view C.made copy ≡ pattern_view (C.source by.now) pattern.now) }
 {
-    let mut elements = Vec::new(alloc);
+    let mut elements = list_for(alloc, &pattern.elements);
     for item in &pattern.elements {
         elements.push(element(by, alloc, item)?)?;
     }
@@ -27,7 +28,7 @@ pub fn pattern<X, Y: Drop, C: Copies<X, Y>>(
 
 #[cycle(copied)]
 #[tactic(auto, using(crate::proofs::Views::views))]
-pub fn element<X, Y: Drop, C: Copies<X, Y>>(
+pub(crate) fn element<X, Y: Drop, C: CopyTexts<X, Y>>(
     by: &C,
     alloc: Global,
     element: &PatternElement<X>,
@@ -47,7 +48,7 @@ pub fn element<X, Y: Drop, C: Copies<X, Y>>(
 
 #[cycle(copied)]
 #[tactic(auto, using(crate::proofs::Views::views))]
-pub fn expression<X, Y: Drop, C: Copies<X, Y>>(
+pub(crate) fn expression<X, Y: Drop, C: CopyTexts<X, Y>>(
     by: &C,
     alloc: Global,
     expression: &Expression<X>,
@@ -57,7 +58,7 @@ pub fn expression<X, Y: Drop, C: Copies<X, Y>>(
 {
     match expression {
         Expression::Select { selector, variants } => {
-            let mut copies = Vec::new(alloc);
+            let mut copies = list_for(alloc, variants);
             for item in variants {
                 copies.push(variant(by, alloc, item)?)?;
             }
@@ -72,7 +73,7 @@ pub fn expression<X, Y: Drop, C: Copies<X, Y>>(
 
 #[cycle(copied)]
 #[tactic(auto, using(crate::proofs::Views::views))]
-pub fn variant<X, Y: Drop, C: Copies<X, Y>>(
+pub(crate) fn variant<X, Y: Drop, C: CopyTexts<X, Y>>(
     by: &C,
     alloc: Global,
     variant: &Variant<X>,
@@ -89,7 +90,7 @@ pub fn variant<X, Y: Drop, C: Copies<X, Y>>(
 
 #[cycle(copied)]
 #[tactic(auto, using(crate::proofs::Views::views))]
-pub fn named<X, Y: Drop, C: Copies<X, Y>>(
+pub(crate) fn named<X, Y: Drop, C: CopyTexts<X, Y>>(
     by: &C,
     alloc: Global,
     argument: &NamedArgument<X>,
@@ -105,7 +106,7 @@ pub fn named<X, Y: Drop, C: Copies<X, Y>>(
 
 #[cycle(copied)]
 #[tactic(auto, using(crate::proofs::Views::views))]
-pub fn arguments<X, Y: Drop, C: Copies<X, Y>>(
+pub(crate) fn arguments<X, Y: Drop, C: CopyTexts<X, Y>>(
     by: &C,
     alloc: Global,
     arguments: &CallArguments<X>,
@@ -113,11 +114,11 @@ pub fn arguments<X, Y: Drop, C: Copies<X, Y>>(
     requires each { arguments_every (C.can by.now) (arguments_view (λ x. x) arguments.now) }
     ensures { IfOk result (λ copy. arguments_view C.made copy ≡ arguments_view (C.source by.now) arguments.now) }
 {
-    let mut positional = Vec::new(alloc);
+    let mut positional = list_for(alloc, &arguments.positional);
     for item in &arguments.positional {
         positional.push(inline(by, alloc, item)?)?;
     }
-    let mut nameds = Vec::new(alloc);
+    let mut nameds = list_for(alloc, &arguments.named);
     for item in &arguments.named {
         nameds.push(named(by, alloc, item)?)?;
     }
@@ -129,7 +130,7 @@ pub fn arguments<X, Y: Drop, C: Copies<X, Y>>(
 
 #[cycle(copied)]
 #[tactic(auto, using(crate::proofs::Views::views))]
-pub fn inline<X, Y: Drop, C: Copies<X, Y>>(
+pub(crate) fn inline<X, Y: Drop, C: CopyTexts<X, Y>>(
     by: &C,
     alloc: Global,
     inline: &InlineExpression<X>,

@@ -147,7 +147,7 @@ patterns::serialize_inline_placeable-returns-in-Placeable g t c =
 pub patterns::serialize_inline_placeable-returns-in_default :
     goal.patterns::serialize_inline_placeable-returns-in_default
 patterns::serialize_inline_placeable-returns-in_default g t c =
-    rw (in_braces g.T.Texts.text _ _ c.in_default.not-Placeable) (search (rules, writing))
+    rw (in_braces g.T.ReadTexts.text _ _ c.in_default.not-Placeable) (search (rules, writing))
 
 pub patterns::serialize_variant_value-returns-then-is_multiline :
     goal.patterns::serialize_variant_value-returns-then-is_multiline

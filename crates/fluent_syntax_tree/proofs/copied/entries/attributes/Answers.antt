@@ -5,8 +5,15 @@ use Rattle.fluent_syntax_tree.proofs.Lists.{map_pushed}
 use Rattle.fluent_syntax_tree.proofs.copied.entries.attributes.Goals as goal
 
 pub attribute-requires : goal.attribute-requires
-attribute-requires g c = record { each = every_item (attribute_every (g.C.Copies.can c.args.by.now)) (attribute_view (λ x. x)) c.args.attributes.now.items c.deref-item-items.result.now c.loop-item.item-index c.item-item.result c.requires.each c.deref-item-items.ensures.value c.loop-item-test.true c.item-item.is }
+attribute-requires g c = record {
+  each =
+      every_item (attribute_every (g.C.CopyTexts.can c.args.by.now)) (attribute_view (λ x. x))
+      c.args.attributes.now.items c.deref-item-items.result.now c.loop-item.item-index c.item-item.result
+      c.requires.each c.deref-item-items.ensures.value c.loop-item-test.true c.item-item.is;
+}
 
 pub loop-item-preserved : goal.loop-item-preserved
 loop-item-preserved g c =
-    map_pushed (attribute_view g.C.Copies.made) (attribute_view (g.C.Copies.source c.args.by.now)) _ _ c.in_ok-attribute.field-0 _ c.loop-item.item-index c.item-item.result c.loop-item.invariant c.in_ok-push.ensures.items c.loop-item-test.true c.item-item.is c.in_ok-attribute.ensures
+    map_pushed (attribute_view g.C.CopyTexts.made) (attribute_view (g.C.CopyTexts.source c.args.by.now)) _ _
+    c.in_ok-attribute.field-0 _ c.loop-item.item-index c.item-item.result c.loop-item.invariant
+    c.in_ok-push.ensures.items c.loop-item-test.true c.item-item.is c.in_ok-attribute.ensures

@@ -5,8 +5,15 @@ use Rattle.fluent_syntax_tree.proofs.Lists.{map_pushed}
 use Rattle.fluent_syntax_tree.proofs.copied.entries.resource.Goals as goal
 
 pub entry-requires : goal.entry-requires
-entry-requires g c = record { each = every_item (entry_every (g.C.Copies.can c.args.by.now)) (entry_view (λ x. x)) c.args.resource.now.body.items c.deref-item-items.result.now c.loop-item.item-index c.item-item.result c.requires.each c.deref-item-items.ensures.value c.loop-item-test.true c.item-item.is }
+entry-requires g c = record {
+  each =
+      every_item (entry_every (g.C.CopyTexts.can c.args.by.now)) (entry_view (λ x. x)) c.args.resource.now.body.items
+      c.deref-item-items.result.now c.loop-item.item-index c.item-item.result c.requires.each
+      c.deref-item-items.ensures.value c.loop-item-test.true c.item-item.is;
+}
 
 pub loop-item-preserved : goal.loop-item-preserved
 loop-item-preserved g c =
-    map_pushed (entry_view g.C.Copies.made) (entry_view (g.C.Copies.source c.args.by.now)) _ _ c.in_ok-entry.field-0 _ c.loop-item.item-index c.item-item.result c.loop-item.invariant c.in_ok-push.ensures.items c.loop-item-test.true c.item-item.is c.in_ok-entry.ensures
+    map_pushed (entry_view g.C.CopyTexts.made) (entry_view (g.C.CopyTexts.source c.args.by.now)) _ _
+    c.in_ok-entry.field-0 _ c.loop-item.item-index c.item-item.result c.loop-item.invariant
+    c.in_ok-push.ensures.items c.loop-item-test.true c.item-item.is c.in_ok-entry.ensures

@@ -7,6 +7,6 @@ use Rattle.fluent_syntax_writer.proofs.serializer.entries.serialize_attributes.G
 abbrev pub invariant-loop-attribute : goal.invariant-loop-attribute
 invariant-loop-attribute g l = record {
   rest : Leaves g.W.TextSink.text g.W.TextSink.room l.initial.writer l.writer
-      (attributes_marks (map (attribute_view g.T.Texts.text) (drop l.attribute-index l.attributes)))
-      (attributes_marks (map (attribute_view g.T.Texts.text) (l.attributes)));
+      (attributes_marks (map (attribute_view g.T.ReadTexts.text) (drop l.attribute-index l.attributes)))
+      (attributes_marks (map (attribute_view g.T.ReadTexts.text) (l.attributes)));
 }

@@ -6,6 +6,6 @@ use Rattle.fluent_syntax_writer.proofs.serializer.entries.serialize_comment.Give
 abbrev pub invariant-loop-line : goal.invariant-loop-line
 invariant-loop-line g l = record {
   rest : Leaves g.W.TextSink.text g.W.TextSink.room l.initial.writer l.writer
-      (comment_marks l.hashes (map g.T.Texts.text (drop l.line-index l.line-items)))
-      (comment_marks l.hashes (map g.T.Texts.text (l.line-items)));
+      (comment_marks l.hashes (map g.T.ReadTexts.text (drop l.line-index l.line-items)))
+      (comment_marks l.hashes (map g.T.ReadTexts.text (l.line-items)));
 }

@@ -7,6 +7,6 @@ use Rattle.fluent_syntax_writer.proofs.serializer.entries.serialize_entries.Give
 abbrev pub invariant-loop-entry : goal.invariant-loop-entry
 invariant-loop-entry g l = record {
   rest : Leaves g.W.TextSink.text g.W.TextSink.room l.initial.writer l.writer
-      (body_marks l.with_junk l.follows (map (entry_view g.T.Texts.text) (drop l.entry-index l.entries)))
-      (body_marks l.with_junk false (map (entry_view g.T.Texts.text) (l.entries)));
+      (body_marks l.with_junk l.follows (map (entry_view g.T.ReadTexts.text) (drop l.entry-index l.entries)))
+      (body_marks l.with_junk false (map (entry_view g.T.ReadTexts.text) (l.entries)));
 }
