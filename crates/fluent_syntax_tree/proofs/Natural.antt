@@ -28,11 +28,13 @@ use denote.Hole.Carrier as carrier
 abbrev Such : {A : Type 0} → (A → Type 0) → Type 0
 Such {A} P = (a : A) × P a
 
-pub map_twice : {A B C : Type 0} (f : A → C) (g : A → B) (h : B → C) (xs : List A) → ((x : A) → f x ≡ h (g x)) → map f xs ≡ map h (map g xs)
+pub map_twice : {A B C : Type 0} (f : A → C) (g : A → B) (h : B → C) (xs : List A) → ((x : A) → f x ≡ h (g x)) →
+    map f xs ≡ map h (map g xs)
 map_twice f g h [] e = refl
 map_twice f g h (x ∷ xs) e = rw (e x, map_twice f g h xs e)
 
-pub option_twice : {A B C : Type 0} (f : A → C) (g : A → B) (h : B → C) (o : Option A) → ((x : A) → f x ≡ h (g x)) → option_map f o ≡ option_map h (option_map g o)
+pub option_twice : {A B C : Type 0} (f : A → C) (g : A → B) (h : B → C) (o : Option A) → ((x : A) → f x ≡ h (g x)) →
+    option_map f o ≡ option_map h (option_map g o)
 option_twice f g h None e = refl
 option_twice f g h (Some x) e = ap Some (e x)
 
@@ -62,23 +64,32 @@ module _ {S X Y : Type 0} (g : S → X) (f : X → Y) where
   abbrev ClaimV : Variant S → Type 0
   ClaimV e = variant_view fg e ≡ variant_map f (variant_view g e)
 
-  inlines_claimed : (ps : List (Such ClaimI)) → inlines_of (map (inline_view fg) (map (λ p. p.0) ps)) ≡ inlines_map f (inlines_of (map (inline_view g) (map (λ p. p.0) ps)))
+  inlines_claimed : (ps : List (Such ClaimI)) →
+      inlines_of (map (inline_view fg) (map (λ p. p.0) ps))
+      ≡ inlines_map f (inlines_of (map (inline_view g) (map (λ p. p.0) ps)))
   inlines_claimed [] = refl
   inlines_claimed (p ∷ ps) = rw (p.1, inlines_claimed ps)
 
-  nameds_claimed : (ps : List (Such ClaimN)) → nameds_of (map (named_view fg) (map (λ p. p.0) ps)) ≡ nameds_map f (nameds_of (map (named_view g) (map (λ p. p.0) ps)))
+  nameds_claimed : (ps : List (Such ClaimN)) →
+      nameds_of (map (named_view fg) (map (λ p. p.0) ps))
+      ≡ nameds_map f (nameds_of (map (named_view g) (map (λ p. p.0) ps)))
   nameds_claimed [] = refl
   nameds_claimed (p ∷ ps) = rw (p.1, nameds_claimed ps)
 
-  elements_claimed : (ps : List (Such ClaimE)) → elements_of (map (element_view fg) (map (λ p. p.0) ps)) ≡ pattern_map f (elements_of (map (element_view g) (map (λ p. p.0) ps)))
+  elements_claimed : (ps : List (Such ClaimE)) →
+      elements_of (map (element_view fg) (map (λ p. p.0) ps))
+      ≡ pattern_map f (elements_of (map (element_view g) (map (λ p. p.0) ps)))
   elements_claimed [] = refl
   elements_claimed (p ∷ ps) = rw (p.1, elements_claimed ps)
 
-  variants_claimed : (ps : List (Such ClaimV)) → variants_of (map (variant_view fg) (map (λ p. p.0) ps)) ≡ variants_map f (variants_of (map (variant_view g) (map (λ p. p.0) ps)))
+  variants_claimed : (ps : List (Such ClaimV)) →
+      variants_of (map (variant_view fg) (map (λ p. p.0) ps))
+      ≡ variants_map f (variants_of (map (variant_view g) (map (λ p. p.0) ps)))
   variants_claimed [] = refl
   variants_claimed (p ∷ ps) = rw (p.1, variants_claimed ps)
 
-  names_claimed : (o : Option (Identifier S)) → option_map (identifier_view fg) o ≡ option_texts f (option_map (identifier_view g) o)
+  names_claimed : (o : Option (Identifier S)) →
+      option_map (identifier_view fg) o ≡ option_texts f (option_map (identifier_view g) o)
   names_claimed None = refl
   names_claimed (Some i) = refl
 
@@ -89,39 +100,85 @@ module _ {S X Y : Type 0} (g : S → X) (f : X → Y) where
   abbrev Held : (F : (A B C D E G H : Type 0) → Type 0) → Type 0
   Held F = F (Such ClaimX) (Such ClaimI) (Such ClaimE) (Such ClaimA) (Such ClaimN) (Such ClaimP) (Such ClaimV)
 
-  step-Expression : (y : Held (Expression-F S)) → ClaimX (roll-Expression S (map-Expression S _ _ _ _ _ _ _ _ _ _ _ _ _ _ (λ e. e.0) (λ e. e.0) (λ e. e.0) (λ e. e.0) (λ e. e.0) (λ e. e.0) (λ e. e.0) y))
+  step-Expression : (y : Held (Expression-F S)) →
+      ClaimX (roll-Expression S
+        (map-Expression S _ _ _ _ _ _ _ _ _ _ _ _ _ _ (λ e. e.0) (λ e. e.0) (λ e. e.0) (λ e. e.0) (λ e. e.0) (λ e. e.0)
+          (λ e. e.0) y))
   unfolding roll-Expression carrier.roll
-  step-Expression (layer.Select e vs) = view-Select _ e.0 _ ∙ ap (λ x. select x (variants_of (map (variant_view fg) (map (λ p. p.0) vs.items)))) e.1 ∙ ap (select (inline_map f (inline_view g e.0))) (variants_claimed vs.items) ∙ sym (ap (expression_map f) (view-Select g e.0 _))
+  step-Expression (layer.Select e vs) =
+      view-Select _ e.0 _ ∙ ap (λ x. select x (variants_of (map (variant_view fg) (map (λ p. p.0) vs.items)))) e.1
+      ∙ ap (select (inline_map f (inline_view g e.0))) (variants_claimed vs.items)
+      ∙ sym (ap (expression_map f) (view-Select g e.0 _))
   step-Expression (layer.Inline e) = view-Inline _ e.0 ∙ ap inline e.1 ∙ sym (ap (expression_map f) (view-Inline g e.0))
 
-  step-Inline : (y : Held (InlineExpression-F S)) → ClaimI (roll-InlineExpression S (map-InlineExpression S _ _ _ _ _ _ _ _ _ _ _ _ _ _ (λ e. e.0) (λ e. e.0) (λ e. e.0) (λ e. e.0) (λ e. e.0) (λ e. e.0) (λ e. e.0) y))
+  step-Inline : (y : Held (InlineExpression-F S)) →
+      ClaimI (roll-InlineExpression S
+        (map-InlineExpression S _ _ _ _ _ _ _ _ _ _ _ _ _ _ (λ e. e.0) (λ e. e.0) (λ e. e.0) (λ e. e.0) (λ e. e.0)
+          (λ e. e.0) (λ e. e.0) y))
   unfolding roll-InlineExpression carrier.roll
   step-Inline (layer.StringLiteral x) = view-StringLiteral _ x ∙ sym (ap (inline_map f) (view-StringLiteral g x))
   step-Inline (layer.NumberLiteral x) = view-NumberLiteral _ x ∙ sym (ap (inline_map f) (view-NumberLiteral g x))
-  step-Inline (layer.FunctionReference i a) = view-FunctionReference _ i a.0 ∙ ap (function_reference (fg i.name)) a.1 ∙ sym (ap (inline_map f) (view-FunctionReference g i a.0))
-  step-Inline (layer.MessageReference i o) = view-MessageReference _ i o ∙ ap (message_reference (fg i.name)) (names_claimed o) ∙ sym (ap (inline_map f) (view-MessageReference g i o))
-  step-Inline (layer.TermReference i o None) = view-TermReference _ i o None ∙ ap (λ x. term_reference (fg i.name) x no_arguments) (names_claimed o) ∙ sym (ap (inline_map f) (view-TermReference g i o None))
+  step-Inline (layer.FunctionReference i a) =
+      view-FunctionReference _ i a.0 ∙ ap (function_reference (fg i.name)) a.1
+      ∙ sym (ap (inline_map f) (view-FunctionReference g i a.0))
+  step-Inline (layer.MessageReference i o) =
+      view-MessageReference _ i o ∙ ap (message_reference (fg i.name)) (names_claimed o)
+      ∙ sym (ap (inline_map f) (view-MessageReference g i o))
+  step-Inline (layer.TermReference i o None) =
+      view-TermReference _ i o None ∙ ap (λ x. term_reference (fg i.name) x no_arguments) (names_claimed o)
+      ∙ sym (ap (inline_map f) (view-TermReference g i o None))
   step-Inline (layer.TermReference i o (Some a)) =
-      view-TermReference _ i o (Some a.0) ∙ ap (λ x. term_reference (fg i.name) x (some_arguments (arguments_view fg a.0))) (names_claimed o) ∙ ap (λ x. term_reference (fg i.name) (option_texts f (option_map (identifier_view g) o)) (some_arguments x)) a.1 ∙ sym (ap (inline_map f) (view-TermReference g i o (Some a.0)))
-  step-Inline (layer.VariableReference i) = view-VariableReference _ i ∙ sym (ap (inline_map f) (view-VariableReference g i))
-  step-Inline (layer.InlineExpression::Placeable e) = view-InlinePlaceable _ _ ∙ ap inline_placeable e.value.1 ∙ sym (ap (inline_map f) (view-InlinePlaceable g _))
+      view-TermReference _ i o (Some a.0)
+          ∙ ap (λ x. term_reference (fg i.name) x (some_arguments (arguments_view fg a.0))) (names_claimed o)
+          ∙ ap (λ x. term_reference (fg i.name) (option_texts f (option_map (identifier_view g) o)) (some_arguments x))
+            a.1 ∙ sym (ap (inline_map f) (view-TermReference g i o (Some a.0)))
+  step-Inline (layer.VariableReference i) =
+      view-VariableReference _ i ∙ sym (ap (inline_map f) (view-VariableReference g i))
+  step-Inline (layer.InlineExpression::Placeable e) =
+      view-InlinePlaceable _ _ ∙ ap inline_placeable e.value.1 ∙ sym (ap (inline_map f) (view-InlinePlaceable g _))
 
-  step-Element : (y : Held (PatternElement-F S)) → ClaimE (roll-PatternElement S (map-PatternElement S _ _ _ _ _ _ _ _ _ _ _ _ _ _ (λ e. e.0) (λ e. e.0) (λ e. e.0) (λ e. e.0) (λ e. e.0) (λ e. e.0) (λ e. e.0) y))
+  step-Element : (y : Held (PatternElement-F S)) →
+      ClaimE (roll-PatternElement S
+        (map-PatternElement S _ _ _ _ _ _ _ _ _ _ _ _ _ _ (λ e. e.0) (λ e. e.0) (λ e. e.0) (λ e. e.0) (λ e. e.0)
+          (λ e. e.0) (λ e. e.0) y))
   unfolding roll-PatternElement carrier.roll
   step-Element (layer.TextElement x) = view-TextElement _ x ∙ sym (ap (element_map f) (view-TextElement g x))
-  step-Element (layer.PatternElement::Placeable e) = view-Placeable _ e.0 ∙ ap placeable e.1 ∙ sym (ap (element_map f) (view-Placeable g e.0))
+  step-Element (layer.PatternElement::Placeable e) =
+      view-Placeable _ e.0 ∙ ap placeable e.1 ∙ sym (ap (element_map f) (view-Placeable g e.0))
 
-  step-Arguments : (y : Held (CallArguments-F S)) → ClaimA (roll-CallArguments S (map-CallArguments S _ _ _ _ _ _ _ _ _ _ _ _ _ _ (λ e. e.0) (λ e. e.0) (λ e. e.0) (λ e. e.0) (λ e. e.0) (λ e. e.0) (λ e. e.0) y))
-  step-Arguments y = view-roll-CallArguments _ _ ∙ ap (λ x. arguments x (nameds_of (map (named_view fg) (map (λ p. p.0) y.named.items)))) (inlines_claimed y.positional.items) ∙ ap (arguments (inlines_map f (inlines_of (map (inline_view g) (map (λ p. p.0) y.positional.items))))) (nameds_claimed y.named.items) ∙ sym (ap (arguments_map f) (view-roll-CallArguments g _))
+  step-Arguments : (y : Held (CallArguments-F S)) →
+      ClaimA (roll-CallArguments S
+        (map-CallArguments S _ _ _ _ _ _ _ _ _ _ _ _ _ _ (λ e. e.0) (λ e. e.0) (λ e. e.0) (λ e. e.0) (λ e. e.0)
+          (λ e. e.0) (λ e. e.0) y))
+  step-Arguments y =
+      view-roll-CallArguments _ _
+      ∙ ap (λ x. arguments x (nameds_of (map (named_view fg) (map (λ p. p.0) y.named.items))))
+        (inlines_claimed y.positional.items)
+      ∙ ap (arguments (inlines_map f (inlines_of (map (inline_view g) (map (λ p. p.0) y.positional.items)))))
+        (nameds_claimed y.named.items) ∙ sym (ap (arguments_map f) (view-roll-CallArguments g _))
 
-  step-Named : (y : Held (NamedArgument-F S)) → ClaimN (roll-NamedArgument S (map-NamedArgument S _ _ _ _ _ _ _ _ _ _ _ _ _ _ (λ e. e.0) (λ e. e.0) (λ e. e.0) (λ e. e.0) (λ e. e.0) (λ e. e.0) (λ e. e.0) y))
-  step-Named y = view-NamedArgument _ _ ∙ ap (named_argument (fg y.name.name)) y.value.1 ∙ sym (ap (named_map f) (view-NamedArgument g _))
+  step-Named : (y : Held (NamedArgument-F S)) →
+      ClaimN (roll-NamedArgument S
+        (map-NamedArgument S _ _ _ _ _ _ _ _ _ _ _ _ _ _ (λ e. e.0) (λ e. e.0) (λ e. e.0) (λ e. e.0) (λ e. e.0)
+          (λ e. e.0) (λ e. e.0) y))
+  step-Named y =
+      view-NamedArgument _ _ ∙ ap (named_argument (fg y.name.name)) y.value.1
+      ∙ sym (ap (named_map f) (view-NamedArgument g _))
 
-  step-Pattern : (y : Held (Pattern-F S)) → ClaimP (roll-Pattern S (map-Pattern S _ _ _ _ _ _ _ _ _ _ _ _ _ _ (λ e. e.0) (λ e. e.0) (λ e. e.0) (λ e. e.0) (λ e. e.0) (λ e. e.0) (λ e. e.0) y))
+  step-Pattern : (y : Held (Pattern-F S)) →
+      ClaimP (roll-Pattern S
+        (map-Pattern S _ _ _ _ _ _ _ _ _ _ _ _ _ _ (λ e. e.0) (λ e. e.0) (λ e. e.0) (λ e. e.0) (λ e. e.0) (λ e. e.0)
+          (λ e. e.0) y))
   step-Pattern y = view-Pattern _ _ ∙ elements_claimed y.elements.items ∙ sym (ap (pattern_map f) (view-Pattern g _))
 
-  step-Variant : (y : Held (Variant-F S)) → ClaimV (roll-Variant S (map-Variant S _ _ _ _ _ _ _ _ _ _ _ _ _ _ (λ e. e.0) (λ e. e.0) (λ e. e.0) (λ e. e.0) (λ e. e.0) (λ e. e.0) (λ e. e.0) y))
-  step-Variant y = view-Variant _ _ ∙ ap (λ k. variant k (pattern_view fg y.value.0) y.default) (key_claimed y.key) ∙ ap (λ p. variant (key_map f (key_view g y.key)) p y.default) y.value.1 ∙ sym (ap (variant_map f) (view-Variant g _))
+  step-Variant : (y : Held (Variant-F S)) →
+      ClaimV (roll-Variant S
+        (map-Variant S _ _ _ _ _ _ _ _ _ _ _ _ _ _ (λ e. e.0) (λ e. e.0) (λ e. e.0) (λ e. e.0) (λ e. e.0) (λ e. e.0)
+          (λ e. e.0) y))
+  step-Variant y =
+      view-Variant _ _ ∙ ap (λ k. variant k (pattern_view fg y.value.0) y.default) (key_claimed y.key)
+      ∙ ap (λ p. variant (key_map f (key_view g y.key)) p y.default) y.value.1
+      ∙ sym (ap (variant_map f) (view-Variant g _))
 
   pub natural-Pattern : (p : Pattern S) → ClaimP p
   natural-Pattern =
