@@ -427,6 +427,22 @@ a_select_has_a_default = refl
 
 -- ---- edition two: spaces that indent a placeable, and lines that begin with one
 
+-- a line that begins with a placeable has no number in edition one
+lines_of_placeables_do_not_count :
+    tried One (key_of
+    (elements (placeable (inline (variable_reference (codes "x"))))
+    (elements (text_element (codes "\n")) (elements (text_element (codes "  b")) no_elements)))) ≡ record {
+      readable = true;
+      canonical = false;
+      text = codes "k =\n    { $x }\n      b\n";
+      errors = [];
+      back =
+          key_of (elements (placeable (inline (variable_reference (codes "x"))))
+          (elements (text_element (codes "\n")) (elements (text_element (codes "b")) no_elements)));
+    }
+unfolding written
+lines_of_placeables_do_not_count = refl
+
 -- spaces alone may begin a line, before a placeable
 spaces_indent_a_placeable :
     tried Two (key_of
