@@ -1,6 +1,6 @@
 -- Examples: a smallest tree that breaks each rule of readable and of canonical trees, the text that it is written as,
 -- and what that text is read as. In edition one; and where the rules of edition two differ.
-use Rattle.std.proofs.Common.{◌≡◌, List, [], ◌∷◌, Option, Some, None, true, false, refl}
+use Rattle.std.proofs.Common.{◌≡◌, [], ◌∷◌, Some, None, true, false, refl}
 use Rattle.std.specs.Prelude.{codes}
 use Rattle.fluent_syntax_tree.specs.Kind.{ExpectedToken, ExpectedCharRange, ExpectedMessageField, ForbiddenCallee}
 use Rattle.fluent_syntax_tree.specs.Kind.{MissingDefaultVariant, MultipleDefaultVariants, MessageReferenceAsSelector}
@@ -15,7 +15,7 @@ use Rattle.fluent_syntax_tree.specs.Entry.{message, comment, junk, regular, Body
 use Rattle.fluent_syntax_tree.specs.declared.edition.Edition.TheVariants.{One, Two}
 use Rattle.fluent_syntax_grammar.specs.Written.{Text, written}
 use Rattle.fluent_syntax_grammar.proofs.Shown.{fault}
-use Rattle.fluent_syntax_grammar.proofs.Judged.{Tried, tried}
+use Rattle.fluent_syntax_grammar.proofs.Judged.{tried}
 
 -- a message with the value alone
 abbrev key_of : PatternTree Text → BodyTree Text

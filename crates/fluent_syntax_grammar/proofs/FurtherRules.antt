@@ -9,15 +9,15 @@ use Rattle.fluent_syntax_tree.specs.Tree.{arguments, MaybeArguments, no_argument
 use Rattle.fluent_syntax_tree.specs.Tree.{no_inlines, inlines, NamedTree, NamedTrees, no_named, nameds, named_argument}
 use Rattle.fluent_syntax_tree.specs.Tree.{ElementTree, text_element, placeable, PatternTree, no_elements, elements}
 use Rattle.fluent_syntax_tree.specs.Tree.{VariantTree, VariantTrees, no_variants, variants, variant}
-use Rattle.fluent_syntax_tree.specs.Entry.{EntryTree, message, term, comment, junk, AttributeTree, MessageTree}
-use Rattle.fluent_syntax_tree.specs.Entry.{TermTree, BodyTree}
+use Rattle.fluent_syntax_tree.specs.Entry.{EntryTree, message, term, comment, junk, AttributeTree}
+use Rattle.fluent_syntax_tree.specs.Entry.{BodyTree}
 use Rattle.fluent_syntax_tree.specs.declared.edition.Edition.{Edition}
 use Rattle.fluent_syntax_grammar.specs.Spellings.{is_name, is_number, is_string}
 use Rattle.fluent_syntax_grammar.specs.Written.{Text}
 use Rattle.fluent_syntax_grammar.specs.Rules.{key_obeys, expression_obeys, inline_obeys, maybe_obeys, arguments_obey}
 use Rattle.fluent_syntax_grammar.specs.Rules.{inlines_obey, nameds_obey, named_obeys, pattern_obeys, elements_obey}
 use Rattle.fluent_syntax_grammar.specs.Rules.{element_obeys, variants_obey, variant_obeys, option_obeys, attribute_obeys}
-use Rattle.fluent_syntax_grammar.specs.Rules.{message_obeys, term_obeys, entry_obeys, body_obeys}
+use Rattle.fluent_syntax_grammar.specs.Rules.{entry_obeys, body_obeys}
 use Rattle.fluent_syntax_grammar.specs.Readable.{readable_rules, is_readable, is_expression, is_pattern, is_callee}
 use Rattle.fluent_syntax_grammar.specs.Readable.{are_arguments, are_lines, is_message}
 use Rattle.fluent_syntax_grammar.specs.Canonical.{canonical_rules, further_rules, is_canonical, has_one_default, is_flush}
