@@ -1,5 +1,5 @@
 -- Examples: a smallest tree that breaks each rule of readable and of canonical trees, the text that it is written as,
--- and what that text is read as. In edition one.
+-- and what that text is read as. In edition one; and where the rules of edition two differ.
 use Rattle.std.proofs.Common.{◌≡◌, [], ◌∷◌, Some, None, true, false, refl}
 use Rattle.std.specs.Prelude.{codes}
 use Rattle.fluent_syntax_tree.specs.Kind.{ExpectedToken, ExpectedCharRange, ExpectedMessageField, ForbiddenCallee}
@@ -12,6 +12,7 @@ use Rattle.fluent_syntax_tree.specs.Tree.{arguments, no_arguments, no_inlines, n
 use Rattle.fluent_syntax_tree.specs.Tree.{text_element, placeable, PatternTree, no_elements, elements}
 use Rattle.fluent_syntax_tree.specs.Tree.{no_variants, variants, variant}
 use Rattle.fluent_syntax_tree.specs.Entry.{message, comment, junk, regular, BodyTree}
+use Rattle.fluent_syntax_tree.specs.declared.edition.Edition.TheVariants.{One, Two}
 use Rattle.fluent_syntax_grammar.specs.Written.{Text, written}
 use Rattle.fluent_syntax_grammar.proofs.Shown.{fault}
 use Rattle.fluent_syntax_grammar.proofs.Judged.{tried}
@@ -28,7 +29,7 @@ key_and p rest =
 -- ---- readable: entries
 
 -- junk is not written
-there_is_no_junk : tried (junk (codes "x") ∷ []) ≡ record {
+there_is_no_junk : tried One (junk (codes "x") ∷ []) ≡ record {
   readable = false;
   canonical = false;
   text = [];
@@ -40,7 +41,7 @@ there_is_no_junk = refl
 
 -- a message has a value or an attribute
 a_message_has_a_field :
-    tried (message (record { id = codes "k"; value = None; attributes = []; comment = None }) ∷ []) ≡ record {
+    tried One (message (record { id = codes "k"; value = None; attributes = []; comment = None }) ∷ []) ≡ record {
       readable = false;
       canonical = false;
       text = codes "k =\n";
@@ -51,7 +52,7 @@ unfolding written
 a_message_has_a_field = refl
 
 -- a line of a comment holds no LF
-a_comment_line_holds_no_lf : tried (comment regular (codes "a\nb" ∷ []) ∷ []) ≡ record {
+a_comment_line_holds_no_lf : tried One (comment regular (codes "a\nb" ∷ []) ∷ []) ≡ record {
   readable = false;
   canonical = false;
   text = codes "# a\nb\n\n";
@@ -64,7 +65,7 @@ a_comment_line_holds_no_lf = refl
 -- ---- readable: patterns
 
 -- a pattern has an element
-a_pattern_has_an_element : tried (key_of no_elements) ≡ record {
+a_pattern_has_an_element : tried One (key_of no_elements) ≡ record {
   readable = false;
   canonical = false;
   text = codes "k = \n";
@@ -75,7 +76,7 @@ unfolding written
 a_pattern_has_an_element = refl
 
 -- a text is not empty
-a_text_is_not_empty : tried (key_of (elements (text_element (codes "")) no_elements)) ≡ record {
+a_text_is_not_empty : tried One (key_of (elements (text_element (codes "")) no_elements)) ≡ record {
   readable = false;
   canonical = false;
   text = codes "k = \n";
@@ -86,7 +87,7 @@ unfolding written
 a_text_is_not_empty = refl
 
 -- a text holds no brace
-a_text_holds_no_brace : tried (key_of (elements (text_element (codes "}")) no_elements)) ≡ record {
+a_text_holds_no_brace : tried One (key_of (elements (text_element (codes "}")) no_elements)) ≡ record {
   readable = false;
   canonical = false;
   text = codes "k = }\n";
@@ -98,7 +99,7 @@ a_text_holds_no_brace = refl
 
 -- a text holds no CR directly before an LF
 a_text_holds_no_cr_before_an_lf :
-    tried (key_of (elements (text_element (codes "a\r\n")) (elements (text_element (codes "b")) no_elements)))
+    tried One (key_of (elements (text_element (codes "a\r\n")) (elements (text_element (codes "b")) no_elements)))
     ≡ record {
       readable = false;
       canonical = false;
@@ -112,7 +113,7 @@ unfolding written
 a_text_holds_no_cr_before_an_lf = refl
 
 -- a text holds an LF only as its last byte
-an_lf_ends_its_text : tried (key_of (elements (text_element (codes "a\nb")) no_elements)) ≡ record {
+an_lf_ends_its_text : tried One (key_of (elements (text_element (codes "a\nb")) no_elements)) ≡ record {
   readable = false;
   canonical = false;
   text = codes "k =\n    a\nb\n";
@@ -124,7 +125,8 @@ an_lf_ends_its_text = refl
 
 -- a text directly follows a text only where that ends in LF
 texts_are_apart :
-    tried (key_of (elements (text_element (codes "a")) (elements (text_element (codes "b")) no_elements))) ≡ record {
+    tried One (key_of (elements (text_element (codes "a")) (elements (text_element (codes "b")) no_elements)))
+    ≡ record {
       readable = false;
       canonical = false;
       text = codes "k = ab\n";
@@ -136,7 +138,7 @@ texts_are_apart = refl
 
 -- a first text is nonblank
 a_first_text_shows_something :
-    tried (key_of
+    tried One (key_of
     (elements (text_element (codes " "))
     (elements (placeable (inline (variable_reference (codes "x")))) no_elements))) ≡ record {
       readable = false;
@@ -149,7 +151,7 @@ unfolding written
 a_first_text_shows_something = refl
 
 -- in a pattern that is not multiline, a first text does not begin with a space
-a_first_text_begins_with_no_space : tried (key_of (elements (text_element (codes " a")) no_elements)) ≡ record {
+a_first_text_begins_with_no_space : tried One (key_of (elements (text_element (codes " a")) no_elements)) ≡ record {
   readable = false;
   canonical = false;
   text = codes "k =  a\n";
@@ -160,7 +162,7 @@ unfolding written
 a_first_text_begins_with_no_space = refl
 
 -- a last text does not end in a space, a CR or an LF
-a_last_text_ends_plainly : tried (key_of (elements (text_element (codes "a ")) no_elements)) ≡ record {
+a_last_text_ends_plainly : tried One (key_of (elements (text_element (codes "a ")) no_elements)) ≡ record {
   readable = false;
   canonical = false;
   text = codes "k = a \n";
@@ -172,7 +174,7 @@ a_last_text_ends_plainly = refl
 
 -- a text that begins a line is not spaces alone
 a_line_is_not_indented :
-    tried (key_of
+    tried One (key_of
     (elements (text_element (codes "a\n"))
     (elements (text_element (codes "  "))
     (elements (placeable (inline (variable_reference (codes "x")))) no_elements)))) ≡ record {
@@ -189,7 +191,8 @@ a_line_is_not_indented = refl
 
 -- a text that begins a later line does not begin, after spaces, with `.`, `[` or `*`
 a_later_line_begins_with_no_mark :
-    tried (key_of (elements (text_element (codes "a\n")) (elements (text_element (codes ".b")) no_elements))) ≡ record {
+    tried One (key_of (elements (text_element (codes "a\n")) (elements (text_element (codes ".b")) no_elements)))
+    ≡ record {
       readable = false;
       canonical = false;
       text = codes "k =\n    a\n    .b\n";
@@ -203,7 +206,7 @@ a_later_line_begins_with_no_mark = refl
 
 -- what a selector may be
 a_message_is_no_selector :
-    tried (key_of
+    tried One (key_of
     (elements (placeable
     (select (message_reference (codes "m") None)
     (variants (variant (name_key (codes "a")) (elements (text_element (codes "b")) no_elements) true)
@@ -219,7 +222,7 @@ a_message_is_no_selector = refl
 
 -- a select has at most one default
 one_default_at_most :
-    tried (key_of
+    tried One (key_of
     (elements (placeable
     (select (variable_reference (codes "x"))
     (variants (variant (name_key (codes "a")) (elements (text_element (codes "b")) no_elements) true)
@@ -236,7 +239,7 @@ one_default_at_most = refl
 
 -- an inline expression is no term reference with attribute
 a_term_attribute_is_no_placeable :
-    tried (key_of
+    tried One (key_of
     (elements (placeable (inline (term_reference (codes "t") (Some (codes "a")) no_arguments))) no_elements))
     ≡ record {
       readable = false;
@@ -250,7 +253,7 @@ a_term_attribute_is_no_placeable = refl
 
 -- a function's name holds only `A` to `Z`, digits, `_` and `-`
 a_function_is_in_capitals :
-    tried (key_of
+    tried One (key_of
     (elements (placeable (inline (function_reference (codes "f") (arguments no_inlines no_named)))) no_elements))
     ≡ record {
       readable = false;
@@ -264,7 +267,7 @@ a_function_is_in_capitals = refl
 
 -- what the value of a named argument may be
 a_named_argument_is_simple :
-    tried (key_of
+    tried One (key_of
     (elements (placeable
     (inline (function_reference (codes "F")
     (arguments no_inlines (nameds (named_argument (codes "a") (variable_reference (codes "x"))) no_named)))))
@@ -280,7 +283,7 @@ a_named_argument_is_simple = refl
 
 -- the names of the arguments of one list are distinct
 names_of_arguments_differ :
-    tried (key_of
+    tried One (key_of
     (elements (placeable
     (inline (function_reference (codes "F")
     (arguments no_inlines
@@ -299,7 +302,7 @@ names_of_arguments_differ = refl
 
 -- how a string is spelled
 a_string_holds_no_quote :
-    tried (key_of (elements (placeable (inline (string_literal (codes "a\"b")))) no_elements)) ≡ record {
+    tried One (key_of (elements (placeable (inline (string_literal (codes "a\"b")))) no_elements)) ≡ record {
       readable = false;
       canonical = false;
       text = codes "k = { \"a\"b\" }\n";
@@ -310,19 +313,20 @@ unfolding written
 a_string_holds_no_quote = refl
 
 -- how a number is spelled
-a_number_is_digits : tried (key_of (elements (placeable (inline (number_literal (codes "x")))) no_elements)) ≡ record {
-  readable = false;
-  canonical = false;
-  text = codes "k = { x }\n";
-  errors = [];
-  back = key_of (elements (placeable (inline (message_reference (codes "x") None))) no_elements);
-}
+a_number_is_digits :
+    tried One (key_of (elements (placeable (inline (number_literal (codes "x")))) no_elements)) ≡ record {
+      readable = false;
+      canonical = false;
+      text = codes "k = { x }\n";
+      errors = [];
+      back = key_of (elements (placeable (inline (message_reference (codes "x") None))) no_elements);
+    }
 unfolding written
 a_number_is_digits = refl
 
 -- how a name is spelled
 a_name_begins_with_a_letter :
-    tried (message
+    tried One (message
     (record {
       id = codes "1";
       value = Some (elements (text_element (codes "a")) no_elements);
@@ -341,7 +345,7 @@ a_name_begins_with_a_letter = refl
 -- ---- canonical: the four rules more
 
 -- a comment has at least one line
-a_comment_has_a_line : tried (comment regular [] ∷ []) ≡ record {
+a_comment_has_a_line : tried One (comment regular [] ∷ []) ≡ record {
   readable = true;
   canonical = false;
   text = codes "\n";
@@ -352,7 +356,7 @@ unfolding written
 a_comment_has_a_line = refl
 
 -- a line of a comment is empty, or holds a byte other than space and CR
-a_comment_line_is_plain : tried (comment regular (codes " " ∷ []) ∷ []) ≡ record {
+a_comment_line_is_plain : tried One (comment regular (codes " " ∷ []) ∷ []) ≡ record {
   readable = true;
   canonical = false;
   text = codes "#\n\n";
@@ -364,7 +368,7 @@ a_comment_line_is_plain = refl
 
 -- in a multiline pattern, a first text does not begin with spaces and then `.`, `[` or `*`
 a_first_text_hides_no_mark :
-    tried (key_of (elements (text_element (codes " .a\n")) (elements (text_element (codes "b")) no_elements)))
+    tried One (key_of (elements (text_element (codes " .a\n")) (elements (text_element (codes "b")) no_elements)))
     ≡ record {
       readable = true;
       canonical = false;
@@ -377,7 +381,7 @@ a_first_text_hides_no_mark = refl
 
 -- in a multiline pattern, some line has no spaces before it
 lines_are_flush :
-    tried (key_of (elements (text_element (codes " a\n")) (elements (text_element (codes " b")) no_elements)))
+    tried One (key_of (elements (text_element (codes " a\n")) (elements (text_element (codes " b")) no_elements)))
     ≡ record {
       readable = true;
       canonical = false;
@@ -390,7 +394,7 @@ lines_are_flush = refl
 
 -- where no line of a pattern counts, each text that begins a line is one LF
 blank_lines_are_lone :
-    tried (key_of
+    tried One (key_of
     (elements (placeable (inline (variable_reference (codes "x"))))
     (elements (text_element (codes "\n"))
     (elements (text_element (codes " \n"))
@@ -410,7 +414,8 @@ blank_lines_are_lone = refl
 
 -- a select has a default
 a_select_has_a_default :
-    tried (key_of (elements (placeable (select (variable_reference (codes "x")) no_variants)) no_elements)) ≡ record {
+    tried One (key_of (elements (placeable (select (variable_reference (codes "x")) no_variants)) no_elements))
+    ≡ record {
       readable = true;
       canonical = false;
       text = codes "k =\n    { $x ->\n    }\n";
@@ -419,3 +424,119 @@ a_select_has_a_default :
     }
 unfolding written
 a_select_has_a_default = refl
+
+-- ---- edition two: spaces that indent a placeable, and lines that begin with one
+
+-- a line that begins with a placeable has no number in edition one
+lines_of_placeables_do_not_count :
+    tried One (key_of
+    (elements (placeable (inline (variable_reference (codes "x"))))
+    (elements (text_element (codes "\n")) (elements (text_element (codes "  b")) no_elements)))) ≡ record {
+      readable = true;
+      canonical = false;
+      text = codes "k =\n    { $x }\n      b\n";
+      errors = [];
+      back =
+          key_of (elements (placeable (inline (variable_reference (codes "x"))))
+          (elements (text_element (codes "\n")) (elements (text_element (codes "b")) no_elements)));
+    }
+unfolding written
+lines_of_placeables_do_not_count = refl
+
+-- spaces alone may begin a line, before a placeable
+spaces_indent_a_placeable :
+    tried Two (key_of
+    (elements (text_element (codes "a\n"))
+    (elements (text_element (codes "  "))
+    (elements (placeable (inline (variable_reference (codes "x")))) no_elements)))) ≡ record {
+      readable = true;
+      canonical = true;
+      text = codes "k =\n    a\n      { $x }\n";
+      errors = [];
+      back =
+          key_of (elements (text_element (codes "a\n"))
+          (elements (text_element (codes "  "))
+          (elements (placeable (inline (variable_reference (codes "x")))) no_elements)));
+    }
+unfolding written
+spaces_indent_a_placeable = refl
+
+-- and also the pattern, if it is multiline
+first_spaces_indent_a_placeable :
+    tried Two (key_of
+    (elements (text_element (codes "  "))
+    (elements (placeable (inline (variable_reference (codes "x"))))
+    (elements (text_element (codes "\n")) (elements (text_element (codes "b")) no_elements))))) ≡ record {
+      readable = true;
+      canonical = true;
+      text = codes "k =\n      { $x }\n    b\n";
+      errors = [];
+      back =
+          key_of (elements (text_element (codes "  "))
+          (elements (placeable (inline (variable_reference (codes "x"))))
+          (elements (text_element (codes "\n")) (elements (text_element (codes "b")) no_elements))));
+    }
+unfolding written
+first_spaces_indent_a_placeable = refl
+
+-- not if it is not
+one_line_is_not_indented :
+    tried Two (key_of
+    (elements (text_element (codes "  "))
+    (elements (placeable (inline (variable_reference (codes "x")))) no_elements))) ≡ record {
+      readable = false;
+      canonical = false;
+      text = codes "k =   { $x }\n";
+      errors = [];
+      back = key_of (elements (placeable (inline (variable_reference (codes "x")))) no_elements);
+    }
+unfolding written
+one_line_is_not_indented = refl
+
+-- nor where no placeable follows them
+spaces_before_a_text_are_part_of_it :
+    tried Two (key_of
+    (elements (text_element (codes "a\n"))
+    (elements (text_element (codes "  ")) (elements (text_element (codes "b")) no_elements)))) ≡ record {
+      readable = false;
+      canonical = false;
+      text = codes "k =\n    a\n      b\n";
+      errors = [];
+      back = key_of (elements (text_element (codes "a\n")) (elements (text_element (codes "  b")) no_elements));
+    }
+unfolding written
+spaces_before_a_text_are_part_of_it = refl
+
+-- a line that begins with a placeable has the number 0
+lines_of_placeables_count :
+    tried Two (key_of
+    (elements (placeable (inline (variable_reference (codes "x"))))
+    (elements (text_element (codes "\n")) (elements (text_element (codes "  b")) no_elements)))) ≡ record {
+      readable = true;
+      canonical = true;
+      text = codes "k =\n    { $x }\n      b\n";
+      errors = [];
+      back =
+          key_of (elements (placeable (inline (variable_reference (codes "x"))))
+          (elements (text_element (codes "\n")) (elements (text_element (codes "  b")) no_elements)));
+    }
+unfolding written
+lines_of_placeables_count = refl
+
+-- a line that begins with spaces alone has their length
+indented_placeables_count :
+    tried Two (key_of
+    (elements (text_element (codes "  "))
+    (elements (placeable (inline (variable_reference (codes "x"))))
+    (elements (text_element (codes "\n")) (elements (text_element (codes " b")) no_elements))))) ≡ record {
+      readable = true;
+      canonical = false;
+      text = codes "k =\n      { $x }\n     b\n";
+      errors = [];
+      back =
+          key_of (elements (text_element (codes " "))
+          (elements (placeable (inline (variable_reference (codes "x"))))
+          (elements (text_element (codes "\n")) (elements (text_element (codes "b")) no_elements))));
+    }
+unfolding written
+indented_placeables_count = refl

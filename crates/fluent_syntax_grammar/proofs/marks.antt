@@ -7,3 +7,4 @@ pub mod Words
 pub mod Trees
 pub mod Entries
 pub mod JoinedTrees
+pub mod Again

@@ -82,8 +82,11 @@ const OTHER: [(&str, Text, &str); 8] = [
 /// The tree of the text, which may have errors.
 fn tree(alloc: Global, text: Text) -> Result<Resource<String>, Fail> {
     match parse(alloc, String::from_str(alloc, text)?) {
-        Ok(tree) | Err(ParseFault::Syntax(tree, _)) => Ok(tree),
-        Err(ParseFault::Memory) => Err("no memory".into()),
+        Ok(tree) => Ok(tree),
+        Err(fault) => match fault {
+            ParseFault::Syntax(tree, _errors) => Ok(tree),
+            ParseFault::Memory => Err("no memory".into()),
+        },
     }
 }
 

@@ -18,7 +18,8 @@ use Rattle.fluent_syntax_grammar.specs.Written.{Text}
 use Rattle.fluent_syntax_grammar.specs.Rules.{message_obeys, term_obeys, body_obeys}
 use Rattle.fluent_syntax_grammar.specs.Readable.{readable_rules}
 use Rattle.fluent_syntax_grammar.specs.Joined.{joined_message, joined_term, joined_body}
-use Rattle.fluent_syntax_grammar.specs.RoundTrip.{HasNoBareCr, HasNoCr, JoinedIsReadable, JoinedIsSame}
+use Rattle.fluent_syntax_grammar.specs.RoundTrip.{HasNoBareCr, HasNoCr, JoinedIsReadable, JoinedIsSame, JoinedIsCanonical, tree_of}
+use Rattle.fluent_syntax_grammar.proofs.FurtherRules.{readable_further}
 use Rattle.fluent_syntax_grammar.proofs.Facts.{differs}
 use Rattle.fluent_syntax_grammar.proofs.Tests.{both}
 use Rattle.fluent_syntax_grammar.proofs.backward.Entries.{IsLines, IsMessage, IsTerm, IsEntry, ensures_entry}
@@ -158,6 +159,11 @@ joined_is_readable t tiles bare tiling =
     body_obeying t (Unit {0}) (Unit {0}) (body tiles)
     (body_part t (Unit {0}) (Unit {0}) tiles
     (tiles_fine t bare (Unit {0}) (Unit {0}) (λ i e. tt) 0 tiles (inl tt) tiling))
+
+-- So it is canonical exactly where the four rules more hold of it.
+pub joined_is_canonical : (t : List ℕ) → JoinedIsCanonical t
+joined_is_canonical t tiles bare tiling =
+    readable_further One (joined_body (tree_of t tiles)) (joined_is_readable t tiles bare tiling)
 
 -- Where the text has no CR and the tiling no error, the tree is joined already.
 pub joined_is_same : (t : List ℕ) → JoinedIsSame t

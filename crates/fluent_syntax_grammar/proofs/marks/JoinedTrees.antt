@@ -47,7 +47,7 @@ use Rattle.fluent_syntax_grammar.proofs.Tests.{not_true}
 abbrev pub SameText : (xs ys : List Mark) → Type 0
 SameText xs ys = (last : Option ℕ) (ms : List Mark) → text_after last (xs ++ ms) ≡ text_after last (ys ++ ms)
 
-same : (xs : List Mark) → SameText xs xs
+pub same : (xs : List Mark) → SameText xs xs
 same xs last ms = refl
 
 same_cons : (m : Mark) (xs ys : List Mark) → SameText xs ys → SameText (m ∷ xs) (m ∷ ys)
@@ -57,7 +57,7 @@ same_under : (front xs ys : List Mark) → SameText xs ys → SameText (front ++
 same_under [] xs ys h = h
 same_under (m ∷ front) xs ys h = same_cons m (front ++ xs) (front ++ ys) (same_under front xs ys h)
 
-same_append : (as' bs xs ys : List Mark) → SameText as' bs → SameText xs ys → SameText (as' ++ xs) (bs ++ ys)
+pub same_append : (as' bs xs ys : List Mark) → SameText as' bs → SameText xs ys → SameText (as' ++ xs) (bs ++ ys)
 same_append as' bs xs ys g h last ms =
     ap (text_after last) (append_assoc as' xs ms) ∙ g last (xs ++ ms)
     ∙ sym (ap (text_after last) (append_assoc bs xs ms)) ∙ same_under bs xs ys h last ms
@@ -396,7 +396,7 @@ fields_text xs ys more h =
     (same_append (attributes_marks more) (attributes_marks (map joined_attribute more)) (line_end ∷ [])
     (line_end ∷ []) (attributes_text more) (same (line_end ∷ [])))
 
-message_text : (m : MessageTree Text) → SameText (message_marks m) (message_marks (joined_message m))
+pub message_text : (m : MessageTree Text) → SameText (message_marks m) (message_marks (joined_message m))
 message_text m =
     let i = literal 0 m.id in
     let q = literal 0 (codes " =") in
@@ -410,7 +410,7 @@ message_text m =
     (fields_text (value_marks m.value) (value_marks (option_map joined_pattern m.value)) m.attributes
     (value_text m.value))))
 
-term_text : (m : TermTree Text) → SameText (term_marks m) (term_marks (joined_term m))
+pub term_text : (m : TermTree Text) → SameText (term_marks m) (term_marks (joined_term m))
 term_text m =
     let d = literal 0 (codes "-") in
     let i = literal 0 m.id in

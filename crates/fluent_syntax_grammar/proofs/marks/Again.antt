@@ -1,0 +1,77 @@
+-- Written again: canonical trees are written apart, and what a text is read as is written alike once it is joined.
+use Rattle.std.proofs.Common.{◌≡◌, ℕ, List, [], ◌∷◌, Bool, None, true, false, sym, ◌∙◌, subst, ap, map}
+use Rattle.std.specs.List.{flat_map}
+use Rattle.fluent_syntax_tree.specs.Entry.{message, term, comment, junk, BodyTree, body_map, message_map, term_map}
+use Rattle.fluent_syntax_tree.specs.Spans.{bytes_at}
+use Rattle.fluent_syntax_tree.specs.declared.edition.Edition.{Edition}
+use Rattle.fluent_syntax_tree.specs.declared.edition.Edition.TheVariants.{One}
+use Rattle.fluent_syntax_tree.specs.declared.spans.Span.{Span}
+use Rattle.fluent_syntax_grammar.specs.Tiling.{Tile, Tiling}
+use Rattle.fluent_syntax_grammar.specs.Body.{body, faults}
+use Rattle.fluent_syntax_grammar.specs.Laws.{junk_slice, fault_slice}
+use Rattle.fluent_syntax_grammar.specs.Written.{Text, text_after, message_marks, term_marks, free_comment_marks, hashes_of}
+use Rattle.fluent_syntax_grammar.specs.Written.{body_marks, written}
+use Rattle.fluent_syntax_grammar.specs.Joined.{joined_message, joined_term, joined_body}
+use Rattle.fluent_syntax_grammar.specs.RoundTrip.{ReadsAs, tree_of, WrittenApart, WrittenAgain}
+use Rattle.fluent_syntax_grammar.proofs.Facts.{append_nothing}
+use Rattle.fluent_syntax_grammar.proofs.OneTiling.{one_tiling}
+use Rattle.fluent_syntax_grammar.proofs.JunkAndSpans.{junk_of_errors}
+use Rattle.fluent_syntax_grammar.proofs.marks.Entries.{written_back}
+use Rattle.fluent_syntax_grammar.proofs.marks.JoinedTrees.{SameText, same, same_append, message_text, term_text}
+use Rattle.fluent_syntax_grammar.proofs.marks.JoinedTrees.{joined_back}
+
+-- a text reads as one tree
+reads_one : (edition : Edition) (t : Text) (r other : BodyTree Text) → ReadsAs edition t r →
+    ReadsAs edition t other → r ≡ other
+reads_one edition t r other a b =
+    sym a.same ∙ (ap (tree_of t) (one_tiling edition t a.tiles b.tiles a.tiling b.tiling) ∙ b.same)
+
+-- Two canonical trees that are written as one text are equal.
+pub written_apart : (edition : Edition) (r other : BodyTree Text) → WrittenApart edition r other
+written_apart edition r other h g e =
+    reads_one edition (written false r) r other (written_back edition r false h)
+    (subst (λ t. ReadsAs edition t other) (sym e) (written_back edition other false g))
+
+-- ---- a body without junk is written as its joined body is
+
+module _ (t : List ℕ) where
+  body_text : (es : BodyTree Span) (follows : Bool) → flat_map junk_slice es ≡ [] →
+      SameText (body_marks false follows (body_map (bytes_at t) es))
+      (body_marks false follows (joined_body (body_map (bytes_at t) es)))
+  body_text [] follows h = same []
+  body_text (message m ∷ es) follows h =
+      let n = message_map (bytes_at t) m in
+      let rest = body_map (bytes_at t) es in
+      same_append (message_marks n) (message_marks (joined_message n)) (body_marks false true rest)
+      (body_marks false true (joined_body rest)) (message_text n) (body_text es true h)
+  body_text (term m ∷ es) follows h =
+      let n = term_map (bytes_at t) m in
+      let rest = body_map (bytes_at t) es in
+      same_append (term_marks n) (term_marks (joined_term n)) (body_marks false true rest)
+      (body_marks false true (joined_body rest)) (term_text n) (body_text es true h)
+  body_text (comment level content ∷ es) follows h =
+      let lines = free_comment_marks follows (hashes_of level) (map (bytes_at t) content) in
+      let rest = body_map (bytes_at t) es in
+      same_append lines lines (body_marks false true rest) (body_marks false true (joined_body rest)) (same lines)
+      (body_text es true h)
+  body_text (junk s ∷ es) follows h = absurd cc
+
+  written_joined : (es : BodyTree Span) → flat_map junk_slice es ≡ [] →
+      written false (joined_body (body_map (bytes_at t) es)) ≡ written false (body_map (bytes_at t) es)
+  unfolding written
+  written_joined es h =
+      let xs = body_marks false false (body_map (bytes_at t) es) in
+      let ys = body_marks false false (joined_body (body_map (bytes_at t) es)) in
+      sym (ap (text_after None) (sym (append_nothing xs))
+      ∙ (body_text es false h None [] ∙ ap (text_after None) (append_nothing ys)))
+
+  no_junk : (tiles : List Tile) → Tiling One t tiles → faults tiles ≡ [] → flat_map junk_slice (body tiles) ≡ []
+  no_junk tiles tiling clean = junk_of_errors One t tiles tiling ∙ ap (map fault_slice) clean
+
+  -- What a text is read as is written as a text that reads as its joined tree, and is written so again.
+  pub written_again : WrittenAgain t
+  written_again tiles tiling canonical = (
+    joined_back (tree_of t tiles) canonical,
+    written_back One (joined_body (tree_of t tiles)) false canonical,
+    λ clean. written_joined (body tiles) (no_junk tiles tiling clean),
+  )
