@@ -55,18 +55,19 @@ fn value<X, Y: Drop, C: CopyTexts<X, Y>>(
     }
 }
 
-fn hung<X, Y: Drop, C: CopyTexts<X, Y>>(
+/// The comment of a message or a term, where it has one.
+fn own_comment<X, Y: Drop, C: CopyTexts<X, Y>>(
     by: &C,
     alloc: Global,
-    hung: &Option<Comment<X>>,
+    own: &Option<Comment<X>>,
 ) -> Result<Option<Comment<Y>>, AllocError>
-    requires { option_every (list_every (C.can by.now)) (option_map (comment_view (λ x. x)) hung.now) }
+    requires { option_every (list_every (C.can by.now)) (option_map (comment_view (λ x. x)) own.now) }
     ensures { IfOk result (λ copy. option_map (comment_view C.made) copy
-        ≡ option_map (comment_view (C.source by.now)) hung.now) }
+        ≡ option_map (comment_view (C.source by.now)) own.now) }
 {
-    match hung {
+    match own {
         None => Ok(None),
-        Some(hung) => Ok(Some(comment(by, alloc, hung)?)),
+        Some(own) => Ok(Some(comment(by, alloc, own)?)),
     }
 }
 
@@ -82,7 +83,7 @@ pub(crate) fn message<X, Y: Drop, C: CopyTexts<X, Y>>(
         id: identifier(by, alloc, &message.id)?,
         value: value(by, alloc, &message.value)?,
         attributes: attributes(by, alloc, &message.attributes)?,
-        comment: hung(by, alloc, &message.comment)?,
+        comment: own_comment(by, alloc, &message.comment)?,
     })
 }
 
@@ -98,7 +99,7 @@ pub(crate) fn term<X, Y: Drop, C: CopyTexts<X, Y>>(
         id: identifier(by, alloc, &term.id)?,
         value: pattern(by, alloc, &term.value)?,
         attributes: attributes(by, alloc, &term.attributes)?,
-        comment: hung(by, alloc, &term.comment)?,
+        comment: own_comment(by, alloc, &term.comment)?,
     })
 }
 

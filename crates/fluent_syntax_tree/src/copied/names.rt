@@ -39,7 +39,8 @@ pub(crate) fn key<X, Y: Drop, C: CopyTexts<X, Y>>(
     }
 }
 
-pub(crate) fn attribute<X, Y: Drop, C: CopyTexts<X, Y>>(
+/// The name of a reference's attribute, where it has one.
+pub(crate) fn attribute_name<X, Y: Drop, C: CopyTexts<X, Y>>(
     by: &C,
     alloc: Global,
     id: &Option<Identifier<X>>,

@@ -4,7 +4,7 @@ ghost use Rattle.fluent_syntax_tree.specs.Every.{expression_every, inline_every,
 ghost use Rattle.fluent_syntax_tree.specs.View.{expression_view, inline_view, element_view, arguments_view, named_view, pattern_view, variant_view};
 
 use super::list_for;
-use super::names::{attribute, identifier, key};
+use super::names::{attribute_name, identifier, key};
 use crate::ast::*;
 use crate::texts::CopyTexts;
 use std::alloc::{AllocError, Global};
@@ -155,7 +155,7 @@ pub(crate) fn inline<X, Y: Drop, C: CopyTexts<X, Y>>(
         InlineExpression::MessageReference { id, attribute: of } => Ok(
             InlineExpression::MessageReference {
                 id: identifier(by, alloc, id)?,
-                attribute: attribute(by, alloc, of)?,
+                attribute: attribute_name(by, alloc, of)?,
             },
         ),
         InlineExpression::TermReference {
@@ -164,7 +164,7 @@ pub(crate) fn inline<X, Y: Drop, C: CopyTexts<X, Y>>(
             arguments: given,
         } => {
             let id = identifier(by, alloc, id)?;
-            let of = attribute(by, alloc, of)?;
+            let of = attribute_name(by, alloc, of)?;
             match given {
                 None => Ok(InlineExpression::TermReference {
                     id,
