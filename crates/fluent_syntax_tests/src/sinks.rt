@@ -1,11 +1,11 @@
 //! Sinks that refuse a piece: they hold a beginning of the text.
-ghost use Rattle.std.specs.Prelude.{◌≡◌, string_bytes};
+ghost use Rattle.std.specs.Prelude.{◌≡◌, ◌+◌, ◌≤◌, string_bytes, string_capacity, string_len};
 
 use fluent_syntax::ast::Resource;
 use fluent_syntax::parser::{ParseFault, parse};
 use fluent_syntax::serializer::{Options, serialize_to, serialize_with_options};
 use fluent_syntax::unicode::{SinkError, TextSink, unescape_unicode, unescape_unicode_to_string};
-use std::alloc::Global;
+use std::alloc::{AllocError, Global};
 use std::test::Fail;
 
 /// A sink that refuses one piece, and takes those before and after it. Empty pieces don't count.
@@ -73,25 +73,37 @@ impl TextSink for Refusing {
     }
 }
 
-/// A sink of a few bytes, which takes what fits.
+/// A sink of a few bytes, which is sure to take what fits.
 #[derive(Drop)]
 struct Small {
     text: String,
     room: usize,
+    ghost fits: { string_len text + room ≤ string_capacity text },
+}
+
+impl Small {
+    fn new(alloc: Global, room: usize) -> Result<Small, AllocError> {
+        let text = String::with_capacity(alloc, room)?;
+        Ok(Small { text, room })
+    }
 }
 
 impl TextSink for Small {
     ghost text = { λ s. string_bytes s.text };
 
-    ghost room = { λ _. 0 };
+    ghost room = { λ s. s.room };
 
     fn write_str(&mut self, s: &str) -> Result<(), SinkError> {
         if s.len() > self.room {
             return Err(SinkError);
         }
-        self.text.write_str(s)?;
-        self.room -= s.len();
-        Ok(())
+        match self.text.push_str(s) {
+            Ok(()) => {
+                self.room -= s.len();
+                Ok(())
+            }
+            Err(_) => Err(SinkError),
+        }
     }
 
     fn write_char(&mut self, c: char) -> Result<(), SinkError> {
@@ -106,10 +118,7 @@ fn an_escaped_text_to_a_sink_of_four_bytes(rt: HostRuntime) -> Result<(), Fail> 
         ("ab\\u00e9", "abé", Ok(())),
         ("abc\\u00e9", "abcé", Err(SinkError)),
     ] {
-        let mut sink = Small {
-            text: String::new(rt.alloc()),
-            room: 4,
-        };
+        let mut sink = Small::new(rt.alloc(), 4)?;
         let written = unescape_unicode(&mut sink, text);
         assert_eq!(rt; sink.text.as_str() == whole, written.is_ok());
         assert!(rt; whole.starts_with(sink.text.as_str()));
