@@ -1,8 +1,9 @@
-//! The serializer, and unescaping.
+//! The serializer, unescaping, and trees that are written and read again.
 
 use crate::answers::{HELD, Sunk};
 use crate::trees::lent_tree;
 use crate::turns::{Tally, in_turn, nothing, over};
+use fluent_syntax::laws::reparse;
 use fluent_syntax::serializer::{Options, serialize, serialize_to, serialize_with_options};
 use fluent_syntax::unicode::{unescape_unicode, unescape_unicode_to_string};
 use fluent_syntax_corpus::{ESCAPED, TEXTS};
@@ -14,7 +15,8 @@ pub fn calls<R: Print + AllocGlobal>(rt: &R) -> io::Result<Tally> {
     let trees = over(rt, "serializing", texts, written)?;
     let escaped = over(rt, "unescaping", ESCAPED.as_slice(), unescaped)?;
     let corpus = over(rt, "unescaping the corpus", texts, unescaped)?;
-    Ok(trees.and(escaped).and(corpus))
+    let again = over(rt, "reparse", texts, read_again)?;
+    Ok(trees.and(escaped).and(corpus).and(again))
 }
 
 /// The three ways to write a text's tree, which stays as it was.
@@ -37,6 +39,14 @@ fn written(alloc: Global, text: &str) -> Result<Tally, AllocError> {
         },
     )?;
     Ok(plain.and(with_junk).and(sunk).wrong_if(tree != before))
+}
+
+/// A text's tree written and read again, which stays as it was.
+fn read_again(alloc: Global, text: &str) -> Result<Tally, AllocError> {
+    let (tree, _errors) = lent_tree(alloc, text)?;
+    let (before, _errors) = lent_tree(alloc, text)?;
+    let tally = in_turn(alloc, nothing, |_| reparse(alloc, &tree))?;
+    Ok(tally.wrong_if(tree != before))
 }
 
 /// Both ways to unescape a text.
