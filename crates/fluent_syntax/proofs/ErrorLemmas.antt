@@ -93,22 +93,22 @@ module _ {S : Type 0} (text : S → List ℕ) (t : List ℕ) (tiles : List Tile)
   errors_given (Err Memory) law given = tt
 
 module _ {S : Type 0} (text : S → List ℕ) (edition : Edition) (t : List ℕ) (result : Result (Resource S) (ParseFault S))
-    where
-  pub junk_answered : AnswersTiling text (body_map (bytes_at t)) edition t result → JunkIsRefused t text result
-  junk_answered (tiles, tiling, given) = junk_given text t tiles result (junk_of_errors edition t tiles tiling) given
+  where
+    pub junk_answered : AnswersTiling text (body_map (bytes_at t)) edition t result → JunkIsRefused t text result
+    junk_answered (tiles, tiling, given) = junk_given text t tiles result (junk_of_errors edition t tiles tiling) given
 
-  pub errors_answered : AnswersTiling text (body_map (bytes_at t)) edition t result → ErrorsAscend t result
-  errors_answered (tiles, tiling, given) = errors_given text t tiles result (errors_ascend edition t tiles tiling) given
+    pub errors_answered : AnswersTiling text (body_map (bytes_at t)) edition t result → ErrorsAscend t result
+    errors_answered (tiles, tiling, given) = errors_given text t tiles result (errors_ascend edition t tiles tiling) given
 
-  pub runtime_junk_answered : AnswersRuntimeTiling text (body_map (bytes_at t)) edition t result →
-      JunkIsRefused t text result
-  runtime_junk_answered (tiles, tiling, given) =
-      junk_given text t tiles result (runtime_junk_of_errors edition t tiles tiling) given
+    pub runtime_junk_answered : AnswersRuntimeTiling text (body_map (bytes_at t)) edition t result →
+        JunkIsRefused t text result
+    runtime_junk_answered (tiles, tiling, given) =
+        junk_given text t tiles result (runtime_junk_of_errors edition t tiles tiling) given
 
-  pub runtime_errors_answered : AnswersRuntimeTiling text (body_map (bytes_at t)) edition t result →
-      ErrorsAscend t result
-  runtime_errors_answered (tiles, tiling, given) =
-      errors_given text t tiles result (runtime_errors_ascend edition t tiles tiling) given
+    pub runtime_errors_answered : AnswersRuntimeTiling text (body_map (bytes_at t)) edition t result →
+        ErrorsAscend t result
+    runtime_errors_answered (tiles, tiling, given) =
+        errors_given text t tiles result (runtime_errors_ascend edition t tiles tiling) given
 
 -- ---- blank texts
 

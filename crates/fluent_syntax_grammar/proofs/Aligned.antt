@@ -97,9 +97,12 @@ module _ (edition : Edition) (t : List ℕ) where
       let q = drop_line i m ys h (comment_whole t (hashes t i) i m c refl x) r in
       let p = drop_lines (hashes t i) m n more q.rest one y q.tiled in
       let g = gave (comment (level_of (hashes t i)) (c ++ more)) a n j z in
-      record { rest = p.rest; tiled = subst (λ k. Runtime k p.rest) g.1 p.tiled;
-            aligned =
-            λ xs al. subst (λ a. Aligned (entry s a ∷ xs) ys) g.0 (comment_left (q.aligned xs (p.aligned xs al))) }
+      record {
+        rest = p.rest;
+        tiled = subst (λ k. Runtime k p.rest) g.1 p.tiled;
+        aligned =
+            λ xs al. subst (λ a. Aligned (entry s a ∷ xs) ys) g.0 (comment_left (q.aligned xs (p.aligned xs al)));
+      }
 
   -- a line that begins with `#`, as it is dropped
   pub record Dropped (i : ℕ) (ys : List Tile) : Type 0 where
@@ -115,8 +118,13 @@ module _ (edition : Edition) (t : List ℕ) where
       differs (hash_there t i e) (block_no_entry t i (length t) i b (omega arith) l)
   dropped_first i ys e (next {start = start} {end = end} {tiles = more} b l (drops h w) m) =
       let same : start ≡ i = single_block.same i _ _ b (block_at_entry t i (hash_there t i e)) in
-      record { end = end; line = line_of t i end (subst (λ k. whole_line t k (Read tt end)) same w); more = more;
-            tiled = m; aligned = λ xs a. dropped_right a }
+      record {
+        end = end;
+        line = line_of t i end (subst (λ k. whole_line t k (Read tt end)) same w);
+        more = more;
+        tiled = m;
+        aligned = λ xs a. dropped_right a;
+      }
   dropped_first i ys e (next {start = start} b l (stands h y) m) =
       let same : start ≡ i = single_block.same i _ _ b (block_at_entry t i (hash_there t i e)) in
       differs e (subst (λ k. has_byte t 35 k ≡ false) same h)
@@ -193,11 +201,14 @@ module _ (edition : Edition) (t : List ℕ) where
       let same_kind : k.0 ≡ kind = cc in
       let same_from : k.1 ≡ from = cc in
       let place : failing_place kind from to ≡ s =
-          plain_place kind (subst IsPlain same_kind at.plain) from to ∙ (sym same_from ∙ at.at) in
+      plain_place kind (subst IsPlain same_kind at.plain) from to ∙ (sym same_from ∙ at.at) in
       let same_end : end ≡ e =
-          junk_same t s end e (subst (λ p. JunkEnd t p end) place n) (earlier_end m s e l (omega arith) j) in
-      record { rest = more; tiled = subst (λ k. Runtime k more) same_end r;
-            aligned = λ xs a. subst (λ ys. Aligned (refused f ∷ xs) ys) same (junk_both a) }
+      junk_same t s end e (subst (λ p. JunkEnd t p end) place n) (earlier_end m s e l (omega arith) j) in
+      record {
+        rest = more;
+        tiled = subst (λ k. Runtime k more) same_end r;
+        aligned = λ xs a. subst (λ ys. Aligned (refused f ∷ xs) ys) same (junk_both a);
+      }
 
   junk_align : (m e : ℕ) (f : Fault) (ys : List Tile) → IsLineStart t m → JunkEnd t m e → Runtime m ys →
       Rest e ys (λ xs. refused f ∷ xs)
@@ -207,8 +218,11 @@ module _ (edition : Edition) (t : List ℕ) where
       elim (split_at t e (length t)) [
         | inl l ↦ absurd (no_entry_in_block m (length t) e b forward l (omega arith) j)
         | inr l ↦ (let same : length t ≡ e = omega arith in
-              record { rest = []; tiled = subst (λ k. Runtime k []) same (done (block_at_end t));
-                aligned = λ xs a. junk_left a })
+            record {
+              rest = [];
+              tiled = subst (λ k. Runtime k []) same (done (block_at_end t));
+              aligned = λ xs a. junk_left a;
+            })
       ]
   junk_align m e f ys h j (next {start = s} {end = end} {tile = tile} {tiles = more} b l x r) =
       let inside = j.in_text in
@@ -219,16 +233,18 @@ module _ (edition : Edition) (t : List ℕ) where
         | inr y ↦ elim (lt_or_same s e y) [
           | inl z ↦ junk_inside m s e end f tile more (tile ∷ more) h b on z j x r refl
           | inr same ↦ (let there = entry_at_stop e (omega arith) j.stop in
-              record { rest = tile ∷ more;
-                    tiled = subst (λ k. Runtime k (tile ∷ more)) same (next (block_end t m s b) l x r);
-                    aligned = λ xs a. junk_left a })
+              record {
+                rest = tile ∷ more;
+                tiled = subst (λ k. Runtime k (tile ∷ more)) same (next (block_end t m s b) l x r);
+                aligned = λ xs a. junk_left a;
+              })
         ]
       ]
 
   past_line : (i m e : ℕ) → IsLine t i m → i < e → m ≤ length t → (starts_entry t e ≡ true) ⊎ (e ≡ length t) → m ≤ e
   past_line i m e x l n (inl h) =
       elim (split_at t e m)
-        [ inl y ↦ differs (left_true (starts_line t e) (has t is_entry_byte e) h) (no_start t i m e x l y) | inr y ↦ y ]
+      [ inl y ↦ differs (left_true (starts_line t e) (has t is_entry_byte e) h) (no_start t i m e x l y) | inr y ↦ y ]
   past_line i m e x l n (inr f) = omega arith
 
   -- the junk of a malformed comment begins on the comment's line
@@ -274,8 +290,8 @@ module _ (edition : Edition) (t : List ℕ) where
       comment_step i j (record { start = i; end = j }) e ys h (hash_comment i (Read e j) h y) r
   tile_step i j x ys h (refuses {from = from} {to = to} {k = k} y e) r =
       junk_step i j from to k
-          (record { kind = k; pos = record { start = from; end = to }; slice = record { start = i; end = j } }) ys h
-          (hash_comment i (Refused k from to) h y) e r
+      (record { kind = k; pos = record { start = from; end = to }; slice = record { start = i; end = j } }) ys h
+      (hash_comment i (Refused k from to) h y) e r
 
   other_step : (i j : ℕ) (x : Tile) (ys : List Tile) → has_byte t 35 i ≡ false → i < length t → BlankBlock t i i →
       TileAt edition t i j x → Runtime i ys → Rest j ys (λ xs. x ∷ xs)
@@ -287,8 +303,11 @@ module _ (edition : Edition) (t : List ℕ) where
       let z' = subst (λ k. TileAt edition t k end tile) same z in
       let same_end : end ≡ j = (one_tile edition t).same_end i end j tile x z' y in
       let same_tile : x ≡ tile = sym ((one_tile edition t).same_tile i end j tile x z' y) in
-      record { rest = more; tiled = subst (λ k. Runtime k more) same_end r;
-            aligned = λ xs a. subst (λ x. Aligned (x ∷ xs) (tile ∷ more)) (sym same_tile) (both a) }
+      record {
+        rest = more;
+        tiled = subst (λ k. Runtime k more) same_end r;
+        aligned = λ xs a. subst (λ x. Aligned (x ∷ xs) (tile ∷ more)) (sym same_tile) (both a);
+      }
 
   step : (i j : ℕ) (x : Tile) (ys : List Tile) (hash : Bool) → has_byte t 35 i ≡ hash → i < length t →
       BlankBlock t i i → TileAt edition t i j x → Runtime i ys → Rest j ys (λ xs. x ∷ xs)

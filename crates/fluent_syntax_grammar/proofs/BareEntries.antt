@@ -45,21 +45,21 @@ module _ (edition : Edition) (t : List ℕ) where
   pub message_bare : Holds Anywhere (message_entry edition t) Bare AnyFault
   message_bare =
       holds_bind {mid = Anything} any
-        (λ start. holds_bind {mid = Anything} any
-          (λ id. holds_bind {mid = Anything} any (λ u. holds_bind {mid = Anything} any (λ v.
+      (λ start. holds_bind {mid = Anything} any
+      (λ id. holds_bind {mid = Anything} any (λ u. holds_bind {mid = Anything} any (λ v.
       holds_bind {mid = Anything} any
-          (λ value. holds_bind {mid = Anything} any
-            (λ w. holds_bind {mid = Anything} any (λ rest. bare_message start id value rest)))))))
+      (λ value. holds_bind {mid = Anything} any
+      (λ w. holds_bind {mid = Anything} any (λ rest. bare_message start id value rest)))))))
 
   pub term_bare : Holds Anywhere (term_entry edition t) Bare AnyFault
   term_bare =
       holds_bind {mid = Anything} any
-        (λ start. holds_bind {mid = Anything} any
-          (λ z. holds_bind {mid = Anything} any
-            (λ id. holds_bind {mid = Anything} any (λ u. holds_bind {mid = Anything} any (λ v.
+      (λ start. holds_bind {mid = Anything} any
+      (λ z. holds_bind {mid = Anything} any
+      (λ id. holds_bind {mid = Anything} any (λ u. holds_bind {mid = Anything} any (λ v.
       holds_bind {mid = Anything} any
-          (λ value. holds_bind {mid = Anything} any
-            (λ w. holds_bind {mid = Anything} any (λ rest. bare_term start id value rest))))))))
+      (λ value. holds_bind {mid = Anything} any
+      (λ w. holds_bind {mid = Anything} any (λ rest. bare_term start id value rest))))))))
 
   a_hash : (i b : ℕ) (o : Option ℕ) → o ≡ Some b → (b == 35) ≡ true → holds (λ c. c == 35) o ≡ true
   a_hash i b o e f = rw e f

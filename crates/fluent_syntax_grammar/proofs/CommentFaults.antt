@@ -46,7 +46,7 @@ module _ (t : List ℕ) (F : Kind → ℕ → ℕ → Type 0) where
   never_line : Holds Anywhere (rest_of_line t) Anything F
   never_line =
       holds_bind {mid = Anything} (holds_here (λ i p. tt))
-        (λ start. holds_bind {mid = Anything} (holds_over (λ i j p w. tt)) (λ u. never_spanned start))
+      (λ start. holds_bind {mid = Anything} (holds_over (λ i j p w. tt)) (λ u. never_spanned start))
 
   never_lines : (level : ℕ) → Holds Anywhere (comment_lines t level) Anything F
   never_lines level =
@@ -67,8 +67,8 @@ module _ (t : List ℕ) (p : ℕ) where
   rest_at None = holds_gives (λ i q. tt)
   rest_at (Some b) =
       holds_bind {mid = Anything}
-        (holds_at_each
-          (λ eol. holds_weaker {pre = λ i. i ≡ p} (λ i q. q.0) (λ a j x. x) (λ k from to x. x) (text_at eol)))
+      (holds_at_each
+      (λ eol. holds_weaker {pre = λ i. i ≡ p} (λ i q. q.0) (λ a j x. x) (λ k from to x. x) (text_at eol)))
       (λ content. holds_bind (never_eol t (IsAt p)) (λ u. holds_gives (λ i q. tt)))
 
 module _ (t : List ℕ) where
@@ -76,8 +76,8 @@ module _ (t : List ℕ) where
   comment_at i level = holds_bind {mid = Anything}
       (holds_bind {mid = λ u j. j ≡ i + level} (holds_over (λ j m e w. let by = w.by in omega arith))
       (λ u. holds_at_each
-            (λ o. holds_weaker {pre = λ j. j ≡ i + level} (λ j q. q.0) (λ a j x. x) (λ k from to x. x)
-              (rest_at t (i + level) o))))
+      (λ o. holds_weaker {pre = λ j. j ≡ i + level} (λ j q. q.0) (λ a j x. x) (λ k from to x. x)
+      (rest_at t (i + level) o))))
       (λ content. holds_bind (never_lines t (IsAt (i + level)) level) (λ rest. holds_gives (λ j q. tt)))
 
   -- a comment is refused at the place after its hashes
@@ -92,7 +92,7 @@ module _ (t : List ℕ) where
   name_at : (p : ℕ) → Holds (λ i. i ≡ p) (identifier t) Anything (IsAt p)
   name_at p =
       holds_bind {mid = λ start i. i ≡ p} (holds_here (λ i q. q))
-        (λ start. holds_bind {mid = λ letter i. i ≡ p} (holds_at_each (λ letter. holds_gives (λ i q. q.0)))
+      (λ start. holds_bind {mid = λ letter i. i ≡ p} (holds_at_each (λ letter. holds_gives (λ i q. q.0)))
       (λ letter. holds_either
       (λ e. holds_bind {mid = Anything} (holds_over (λ i j q w. tt)) (λ u. never_spanned t (IsAt p) start))
       (λ e. holds_fails (λ i q. record { at = q; plain = tt }))))

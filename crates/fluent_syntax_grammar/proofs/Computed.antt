@@ -25,7 +25,7 @@ then_run (Some (Refused k from to)) f = Some (Refused k from to)
 
 pub then_sound :
     {A B : Type 0} (c : Construct A) (f : A → Construct B) (x : Computed c) (g : (a : A) → Computed (f a)) (i : ℕ)
-      (o : Outcome B) (r : Option (Outcome A)) →
+    (o : Outcome B) (r : Option (Outcome A)) →
     x.run i ≡ r → then_run r (λ a j. (g a).run j) ≡ Some o → (c >>= f) i o
 then_sound c f x g i o None e h = cc
 then_sound c f x g i o (Some (Read a j)) e h = goes_on (x.sound i (Read a j) e) ((g a).sound j o h)
@@ -35,8 +35,10 @@ then_sound c f x g i o (Some (Refused k from to)) e h = let same : Refused k fro
 abbrev pub computed_bind : {A B : Type 0} {c : Construct A} {f : A → Construct B} → Computed c →
     ((a : A) → Computed (f a)) → Computed (c >>= f)
 computed_bind {c = c} {f = f} x g =
-    record { run = λ i. then_run (x.run i) (λ a j. (g a).run j);
-      sound = λ i o h. then_sound c f x g i o (x.run i) refl h }
+    record {
+      run = λ i. then_run (x.run i) (λ a j. (g a).run j);
+      sound = λ i o h. then_sound c f x g i o (x.run i) refl h;
+    }
 
 pub gives_sound : {A : Type 0} (a : A) (i : ℕ) (o : Outcome A) → Some (Read a i) ≡ Some o → gives a i o
 gives_sound a i o h = let same : Read a i ≡ o = cc in subst (λ o. gives a i o) same given
@@ -109,7 +111,7 @@ find test (suc n) i = choose (test i) (λ u. find test n (i + 1)) (λ u. Some i)
 pub find_here : (test : ℕ → Bool) (i j : ℕ) → test i ≡ false → Some i ≡ Some j → Stretch test i j
 find_here test i j e h = let same : i ≡ j = some_same h in
     subst (λ j. Stretch test i j) same
-      (record { forward = omega arith; each = λ k a b. absurd (omega arith); longest = e })
+    (record { forward = omega arith; each = λ k a b. absurd (omega arith); longest = e })
 
 find_each : (test : ℕ → Bool) (i j k : ℕ) → test i ≡ true → Stretch test (i + 1) j → i ≤ k → k < j → test k ≡ true
 find_each test i j k e s a b =

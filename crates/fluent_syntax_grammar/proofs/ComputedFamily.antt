@@ -43,7 +43,7 @@ module _ (t : List ℕ) (n : ℕ) where
   abbrev pub computed_accessor : Computed (accessor t)
   computed_accessor =
       computed_bind (computed_optional t n 46)
-        (λ dot. computed_either (computed_bind (computed_identifier t n) (λ a. computed_gives)) computed_gives)
+      (λ dot. computed_either (computed_bind (computed_identifier t n) (λ a. computed_gives)) computed_gives)
 
   abbrev pub computed_separator : Computed (separator t)
   computed_separator =
@@ -63,21 +63,21 @@ module _ (t : List ℕ) (n : ℕ) where
   abbrev pub computed_key : Computed (variant_key t)
   computed_key =
       computed_at_each
-        (λ is_number.
-          computed_either (computed_bind (computed_number t n) (λ v. computed_gives))
-          (computed_bind (computed_identifier t n) (λ v. computed_gives)))
+      (λ is_number.
+      computed_either (computed_bind (computed_number t n) (λ v. computed_gives))
+      (computed_bind (computed_identifier t n) (λ v. computed_gives)))
 
 module _ (t : List ℕ) (n : ℕ) (R : Family) (h : ComputedFamily R) where
   abbrev pub computed_call : Computed (call_arguments t R)
   computed_call =
       computed_bind (computed_blank t n) (λ u. computed_bind (computed_optional t n 40) (λ bracket. computed_either
       (computed_bind (computed_bind (computed_blank t n) (λ u. h.more_arguments [])) (λ a. computed_gives))
-          computed_gives))
+      computed_gives))
 
   abbrev pub computed_variants_of_select : Computed (variants_of_select t R)
   computed_variants_of_select =
       computed_bind (computed_over computed_steps)
-        (λ u. computed_bind (computed_inline_blank t n) (λ u. computed_bind (computed_at_each computed_arrow) (λ u.
+      (λ u. computed_bind (computed_inline_blank t n) (λ u. computed_bind (computed_at_each computed_arrow) (λ u.
       computed_bind (computed_blank t n) (λ u. h.more_variants false))))
 
   abbrev pub computed_select : (e : InlineTree Span) (o : Option Kind) → Computed (select_with t R e o)
@@ -87,13 +87,13 @@ module _ (t : List ℕ) (n : ℕ) (R : Family) (h : ComputedFamily R) where
   abbrev pub computed_expression : Computed (expression t R)
   computed_expression =
       computed_bind h.inline_expression
-        (λ e. computed_bind (computed_blank t n) (λ u. computed_bind (computed_at_each (λ a. computed_gives)) (λ arrow.
+      (λ e. computed_bind (computed_blank t n) (λ u. computed_bind (computed_at_each (λ a. computed_gives)) (λ arrow.
       computed_either (computed_select e (selector_fault e)) (computed_either computed_fails computed_gives))))
 
   abbrev pub computed_placeable : Computed (placeable t R)
   computed_placeable =
       computed_bind (computed_token t n 123)
-        (λ u. computed_bind (computed_blank t n) (λ u. computed_bind computed_expression (λ e.
+      (λ u. computed_bind (computed_blank t n) (λ u. computed_bind computed_expression (λ e.
       computed_bind (computed_inline_blank t n) (λ u. computed_bind (computed_token t n 125) (λ u. computed_gives)))))
 
   abbrev pub computed_inline_of : (s : Start) → Computed (inline_of t R s)
@@ -102,8 +102,8 @@ module _ (t : List ℕ) (n : ℕ) (R : Family) (h : ComputedFamily R) where
   computed_inline_of minus = computed_bind (computed_number t n) (λ v. computed_gives)
   computed_inline_of term =
       computed_bind (computed_token t n 45)
-        (λ u. computed_bind (computed_identifier t n)
-          (λ id. computed_bind (computed_accessor t n) (λ a. computed_bind computed_call (λ c. computed_gives))))
+      (λ u. computed_bind (computed_identifier t n)
+      (λ id. computed_bind (computed_accessor t n) (λ a. computed_bind computed_call (λ c. computed_gives))))
   computed_inline_of dollar =
       computed_bind (computed_token t n 36) (λ u. computed_bind (computed_identifier t n) (λ id. computed_gives))
   computed_inline_of letter =
@@ -127,10 +127,10 @@ module _ (t : List ℕ) (n : ℕ) (R : Family) (h : ComputedFamily R) where
   abbrev pub computed_named_argument : (names : List (List ℕ)) (name : Span) → Computed (named_and_more t R names name)
   computed_named_argument names name =
       computed_either computed_fails
-        (computed_bind (computed_token t n 58) (λ u. computed_bind (computed_blank t n) (λ u.
+      (computed_bind (computed_token t n 58) (λ u. computed_bind (computed_blank t n) (λ u.
       computed_bind (computed_at_each computed_value)
-          (λ e. computed_bind (computed_separator t n)
-            (λ u. computed_bind (h.more_arguments _) (λ a. computed_gives))))))
+      (λ e. computed_bind (computed_separator t n)
+      (λ u. computed_bind (h.more_arguments _) (λ a. computed_gives))))))
 
   abbrev pub computed_positional : (names : List (List ℕ)) (e : InlineTree Span) →
       Computed (positional_and_more t R names e)
@@ -148,8 +148,8 @@ module _ (t : List ℕ) (n : ℕ) (R : Family) (h : ComputedFamily R) where
   computed_arguments_at names None = computed_fails
   computed_arguments_at names (Some b) = computed_either (computed_bind (computed_token t n 41) (λ u. computed_gives))
       (computed_bind h.inline_expression
-            (λ e. computed_bind (computed_at_each (λ colon. computed_gives))
-              (λ colon. computed_argument names e (argument_name e) colon)))
+      (λ e. computed_bind (computed_at_each (λ colon. computed_gives))
+      (λ colon. computed_argument names e (argument_name e) colon)))
 
   abbrev pub computed_arguments : (names : List (List ℕ)) → Computed (more_arguments t R names)
   computed_arguments names = computed_at_each (computed_arguments_at names)
@@ -160,8 +160,8 @@ module _ (t : List ℕ) (n : ℕ) (R : Family) (h : ComputedFamily R) where
       computed_at_each (λ eol. computed_either computed_gives (computed_either computed_fails (computed_either
       (computed_bind computed_placeable (λ e. computed_bind h.more_pieces (λ ps. computed_gives)))
       (computed_bind computed_here
-            (λ from. computed_bind (computed_over (computed_stretch n))
-              (λ u. computed_bind computed_here (λ to. computed_bind h.more_pieces (λ ps. computed_gives))))))))
+      (λ from. computed_bind (computed_over (computed_stretch n))
+      (λ u. computed_bind computed_here (λ to. computed_bind h.more_pieces (λ ps. computed_gives))))))))
 
   abbrev pub computed_pieces : Computed (more_pieces t R)
   computed_pieces = computed_at_each computed_pieces_at
@@ -169,11 +169,11 @@ module _ (t : List ℕ) (n : ℕ) (R : Family) (h : ComputedFamily R) where
   abbrev pub computed_line : Computed (line_and_more t R)
   computed_line =
       computed_bind
-        (computed_bind computed_here
-          (λ start. computed_bind (computed_inline_blank t n)
-            (λ u. computed_bind computed_here (λ first. computed_bind h.more_pieces (λ ps.
+      (computed_bind computed_here
+      (λ start. computed_bind (computed_inline_blank t n)
+      (λ u. computed_bind computed_here (λ first. computed_bind h.more_pieces (λ ps.
       computed_bind (computed_ending t n) (λ e. computed_gives))))))
-          (λ l. computed_bind h.more_lines (λ ls. computed_gives))
+      (λ l. computed_bind h.more_lines (λ ls. computed_gives))
 
   abbrev pub lines_at : ℕ → ℕ → Option ℕ → Option (Outcome (List Line))
   lines_at i k None = Some (Read [] k)
@@ -211,11 +211,11 @@ module _ (t : List ℕ) (n : ℕ) (R : Family) (h : ComputedFamily R) where
   abbrev pub computed_layout_at : (o : Option ℕ) → Computed (layout_at t R o)
   computed_layout_at None =
       computed_bind computed_here
-        (λ start. computed_bind h.more_pieces
-          (λ ps. computed_bind (computed_ending t n) (λ e. computed_bind h.more_lines (λ ls. computed_gives))))
+      (λ start. computed_bind h.more_pieces
+      (λ ps. computed_bind (computed_ending t n) (λ e. computed_bind h.more_lines (λ ls. computed_gives))))
   computed_layout_at (Some k) =
       computed_bind (computed_over computed_reaches)
-        (λ u. computed_bind (computed_blank_block t n) (λ u. computed_bind h.more_lines (λ ls. computed_gives)))
+      (λ u. computed_bind (computed_blank_block t n) (λ u. computed_bind h.more_lines (λ ls. computed_gives)))
 
   abbrev pub computed_layout : Computed (layout t R)
   computed_layout = computed_bind (computed_inline_blank t n) (λ u. computed_at_each computed_layout_at)
@@ -233,14 +233,14 @@ module _ (edition : Edition) (t : List ℕ) (n : ℕ) (R : Family) (h : Computed
   abbrev pub computed_after : (starred star : Bool) → Computed (variant_after edition t R starred star)
   computed_after starred star =
       computed_bind (computed_blank t n)
-        (λ u. computed_bind (computed_key t n)
-          (λ key. computed_bind (computed_blank t n) (λ u. computed_bind (computed_token t n 93) (λ u.
+      (λ u. computed_bind (computed_key t n)
+      (λ key. computed_bind (computed_blank t n) (λ u. computed_bind (computed_token t n 93) (λ u.
       computed_bind computed_pattern (λ value. computed_variant starred star key value)))))
 
   abbrev pub computed_variants : (starred : Bool) → Computed (more_variants edition t R starred)
   computed_variants starred =
       computed_bind (computed_optional t n 42)
-        (λ star. computed_bind (computed_only starred star) (λ u. computed_bind (computed_optional t n 91) (λ bracket.
+      (λ star. computed_bind (computed_only starred star) (λ u. computed_bind (computed_optional t n 91) (λ bracket.
       computed_either (computed_after starred star) (computed_end edition starred star))))
 
 module _ (edition : Edition) (t : List ℕ) (n : ℕ) where
@@ -258,30 +258,30 @@ module _ (edition : Edition) (t : List ℕ) (n : ℕ) where
       run = λ i. (computed_inline t n (family edition t) (computed_family m)).run i;
       sound =
           λ i o x. into_inline_expression edition t i o
-            ((computed_inline t n (family edition t) (computed_family m)).sound i o x);
+          ((computed_inline t n (family edition t) (computed_family m)).sound i o x);
     };
     more_arguments = λ names. record {
       run = λ i. (computed_arguments t n (family edition t) (computed_family m) names).run i;
       sound =
           λ i o x. into_more_arguments edition t names i o
-            ((computed_arguments t n (family edition t) (computed_family m) names).sound i o x);
+          ((computed_arguments t n (family edition t) (computed_family m) names).sound i o x);
     };
     more_variants = λ starred. record {
       run = λ i. (computed_variants edition t n (family edition t) (computed_family m) starred).run i;
       sound =
           λ i o x. into_more_variants edition t starred i o
-            ((computed_variants edition t n (family edition t) (computed_family m) starred).sound i o x);
+          ((computed_variants edition t n (family edition t) (computed_family m) starred).sound i o x);
     };
     more_pieces = record {
       run = λ i. (computed_pieces t n (family edition t) (computed_family m)).run i;
       sound =
           λ i o x. into_more_pieces edition t i o
-            ((computed_pieces t n (family edition t) (computed_family m)).sound i o x);
+          ((computed_pieces t n (family edition t) (computed_family m)).sound i o x);
     };
     more_lines = record {
       run = λ i. (computed_lines t n (family edition t) (computed_family m)).run i;
       sound =
           λ i o x. into_more_lines edition t i o
-            ((computed_lines t n (family edition t) (computed_family m)).sound i o x);
+          ((computed_lines t n (family edition t) (computed_family m)).sound i o x);
     };
   }

@@ -29,7 +29,7 @@ module _ (t : List ℕ) (n : ℕ) where
   abbrev pub computed_optional : (b : ℕ) → Computed (optional t b)
   computed_optional b =
       computed_at_each
-        (λ found. computed_either (computed_bind (computed_over computed_steps) (λ u. computed_gives)) computed_gives)
+      (λ found. computed_either (computed_bind (computed_over computed_steps) (λ u. computed_gives)) computed_gives)
 
   abbrev pub computed_token : (b : ℕ) → Computed (token t b)
   computed_token b = computed_bind (computed_optional b) (λ found. computed_either computed_gives computed_fails)
@@ -67,7 +67,7 @@ module _ (t : List ℕ) (n : ℕ) where
   found_block zero i j h = cc
   found_block (suc f) i j h =
       block_step i j f (find (has t is_space) n i) (eol_at (find (has t is_space) n i)) refl refl
-        (λ m x. found_block f m j x) h
+      (λ m x. found_block f m j x) h
 
   abbrev pub block_word : ComputedWord (BlankBlock t)
   block_word = record { run = find_block n; sound = λ i j h. found_block n i j h }
@@ -93,8 +93,8 @@ module _ (t : List ℕ) (n : ℕ) where
   abbrev pub computed_number : Computed (number t)
   computed_number =
       computed_bind computed_here
-        (λ start. computed_bind (computed_optional 45)
-          (λ x. computed_bind computed_digits (λ u. computed_bind (computed_optional 46) (λ point.
+      (λ start. computed_bind (computed_optional 45)
+      (λ x. computed_bind computed_digits (λ u. computed_bind (computed_optional 46) (λ point.
       computed_bind (computed_either computed_digits computed_gives) (λ u. computed_spanned)))))
 
   -- ---- strings
@@ -116,8 +116,12 @@ module _ (t : List ℕ) (n : ℕ) where
   hex_on i w k e h =
       let f = h.forward in
       let m = h.most in
-      record { forward = omega arith; most = omega arith; each = λ j a b. hex_each i w k j e h a b;
-            longest = λ l. h.longest (omega arith) }
+      record {
+        forward = omega arith;
+        most = omega arith;
+        each = λ j a b. hex_each i w k j e h a b;
+        longest = λ l. h.longest (omega arith);
+      }
 
   hex_split : (w i : ℕ) (b : Bool) → has t is_ascii_hexdigit i ≡ b → HexDigits t (i + 1) w (hex_end w (i + 1)) →
       HexDigits t i (suc w) (choose b (λ u. hex_end w (i + 1)) (λ u. i))
@@ -126,8 +130,12 @@ module _ (t : List ℕ) (n : ℕ) where
 
   pub hex_found : (w i : ℕ) → HexDigits t i w (hex_end w i)
   hex_found zero i =
-      record { forward = omega arith; most = omega arith; each = λ j a b. absurd (omega arith);
-        longest = λ l. absurd (omega arith) }
+      record {
+        forward = omega arith;
+        most = omega arith;
+        each = λ j a b. absurd (omega arith);
+        longest = λ l. absurd (omega arith);
+      }
   hex_found (suc w) i = hex_split w i (has t is_ascii_hexdigit i) refl (hex_found w (i + 1))
 
   abbrev pub hex_run : (w i k : ℕ) → (all : Bool) → Outcome (Unit {0})
@@ -156,7 +164,7 @@ module _ (t : List ℕ) (n : ℕ) where
   computed_unit None = computed_fails
   computed_unit (Some b) =
       computed_either computed_fails
-        (computed_either (computed_at_each computed_escaped) (computed_over computed_steps))
+      (computed_either (computed_at_each computed_escaped) (computed_over computed_steps))
 
   abbrev pub units_step : Option (Outcome (Unit {0})) → (ℕ → Option (Outcome (Unit {0}))) → Option (Outcome (Unit {0}))
   units_step None more = None
@@ -167,24 +175,24 @@ module _ (t : List ℕ) (n : ℕ) where
   find_units zero i = None
   find_units (suc f) i =
       choose (has_byte t 34 i) (λ u. Some (Read tt i))
-        (λ u. units_step ((computed_unit (slice_get t i)).run i) (find_units f))
+      (λ u. units_step ((computed_unit (slice_get t i)).run i) (find_units f))
 
   units_next : (f i : ℕ) (o : Outcome (Unit {0})) (r : Option (Outcome (Unit {0}))) →
       (computed_unit (slice_get t i)).run i ≡ r → has_byte t 34 i ≡ false →
       ((j : ℕ) → find_units f j ≡ Some o → string_units t j o) → units_step r (find_units f) ≡ Some o →
-          string_units t i o
+      string_units t i o
   units_next f i o None e g more h = cc
   units_next f i o (Some (Read a j)) e g more h =
       unit_and_more g ((computed_unit (slice_get t i)).sound i (Read tt j) e) (more j h)
   units_next f i o (Some (Refused k from to)) e g more h =
       let same : Refused k from to ≡ o = cc in
-          subst (λ o. string_units t i o) same
-            (bad_unit g ((computed_unit (slice_get t i)).sound i (Refused k from to) e))
+      subst (λ o. string_units t i o) same
+      (bad_unit g ((computed_unit (slice_get t i)).sound i (Refused k from to) e))
 
   units_at : (f i : ℕ) (o : Outcome (Unit {0})) (b : Bool) → has_byte t 34 i ≡ b →
       ((j : ℕ) → find_units f j ≡ Some o → string_units t j o) →
       choose b (λ u. Some (Read tt i)) (λ u. units_step ((computed_unit (slice_get t i)).run i) (find_units f))
-          ≡ Some o → string_units t i o
+      ≡ Some o → string_units t i o
   units_at f i o true e more h = let same : Read tt i ≡ o = cc in subst (λ o. string_units t i o) same (before_quote e)
   units_at f i o false e more h = units_next f i o ((computed_unit (slice_get t i)).run i) refl e more h
 
@@ -198,6 +206,6 @@ module _ (t : List ℕ) (n : ℕ) where
   abbrev pub computed_string : Computed (string_literal t)
   computed_string =
       computed_bind (computed_token 34)
-        (λ u. computed_bind computed_here
-          (λ start. computed_bind computed_units (λ u. computed_bind computed_spanned (λ value.
+      (λ u. computed_bind computed_here
+      (λ start. computed_bind computed_units (λ u. computed_bind computed_spanned (λ value.
       computed_bind (computed_token 34) (λ u. computed_gives)))))

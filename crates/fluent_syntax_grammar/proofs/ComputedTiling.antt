@@ -44,10 +44,10 @@ module _ (edition : Edition) (t : List ℕ) (n : ℕ) where
   abbrev pub computed_attribute : Computed (attribute edition t)
   computed_attribute =
       computed_bind (computed_inline_blank t n)
-        (λ u. computed_bind (computed_token t n 46) (λ u. computed_bind (computed_identifier t n) (λ id.
+      (λ u. computed_bind (computed_token t n 46) (λ u. computed_bind (computed_identifier t n) (λ id.
       computed_bind (computed_inline_blank t n)
-          (λ u. computed_bind (computed_token t n 61)
-            (λ u. computed_bind computed_pattern (λ value. computed_with id value))))))
+      (λ u. computed_bind (computed_token t n 61)
+      (λ u. computed_bind computed_pattern (λ value. computed_with id value))))))
 
   -- ---- attributes
 
@@ -69,9 +69,9 @@ module _ (edition : Edition) (t : List ℕ) (n : ℕ) where
 
   attributes_add :
       (i j : ℕ) (a : AttributeTree Span) (o : Outcome (List (AttributeTree Span)))
-        (r : Option (Outcome (List (AttributeTree Span)))) → attribute edition t i (Read a j) →
+      (r : Option (Outcome (List (AttributeTree Span)))) → attribute edition t i (Read a j) →
       ((p : Outcome (List (AttributeTree Span))) → r ≡ Some p → attributes edition t j p) → add_attribute a r ≡ Some o →
-          attributes edition t i o
+      attributes edition t i o
   attributes_add i j a o None x more e = cc
   attributes_add i j a o (Some (Read rest end)) x more e = let same : Read (a ∷ rest) end ≡ o = cc in
       subst (λ o. attributes edition t i o) same (one_more x (more (Read rest end) refl))
@@ -80,7 +80,7 @@ module _ (edition : Edition) (t : List ℕ) (n : ℕ) where
   attributes_next : (f i : ℕ) (o : Outcome (List (AttributeTree Span))) (r : Option (Outcome (AttributeTree Span))) →
       computed_attribute.run i ≡ r →
       ((j : ℕ) (p : Outcome (List (AttributeTree Span))) → find_attributes f j ≡ Some p → attributes edition t j p) →
-          attributes_step i r (find_attributes f) ≡ Some o → attributes edition t i o
+      attributes_step i r (find_attributes f) ≡ Some o → attributes edition t i o
   attributes_next f i o None e more h = cc
   attributes_next f i o (Some (Refused k from to)) e more h = let same : Read [] i ≡ o = cc in
       subst (λ o. attributes edition t i o) same (no_more (computed_attribute.sound i (Refused k from to) e))
@@ -99,21 +99,21 @@ module _ (edition : Edition) (t : List ℕ) (n : ℕ) where
   abbrev pub computed_message : Computed (message_entry edition t)
   computed_message =
       computed_bind computed_here
-        (λ start. computed_bind (computed_identifier t n)
-          (λ id. computed_bind (computed_inline_blank t n) (λ u. computed_bind (computed_token t n 61) (λ u.
+      (λ start. computed_bind (computed_identifier t n)
+      (λ id. computed_bind (computed_inline_blank t n) (λ u. computed_bind (computed_token t n 61) (λ u.
       computed_bind computed_pattern
-          (λ value. computed_bind (computed_blank_block t n)
-            (λ u. computed_bind computed_attributes (λ rest. computed_message_with t start id value rest)))))))
+      (λ value. computed_bind (computed_blank_block t n)
+      (λ u. computed_bind computed_attributes (λ rest. computed_message_with t start id value rest)))))))
 
   abbrev pub computed_term : Computed (term_entry edition t)
   computed_term =
       computed_bind computed_here
-        (λ start. computed_bind (computed_token t n 45)
-          (λ u. computed_bind (computed_identifier t n)
-            (λ id. computed_bind (computed_inline_blank t n) (λ u. computed_bind (computed_token t n 61) (λ u.
+      (λ start. computed_bind (computed_token t n 45)
+      (λ u. computed_bind (computed_identifier t n)
+      (λ id. computed_bind (computed_inline_blank t n) (λ u. computed_bind (computed_token t n 61) (λ u.
       computed_bind computed_pattern
-          (λ value. computed_bind (computed_blank_block t n)
-            (λ u. computed_bind computed_attributes (λ rest. computed_term_with t start id value rest))))))))
+      (λ value. computed_bind (computed_blank_block t n)
+      (λ u. computed_bind computed_attributes (λ rest. computed_term_with t start id value rest))))))))
 
 module _ (t : List ℕ) (n : ℕ) where
   abbrev pub computed_text : (eol : Bool) → Computed (comment_text t eol)
@@ -124,7 +124,7 @@ module _ (t : List ℕ) (n : ℕ) where
   computed_rest None = computed_gives
   computed_rest (Some b) =
       computed_bind (computed_at_each computed_text)
-        (λ content. computed_bind (computed_optional_eol t n) (λ u. computed_gives))
+      (λ content. computed_bind (computed_optional_eol t n) (λ u. computed_gives))
 
   abbrev pub computed_line : (level : ℕ) → Computed (comment_line t level)
   computed_line level = computed_bind (computed_over computed_steps) (λ u. computed_at_each computed_rest)
@@ -144,12 +144,12 @@ module _ (t : List ℕ) (n : ℕ) where
   find_lines level zero i = None
   find_lines level (suc f) i =
       choose (hashes t i == level) (λ u. lines_step i ((computed_line level).run i) (find_lines level f))
-        (λ u. Some (Read [] i))
+      (λ u. Some (Read [] i))
 
   lines_add : (level i j : ℕ) (content : List Span) (o : Outcome (List Span)) (r : Option (Outcome (List Span))) →
       hashes t i ≡ level → comment_line t level i (Read content j) →
       ((p : Outcome (List Span)) → r ≡ Some p → comment_lines t level j p) → add_line content r ≡ Some o →
-          comment_lines t level i o
+      comment_lines t level i o
   lines_add level i j content o None e x more h = cc
   lines_add level i j content o (Some (Read rest end)) e x more h = let same : Read (content ++ rest) end ≡ o = cc in
       subst (λ o. comment_lines t level i o) same (comments.one_more e x (more (Read rest end) refl))
@@ -158,19 +158,19 @@ module _ (t : List ℕ) (n : ℕ) where
   lines_next : (level f i : ℕ) (o : Outcome (List Span)) (r : Option (Outcome (List Span))) → hashes t i ≡ level →
       (computed_line level).run i ≡ r →
       ((j : ℕ) (p : Outcome (List Span)) → find_lines level f j ≡ Some p → comment_lines t level j p) →
-          lines_step i r (find_lines level f) ≡ Some o → comment_lines t level i o
+      lines_step i r (find_lines level f) ≡ Some o → comment_lines t level i o
   lines_next level f i o None e g more h = cc
   lines_next level f i o (Some (Refused k from to)) e g more h = let same : Read [] i ≡ o = cc in
       subst (λ o. comment_lines t level i o) same
-        (no_comment_line e ((computed_line level).sound i (Refused k from to) g))
+      (no_comment_line e ((computed_line level).sound i (Refused k from to) g))
   lines_next level f i o (Some (Read content j)) e g more h =
       lines_add level i j content o (find_lines level f j) e ((computed_line level).sound i (Read content j) g) (more j)
-        h
+      h
 
   lines_at : (level f i : ℕ) (o : Outcome (List Span)) (b : Bool) → (hashes t i == level) ≡ b →
       ((j : ℕ) (p : Outcome (List Span)) → find_lines level f j ≡ Some p → comment_lines t level j p) →
       choose b (λ u. lines_step i ((computed_line level).run i) (find_lines level f)) (λ u. Some (Read [] i)) ≡ Some o →
-          comment_lines t level i o
+      comment_lines t level i o
   lines_at level f i o true e more h =
       lines_next level f i o ((computed_line level).run i) (equal (hashes t i) level e) refl more h
   lines_at level f i o false e more h = let same : Read [] i ≡ o = cc in
@@ -202,8 +202,8 @@ module _ (t : List ℕ) (n : ℕ) where
   find_end zero k = None
   find_end (suc f) k =
       choose (starts_entry t k) (λ u. Some k)
-        (λ u. choose (k == length t) (λ u. Some k)
-          (λ u. choose (nat_lt k (length t)) (λ u. find_end f (k + 1)) (λ u. None)))
+      (λ u. choose (k == length t) (λ u. Some k)
+      (λ u. choose (nat_lt k (length t)) (λ u. find_end f (k + 1)) (λ u. None)))
 
   pub end_start : (k j : ℕ) → starts_entry t k ≡ true → Some k ≡ Some j → JunkEnd t k j
   end_start k j e h =
@@ -211,24 +211,35 @@ module _ (t : List ℕ) (n : ℕ) where
       let l = slice_get_within t k b.0 b.1 in
       let same : k ≡ j = cc in
       subst (λ j. JunkEnd t k j) same
-          (record { forward = omega arith; nearest = λ m a b. absurd (omega arith); stop = inl e;
-              in_text = omega arith })
+      (record {
+        forward = omega arith;
+        nearest = λ m a b. absurd (omega arith);
+        stop = inl e;
+        in_text = omega arith;
+      })
 
   pub end_text : (k j : ℕ) → k ≡ length t → Some k ≡ Some j → JunkEnd t k j
   end_text k j e h =
       let same : k ≡ j = cc in
       subst (λ j. JunkEnd t k j) same
-          (record { forward = omega arith; nearest = λ m a b. absurd (omega arith); stop = inr e;
-              in_text = omega arith })
+      (record {
+        forward = omega arith;
+        nearest = λ m a b. absurd (omega arith);
+        stop = inr e;
+        in_text = omega arith;
+      })
 
   pub end_on : (k j : ℕ) → starts_entry t k ≡ false → JunkEnd t (k + 1) j → JunkEnd t k j
   end_on k j e x =
       let f = x.forward in
-      record { forward = omega arith;
-            nearest =
+      record {
+        forward = omega arith;
+        nearest =
             λ m a b. elim (here_or_on k m a)
-              [ inl same ↦ subst (λ m. starts_entry t m ≡ false) same e | inr l ↦ x.nearest m l b ]; stop = x.stop;
-            in_text = x.in_text }
+            [ inl same ↦ subst (λ m. starts_entry t m ≡ false) same e | inr l ↦ x.nearest m l b ];
+        stop = x.stop;
+        in_text = x.in_text;
+      }
 
   end_less : (f k j : ℕ) (b : Bool) → nat_lt k (length t) ≡ b → starts_entry t k ≡ false →
       (find_end f (k + 1) ≡ Some j → JunkEnd t (k + 1) j) → choose b (λ u. find_end f (k + 1)) (λ u. None) ≡ Some j →
@@ -239,14 +250,14 @@ module _ (t : List ℕ) (n : ℕ) where
   end_at : (f k j : ℕ) (b : Bool) → (k == length t) ≡ b → starts_entry t k ≡ false →
       (find_end f (k + 1) ≡ Some j → JunkEnd t (k + 1) j) →
       choose b (λ u. Some k) (λ u. choose (nat_lt k (length t)) (λ u. find_end f (k + 1)) (λ u. None)) ≡ Some j →
-          JunkEnd t k j
+      JunkEnd t k j
   end_at f k j true e g more h = end_text k j (equal k (length t) e) h
   end_at f k j false e g more h = end_less f k j (nat_lt k (length t)) refl g more h
 
   end_step : (f k j : ℕ) (b : Bool) → starts_entry t k ≡ b → (find_end f (k + 1) ≡ Some j → JunkEnd t (k + 1) j) →
       choose b (λ u. Some k)
-          (λ u. choose (k == length t) (λ u. Some k)
-            (λ u. choose (nat_lt k (length t)) (λ u. find_end f (k + 1)) (λ u. None))) ≡ Some j → JunkEnd t k j
+      (λ u. choose (k == length t) (λ u. Some k)
+      (λ u. choose (nat_lt k (length t)) (λ u. find_end f (k + 1)) (λ u. None))) ≡ Some j → JunkEnd t k j
   end_step f k j true e more h = end_start k j e h
   end_step f k j false e more h = end_at f k j (k == length t) refl e more h
 
@@ -280,7 +291,7 @@ module _ (t : List ℕ) (n : ℕ) (at : (i j : ℕ) → Tile → Type 0) (c : Co
   after_block None more = None
   after_block (Some s) more =
       choose (s == length t) (λ u. Some [])
-        (λ u. choose (nat_lt s (length t)) (λ u. after_tile (c.run s) more) (λ u. None))
+      (λ u. choose (nat_lt s (length t)) (λ u. after_tile (c.run s) more) (λ u. None))
 
   abbrev pub find_tiles : (fuel : ℕ) → ℕ → Option (List Tile)
   find_tiles zero i = None
@@ -295,22 +306,22 @@ module _ (t : List ℕ) (n : ℕ) (at : (i j : ℕ) → Tile → Type 0) (c : Co
 
   tiles_tile : (f i s : ℕ) (tiles : List Tile) (r : Option Placed) → c.run s ≡ r → BlankBlock t i s → s < length t →
       ((j : ℕ) (more : List Tile) → find_tiles f j ≡ Some more → Tiled t at j more) →
-          after_tile r (find_tiles f) ≡ Some tiles → Tiled t at i tiles
+      after_tile r (find_tiles f) ≡ Some tiles → Tiled t at i tiles
   tiles_tile f i s tiles None e b l more h = none_some h
   tiles_tile f i s tiles (Some p) e b l more h =
       tiles_add i s p tiles (find_tiles f p.end) b l (c.sound s p e) (more p.end) h
 
   tiles_less : (f i s : ℕ) (tiles : List Tile) (less_than : Bool) → nat_lt s (length t) ≡ less_than → BlankBlock t i s →
       ((j : ℕ) (more : List Tile) → find_tiles f j ≡ Some more → Tiled t at j more) →
-          choose less_than (λ u. after_tile (c.run s) (find_tiles f)) (λ u. None) ≡ Some tiles → Tiled t at i tiles
+      choose less_than (λ u. after_tile (c.run s) (find_tiles f)) (λ u. None) ≡ Some tiles → Tiled t at i tiles
   tiles_less f i s tiles true e b more h = tiles_tile f i s tiles (c.run s) refl b (less s (length t) e) more h
   tiles_less f i s tiles false e b more h = none_some h
 
   tiles_start : (f i s : ℕ) (tiles : List Tile) (all : Bool) → (s == length t) ≡ all → BlankBlock t i s →
       ((j : ℕ) (more : List Tile) → find_tiles f j ≡ Some more → Tiled t at j more) →
       choose all (λ u. Some [])
-          (λ u. choose (nat_lt s (length t)) (λ u. after_tile (c.run s) (find_tiles f)) (λ u. None)) ≡ Some tiles →
-          Tiled t at i tiles
+      (λ u. choose (nat_lt s (length t)) (λ u. after_tile (c.run s) (find_tiles f)) (λ u. None)) ≡ Some tiles →
+      Tiled t at i tiles
   tiles_start f i s tiles true e b more h =
       let same : [] ≡ tiles = cc in
       subst (λ tiles. Tiled t at i tiles) same (done (subst (λ s. BlankBlock t i s) (equal s (length t) e) b))
@@ -318,7 +329,7 @@ module _ (t : List ℕ) (n : ℕ) (at : (i j : ℕ) → Tile → Type 0) (c : Co
 
   tiles_block : (f i : ℕ) (tiles : List Tile) (s : Option ℕ) → find_block t n n i ≡ s →
       ((j : ℕ) (more : List Tile) → find_tiles f j ≡ Some more → Tiled t at j more) →
-          after_block s (find_tiles f) ≡ Some tiles → Tiled t at i tiles
+      after_block s (find_tiles f) ≡ Some tiles → Tiled t at i tiles
   tiles_block f i tiles None e more h = none_some h
   tiles_block f i tiles (Some s) e more h =
       tiles_start f i s tiles (s == length t) refl (found_block t n n i s e) more h
@@ -332,7 +343,7 @@ module _ (edition : Edition) (t : List ℕ) (n : ℕ) where
   computed_entry_of None = computed_message edition t n
   computed_entry_of (Some b) =
       computed_either (computed_comment t n)
-        (computed_either (computed_term edition t n) (computed_message edition t n))
+      (computed_either (computed_term edition t n) (computed_message edition t n))
 
   abbrev pub computed_entry : Computed (entry_at edition t)
   computed_entry = computed_at_each computed_entry_of
@@ -340,9 +351,11 @@ module _ (edition : Edition) (t : List ℕ) (n : ℕ) where
   abbrev pub junk_tile : (i : ℕ) → Kind → (from to : ℕ) → Option ℕ → Option Placed
   junk_tile i k from to None = None
   junk_tile i k from to (Some j) =
-      Some (record { tile =
-          refused (record { kind = k; pos = record { start = from; end = to }; slice = record { start = i; end = j } });
-          end = j })
+      Some (record {
+        tile =
+            refused (record { kind = k; pos = record { start = from; end = to }; slice = record { start = i; end = j } });
+        end = j;
+      })
 
   abbrev pub tile_of : ℕ → Option (Outcome (EntryTree Span)) → Option Placed
   tile_of i None = None
@@ -354,11 +367,17 @@ module _ (edition : Edition) (t : List ℕ) (n : ℕ) where
   junk_sound i from to k p None x e h = none_some h
   junk_sound i from to k p (Some j) x e h =
       let same :
-          record { tile =
-            refused (record { kind = k; pos = record { start = from; end = to };
-                slice = record { start = i; end = j } }); end = j } ≡ p = some_placed h in
+      record {
+        tile =
+            refused (record {
+              kind = k;
+              pos = record { start = from; end = to };
+              slice = record { start = i; end = j };
+            });
+        end = j;
+      } ≡ p = some_placed h in
       subst (λ (p : Placed). TileAt edition t i p.end p.tile) same
-          (refuses x (found_end t n n (failing_place k from to) j e))
+      (refuses x (found_end t n n (failing_place k from to) j e))
 
   tile_sound : (i : ℕ) (p : Placed) (r : Option (Outcome (EntryTree Span))) → computed_entry.run i ≡ r →
       tile_of i r ≡ Some p → TileAt edition t i p.end p.tile
@@ -368,7 +387,7 @@ module _ (edition : Edition) (t : List ℕ) (n : ℕ) where
       subst (λ (p : Placed). TileAt edition t i p.end p.tile) same (reads (computed_entry.sound i (Read a j) e))
   tile_sound i p (Some (Refused k from to)) e h =
       junk_sound i from to k p (find_end t n n (failing_place k from to)) (computed_entry.sound i (Refused k from to) e)
-        refl h
+      refl h
 
   pub found_tile : (i : ℕ) (p : Placed) → tile_of i (computed_entry.run i) ≡ Some p → TileAt edition t i p.end p.tile
   found_tile i p h = tile_sound i p (computed_entry.run i) refl h
@@ -387,25 +406,28 @@ module _ (edition : Edition) (t : List ℕ) (n : ℕ) where
   dropped_sound i p (Some (Read u j)) e g h =
       let same : record { tile = dropped; end = j } ≡ p = some_placed h in
       subst (λ (p : Placed). RuntimeTileAt edition t i p.end p.tile) same
-          (drops e ((computed_whole_line t n).sound i (Read tt j) g))
+      (drops e ((computed_whole_line t n).sound i (Read tt j) g))
   dropped_sound i p (Some (Refused k from to)) e g h = none_some h
 
   runtime_sound : (i : ℕ) (p : Placed) (hash : Bool) → has_byte t 35 i ≡ hash →
       choose hash (λ u. dropped_tile ((computed_whole_line t n).run i)) (λ u. tile_of i (computed_entry.run i))
-          ≡ Some p → RuntimeTileAt edition t i p.end p.tile
+      ≡ Some p → RuntimeTileAt edition t i p.end p.tile
   runtime_sound i p true e h = dropped_sound i p ((computed_whole_line t n).run i) e refl h
   runtime_sound i p false e h = stands e (found_tile i p h)
 
   pub found_runtime_tile : (i : ℕ) (p : Placed) →
       choose (has_byte t 35 i) (λ u. dropped_tile ((computed_whole_line t n).run i))
-        (λ u. tile_of i (computed_entry.run i)) ≡ Some p → RuntimeTileAt edition t i p.end p.tile
+      (λ u. tile_of i (computed_entry.run i)) ≡ Some p → RuntimeTileAt edition t i p.end p.tile
   found_runtime_tile i p h = runtime_sound i p (has_byte t 35 i) refl h
 
   abbrev pub computed_runtime_tile : ComputedTile (RuntimeTileAt edition t)
   computed_runtime_tile =
-      record { run =
-        λ i. choose (has_byte t 35 i) (λ u. dropped_tile ((computed_whole_line t n).run i))
-          (λ u. tile_of i (computed_entry.run i)); sound = found_runtime_tile }
+      record {
+        run =
+            λ i. choose (has_byte t 35 i) (λ u. dropped_tile ((computed_whole_line t n).run i))
+            (λ u. tile_of i (computed_entry.run i));
+        sound = found_runtime_tile;
+      }
 
 -- the tiles of a text, within fuel that its length gives
 abbrev pub tiles_of : Edition → List ℕ → Option (List Tile)
@@ -415,7 +437,7 @@ tiles_of edition t =
 abbrev pub runtime_tiles_of : Edition → List ℕ → Option (List Tile)
 runtime_tiles_of edition t =
     find_tiles t (length t + 2) (RuntimeTileAt edition t) (computed_runtime_tile edition t (length t + 2))
-      (length t + 2) 0
+    (length t + 2) 0
 
 -- what is computed is the tiling
 pub is_tiling : (edition : Edition) (t : List ℕ) (tiles : List Tile) → tiles_of edition t ≡ Some tiles →
@@ -427,4 +449,4 @@ pub is_runtime_tiling : (edition : Edition) (t : List ℕ) (tiles : List Tile) �
     RuntimeTiling edition t tiles
 is_runtime_tiling edition t tiles h =
     found_tiles t (length t + 2) (RuntimeTileAt edition t) (computed_runtime_tile edition t (length t + 2))
-      (length t + 2) 0 tiles h
+    (length t + 2) 0 tiles h

@@ -72,7 +72,7 @@ either_true false false c e = cc
 pub ascii_eol : (t : List ℕ) (i : ℕ) → has_eol t i ≡ true → AsciiAt t i
 ascii_eol t i e =
     elim (either_true (has_byte t lf i) (has_byte t cr i) (has_byte t lf (i + 1)) e)
-      [ inl x ↦ ascii_byte t lf i (omega arith) x | inr x ↦ ascii_byte t cr i (omega arith) x ]
+    [ inl x ↦ ascii_byte t lf i (omega arith) x | inr x ↦ ascii_byte t cr i (omega arith) x ]
 
 or_true : (a b : Bool) → (a || b) ≡ true → (a ≡ true) ⊎ (b ≡ true)
 or_true true b e = inl refl
@@ -81,7 +81,7 @@ or_true false b e = inr e
 pub ascii_blank : (t : List ℕ) (i : ℕ) → is_blank_place t i ≡ true → AsciiAt t i
 ascii_blank t i e =
     elim (or_true (has_byte t space i) (has_eol t i) e)
-      [ inl x ↦ ascii_byte t space i (omega arith) x | inr x ↦ ascii_eol t i x ]
+    [ inl x ↦ ascii_byte t space i (omega arith) x | inr x ↦ ascii_eol t i x ]
 
 -- ---- words
 
@@ -153,8 +153,10 @@ module _ (t : List ℕ) (P : ℕ → Type 0) (cuts : IsCuts t P) where
   stretch_places test ascii i j p s zero a b = let e : i ≡ 0 = omega arith in subst P e p
   stretch_places test ascii i j p s (suc k) a b =
       let split : (i ≤ k) ⊎ (i ≡ suc k) = grind arith in
-      elim split [ inl l ↦ subst P (add_one k) (cuts.after k (ascii k (s.each k l (omega arith))))
-            | inr e ↦ subst P e p ]
+      elim split [
+        | inl l ↦ subst P (add_one k) (cuts.after k (ascii k (s.each k l (omega arith))))
+        | inr e ↦ subst P e p
+      ]
 
   pub word_place : (set : ℕ → Bool) → IsAsciiSet set → (i j : ℕ) → P i → Word t set i j → P j
   word_place set s i j p w = stretch_places (has t set) (λ k e. ascii_has t set k s e) i j p w j w.forward (omega arith)
@@ -164,9 +166,10 @@ module _ (t : List ℕ) (P : ℕ → Type 0) (cuts : IsCuts t P) where
 
   pub eol_place : (i k : ℕ) → after_eol t i ≡ Some k → P k
   eol_place i k e =
-      elim (eol_cases t i k e)
-        [ inl x ↦ subst P (sym x.1) (cuts.after i (ascii_byte t lf i (omega arith) x.0))
-        | inr x ↦ subst P (two_on i ∙ sym x.2) (cuts.after (i + 1) (ascii_byte t lf (i + 1) (omega arith) x.1)) ]
+      elim (eol_cases t i k e) [
+        | inl x ↦ subst P (sym x.1) (cuts.after i (ascii_byte t lf i (omega arith) x.0))
+        | inr x ↦ subst P (two_on i ∙ sym x.2) (cuts.after (i + 1) (ascii_byte t lf (i + 1) (omega arith) x.1))
+      ]
 
   pub block_place : (i j : ℕ) → P i → BlankBlock t i j → P j
   block_place i j p (no_line a b) = p
@@ -174,19 +177,24 @@ module _ (t : List ℕ) (P : ℕ → Type 0) (cuts : IsCuts t P) where
 
   stop_place : (j : ℕ) → j ≤ length t → (slice_get t j ≡ None) ⊎ AsciiAt t j → P j
   stop_place j l x =
-      elim x [ inl e ↦
-        (let c = (slice_get_cases t j).1 in
-          elim c [ inl y ↦ absurd (none_some e y.2)
-            | inr y ↦ (let same : length t ≡ j = omega arith in subst P same cuts.at_end) ]) | inr a ↦ cuts.before j a ]
+      elim x [
+        | inl e ↦
+            (let c = (slice_get_cases t j).1 in
+            elim c [
+              | inl y ↦ absurd (none_some e y.2)
+              | inr y ↦ (let same : length t ≡ j = omega arith in subst P same cuts.at_end)
+            ])
+        | inr a ↦ cuts.before j a
+      ]
 
   -- the rest of a line stops at a line end or at the text's end
   pub line_stop : (i j : ℕ) → P i → Stretch (is_line_place t) i j → P j
   line_stop i j p s =
       stop_place j (stretch_in_text (length t) (is_line_place t) (line_inside t) i j (cuts.in_text i p) s)
-        (line_ends t j s.longest)
+      (line_ends t j s.longest)
 
   -- a run stops at a line end, a brace or the text's end
   pub run_stop : (i j : ℕ) → P i → Stretch (is_run_place t) i j → P j
   run_stop i j p s =
       stop_place j (stretch_in_text (length t) (is_run_place t) (run_inside t) i j (cuts.in_text i p) s)
-        (run_ends t j s.longest)
+      (run_ends t j s.longest)

@@ -11,9 +11,12 @@ use Rattle.fluent_syntax_grammar.proofs.Shown.{IsRead, IsReadWithoutComments, fa
 -- a message, with blank lines before and after it
 blank_lines_around : IsRead One (codes "\n\nhello-world = Hello World!\n\n")
     []
-    (message (record { id = codes "hello-world";
-              value = Some (elements (text_element (codes "Hello World!")) no_elements); attributes = [];
-              comment = None }) ∷ [])
+    (message (record {
+      id = codes "hello-world";
+      value = Some (elements (text_element (codes "Hello World!")) no_elements);
+      attributes = [];
+      comment = None;
+    }) ∷ [])
 blank_lines_around = read One (codes "\n\nhello-world = Hello World!\n\n") _ _ refl
 
 -- an empty text has an empty body
@@ -37,18 +40,30 @@ name_alone = read One (codes "a") _ _ refl
 -- junk reaches to the next entry start, which is the start of a line
 recovery : IsRead One (codes "\na = 1\n\ng@Rb = #2\n\nb = 2\n")
     (fault (ExpectedToken 61) 9 10 8 19 ∷ [])
-    (message (record { id = codes "a"; value = Some (elements (text_element (codes "1")) no_elements); attributes = [];
-              comment = None }) ∷ junk (codes "g@Rb = #2\n\n") ∷
-          message (record { id = codes "b"; value = Some (elements (text_element (codes "2")) no_elements);
-              attributes = []; comment = None }) ∷ [])
+    (message (record {
+      id = codes "a";
+      value = Some (elements (text_element (codes "1")) no_elements);
+      attributes = [];
+      comment = None;
+    }) ∷ junk (codes "g@Rb = #2\n\n") ∷
+    message (record {
+      id = codes "b";
+      value = Some (elements (text_element (codes "2")) no_elements);
+      attributes = [];
+      comment = None;
+    }) ∷ [])
 recovery = read One (codes "\na = 1\n\ng@Rb = #2\n\nb = 2\n") _ _ refl
 
 -- a message with neither pattern nor attribute: the place reaches from its start to where its attributes ended
 message_without_field : IsRead One (codes "key =\nkey2 = a")
     (fault (ExpectedMessageField (codes "key")) 0 6 0 6 ∷ [])
     (junk (codes "key =\n") ∷
-          message (record { id = codes "key2"; value = Some (elements (text_element (codes "a")) no_elements);
-              attributes = []; comment = None }) ∷ [])
+    message (record {
+      id = codes "key2";
+      value = Some (elements (text_element (codes "a")) no_elements);
+      attributes = [];
+      comment = None;
+    }) ∷ [])
 message_without_field = read One (codes "key =\nkey2 = a") _ _ refl
 
 -- a term without pattern
@@ -60,35 +75,54 @@ term_without_pattern = read One (codes "-t =\n") _ _ refl
 -- an attribute that is refused ends the list without an error, and reading goes on at its start
 bad_attribute : IsRead One (codes "key = a\n  .b\nc = d")
     (fault (ExpectedCharRange (codes "a-zA-Z")) 8 9 8 13 ∷ [])
-    (message (record { id = codes "key"; value = Some (elements (text_element (codes "a")) no_elements);
-              attributes = []; comment = None }) ∷ junk (codes "  .b\n") ∷
-          message (record { id = codes "c"; value = Some (elements (text_element (codes "d")) no_elements);
-              attributes = []; comment = None }) ∷ [])
+    (message (record {
+      id = codes "key";
+      value = Some (elements (text_element (codes "a")) no_elements);
+      attributes = [];
+      comment = None;
+    }) ∷ junk (codes "  .b\n") ∷
+    message (record {
+      id = codes "c";
+      value = Some (elements (text_element (codes "d")) no_elements);
+      attributes = [];
+      comment = None;
+    }) ∷ [])
 bad_attribute = read One (codes "key = a\n  .b\nc = d") _ _ refl
 
 -- a message that has attributes alone
 attributes_alone : IsRead One (codes "h =\n    .title = A\n    .accesskey = T\n")
     []
-    (message (record { id = codes "h"; value = None;
-              attributes =
-              record { id = codes "title"; value = (elements (text_element (codes "A")) no_elements) } ∷
-              record { id = codes "accesskey"; value = (elements (text_element (codes "T")) no_elements) } ∷ [];
-              comment = None }) ∷ [])
+    (message (record {
+      id = codes "h";
+      value = None;
+      attributes =
+          record { id = codes "title"; value = (elements (text_element (codes "A")) no_elements) } ∷
+          record { id = codes "accesskey"; value = (elements (text_element (codes "T")) no_elements) } ∷ [];
+      comment = None;
+    }) ∷ [])
 attributes_alone = read One (codes "h =\n    .title = A\n    .accesskey = T\n") _ _ refl
 
 -- a comment hangs on the message on the next line
 comment_hangs : IsRead One (codes "# a\nkey = c")
     []
-    (message (record { id = codes "key"; value = Some (elements (text_element (codes "c")) no_elements);
-              attributes = []; comment = Some ((codes "a") ∷ []) }) ∷ [])
+    (message (record {
+      id = codes "key";
+      value = Some (elements (text_element (codes "c")) no_elements);
+      attributes = [];
+      comment = Some ((codes "a") ∷ []);
+    }) ∷ [])
 comment_hangs = read One (codes "# a\nkey = c") _ _ refl
 
 -- over a blank line it does not
 comment_over_blank_line : IsRead One (codes "# a\n\nkey = c")
     []
     (comment regular ((codes "a") ∷ []) ∷
-          message (record { id = codes "key"; value = Some (elements (text_element (codes "c")) no_elements);
-              attributes = []; comment = None }) ∷ [])
+    message (record {
+      id = codes "key";
+      value = Some (elements (text_element (codes "c")) no_elements);
+      attributes = [];
+      comment = None;
+    }) ∷ [])
 comment_over_blank_line = read One (codes "# a\n\nkey = c") _ _ refl
 
 -- hashes at the very end of the text add no line
@@ -107,8 +141,12 @@ four_hashes = read One (codes "#### x") _ _ refl
 comment_levels : IsRead One (codes "## g\n\n# f\n\n# m\nkey = v\n")
     []
     (comment group ((codes "g") ∷ []) ∷ comment regular ((codes "f") ∷ []) ∷
-          message (record { id = codes "key"; value = Some (elements (text_element (codes "v")) no_elements);
-              attributes = []; comment = Some ((codes "m") ∷ []) }) ∷ [])
+    message (record {
+      id = codes "key";
+      value = Some (elements (text_element (codes "v")) no_elements);
+      attributes = [];
+      comment = Some ((codes "m") ∷ []);
+    }) ∷ [])
 comment_levels = read One (codes "## g\n\n# f\n\n# m\nkey = v\n") _ _ refl
 
 -- a comment of two lines, one of them empty
@@ -127,23 +165,35 @@ comment_then_spaces = read One (codes "# a\n  ") _ _ refl
 malformed_comment : IsRead One (codes "#x\n  foo\nkey = a")
     (fault (ExpectedToken 32) 1 2 0 9 ∷ [])
     (junk (codes "#x\n  foo\n") ∷
-          message (record { id = codes "key"; value = Some (elements (text_element (codes "a")) no_elements);
-              attributes = []; comment = None }) ∷ [])
+    message (record {
+      id = codes "key";
+      value = Some (elements (text_element (codes "a")) no_elements);
+      attributes = [];
+      comment = None;
+    }) ∷ [])
 malformed_comment = read One (codes "#x\n  foo\nkey = a") _ _ refl
 
 -- without comments its line is dropped, and what follows is junk
 malformed_comment_dropped : IsReadWithoutComments One (codes "#x\n  foo\nkey = a")
     (fault (ExpectedCharRange (codes "a-zA-Z")) 3 4 3 9 ∷ [])
     (junk (codes "  foo\n") ∷
-          message (record { id = codes "key"; value = Some (elements (text_element (codes "a")) no_elements);
-              attributes = []; comment = None }) ∷ [])
+    message (record {
+      id = codes "key";
+      value = Some (elements (text_element (codes "a")) no_elements);
+      attributes = [];
+      comment = None;
+    }) ∷ [])
 malformed_comment_dropped = read_without_comments One (codes "#x\n  foo\nkey = a") _ _ refl
 
 -- without comments a message has none
 comments_dropped : IsReadWithoutComments One (codes "## g\n\n# m\nkey = v\n")
     []
-    (message (record { id = codes "key"; value = Some (elements (text_element (codes "v")) no_elements);
-              attributes = []; comment = None }) ∷ [])
+    (message (record {
+      id = codes "key";
+      value = Some (elements (text_element (codes "v")) no_elements);
+      attributes = [];
+      comment = None;
+    }) ∷ [])
 comments_dropped = read_without_comments One (codes "## g\n\n# m\nkey = v\n") _ _ refl
 
 -- a placeable that goes on over the next line

@@ -14,44 +14,57 @@ use Rattle.fluent_syntax_grammar.proofs.Shown.{IsRead, fault, read, refused_patt
 -- a negative number
 negative_number : IsRead One (codes "key = { -0.5 }")
     []
-    (message (record { id = codes "key";
-              value = Some (elements (placeable (inline (number_literal (codes "-0.5")))) no_elements); attributes = [];
-              comment = None }) ∷ [])
+    (message (record {
+      id = codes "key";
+      value = Some (elements (placeable (inline (number_literal (codes "-0.5")))) no_elements);
+      attributes = [];
+      comment = None;
+    }) ∷ [])
 negative_number = read One (codes "key = { -0.5 }") _ _ refl
 
 -- a placeable in a placeable
 nested_placeable : IsRead One (codes "key = { { \"p\" } }")
     []
-    (message (record { id = codes "key";
-              value =
-              Some (elements (placeable (inline (inline_placeable (inline (string_literal (codes "p")))))) no_elements);
-              attributes = []; comment = None }) ∷ [])
+    (message (record {
+      id = codes "key";
+      value =
+          Some (elements (placeable (inline (inline_placeable (inline (string_literal (codes "p")))))) no_elements);
+      attributes = [];
+      comment = None;
+    }) ∷ [])
 nested_placeable = read One (codes "key = { { \"p\" } }") _ _ refl
 
 -- positional and named arguments
 function : IsRead One (codes "key = { F($v, \"l\", s: \"x\") }")
     []
-    (message (record { id = codes "key";
-              value =
-              Some (elements
-                (placeable (inline
-                  (function_reference (codes "F")
-                    (arguments (inlines (variable_reference (codes "v"))
-                      (inlines (string_literal (codes "l")) no_inlines))
-                        (nameds (named_argument (codes "s") (string_literal (codes "x"))) no_named))))) no_elements);
-              attributes = []; comment = None }) ∷ [])
+    (message (record {
+      id = codes "key";
+      value =
+          Some (elements
+          (placeable (inline
+          (function_reference (codes "F")
+          (arguments (inlines (variable_reference (codes "v"))
+          (inlines (string_literal (codes "l")) no_inlines))
+          (nameds (named_argument (codes "s") (string_literal (codes "x"))) no_named))))) no_elements);
+      attributes = [];
+      comment = None;
+    }) ∷ [])
 function = read One (codes "key = { F($v, \"l\", s: \"x\") }") _ _ refl
 
 -- commas are optional, and one may trail
 commas : IsRead One (codes "key = { F(1 2,) }")
     []
-    (message (record { id = codes "key";
-              value =
-              Some (elements
-                (placeable (inline
-                  (function_reference (codes "F")
-                    (arguments (inlines (number_literal (codes "1")) (inlines (number_literal (codes "2")) no_inlines))
-                      no_named)))) no_elements); attributes = []; comment = None }) ∷ [])
+    (message (record {
+      id = codes "key";
+      value =
+          Some (elements
+          (placeable (inline
+          (function_reference (codes "F")
+          (arguments (inlines (number_literal (codes "1")) (inlines (number_literal (codes "2")) no_inlines))
+          no_named)))) no_elements);
+      attributes = [];
+      comment = None;
+    }) ∷ [])
 commas = read One (codes "key = { F(1 2,) }") _ _ refl
 
 -- a named value is no negative number
@@ -104,7 +117,7 @@ short_escape :
     (junk (107 ∷ 101 ∷ 121 ∷ 32 ∷ 61 ∷ 32 ∷ 123 ∷ 32 ∷ 34 ∷ 92 ∷ 117 ∷ 48 ∷ 48 ∷ 195 ∷ 169 ∷ 34 ∷ 32 ∷ 125 ∷ []) ∷ [])
 short_escape =
     read One (107 ∷ 101 ∷ 121 ∷ 32 ∷ 61 ∷ 32 ∷ 123 ∷ 32 ∷ 34 ∷ 92 ∷ 117 ∷ 48 ∷ 48 ∷ 195 ∷ 169 ∷ 34 ∷ 32 ∷ 125 ∷ [])
-      _ _ refl
+    _ _ refl
 
 -- a string that the text's end cuts
 open_string : IsRead One (codes "key = { \"a")
@@ -127,10 +140,13 @@ no_expression = read One (codes "key = {") _ _ refl
 -- an attribute may follow a blank
 attribute_over_lines : IsRead One (codes "key = { foo\n .bar }")
     []
-    (message (record { id = codes "key";
-              value =
-              Some (elements (placeable (inline (message_reference (codes "foo") (Some (codes "bar"))))) no_elements);
-              attributes = []; comment = None }) ∷ [])
+    (message (record {
+      id = codes "key";
+      value =
+          Some (elements (placeable (inline (message_reference (codes "foo") (Some (codes "bar"))))) no_elements);
+      attributes = [];
+      comment = None;
+    }) ∷ [])
 attribute_over_lines = read One (codes "key = { foo\n .bar }") _ _ refl
 
 -- a term's attribute is no placeable
@@ -142,26 +158,34 @@ term_attribute = read One (codes "key = { -brand.g }") _ _ refl
 -- a term reference with attribute and arguments selects
 term_arguments : IsRead One (codes "key = { -t.a (1) ->\n *[x] y\n}")
     []
-    (message (record { id = codes "key";
-              value =
-              Some (elements
-                (placeable (select
-                  (term_reference (codes "t") (Some (codes "a"))
-                    (some_arguments (arguments (inlines (number_literal (codes "1")) no_inlines) no_named)))
-                      (variants (variant (name_key (codes "x")) (elements (text_element (codes "y")) no_elements) true)
-                        no_variants))) no_elements); attributes = []; comment = None }) ∷ [])
+    (message (record {
+      id = codes "key";
+      value =
+          Some (elements
+          (placeable (select
+          (term_reference (codes "t") (Some (codes "a"))
+          (some_arguments (arguments (inlines (number_literal (codes "1")) no_inlines) no_named)))
+          (variants (variant (name_key (codes "x")) (elements (text_element (codes "y")) no_elements) true)
+          no_variants))) no_elements);
+      attributes = [];
+      comment = None;
+    }) ∷ [])
 term_arguments = read One (codes "key = { -t.a (1) ->\n *[x] y\n}") _ _ refl
 
 -- a select with two variants, the second by default
 two_variants : IsRead One (codes "key = { $var ->\n    [k] 1\n   *[2] b\n}\n")
     []
-    (message (record { id = codes "key";
-              value =
-              Some (elements
-                (placeable (select (variable_reference (codes "var"))
-                  (variants (variant (name_key (codes "k")) (elements (text_element (codes "1")) no_elements) false)
-                    (variants (variant (number_key (codes "2")) (elements (text_element (codes "b")) no_elements) true)
-                      no_variants)))) no_elements); attributes = []; comment = None }) ∷ [])
+    (message (record {
+      id = codes "key";
+      value =
+          Some (elements
+          (placeable (select (variable_reference (codes "var"))
+          (variants (variant (name_key (codes "k")) (elements (text_element (codes "1")) no_elements) false)
+          (variants (variant (number_key (codes "2")) (elements (text_element (codes "b")) no_elements) true)
+          no_variants)))) no_elements);
+      attributes = [];
+      comment = None;
+    }) ∷ [])
 two_variants = read One (codes "key = { $var ->\n    [k] 1\n   *[2] b\n}\n") _ _ refl
 
 -- a message reference is no selector

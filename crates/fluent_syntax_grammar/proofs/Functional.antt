@@ -107,6 +107,17 @@ block_same t i j k (line {m = m} a b c) (line {m = n} d e f) =
 pub single_block : {t : List ℕ} → IsSingle (BlankBlock t)
 single_block {t = t} = record { same = block_same t }
 
-pub ruleset functional =
-    (functional_bind, functional_gives, functional_here, functional_fails, functional_fails_from, functional_over,
-      functional_at_each, functional_either, single_stretch, single_steps, single_reaches, single_block)
+pub ruleset functional = (
+  functional_bind,
+  functional_gives,
+  functional_here,
+  functional_fails,
+  functional_fails_from,
+  functional_over,
+  functional_at_each,
+  functional_either,
+  single_stretch,
+  single_steps,
+  single_reaches,
+  single_block,
+)

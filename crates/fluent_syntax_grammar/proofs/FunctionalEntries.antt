@@ -53,7 +53,7 @@ module _ (edition : Edition) (t : List ℕ) where
       let same_j : j ≡ k = cc in
       let same_x : x ≡ y = cc in
       let rest : Read xs e ≡ Read ys f =
-          attributes_same j _ _ b (subst (λ k. attributes edition t k (Read ys f)) (sym same_j) d) in
+      attributes_same j _ _ b (subst (λ k. attributes edition t k (Read ys f)) (sym same_j) d) in
       cc
 
   pub functional_attributes : IsFunctional (attributes edition t)
@@ -95,7 +95,7 @@ module _ (t : List ℕ) where
       let same_j : j ≡ k = cc in
       let same_x : x ≡ y = cc in
       let rest : Read xs m ≡ Read ys n =
-          comment_lines_same level j _ _ c (subst (λ k. comment_lines t level k (Read ys n)) (sym same_j) f) in
+      comment_lines_same level j _ _ c (subst (λ k. comment_lines t level k (Read ys n)) (sym same_j) f) in
       cc
 
   pub functional_comment_lines : (level : ℕ) → IsFunctional (comment_lines t level)

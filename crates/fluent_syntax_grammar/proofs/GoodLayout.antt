@@ -88,10 +88,10 @@ module _ (P : ℕ → Type 0) where
   good_items_from edition kept first e l m p q [] text_end g h = tt
   good_items_from edition kept first e l m p q (run from to ∷ ps) x ((a, b, c, d, f), g) h =
       good_with kept e (omega arith) (run kept to ∷ ps) x
-          ((omega arith, omega arith, c, p, f), earlier_pieces first kept e l ps g) h
+      ((omega arith, omega arith, c, p, f), earlier_pieces first kept e l ps g) h
   good_items_from edition kept first e l m p q (placed y ∷ ps) x (g, h) k =
       every-append GoodItem (indented edition kept first) (filled y ∷ with_ending ps x)
-          (good_indented edition kept first l p q) (g, good_with first e m ps x h k)
+      (good_indented edition kept first l p q) (g, good_with first e m ps x h k)
 
   good_kept : (common : Option ℕ) (l : Line) → GoodLine l → (kept_from common l ≤ l.start + l.spaces) ×
       P (kept_from common l)
@@ -103,7 +103,7 @@ module _ (P : ℕ → Type 0) where
   good_line_items edition common l g =
       let k = good_kept common l g in
       good_items_from edition (kept_from common l) (l.start + l.spaces) g.end k.0 g.late k.1
-          (g.leading l.spaces (omega arith)) l.pieces l.ending g.pieces g.ending
+      (g.leading l.spaces (omega arith)) l.pieces l.ending g.pieces g.ending
 
   good_opening : (o : Option Line) → option_every GoodLine o → list_every GoodItem (opening_items o)
   good_opening None g = tt
@@ -114,7 +114,7 @@ module _ (P : ℕ → Type 0) where
       every-append GoodItem (opening_items y.opening) (flat_map (line_items edition (common_indent edition y)) y.lines)
       (good_opening y.opening g.opening)
       (every_flat GoodLine GoodItem (line_items edition (common_indent edition y))
-            (good_line_items edition (common_indent edition y)) y.lines g.lines)
+      (good_line_items edition (common_indent edition y)) y.lines g.lines)
 
 trimmed_small : (b : ℕ) → is_trimmed b ≡ true → b < 128
 trimmed_small b e = grind (arith, nat_tests)
@@ -143,7 +143,7 @@ module _ (t : List ℕ) (P : ℕ → Type 0) (cuts : IsCuts t P) where
       is_trimmed (get_or (slice_range t from to) n 0) ≡ true → AsciiAt t (from + n)
   trimmed_byte from to n l m e =
       let same : get_or (slice_range t from to) n 0 ≡ get_or t (from + n) 0 =
-          get_or-take (to - from) (drop from t) n 0 m ∙ get_or-drop from t n 0 in
+      get_or-take (to - from) (drop from t) n 0 m ∙ get_or-drop from t n 0 in
       let small : get_or t (from + n) 0 < 128 = trimmed_small (get_or t (from + n) 0) (ap is_trimmed (sym same) ∙ e) in
       record { byte = get_or t (from + n) 0; stands = slice_get-get_or t (from + n) 0 (omega arith); ascii = small }
 
@@ -153,8 +153,8 @@ module _ (t : List ℕ) (P : ℕ → Type 0) (cuts : IsCuts t P) where
   trimmed_place from to (suc n) l m p q =
       let test = is_trimmed (get_or (slice_range t from to) n 0) in
       let more =
-          λ (e : test ≡ true). trimmed_place from to n l (omega arith) p
-            (cuts.before (from + n) (trimmed_byte from to n l (omega arith) e)) in
+      λ (e : test ≡ true). trimmed_place from to n l (omega arith) p
+      (cuts.before (from + n) (trimmed_byte from to n l (omega arith) e)) in
       either_place P from test (trimmed_len_below (slice_range t from to) n) (suc n) more q
 
   good_end : (from to : ℕ) → from ≤ to → P from → P to → (from ≤ trimmed_end t from to) × P (trimmed_end t from to)
@@ -185,4 +185,4 @@ pub good_pattern : (t : List ℕ) (P : ℕ → Type 0) → IsCuts t P → (editi
     option_every (pattern_every (IsSpan P)) (pattern_of edition t y)
 good_pattern t P cuts edition y g =
     good_if_any P (spelled t (cut t (items edition y)))
-      (good_spelled t P cuts (cut t (items edition y)) (good_cut t P cuts (items edition y) (good_items P edition y g)))
+    (good_spelled t P cuts (cut t (items edition y)) (good_cut t P cuts (items edition y) (good_items P edition y g)))

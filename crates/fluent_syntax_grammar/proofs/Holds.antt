@@ -12,9 +12,9 @@ pub record Holds {A : Type 0} (pre : ℕ → Type 0) (c : Construct A) (read : A
 -- less is asked, more is held
 pub holds_weaker :
     {A : Type 0} {pre pre' : ℕ → Type 0} {c : Construct A} {read read' : A → ℕ → Type 0}
-      {refused refused' : Kind → ℕ → ℕ → Type 0} →
+    {refused refused' : Kind → ℕ → ℕ → Type 0} →
     ((i : ℕ) → pre' i → pre i) → ((a : A) (j : ℕ) → read a j → read' a j) →
-        ((k : Kind) (from to : ℕ) → refused k from to → refused' k from to) →
+    ((k : Kind) (from to : ℕ) → refused k from to → refused' k from to) →
     Holds pre c read refused → Holds pre' c read' refused'
 holds_weaker p r f h = record {
   on_read = λ i j a pi x. r a j (h.on_read i j a (p i pi) x);
@@ -34,7 +34,7 @@ module _ {A B : Type 0} (pre : ℕ → Type 0) (c : Construct A) (f : A → Cons
 -- what holds after the first part is where the second one begins
 pub holds_bind :
     {A B : Type 0} {pre : ℕ → Type 0} {c : Construct A} {f : A → Construct B} {mid : A → ℕ → Type 0}
-      {read : B → ℕ → Type 0} {refused : Kind → ℕ → ℕ → Type 0} →
+    {read : B → ℕ → Type 0} {refused : Kind → ℕ → ℕ → Type 0} →
     Holds pre c mid refused → ((a : A) → Holds (mid a) (f a) read refused) → Holds pre (c >>= f) read refused
 holds_bind {pre = pre} {c = c} {f = f} {mid = mid} {read = read} {refused = refused} h g =
     record { on_read = bind_read pre c f mid read refused h g; on_refused = bind_refused pre c f mid read refused h g }
@@ -53,8 +53,10 @@ gave a b i j given = (refl, refl)
 pub holds_gives : {A : Type 0} {pre : ℕ → Type 0} {a : A} {read : A → ℕ → Type 0} {refused : Kind → ℕ → ℕ → Type 0} →
     ((i : ℕ) → pre i → read a i) → Holds pre (gives a) read refused
 holds_gives {pre = pre} {a = a} {read = read} {refused = refused} h =
-    record { on_read = gives_read pre a read h;
-      on_refused = λ i from to k p x. gives_refused a (refused k from to) i from to k x }
+    record {
+      on_read = gives_read pre a read h;
+      on_refused = λ i from to k p x. gives_refused a (refused k from to) i from to k x;
+    }
 
 here_read : (pre : ℕ → Type 0) (read : ℕ → ℕ → Type 0) → ((i : ℕ) → pre i → read i i) → (i j a : ℕ) → pre i →
     here i (Read a j) → read a j
@@ -66,8 +68,10 @@ here_refused X i from to k x = elim x [ ]
 pub holds_here : {pre : ℕ → Type 0} {read : ℕ → ℕ → Type 0} {refused : Kind → ℕ → ℕ → Type 0} →
     ((i : ℕ) → pre i → read i i) → Holds pre here read refused
 holds_here {pre = pre} {read = read} {refused = refused} h =
-    record { on_read = here_read pre read h;
-      on_refused = λ i from to k p x. here_refused (refused k from to) i from to k x }
+    record {
+      on_read = here_read pre read h;
+      on_refused = λ i from to k p x. here_refused (refused k from to) i from to k x;
+    }
 
 fails_read : {A : Type 0} (k : Kind) (X : Type 0) (i j : ℕ) (a : A) → fails k i (Read a j) → X
 fails_read k X i j a x = elim x [ ]
@@ -94,8 +98,10 @@ pub holds_fails_from :
     {A : Type 0} {pre : ℕ → Type 0} {k : Kind} {start : ℕ} {read : A → ℕ → Type 0} {refused : Kind → ℕ → ℕ → Type 0} →
     ((i : ℕ) → pre i → refused k start i) → Holds pre (fails_from k start) read refused
 holds_fails_from {pre = pre} {k = k} {start = start} {read = read} {refused = refused} h =
-    record { on_read = λ i j a p x. from_read k start (read a j) i j a x;
-      on_refused = from_refused pre k start refused h }
+    record {
+      on_read = λ i j a p x. from_read k start (read a j) i j a x;
+      on_refused = from_refused pre k start refused h;
+    }
 
 over_read : (pre : ℕ → Type 0) (W : ℕ → ℕ → Type 0) (read : Unit {0} → ℕ → Type 0) →
     ((i j : ℕ) → pre i → W i j → read tt j) → (i j : ℕ) (a : Unit {0}) → pre i → over W i (Read a j) → read a j
@@ -108,8 +114,10 @@ pub holds_over :
     {pre : ℕ → Type 0} {W : ℕ → ℕ → Type 0} {read : Unit {0} → ℕ → Type 0} {refused : Kind → ℕ → ℕ → Type 0} →
     ((i j : ℕ) → pre i → W i j → read tt j) → Holds pre (over W) read refused
 holds_over {pre = pre} {W = W} {read = read} {refused = refused} h =
-    record { on_read = over_read pre W read h;
-      on_refused = λ i from to k p x. over_refused W (refused k from to) i from to k x }
+    record {
+      on_read = over_read pre W read h;
+      on_refused = λ i from to k p x. over_refused W (refused k from to) i from to k x;
+    }
 
 module _ {A B : Type 0} (pre : ℕ → Type 0) (look : ℕ → A) (part : A → Construct B) (read : B → ℕ → Type 0)
     (refused : Kind → ℕ → ℕ → Type 0) (h : (a : A) → Holds (λ i. pre i × (look i ≡ a)) (part a) read refused) where
@@ -122,11 +130,13 @@ module _ {A B : Type 0} (pre : ℕ → Type 0) (look : ℕ → A) (part : A → 
 -- a part is read where it was chosen
 pub holds_at_each :
     {A B : Type 0} {pre : ℕ → Type 0} {look : ℕ → A} {part : A → Construct B} {read : B → ℕ → Type 0}
-      {refused : Kind → ℕ → ℕ → Type 0} →
+    {refused : Kind → ℕ → ℕ → Type 0} →
     ((a : A) → Holds (λ i. pre i × (look i ≡ a)) (part a) read refused) → Holds pre (at_each look part) read refused
 holds_at_each {pre = pre} {look = look} {part = part} {read = read} {refused = refused} h =
-    record { on_read = at_each_read pre look part read refused h;
-      on_refused = at_each_refused pre look part read refused h }
+    record {
+      on_read = at_each_read pre look part read refused h;
+      on_refused = at_each_refused pre look part read refused h;
+    }
 
 module _ {A : Type 0} (pre : ℕ → Type 0) (test : Bool) (yes no : Construct A) (read : A → ℕ → Type 0)
     (refused : Kind → ℕ → ℕ → Type 0) (h : test ≡ true → Holds pre yes read refused)
@@ -141,9 +151,11 @@ module _ {A : Type 0} (pre : ℕ → Type 0) (test : Bool) (yes no : Construct A
 
 pub holds_either :
     {A : Type 0} {pre : ℕ → Type 0} {test : Bool} {yes no : Construct A} {read : A → ℕ → Type 0}
-      {refused : Kind → ℕ → ℕ → Type 0} →
+    {refused : Kind → ℕ → ℕ → Type 0} →
     (test ≡ true → Holds pre yes read refused) → (test ≡ false → Holds pre no read refused) →
-        Holds pre (either test yes no) read refused
+    Holds pre (either test yes no) read refused
 holds_either {pre = pre} {test = test} {yes = c} {no = d} {read = read} {refused = refused} h g =
-    record { on_read = either_read pre test c d read refused h g;
-      on_refused = either_refused pre test c d read refused h g }
+    record {
+      on_read = either_read pre test c d read refused h g;
+      on_refused = either_refused pre test c d read refused h g;
+    }

@@ -83,7 +83,7 @@ module _ (P : ℕ → Type 0) where
   good_body (x ∷ []) (g, h) = good_alone x g
   good_body (x ∷ y ∷ tiles) (g, (h, k)) =
       good_joined x y (body (y ∷ tiles)) (body tiles) (hangs x y) refl g h (good_body (y ∷ tiles) (h, k))
-        (good_body tiles k)
+      (good_body tiles k)
 
 module _ (edition : Edition) (t : List ℕ) (P : ℕ → Type 0) (cuts : IsCuts t P) where
   given : (x : Tile) → GoodTile edition t P cuts x → GoodGiven P x
@@ -101,14 +101,14 @@ module _ (edition : Edition) (t : List ℕ) where
       let P = IsCharBoundary t in
       let cuts = boundary_cuts t u in
       good_body P tiles
-          (all_given edition t P cuts tiles (tiled_good edition t P cuts 0 tiles (IsCharBoundary-start t u) a))
+      (all_given edition t P cuts tiles (tiled_good edition t P cuts 0 tiles (IsCharBoundary-start t u) a))
 
   pub runtime_body_in_text : RuntimeBodyInText edition t
   runtime_body_in_text = λ tiles u a.
       let P = IsCharBoundary t in
       let cuts = boundary_cuts t u in
       good_body P tiles
-          (all_given edition t P cuts tiles (runtime_good edition t P cuts 0 tiles (IsCharBoundary-start t u) a))
+      (all_given edition t P cuts tiles (runtime_good edition t P cuts 0 tiles (IsCharBoundary-start t u) a))
 
   -- ---- errors ascend
 
@@ -251,7 +251,7 @@ hangs_junk dropped y h p = cc
 joined_junk : (x y : Tile) (others after : BodyTree Span) (tiles : List Tile) (o : Option (EntryTree Span)) →
     hangs x y ≡ o → HoldsEntry x →
     flat_map junk_slice others ≡ tile_junk y ++ flat_map tile_junk tiles →
-        flat_map junk_slice after ≡ flat_map tile_junk tiles →
+    flat_map junk_slice after ≡ flat_map tile_junk tiles →
     flat_map junk_slice (joined o (alone x) others after) ≡ tile_junk x ++ (tile_junk y ++ flat_map tile_junk tiles)
 joined_junk x y others after tiles None e b p q =
     flat_append junk_slice (alone x) others
@@ -259,7 +259,7 @@ joined_junk x y others after tiles None e b p q =
 joined_junk x y others after tiles (Some h) e b p q =
     let z = hangs_junk x y h e in
     let left : junk_slice h ++ flat_map junk_slice after ≡ flat_map tile_junk tiles =
-        ap (λ zs. zs ++ flat_map junk_slice after) z.0 ∙ q in
+    ap (λ zs. zs ++ flat_map junk_slice after) z.0 ∙ q in
     let right : tile_junk x ++ (tile_junk y ++ flat_map tile_junk tiles) ≡ flat_map tile_junk tiles =
     ap (λ zs. zs ++ (tile_junk y ++ flat_map tile_junk tiles)) z.1 ∙ ap (λ zs. zs ++ flat_map tile_junk tiles) z.2 in
     left ∙ sym right
@@ -269,7 +269,7 @@ body_junk [] b = refl
 body_junk (x ∷ []) (b, c) = alone_junk x b ∙ sym (append_nothing (tile_junk x))
 body_junk (x ∷ y ∷ tiles) (b, (c, d)) =
     joined_junk x y (body (y ∷ tiles)) (body tiles) tiles (hangs x y) refl b (body_junk (y ∷ tiles) (c, d))
-      (body_junk tiles d)
+    (body_junk tiles d)
 
 junk_faults : (xs : List Tile) → flat_map tile_junk xs ≡ map fault_slice (faults xs)
 junk_faults [] = refl

@@ -45,8 +45,8 @@ module _ (t : List ℕ) where
   eol_blank : (k m i : ℕ) → after_eol t k ≡ Some m → k ≤ i → i < m → has t is_blank_byte i ≡ true
   eol_blank k m i e a b = elim (eol_cases t k m e) [
     | inl x ↦ (let same : k ≡ i = omega arith in
-          subst (λ i. has t is_blank_byte i ≡ true) same
-            (implies (λ c. c == lf) is_blank_byte (slice_get t k) lf_blank x.0))
+        subst (λ i. has t is_blank_byte i ≡ true) same
+        (implies (λ c. c == lf) is_blank_byte (slice_get t k) lf_blank x.0))
     | inr x ↦ elim (eol_between i k m a b (inr x.2)) [
       | inl same ↦ subst (λ i. has t is_blank_byte i ≡ true) (sym same)
           (implies (λ c. c == cr) is_blank_byte (slice_get t k) cr_blank x.0)
@@ -78,14 +78,14 @@ module _ (t : List ℕ) where
       BlankBlock t i i
   empty_block i e f g =
       no_line (record { forward = omega arith; each = λ k a b. absurd (omega arith); longest = e })
-        (eol_none (has_byte t lf i) (has_byte t cr i) (has_byte t lf (i + 1)) i f g)
+      (eol_none (has_byte t lf i) (has_byte t cr i) (has_byte t lf (i + 1)) i f g)
 
   -- where an entry may begin, and at the text's end, the blank block is empty
   pub block_at_entry : (i : ℕ) → has t is_entry_byte i ≡ true → BlankBlock t i i
   block_at_entry i e =
       empty_block i (excludes is_entry_byte is_space (slice_get t i) entry_no_space e)
-        (excludes is_entry_byte (λ b. b == lf) (slice_get t i) entry_no_lf e)
-        (excludes is_entry_byte (λ b. b == cr) (slice_get t i) entry_no_cr e)
+      (excludes is_entry_byte (λ b. b == lf) (slice_get t i) entry_no_lf e)
+      (excludes is_entry_byte (λ b. b == cr) (slice_get t i) entry_no_cr e)
 
   pub past_end : (p : ℕ → Bool) → has t p (length t) ≡ false
   past_end p = none_holds p (slice_get t (length t)) (slice_get_past t (length t) (omega arith))
@@ -106,13 +106,13 @@ module _ (t : List ℕ) where
   lf_start : (i : ℕ) → has_byte t lf i ≡ true → starts_line t (i + 1) ≡ true
   lf_start i e =
       or_right (i + 1 == 0) (has_byte t lf ((i + 1) - 1))
-        (let same : i ≡ (i + 1) - 1 = omega arith in subst (λ k. has_byte t lf k ≡ true) same e)
+      (let same : i ≡ (i + 1) - 1 = omega arith in subst (λ k. has_byte t lf k ≡ true) same e)
 
   pub eol_start : (k m : ℕ) → after_eol t k ≡ Some m → starts_line t m ≡ true
   eol_start k m e = elim (eol_cases t k m e) [
     | inl x ↦ subst (λ m. starts_line t m ≡ true) (sym x.1) (lf_start k x.0)
     | inr x ↦ (let same : (k + 1) + 1 ≡ m = omega arith in
-          subst (λ m. starts_line t m ≡ true) same (lf_start (k + 1) x.1))
+        subst (λ m. starts_line t m ≡ true) same (lf_start (k + 1) x.1))
   ]
 
   -- a blank block leads from the start of a line to the start of a line

@@ -163,38 +163,38 @@ module _ (edition : Edition) (t : List ℕ) where
   unfolding family
   same_inline_expression i o p (m, x) (n, y) =
       (functional_within (m + n)).inline_expression.same i o p
-          ((within_grows m (m + n) (omega arith)).inline_expression.part i o x)
-          ((within_grows n (m + n) (omega arith)).inline_expression.part i p y)
+      ((within_grows m (m + n) (omega arith)).inline_expression.part i o x)
+      ((within_grows n (m + n) (omega arith)).inline_expression.part i p y)
 
   same_more_arguments : (names : List (List ℕ)) → (i : ℕ) (o p : Outcome (ArgumentsTree Span)) →
       (family edition t).more_arguments names i o → (family edition t).more_arguments names i p → o ≡ p
   unfolding family
   same_more_arguments names i o p (m, x) (n, y) =
       ((functional_within (m + n)).more_arguments names).same i o p
-          (((within_grows m (m + n) (omega arith)).more_arguments names).part i o x)
-          (((within_grows n (m + n) (omega arith)).more_arguments names).part i p y)
+      (((within_grows m (m + n) (omega arith)).more_arguments names).part i o x)
+      (((within_grows n (m + n) (omega arith)).more_arguments names).part i p y)
 
   same_more_variants : (starred : Bool) → (i : ℕ) (o p : Outcome (VariantTrees Span)) →
       (family edition t).more_variants starred i o → (family edition t).more_variants starred i p → o ≡ p
   unfolding family
   same_more_variants starred i o p (m, x) (n, y) =
       ((functional_within (m + n)).more_variants starred).same i o p
-          (((within_grows m (m + n) (omega arith)).more_variants starred).part i o x)
-          (((within_grows n (m + n) (omega arith)).more_variants starred).part i p y)
+      (((within_grows m (m + n) (omega arith)).more_variants starred).part i o x)
+      (((within_grows n (m + n) (omega arith)).more_variants starred).part i p y)
 
   same_more_pieces : (i : ℕ) (o p : Outcome (List Piece)) → (family edition t).more_pieces i o →
       (family edition t).more_pieces i p → o ≡ p
   unfolding family
   same_more_pieces i o p (m, x) (n, y) =
       (functional_within (m + n)).more_pieces.same i o p ((within_grows m (m + n) (omega arith)).more_pieces.part i o x)
-          ((within_grows n (m + n) (omega arith)).more_pieces.part i p y)
+      ((within_grows n (m + n) (omega arith)).more_pieces.part i p y)
 
   same_more_lines : (i : ℕ) (o p : Outcome (List Line)) → (family edition t).more_lines i o →
       (family edition t).more_lines i p → o ≡ p
   unfolding family
   same_more_lines i o p (m, x) (n, y) =
       (functional_within (m + n)).more_lines.same i o p ((within_grows m (m + n) (omega arith)).more_lines.part i o x)
-          ((within_grows n (m + n) (omega arith)).more_lines.part i p y)
+      ((within_grows n (m + n) (omega arith)).more_lines.part i p y)
 
   -- the constructs that nest have at most one outcome at a place
   pub functional_family : IsFunctionalFamily (family edition t)

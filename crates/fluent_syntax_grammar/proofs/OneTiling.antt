@@ -37,7 +37,7 @@ tiled_same t at one i xs ys (next {start = start} {end = j} {tile = x} {tiles = 
     let same_end : j ≡ k = one.same_end start j k x y b e' in
     let same_tile : x ≡ y = one.same_tile start j k x y b e' in
     let rest : more ≡ others =
-        tiled_same t at one j more others c (subst (λ k. Tiled t at k others) (sym same_end) f) in
+    tiled_same t at one j more others c (subst (λ k. Tiled t at k others) (sym same_end) f) in
     cc
 
 module _ (edition : Edition) (t : List ℕ) where

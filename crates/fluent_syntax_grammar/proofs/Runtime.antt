@@ -63,7 +63,7 @@ bare_joined x y others after tiles None e p q =
 bare_joined x y others after tiles (Some h) e p q =
     let b = hangs_bare x y h e in
     ap (λ zs. zs ++ without_comments after) b.1
-        ∙ (ap (λ zs. bare_tile y ++ zs) q ∙ sym (ap (λ zs. zs ++ (bare_tile y ++ bare_tiles tiles)) b.0))
+    ∙ (ap (λ zs. bare_tile y ++ zs) q ∙ sym (ap (λ zs. zs ++ (bare_tile y ++ bare_tiles tiles)) b.0))
 
 -- the body without comments is what the tiles give without comments
 pub bare_body : (xs : List Tile) → without_comments (body xs) ≡ bare_tiles xs
@@ -116,8 +116,8 @@ pub aligned_named : (xs ys : List Tile) → Aligned xs ys →
 aligned_named xs ys nothing = refl
 aligned_named xs ys (both {x = x} {xs = more} {ys = others} a) =
     flat_append named (bare_tile x) (bare_tiles others)
-        ∙ (ap (λ zs. messages_and_terms (bare_tile x) ++ zs) (aligned_named more others a)
-          ∙ sym (flat_append named (bare_tile x) (bare_tiles more)))
+    ∙ (ap (λ zs. messages_and_terms (bare_tile x) ++ zs) (aligned_named more others a)
+    ∙ sym (flat_append named (bare_tile x) (bare_tiles more)))
 aligned_named xs ys (comment_left {xs = more} a) = aligned_named more ys a
 aligned_named xs ys (dropped_right {ys = others} a) = aligned_named xs others a
 aligned_named xs ys (junk_left {xs = more} a) = aligned_named more ys a

@@ -48,8 +48,12 @@ read_tiles :
 read_tiles edition t errors tree None e h = none_some h
 read_tiles edition t errors tree (Some tiles) e h =
     let same = shown_same h in
-    record { tiles = tiles; tiling = is_tiling edition t tiles e; same_errors = ap (λ (s : Shown). s.errors) same;
-          same_tree = ap (λ (s : Shown). s.tree) same }
+    record {
+      tiles = tiles;
+      tiling = is_tiling edition t tiles e;
+      same_errors = ap (λ (s : Shown). s.errors) same;
+      same_tree = ap (λ (s : Shown). s.tree) same;
+    }
 
 pub read : (edition : Edition) (t : List ℕ) (errors : List Fault) (tree : BodyTree (List ℕ)) →
     shown t (tiles_of edition t) ≡ Some (record { errors = errors; tree = tree }) → IsRead edition t errors tree
@@ -62,8 +66,12 @@ runtime_tiles :
 runtime_tiles edition t errors tree None e h = none_some h
 runtime_tiles edition t errors tree (Some tiles) e h =
     let same = shown_same h in
-    record { tiles = tiles; tiling = is_runtime_tiling edition t tiles e;
-          same_errors = ap (λ (s : Shown). s.errors) same; same_tree = ap (λ (s : Shown). s.tree) same }
+    record {
+      tiles = tiles;
+      tiling = is_runtime_tiling edition t tiles e;
+      same_errors = ap (λ (s : Shown). s.errors) same;
+      same_tree = ap (λ (s : Shown). s.tree) same;
+    }
 
 pub read_without_comments : (edition : Edition) (t : List ℕ) (errors : List Fault) (tree : BodyTree (List ℕ)) →
     shown t (runtime_tiles_of edition t) ≡ Some (record { errors = errors; tree = tree }) →

@@ -33,14 +33,14 @@ both_with id (Some value) = both_gives
 
 both_message_with :
     {s : ℕ} (t : List ℕ) (start : ℕ) (id : Span) (value : Option (PatternTree Span))
-      (rest : List (AttributeTree Span)) → Both t s (message_with t start id value rest)
+    (rest : List (AttributeTree Span)) → Both t s (message_with t start id value rest)
 both_message_with t start id None [] = both_fails_from
 both_message_with t start id None (a ∷ rest) = both_gives
 both_message_with t start id (Some value) rest = both_gives
 
 both_term_with :
     {s : ℕ} (t : List ℕ) (start : ℕ) (id : Span) (value : Option (PatternTree Span))
-      (rest : List (AttributeTree Span)) → Both t s (term_with t start id value rest)
+    (rest : List (AttributeTree Span)) → Both t s (term_with t start id value rest)
 both_term_with t start id None rest = both_fails_from
 both_term_with t start id (Some value) rest = both_gives
 
@@ -48,10 +48,10 @@ module _ (edition : Edition) (t : List ℕ) where
   strict_attribute : {s : ℕ} → Strict t s (attribute edition t)
   strict_attribute =
       strict_then (both_inline_blank t)
-        (λ u. strict_first (strict_token t 46)
-          (λ u. both_bind (both_strict (strict_identifier t)) (λ id. both_bind (both_inline_blank t) (λ u.
+      (λ u. strict_first (strict_token t 46)
+      (λ u. both_bind (both_strict (strict_identifier t)) (λ id. both_bind (both_inline_blank t) (λ u.
       both_bind (both_strict (strict_token t 61))
-          (λ u. both_bind (pattern_everywhere edition t) (λ value. both_with id value))))))
+      (λ u. both_bind (pattern_everywhere edition t) (λ value. both_with id value))))))
 
   -- a list of attributes, and where it ends
   record Attributes (i : ℕ) : Type 0 where
@@ -79,29 +79,31 @@ module _ (edition : Edition) (t : List ℕ) where
   both_attributes : {s : ℕ} → Both t s (attributes edition t)
   both_attributes {s = s} = record {
     total =
-        record { has =
-          λ i p. (let r = attributes_exist (length t) i (omega arith) p.in_text in (Read r.list r.end, r.read)) };
+        record {
+          has =
+              λ i p. (let r = attributes_exist (length t) i (omega arith) p.in_text in (Read r.list r.end, r.read));
+        };
     on = on_sound (sound_attributes edition t (InText t) (text_cuts t) {s = s});
   }
 
   both_message : {s : ℕ} → Both t s (message_entry edition t)
   both_message =
       both_bind both_here
-        (λ start. both_bind (both_strict (strict_identifier t))
-          (λ id. both_bind (both_inline_blank t) (λ u. both_bind (both_strict (strict_token t 61)) (λ u.
+      (λ start. both_bind (both_strict (strict_identifier t))
+      (λ id. both_bind (both_inline_blank t) (λ u. both_bind (both_strict (strict_token t 61)) (λ u.
       both_bind (pattern_everywhere edition t)
-          (λ value. both_bind (both_blank_block t)
-            (λ u. both_bind both_attributes (λ rest. both_message_with t start id value rest)))))))
+      (λ value. both_bind (both_blank_block t)
+      (λ u. both_bind both_attributes (λ rest. both_message_with t start id value rest)))))))
 
   both_term : {s : ℕ} → Both t s (term_entry edition t)
   both_term =
       both_bind both_here
-        (λ start. both_bind (both_strict (strict_token t 45))
-          (λ u. both_bind (both_strict (strict_identifier t))
-            (λ id. both_bind (both_inline_blank t) (λ u. both_bind (both_strict (strict_token t 61)) (λ u.
+      (λ start. both_bind (both_strict (strict_token t 45))
+      (λ u. both_bind (both_strict (strict_identifier t))
+      (λ id. both_bind (both_inline_blank t) (λ u. both_bind (both_strict (strict_token t 61)) (λ u.
       both_bind (pattern_everywhere edition t)
-          (λ value. both_bind (both_blank_block t)
-            (λ u. both_bind both_attributes (λ rest. both_term_with t start id value rest))))))))
+      (λ value. both_bind (both_blank_block t)
+      (λ u. both_bind both_attributes (λ rest. both_term_with t start id value rest))))))))
 
 module _ (t : List ℕ) where
   both_text : {s : ℕ} (eol : Bool) → Both t s (comment_text t eol)
@@ -116,9 +118,9 @@ module _ (t : List ℕ) where
   line_has i level l e =
       let inside = after_hashes t (InText t) (text_cuts t) i l in
       let whole =
-          total_bind {pre = λ j. j ≡ i} {mid = λ u. From t 0} (total_over (λ j p. (j + level, record { by = refl })))
+      total_bind {pre = λ j. j ≡ i} {mid = λ u. From t 0} (total_over (λ j p. (j + level, record { by = refl })))
       (holds_over (λ j m p w. let by = w.by in record { late = omega arith; in_text = omega arith }))
-          (λ u. (both_at_each both_rest).total) in
+      (λ u. (both_at_each both_rest).total) in
       whole.has i refl
 
   record Lines (level i : ℕ) : Type 0 where
@@ -170,7 +172,7 @@ module _ (t : List ℕ) where
   end_at k l true e more = (k, end_start t 0 k k e refl)
   end_at k l false e more =
       elim (lt_or_same k (length t) l)
-        [ inl m ↦ (let x = more m in (x.0, end_on t 0 k x.0 e x.1)) | inr same ↦ (k, end_text t 0 k k same refl) ]
+      [ inl m ↦ (let x = more m in (x.0, end_on t 0 k x.0 e x.1)) | inr same ↦ (k, end_text t 0 k k same refl) ]
 
   end_exists : (m k : ℕ) → length t ≤ k + m → k ≤ length t → (j : ℕ) × JunkEnd t k j
   end_exists zero k a l = end_at k l (starts_entry t k) refl (λ b. absurd (omega arith))
@@ -221,8 +223,13 @@ module _ (edition : Edition) (t : List ℕ) where
   tile_of : (i : ℕ) → i < length t → (o : Outcome (EntryTree Span)) → entry_at edition t i o → TileThere i
   tile_of i l (Read e j) x =
       let q = tile_good edition t (InText t) (text_cuts t) i j _ (omega arith) l (reads x) in
-      record { tile = entry (record { start = i; end = j }) e; end = j; stands_there = reads x; on = q.onward;
-            in_text = q.place }
+      record {
+        tile = entry (record { start = i; end = j }) e;
+        end = j;
+        stands_there = reads x;
+        on = q.onward;
+        in_text = q.place;
+      }
   tile_of i l (Refused k from to) x =
       let f = entry_refused edition t (InText t) (text_cuts t) i from to k (omega arith) x in
       let e = end_exists t (length t) (failing_place k from to) (omega arith) f.in_text in
@@ -244,8 +251,13 @@ module _ (edition : Edition) (t : List ℕ) where
       let x = line_exists t i (omega arith) in
       let one = some_hash t i h in
       let on = hashes_onward t i x.0 x.1 in
-      record { tile = dropped; end = x.0; stands_there = drops h (line_to t i x.0 x.1); on = omega arith;
-            in_text = line_in_text t i x.0 (omega arith) x.1 }
+      record {
+        tile = dropped;
+        end = x.0;
+        stands_there = drops h (line_to t i x.0 x.1);
+        on = omega arith;
+        in_text = line_in_text t i x.0 (omega arith) x.1;
+      }
   runtime_tile i l false h = let x = tile_exists i l in
       record { tile = x.tile; end = x.end; stands_there = stands h x.stands_there; on = x.on; in_text = x.in_text }
 
@@ -254,7 +266,7 @@ module _ (edition : Edition) (t : List ℕ) where
       (tiles : List Tile) × Tiled t (TileAt edition t) i tiles
   tiles_at i l s b m more = elim (lt_or_same s (length t) m) [
     | inl n ↦ (let x = tile_exists s n in let on = x.on in let f = block_forward t i s b in
-          let r = more x.end (omega arith) x.in_text in (x.tile ∷ r.0, next b n x.stands_there r.1))
+        let r = more x.end (omega arith) x.in_text in (x.tile ∷ r.0, next b n x.stands_there r.1))
     | inr same ↦ ([], done (subst (λ s. BlankBlock t i s) same b))
   ]
 
@@ -269,7 +281,7 @@ module _ (edition : Edition) (t : List ℕ) where
       (tiles : List Tile) × Tiled t (RuntimeTileAt edition t) i tiles
   runtime_at i l s b m more = elim (lt_or_same s (length t) m) [
     | inl n ↦ (let x = runtime_tile s n (has_byte t 35 s) refl in let on = x.on in let f = block_forward t i s b in
-          let r = more x.end (omega arith) x.in_text in (x.tile ∷ r.0, next b n x.stands_there r.1))
+        let r = more x.end (omega arith) x.in_text in (x.tile ∷ r.0, next b n x.stands_there r.1))
     | inr same ↦ ([], done (subst (λ s. BlankBlock t i s) same b))
   ]
 

@@ -63,7 +63,7 @@ here_read : {B : Type 0} (t : List ℕ) (P : ℕ → Type 0) (s : ℕ) (Good : B
     Ended P s Good b j
 here_read t P s Good f g i j b p (goes_on at_place y) =
     weaker_end {Good = Good} s i p.late b j
-      ((g i p).holds.on_read i j b (record { late = omega arith; place = p.place }) y)
+    ((g i p).holds.on_read i j b (record { late = omega arith; place = p.place }) y)
 
 here_refused : {B : Type 0} (t : List ℕ) (P : ℕ → Type 0) (s : ℕ) (Good : B → Type 0) (f : ℕ → Construct B) →
     ((m : ℕ) → Inside P s m → Sound t P m (f m) Good) → (i from to : ℕ) (k : Kind) → Inside P s i →
@@ -71,7 +71,7 @@ here_refused : {B : Type 0} (t : List ℕ) (P : ℕ → Type 0) (s : ℕ) (Good 
 here_refused t P s Good f g i from to k p (stops x) = elim x [ ]
 here_refused t P s Good f g i from to k p (goes_on at_place y) =
     weaker_fault s i p.late k from to
-      ((g i p).holds.on_refused i from to k (record { late = omega arith; place = p.place }) y)
+    ((g i p).holds.on_refused i from to k (record { late = omega arith; place = p.place }) y)
 
 module _ {t : List ℕ} {P : ℕ → Type 0} {s : ℕ} where
   pub known : {A B : Type 0} {Mid : A → Type 0} {Good : B → Type 0} {a : A} {c : Construct B} →
@@ -92,15 +92,19 @@ module _ {t : List ℕ} {P : ℕ → Type 0} {s : ℕ} where
   pub sound_fails : {A : Type 0} {Good : A → Type 0} {k : Kind} → ((i : ℕ) → P i → i ≤ length t) → IsPlain k →
       ((i : ℕ) → kind_means t k i) → Sound t P s (fails k) Good
   sound_fails inside plain m =
-      record { holds =
-        holds_fails (λ i p.
-          record { late = p.late; in_text = inside i p.place; one = refl; plain = plain; means = m i }) }
+      record {
+        holds =
+            holds_fails (λ i p.
+            record { late = p.late; in_text = inside i p.place; one = refl; plain = plain; means = m i });
+      }
 
   pub sound_over : {W : ℕ → ℕ → Type 0} → IsOnward P W → Sound t P s (over W) (λ u. Unit {0})
   sound_over w =
-      record { holds =
-        holds_over (λ i j p x. let f = w.forward i j x in let l = p.late in
-          record { late = omega arith; place = w.place i j p.place x; good = tt }) }
+      record {
+        holds =
+            holds_over (λ i j p x. let f = w.forward i j x in let l = p.late in
+            record { late = omega arith; place = w.place i j p.place x; good = tt });
+      }
 
   pub sound_at_each : {A B : Type 0} {Good : B → Type 0} {look : ℕ → A} {part : A → Construct B} →
       ((a : A) → Sound t P s (part a) Good) → Sound t P s (at_each look part) Good
@@ -155,7 +159,7 @@ module _ (t : List ℕ) (P : ℕ → Type 0) (cuts : IsCuts t P) where
   past_holds s None = holds_gives (λ i p. let q = p.0 in record { late = q.late; place = q.place; good = tt })
   past_holds s (Some k) =
       holds_over (λ i j p w. let q = p.0 in let l = q.late in let f = eol_forward t i k p.1 in let e = w.there in
-        record { late = omega arith; place = subst P (sym e) (eol_place t P cuts i k p.1); good = tt })
+      record { late = omega arith; place = subst P (sym e) (eol_place t P cuts i k p.1); good = tt })
 
   pub sound_optional_eol : {s : ℕ} → Sound t P s (optional_eol t) (λ u. Unit {0})
   sound_optional_eol {s = s} = record { holds = holds_at_each (past_holds s) }

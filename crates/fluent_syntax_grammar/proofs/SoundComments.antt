@@ -34,7 +34,7 @@ module _ (t : List ℕ) (P : ℕ → Type 0) (cuts : IsCuts t P) where
   pub after_hashes : (i : ℕ) → P i → P (i + hashes t i)
   after_hashes i p = hashes_place P i (has_byte t 35 i) (has_byte t 35 (i + 1)) (has_byte t 35 (i + 2)) p
       (λ e. cuts.after i (ascii_byte t 35 i (omega arith) e)) (λ e. hash_after i 1 2 refl e)
-          (λ e. hash_after i 2 3 refl e)
+      (λ e. hash_after i 2 3 refl e)
 
   sound_text : {s : ℕ} (eol : Bool) → Sound t P s (comment_text t eol) (IsSpan P)
   sound_text true = sound_here (λ m q. sound_spanned q.place)
@@ -44,14 +44,14 @@ module _ (t : List ℕ) (P : ℕ → Type 0) (cuts : IsCuts t P) where
   sound_rest None = sound_gives tt
   sound_rest (Some b) =
       sound_bind (sound_at_each sound_text)
-        (λ content g. sound_bind (sound_optional_eol t P cuts) (λ u v. sound_gives (g, tt)))
+      (λ content g. sound_bind (sound_optional_eol t P cuts) (λ u v. sound_gives (g, tt)))
 
   -- a comment line, from a place with that many hashes
   pub line_from : (s i level : ℕ) → s ≤ i + level → P i → hashes t i ≡ level →
       Holds (λ j. j ≡ i) (comment_line t level) (Ended P s (list_every (IsSpan P))) (IsFault t s)
   line_from s i level l p e = holds_bind {mid = λ u. Inside P s}
       (holds_over (λ j m q w. let by = w.by in let same : i + hashes t i ≡ m = omega arith in
-              record { late = omega arith; place = subst P same (after_hashes i p) }))
+      record { late = omega arith; place = subst P same (after_hashes i p) }))
       (λ u. (sound_at_each sound_rest).holds)
 
   lines_read : (s level i j : ℕ) (rest : List Span) → Inside P s i → comment_lines t level i (Read rest j) →
@@ -69,15 +69,19 @@ module _ (t : List ℕ) (P : ℕ → Type 0) (cuts : IsCuts t P) where
 
   sound_lines : {s : ℕ} (level : ℕ) → Sound t P s (comment_lines t level) (list_every (IsSpan P))
   sound_lines {s = s} level =
-      record { holds =
-        record { on_read = λ i j a p x. lines_read s level i j a p x;
-          on_refused = λ i from to k p x. lines_refused (IsFault t s k from to) level i from to k x } }
+      record {
+        holds =
+            record {
+              on_read = λ i j a p x. lines_read s level i j a p x;
+              on_refused = λ i from to k p x. lines_refused (IsFault t s k from to) level i from to k x;
+            };
+      }
 
   comment_from : (i level : ℕ) → P i → hashes t i ≡ level →
       Holds (λ j. j ≡ i) (comment_of t level) (Ended P (i + level) (entry_every (IsSpan P))) (IsFault t (i + level))
   comment_from i level p e = holds_bind (line_from (i + level) i level (omega arith) p e) (λ content.
       known {Mid = list_every (IsSpan P)}
-          (λ g. sound_bind (sound_lines level) (λ rest k. sound_gives (every-append (IsSpan P) content rest g k))))
+      (λ g. sound_bind (sound_lines level) (λ rest k. sound_gives (every-append (IsSpan P) content rest g k))))
 
   pub comment_read : (i j : ℕ) (a : EntryTree Span) → P i → has_byte t 35 i ≡ true → comment_entry t i (Read a j) →
       Ended P (i + 1) (entry_every (IsSpan P)) a j
@@ -93,4 +97,4 @@ module _ (t : List ℕ) (P : ℕ → Type 0) (cuts : IsCuts t P) where
       let one = some_hash t i e in
       earlier_fault t i (i + hashes t i) (i + 1) (omega arith) k from to
       (entry_fault t i (i + hashes t i) (omega arith) k from to
-            ((comment_from i (hashes t i) p refl).on_refused i from to k refl x))
+      ((comment_from i (hashes t i) p refl).on_refused i from to k refl x))

@@ -69,9 +69,11 @@ module _ {t : List ℕ} {P : ℕ → Type 0} {i s : ℕ} where
   pub entry_bind : {A B : Type 0} {Mid : A → Type 0} {Good : B → Type 0} {c : Construct A} {f : A → Construct B} →
       i ≤ s → Sound t P s c Mid → ((a : A) → Mid a → SoundEntry t P i s (f a) Good) → SoundEntry t P i s (c >>= f) Good
   entry_bind {Mid = Mid} l x g =
-      record { holds =
-        holds_bind (holds_weaker (λ i p. p) (λ a j e. e) (entry_fault t i s l) x.holds)
-          (λ a. known_entry {Mid = Mid} (g a)) }
+      record {
+        holds =
+            holds_bind (holds_weaker (λ i p. p) (λ a j e. e) (entry_fault t i s l) x.holds)
+            (λ a. known_entry {Mid = Mid} (g a));
+      }
 
   pub entry_gives : {A : Type 0} {Good : A → Type 0} {a : A} → Good a → SoundEntry t P i s (gives a) Good
   entry_gives g = record { holds = holds_gives (λ i p. record { late = p.late; place = p.place; good = g }) }
@@ -88,10 +90,10 @@ module _ (edition : Edition) (t : List ℕ) (P : ℕ → Type 0) (cuts : IsCuts 
   pub sound_attribute : {s : ℕ} → Sound t P s (attribute edition t) (attribute_every (IsSpan P))
   sound_attribute =
       sound_bind (sound_inline_blank t P cuts)
-        (λ u v. sound_bind (sound_token t P cuts 46 refl) (λ u v. sound_bind (sound_identifier t P cuts) (λ id g.
+      (λ u v. sound_bind (sound_token t P cuts 46 refl) (λ u v. sound_bind (sound_identifier t P cuts) (λ id g.
       sound_bind (sound_inline_blank t P cuts)
-          (λ u v. sound_bind (sound_token t P cuts 61 refl)
-            (λ u v. sound_bind sound_pattern (λ value k. sound_with id value g k))))))
+      (λ u v. sound_bind (sound_token t P cuts 61 refl)
+      (λ u v. sound_bind sound_pattern (λ value k. sound_with id value g k))))))
 
   attributes_read : (s i j : ℕ) (rest : List (AttributeTree Span)) → Inside P s i →
       attributes edition t i (Read rest j) → Ended P s (list_every (attribute_every (IsSpan P))) rest j
@@ -106,9 +108,13 @@ module _ (edition : Edition) (t : List ℕ) (P : ℕ → Type 0) (cuts : IsCuts 
 
   pub sound_attributes : {s : ℕ} → Sound t P s (attributes edition t) (list_every (attribute_every (IsSpan P)))
   sound_attributes {s = s} =
-      record { holds =
-        record { on_read = λ i j a p x. attributes_read s i j a p x;
-          on_refused = λ i from to k p x. attributes_refused (IsFault t s k from to) i from to k x } }
+      record {
+        holds =
+            record {
+              on_read = λ i j a p x. attributes_read s i j a p x;
+              on_refused = λ i from to k p x. attributes_refused (IsFault t s k from to) i from to k x;
+            };
+      }
 
   abbrev Good : EntryTree Span → Type 0
   Good = entry_every (IsSpan P)
@@ -117,10 +123,12 @@ module _ (edition : Edition) (t : List ℕ) (P : ℕ → Type 0) (cuts : IsCuts 
       IsSpan P id → option_every (pattern_every (IsSpan P)) value → list_every (attribute_every (IsSpan P)) rest →
       SoundEntry t P i (i + 1) (message_with t i id value rest) Good
   sound_message_with i id None [] f g k =
-      record { holds =
-        holds_fails_from
-          (λ j p. let late = p.late in let inside = cuts.in_text j p.place in
-          record { late = omega arith; ordered = omega arith; onward = late; in_text = inside; means = tt }) }
+      record {
+        holds =
+            holds_fails_from
+            (λ j p. let late = p.late in let inside = cuts.in_text j p.place in
+            record { late = omega arith; ordered = omega arith; onward = late; in_text = inside; means = tt });
+      }
   sound_message_with i id None (a ∷ rest) f g k = entry_gives (f, tt, k, tt)
   sound_message_with i id (Some value) rest f g k = entry_gives (f, g, k, tt)
 
@@ -128,10 +136,12 @@ module _ (edition : Edition) (t : List ℕ) (P : ℕ → Type 0) (cuts : IsCuts 
       IsSpan P id → option_every (pattern_every (IsSpan P)) value → list_every (attribute_every (IsSpan P)) rest →
       SoundEntry t P i (i + 1) (term_with t i id value rest) Good
   sound_term_with i id None rest f g k =
-      record { holds =
-        holds_fails_from
-          (λ j p. let late = p.late in let inside = cuts.in_text j p.place in
-          record { late = omega arith; ordered = omega arith; onward = late; in_text = inside; means = tt }) }
+      record {
+        holds =
+            holds_fails_from
+            (λ j p. let late = p.late in let inside = cuts.in_text j p.place in
+            record { late = omega arith; ordered = omega arith; onward = late; in_text = inside; means = tt });
+      }
   sound_term_with i id (Some value) rest f g k = entry_gives (f, g, k, tt)
 
   abbrev AfterName : ℕ → Span →
@@ -147,16 +157,16 @@ module _ (edition : Edition) (t : List ℕ) (P : ℕ → Type 0) (cuts : IsCuts 
 
   after_name :
       (i : ℕ) (id : Span)
-        (last : Span → Option (PatternTree Span) → List (AttributeTree Span) → Construct (EntryTree Span)) →
+      (last : Span → Option (PatternTree Span) → List (AttributeTree Span) → Construct (EntryTree Span)) →
       IsSpan P id →
       ((value : Option (PatternTree Span)) (rest : List (AttributeTree Span)) →
-            option_every (pattern_every (IsSpan P)) value → list_every (attribute_every (IsSpan P)) rest →
-            SoundEntry t P i (i + 1) (last id value rest) Good) →
+      option_every (pattern_every (IsSpan P)) value → list_every (attribute_every (IsSpan P)) rest →
+      SoundEntry t P i (i + 1) (last id value rest) Good) →
       SoundEntry t P i (i + 1) (AfterName i id last) Good
   after_name i id last f g =
       let l : i ≤ i + 1 = omega arith in
       entry_bind l (sound_inline_blank t P cuts)
-          (λ u v. entry_bind l (sound_token t P cuts 61 refl) (λ u v. entry_bind l sound_pattern (λ value k.
+      (λ u v. entry_bind l (sound_token t P cuts 61 refl) (λ u v. entry_bind l sound_pattern (λ value k.
       entry_bind l (sound_blank_block t P cuts) (λ u v. entry_bind l sound_attributes (λ rest m. g value rest k m)))))
 
 letter_name : (b : ℕ) → is_letter b ≡ true → is_name_byte b ≡ true
@@ -198,8 +208,8 @@ module _ (t : List ℕ) (P : ℕ → Type 0) (cuts : IsCuts t P) where
     on_read = λ j m a e x. at_name i j a p e m x;
     on_refused = λ j from to k e x.
         entry_fault t i i (omega arith) k from to
-            ((sound_identifier t P cuts {s = i}).holds.on_refused j from to k
-              (record { late = omega arith; place = subst P (sym e) p }) x);
+        ((sound_identifier t P cuts {s = i}).holds.on_refused j from to k
+        (record { late = omega arith; place = subst P (sym e) p }) x);
   }
 
   name_there : (i : ℕ) → P i → has t is_letter i ≡ true →
@@ -217,7 +227,7 @@ module _ (t : List ℕ) (P : ℕ → Type 0) (cuts : IsCuts t P) where
       (holds_at_each (λ found. holds_either
       (λ e. holds_bind {mid = λ u. Inside P (i + 1)}
       (holds_over (λ j m p w. let e = p.0 in let by = w.by in let same : i + 1 ≡ m = omega arith in
-              record { late = omega arith; place = subst P same (cuts.after i (ascii_byte t b i l h)) }))
+      record { late = omega arith; place = subst P same (cuts.after i (ascii_byte t b i l h)) }))
       (λ u. holds_gives (λ j p. (refl, p))))
       (λ e. holds_gives (λ j p. differs (subst (λ j. has_byte t b j ≡ true) (sym p.0) h) (p.1 ∙ e)))))
       (λ found. holds_either (λ e. holds_gives (λ j p. p.1)) (λ e. holds_fails (λ j p. differs p.0 e)))
@@ -237,11 +247,11 @@ module _ (edition : Edition) (t : List ℕ) (P : ℕ → Type 0) (cuts : IsCuts 
       Holds (λ j. j ≡ i) (NameAndMore i) (Ended P (i + 1) IsGood) (IsEntryFault t i s)
   message_from i s l name =
       holds_bind name
-        (λ id. holds_weaker {pre = Ended P (i + 1) (IsSpan P) id} (λ j p. p) (λ a j x. x)
-          (earlier_fault t i (i + 1) s l)
+      (λ id. holds_weaker {pre = Ended P (i + 1) (IsSpan P) id} (λ j p. p) (λ a j x. x)
+      (earlier_fault t i (i + 1) s l)
       (known_entry {Mid = IsSpan P}
-            (λ f. after_name edition t P cuts i id (message_with t i) f
-              (λ value rest g k. sound_message_with edition t P cuts i id value rest f g k))))
+      (λ f. after_name edition t P cuts i id (message_with t i) f
+      (λ value rest g k. sound_message_with edition t P cuts i id value rest f g k))))
 
   pub message_read : (i j : ℕ) (a : EntryTree Span) → P i → message_entry edition t i (Read a j) →
       Ended P (i + 1) IsGood a j
@@ -264,8 +274,8 @@ module _ (edition : Edition) (t : List ℕ) (P : ℕ → Type 0) (cuts : IsCuts 
       Holds (λ j. j ≡ i) (token t 45 >> NameTerm i) (Ended P (i + 1) IsGood) (IsEntryFault t i (i + 1))
   term_from i e = holds_bind (token_there t P cuts 45 i (omega arith) e (IsEntryFault t i (i + 1)))
       (λ u. (entry_bind (omega arith) (sound_identifier t P cuts)
-              (λ id f. after_name edition t P cuts i id (term_with t i) f
-                (λ value rest g k. sound_term_with edition t P cuts i id value rest f g k))).holds)
+      (λ id f. after_name edition t P cuts i id (term_with t i) f
+      (λ value rest g k. sound_term_with edition t P cuts i id value rest f g k))).holds)
 
   pub term_read : (i j : ℕ) (a : EntryTree Span) → has_byte t 45 i ≡ true → term_entry edition t i (Read a j) →
       Ended P (i + 1) IsGood a j

@@ -38,15 +38,16 @@ neither i k e f = grind (arith, nat_tests)
 module _ (t : List ℕ) (P : ℕ → Type 0) (cuts : IsCuts t P) where
   lf_good : (s i k : ℕ) → Inside P s i → after_eol t i ≡ Some k → (k == i + 1) ≡ true → GoodEnding P s (lf_at i)
   lf_good s i k p e f =
-      elim (eol_cases t i k e)
-        [ inl x ↦ (p.late, p.place, cuts.after i (ascii_byte t lf i (omega arith) x.0))
-        | inr x ↦ absurd (not_both i k x.2 f) ]
+      elim (eol_cases t i k e) [
+        | inl x ↦ (p.late, p.place, cuts.after i (ascii_byte t lf i (omega arith) x.0))
+        | inr x ↦ absurd (not_both i k x.2 f)
+      ]
 
   crlf_good : (s i k : ℕ) → Inside P s i → after_eol t i ≡ Some k → (k == i + 1) ≡ false → GoodEnding P s (crlf_at i)
   crlf_good s i k p e f = elim (eol_cases t i k e) [
     | inl x ↦ absurd (neither i k x.1 f)
     | inr x ↦ (let a = ascii_byte t lf (i + 1) (omega arith) x.1 in
-          (p.late, cuts.before (i + 1) a, subst P (two_on i) (cuts.after (i + 1) a)))
+        (p.late, cuts.before (i + 1) a, subst P (two_on i) (cuts.after (i + 1) a)))
   ]
 
   ending_at : (s i j : ℕ) (x : Ending) → Inside P s i → (o : Option ℕ) → after_eol t i ≡ o →
@@ -59,9 +60,12 @@ module _ (t : List ℕ) (P : ℕ → Type 0) (cuts : IsCuts t P) where
       let value = gave (if k == i + 1 then lf_at i else crlf_at i) x m j y in
       let same = value.1 in
       let place : k ≡ j = omega arith in
-      record { late = omega arith; place = subst P place (eol_place t P cuts i k e);
-            good =
-            subst (GoodEnding P s) value.0 (by_test P s i (k == i + 1) (lf_good s i k p e) (crlf_good s i k p e)) }
+      record {
+        late = omega arith;
+        place = subst P place (eol_place t P cuts i k e);
+        good =
+            subst (GoodEnding P s) value.0 (by_test P s i (k == i + 1) (lf_good s i k p e) (crlf_good s i k p e));
+      }
 
   ending_read : (s i j : ℕ) (x : Ending) → Inside P s i → ending t i (Read x j) → Ended P s (GoodEnding P s) x j
   ending_read s i j x p (goes_on at_place (chosen y)) = ending_at s i j x p (after_eol t i) refl y
@@ -77,8 +81,10 @@ module _ (t : List ℕ) (P : ℕ → Type 0) (cuts : IsCuts t P) where
 
   pub ending_holds : (s : ℕ) → Holds (Inside P s) (ending t) (Ended P s (GoodEnding P s)) (IsFault t s)
   ending_holds s =
-      record { on_read = λ i j x p y. ending_read s i j x p y;
-        on_refused = λ i from to k p y. ending_refused (IsFault t s k from to) i from to k y }
+      record {
+        on_read = λ i j x p y. ending_read s i j x p y;
+        on_refused = λ i from to k p y. ending_refused (IsFault t s k from to) i from to k y;
+      }
 
 module _ (t : List ℕ) (P : ℕ → Type 0) (cuts : IsCuts t P) (R : Family) (h : IsSoundFamily t P R) where
   -- a run and the pieces after it
@@ -97,8 +103,11 @@ module _ (t : List ℕ) (P : ℕ → Type 0) (cuts : IsCuts t P) (R : Family) (h
       let place = (onward_run t P cuts).place i to p.place w in
       let r = (h.more_pieces to).on_read to j rest (record { late = omega arith; place = place }) x in
       let on = r.late in
-      record { late = omega arith; place = r.place;
-            good = ((late, forward, on, p.place, place), earlier_pieces P to s j (omega arith) rest r.good) }
+      record {
+        late = omega arith;
+        place = r.place;
+        good = ((late, forward, on, p.place, place), earlier_pieces P to s j (omega arith) rest r.good);
+      }
 
   run_refused : (s i from to : ℕ) (k : Kind) → Inside P s i → RunAndMore i (Refused k from to) → IsFault t s k from to
   run_refused s i from to k p (stops x) = elim x [ ]
@@ -108,8 +117,8 @@ module _ (t : List ℕ) (P : ℕ → Type 0) (cuts : IsCuts t P) (R : Family) (h
       let late = p.late in
       let forward = w.forward in
       weaker_fault s m (omega arith) k from to
-          ((h.more_pieces m).on_refused m from to k
-            (record { late = omega arith; place = (onward_run t P cuts).place i m p.place w }) x)
+      ((h.more_pieces m).on_refused m from to k
+      (record { late = omega arith; place = (onward_run t P cuts).place i m p.place w }) x)
   run_refused s i from to k p (goes_on at_place (goes_on (passed w) (goes_on at_place (goes_on x y)))) = elim y [ ]
 
   run_holds : (s : ℕ) → Holds (Inside P s) RunAndMore (EndedPieces P s) (IsFault t s)
@@ -117,7 +126,7 @@ module _ (t : List ℕ) (P : ℕ → Type 0) (cuts : IsCuts t P) (R : Family) (h
 
   keep_pieces : (s : ℕ) (e : ExpressionTree Span) →
       Holds (Ended P s (expression_every (IsSpan P)) e) R.more_pieces
-        (λ ps j. EndedPieces P s ps j × expression_every (IsSpan P) e) (IsFault t s)
+      (λ ps j. EndedPieces P s ps j × expression_every (IsSpan P) e) (IsFault t s)
   keep_pieces s e = record {
     on_read = λ i j ps p x. ((h.more_pieces s).on_read i j ps (record { late = p.late; place = p.place }) x, p.good);
     on_refused =
@@ -131,16 +140,21 @@ module _ (t : List ℕ) (P : ℕ → Type 0) (cuts : IsCuts t P) (R : Family) (h
       (λ e. holds_gives (λ i p. let q = p.0.0 in record { late = q.late; place = q.place; good = tt }))
       (λ e. holds_either
       (λ f. holds_fails
-            (λ i p. let q = p.0.0 in
-              record { late = q.late; in_text = cuts.in_text i q.place; one = refl; plain = tt;
-                means = byte_stands (λ c. c == 125) (slice_get t i) b p.0.1 f }))
+      (λ i p. let q = p.0.0 in
+      record {
+        late = q.late;
+        in_text = cuts.in_text i q.place;
+        one = refl;
+        plain = tt;
+        means = byte_stands (λ c. c == 125) (slice_get t i) b p.0.1 f;
+      }))
       (λ f. holds_either
       (λ g. holds_bind {mid = Ended P s (expression_every (IsSpan P))}
-            (holds_weaker {pre = Inside P s} (λ i p. p.0.0) (λ a j x. x) (λ k from to x. x)
-              (sound_placeable t P cuts R h).holds)
+      (holds_weaker {pre = Inside P s} (λ i p. p.0.0) (λ a j x. x) (λ k from to x. x)
+      (sound_placeable t P cuts R h).holds)
       (λ x. holds_bind (keep_pieces s x)
-            (λ ps. holds_gives
-              (λ i p. let q = p.0 in record { late = q.late; place = q.place; good = (p.1, q.good) }))))
+      (λ ps. holds_gives
+      (λ i p. let q = p.0 in record { late = q.late; place = q.place; good = (p.1, q.good) }))))
       (λ g. holds_weaker {pre = Inside P s} (λ i p. p.0.0) (λ a j x. x) (λ k from to x. x) (run_holds s)))))
 
   pub sound_pieces : (s : ℕ) → Holds (Inside P s) (more_pieces t R) (EndedPieces P s) (IsFault t s)
@@ -149,12 +163,12 @@ module _ (t : List ℕ) (P : ℕ → Type 0) (cuts : IsCuts t P) (R : Family) (h
   leading_places : (i f m : ℕ) → P i → InlineBlank t i f → m ≤ f - i → P (i + m)
   leading_places i f m p w l = let forward = w.forward in
       stretch_places t P cuts (has t is_space) (λ k e. ascii_has t is_space k ascii_space e) i f p w (i + m)
-        (omega arith) (omega arith)
+      (omega arith) (omega arith)
 
   line_read : (s i j : ℕ) (l : Line) → Inside P s i → line t R i (Read l j) → Ended P s (GoodLine P) l j
   line_read s i j l p
       (goes_on at_place
-        (goes_on (passed {j = f} w) (goes_on at_place (goes_on {j = m} {a = ps} x (goes_on {j = n} {a = e} y z))))) =
+      (goes_on (passed {j = f} w) (goes_on at_place (goes_on {j = m} {a = ps} x (goes_on {j = n} {a = e} y z))))) =
       let late = p.late in
       let forward = w.forward in
       let place = word_place t P cuts is_space ascii_space i f p.place w in
@@ -184,8 +198,8 @@ module _ (t : List ℕ) (P : ℕ → Type 0) (cuts : IsCuts t P) (R : Family) (h
       let late = p.late in
       let forward = w.forward in
       weaker_fault s f (omega arith) k from to
-          ((h.more_pieces f).on_refused f from to k
-            (record { late = omega arith; place = word_place t P cuts is_space ascii_space i f p.place w }) x)
+      ((h.more_pieces f).on_refused f from to k
+      (record { late = omega arith; place = word_place t P cuts is_space ascii_space i f p.place w }) x)
   line_refused s i from to k p
       (goes_on at_place (goes_on (passed w) (goes_on at_place (goes_on {j = m} x (stops y))))) =
       ending_refused t P cuts (IsFault t s k from to) m from to k y
@@ -244,55 +258,55 @@ module _ (t : List ℕ) (P : ℕ → Type 0) (cuts : IsCuts t P) (R : Family) (h
       (sound_here (λ m q. record {
         holds = holds_bind (h.more_pieces m) (λ ps. holds_bind (after_pieces m ps q.place) (λ e.
             known {Mid = λ e. GoodLine P (Opening m ps e)}
-                (λ g. sound_bind (h.more_lines m) (λ ls k. sound_gives (record { opening = g; lines = k })))));
+            (λ g. sound_bind (h.more_lines m) (λ ls k. sound_gives (record { opening = g; lines = k })))));
       })).holds
   layout_holds s (Some k) = holds_bind {mid = λ u. Inside P s}
       (holds_over (λ i j p w. let q = p.0 in let late = q.late in let there = w.there in
-              let f = eol_forward t i k p.1 in
-              record { late = omega arith; place = subst P (sym there) (eol_place t P cuts i k p.1) }))
+      let f = eol_forward t i k p.1 in
+      record { late = omega arith; place = subst P (sym there) (eol_place t P cuts i k p.1) }))
       (λ u. (sound_bind (sound_blank_block t P cuts)
-              (λ u v. sound_bind (h.more_lines s) (λ ls g. sound_gives (record { opening = tt; lines = g })))).holds)
+      (λ u v. sound_bind (h.more_lines s) (λ ls g. sound_gives (record { opening = tt; lines = g })))).holds)
 
   pub sound_layout : {s : ℕ} → Sound t P s (layout t R) (GoodLayout P)
   sound_layout {s = s} =
       sound_bind (sound_inline_blank t P cuts) (λ u v. record { holds = holds_at_each (layout_holds s) })
 
 module _ (edition : Edition) (t : List ℕ) (P : ℕ → Type 0) (cuts : IsCuts t P) (R : Family) (h : IsSoundFamily t P R)
-    where
-  pub sound_pattern : {s : ℕ} → Sound t P s (pattern edition t R) (option_every (pattern_every (IsSpan P)))
-  sound_pattern = sound_bind (sound_layout t P cuts R h) (λ y g. sound_gives (good_pattern t P cuts edition y g))
+  where
+    pub sound_pattern : {s : ℕ} → Sound t P s (pattern edition t R) (option_every (pattern_every (IsSpan P)))
+    sound_pattern = sound_bind (sound_layout t P cuts R h) (λ y g. sound_gives (good_pattern t P cuts edition y g))
 
-  sound_variant : {s : ℕ} (starred star : Bool) (key : KeyTree Span) (p : Option (PatternTree Span)) →
-      key_every (IsSpan P) key → option_every (pattern_every (IsSpan P)) p →
-      Sound t P s (variant_and_more edition t R starred star key p) (variants_every (IsSpan P))
-  sound_variant starred star key None g k = sound_fails (inside_places t P cuts) tt (λ i. tt)
-  sound_variant {s = s} starred star key (Some p) g k =
-      sound_bind (sound_blank t P cuts)
+    sound_variant : {s : ℕ} (starred star : Bool) (key : KeyTree Span) (p : Option (PatternTree Span)) →
+        key_every (IsSpan P) key → option_every (pattern_every (IsSpan P)) p →
+        Sound t P s (variant_and_more edition t R starred star key p) (variants_every (IsSpan P))
+    sound_variant starred star key None g k = sound_fails (inside_places t P cuts) tt (λ i. tt)
+    sound_variant {s = s} starred star key (Some p) g k =
+        sound_bind (sound_blank t P cuts)
         (λ u v. sound_bind (h.more_variants s (starred || star)) (λ vs m. sound_gives ((g, k), m)))
 
-  sound_after : {s : ℕ} (starred star : Bool) →
-      Sound t P s (variant_after edition t R starred star) (variants_every (IsSpan P))
-  sound_after starred star =
-      sound_bind (sound_blank t P cuts)
+    sound_after : {s : ℕ} (starred star : Bool) →
+        Sound t P s (variant_after edition t R starred star) (variants_every (IsSpan P))
+    sound_after starred star =
+        sound_bind (sound_blank t P cuts)
         (λ u v. sound_bind (sound_key t P cuts) (λ key g. sound_bind (sound_blank t P cuts) (λ u v.
-      sound_bind (sound_token t P cuts 93 refl)
-          (λ u v. sound_bind sound_pattern (λ value k. sound_variant starred star key value g k)))))
+        sound_bind (sound_token t P cuts 93 refl)
+        (λ u v. sound_bind sound_pattern (λ value k. sound_variant starred star key value g k)))))
 
-  sound_variants : {s : ℕ} (starred : Bool) →
-      Sound t P s (more_variants edition t R starred) (variants_every (IsSpan P))
-  sound_variants starred =
-      sound_bind (sound_optional t P cuts 42 refl) (λ star u. sound_bind (sound_only t P cuts starred star) (λ u v.
-      sound_bind (sound_optional t P cuts 91 refl)
-          (λ bracket u. sound_either (λ e. sound_after starred star) (λ e. sound_end t P cuts edition starred star))))
+    sound_variants : {s : ℕ} (starred : Bool) →
+        Sound t P s (more_variants edition t R starred) (variants_every (IsSpan P))
+    sound_variants starred =
+        sound_bind (sound_optional t P cuts 42 refl) (λ star u. sound_bind (sound_only t P cuts starred star) (λ u v.
+        sound_bind (sound_optional t P cuts 91 refl)
+        (λ bracket u. sound_either (λ e. sound_after starred star) (λ e. sound_end t P cuts edition starred star))))
 
-  sound_next : IsSoundFamily t P (next edition t R)
-  sound_next = record {
-    inline_expression = λ s. sound_inline t P cuts R h;
-    more_arguments = λ s names. sound_arguments t P cuts R h names;
-    more_variants = λ s starred. sound_variants starred;
-    more_pieces = λ s. sound_pieces t P cuts R h s;
-    more_lines = λ s. sound_lines t P cuts R h;
-  }
+    sound_next : IsSoundFamily t P (next edition t R)
+    sound_next = record {
+      inline_expression = λ s. sound_inline t P cuts R h;
+      more_arguments = λ s names. sound_arguments t P cuts R h names;
+      more_variants = λ s starred. sound_variants starred;
+      more_pieces = λ s. sound_pieces t P cuts R h s;
+      more_lines = λ s. sound_lines t P cuts R h;
+    }
 
 module _ (edition : Edition) (t : List ℕ) (P : ℕ → Type 0) (cuts : IsCuts t P) where
   sound_nothing : IsSoundFamily t P (within edition t zero)
@@ -301,11 +315,15 @@ module _ (edition : Edition) (t : List ℕ) (P : ℕ → Type 0) (cuts : IsCuts 
     inline_expression =
         λ s. record { holds = record { on_read = λ i j a p x. absurd x; on_refused = λ i from to k p x. absurd x } };
     more_arguments =
-        λ s names. record { holds =
-          record { on_read = λ i j a p x. absurd x; on_refused = λ i from to k p x. absurd x } };
+        λ s names. record {
+          holds =
+              record { on_read = λ i j a p x. absurd x; on_refused = λ i from to k p x. absurd x };
+        };
     more_variants =
-        λ s starred. record { holds =
-          record { on_read = λ i j a p x. absurd x; on_refused = λ i from to k p x. absurd x } };
+        λ s starred. record {
+          holds =
+              record { on_read = λ i j a p x. absurd x; on_refused = λ i from to k p x. absurd x };
+        };
     more_pieces = λ s. record { on_read = λ i j a p x. absurd x; on_refused = λ i from to k p x. absurd x };
     more_lines =
         λ s. record { holds = record { on_read = λ i j a p x. absurd x; on_refused = λ i from to k p x. absurd x } };

@@ -50,13 +50,13 @@ module _ (t : List ℕ) (P : ℕ → Type 0) (cuts : IsCuts t P) where
   pub sound_accessor : {s : ℕ} → Sound t P s (accessor t) (option_every (IsSpan P))
   sound_accessor =
       sound_bind (sound_optional t P cuts 46 refl)
-        (λ dot u. sound_either (λ e. sound_bind (sound_identifier t P cuts) (λ a g. sound_gives g))
-          (λ e. sound_gives tt))
+      (λ dot u. sound_either (λ e. sound_bind (sound_identifier t P cuts) (λ a g. sound_gives g))
+      (λ e. sound_gives tt))
 
   pub sound_separator : {s : ℕ} → Sound t P s (separator t) (λ u. Unit {0})
   sound_separator =
       sound_bind (sound_blank t P cuts)
-        (λ u v. sound_bind (sound_optional t P cuts 44 refl) (λ u v. sound_blank t P cuts))
+      (λ u v. sound_bind (sound_optional t P cuts 44 refl) (λ u v. sound_blank t P cuts))
 
   pub sound_named : {s : ℕ} (id : Span) (a : MaybeArguments Span) → IsSpan P id → maybe_every (IsSpan P) a →
       Sound t P s (named_reference t id a) (inline_every (IsSpan P))
@@ -67,8 +67,8 @@ module _ (t : List ℕ) (P : ℕ → Type 0) (cuts : IsCuts t P) where
   pub sound_key : {s : ℕ} → Sound t P s (variant_key t) (key_every (IsSpan P))
   sound_key =
       sound_at_each
-        (λ n. sound_either (λ e. sound_bind (sound_number t P cuts) (λ v g. sound_gives g))
-          (λ e. sound_bind (sound_identifier t P cuts) (λ v g. sound_gives g)))
+      (λ n. sound_either (λ e. sound_bind (sound_number t P cuts) (λ v g. sound_gives g))
+      (λ e. sound_bind (sound_identifier t P cuts) (λ v g. sound_gives g)))
 
   pub sound_only : {s : ℕ} (starred star : Bool) → Sound t P s (only_star starred star) (λ u. Unit {0})
   sound_only starred star = sound_either (λ e. sound_fails inside_places tt (λ i. tt)) (λ e. sound_gives tt)
@@ -124,10 +124,10 @@ module _ (t : List ℕ) (P : ℕ → Type 0) (cuts : IsCuts t P) (R : Family) (h
       Holds (λ i. Inside P s i × (after_eol t i ≡ o)) (arrow_line_end o) (Ended P s (λ u. Unit {0})) (IsFault t s)
   arrow_holds s None =
       holds_fails (λ i p. let q = p.0 in
-        record { late = q.late; in_text = cuts.in_text i q.place; one = refl; plain = tt; means = tt })
+      record { late = q.late; in_text = cuts.in_text i q.place; one = refl; plain = tt; means = tt })
   arrow_holds s (Some k) =
       holds_over (λ i j p w. let q = p.0 in let l = q.late in let f = eol_forward t i k p.1 in let e = w.there in
-        record { late = omega arith; place = subst P (sym e) (eol_place t P cuts i k p.1); good = tt })
+      record { late = omega arith; place = subst P (sym e) (eol_place t P cuts i k p.1); good = tt })
 
   sound_arrow : {s : ℕ} → Sound t P s (at_each (after_eol t) arrow_line_end) (λ u. Unit {0})
   sound_arrow {s = s} = record { holds = holds_at_each (arrow_holds s) }
@@ -141,51 +141,55 @@ module _ (t : List ℕ) (P : ℕ → Type 0) (cuts : IsCuts t P) (R : Family) (h
       let late = q.late in
       let by = w.by in
       let e : (i + 1) + 1 ≡ j = omega arith in
-      record { late = omega arith;
-            place =
+      record {
+        late = omega arith;
+        place =
             subst P e (cuts.after (i + 1)
-              (ascii_byte t 62 (i + 1) (omega arith) (right_true (has_byte t 45 i) (has_byte t 62 (i + 1)) p.1))) }
+            (ascii_byte t 62 (i + 1) (omega arith) (right_true (has_byte t 45 i) (has_byte t 62 (i + 1)) p.1)));
+      }
 
   variants_holds : (s : ℕ) →
       Holds (AtArrow s true) (variants_of_select t R) (Ended P s (variants_every (IsSpan P))) (IsFault t s)
   variants_holds s = holds_bind {mid = λ u. Inside P s} (holds_over (after_arrow s))
       (λ u. (sound_bind (sound_inline_blank t P cuts)
-              (λ u v. sound_bind sound_arrow
-                (λ u v. sound_bind (sound_blank t P cuts) (λ u v. h.more_variants s false)))).holds)
+      (λ u v. sound_bind sound_arrow
+      (λ u v. sound_bind (sound_blank t P cuts) (λ u v. h.more_variants s false)))).holds)
 
   select_holds : (s : ℕ) (e : InlineTree Span) → inline_every (IsSpan P) e → (o : Option Kind) →
       ((k : Kind) → o ≡ Some k → (i : ℕ) → IsPlain k × kind_means t k i) →
       Holds (AtArrow s true) (select_with t R e o) (Ended P s (expression_every (IsSpan P))) (IsFault t s)
   select_holds s e g None m =
       holds_bind (variants_holds s)
-        (λ vs. holds_gives (λ i p. record { late = p.late; place = p.place; good = (g, p.good) }))
+      (λ vs. holds_gives (λ i p. record { late = p.late; place = p.place; good = (g, p.good) }))
   select_holds s e g (Some k) m =
       holds_fails (λ i p. let q = p.0 in let n = m k refl i in
-        record { late = q.late; in_text = cuts.in_text i q.place; one = refl; plain = n.0; means = n.1 })
+      record { late = q.late; in_text = cuts.in_text i q.place; one = refl; plain = n.0; means = n.1 })
 
   after_blank : (s : ℕ) (e : InlineTree Span) → inline_every (IsSpan P) e → (arrow : Bool) →
       Holds (AtArrow s arrow)
-        (either arrow (select_with t R e (selector_fault e))
-          (either (is_term_attribute e) (fails TermAttributeAsPlaceable) (gives (inline e))))
-            (Ended P s (expression_every (IsSpan P))) (IsFault t s)
+      (either arrow (select_with t R e (selector_fault e))
+      (either (is_term_attribute e) (fails TermAttributeAsPlaceable) (gives (inline e))))
+      (Ended P s (expression_every (IsSpan P))) (IsFault t s)
   after_blank s e g arrow = holds_either
       (λ y. holds_weaker (λ i p. (p.0, p.1 ∙ y)) (λ a j x. x) (λ k from to x. x)
-            (select_holds s e g (selector_fault e) (plain_fault t e)))
+      (select_holds s e g (selector_fault e) (plain_fault t e)))
       (λ y. holds_weaker {pre = Inside P s} (λ i p. p.0) (λ a j x. x) (λ k from to x. x)
-            (sound_either (λ z. sound_fails (inside_places t P cuts) tt (λ i. tt)) (λ z. sound_gives g)).holds)
+      (sound_either (λ z. sound_fails (inside_places t P cuts) tt (λ i. tt)) (λ z. sound_gives g)).holds)
 
   pub sound_expression : {s : ℕ} → Sound t P s (expression t R) (expression_every (IsSpan P))
   sound_expression {s = s} = sound_bind (h.inline_expression s) (λ e g. sound_bind (sound_blank t P cuts) (λ u v.
-      record { holds =
+      record {
+        holds =
             holds_bind {mid = AtArrow s} (holds_at_each (λ a. holds_gives (λ i p. p)))
-              (λ arrow. after_blank s e g arrow) }))
+            (λ arrow. after_blank s e g arrow);
+      }))
 
   pub sound_placeable : {s : ℕ} → Sound t P s (placeable t R) (expression_every (IsSpan P))
   sound_placeable =
       sound_bind (sound_token t P cuts 123 refl)
-        (λ u v. sound_bind (sound_blank t P cuts) (λ u v. sound_bind sound_expression (λ e g.
+      (λ u v. sound_bind (sound_blank t P cuts) (λ u v. sound_bind sound_expression (λ e g.
       sound_bind (sound_inline_blank t P cuts)
-          (λ u v. sound_bind (sound_token t P cuts 125 refl) (λ u v. sound_gives g)))))
+      (λ u v. sound_bind (sound_token t P cuts 125 refl) (λ u v. sound_gives g)))))
 
   sound_inline_of : {s : ℕ} (x : Start) → Sound t P s (inline_of t R x) (inline_every (IsSpan P))
   sound_inline_of quote = sound_bind (sound_string t P cuts) (λ v g. sound_gives g)
@@ -193,7 +197,7 @@ module _ (t : List ℕ) (P : ℕ → Type 0) (cuts : IsCuts t P) (R : Family) (h
   sound_inline_of minus = sound_bind (sound_number t P cuts) (λ v g. sound_gives g)
   sound_inline_of term =
       sound_bind (sound_token t P cuts 45 refl)
-        (λ u v. sound_bind (sound_identifier t P cuts) (λ id g. sound_bind (sound_accessor t P cuts) (λ a k.
+      (λ u v. sound_bind (sound_identifier t P cuts) (λ id g. sound_bind (sound_accessor t P cuts) (λ a k.
       sound_bind sound_call (λ c m. sound_gives (g, k, m)))))
   sound_inline_of dollar =
       sound_bind (sound_token t P cuts 36 refl) (λ u v. sound_bind (sound_identifier t P cuts) (λ id g. sound_gives g))
@@ -219,16 +223,16 @@ module _ (t : List ℕ) (P : ℕ → Type 0) (cuts : IsCuts t P) (R : Family) (h
       Sound t P s (named_and_more t R names name) (arguments_every (IsSpan P))
   sound_named_argument {s = s} names name f = sound_either (λ e. sound_fails (inside_places t P cuts) tt (λ i. tt))
       (λ y. sound_bind (sound_token t P cuts 58 refl)
-            (λ u v. sound_bind (sound_blank t P cuts) (λ u v. sound_bind (sound_at_each sound_value) (λ e g.
+      (λ u v. sound_bind (sound_blank t P cuts) (λ u v. sound_bind (sound_at_each sound_value) (λ e g.
       sound_bind (sound_separator t P cuts)
-          (λ u v. sound_bind (h.more_arguments s (bytes_at t name ∷ names))
-            (λ a k. sound_gives (good_named P name e a f g k)))))))
+      (λ u v. sound_bind (h.more_arguments s (bytes_at t name ∷ names))
+      (λ a k. sound_gives (good_named P name e a f g k)))))))
 
   sound_positional : {s : ℕ} (names : List (List ℕ)) (e : InlineTree Span) → inline_every (IsSpan P) e →
       Sound t P s (positional_and_more t R names e) (arguments_every (IsSpan P))
   sound_positional {s = s} [] e g =
       sound_bind (sound_separator t P cuts)
-        (λ u v. sound_bind (h.more_arguments s []) (λ a k. sound_gives (good_positional P e a g k)))
+      (λ u v. sound_bind (h.more_arguments s []) (λ a k. sound_gives (good_positional P e a g k)))
   sound_positional (n ∷ ns) e g = sound_fails (inside_places t P cuts) tt (λ i. tt)
 
   sound_argument : {s : ℕ} (names : List (List ℕ)) (e : InlineTree Span) (o : Option Span) (colon : Bool) →
@@ -240,16 +244,21 @@ module _ (t : List ℕ) (P : ℕ → Type 0) (cuts : IsCuts t P) (R : Family) (h
 
   arguments_holds : (s : ℕ) (names : List (List ℕ)) (o : Option ℕ) →
       Holds (λ i. Inside P s i × (slice_get t i ≡ o)) (more_arguments_at t R names o)
-        (Ended P s (arguments_every (IsSpan P))) (IsFault t s)
+      (Ended P s (arguments_every (IsSpan P))) (IsFault t s)
   arguments_holds s names None =
       holds_fails (λ i p. let q = p.0 in
-        record { late = q.late; in_text = cuts.in_text i q.place; one = refl; plain = tt;
-          means = none_holds (λ c. c == 41) (slice_get t i) p.1 })
+      record {
+        late = q.late;
+        in_text = cuts.in_text i q.place;
+        one = refl;
+        plain = tt;
+        means = none_holds (λ c. c == 41) (slice_get t i) p.1;
+      })
   arguments_holds s names (Some b) = holds_weaker {pre = Inside P s} (λ i p. p.0) (λ a j x. x) (λ k from to x. x)
       (sound_either (λ e. sound_bind (sound_token t P cuts 41 refl) (λ u v. sound_gives (tt, tt)))
       (λ e. sound_bind (h.inline_expression s)
-            (λ e g. sound_bind sound_look
-              (λ colon u. sound_argument names e (argument_name e) colon g (good_name P e g))))).holds
+      (λ e g. sound_bind sound_look
+      (λ colon u. sound_argument names e (argument_name e) colon g (good_name P e g))))).holds
 
   pub sound_arguments : {s : ℕ} (names : List (List ℕ)) →
       Sound t P s (more_arguments t R names) (arguments_every (IsSpan P))

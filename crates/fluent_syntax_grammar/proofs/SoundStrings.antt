@@ -26,11 +26,14 @@ module _ (t : List ℕ) where
   hex_in_text i w k l h =
       let forward = h.forward in
       let split : (i < k) ⊎ (i ≡ k) = grind arith in
-      elim split [ inl m ↦
+      elim split [
+        | inl m ↦
             (let last =
-              inside_text (k - 1)
-                (ascii_has t is_ascii_hexdigit (k - 1) ascii_hex (h.each (k - 1) (omega arith) (omega arith))) in
-              omega arith) | inr e ↦ omega arith ]
+            inside_text (k - 1)
+            (ascii_has t is_ascii_hexdigit (k - 1) ascii_hex (h.each (k - 1) (omega arith) (omega arith))) in
+            omega arith)
+        | inr e ↦ omega arith
+      ]
 
   abbrev Any : Unit {0} → Type 0
   Any u = Unit {0}
@@ -56,22 +59,22 @@ module _ (t : List ℕ) where
 
   escaped_holds : (s : ℕ) (o : Option ℕ) →
       Holds (λ i. Inside (InText t) s i × (slice_get t (i + 1) ≡ o)) (escaped t o) (Ended (InText t) s Any)
-        (IsFault t s)
+      (IsFault t s)
   escaped_holds s None =
       holds_fails (λ i p. let q = p.0 in
-        record { late = q.late; in_text = q.place; one = refl; plain = tt; means = tt })
+      record { late = q.late; in_text = q.place; one = refl; plain = tt; means = tt })
   escaped_holds s (Some b) =
       holds_either (λ e.
-            holds_over (λ i j p w. let q = over_two s i j b p.0 p.1 w in
-              record { late = q.late; place = q.place; good = tt }))
+      holds_over (λ i j p w. let q = over_two s i j b p.0 p.1 w in
+      record { late = q.late; place = q.place; good = tt }))
       (λ e. holds_either
-            (λ e. holds_bind {mid = λ u. Inside (InText t) s} (holds_over (λ i j p w. over_two s i j b p.0 p.1 w))
-              (λ u. hex_holds s 4))
+      (λ e. holds_bind {mid = λ u. Inside (InText t) s} (holds_over (λ i j p w. over_two s i j b p.0 p.1 w))
+      (λ u. hex_holds s 4))
       (λ e. holds_either
-            (λ e. holds_bind {mid = λ u. Inside (InText t) s} (holds_over (λ i j p w. over_two s i j b p.0 p.1 w))
-              (λ u. hex_holds s 6))
+      (λ e. holds_bind {mid = λ u. Inside (InText t) s} (holds_over (λ i j p w. over_two s i j b p.0 p.1 w))
+      (λ u. hex_holds s 6))
       (λ e. holds_fails
-            (λ i p. let q = p.0 in record { late = q.late; in_text = q.place; one = refl; plain = tt; means = tt }))))
+      (λ i p. let q = p.0 in record { late = q.late; in_text = q.place; one = refl; plain = tt; means = tt }))))
 
   -- before a unit stands no quote
   abbrev AtUnit : ℕ → Option ℕ → ℕ → Type 0
@@ -80,18 +83,23 @@ module _ (t : List ℕ) where
   pub unit_holds : (s : ℕ) (o : Option ℕ) → Holds (AtUnit s o) (string_unit t o) (Ended (InText t) s Any) (IsFault t s)
   unit_holds s None =
       holds_fails (λ i p. let q = p.0 in
-        record { late = q.late; in_text = q.place; one = refl; plain = tt; means = p.2 })
+      record { late = q.late; in_text = q.place; one = refl; plain = tt; means = p.2 })
   unit_holds s (Some b) =
       holds_either (λ e.
-            holds_fails (λ i p. let q = p.0 in
-              record { late = q.late; in_text = q.place; one = refl; plain = tt;
-                means = byte_stands (λ c. c == lf) (slice_get t i) b p.1 e }))
+      holds_fails (λ i p. let q = p.0 in
+      record {
+        late = q.late;
+        in_text = q.place;
+        one = refl;
+        plain = tt;
+        means = byte_stands (λ c. c == lf) (slice_get t i) b p.1 e;
+      }))
       (λ e. holds_either
-            (λ e. holds_at_each
-              (λ o. holds_weaker (λ i p. (p.0.0, p.1)) (λ a j x. x) (λ k from to x. x) (escaped_holds s o)))
+      (λ e. holds_at_each
+      (λ o. holds_weaker (λ i p. (p.0.0, p.1)) (λ a j x. x) (λ k from to x. x) (escaped_holds s o)))
       (λ e. holds_over
-            (λ i j p w. let q = p.0 in let late = q.late in let by = w.by in let l = slice_get_within t i b p.1 in
-              record { late = omega arith; place = omega arith; good = tt })))
+      (λ i j p w. let q = p.0 in let late = q.late in let by = w.by in let l = slice_get_within t i b p.1 in
+      record { late = omega arith; place = omega arith; good = tt })))
 
   abbrev AtQuote : ℕ → Unit {0} → ℕ → Type 0
   AtQuote s u j = Inside (InText t) s j × (has_byte t 34 j ≡ true)
@@ -125,4 +133,4 @@ module _ (t : List ℕ) (P : ℕ → Type 0) (cuts : IsCuts t P) where
   pub sound_string : {s : ℕ} → Sound t P s (string_literal t) (IsSpan P)
   sound_string = sound_bind (sound_token t P cuts 34 refl) (λ u v. sound_here (λ m q. sound_bind sound_units (λ u v.
       sound_bind (sound_spanned q.place)
-          (λ value good. sound_bind (sound_token t P cuts 34 refl) (λ u v. sound_gives good)))))
+      (λ value good. sound_bind (sound_token t P cuts 34 refl) (λ u v. sound_gives good)))))

@@ -58,7 +58,7 @@ module _ (edition : Edition) (t : List ℕ) (P : ℕ → Type 0) (cuts : IsCuts 
       weaker i from to k (comment_refused t P cuts i from to k p (byte_stands (λ c. c == 35) (slice_get t i) b e f) x)
   entry_refused_of i from to k (Some b) e p (second f (first g x)) =
       weaker i from to k
-        (term_refused edition t P cuts i from to k (byte_stands (λ c. c == 45) (slice_get t i) b e g) x)
+      (term_refused edition t P cuts i from to k (byte_stands (λ c. c == 45) (slice_get t i) b e g) x)
   entry_refused_of i from to k (Some b) e p (second f (second g x)) = message_refused edition t P cuts i from to k p x
 
   pub entry_refused : (i from to : ℕ) (k : Kind) → P i → entry_at edition t i (Refused k from to) →
@@ -74,8 +74,8 @@ module _ (edition : Edition) (t : List ℕ) (P : ℕ → Type 0) (cuts : IsCuts 
       term_refused edition t P cuts i from to k (byte_stands (λ c. c == 45) (slice_get t i) b e g) x
   entry_onward_of i from to k (Some b) e p h (second f (second g x)) =
       letter_refused edition t P cuts i from to k p
-          (byte_stands is_letter (slice_get t i) b e (entry_letter b f g (byte_of is_entry_byte (slice_get t i) b e h)))
-          x
+      (byte_stands is_letter (slice_get t i) b e (entry_letter b f g (byte_of is_entry_byte (slice_get t i) b e h)))
+      x
 
   -- where an entry may begin, a refusal's failing place is after its first byte
   pub entry_onward : (i from to : ℕ) (k : Kind) → P i → has t is_entry_byte i ≡ true →
@@ -106,7 +106,7 @@ module _ (edition : Edition) (t : List ℕ) (P : ℕ → Type 0) (cuts : IsCuts 
       (starts_entry t j ≡ true) ⊎ (j ≡ length t) → i < j
   junk_not_empty i j place l f same forward stop = elim stop [
     | inl h ↦ (let there = right_true (starts_line t j) (has t is_entry_byte j) h in
-          let on = f (subst (λ k. has t is_entry_byte k ≡ true) (sym same) there) in omega arith)
+        let on = f (subst (λ k. has t is_entry_byte k ≡ true) (sym same) there) in omega arith)
     | inr n ↦ omega arith
   ]
 
@@ -134,8 +134,8 @@ module _ (edition : Edition) (t : List ℕ) (P : ℕ → Type 0) (cuts : IsCuts 
   pub line_end : (i j : ℕ) → P i → whole_line t i (Read tt j) → Inside P i j
   line_end i j p x =
       let q =
-          (sound_bind (sound_rest_of_line t P cuts) (λ s g. sound_optional_eol t P cuts {s = i})).holds.on_read i j tt
-            (record { late = omega arith; place = p }) x in
+      (sound_bind (sound_rest_of_line t P cuts) (λ s g. sound_optional_eol t P cuts {s = i})).holds.on_read i j tt
+      (record { late = omega arith; place = p }) x in
       record { late = q.late; place = q.place }
 
   pub tiled_good : (i : ℕ) (tiles : List Tile) → P i → Tiled t (TileAt edition t) i tiles → list_every GoodTile tiles

@@ -27,25 +27,34 @@ module _ (t : List ℕ) (P : ℕ → Type 0) (cuts : IsCuts t P) where
   optional_holds s b l = holds_at_each (λ found. holds_either
       (λ e. holds_bind {mid = λ u. Inside P s}
       (holds_over (λ i j p w. let q = p.0 in let late = q.late in let by = w.by in
-              record { late = omega arith;
-                place = subst P (sym by) (cuts.after i (ascii_byte t b i (is_small b l) (p.1 ∙ e))) }))
+      record {
+        late = omega arith;
+        place = subst P (sym by) (cuts.after i (ascii_byte t b i (is_small b l) (p.1 ∙ e)));
+      }))
       (λ u. holds_gives (λ i p. record { inside = p; missing = λ no. absurd (true_false no) })))
       (λ e. holds_gives (λ i p. record { inside = p.0; missing = λ no. p.1 ∙ e })))
 
   pub sound_optional : {s : ℕ} (b : ℕ) → nat_lt b 128 ≡ true → Sound t P s (optional t b) (λ found. Unit {0})
   sound_optional {s = s} b l =
-      record { holds =
-        holds_weaker (λ i p. p) (λ a j e. let q = e.inside in record { late = q.late; place = q.place; good = tt })
-          (λ k from to e. e) (optional_holds s b l) }
+      record {
+        holds =
+            holds_weaker (λ i p. p) (λ a j e. let q = e.inside in record { late = q.late; place = q.place; good = tt })
+            (λ k from to e. e) (optional_holds s b l);
+      }
 
   pub sound_token : {s : ℕ} (b : ℕ) → nat_lt b 128 ≡ true → Sound t P s (token t b) (λ u. Unit {0})
   sound_token {s = s} b l = record {
     holds = holds_bind (optional_holds s b l) (λ found. holds_either
         (λ e. holds_gives (λ i p. let q = p.inside in record { late = q.late; place = q.place; good = tt }))
         (λ e. holds_fails
-              (λ i p. let q = p.inside in
-                record { late = q.late; in_text = cuts.in_text i q.place; one = refl; plain = tt;
-                  means = p.missing e })));
+        (λ i p. let q = p.inside in
+        record {
+          late = q.late;
+          in_text = cuts.in_text i q.place;
+          one = refl;
+          plain = tt;
+          means = p.missing e;
+        })));
   }
 
   pub ruleset sound = (sound_bind, sound_gives, sound_either, sound_at_each, sound_here, sound_spanned)
@@ -57,17 +66,17 @@ module _ (t : List ℕ) (P : ℕ → Type 0) (cuts : IsCuts t P) where
   pub sound_digits : {s : ℕ} → Sound t P s (digits t) (λ u. Unit {0})
   sound_digits =
       sound_at_each
-        (λ found. sound_either (λ e. sound_over (onward_word t P cuts ascii_digit)) (λ e. sound_range (codes "0-9")))
+      (λ found. sound_either (λ e. sound_over (onward_word t P cuts ascii_digit)) (λ e. sound_range (codes "0-9")))
 
   pub sound_identifier : {s : ℕ} → Sound t P s (identifier t) (IsSpan P)
   sound_identifier =
       sound_here (λ m q.
-        sound_bind {Mid = λ letter. Unit {0}} (sound_at_each (λ letter. sound_gives tt)) (λ letter u. sound_either
+      sound_bind {Mid = λ letter. Unit {0}} (sound_at_each (λ letter. sound_gives tt)) (λ letter u. sound_either
       (λ e. sound_bind (sound_over (onward_word t P cuts ascii_name)) (λ u v. sound_spanned q.place))
       (λ e. sound_range (codes "a-zA-Z"))))
 
   pub sound_number : {s : ℕ} → Sound t P s (number t) (IsSpan P)
   sound_number = sound_here (λ m q. sound_bind (sound_optional 45 refl) (λ x u. sound_bind sound_digits (λ x u.
       sound_bind (sound_optional 46 refl)
-          (λ point u. sound_bind {Mid = λ u. Unit {0}} (sound_either (λ e. sound_digits) (λ e. sound_gives tt))
-            (λ x u. sound_spanned q.place)))))
+      (λ point u. sound_bind {Mid = λ u. Unit {0}} (sound_either (λ e. sound_digits) (λ e. sound_gives tt))
+      (λ x u. sound_spanned q.place)))))

@@ -101,7 +101,7 @@ module _ {t : List ℕ} {s : ℕ} where
     total = total_over (λ i p. w.exists i p.in_text);
     on =
         holds_over (λ i j p x. let late = p.late in let f = w.forward i j x in
-          record { late = omega arith; in_text = w.in_text i j p.in_text x });
+        record { late = omega arith; in_text = w.in_text i j p.in_text x });
   }
 
   pub both_at_each : {A B : Type 0} {look : ℕ → A} {part : A → Construct B} → ((a : A) → Both t s (part a)) →

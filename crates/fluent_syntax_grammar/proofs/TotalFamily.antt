@@ -70,23 +70,23 @@ module _ (edition : Edition) (t : List ℕ) where
   both_line : (s : ℕ) → BothFamily t (s + 1) R → Both t s (line t R)
   both_line s h =
       both_bind both_here
-        (λ start. both_bind (both_inline_blank t)
-          (λ u. both_bind both_here
-            (λ first. both_bind (pieces_into s h) (λ ps. both_bind (both_ending t) (λ e. both_gives)))))
+      (λ start. both_bind (both_inline_blank t)
+      (λ u. both_bind both_here
+      (λ first. both_bind (pieces_into s h) (λ ps. both_bind (both_ending t) (λ e. both_gives)))))
 
   line_on : (s : ℕ) → BothFamily t (s + 1) R → (i j k b : ℕ) (l : Line) → From t s i → InlineBlank t i k →
       slice_get t k ≡ Some b → line t R i (Read l j) → From t (s + 1) j
   line_on s h i j k b l p w e
       (goes_on at_place
-        (goes_on (passed {j = f} v) (goes_on at_place (goes_on {j = m} {a = ps} x (goes_on {j = n} {a = end} y z))))) =
+      (goes_on (passed {j = f} v) (goes_on at_place (goes_on {j = m} {a = ps} x (goes_on {j = n} {a = end} y z))))) =
       let late = p.late in
       let same : k ≡ f = single_stretch.same i k f w v in
       let forward = v.forward in
       let at_f : slice_get t f ≡ Some b = subst (λ k. slice_get t k ≡ Some b) same e in
       let inside = (word_of t is_space).in_text i f p.in_text v in
       let q =
-          more_read t s R h f m b ps (record { late = omega arith; in_text = inside }) at_f
-            ((from_family edition t).more_pieces.part f (Read ps m) x) in
+      more_read t s R h f m b ps (record { late = omega arith; in_text = inside }) at_f
+      ((from_family edition t).more_pieces.part f (Read ps m) x) in
       let r = ending_after t s R h m n end ps q y in
       let g = gave _ l n j z in
       subst (λ j. From t (s + 1) j) g.1 r
@@ -95,11 +95,13 @@ module _ (edition : Edition) (t : List ℕ) where
       (o : Outcome (List Line)) × line_and_more t R i o
   own_total s h i k b p w e =
       let whole =
-          total_bind {pre = λ j. j ≡ i} {mid = λ l. From t (s + 1)} {c = line t R}
-            {f = λ l. R.more_lines >>= λ ls. gives (l ∷ ls)}
+      total_bind {pre = λ j. j ≡ i} {mid = λ l. From t (s + 1)} {c = line t R}
+      {f = λ l. R.more_lines >>= λ ls. gives (l ∷ ls)}
       (total_weaker (λ j q. subst (λ j. From t s j) (sym q) p) (both_line s h).total)
-      (record { on_read = λ j m l q x. line_on s h i m k b l p w e (subst (λ j. line t R j (Read l m)) q x);
-              on_refused = λ j from to n q x. tt })
+      (record {
+        on_read = λ j m l q x. line_on s h i m k b l p w e (subst (λ j. line t R j (Read l m)) q x);
+        on_refused = λ j from to n q x. tt;
+      })
       (λ l. (both_bind h.more_lines (λ ls. both_gives)).total) in
       whole.has i refl
 
@@ -116,9 +118,11 @@ module _ (edition : Edition) (t : List ℕ) where
   lines_into : (s : ℕ) → BothFamily t (s + 1) R → Both t s R.more_lines
   lines_into s h = record {
     total =
-        record { has =
-          λ i p. (let w = (word_of t is_space).exists i p.in_text in
-            let y = lines_byte s h i w.0 (slice_get t w.0) p w.1 refl in (y.0, into_more_lines edition t i y.0 y.1)) };
+        record {
+          has =
+              λ i p. (let w = (word_of t is_space).exists i p.in_text in
+              let y = lines_byte s h i w.0 (slice_get t w.0) p w.1 refl in (y.0, into_more_lines edition t i y.0 y.1));
+        };
     on = on_sound ((sound_family edition t (InText t) (text_cuts t)).more_lines s);
   }
 
@@ -127,14 +131,14 @@ module _ (edition : Edition) (t : List ℕ) where
   module _ (s : ℕ) (h : BothFamily t s R) where
     layout_rest :
         Both {A = Layout} t s
-          (blank_block t >>= λ u. R.more_lines >>= λ ls. gives (record { opening = None; lines = ls }))
+        (blank_block t >>= λ u. R.more_lines >>= λ ls. gives (record { opening = None; lines = ls }))
     layout_rest = both_bind (both_blank_block t) (λ u. both_bind h.more_lines (λ ls. both_gives))
 
     layout_open : Both t s (layout_at t R None)
     layout_open =
         both_bind both_here
-          (λ start. both_bind h.more_pieces
-            (λ ps. both_bind (both_ending t) (λ e. both_bind h.more_lines (λ ls. both_gives))))
+        (λ start. both_bind h.more_pieces
+        (λ ps. both_bind (both_ending t) (λ e. both_bind h.more_lines (λ ls. both_gives))))
 
     reach : (k i j : ℕ) → From t s i × (after_eol t i ≡ Some k) → j ≡ k → From t s j
     reach k i j p e = let q = p.0 in let late = q.late in let f = eol_forward t i k p.1 in let l = eol_text t i k p.1 in
@@ -144,7 +148,7 @@ module _ (edition : Edition) (t : List ℕ) where
     layout_total None = total_weaker (λ i p. p.0) layout_open.total
     layout_total (Some k) =
         total_bind {mid = λ u. From t s} (total_over (λ i p. (k, record { there = refl })))
-          (holds_over (λ i j p w. reach k i j p w.there)) (λ u. layout_rest.total)
+        (holds_over (λ i j p w. reach k i j p w.there)) (λ u. layout_rest.total)
 
     layout_on : (o : Option ℕ) →
         Holds (λ i. From t s i × (after_eol t i ≡ o)) (layout_at t R o) (λ y. From t s) AnyFault
@@ -155,7 +159,7 @@ module _ (edition : Edition) (t : List ℕ) where
     both_layout : Both t s (layout t R)
     both_layout =
         both_bind (both_inline_blank t)
-          (λ u. record { total = total_at_each layout_total; on = holds_at_each layout_on })
+        (λ u. record { total = total_at_each layout_total; on = holds_at_each layout_on })
 
     pub both_pattern : Both t s (pattern edition t R)
     both_pattern = both_bind both_layout (λ y. both_gives)
@@ -169,10 +173,10 @@ module _ (edition : Edition) (t : List ℕ) where
     both_after : (starred star : Bool) → Both t s (variant_after edition t R starred star)
     both_after starred star =
         both_bind (both_blank t)
-          (λ u. both_bind (both_key t)
-            (λ key. both_bind (both_blank t)
-              (λ u. both_bind (both_strict (strict_token t 93))
-                (λ u. both_bind both_pattern (λ value. both_variant starred star key value)))))
+        (λ u. both_bind (both_key t)
+        (λ key. both_bind (both_blank t)
+        (λ u. both_bind (both_strict (strict_token t 93))
+        (λ u. both_bind both_pattern (λ value. both_variant starred star key value)))))
 
   both_end : (s : ℕ) (starred star : Bool) → Both t s (variants_end edition starred star)
   both_end s starred star = both_either both_gives both_fails
@@ -181,7 +185,7 @@ module _ (edition : Edition) (t : List ℕ) where
   abbrev Bracket : (starred star : Bool) → Construct (VariantTrees Span)
   Bracket starred star =
       optional t 91 >>= λ bracket.
-        either bracket (variant_after edition t R starred star) (variants_end edition starred star)
+      either bracket (variant_after edition t R starred star) (variants_end edition starred star)
 
   earlier : (s i : ℕ) → From t (s + 1) i → From t s i
   earlier s i p = let late = p.late in record { late = omega arith; in_text = p.in_text }
@@ -193,7 +197,7 @@ module _ (edition : Edition) (t : List ℕ) where
         (λ e. total_weaker (λ i p. p.at) (both_end s starred star).total));
     on = holds_bind (optional_on t s 91) (λ bracket. holds_either
         (λ e. holds_weaker (λ i p. p.past e) (λ a j p. earlier s j p) (λ k from to x. x)
-              (both_after (s + 1) h starred star).on)
+        (both_after (s + 1) h starred star).on)
         (λ e. holds_weaker (λ i p. p.at) (λ a j x. x) (λ k from to x. x) (both_end s starred star).on));
   }
 
@@ -223,8 +227,10 @@ module _ (edition : Edition) (t : List ℕ) where
   past_end s l = record {
     total = record { has = λ i p. (let late = p.late in let inside = p.in_text in absurd (omega arith)) };
     on =
-        record { on_read = λ i j a p x. (let late = p.late in let inside = p.in_text in absurd (omega arith));
-          on_refused = λ i from to k p x. tt };
+        record {
+          on_read = λ i j a p x. (let late = p.late in let inside = p.in_text in absurd (omega arith));
+          on_refused = λ i from to k p x. tt;
+        };
   }
 
   family_from : (m s : ℕ) → length t < s + m → BothFamily t s R

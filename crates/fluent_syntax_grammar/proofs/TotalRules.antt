@@ -41,7 +41,7 @@ module _ (t : List ℕ) where
   both_accessor : {s : ℕ} → Both t s (accessor t)
   both_accessor =
       both_bind (both_optional t 46)
-        (λ dot. both_either (both_bind (both_strict (strict_identifier t)) (λ a. both_gives)) both_gives)
+      (λ dot. both_either (both_bind (both_strict (strict_identifier t)) (λ a. both_gives)) both_gives)
 
   both_separator : {s : ℕ} → Both t s (separator t)
   both_separator = both_bind (both_blank t) (λ u. both_bind (both_optional t 44) (λ u. both_blank t))
@@ -53,8 +53,8 @@ module _ (t : List ℕ) where
   pub both_key : {s : ℕ} → Both t s (variant_key t)
   both_key =
       both_at_each (λ n.
-        both_either (both_bind (both_strict (strict_number t)) (λ v. both_gives))
-        (both_bind (both_strict (strict_identifier t)) (λ v. both_gives)))
+      both_either (both_bind (both_strict (strict_number t)) (λ v. both_gives))
+      (both_bind (both_strict (strict_identifier t)) (λ v. both_gives)))
 
   arrow_total : (s : ℕ) (o : Option ℕ) → Total (λ i. From t s i × (after_eol t i ≡ o)) (arrow_line_end o)
   arrow_total s None = total_fails
@@ -65,7 +65,7 @@ module _ (t : List ℕ) where
   arrow_on s None = holds_fails (λ i p. tt)
   arrow_on s (Some k) =
       holds_over (λ i j p w. let q = p.0 in let late = q.late in let there = w.there in let f = eol_forward t i k p.1 in
-        let l = eol_text t i k p.1 in record { late = omega arith; in_text = omega arith })
+      let l = eol_text t i k p.1 in record { late = omega arith; in_text = omega arith })
 
   both_arrow : {s : ℕ} → Both t s (at_each (after_eol t) arrow_line_end)
   both_arrow {s = s} = record { total = total_at_each (arrow_total s); on = holds_at_each (arrow_on s) }
@@ -76,17 +76,17 @@ module _ (t : List ℕ) where
   ending_of_total i None = total_gives
   ending_of_total i (Some k) =
       total_bind {mid = λ u j. Unit {0}} (total_over (λ j p. (k, record { there = refl }))) (holds_over (λ j m p w. tt))
-        (λ u. total_gives)
+      (λ u. total_gives)
 
   pub both_ending : {s : ℕ} → Both t s (ending t)
   both_ending {s = s} = record {
     total =
         total_bind {mid = λ i j. Unit {0}} total_here (holds_here (λ i p. tt))
-          (λ i. total_at_each (λ o. ending_of_total i o));
+        (λ i. total_at_each (λ o. ending_of_total i o));
     on =
         holds_weaker (λ i p. record { late = p.late; place = p.in_text })
-          (λ a j e. record { late = e.late; in_text = e.place }) (λ k from to f. tt)
-          (ending_holds t (InText t) (text_cuts t) s);
+        (λ a j e. record { late = e.late; in_text = e.place }) (λ k from to f. tt)
+        (ending_holds t (InText t) (text_cuts t) s);
   }
 
   eol_some : (a b c : Bool) (i : ℕ) → (a || b && c) ≡ true →
@@ -132,20 +132,20 @@ module _ (t : List ℕ) where
       is_run_place t i ≡ true
   run_place i b h e y z =
       run_at i b (slice_get t i) (has_eol t i) h e
-        (byte_is i b lf h (no_line_feed (has_byte t lf i) (has_byte t cr i) (has_byte t lf (i + 1)) e)) y z
+      (byte_is i b lf h (no_line_feed (has_byte t lf i) (has_byte t cr i) (has_byte t lf (i + 1)) e)) y z
 
   run_on : (i j : ℕ) → is_run_place t i ≡ true → Stretch (is_run_place t) i j → i < j
   run_on i j e w =
       elim (lt_or_same i j w.forward)
-        [ inl l ↦ l | inr same ↦ absurd (false≢true (sym w.longest ∙ subst (λ k. is_run_place t k ≡ true) same e)) ]
+      [ inl l ↦ l | inr same ↦ absurd (false≢true (sym w.longest ∙ subst (λ k. is_run_place t k ≡ true) same e)) ]
 
 module _ (t : List ℕ) (s : ℕ) (R : Family) (h : BothFamily t (s + 1) R) where
   both_call : Both t (s + 1) (call_arguments t R)
   both_call =
       both_bind (both_blank t)
-        (λ u. both_bind (both_optional t 40)
-          (λ bracket. both_either (both_bind (both_bind (both_blank t) (λ u. h.more_arguments [])) (λ a. both_gives))
-            both_gives))
+      (λ u. both_bind (both_optional t 40)
+      (λ bracket. both_either (both_bind (both_bind (both_blank t) (λ u. h.more_arguments [])) (λ a. both_gives))
+      both_gives))
 
   abbrev AtArrow : Bool → ℕ → Type 0
   AtArrow arrow i = From t (s + 1) i × (has_arrow t i ≡ arrow)
@@ -156,16 +156,16 @@ module _ (t : List ℕ) (s : ℕ) (R : Family) (h : BothFamily t (s + 1) R) wher
       let late = q.late in
       let by = w.by in
       let l =
-          byte_inside (λ c. c == 62) t (i + 1) (slice_get t (i + 1)) refl
-            (right_true (has_byte t 45 i) (has_byte t 62 (i + 1)) p.1) in
+      byte_inside (λ c. c == 62) t (i + 1) (slice_get t (i + 1)) refl
+      (right_true (has_byte t 45 i) (has_byte t 62 (i + 1)) p.1) in
       record { late = omega arith; in_text = omega arith }
 
   after_two :
       Both t (s + 1)
-        (inline_blank t >>= λ u. at_each (after_eol t) arrow_line_end >>= λ u. blank t >>= λ u. R.more_variants false)
+      (inline_blank t >>= λ u. at_each (after_eol t) arrow_line_end >>= λ u. blank t >>= λ u. R.more_variants false)
   after_two =
       both_bind (both_inline_blank t)
-        (λ u. both_bind (both_arrow t) (λ u. both_bind (both_blank t) (λ u. h.more_variants false)))
+      (λ u. both_bind (both_arrow t) (λ u. both_bind (both_blank t) (λ u. h.more_variants false)))
 
   variants_total : Total (AtArrow true) (variants_of_select t R)
   variants_total =
@@ -190,13 +190,13 @@ module _ (t : List ℕ) (s : ℕ) (R : Family) (h : BothFamily t (s + 1) R) wher
   abbrev AfterBlank : InlineTree Span → Bool → Construct (ExpressionTree Span)
   AfterBlank e arrow =
       either arrow (select_with t R e (selector_fault e))
-        (either (is_term_attribute e) (fails TermAttributeAsPlaceable) (gives (inline e)))
+      (either (is_term_attribute e) (fails TermAttributeAsPlaceable) (gives (inline e)))
 
   arrow_at : (e : InlineTree Span) → Both t (s + 1) (at_each (has_arrow t) gives >>= λ arrow. AfterBlank e arrow)
   arrow_at e = record {
     total =
         total_bind {mid = AtArrow} (total_at_each (λ a. total_gives)) (holds_at_each (λ a. holds_gives (λ i p. p)))
-          (λ arrow. total_either
+        (λ arrow. total_either
         (λ y. total_weaker (λ i p. (p.0, p.1 ∙ y)) (select_total e (selector_fault e)))
         (λ y. total_weaker (λ i p. p.0) (no_select e).total));
     on = holds_bind {mid = AtArrow} (holds_at_each (λ a. holds_gives (λ i p. p))) (λ arrow. holds_either
@@ -210,10 +210,10 @@ module _ (t : List ℕ) (s : ℕ) (R : Family) (h : BothFamily t (s + 1) R) wher
   pub strict_placeable : Strict t s (placeable t R)
   strict_placeable =
       strict_first (strict_token t 123)
-        (λ u. both_bind (both_blank t)
-          (λ u. both_bind both_expression
-            (λ e. both_bind (both_inline_blank t)
-              (λ u. both_bind (both_strict (strict_token t 125)) (λ u. both_gives)))))
+      (λ u. both_bind (both_blank t)
+      (λ u. both_bind both_expression
+      (λ e. both_bind (both_inline_blank t)
+      (λ u. both_bind (both_strict (strict_token t 125)) (λ u. both_gives)))))
 
   strict_inline_of : (x : Start) → Strict t s (inline_of t R x)
   strict_inline_of quote = strict_first (strict_string t) (λ v. both_gives)
@@ -221,8 +221,8 @@ module _ (t : List ℕ) (s : ℕ) (R : Family) (h : BothFamily t (s + 1) R) wher
   strict_inline_of minus = strict_first (strict_number t) (λ v. both_gives)
   strict_inline_of term =
       strict_first (strict_token t 45)
-        (λ u. both_bind (both_strict (strict_identifier t))
-          (λ id. both_bind (both_accessor t) (λ a. both_bind both_call (λ c. both_gives))))
+      (λ u. both_bind (both_strict (strict_identifier t))
+      (λ id. both_bind (both_accessor t) (λ a. both_bind both_call (λ c. both_gives))))
   strict_inline_of dollar =
       strict_first (strict_token t 36) (λ u. both_bind (both_strict (strict_identifier t)) (λ id. both_gives))
   strict_inline_of letter = strict_first (strict_identifier t) (λ id. both_bind both_call (λ a. both_named t id a))
@@ -245,8 +245,8 @@ module _ (t : List ℕ) (s : ℕ) (R : Family) (h : BothFamily t (s + 1) R) wher
   both_named_argument : (names : List (List ℕ)) (name : Span) → Both t (s + 1) (named_and_more t R names name)
   both_named_argument names name =
       both_either both_fails
-        (both_bind (both_strict (strict_token t 58))
-          (λ u. both_bind (both_blank t) (λ u. both_bind (both_at_each both_value) (λ e.
+      (both_bind (both_strict (strict_token t 58))
+      (λ u. both_bind (both_blank t) (λ u. both_bind (both_at_each both_value) (λ e.
       both_bind (both_separator t) (λ u. both_bind (h.more_arguments _) (λ a. both_gives))))))
 
   both_positional : (names : List (List ℕ)) (e : InlineTree Span) → Both t (s + 1) (positional_and_more t R names e)
@@ -264,7 +264,7 @@ module _ (t : List ℕ) (s : ℕ) (R : Family) (h : BothFamily t (s + 1) R) wher
   strict_arguments_at x names None = strict_fails
   strict_arguments_at x names (Some b) =
       strict_either (strict_first (strict_token t 41) (λ u. both_gives))
-        (strict_first x (λ e. both_bind both_look (λ colon. both_argument names e (argument_name e) colon)))
+      (strict_first x (λ e. both_bind both_look (λ colon. both_argument names e (argument_name e) colon)))
 
   pub strict_arguments : Strict t s R.inline_expression → (names : List (List ℕ)) →
       Strict t s (more_arguments t R names)
@@ -293,13 +293,13 @@ module _ (t : List ℕ) (s : ℕ) (R : Family) (h : BothFamily t (s + 1) R) wher
   run_total : Total AtRun RunAndMore
   run_total =
       total_bind {mid = λ from. AtRun} total_here (holds_here (λ i p. p))
-        (λ from. total_bind (total_over (λ i p. (run_word t).exists i (p.0).in_text)) (holds_over past_run)
-          (λ u. (after_run from).total))
+      (λ from. total_bind (total_over (λ i p. (run_word t).exists i (p.0).in_text)) (holds_over past_run)
+      (λ u. (after_run from).total))
 
   run_read_on : Holds AtRun RunAndMore (λ ps. From t (s + 1)) AnyFault
   run_read_on =
       holds_bind {mid = λ from. AtRun} (holds_here (λ i p. p))
-        (λ from. holds_bind (holds_over past_run) (λ u. (after_run from).on))
+      (λ from. holds_bind (holds_over past_run) (λ u. (after_run from).on))
 
   placed_and_more : Strict t s (placeable t R >>= λ e. R.more_pieces >>= λ ps. gives (placed e ∷ ps))
   placed_and_more = strict_first strict_placeable (λ e. both_bind h.more_pieces (λ ps. both_gives))
@@ -311,7 +311,7 @@ module _ (t : List ℕ) (s : ℕ) (R : Family) (h : BothFamily t (s + 1) R) wher
   abbrev Rest : ℕ → Construct (List Piece)
   Rest b =
       either (b == 125) (fails UnbalancedClosingBrace)
-        (either (b == 123) (placeable t R >>= λ e. R.more_pieces >>= λ ps. gives (placed e ∷ ps)) RunAndMore)
+      (either (b == 123) (placeable t R >>= λ e. R.more_pieces >>= λ ps. gives (placed e ∷ ps)) RunAndMore)
 
   rest_total : (b : ℕ) → Total (AtByte b) (Rest b)
   rest_total b = total_either (λ x. total_fails) (λ x. total_either
@@ -330,14 +330,14 @@ module _ (t : List ℕ) (s : ℕ) (R : Family) (h : BothFamily t (s + 1) R) wher
   pieces_total None = total_gives
   pieces_total (Some b) =
       total_at_each
-        (λ eol. total_either (λ e. total_gives) (λ e. total_weaker (λ i p. (p.0.0, p.0.1, p.1 ∙ e)) (rest_total b)))
+      (λ eol. total_either (λ e. total_gives) (λ e. total_weaker (λ i p. (p.0.0, p.0.1, p.1 ∙ e)) (rest_total b)))
 
   pieces_on : (o : Option ℕ) → Holds (λ i. From t s i × (slice_get t i ≡ o)) (pieces_at t R o) (λ ps. From t s) AnyFault
   pieces_on None = holds_gives (λ i p. p.0)
   pieces_on (Some b) =
       holds_at_each
-        (λ eol. holds_either (λ e. holds_gives (λ i p. p.0.0))
-          (λ e. holds_weaker (λ i p. (p.0.0, p.0.1, p.1 ∙ e)) (λ a j p. later_from j p) (λ k from to z. z) (rest_on b)))
+      (λ eol. holds_either (λ e. holds_gives (λ i p. p.0.0))
+      (λ e. holds_weaker (λ i p. (p.0.0, p.0.1, p.1 ∙ e)) (λ a j p. later_from j p) (λ k from to z. z) (rest_on b)))
 
   pub both_pieces : Both t s (more_pieces t R)
   both_pieces = record { total = total_at_each pieces_total; on = holds_at_each pieces_on }
@@ -346,8 +346,8 @@ module _ (t : List ℕ) (s : ℕ) (R : Family) (h : BothFamily t (s + 1) R) wher
   pieces_past : (b : ℕ) → Holds (AtByte b) (pieces_at t R (Some b)) (λ ps. From t (s + 1)) AnyFault
   pieces_past b =
       holds_at_each
-        (λ eol. holds_either (λ e. holds_gives (λ i p. differs (p.1 ∙ e) p.0.2))
-          (λ e. holds_weaker (λ i p. p.0) (λ a j z. z) (λ k from to z. z) (rest_on b)))
+      (λ eol. holds_either (λ e. holds_gives (λ i p. differs (p.1 ∙ e) p.0.2))
+      (λ e. holds_weaker (λ i p. p.0) (λ a j z. z) (λ k from to z. z) (rest_on b)))
 
   -- before a line end there are none
   none_read : (i j : ℕ) (ps : List Piece) (b : ℕ) → has_eol t i ≡ true → pieces_at t R (Some b) i (Read ps j) → i ≡ j

@@ -28,7 +28,7 @@ pub on_sound : {A : Type 0} {t : List ℕ} {s : ℕ} {c : Construct A} {Good : A
     Holds (From t s) c (λ a j. From t s j) AnyFault
 on_sound x =
     holds_weaker (λ i p. record { late = p.late; place = p.in_text })
-      (λ a j e. record { late = e.late; in_text = e.place }) (λ k from to f. tt) x.holds
+    (λ a j e. record { late = e.late; in_text = e.place }) (λ k from to f. tt) x.holds
 
 hex_forward : {t : List ℕ} (i w j m : ℕ) (u : Unit {0}) → i + 2 ≤ j → hex_digits t w j (Read u m) → i + 1 ≤ m
 hex_forward i w j m u p (all_there h e) = let f = h.forward in omega arith
@@ -111,24 +111,26 @@ module _ (t : List ℕ) where
   pub optional_on : (s b : ℕ) → Holds (From t s) (optional t b) (AfterByte s) AnyFault
   optional_on s b = holds_at_each (λ found. holds_either
       (λ e. holds_bind {mid = λ u. From t (s + 1)}
-            (holds_over (λ i j p w. let q = p.0 in let late = q.late in let by = w.by in
-                let l = has_inside (λ c. c == b) i (p.1 ∙ e) in record { late = omega arith; in_text = omega arith }))
+      (holds_over (λ i j p w. let q = p.0 in let late = q.late in let by = w.by in
+      let l = has_inside (λ c. c == b) i (p.1 ∙ e) in record { late = omega arith; in_text = omega arith }))
       (λ u. holds_gives
-            (λ i p. let late = p.late in
-              record { at = record { late = omega arith; in_text = p.in_text }; past = λ yes. p })))
+      (λ i p. let late = p.late in
+      record { at = record { late = omega arith; in_text = p.in_text }; past = λ yes. p })))
       (λ e. holds_gives (λ i p. record { at = p.0; past = λ yes. true_false yes })))
 
   pub total_optional : {pre : ℕ → Type 0} (b : ℕ) → Total pre (optional t b)
   total_optional b =
       total_at_each
-        (λ found. total_either
-          (λ e. total_bind {mid = λ u i. Unit {0}} (total_over (λ i p. (i + 1, record { by = refl })))
-            (holds_over (λ i j p w. tt)) (λ u. total_gives)) (λ e. total_gives))
+      (λ found. total_either
+      (λ e. total_bind {mid = λ u i. Unit {0}} (total_over (λ i p. (i + 1, record { by = refl })))
+      (holds_over (λ i j p w. tt)) (λ u. total_gives)) (λ e. total_gives))
 
   pub both_optional : {s : ℕ} (b : ℕ) → Both t s (optional t b)
   both_optional {s = s} b =
-      record { total = total_optional b;
-        on = holds_weaker (λ i p. p) (λ a j x. x.at) (λ k from to x. x) (optional_on s b) }
+      record {
+        total = total_optional b;
+        on = holds_weaker (λ i p. p) (λ a j x. x.at) (λ k from to x. x) (optional_on s b);
+      }
 
   pub strict_token : {s : ℕ} (b : ℕ) → Strict t s (token t b)
   strict_token {s = s} b = record {
@@ -136,7 +138,7 @@ module _ (t : List ℕ) where
         total_bind (total_optional b) (optional_on s b) (λ found. total_either (λ e. total_gives) (λ e. total_fails));
     on =
         holds_bind (optional_on s b)
-          (λ found. holds_either (λ e. holds_gives (λ i p. p.past e)) (λ e. holds_fails (λ i p. tt)));
+        (λ found. holds_either (λ e. holds_gives (λ i p. p.past e)) (λ e. holds_fails (λ i p. tt)));
   }
 
   past_total : (s : ℕ) (o : Option ℕ) → Total (λ i. From t s i × (after_eol t i ≡ o)) (past_eol o)
@@ -147,7 +149,7 @@ module _ (t : List ℕ) where
   past_on s None = holds_gives (λ i p. p.0)
   past_on s (Some k) =
       holds_over (λ i j p w. let q = p.0 in let late = q.late in let there = w.there in let f = eol_forward t i k p.1 in
-        let l = eol_text i k p.1 in record { late = omega arith; in_text = omega arith })
+      let l = eol_text i k p.1 in record { late = omega arith; in_text = omega arith })
 
   pub both_optional_eol : {s : ℕ} → Both t s (optional_eol t)
   both_optional_eol {s = s} = record { total = total_at_each (past_total s); on = holds_at_each (past_on s) }
@@ -158,31 +160,31 @@ module _ (t : List ℕ) where
   pub both_rest_of_line : {s : ℕ} → Both t s (rest_of_line t)
   both_rest_of_line =
       both_bind both_here
-        (λ start. both_bind (both_over (stretch_word (is_line_place t) (line_inside t))) (λ u. both_spanned))
+      (λ start. both_bind (both_over (stretch_word (is_line_place t) (line_inside t))) (λ u. both_spanned))
 
   word_on : (set : ℕ → Bool) (i j : ℕ) → has t set i ≡ true → Word t set i j → i < j
   word_on set i j e w =
       elim (lt_or_same i j w.forward)
-        [ inl l ↦ l | inr same ↦ absurd (false≢true (sym w.longest ∙ subst (λ k. has t set k ≡ true) same e)) ]
+      [ inl l ↦ l | inr same ↦ absurd (false≢true (sym w.longest ∙ subst (λ k. has t set k ≡ true) same e)) ]
 
   pub strict_digits : {s : ℕ} → Strict t s (digits t)
   strict_digits {s = s} = record {
     total =
         total_at_each
-          (λ found. total_either (λ e. total_over (λ i p. (word_of is_digit).exists i (p.0).in_text))
-            (λ e. total_fails));
+        (λ found. total_either (λ e. total_over (λ i p. (word_of is_digit).exists i (p.0).in_text))
+        (λ e. total_fails));
     on = holds_at_each (λ found. holds_either
         (λ e. holds_over
-              (λ i j p w. let q = p.0 in let late = q.late in let l = word_on is_digit i j (p.1 ∙ e) w in
-                let m = (word_of is_digit).in_text i j q.in_text w in record { late = omega arith; in_text = m }))
+        (λ i j p w. let q = p.0 in let late = q.late in let l = word_on is_digit i j (p.1 ∙ e) w in
+        let m = (word_of is_digit).in_text i j q.in_text w in record { late = omega arith; in_text = m }))
         (λ e. holds_fails (λ i p. tt)));
   }
 
   both_identifier : {s : ℕ} → Both t s (identifier t)
   both_identifier =
       both_bind both_here
-        (λ start. both_bind (both_at_each (λ letter. both_gives))
-          (λ letter. both_either (both_bind (both_over (word_of is_name_byte)) (λ u. both_spanned)) both_fails))
+      (λ start. both_bind (both_at_each (λ letter. both_gives))
+      (λ letter. both_either (both_bind (both_over (word_of is_name_byte)) (λ u. both_spanned)) both_fails))
 
   pub strict_identifier : {s : ℕ} → Strict t s (identifier t)
   strict_identifier {s = s} = record {
@@ -190,7 +192,7 @@ module _ (t : List ℕ) where
     on = record {
       on_read =
           λ i j a p x. (let q = name_read t (InText t) (text_cuts t) i j a p.in_text x in let late = p.late in
-            let on = q.late in record { late = omega arith; in_text = q.place });
+          let on = q.late in record { late = omega arith; in_text = q.place });
       on_refused = λ i from to k p x. tt;
     };
   }
@@ -198,17 +200,21 @@ module _ (t : List ℕ) where
   pub strict_number : {s : ℕ} → Strict t s (number t)
   strict_number =
       strict_then both_here
-        (λ start. strict_then (both_optional 45)
-          (λ x. strict_first strict_digits (λ u. both_bind (both_optional 46) (λ point.
+      (λ start. strict_then (both_optional 45)
+      (λ x. strict_first strict_digits (λ u. both_bind (both_optional 46) (λ point.
       both_bind (both_either (both_strict strict_digits) both_gives) (λ u. both_spanned)))))
 
   -- ---- strings
 
   total_hex : {pre : ℕ → Type 0} (w : ℕ) → Total pre (hex_digits t w)
   total_hex w =
-      record { has =
-        λ i p. (hex_run t 0 w i (hex_end t 0 w i) (hex_end t 0 w i == i + w),
-          (computed_hex t 0 {w = w}).sound i (hex_run t 0 w i (hex_end t 0 w i) (hex_end t 0 w i == i + w)) refl) }
+      record {
+        has =
+            λ i p. (
+              hex_run t 0 w i (hex_end t 0 w i) (hex_end t 0 w i == i + w),
+              (computed_hex t 0 {w = w}).sound i (hex_run t 0 w i (hex_end t 0 w i) (hex_end t 0 w i == i + w)) refl,
+            );
+      }
 
   abbrev Always : {A : Type 0} → A → ℕ → Type 0
   Always a j = Unit {0}
@@ -223,14 +229,14 @@ module _ (t : List ℕ) where
   escaped_total None = total_fails
   escaped_total (Some b) =
       total_either (λ e. steps_total 2)
-        (λ e. total_either (λ e. total_bind (steps_total 2) (steps_on 2) (λ u. total_hex 4))
+      (λ e. total_either (λ e. total_bind (steps_total 2) (steps_on 2) (λ u. total_hex 4))
       (λ e. total_either (λ e. total_bind (steps_total 2) (steps_on 2) (λ u. total_hex 6)) (λ e. total_fails)))
 
   unit_total : {pre : ℕ → Type 0} (o : Option ℕ) → Total pre (string_unit t o)
   unit_total None = total_fails
   unit_total (Some b) =
       total_either (λ e. total_fails)
-        (λ e. total_either (λ e. total_at_each (λ o. escaped_total o)) (λ e. steps_total 1))
+      (λ e. total_either (λ e. total_at_each (λ o. escaped_total o)) (λ e. steps_total 1))
 
   abbrev At : ℕ → ℕ → Type 0
   At i j = j ≡ i
@@ -245,18 +251,18 @@ module _ (t : List ℕ) where
   escaped_on i None = holds_fails (λ j p. tt)
   escaped_on i (Some b) = holds_either (λ e. holds_over (λ j m p w. let by = w.by in omega arith))
       (λ e. holds_either
-            (λ e. holds_bind {mid = λ u j. i + 2 ≤ j} (holds_over (λ j m p w. let by = w.by in omega arith))
-              (λ u. hex_on i 4))
+      (λ e. holds_bind {mid = λ u j. i + 2 ≤ j} (holds_over (λ j m p w. let by = w.by in omega arith))
+      (λ u. hex_on i 4))
       (λ e. holds_either
-            (λ e. holds_bind {mid = λ u j. i + 2 ≤ j} (holds_over (λ j m p w. let by = w.by in omega arith))
-              (λ u. hex_on i 6))
+      (λ e. holds_bind {mid = λ u j. i + 2 ≤ j} (holds_over (λ j m p w. let by = w.by in omega arith))
+      (λ u. hex_on i 6))
       (λ e. holds_fails (λ j p. tt))))
 
   unit_on : (i : ℕ) (o : Option ℕ) → Holds (At i) (string_unit t o) (After i) AnyFault
   unit_on i None = holds_fails (λ j p. tt)
   unit_on i (Some b) = holds_either (λ e. holds_fails (λ j p. tt)) (λ e. holds_either
       (λ e. holds_at_each
-            (λ o. holds_weaker {pre = At i} (λ j p. p.0) (λ a j x. x) (λ k from to x. x) (escaped_on i o)))
+      (λ o. holds_weaker {pre = At i} (λ j p. p.0) (λ a j x. x) (λ k from to x. x) (escaped_on i o)))
       (λ e. holds_over (λ j m p w. let by = w.by in omega arith)))
 
   unit_text : (i j : ℕ) → i ≤ length t → has_byte t 34 i ≡ false → string_unit t (slice_get t i) i (Read tt j) →
@@ -284,12 +290,14 @@ module _ (t : List ℕ) where
 
   both_units : {s : ℕ} → Both t s (string_units t)
   both_units {s = s} =
-      record { total = record { has = λ i p. units_exist (length t) i (omega arith) p.in_text };
-        on = on_sound (sound_units t (InText t) (text_cuts t) {s = s}) }
+      record {
+        total = record { has = λ i p. units_exist (length t) i (omega arith) p.in_text };
+        on = on_sound (sound_units t (InText t) (text_cuts t) {s = s});
+      }
 
   pub strict_string : {s : ℕ} → Strict t s (string_literal t)
   strict_string =
       strict_first (strict_token 34)
-        (λ u. both_bind both_here
-          (λ start. both_bind both_units
-            (λ u. both_bind both_spanned (λ value. both_bind (both_strict (strict_token 34)) (λ u. both_gives)))))
+      (λ u. both_bind both_here
+      (λ start. both_bind both_units
+      (λ u. both_bind both_spanned (λ value. both_bind (both_strict (strict_token 34)) (λ u. both_gives)))))

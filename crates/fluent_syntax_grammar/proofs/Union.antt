@@ -32,9 +32,11 @@ bind_found : {A B : Type 0} (c : Construct A) (cs : ℕ → Construct A) (f : A 
 bind_found c cs f fs u v i o (stops r) = let m = u.found i _ r in (m.0, stops m.1)
 bind_found c cs f fs u v i o (goes_on {j = j} {a = a} x y) =
     let m = u.found i _ x in
-    let n = (v a).found j o y in
-    (m.0 + n.0, goes_on ((u.grows m.0 (m.0 + n.0) (omega arith)).part i _ m.1)
-          (((v a).grows n.0 (m.0 + n.0) (omega arith)).part j o n.1))
+    let n = (v a).found j o y in (
+      m.0 + n.0,
+      goes_on ((u.grows m.0 (m.0 + n.0) (omega arith)).part i _ m.1)
+          (((v a).grows n.0 (m.0 + n.0) (omega arith)).part j o n.1),
+    )
 
 pub union_bind :
     {A B : Type 0} {c : Construct A} {cs : ℕ → Construct A} {f : A → Construct B} {fs : ℕ → A → Construct B} →
@@ -185,7 +187,7 @@ module _ (edition : Edition) (t : List ℕ) (R : Family) (Rs : ℕ → Family) (
 
   union_variant : (starred star : Bool) (key : KeyTree Span) (p : Option (PatternTree Span)) →
       IsUnion (variant_and_more edition t R starred star key p)
-        (λ n. variant_and_more edition t (Rs n) starred star key p)
+      (λ n. variant_and_more edition t (Rs n) starred star key p)
   union_variant starred star key None = search unions depth 30
   union_variant starred star key (Some p) = search (unions, h.more_variants) depth 30
 

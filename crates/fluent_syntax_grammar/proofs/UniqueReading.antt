@@ -85,7 +85,7 @@ module _ (edition : Edition) (t : List ℕ) where
   pub same_messages_and_terms : SameMessagesAndTerms edition t
   same_messages_and_terms = λ xs ys a b.
       ap messages_and_terms (body_bare ys (bare_runtime edition t 0 ys b))
-          ∙ (aligned_named xs ys (aligned edition t xs ys a b) ∙ sym (ap messages_and_terms (bare_body xs)))
+      ∙ (aligned_named xs ys (aligned edition t xs ys a b) ∙ sym (ap messages_and_terms (bare_body xs)))
 
   pub no_new_errors : NoNewErrors edition t
   no_new_errors = λ xs ys a b e. aligned_faults xs ys (aligned edition t xs ys a b) e
@@ -93,4 +93,4 @@ module _ (edition : Edition) (t : List ℕ) where
   pub same_without_comments : SameWithoutComments edition t
   same_without_comments = λ xs ys a b e.
       body_bare ys (bare_runtime edition t 0 ys b)
-          ∙ (aligned_bare xs ys (aligned edition t xs ys a b) e ∙ sym (bare_body xs))
+      ∙ (aligned_bare xs ys (aligned edition t xs ys a b) e ∙ sym (bare_body xs))

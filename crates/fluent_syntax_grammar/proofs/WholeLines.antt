@@ -82,7 +82,7 @@ module _ (t : List ℕ) where
   pub line_to : (i j : ℕ) → IsLine t i j → whole_line t i (Read tt j)
   line_to i j l =
       goes_on (goes_on at_place (goes_on (passed l.stretch) (goes_on at_place given)))
-        (chosen (past_to l.end j (after_eol t l.end) refl l.eol))
+      (chosen (past_to l.end j (after_eol t l.end) refl l.eol))
 
   place_inside : (k : ℕ) → is_line_place t k ≡ true → k < length t
   place_inside k e = let b = byte_stands (slice_get t k) (has_eol t k) e in slice_get_within t k b.1.0 b.1.1
@@ -94,9 +94,10 @@ module _ (t : List ℕ) where
   stretch_inside : (i k : ℕ) → i ≤ length t → Stretch (is_line_place t) i k → k ≤ length t
   stretch_inside i k l s =
       let forward = s.forward in
-      elim (split_at t i k)
-          [ inl x ↦ (let last = place_inside (k - 1) (s.each (k - 1) (omega arith) (omega arith)) in omega arith)
-            | inr x ↦ omega arith ]
+      elim (split_at t i k) [
+        | inl x ↦ (let last = place_inside (k - 1) (s.each (k - 1) (omega arith) (omega arith)) in omega arith)
+        | inr x ↦ omega arith
+      ]
 
   no_byte_at : (k : ℕ) → slice_get t k ≡ None → length t ≤ k
   no_byte_at k e = elim (slice_get_cases t k).1 [ inl x ↦ some_none x.2 e | inr x ↦ x.0 ]
@@ -105,8 +106,8 @@ module _ (t : List ℕ) where
   line_none i k l s e =
       let inside = stretch_inside i k l s in
       let past =
-          no_byte_at k (no_byte_stands (slice_get t k) (has_eol t k) s.longest
-            (no_eol (has_byte t lf k) (has_byte t cr k) (has_byte t lf (k + 1)) k e)) in
+      no_byte_at k (no_byte_stands (slice_get t k) (has_eol t k) s.longest
+      (no_eol (has_byte t lf k) (has_byte t cr k) (has_byte t lf (k + 1)) k e)) in
       omega arith
 
   -- a line leads to the start of a line, or to the text's end
@@ -117,15 +118,17 @@ module _ (t : List ℕ) where
   eol_inside : (k j : ℕ) → after_eol t k ≡ Some j → j ≤ length t
   eol_inside k j e = elim (eol_cases t k j e) [
     | inl x ↦ (let b = byte_found (λ b. b == lf) (slice_get t k) x.0 in let l = slice_get_within t k b.0 b.1 in
-          let f = x.1 in omega arith)
+        let f = x.1 in omega arith)
     | inr x ↦ (let b = byte_found (λ b. b == lf) (slice_get t (k + 1)) x.1 in
-          let l = slice_get_within t (k + 1) b.0 b.1 in let f = x.2 in omega arith)
+        let l = slice_get_within t (k + 1) b.0 b.1 in let f = x.2 in omega arith)
   ]
 
   pub line_in_text : (i j : ℕ) → i ≤ length t → IsLine t i j → j ≤ length t
   line_in_text i j l x =
-      elim x.eol [ inl e ↦ eol_inside x.end j e
-        | inr e ↦ (let f = line_none i x.end l x.stretch e.0 in let g = e.1 in omega arith) ]
+      elim x.eol [
+        | inl e ↦ eol_inside x.end j e
+        | inr e ↦ (let f = line_none i x.end l x.stretch e.0 in let g = e.1 in omega arith)
+      ]
 
   eol_onward : (k j : ℕ) → (after_eol t k ≡ Some j) ⊎ ((after_eol t k ≡ None) × (j ≡ k)) → k ≤ j
   eol_onward k j (inl e) = let f = eol_forward t k j e in omega arith
@@ -141,7 +144,7 @@ module _ (t : List ℕ) where
   lf_ends k j m (inl e) a b = elim (eol_cases t k j e) [
     | inl x ↦ absurd (omega arith)
     | inr x ↦ (let same : k ≡ m = omega arith in
-          subst (λ m. has_byte t lf m ≡ false) same (cr_no_lf (slice_get t k) x.0))
+        subst (λ m. has_byte t lf m ≡ false) same (cr_no_lf (slice_get t k) x.0))
   ]
   lf_ends k j m (inr e) a b = let f = e.1 in absurd (omega arith)
 
@@ -150,9 +153,10 @@ module _ (t : List ℕ) where
   no_start i j zero x a b = absurd (omega arith)
   no_start i j (suc m) x a b =
       let none : has_byte t lf m ≡ false =
-          elim (split_at t m x.end)
-            [ inl l ↦ place_no_lf m (x.stretch.each m (omega arith) l)
-            | inr l ↦ lf_ends x.end j m x.eol l (omega arith) ] in
+      elim (split_at t m x.end) [
+        | inl l ↦ place_no_lf m (x.stretch.each m (omega arith) l)
+        | inr l ↦ lf_ends x.end j m x.eol l (omega arith)
+      ] in
       let same : m ≡ suc m - 1 = omega arith in
       or_false (suc m == 0) (has_byte t lf (suc m - 1)) (not_zero m) (subst (λ k. has_byte t lf k ≡ false) same none)
 
@@ -168,8 +172,11 @@ module _ (t : List ℕ) where
       Stretch test m k → Stretch test i k
   joined_stretch test i m k l f s =
       let forward = s.forward in
-      record { forward = omega arith; each = λ n a b. elim (split_at t n m) [ inl x ↦ f n a x | inr x ↦ s.each n x b ];
-            longest = s.longest }
+      record {
+        forward = omega arith;
+        each = λ n a b. elim (split_at t n m) [ inl x ↦ f n a x | inr x ↦ s.each n x b ];
+        longest = s.longest;
+      }
 
   abbrev Eol : ℕ → ℕ → Type 0
   Eol k j = (after_eol t k ≡ Some j) ⊎ ((after_eol t k ≡ None) × (j ≡ k))
@@ -193,7 +200,7 @@ module _ (t : List ℕ) where
   none_eol : (k : ℕ) → slice_get t k ≡ None → after_eol t k ≡ None
   none_eol k e =
       no_lf_eol (has_byte t lf k) (has_byte t cr k) (has_byte t lf (k + 1)) k
-        (none_holds (λ b. b == lf) (slice_get t k) e) (none_holds (λ b. b == cr) (slice_get t k) e)
+      (none_holds (λ b. b == lf) (slice_get t k) e) (none_holds (λ b. b == cr) (slice_get t k) e)
 
   text_line : (i k j : ℕ) (span : Span) (b : ℕ) (eol : Bool) → has_eol t i ≡ eol → slice_get t i ≡ Some b →
       comment_text t eol i (Read span k) → Eol k j → IsLine t i j
@@ -207,7 +214,7 @@ module _ (t : List ℕ) where
         end = k;
         stretch = joined_stretch (is_line_place t) i m k (omega arith)
             (λ n a c. (let same : i ≡ n = omega arith in
-                    subst (λ n. is_line_place t n ≡ true) same (line_place (slice_get t i) (has_eol t i) b f e))) s;
+            subst (λ n. is_line_place t n ≡ true) same (line_place (slice_get t i) (has_eol t i) b f e))) s;
         eol = g;
       }
 
@@ -215,8 +222,11 @@ module _ (t : List ℕ) where
   rest_line : (i j : ℕ) (content : List Span) (o : Option ℕ) → slice_get t i ≡ o → comment_rest t o i (Read content j) →
       IsLine t i j
   rest_line i j content None e given =
-      record { end = i; stretch = empty_stretch i (none_place (slice_get t i) (has_eol t i) e);
-        eol = inr (none_eol i e, refl) }
+      record {
+        end = i;
+        stretch = empty_stretch i (none_place (slice_get t i) (has_eol t i) e);
+        eol = inr (none_eol i e, refl);
+      }
   rest_line i j content (Some b) e (goes_on {j = k} {a = span} (chosen x) (goes_on y given)) =
       text_line i k j span b (has_eol t i) refl e x (eol_read k j y)
 
@@ -237,9 +247,9 @@ module _ (t : List ℕ) where
   hash_place k e =
       let b = byte_found (λ c. c == 35) (slice_get t k) e in
       line_place t (slice_get t k) (has_eol t k) b.0 b.1
-          (no_line_end (has_byte t lf k) (has_byte t cr k) (has_byte t lf (k + 1))
+      (no_line_end (has_byte t lf k) (has_byte t cr k) (has_byte t lf (k + 1))
       (excludes (λ c. c == 35) (λ c. c == lf) (slice_get t k) hash_line e)
-          (excludes (λ c. c == 35) (λ c. c == cr) (slice_get t k) hash_no_cr e))
+      (excludes (λ c. c == 35) (λ c. c == cr) (slice_get t k) hash_no_cr e))
 
   hash_bytes_of : (i k : ℕ) (a b c : Bool) → has_byte t 35 i ≡ a → has_byte t 35 (i + 1) ≡ b →
       has_byte t 35 (i + 2) ≡ c → i ≤ k →
@@ -268,7 +278,7 @@ module _ (t : List ℕ) where
     end = x.end;
     stretch =
         joined_stretch t (is_line_place t) i (i + hashes t i) x.end (omega arith)
-          (λ n a b. hash_place n (hash_bytes i n a b)) x.stretch;
+        (λ n a b. hash_place n (hash_bytes i n a b)) x.stretch;
     eol = x.eol;
   }
 

@@ -77,12 +77,12 @@ module _ (t : List ℕ) (R : Family) where
   abbrev pub named_and_more : List (List ℕ) → Span → Construct (ArgumentsTree Span)
   named_and_more names name =
       either (is_used (bytes_at t name) names) (fails (DuplicatedNamedArgument (bytes_at t name))) (do
-    token t colon
-    blank t
-    e ← at_each (start t) argument_value
-    separator t
-    a ← R.more_arguments (bytes_at t name ∷ names)
-    gives (add_named name e a))
+        token t colon
+        blank t
+        e ← at_each (start t) argument_value
+        separator t
+        a ← R.more_arguments (bytes_at t name ∷ names)
+        gives (add_named name e a))
 
   -- From the end of a positional argument on: after a named one it is refused. Else the rest of the list.
   abbrev pub positional_and_more : List (List ℕ) → InlineTree Span → Construct (ArgumentsTree Span)
@@ -105,9 +105,9 @@ module _ (t : List ℕ) (R : Family) where
   more_arguments_at names None = fails (ExpectedToken right_parenthesis)
   more_arguments_at names (Some b) =
       either (b == right_parenthesis) (token t right_parenthesis >> gives (arguments no_inlines no_named)) (do
-    e ← R.inline_expression
-    is_named ← at_each (has_byte t colon) gives
-    argument_and_more names e (argument_name e) is_named)
+        e ← R.inline_expression
+        is_named ← at_each (has_byte t colon) gives
+        argument_and_more names e (argument_name e) is_named)
 
   -- the rest of an argument list, after named arguments of these names
   abbrev pub more_arguments : List (List ℕ) → Construct (ArgumentsTree Span)

@@ -1,8 +1,31 @@
 -- The bytes that the grammar names, and its sets of bytes. All are ASCII: a byte of another character is in none of the
 -- sets.
-pub use Rattle.fluent_syntax_tree.specs.Bytes.{lf, cr, space, double_quote, hash, dollar_sign, left_parenthesis,
-      right_parenthesis, asterisk, comma, hyphen, full_stop, colon, equals_sign, greater_than, capital_u, left_bracket,
-      backslash, right_bracket, underscore, small_u, left_brace, vertical_bar, right_brace}
+pub use Rattle.fluent_syntax_tree.specs.Bytes.{
+  lf,
+  cr,
+  space,
+  double_quote,
+  hash,
+  dollar_sign,
+  left_parenthesis,
+  right_parenthesis,
+  asterisk,
+  comma,
+  hyphen,
+  full_stop,
+  colon,
+  equals_sign,
+  greater_than,
+  capital_u,
+  left_bracket,
+  backslash,
+  right_bracket,
+  underscore,
+  small_u,
+  left_brace,
+  vertical_bar,
+  right_brace,
+}
 use Rattle.std.specs.Prelude.{ℕ, Bool, ◌&&◌, ◌||◌, ◌==◌, nat_le}
 use Rattle.std.specs.Char.{is_ascii_alphabetic, is_ascii_alphanumeric, is_ascii_digit}
 

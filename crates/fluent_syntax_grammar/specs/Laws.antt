@@ -61,7 +61,7 @@ abbrev pub Ascend : List ℕ → ℕ → List Fault → Type 0
 Ascend t from [] = from ≤ length t
 Ascend t from (f ∷ fs) =
     (from ≤ f.slice.start) × (f.slice.start < f.slice.end) × (f.slice.start ≤ f.pos.start) ×
-        (f.pos.start ≤ f.slice.end) × Ascend t f.slice.end fs
+    (f.pos.start ≤ f.slice.end) × Ascend t f.slice.end fs
 
 -- the stretches of a body's junk, in order
 abbrev pub junk_slice : EntryTree Span → List Span

@@ -55,7 +55,7 @@ module _ (t : List ℕ) where
   abbrev pub digits : Construct (Unit {0})
   digits =
       at_each (has t is_digit)
-        (λ found. either found (over (Word t is_digit)) (fails (ExpectedCharRange (codes "0-9"))))
+      (λ found. either found (over (Word t is_digit)) (fails (ExpectedCharRange (codes "0-9"))))
 
   -- Identifier: a letter, then the longest run of letters, digits, `-` and `_`.
   abbrev pub identifier : Construct Span

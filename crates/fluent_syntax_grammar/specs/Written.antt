@@ -148,8 +148,8 @@ abbrev mutual
   pub variant_marks : ℕ → VariantTree Text → List Mark
   variant_marks level (variant key value default) =
       default_marks level default ++
-          (literal level (codes "[") ∷ literal level (key_text key) ∷ literal level (codes "]") ∷
-            opening_mark level value ∷ elements_marks (inner_level level value) value)
+      (literal level (codes "[") ∷ literal level (key_text key) ∷ literal level (codes "]") ∷
+      opening_mark level value ∷ elements_marks (inner_level level value) value)
 
   -- A string stands in quotes, as it is spelled. A variable has a `$` and a term a `-` before its name. A placeable
   -- stands in braces.
@@ -252,13 +252,13 @@ abbrev pub message_marks : MessageTree Text → List Mark
 message_marks m =
     own_comment_marks m.comment ++
     (literal 0 m.id ∷ literal 0 (codes " =") ∷
-      (value_marks m.value ++ (attributes_marks m.attributes ++ (line_end ∷ []))))
+    (value_marks m.value ++ (attributes_marks m.attributes ++ (line_end ∷ []))))
 
 abbrev pub term_marks : TermTree Text → List Mark
 term_marks m =
     own_comment_marks m.comment ++
     (literal 0 (codes "-") ∷ literal 0 m.id ∷ literal 0 (codes " =") ∷
-      (pattern_marks 0 m.value ++ (attributes_marks m.attributes ++ (line_end ∷ []))))
+    (pattern_marks 0 m.value ++ (attributes_marks m.attributes ++ (line_end ∷ []))))
 
 -- the line end before a free comment that follows an entry which is not junk
 abbrev pub gap_marks : (follows : Bool) → List Mark

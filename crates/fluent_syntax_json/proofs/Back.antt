@@ -87,8 +87,13 @@ mutual
 
   variant-back : (v : VariantTree Text) → variant_in (variant_form v) ≡ Some v
   variant-back (variant k p d) =
-      rw (variant-is (variant_form (variant k p d)), key-back k, pattern-is (pattern_form p), elements-back p,
-        elements-list p)
+      rw (
+        variant-is (variant_form (variant k p d)),
+        key-back k,
+        pattern-is (pattern_form p),
+        elements-back p,
+        elements-list p,
+      )
 
   inline-back : (e : InlineTree Text) → inline_in (inline_form e) ≡ Some e
   inline-back (string_literal x) = rw (inline-is (inline_form (string_literal x)))
@@ -107,8 +112,13 @@ mutual
 
   arguments-back : (a : ArgumentsTree Text) → arguments_in (arguments_form a) ≡ Some a
   arguments-back (arguments ps ns) =
-      rw (arguments-is (arguments_form (arguments ps ns)), inlines-back ps, nameds-back ns, inlines-list ps,
-        nameds-list ns)
+      rw (
+        arguments-is (arguments_form (arguments ps ns)),
+        inlines-back ps,
+        nameds-back ns,
+        inlines-list ps,
+        nameds-list ns,
+      )
 
   inlines-back : (ps : InlineTrees Text) → items_by inline_in (inline_forms ps) ≡ Some (inlines_list ps)
   inlines-back no_inlines = refl

@@ -50,7 +50,7 @@ module _ {A : Type 0} (read : Data → Option A) where
   pushed f ys zs y xs i v e made h is one =
       let here : read (view (get_or xs i v)) ≡ Some (f y) = ap (λ x. read (view x)) (sym is) ∙ one in
       ap (λ l. items_by read (items_of l)) (map_more view xs i v h)
-          ∙ joined (map view (take i xs)) (view (get_or xs i v) ∷ []) ∙ rw (e, here, made, map-append f ys (y ∷ []))
+      ∙ joined (map view (take i xs)) (view (get_or xs i v) ∷ []) ∙ rw (e, here, made, map-append f ys (y ∷ []))
 
   pub finished : {T : Type 0} (f : T → A) (ys : List T) (xs items : List Value) (n : ℕ) →
       so_far items n ≡ Some (map f ys) → length items ≤ n → items ≡ xs → items_by read (items_view xs) ≡ Some (map f ys)
@@ -72,8 +72,8 @@ module _ {A : Type 0} (read : Data → Option A) where
   stopped xs items i v h is same none =
       let here : read (view (get_or items i v)) ≡ None = ap (λ x. read (view x)) (sym is) ∙ none in
       let apart =
-          ap (map view) (sym same ∙ cut items i v h)
-          ∙ map-append view (take i items) (get_or items i v ∷ drop (suc i) items) in
+      ap (map view) (sym same ∙ cut items i v h)
+      ∙ map-append view (take i items) (get_or items i v ∷ drop (suc i) items) in
       ap (λ l. items_by read (items_of l)) apart
-          ∙ joined (map view (take i items)) (view (get_or items i v) ∷ map view (drop (suc i) items))
-          ∙ rw here (none_after (items_by read (items_of (map view (take i items)))))
+      ∙ joined (map view (take i items)) (view (get_or items i v) ∷ map view (drop (suc i) items))
+      ∙ rw here (none_after (items_by read (items_of (map view (take i items)))))

@@ -121,8 +121,10 @@ inline-is (string s) = refl
 inline-is (array no_items) = refl
 inline-is (array (item d ds)) = refl
 inline-is (object ms) =
-    rw (child (λ s. s.as_arguments) (arguments_in) arguments-itself (codes "arguments") ms,
-      child (λ s. s.as_expression) (expression_in) expression-itself (codes "expression") ms)
+    rw (
+      child (λ s. s.as_arguments) (arguments_in) arguments-itself (codes "arguments") ms,
+      child (λ s. s.as_expression) (expression_in) expression-itself (codes "expression") ms,
+    )
 
 pub arguments-is : (d : Data) →
     arguments_in d
@@ -135,8 +137,10 @@ arguments-is (string s) = refl
 arguments-is (array no_items) = refl
 arguments-is (array (item d ds)) = refl
 arguments-is (object ms) =
-    rw (child (λ s. s.as_inlines) (list_by inline_in) inlines-are (codes "positional") ms,
-      child (λ s. s.as_nameds) (list_by named_in) nameds-are (codes "named") ms)
+    rw (
+      child (λ s. s.as_inlines) (list_by inline_in) inlines-are (codes "positional") ms,
+      child (λ s. s.as_nameds) (list_by named_in) nameds-are (codes "named") ms,
+    )
 
 pub named-is : (d : Data) → named_in d ≡ named_rule d (at inline_in (codes "value") d)
 unfolding named_in
@@ -161,7 +165,7 @@ variant-is (object ms) = rw (child (λ s. s.as_pattern) (pattern_in) pattern-its
 pub expression-is : (d : Data) →
     expression_in d
     ≡ expression_rule (get (codes "selector") d) (at inline_in (codes "selector") d)
-      (at (list_by variant_in) (codes "variants") d) (inline_in d)
+    (at (list_by variant_in) (codes "variants") d) (inline_in d)
 unfolding expression_in inline_in
 expression-is null = refl
 expression-is (boolean b) = refl
@@ -170,5 +174,7 @@ expression-is (string s) = refl
 expression-is (array no_items) = refl
 expression-is (array (item d ds)) = refl
 expression-is (object ms) =
-    rw (child (λ s. s.as_inline) (inline_in) inline-itself (codes "selector") ms,
-      child (λ s. s.as_variants) (list_by variant_in) variants-are (codes "variants") ms)
+    rw (
+      child (λ s. s.as_inline) (inline_in) inline-itself (codes "selector") ms,
+      child (λ s. s.as_variants) (list_by variant_in) variants-are (codes "variants") ms,
+    )

@@ -206,7 +206,7 @@ module _ (d : Data) (part : Text → Option Spelled) where
   abbrev pub inline_of_object : Option (InlineTree Text)
   inline_of_object =
       type_in d >>= inline_rule d (child (λ s. s.as_arguments) (codes "arguments"))
-          (child (λ s. s.as_expression) (codes "expression"))
+      (child (λ s. s.as_expression) (codes "expression"))
 
   -- as each of the nodes, by the rule of that node
   abbrev pub object_spelled : Spelled
@@ -215,7 +215,7 @@ module _ (d : Data) (part : Text → Option Spelled) where
     as_element = type_in d >>= element_rule d (child (λ s. s.as_expression) (codes "expression"));
     as_expression =
         expression_rule (get (codes "selector") d) (child (λ s. s.as_inline) (codes "selector"))
-          (child (λ s. s.as_variants) (codes "variants")) inline_of_object;
+        (child (λ s. s.as_variants) (codes "variants")) inline_of_object;
     as_inline = inline_of_object;
     as_arguments =
         arguments_rule (child (λ s. s.as_inlines) (codes "positional")) (child (λ s. s.as_nameds) (codes "named"));

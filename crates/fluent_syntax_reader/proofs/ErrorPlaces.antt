@@ -50,7 +50,7 @@ module _ (t : List ℕ) where
       let after = ascend_in_text f.slice.end fs up.4 in
       let place = place_told e f first in
       All-cons (λ e. e.pos.start ≤ length t) e errors (omega (arith, up.3))
-          (told_in_text f.slice.end errors fs others up.4)
+      (told_in_text f.slice.end errors fs others up.4)
 
   module _ {S X : Type 0} (text : S → X) (whole : BodyTree Span → BodyTree X) where
     given_in_text : (tiles : List Tile) (result : Result (Resource S) (ParseFault S)) →

@@ -30,8 +30,11 @@ module _ (edition : Edition) (t : List ℕ) (i j : ℕ) (before after : Tiling) 
   pub junk_tile : (k : Kind) (from to place : ℕ) → entry_at edition t i (Refused k from to) →
       failing_place k from to ≡ place → JunkEnd t place j →
       OnOk r (Takes before
-            (refused (record { kind = k; pos = record { start = from; end = to };
-                  slice = record { start = i; end = j } })) after) → OnOk r (TakesTile edition t i j before after)
+      (refused (record {
+        kind = k;
+        pos = record { start = from; end = to };
+        slice = record { start = i; end = j };
+      })) after) → OnOk r (TakesTile edition t i j before after)
   junk_tile k from to place h e end = on_ok_weaker r (λ takes. (_, refuses h (rw e end), takes))
 
 -- ---- a tiling as far as it was read
@@ -52,7 +55,7 @@ module _ (t : List ℕ) (at : (i j : ℕ) → Tile → Type 0) where
   abbrev pub ReadTo : ℕ → Tiling → Type 0
   ReadTo place tiling = (more : List Tile) → Started place more → (tiles : List Tile) × Tiled t at 0 tiles ×
       (body tiles ≡ trees_of tiling.body.items ++ following tiling.last_comment more) ×
-          (map Some (faults tiles) ≡ map fault_of tiling.errors.items ++ map Some (faults more))
+      (map Some (faults tiles) ≡ map fault_of tiling.errors.items ++ map Some (faults more))
 
   -- nothing is held yet
   pub none_read : (place : ℕ) (tiling : Tiling) → BlankBlock t 0 place → tiling.body.items ≡ [] →
@@ -74,8 +77,8 @@ module _ (t : List ℕ) (at : (i j : ℕ) → Tile → Type 0) where
         p.1,
         p.2 ∙ takes.body more,
         p.3 ∙ (ap (λ fs. map fault_of before.errors.items ++ fs) (faults_more tile more)
-              ∙ (sym (append_assoc (map fault_of before.errors.items) (map Some (faults (tile ∷ [])))
-                (map Some (faults more))) ∙ ap (λ fs. fs ++ map Some (faults more)) (sym takes.errors))),
+            ∙ (sym (append_assoc (map fault_of before.errors.items) (map Some (faults (tile ∷ [])))
+            (map Some (faults more))) ∙ ap (λ fs. fs ++ map Some (faults more)) (sym takes.errors))),
       )
 
   -- the whole text is read

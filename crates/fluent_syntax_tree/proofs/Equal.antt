@@ -119,64 +119,70 @@ module _ {X : Type 0} (S : RattleType) (E : Ghosts S.Denot) (dict : Dict) (lawfu
       ≡ ((inline_eq.ghosts S E dict).eq e d && pointwise (variant_eq.ghosts S E dict).eq vs.items ws.items)
   eq-Select e d vs ws =
       rw (expression_beta S (left (e, (vs, tt))), expression_beta S (left (d, (ws, tt)))) at
-        (expression_laws.is S E dict lawful (Select e vs) (Select d ws))
+      (expression_laws.is S E dict lawful (Select e vs) (Select d ws))
 
   eq-Inline : (e d : InlineExpression S.Denot) →
       (expression_eq.ghosts S E dict).eq (Inline e) (Inline d) ≡ (inline_eq.ghosts S E dict).eq e d
   eq-Inline e d =
       rw (expression_beta S (inr (left (e, tt))), expression_beta S (inr (left (d, tt)))) at
-        (expression_laws.is S E dict lawful (Inline e) (Inline d))
+      (expression_laws.is S E dict lawful (Inline e) (Inline d))
 
   eq-StringLiteral : (x y : S.Denot) →
       (inline_eq.ghosts S E dict).eq (inl.StringLiteral x) (inl.StringLiteral y) ≡ E.eq x y
   eq-StringLiteral x y =
       rw (inline_beta S (left (x, tt)), inline_beta S (left (y, tt))) at
-        (inline_laws.is S E dict lawful (inl.StringLiteral x) (inl.StringLiteral y))
+      (inline_laws.is S E dict lawful (inl.StringLiteral x) (inl.StringLiteral y))
 
   eq-NumberLiteral : (x y : S.Denot) →
       (inline_eq.ghosts S E dict).eq (inl.NumberLiteral x) (inl.NumberLiteral y) ≡ E.eq x y
   eq-NumberLiteral x y =
       rw (inline_beta S (inr (left (x, tt))), inline_beta S (inr (left (y, tt)))) at
-        (inline_laws.is S E dict lawful (inl.NumberLiteral x) (inl.NumberLiteral y))
+      (inline_laws.is S E dict lawful (inl.NumberLiteral x) (inl.NumberLiteral y))
 
   eq-FunctionReference : (i j : Identifier S.Denot) (a b : CallArguments S.Denot) →
       (inline_eq.ghosts S E dict).eq (inl.FunctionReference i a) (inl.FunctionReference j b)
       ≡ (E.eq i.name j.name && (arguments_eq.ghosts S E dict).eq a b)
   eq-FunctionReference i j a b =
       rw (inline_beta S (inr (inr (left (i, (a, tt))))), inline_beta S (inr (inr (left (j, (b, tt)))))) at
-        (inline_laws.is S E dict lawful (inl.FunctionReference i a) (inl.FunctionReference j b))
+      (inline_laws.is S E dict lawful (inl.FunctionReference i a) (inl.FunctionReference j b))
 
   eq-MessageReference : (i j : Identifier S.Denot) (o p : Option (Identifier S.Denot)) →
       (inline_eq.ghosts S E dict).eq (inl.MessageReference i o) (inl.MessageReference j p)
       ≡ (E.eq i.name j.name && option_eq (identifier_eq.ghosts S E dict).eq o p)
   eq-MessageReference i j o p =
       rw (inline_beta S (inr (inr (inr (left (i, (o, tt)))))), inline_beta S (inr (inr (inr (left (j, (p, tt))))))) at
-        (inline_laws.is S E dict lawful (inl.MessageReference i o) (inl.MessageReference j p))
+      (inline_laws.is S E dict lawful (inl.MessageReference i o) (inl.MessageReference j p))
 
   eq-TermReference :
       (i j : Identifier S.Denot) (o p : Option (Identifier S.Denot)) (a b : Option (CallArguments S.Denot)) →
       (inline_eq.ghosts S E dict).eq (inl.TermReference i o a) (inl.TermReference j p b)
       ≡ (E.eq i.name j.name &&
-        (option_eq (identifier_eq.ghosts S E dict).eq o p && option_eq (arguments_eq.ghosts S E dict).eq a b))
+      (option_eq (identifier_eq.ghosts S E dict).eq o p && option_eq (arguments_eq.ghosts S E dict).eq a b))
   eq-TermReference i j o p a b =
-      rw (inline_beta S (inr (inr (inr (inr (left (i, (o, (a, tt)))))))),
-        inline_beta S (inr (inr (inr (inr (left (j, (p, (b, tt))))))))) at
-          (inline_laws.is S E dict lawful (inl.TermReference i o a) (inl.TermReference j p b))
+      rw (
+        inline_beta S (inr (inr (inr (inr (left (i, (o, (a, tt)))))))),
+        inline_beta S (inr (inr (inr (inr (left (j, (p, (b, tt)))))))),
+      ) at
+      (inline_laws.is S E dict lawful (inl.TermReference i o a) (inl.TermReference j p b))
 
   eq-VariableReference : (i j : Identifier S.Denot) →
       (inline_eq.ghosts S E dict).eq (inl.VariableReference i) (inl.VariableReference j) ≡ E.eq i.name j.name
   eq-VariableReference i j =
-      rw (inline_beta S (inr (inr (inr (inr (inr (left (i, tt))))))),
-        inline_beta S (inr (inr (inr (inr (inr (left (j, tt)))))))) at
-          (inline_laws.is S E dict lawful (inl.VariableReference i) (inl.VariableReference j))
+      rw (
+        inline_beta S (inr (inr (inr (inr (inr (left (i, tt))))))),
+        inline_beta S (inr (inr (inr (inr (inr (left (j, tt))))))),
+      ) at
+      (inline_laws.is S E dict lawful (inl.VariableReference i) (inl.VariableReference j))
 
   eq-InlinePlaceable : (e d : Box (Expression S.Denot) Global) →
       (inline_eq.ghosts S E dict).eq (inl.Placeable e) (inl.Placeable d)
       ≡ (expression_eq.ghosts S E dict).eq e.value d.value
   eq-InlinePlaceable e d =
-      rw (inline_beta S (inr (inr (inr (inr (inr (inr (left (e, tt)))))))),
-        inline_beta S (inr (inr (inr (inr (inr (inr (left (d, tt))))))))) at
-          (inline_laws.is S E dict lawful (inl.Placeable e) (inl.Placeable d))
+      rw (
+        inline_beta S (inr (inr (inr (inr (inr (inr (left (e, tt)))))))),
+        inline_beta S (inr (inr (inr (inr (inr (inr (left (d, tt)))))))),
+      ) at
+      (inline_laws.is S E dict lawful (inl.Placeable e) (inl.Placeable d))
 
   eq-TextElement : (x y : S.Denot) →
       (element_eq.ghosts S E dict).eq (elem.TextElement x) (elem.TextElement y) ≡ E.eq x y
@@ -188,13 +194,13 @@ module _ {X : Type 0} (S : RattleType) (E : Ghosts S.Denot) (dict : Dict) (lawfu
 
   eq-CallArguments :
       (a b : CallArguments-F S.Denot (Expression S.Denot) (InlineExpression S.Denot) (PatternElement S.Denot)
-        (CallArguments S.Denot) (NamedArgument S.Denot) (Pattern S.Denot) (Variant S.Denot)) →
+      (CallArguments S.Denot) (NamedArgument S.Denot) (Pattern S.Denot) (Variant S.Denot)) →
       (arguments_eq.ghosts S E dict).eq (roll-CallArguments S.Denot a) (roll-CallArguments S.Denot b)
       ≡ (pointwise (inline_eq.ghosts S E dict).eq a.positional.items b.positional.items &&
-        pointwise (named_eq.ghosts S E dict).eq a.named.items b.named.items)
+      pointwise (named_eq.ghosts S E dict).eq a.named.items b.named.items)
   eq-CallArguments a b =
       rw (out-roll-CallArguments S.Denot a, out-roll-CallArguments S.Denot b) at
-        (arguments_laws.is S E dict lawful (roll-CallArguments S.Denot a) (roll-CallArguments S.Denot b))
+      (arguments_laws.is S E dict lawful (roll-CallArguments S.Denot a) (roll-CallArguments S.Denot b))
 
   -- ---- the claims
 
@@ -235,7 +241,7 @@ module _ {X : Type 0} (S : RattleType) (E : Ghosts S.Denot) (dict : Dict) (lawfu
 
   inlines_decide : (ps : List (Such ClaimI)) (bs : List (InlineExpression S.Denot)) →
       Decides (pointwise (inline_eq.ghosts S E dict).eq (map (λ p. p.0) ps) bs)
-        (inlines_of (map (inline_view text) (map (λ p. p.0) ps)) ≡ inlines_of (map (inline_view text) bs))
+      (inlines_of (map (inline_view text) (map (λ p. p.0) ps)) ≡ inlines_of (map (inline_view text) bs))
   inlines_decide [] [] = always _ refl refl
   inlines_decide [] (b ∷ bs) = never _ refl (λ q. cc)
   inlines_decide (p ∷ ps) [] = never _ refl (λ q. cc)
@@ -244,7 +250,7 @@ module _ {X : Type 0} (S : RattleType) (E : Ghosts S.Denot) (dict : Dict) (lawfu
 
   nameds_decide : (ps : List (Such ClaimN)) (bs : List (NamedArgument S.Denot)) →
       Decides (pointwise (named_eq.ghosts S E dict).eq (map (λ p. p.0) ps) bs)
-        (nameds_of (map (named_view text) (map (λ p. p.0) ps)) ≡ nameds_of (map (named_view text) bs))
+      (nameds_of (map (named_view text) (map (λ p. p.0) ps)) ≡ nameds_of (map (named_view text) bs))
   nameds_decide [] [] = always _ refl refl
   nameds_decide [] (b ∷ bs) = never _ refl (λ q. cc)
   nameds_decide (p ∷ ps) [] = never _ refl (λ q. cc)
@@ -253,7 +259,7 @@ module _ {X : Type 0} (S : RattleType) (E : Ghosts S.Denot) (dict : Dict) (lawfu
 
   elements_decide : (ps : List (Such ClaimE)) (bs : List (PatternElement S.Denot)) →
       Decides (pointwise (element_eq.ghosts S E dict).eq (map (λ p. p.0) ps) bs)
-        (elements_of (map (element_view text) (map (λ p. p.0) ps)) ≡ elements_of (map (element_view text) bs))
+      (elements_of (map (element_view text) (map (λ p. p.0) ps)) ≡ elements_of (map (element_view text) bs))
   elements_decide [] [] = always _ refl refl
   elements_decide [] (b ∷ bs) = never _ refl (λ q. cc)
   elements_decide (p ∷ ps) [] = never _ refl (λ q. cc)
@@ -262,7 +268,7 @@ module _ {X : Type 0} (S : RattleType) (E : Ghosts S.Denot) (dict : Dict) (lawfu
 
   variants_decide : (ps : List (Such ClaimV)) (bs : List (Variant S.Denot)) →
       Decides (pointwise (variant_eq.ghosts S E dict).eq (map (λ p. p.0) ps) bs)
-        (variants_of (map (variant_view text) (map (λ p. p.0) ps)) ≡ variants_of (map (variant_view text) bs))
+      (variants_of (map (variant_view text) (map (λ p. p.0) ps)) ≡ variants_of (map (variant_view text) bs))
   variants_decide [] [] = always _ refl refl
   variants_decide [] (b ∷ bs) = never _ refl (λ q. cc)
   variants_decide (p ∷ ps) [] = never _ refl (λ q. cc)
@@ -271,69 +277,69 @@ module _ {X : Type 0} (S : RattleType) (E : Ghosts S.Denot) (dict : Dict) (lawfu
 
   decide-Element :
       (y : Held (PatternElement-F S.Denot))
-        (z : PatternElement-F S.Denot (Expression S.Denot) (InlineExpression S.Denot) (PatternElement S.Denot)
-          (CallArguments S.Denot) (NamedArgument S.Denot) (Pattern S.Denot) (Variant S.Denot)) →
+      (z : PatternElement-F S.Denot (Expression S.Denot) (InlineExpression S.Denot) (PatternElement S.Denot)
+      (CallArguments S.Denot) (NamedArgument S.Denot) (Pattern S.Denot) (Variant S.Denot)) →
       let a : PatternElement S.Denot =
       roll-PatternElement S.Denot
-        (map-PatternElement S.Denot _ _ _ _ _ _ _ _ _ _ _ _ _ _ (λ e. e.0) (λ e. e.0) (λ e. e.0) (λ e. e.0) (λ e. e.0)
-          (λ e. e.0) (λ e. e.0) y) in
+      (map-PatternElement S.Denot _ _ _ _ _ _ _ _ _ _ _ _ _ _ (λ e. e.0) (λ e. e.0) (λ e. e.0) (λ e. e.0) (λ e. e.0)
+      (λ e. e.0) (λ e. e.0) y) in
       Decides ((element_eq.ghosts S E dict).eq a (roll-PatternElement S.Denot z))
-        (element_view text a ≡ element_view text (roll-PatternElement S.Denot z))
+      (element_view text a ≡ element_view text (roll-PatternElement S.Denot z))
   unfolding roll-PatternElement carrier.roll out-PatternElement carrier.out
   decide-Element (layer.TextElement x) (layer.TextElement y) =
       decides_as _ _ (eq-TextElement x y) (by_text x y)
-        (λ p. view-TextElement text x ∙ ap text_element p ∙ sym (view-TextElement text y))
-        (λ q. let e : text_element (text x) ≡ text_element (text y) =
-        sym (view-TextElement text x) ∙ q ∙ view-TextElement text y in cc e)
+      (λ p. view-TextElement text x ∙ ap text_element p ∙ sym (view-TextElement text y))
+      (λ q. let e : text_element (text x) ≡ text_element (text y) =
+      sym (view-TextElement text x) ∙ q ∙ view-TextElement text y in cc e)
   decide-Element (layer.TextElement x) (layer.PatternElement::Placeable e) =
       never _ (element_laws.is S E dict lawful _ _)
-        (λ q. let f : text_element (text x) ≡ placeable (expression_view text e) =
-        sym (view-TextElement text x) ∙ q ∙ view-Placeable text e in cc f)
+      (λ q. let f : text_element (text x) ≡ placeable (expression_view text e) =
+      sym (view-TextElement text x) ∙ q ∙ view-Placeable text e in cc f)
   decide-Element (layer.PatternElement::Placeable e) (layer.TextElement y) =
       never _ (element_laws.is S E dict lawful _ _)
-        (λ q. let f : placeable (expression_view text e.0) ≡ text_element (text y) =
-        sym (view-Placeable text e.0) ∙ q ∙ view-TextElement text y in cc f)
+      (λ q. let f : placeable (expression_view text e.0) ≡ text_element (text y) =
+      sym (view-Placeable text e.0) ∙ q ∙ view-TextElement text y in cc f)
   decide-Element (layer.PatternElement::Placeable e) (layer.PatternElement::Placeable d) =
       decides_as _ _ (eq-Placeable e.0 d) (e.1 d)
-        (λ p. view-Placeable text e.0 ∙ ap placeable p ∙ sym (view-Placeable text d))
-        (λ q. let f : placeable (expression_view text e.0) ≡ placeable (expression_view text d) =
-        sym (view-Placeable text e.0) ∙ q ∙ view-Placeable text d in cc f)
+      (λ p. view-Placeable text e.0 ∙ ap placeable p ∙ sym (view-Placeable text d))
+      (λ q. let f : placeable (expression_view text e.0) ≡ placeable (expression_view text d) =
+      sym (view-Placeable text e.0) ∙ q ∙ view-Placeable text d in cc f)
 
   decide-Expression :
       (y : Held (Expression-F S.Denot))
-        (z : Expression-F S.Denot (Expression S.Denot) (InlineExpression S.Denot) (PatternElement S.Denot)
-          (CallArguments S.Denot) (NamedArgument S.Denot) (Pattern S.Denot) (Variant S.Denot)) →
+      (z : Expression-F S.Denot (Expression S.Denot) (InlineExpression S.Denot) (PatternElement S.Denot)
+      (CallArguments S.Denot) (NamedArgument S.Denot) (Pattern S.Denot) (Variant S.Denot)) →
       let a : Expression S.Denot =
       roll-Expression S.Denot
-        (map-Expression S.Denot _ _ _ _ _ _ _ _ _ _ _ _ _ _ (λ e. e.0) (λ e. e.0) (λ e. e.0) (λ e. e.0) (λ e. e.0)
-          (λ e. e.0) (λ e. e.0) y) in
+      (map-Expression S.Denot _ _ _ _ _ _ _ _ _ _ _ _ _ _ (λ e. e.0) (λ e. e.0) (λ e. e.0) (λ e. e.0) (λ e. e.0)
+      (λ e. e.0) (λ e. e.0) y) in
       Decides ((expression_eq.ghosts S E dict).eq a (roll-Expression S.Denot z))
-        (expression_view text a ≡ expression_view text (roll-Expression S.Denot z))
+      (expression_view text a ≡ expression_view text (roll-Expression S.Denot z))
   unfolding roll-Expression carrier.roll out-Expression carrier.out
   decide-Expression (layer.Select e vs) (layer.Select d ws) =
       decides_as _ _ (eq-Select e.0 d _ ws) (decides_and _ _ (e.1 d) (variants_decide vs.items ws.items))
-          (λ h. view-Select text e.0 _
-            ∙ ap (λ k. select k (variants_of (map (variant_view text) (map (λ p. p.0) vs.items)))) h.0
-            ∙ ap (select (inline_view text d)) h.1 ∙ sym (view-Select text d ws))
-              (λ q. let f :
-            select (inline_view text e.0) (variants_of (map (variant_view text) (map (λ p. p.0) vs.items)))
-            ≡ select (inline_view text d) (variants_of (map (variant_view text) ws.items)) =
-            sym (view-Select text e.0 _) ∙ q ∙ view-Select text d ws in (cc f, cc f))
+      (λ h. view-Select text e.0 _
+      ∙ ap (λ k. select k (variants_of (map (variant_view text) (map (λ p. p.0) vs.items)))) h.0
+      ∙ ap (select (inline_view text d)) h.1 ∙ sym (view-Select text d ws))
+      (λ q. let f :
+      select (inline_view text e.0) (variants_of (map (variant_view text) (map (λ p. p.0) vs.items)))
+      ≡ select (inline_view text d) (variants_of (map (variant_view text) ws.items)) =
+      sym (view-Select text e.0 _) ∙ q ∙ view-Select text d ws in (cc f, cc f))
   decide-Expression (layer.Inline e) (layer.Inline d) =
       decides_as _ _ (eq-Inline e.0 d) (e.1 d) (λ p. view-Inline text e.0 ∙ ap inline p ∙ sym (view-Inline text d))
-        (λ q. let f : inline (inline_view text e.0) ≡ inline (inline_view text d) =
-        sym (view-Inline text e.0) ∙ q ∙ view-Inline text d in cc f)
+      (λ q. let f : inline (inline_view text e.0) ≡ inline (inline_view text d) =
+      sym (view-Inline text e.0) ∙ q ∙ view-Inline text d in cc f)
   decide-Expression y z =
       never _ (expression_laws.is S E dict lawful _ _)
-        (λ q. cc (sym
-          (view-roll-Expression text
-            (map-Expression S.Denot _ _ _ _ _ _ _ _ _ _ _ _ _ _ (λ e. e.0) (λ e. e.0) (λ e. e.0) (λ e. e.0) (λ e. e.0)
-              (λ e. e.0) (λ e. e.0) y)) ∙ q ∙ view-roll-Expression text z))
+      (λ q. cc (sym
+      (view-roll-Expression text
+      (map-Expression S.Denot _ _ _ _ _ _ _ _ _ _ _ _ _ _ (λ e. e.0) (λ e. e.0) (λ e. e.0) (λ e. e.0) (λ e. e.0)
+      (λ e. e.0) (λ e. e.0) y)) ∙ q ∙ view-roll-Expression text z))
 
   arguments_decide : (o : Option (Such ClaimA)) (b : Option (CallArguments S.Denot)) →
       Decides (option_eq (arguments_eq.ghosts S E dict).eq (option_map (λ p. p.0) o) b)
-        (arguments_of (option_map (arguments_view text) (option_map (λ p. p.0) o))
-        ≡ arguments_of (option_map (arguments_view text) b))
+      (arguments_of (option_map (arguments_view text) (option_map (λ p. p.0) o))
+      ≡ arguments_of (option_map (arguments_view text) b))
   arguments_decide None None = always _ refl refl
   arguments_decide None (Some b) = never _ refl (λ q. cc)
   arguments_decide (Some p) None = never _ refl (λ q. cc)
@@ -341,179 +347,179 @@ module _ {X : Type 0} (S : RattleType) (E : Ghosts S.Denot) (dict : Dict) (lawfu
 
   decide-Inline :
       (y : Held (InlineExpression-F S.Denot))
-        (z : InlineExpression-F S.Denot (Expression S.Denot) (InlineExpression S.Denot) (PatternElement S.Denot)
-          (CallArguments S.Denot) (NamedArgument S.Denot) (Pattern S.Denot) (Variant S.Denot)) →
+      (z : InlineExpression-F S.Denot (Expression S.Denot) (InlineExpression S.Denot) (PatternElement S.Denot)
+      (CallArguments S.Denot) (NamedArgument S.Denot) (Pattern S.Denot) (Variant S.Denot)) →
       let a : InlineExpression S.Denot =
       roll-InlineExpression S.Denot
-        (map-InlineExpression S.Denot _ _ _ _ _ _ _ _ _ _ _ _ _ _ (λ e. e.0) (λ e. e.0) (λ e. e.0) (λ e. e.0) (λ e. e.0)
-          (λ e. e.0) (λ e. e.0) y) in
+      (map-InlineExpression S.Denot _ _ _ _ _ _ _ _ _ _ _ _ _ _ (λ e. e.0) (λ e. e.0) (λ e. e.0) (λ e. e.0) (λ e. e.0)
+      (λ e. e.0) (λ e. e.0) y) in
       Decides ((inline_eq.ghosts S E dict).eq a (roll-InlineExpression S.Denot z))
-        (inline_view text a ≡ inline_view text (roll-InlineExpression S.Denot z))
+      (inline_view text a ≡ inline_view text (roll-InlineExpression S.Denot z))
   unfolding roll-InlineExpression carrier.roll out-InlineExpression carrier.out
   decide-Inline (layer.StringLiteral x) (layer.StringLiteral y) =
       decides_as _ _ (eq-StringLiteral x y) (by_text x y)
-        (λ p. view-StringLiteral text x ∙ ap string_literal p ∙ sym (view-StringLiteral text y))
-        (λ q. let e : string_literal (text x) ≡ string_literal (text y) =
-        sym (view-StringLiteral text x) ∙ q ∙ view-StringLiteral text y in cc e)
+      (λ p. view-StringLiteral text x ∙ ap string_literal p ∙ sym (view-StringLiteral text y))
+      (λ q. let e : string_literal (text x) ≡ string_literal (text y) =
+      sym (view-StringLiteral text x) ∙ q ∙ view-StringLiteral text y in cc e)
   decide-Inline (layer.NumberLiteral x) (layer.NumberLiteral y) =
       decides_as _ _ (eq-NumberLiteral x y) (by_text x y)
-        (λ p. view-NumberLiteral text x ∙ ap number_literal p ∙ sym (view-NumberLiteral text y))
-        (λ q. let e : number_literal (text x) ≡ number_literal (text y) =
-        sym (view-NumberLiteral text x) ∙ q ∙ view-NumberLiteral text y in cc e)
+      (λ p. view-NumberLiteral text x ∙ ap number_literal p ∙ sym (view-NumberLiteral text y))
+      (λ q. let e : number_literal (text x) ≡ number_literal (text y) =
+      sym (view-NumberLiteral text x) ∙ q ∙ view-NumberLiteral text y in cc e)
   decide-Inline (layer.FunctionReference i a) (layer.FunctionReference j b) =
       decides_as _ _ (eq-FunctionReference i j a.0 b) (decides_and _ _ (by_text i.name j.name) (a.1 b))
-          (λ h. view-FunctionReference text i a.0 ∙ ap (λ x. function_reference x (arguments_view text a.0)) h.0
-            ∙ ap (function_reference (text j.name)) h.1 ∙ sym (view-FunctionReference text j b))
-              (λ q. let f :
-            function_reference (text i.name) (arguments_view text a.0)
-            ≡ function_reference (text j.name) (arguments_view text b) =
-            sym (view-FunctionReference text i a.0) ∙ q ∙ view-FunctionReference text j b in (cc f, cc f))
+      (λ h. view-FunctionReference text i a.0 ∙ ap (λ x. function_reference x (arguments_view text a.0)) h.0
+      ∙ ap (function_reference (text j.name)) h.1 ∙ sym (view-FunctionReference text j b))
+      (λ q. let f :
+      function_reference (text i.name) (arguments_view text a.0)
+      ≡ function_reference (text j.name) (arguments_view text b) =
+      sym (view-FunctionReference text i a.0) ∙ q ∙ view-FunctionReference text j b in (cc f, cc f))
   decide-Inline (layer.MessageReference i o) (layer.MessageReference j p) =
       decides_as _ _ (eq-MessageReference i j o p)
-          (decides_and _ _ (by_text i.name j.name) (option_decide _ (identifier_view text) by_trees-Identifier o p))
-          (λ h. view-MessageReference text i o ∙ ap (λ x. message_reference x (option_map (identifier_view text) o)) h.0
-            ∙ ap (message_reference (text j.name)) h.1 ∙ sym (view-MessageReference text j p))
-              (λ q. let f :
-            message_reference (text i.name) (option_map (identifier_view text) o)
-            ≡ message_reference (text j.name) (option_map (identifier_view text) p) =
-            sym (view-MessageReference text i o) ∙ q ∙ view-MessageReference text j p in (cc f, cc f))
+      (decides_and _ _ (by_text i.name j.name) (option_decide _ (identifier_view text) by_trees-Identifier o p))
+      (λ h. view-MessageReference text i o ∙ ap (λ x. message_reference x (option_map (identifier_view text) o)) h.0
+      ∙ ap (message_reference (text j.name)) h.1 ∙ sym (view-MessageReference text j p))
+      (λ q. let f :
+      message_reference (text i.name) (option_map (identifier_view text) o)
+      ≡ message_reference (text j.name) (option_map (identifier_view text) p) =
+      sym (view-MessageReference text i o) ∙ q ∙ view-MessageReference text j p in (cc f, cc f))
   decide-Inline (layer.TermReference i o None) (layer.TermReference j p b) =
       decides_as _ _ (eq-TermReference i j o p None b)
-          (decides_and _ _ (by_text i.name j.name)
-            (decides_and _ _ (option_decide _ (identifier_view text) by_trees-Identifier o p)
-              (arguments_decide None b)))
+      (decides_and _ _ (by_text i.name j.name)
+      (decides_and _ _ (option_decide _ (identifier_view text) by_trees-Identifier o p)
+      (arguments_decide None b)))
       (λ h. view-TermReference text i o None
-            ∙ ap (λ x. term_reference x (option_map (identifier_view text) o)
-              (arguments_of (option_map (arguments_view text) None))) h.0
-            ∙ ap (λ x. term_reference (text j.name) x (arguments_of (option_map (arguments_view text) None))) h.1.0
-            ∙ ap (λ x. term_reference (text j.name) (option_map (identifier_view text) p) x) h.1.1
-            ∙ sym (view-TermReference text j p b))
+      ∙ ap (λ x. term_reference x (option_map (identifier_view text) o)
+      (arguments_of (option_map (arguments_view text) None))) h.0
+      ∙ ap (λ x. term_reference (text j.name) x (arguments_of (option_map (arguments_view text) None))) h.1.0
+      ∙ ap (λ x. term_reference (text j.name) (option_map (identifier_view text) p) x) h.1.1
+      ∙ sym (view-TermReference text j p b))
       (λ q. let f :
-            term_reference (text i.name) (option_map (identifier_view text) o)
-              (arguments_of (option_map (arguments_view text) None))
-            ≡ term_reference (text j.name) (option_map (identifier_view text) p)
-              (arguments_of (option_map (arguments_view text) b)) =
-            sym (view-TermReference text i o None) ∙ q ∙ view-TermReference text j p b in (cc f, (cc f, cc f)))
+      term_reference (text i.name) (option_map (identifier_view text) o)
+      (arguments_of (option_map (arguments_view text) None))
+      ≡ term_reference (text j.name) (option_map (identifier_view text) p)
+      (arguments_of (option_map (arguments_view text) b)) =
+      sym (view-TermReference text i o None) ∙ q ∙ view-TermReference text j p b in (cc f, (cc f, cc f)))
   decide-Inline (layer.TermReference i o (Some a)) (layer.TermReference j p b) =
       decides_as _ _ (eq-TermReference i j o p (Some a.0) b)
-          (decides_and _ _ (by_text i.name j.name)
-            (decides_and _ _ (option_decide _ (identifier_view text) by_trees-Identifier o p)
-              (arguments_decide (Some a) b)))
+      (decides_and _ _ (by_text i.name j.name)
+      (decides_and _ _ (option_decide _ (identifier_view text) by_trees-Identifier o p)
+      (arguments_decide (Some a) b)))
       (λ h. view-TermReference text i o (Some a.0)
-            ∙ ap (λ x. term_reference x (option_map (identifier_view text) o)
-              (arguments_of (option_map (arguments_view text) (Some a.0)))) h.0
-            ∙ ap (λ x. term_reference (text j.name) x (arguments_of (option_map (arguments_view text) (Some a.0))))
-              h.1.0 ∙ ap (λ x. term_reference (text j.name) (option_map (identifier_view text) p) x) h.1.1
-            ∙ sym (view-TermReference text j p b))
+      ∙ ap (λ x. term_reference x (option_map (identifier_view text) o)
+      (arguments_of (option_map (arguments_view text) (Some a.0)))) h.0
+      ∙ ap (λ x. term_reference (text j.name) x (arguments_of (option_map (arguments_view text) (Some a.0))))
+      h.1.0 ∙ ap (λ x. term_reference (text j.name) (option_map (identifier_view text) p) x) h.1.1
+      ∙ sym (view-TermReference text j p b))
       (λ q. let f :
-            term_reference (text i.name) (option_map (identifier_view text) o)
-              (arguments_of (option_map (arguments_view text) (Some a.0)))
-            ≡ term_reference (text j.name) (option_map (identifier_view text) p)
-              (arguments_of (option_map (arguments_view text) b)) =
-            sym (view-TermReference text i o (Some a.0)) ∙ q ∙ view-TermReference text j p b in (cc f, (cc f, cc f)))
+      term_reference (text i.name) (option_map (identifier_view text) o)
+      (arguments_of (option_map (arguments_view text) (Some a.0)))
+      ≡ term_reference (text j.name) (option_map (identifier_view text) p)
+      (arguments_of (option_map (arguments_view text) b)) =
+      sym (view-TermReference text i o (Some a.0)) ∙ q ∙ view-TermReference text j p b in (cc f, (cc f, cc f)))
   decide-Inline (layer.VariableReference i) (layer.VariableReference j) =
       decides_as _ _ (eq-VariableReference i j) (by_text i.name j.name)
-        (λ p. view-VariableReference text i ∙ ap variable_reference p ∙ sym (view-VariableReference text j))
-        (λ q. let e : variable_reference (text i.name) ≡ variable_reference (text j.name) =
-        sym (view-VariableReference text i) ∙ q ∙ view-VariableReference text j in cc e)
+      (λ p. view-VariableReference text i ∙ ap variable_reference p ∙ sym (view-VariableReference text j))
+      (λ q. let e : variable_reference (text i.name) ≡ variable_reference (text j.name) =
+      sym (view-VariableReference text i) ∙ q ∙ view-VariableReference text j in cc e)
   decide-Inline (layer.InlineExpression::Placeable e) (layer.InlineExpression::Placeable d) =
       decides_as _ _ (eq-InlinePlaceable _ d) (e.value.1 d.value)
-        (λ p. view-InlinePlaceable text _ ∙ ap inline_placeable p ∙ sym (view-InlinePlaceable text d))
-        (λ q. let f :
-        inline_placeable (expression_view text e.value.0) ≡ inline_placeable (expression_view text d.value) =
-        sym (view-InlinePlaceable text _) ∙ q ∙ view-InlinePlaceable text d in cc f)
+      (λ p. view-InlinePlaceable text _ ∙ ap inline_placeable p ∙ sym (view-InlinePlaceable text d))
+      (λ q. let f :
+      inline_placeable (expression_view text e.value.0) ≡ inline_placeable (expression_view text d.value) =
+      sym (view-InlinePlaceable text _) ∙ q ∙ view-InlinePlaceable text d in cc f)
   decide-Inline y z =
       never _ (inline_laws.is S E dict lawful _ _)
-        (λ q. cc (sym
-          (view-roll-InlineExpression text
-            (map-InlineExpression S.Denot _ _ _ _ _ _ _ _ _ _ _ _ _ _ (λ e. e.0) (λ e. e.0) (λ e. e.0) (λ e. e.0)
-              (λ e. e.0) (λ e. e.0) (λ e. e.0) y)) ∙ q ∙ view-roll-InlineExpression text z))
+      (λ q. cc (sym
+      (view-roll-InlineExpression text
+      (map-InlineExpression S.Denot _ _ _ _ _ _ _ _ _ _ _ _ _ _ (λ e. e.0) (λ e. e.0) (λ e. e.0) (λ e. e.0)
+      (λ e. e.0) (λ e. e.0) (λ e. e.0) y)) ∙ q ∙ view-roll-InlineExpression text z))
 
   decide-Arguments :
       (y : Held (CallArguments-F S.Denot))
-        (z : CallArguments-F S.Denot (Expression S.Denot) (InlineExpression S.Denot) (PatternElement S.Denot)
-          (CallArguments S.Denot) (NamedArgument S.Denot) (Pattern S.Denot) (Variant S.Denot)) →
+      (z : CallArguments-F S.Denot (Expression S.Denot) (InlineExpression S.Denot) (PatternElement S.Denot)
+      (CallArguments S.Denot) (NamedArgument S.Denot) (Pattern S.Denot) (Variant S.Denot)) →
       let a : CallArguments S.Denot =
       roll-CallArguments S.Denot
-        (map-CallArguments S.Denot _ _ _ _ _ _ _ _ _ _ _ _ _ _ (λ e. e.0) (λ e. e.0) (λ e. e.0) (λ e. e.0) (λ e. e.0)
-          (λ e. e.0) (λ e. e.0) y) in
+      (map-CallArguments S.Denot _ _ _ _ _ _ _ _ _ _ _ _ _ _ (λ e. e.0) (λ e. e.0) (λ e. e.0) (λ e. e.0) (λ e. e.0)
+      (λ e. e.0) (λ e. e.0) y) in
       Decides ((arguments_eq.ghosts S E dict).eq a (roll-CallArguments S.Denot z))
-        (arguments_view text a ≡ arguments_view text (roll-CallArguments S.Denot z))
+      (arguments_view text a ≡ arguments_view text (roll-CallArguments S.Denot z))
   decide-Arguments y z =
       decides_as _ _ (eq-CallArguments _ z)
-          (decides_and _ _ (inlines_decide y.positional.items z.positional.items)
-            (nameds_decide y.named.items z.named.items))
+      (decides_and _ _ (inlines_decide y.positional.items z.positional.items)
+      (nameds_decide y.named.items z.named.items))
       (λ h. view-roll-CallArguments text _
-            ∙ ap (λ x. arguments x (nameds_of (map (named_view text) (map (λ p. p.0) y.named.items)))) h.0
-            ∙ ap (arguments (inlines_of (map (inline_view text) z.positional.items))) h.1
-            ∙ sym (view-roll-CallArguments text z))
+      ∙ ap (λ x. arguments x (nameds_of (map (named_view text) (map (λ p. p.0) y.named.items)))) h.0
+      ∙ ap (arguments (inlines_of (map (inline_view text) z.positional.items))) h.1
+      ∙ sym (view-roll-CallArguments text z))
       (λ q. let f :
-            arguments (inlines_of (map (inline_view text) (map (λ p. p.0) y.positional.items)))
-              (nameds_of (map (named_view text) (map (λ p. p.0) y.named.items)))
-            ≡ arguments (inlines_of (map (inline_view text) z.positional.items))
-              (nameds_of (map (named_view text) z.named.items)) =
-            sym (view-roll-CallArguments text _) ∙ q ∙ view-roll-CallArguments text z in (cc f, cc f))
+      arguments (inlines_of (map (inline_view text) (map (λ p. p.0) y.positional.items)))
+      (nameds_of (map (named_view text) (map (λ p. p.0) y.named.items)))
+      ≡ arguments (inlines_of (map (inline_view text) z.positional.items))
+      (nameds_of (map (named_view text) z.named.items)) =
+      sym (view-roll-CallArguments text _) ∙ q ∙ view-roll-CallArguments text z in (cc f, cc f))
 
   decide-Named : (y : Held (NamedArgument-F S.Denot)) (b : NamedArgument S.Denot) → let a : NamedArgument S.Denot =
       roll-NamedArgument S.Denot
-        (map-NamedArgument S.Denot _ _ _ _ _ _ _ _ _ _ _ _ _ _ (λ e. e.0) (λ e. e.0) (λ e. e.0) (λ e. e.0) (λ e. e.0)
-          (λ e. e.0) (λ e. e.0) y) in
+      (map-NamedArgument S.Denot _ _ _ _ _ _ _ _ _ _ _ _ _ _ (λ e. e.0) (λ e. e.0) (λ e. e.0) (λ e. e.0) (λ e. e.0)
+      (λ e. e.0) (λ e. e.0) y) in
       Decides ((named_eq.ghosts S E dict).eq a b) (named_view text a ≡ named_view text b)
   decide-Named y b =
       decides_as _ _ (named_laws.is S E dict lawful _ b)
-          (decides_and _ _ (by_text y.name.name b.name.name) (y.value.1 b.value))
+      (decides_and _ _ (by_text y.name.name b.name.name) (y.value.1 b.value))
       (λ h. view-NamedArgument text _ ∙ ap (λ x. named_argument x (inline_view text y.value.0)) h.0
-            ∙ ap (named_argument (text b.name.name)) h.1 ∙ sym (view-NamedArgument text b))
+      ∙ ap (named_argument (text b.name.name)) h.1 ∙ sym (view-NamedArgument text b))
       (λ q. let f :
-            named_argument (text y.name.name) (inline_view text y.value.0)
-            ≡ named_argument (text b.name.name) (inline_view text b.value) =
-            sym (view-NamedArgument text _) ∙ q ∙ view-NamedArgument text b in (cc f, cc f))
+      named_argument (text y.name.name) (inline_view text y.value.0)
+      ≡ named_argument (text b.name.name) (inline_view text b.value) =
+      sym (view-NamedArgument text _) ∙ q ∙ view-NamedArgument text b in (cc f, cc f))
 
   decide-Pattern : (y : Held (Pattern-F S.Denot)) (b : Pattern S.Denot) → let a : Pattern S.Denot =
       roll-Pattern S.Denot
-        (map-Pattern S.Denot _ _ _ _ _ _ _ _ _ _ _ _ _ _ (λ e. e.0) (λ e. e.0) (λ e. e.0) (λ e. e.0) (λ e. e.0)
-          (λ e. e.0) (λ e. e.0) y) in
+      (map-Pattern S.Denot _ _ _ _ _ _ _ _ _ _ _ _ _ _ (λ e. e.0) (λ e. e.0) (λ e. e.0) (λ e. e.0) (λ e. e.0)
+      (λ e. e.0) (λ e. e.0) y) in
       Decides ((pattern_eq.ghosts S E dict).eq a b) (pattern_view text a ≡ pattern_view text b)
   decide-Pattern y b =
       decides_as _ _ (pattern_laws.is S E dict lawful _ b) (elements_decide y.elements.items b.elements.items)
-        (λ p. view-Pattern text _ ∙ p ∙ sym (view-Pattern text b))
-        (λ q. sym (view-Pattern text _) ∙ q ∙ view-Pattern text b)
+      (λ p. view-Pattern text _ ∙ p ∙ sym (view-Pattern text b))
+      (λ q. sym (view-Pattern text _) ∙ q ∙ view-Pattern text b)
 
   decide-Variant : (y : Held (Variant-F S.Denot)) (b : Variant S.Denot) → let a : Variant S.Denot =
       roll-Variant S.Denot
-        (map-Variant S.Denot _ _ _ _ _ _ _ _ _ _ _ _ _ _ (λ e. e.0) (λ e. e.0) (λ e. e.0) (λ e. e.0) (λ e. e.0)
-          (λ e. e.0) (λ e. e.0) y) in
+      (map-Variant S.Denot _ _ _ _ _ _ _ _ _ _ _ _ _ _ (λ e. e.0) (λ e. e.0) (λ e. e.0) (λ e. e.0) (λ e. e.0)
+      (λ e. e.0) (λ e. e.0) y) in
       Decides ((variant_eq.ghosts S E dict).eq a b) (variant_view text a ≡ variant_view text b)
   decide-Variant y b =
       decides_as _ _ (variant_laws.is S E dict lawful _ b)
-          (decides_and _ _ (by_trees-VariantKey y.key b.key)
-            (decides_and _ _ (y.value.1 b.value) (beq-Decides y.default b.default)))
+      (decides_and _ _ (by_trees-VariantKey y.key b.key)
+      (decides_and _ _ (y.value.1 b.value) (beq-Decides y.default b.default)))
       (λ h. view-Variant text _ ∙ ap (λ x. variant x (pattern_view text y.value.0) y.default) h.0
-            ∙ ap (λ x. variant (key_view text b.key) x y.default) h.1.0
-            ∙ ap (λ x. variant (key_view text b.key) (pattern_view text b.value) x) h.1.1 ∙ sym (view-Variant text b))
+      ∙ ap (λ x. variant (key_view text b.key) x y.default) h.1.0
+      ∙ ap (λ x. variant (key_view text b.key) (pattern_view text b.value) x) h.1.1 ∙ sym (view-Variant text b))
       (λ q. let f :
-            variant (key_view text y.key) (pattern_view text y.value.0) y.default
-            ≡ variant (key_view text b.key) (pattern_view text b.value) b.default =
-            sym (view-Variant text _) ∙ q ∙ view-Variant text b in (cc f, (cc f, cc f)))
+      variant (key_view text y.key) (pattern_view text y.value.0) y.default
+      ≡ variant (key_view text b.key) (pattern_view text b.value) b.default =
+      sym (view-Variant text _) ∙ q ∙ view-Variant text b in (cc f, (cc f, cc f)))
 
   pub by_trees-Pattern : (a b : Pattern S.Denot) →
       Decides ((pattern_eq.ghosts S E dict).eq a b) (pattern_view text a ≡ pattern_view text b)
   by_trees-Pattern =
       ind-Pattern S.Denot ClaimX ClaimI ClaimE ClaimA ClaimN ClaimP ClaimV
       (λ x y q. subst (λ x. ClaimX (roll-Expression S.Denot x)) q
-            (λ b. subst (λ b.
-              Decides ((expression_eq.ghosts S E dict).eq _ b) (expression_view text _ ≡ expression_view text b))
-                (roll-out-Expression S.Denot b) (decide-Expression y (out-Expression S.Denot b))))
+      (λ b. subst (λ b.
+      Decides ((expression_eq.ghosts S E dict).eq _ b) (expression_view text _ ≡ expression_view text b))
+      (roll-out-Expression S.Denot b) (decide-Expression y (out-Expression S.Denot b))))
       (λ x y q. subst (λ x. ClaimI (roll-InlineExpression S.Denot x)) q
-            (λ b. subst (λ b. Decides ((inline_eq.ghosts S E dict).eq _ b) (inline_view text _ ≡ inline_view text b))
-              (roll-out-InlineExpression S.Denot b) (decide-Inline y (out-InlineExpression S.Denot b))))
+      (λ b. subst (λ b. Decides ((inline_eq.ghosts S E dict).eq _ b) (inline_view text _ ≡ inline_view text b))
+      (roll-out-InlineExpression S.Denot b) (decide-Inline y (out-InlineExpression S.Denot b))))
       (λ x y q. subst (λ x. ClaimE (roll-PatternElement S.Denot x)) q
-            (λ b. subst (λ b. Decides ((element_eq.ghosts S E dict).eq _ b) (element_view text _ ≡ element_view text b))
-              (roll-out-PatternElement S.Denot b) (decide-Element y (out-PatternElement S.Denot b))))
+      (λ b. subst (λ b. Decides ((element_eq.ghosts S E dict).eq _ b) (element_view text _ ≡ element_view text b))
+      (roll-out-PatternElement S.Denot b) (decide-Element y (out-PatternElement S.Denot b))))
       (λ x y q. subst (λ x. ClaimA (roll-CallArguments S.Denot x)) q
-            (λ b. subst (λ b.
-              Decides ((arguments_eq.ghosts S E dict).eq _ b) (arguments_view text _ ≡ arguments_view text b))
-                (roll-out-CallArguments S.Denot b) (decide-Arguments y (out-CallArguments S.Denot b))))
+      (λ b. subst (λ b.
+      Decides ((arguments_eq.ghosts S E dict).eq _ b) (arguments_view text _ ≡ arguments_view text b))
+      (roll-out-CallArguments S.Denot b) (decide-Arguments y (out-CallArguments S.Denot b))))
       (λ x y q. subst (λ x. ClaimN (roll-NamedArgument S.Denot x)) q (decide-Named y))
       (λ x y q. subst (λ x. ClaimP (roll-Pattern S.Denot x)) q (decide-Pattern y))
       (λ x y q. subst (λ x. ClaimV (roll-Variant S.Denot x)) q (decide-Variant y))
@@ -528,41 +534,41 @@ module _ {X : Type 0} (S : RattleType) (E : Ghosts S.Denot) (dict : Dict) (lawfu
       Decides ((attribute_eq.ghosts S E dict).eq a b) (attribute_view text a ≡ attribute_view text b)
   by_trees-Attribute a b =
       decides_as _ _ refl (decides_and _ _ (by_text a.id.name b.id.name) (by_trees-Pattern a.value b.value)) (λ h. cc)
-        (λ q. (ap (λ x. x.id) q, ap (λ x. x.value) q))
+      (λ q. (ap (λ x. x.id) q, ap (λ x. x.value) q))
 
   value_decide : (o p : Option (Pattern S.Denot)) →
       Decides (option_eq (pattern_eq.ghosts S E dict).eq o p)
-        (option_map (pattern_view text) o ≡ option_map (pattern_view text) p)
+      (option_map (pattern_view text) o ≡ option_map (pattern_view text) p)
   value_decide o p = option_decide (pattern_eq.ghosts S E dict).eq (pattern_view text) by_trees-Pattern o p
 
   attributes_decide : (xs ys : List (Attribute S.Denot)) →
       Decides (pointwise (attribute_eq.ghosts S E dict).eq xs ys)
-        (map (attribute_view text) xs ≡ map (attribute_view text) ys)
+      (map (attribute_view text) xs ≡ map (attribute_view text) ys)
   attributes_decide xs ys = list_decide (attribute_eq.ghosts S E dict).eq (attribute_view text) by_trees-Attribute xs ys
 
   hung_decide : (o p : Option (Comment S.Denot)) →
       Decides (option_eq (comment_eq.ghosts S E dict).eq o p)
-        (option_map (comment_view text) o ≡ option_map (comment_view text) p)
+      (option_map (comment_view text) o ≡ option_map (comment_view text) p)
   hung_decide o p = option_decide (comment_eq.ghosts S E dict).eq (comment_view text) by_trees-Comment o p
 
   pub by_trees-Message : (a b : Message S.Denot) →
       Decides ((message_eq.ghosts S E dict).eq a b) (message_view text a ≡ message_view text b)
   by_trees-Message a b =
       decides_as _ _ refl
-          (decides_and _ _ (by_text a.id.name b.id.name)
-            (decides_and _ _ (value_decide a.value b.value)
-              (decides_and _ _ (attributes_decide a.attributes.items b.attributes.items)
-                (hung_decide a.comment b.comment))))
+      (decides_and _ _ (by_text a.id.name b.id.name)
+      (decides_and _ _ (value_decide a.value b.value)
+      (decides_and _ _ (attributes_decide a.attributes.items b.attributes.items)
+      (hung_decide a.comment b.comment))))
       (λ h. cc) (λ q. (ap (λ x. x.id) q, (ap (λ x. x.value) q, (ap (λ x. x.attributes) q, ap (λ x. x.comment) q))))
 
   pub by_trees-Term : (a b : Term S.Denot) →
       Decides ((term_eq.ghosts S E dict).eq a b) (term_view text a ≡ term_view text b)
   by_trees-Term a b =
       decides_as _ _ refl
-          (decides_and _ _ (by_text a.id.name b.id.name)
-            (decides_and _ _ (by_trees-Pattern a.value b.value)
-              (decides_and _ _ (attributes_decide a.attributes.items b.attributes.items)
-                (hung_decide a.comment b.comment))))
+      (decides_and _ _ (by_text a.id.name b.id.name)
+      (decides_and _ _ (by_trees-Pattern a.value b.value)
+      (decides_and _ _ (attributes_decide a.attributes.items b.attributes.items)
+      (hung_decide a.comment b.comment))))
       (λ h. cc) (λ q. (ap (λ x. x.id) q, (ap (λ x. x.value) q, (ap (λ x. x.attributes) q, ap (λ x. x.comment) q))))
 
   pub by_trees-Entry : (a b : Entry S.Denot) →

@@ -223,16 +223,42 @@ module _ {S X : Type 0} (text : S → X) (P : X → Type 0) where
       subst (arguments_every P) (sym (view-CallArguments text a)) (list_inlines P _ h.0, list_nameds P _ h.1)
 
 -- a value's parts from the value
-pub ruleset everys =
-    (every-Select, every-Inline, every-StringLiteral, every-NumberLiteral, every-FunctionReference,
-      every-MessageReference, every-TermReference, every-VariableReference, every-InlinePlaceable, every-TextElement,
-      every-Placeable, every-Variant, every-NamedArgument, every-Pattern, every-CallArguments)
+pub ruleset everys = (
+  every-Select,
+  every-Inline,
+  every-StringLiteral,
+  every-NumberLiteral,
+  every-FunctionReference,
+  every-MessageReference,
+  every-TermReference,
+  every-VariableReference,
+  every-InlinePlaceable,
+  every-TextElement,
+  every-Placeable,
+  every-Variant,
+  every-NamedArgument,
+  every-Pattern,
+  every-CallArguments,
+)
 
 -- a value from its parts
-pub ruleset of_parts =
-    (of-Select, of-Inline, of-StringLiteral, of-NumberLiteral, of-FunctionReference, of-MessageReference,
-      of-TermReference, of-VariableReference, of-InlinePlaceable, of-TextElement, of-Placeable, of-Variant,
-      of-NamedArgument, of-Pattern, of-CallArguments)
+pub ruleset of_parts = (
+  of-Select,
+  of-Inline,
+  of-StringLiteral,
+  of-NumberLiteral,
+  of-FunctionReference,
+  of-MessageReference,
+  of-TermReference,
+  of-VariableReference,
+  of-InlinePlaceable,
+  of-TextElement,
+  of-Placeable,
+  of-Variant,
+  of-NamedArgument,
+  of-Pattern,
+  of-CallArguments,
+)
 
 -- ---- what always holds
 
@@ -334,7 +360,20 @@ entry_always (junk x) = tt
 pub body_always : {X : Type 0} (b : BodyTree X) → body_every Always b
 body_always b = list_each (entry_every Always) b entry_always
 
-pub ruleset always =
-    (option_always, key_always, expression_always, inline_always, arguments_always, named_always, element_always,
-      pattern_always, variant_always, lines_always, attribute_always, message_always, term_always, entry_always,
-      body_always)
+pub ruleset always = (
+  option_always,
+  key_always,
+  expression_always,
+  inline_always,
+  arguments_always,
+  named_always,
+  element_always,
+  pattern_always,
+  variant_always,
+  lines_always,
+  attribute_always,
+  message_always,
+  term_always,
+  entry_always,
+  body_always,
+)

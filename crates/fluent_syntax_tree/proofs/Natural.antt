@@ -102,8 +102,8 @@ module _ {S X Y : Type 0} (g : S → X) (f : X → Y) where
 
   step-Expression : (y : Held (Expression-F S)) →
       ClaimX (roll-Expression S
-        (map-Expression S _ _ _ _ _ _ _ _ _ _ _ _ _ _ (λ e. e.0) (λ e. e.0) (λ e. e.0) (λ e. e.0) (λ e. e.0) (λ e. e.0)
-          (λ e. e.0) y))
+      (map-Expression S _ _ _ _ _ _ _ _ _ _ _ _ _ _ (λ e. e.0) (λ e. e.0) (λ e. e.0) (λ e. e.0) (λ e. e.0) (λ e. e.0)
+      (λ e. e.0) y))
   unfolding roll-Expression carrier.roll
   step-Expression (layer.Select e vs) =
       view-Select _ e.0 _ ∙ ap (λ x. select x (variants_of (map (variant_view fg) (map (λ p. p.0) vs.items)))) e.1
@@ -113,8 +113,8 @@ module _ {S X Y : Type 0} (g : S → X) (f : X → Y) where
 
   step-Inline : (y : Held (InlineExpression-F S)) →
       ClaimI (roll-InlineExpression S
-        (map-InlineExpression S _ _ _ _ _ _ _ _ _ _ _ _ _ _ (λ e. e.0) (λ e. e.0) (λ e. e.0) (λ e. e.0) (λ e. e.0)
-          (λ e. e.0) (λ e. e.0) y))
+      (map-InlineExpression S _ _ _ _ _ _ _ _ _ _ _ _ _ _ (λ e. e.0) (λ e. e.0) (λ e. e.0) (λ e. e.0) (λ e. e.0)
+      (λ e. e.0) (λ e. e.0) y))
   unfolding roll-InlineExpression carrier.roll
   step-Inline (layer.StringLiteral x) = view-StringLiteral _ x ∙ sym (ap (inline_map f) (view-StringLiteral g x))
   step-Inline (layer.NumberLiteral x) = view-NumberLiteral _ x ∙ sym (ap (inline_map f) (view-NumberLiteral g x))
@@ -129,9 +129,9 @@ module _ {S X Y : Type 0} (g : S → X) (f : X → Y) where
       ∙ sym (ap (inline_map f) (view-TermReference g i o None))
   step-Inline (layer.TermReference i o (Some a)) =
       view-TermReference _ i o (Some a.0)
-          ∙ ap (λ x. term_reference (fg i.name) x (some_arguments (arguments_view fg a.0))) (names_claimed o)
-          ∙ ap (λ x. term_reference (fg i.name) (option_texts f (option_map (identifier_view g) o)) (some_arguments x))
-            a.1 ∙ sym (ap (inline_map f) (view-TermReference g i o (Some a.0)))
+      ∙ ap (λ x. term_reference (fg i.name) x (some_arguments (arguments_view fg a.0))) (names_claimed o)
+      ∙ ap (λ x. term_reference (fg i.name) (option_texts f (option_map (identifier_view g) o)) (some_arguments x))
+      a.1 ∙ sym (ap (inline_map f) (view-TermReference g i o (Some a.0)))
   step-Inline (layer.VariableReference i) =
       view-VariableReference _ i ∙ sym (ap (inline_map f) (view-VariableReference g i))
   step-Inline (layer.InlineExpression::Placeable e) =
@@ -139,8 +139,8 @@ module _ {S X Y : Type 0} (g : S → X) (f : X → Y) where
 
   step-Element : (y : Held (PatternElement-F S)) →
       ClaimE (roll-PatternElement S
-        (map-PatternElement S _ _ _ _ _ _ _ _ _ _ _ _ _ _ (λ e. e.0) (λ e. e.0) (λ e. e.0) (λ e. e.0) (λ e. e.0)
-          (λ e. e.0) (λ e. e.0) y))
+      (map-PatternElement S _ _ _ _ _ _ _ _ _ _ _ _ _ _ (λ e. e.0) (λ e. e.0) (λ e. e.0) (λ e. e.0) (λ e. e.0)
+      (λ e. e.0) (λ e. e.0) y))
   unfolding roll-PatternElement carrier.roll
   step-Element (layer.TextElement x) = view-TextElement _ x ∙ sym (ap (element_map f) (view-TextElement g x))
   step-Element (layer.PatternElement::Placeable e) =
@@ -148,33 +148,33 @@ module _ {S X Y : Type 0} (g : S → X) (f : X → Y) where
 
   step-Arguments : (y : Held (CallArguments-F S)) →
       ClaimA (roll-CallArguments S
-        (map-CallArguments S _ _ _ _ _ _ _ _ _ _ _ _ _ _ (λ e. e.0) (λ e. e.0) (λ e. e.0) (λ e. e.0) (λ e. e.0)
-          (λ e. e.0) (λ e. e.0) y))
+      (map-CallArguments S _ _ _ _ _ _ _ _ _ _ _ _ _ _ (λ e. e.0) (λ e. e.0) (λ e. e.0) (λ e. e.0) (λ e. e.0)
+      (λ e. e.0) (λ e. e.0) y))
   step-Arguments y =
       view-roll-CallArguments _ _
       ∙ ap (λ x. arguments x (nameds_of (map (named_view fg) (map (λ p. p.0) y.named.items))))
-        (inlines_claimed y.positional.items)
+      (inlines_claimed y.positional.items)
       ∙ ap (arguments (inlines_map f (inlines_of (map (inline_view g) (map (λ p. p.0) y.positional.items)))))
-        (nameds_claimed y.named.items) ∙ sym (ap (arguments_map f) (view-roll-CallArguments g _))
+      (nameds_claimed y.named.items) ∙ sym (ap (arguments_map f) (view-roll-CallArguments g _))
 
   step-Named : (y : Held (NamedArgument-F S)) →
       ClaimN (roll-NamedArgument S
-        (map-NamedArgument S _ _ _ _ _ _ _ _ _ _ _ _ _ _ (λ e. e.0) (λ e. e.0) (λ e. e.0) (λ e. e.0) (λ e. e.0)
-          (λ e. e.0) (λ e. e.0) y))
+      (map-NamedArgument S _ _ _ _ _ _ _ _ _ _ _ _ _ _ (λ e. e.0) (λ e. e.0) (λ e. e.0) (λ e. e.0) (λ e. e.0)
+      (λ e. e.0) (λ e. e.0) y))
   step-Named y =
       view-NamedArgument _ _ ∙ ap (named_argument (fg y.name.name)) y.value.1
       ∙ sym (ap (named_map f) (view-NamedArgument g _))
 
   step-Pattern : (y : Held (Pattern-F S)) →
       ClaimP (roll-Pattern S
-        (map-Pattern S _ _ _ _ _ _ _ _ _ _ _ _ _ _ (λ e. e.0) (λ e. e.0) (λ e. e.0) (λ e. e.0) (λ e. e.0) (λ e. e.0)
-          (λ e. e.0) y))
+      (map-Pattern S _ _ _ _ _ _ _ _ _ _ _ _ _ _ (λ e. e.0) (λ e. e.0) (λ e. e.0) (λ e. e.0) (λ e. e.0) (λ e. e.0)
+      (λ e. e.0) y))
   step-Pattern y = view-Pattern _ _ ∙ elements_claimed y.elements.items ∙ sym (ap (pattern_map f) (view-Pattern g _))
 
   step-Variant : (y : Held (Variant-F S)) →
       ClaimV (roll-Variant S
-        (map-Variant S _ _ _ _ _ _ _ _ _ _ _ _ _ _ (λ e. e.0) (λ e. e.0) (λ e. e.0) (λ e. e.0) (λ e. e.0) (λ e. e.0)
-          (λ e. e.0) y))
+      (map-Variant S _ _ _ _ _ _ _ _ _ _ _ _ _ _ (λ e. e.0) (λ e. e.0) (λ e. e.0) (λ e. e.0) (λ e. e.0) (λ e. e.0)
+      (λ e. e.0) y))
   step-Variant y =
       view-Variant _ _ ∙ ap (λ k. variant k (pattern_view fg y.value.0) y.default) (key_claimed y.key)
       ∙ ap (λ p. variant (key_map f (key_view g y.key)) p y.default) y.value.1

@@ -45,7 +45,7 @@ module _ {S X : Type 0} (text : S → X) where
   pub view-TermReference : (i : Identifier S) (o : Option (Identifier S)) (a : Option (CallArguments S)) →
       inline_view text (inl.TermReference i o a)
       ≡ term_reference (text i.name) (option_map (identifier_view text) o)
-        (arguments_of (option_map (arguments_view text) a))
+      (arguments_of (option_map (arguments_view text) a))
   unfolding expression_view inline_view element_view arguments_view named_view pattern_view variant_view
   view-TermReference i o a = search (rules, the_lemmas)
 
@@ -84,7 +84,7 @@ module _ {S X : Type 0} (text : S → X) where
   pub view-CallArguments : (a : CallArguments S) →
       arguments_view text a
       ≡ arguments (inlines_of (map (inline_view text) (out-CallArguments S a).positional.items))
-        (nameds_of (map (named_view text) (out-CallArguments S a).named.items))
+      (nameds_of (map (named_view text) (out-CallArguments S a).named.items))
   unfolding expression_view inline_view element_view arguments_view named_view pattern_view variant_view
   view-CallArguments a = search (rules, the_lemmas)
 
@@ -92,55 +92,68 @@ module _ {S X : Type 0} (text : S → X) where
   pub view-roll-CallArguments : (a : CallArguments-F S _ _ _ _ _ _ _) →
       arguments_view text (roll-CallArguments S a)
       ≡ arguments (inlines_of (map (inline_view text) a.positional.items))
-        (nameds_of (map (named_view text) a.named.items))
+      (nameds_of (map (named_view text) a.named.items))
   view-roll-CallArguments a =
       view-CallArguments (roll-CallArguments S a)
-          ∙ ap (λ x. arguments (inlines_of (map (inline_view text) x.positional.items))
-            (nameds_of (map (named_view text) x.named.items))) (out-roll-CallArguments S a)
+      ∙ ap (λ x. arguments (inlines_of (map (inline_view text) x.positional.items))
+      (nameds_of (map (named_view text) x.named.items))) (out-roll-CallArguments S a)
 
   -- one equation for every form
   pub view-roll-Expression :
       (z : Expression-F S (Expression S) (InlineExpression S) (PatternElement S) (CallArguments S) (NamedArgument S)
-        (Pattern S) (Variant S)) →
+      (Pattern S) (Variant S)) →
       expression_view text (roll-Expression S z)
       ≡ expression_step text
-        (map-Expression S _ _ _ _ _ _ _ _ _ _ _ _ _ _ (expression_view text) (inline_view text) (element_view text)
-          (arguments_view text) (named_view text) (pattern_view text) (variant_view text) z)
+      (map-Expression S _ _ _ _ _ _ _ _ _ _ _ _ _ _ (expression_view text) (inline_view text) (element_view text)
+      (arguments_view text) (named_view text) (pattern_view text) (variant_view text) z)
   unfolding expression_view inline_view element_view arguments_view named_view pattern_view variant_view
   view-roll-Expression z = search (rules, the_lemmas)
 
   -- one equation for every form
   pub view-roll-InlineExpression :
       (z : InlineExpression-F S (Expression S) (InlineExpression S) (PatternElement S) (CallArguments S)
-        (NamedArgument S) (Pattern S) (Variant S)) →
+      (NamedArgument S) (Pattern S) (Variant S)) →
       inline_view text (roll-InlineExpression S z)
       ≡ inline_step text
-        (map-InlineExpression S _ _ _ _ _ _ _ _ _ _ _ _ _ _ (expression_view text) (inline_view text)
-          (element_view text) (arguments_view text) (named_view text) (pattern_view text) (variant_view text) z)
+      (map-InlineExpression S _ _ _ _ _ _ _ _ _ _ _ _ _ _ (expression_view text) (inline_view text)
+      (element_view text) (arguments_view text) (named_view text) (pattern_view text) (variant_view text) z)
   unfolding expression_view inline_view element_view arguments_view named_view pattern_view variant_view
   view-roll-InlineExpression z = search (rules, the_lemmas)
 
-pub ruleset views =
-    (view-Select, view-Inline, view-StringLiteral, view-NumberLiteral, view-FunctionReference, view-MessageReference,
-      view-TermReference, view-VariableReference, view-InlinePlaceable, view-TextElement, view-Placeable, view-Pattern,
-      view-Variant, view-NamedArgument, view-CallArguments)
+pub ruleset views = (
+  view-Select,
+  view-Inline,
+  view-StringLiteral,
+  view-NumberLiteral,
+  view-FunctionReference,
+  view-MessageReference,
+  view-TermReference,
+  view-VariableReference,
+  view-InlinePlaceable,
+  view-TextElement,
+  view-Placeable,
+  view-Pattern,
+  view-Variant,
+  view-NamedArgument,
+  view-CallArguments,
+)
 
 -- Two values that stand for one tree, from their parts.
 module _ {S T X : Type 0} (f : S → X) (h : T → X) where
   pub same-TermReference :
       (i : Identifier S) (j : Identifier T) (o : Option (Identifier S)) (p : Option (Identifier T))
-        (a : Option (CallArguments S)) (b : Option (CallArguments T)) (d : InlineExpression T) →
+      (a : Option (CallArguments S)) (b : Option (CallArguments T)) (d : InlineExpression T) →
       d ≡ inl.TermReference j p b → f i.name ≡ h j.name →
       option_map (identifier_view f) o ≡ option_map (identifier_view h) p →
       option_map (arguments_view f) a ≡ option_map (arguments_view h) b →
       inline_view f (inl.TermReference i o a) ≡ inline_view h d
   same-TermReference i j o p a b d is name attribute given =
       view-TermReference f i o a
-          ∙ ap (λ x. term_reference x (option_map (identifier_view f) o)
-            (arguments_of (option_map (arguments_view f) a))) name
-          ∙ ap (λ x. term_reference (h j.name) x (arguments_of (option_map (arguments_view f) a))) attribute
-          ∙ ap (λ x. term_reference (h j.name) (option_map (identifier_view h) p) (arguments_of x)) given
-          ∙ sym (view-TermReference h j p b) ∙ ap (inline_view h) (sym is)
+      ∙ ap (λ x. term_reference x (option_map (identifier_view f) o)
+      (arguments_of (option_map (arguments_view f) a))) name
+      ∙ ap (λ x. term_reference (h j.name) x (arguments_of (option_map (arguments_view f) a))) attribute
+      ∙ ap (λ x. term_reference (h j.name) (option_map (identifier_view h) p) (arguments_of x)) given
+      ∙ sym (view-TermReference h j p b) ∙ ap (inline_view h) (sym is)
 
   pub same-CallArguments : (a : CallArguments-F S _ _ _ _ _ _ _) (b : CallArguments T) →
       map (inline_view f) a.positional.items ≡ map (inline_view h) (out-CallArguments T b).positional.items →
@@ -148,8 +161,8 @@ module _ {S T X : Type 0} (f : S → X) (h : T → X) where
       arguments_view f (roll-CallArguments S a) ≡ arguments_view h b
   same-CallArguments a b ps ns =
       view-CallArguments f (roll-CallArguments S a)
-          ∙ ap (λ x. arguments (inlines_of (map (inline_view f) x.positional.items))
-            (nameds_of (map (named_view f) x.named.items))) (out-roll-CallArguments S a)
-          ∙ ap (λ x. arguments (inlines_of x) (nameds_of (map (named_view f) a.named.items))) ps
-          ∙ ap (λ x. arguments (inlines_of (map (inline_view h) (out-CallArguments T b).positional.items))
-            (nameds_of x)) ns ∙ sym (view-CallArguments h b)
+      ∙ ap (λ x. arguments (inlines_of (map (inline_view f) x.positional.items))
+      (nameds_of (map (named_view f) x.named.items))) (out-roll-CallArguments S a)
+      ∙ ap (λ x. arguments (inlines_of x) (nameds_of (map (named_view f) a.named.items))) ps
+      ∙ ap (λ x. arguments (inlines_of (map (inline_view h) (out-CallArguments T b).positional.items))
+      (nameds_of x)) ns ∙ sym (view-CallArguments h b)

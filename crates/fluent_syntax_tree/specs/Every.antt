@@ -69,7 +69,7 @@ module _ {X : Type 0} (P : X → Type 0) where
   abbrev pub message_every : MessageTree X → Type 0
   message_every m =
       P m.id × option_every (pattern_every P) m.value × list_every attribute_every m.attributes ×
-          option_every (list_every P) m.comment
+      option_every (list_every P) m.comment
 
   abbrev pub term_every : TermTree X → Type 0
   term_every m =

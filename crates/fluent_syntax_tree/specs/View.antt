@@ -34,7 +34,7 @@ module _ {S X : Type 0} (text : S → X) where
   abbrev pub Layer : (F : (A B C D E G H : Type 0) → Type 0) → Type 0
   Layer F =
       F (ExpressionTree X) (InlineTree X) (ElementTree X) (ArgumentsTree X) (NamedTree X) (PatternTree X)
-        (VariantTree X)
+      (VariantTree X)
 
   -- one level, with the trees of what it holds in their places
   abbrev pub expression_step : Layer (Expression-F S) → ExpressionTree X
@@ -69,37 +69,37 @@ module _ {S X : Type 0} (text : S → X) where
   unfoldable pub expression_view : Expression S → ExpressionTree X
   expression_view =
       fold-Expression S _ _ _ _ _ _ _ expression_step inline_step element_step arguments_step named_step pattern_step
-        variant_step
+      variant_step
 
   unfoldable pub inline_view : InlineExpression S → InlineTree X
   inline_view =
       fold-InlineExpression S _ _ _ _ _ _ _ expression_step inline_step element_step arguments_step named_step
-        pattern_step variant_step
+      pattern_step variant_step
 
   unfoldable pub element_view : PatternElement S → ElementTree X
   element_view =
       fold-PatternElement S _ _ _ _ _ _ _ expression_step inline_step element_step arguments_step named_step
-        pattern_step variant_step
+      pattern_step variant_step
 
   unfoldable pub arguments_view : CallArguments S → ArgumentsTree X
   arguments_view =
       fold-CallArguments S _ _ _ _ _ _ _ expression_step inline_step element_step arguments_step named_step pattern_step
-        variant_step
+      variant_step
 
   unfoldable pub named_view : NamedArgument S → NamedTree X
   named_view =
       fold-NamedArgument S _ _ _ _ _ _ _ expression_step inline_step element_step arguments_step named_step pattern_step
-        variant_step
+      variant_step
 
   unfoldable pub pattern_view : Pattern S → PatternTree X
   pattern_view =
       fold-Pattern S _ _ _ _ _ _ _ expression_step inline_step element_step arguments_step named_step pattern_step
-        variant_step
+      variant_step
 
   unfoldable pub variant_view : Variant S → VariantTree X
   variant_view =
       fold-Variant S _ _ _ _ _ _ _ expression_step inline_step element_step arguments_step named_step pattern_step
-        variant_step
+      variant_step
 
   abbrev pub comment_view : Comment S → List X
   comment_view c = map text c.content.items

@@ -19,14 +19,14 @@ column_is t place start h before starts line =
     let b = take place t in
     let len : length b ≡ place = length-take-le place t h in
     let each : (k : ℕ) → start ≤ k → k < length b → not (get_or b k 0 == 10) ≡ true =
-        λ k f l. let inside : k < place = omega (arith, len) in
-        subst (λ x. not (x == 10) ≡ true) (sym (get_or-take place t k 0 inside))
-          (other (get_or t k 0) (line k f inside)) in
+    λ k f l. let inside : k < place = omega (arith, len) in
+    subst (λ x. not (x == 10) ≡ true) (sym (get_or-take place t k 0 inside))
+    (other (get_or t k 0) (line k f inside)) in
     let stop : 0 < start → not (get_or b (start - 1) 0 == 10) ≡ false =
-        λ f. let inside : start - 1 < place = omega arith in
-        subst (λ x. not (x == 10) ≡ false) (sym (get_or-take place t (start - 1) 0 inside))
-          (same (get_or t (start - 1) 0) (starts f)) in
+    λ f. let inside : start - 1 < place = omega arith in
+    subst (λ x. not (x == 10) ≡ false) (sym (get_or-take place t (start - 1) 0 inside))
+    (same (get_or t (start - 1) 0) (starts f)) in
     let within : start ≤ length b = omega (arith, len) in
     let e : suffix_len (λ x. not (x == 10)) b ≡ length b - start =
-        suffix_len_is (λ x. not (x == 10)) b start 0 within each stop in
+    suffix_len_is (λ x. not (x == 10)) b start 0 within each stop in
     omega (arith, e, len)

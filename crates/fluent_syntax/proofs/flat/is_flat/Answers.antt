@@ -8,13 +8,13 @@ loop-byte-preserved c =
     let i = c.loop-byte.byte-index in
     let text = c.args.text.now in
     let here : may_stand (starts_line text i) (get_or text i 0) ≡ true =
-        ap (λ first. may_stand first (get_or text i 0)) (sym c.loop-byte.invariant.start)
-        ∙ ap (λ xs. may_stand c.loop-byte.starts_line (get_or xs i 0)) (sym c.loop-byte.invariant.bytes)
-        ∙ sym c.can_stand.ensures ∙ search rules in
+    ap (λ first. may_stand first (get_or text i 0)) (sym c.loop-byte.invariant.start)
+    ∙ ap (λ xs. may_stand c.loop-byte.starts_line (get_or xs i 0)) (sym c.loop-byte.invariant.bytes)
+    ∙ sym c.can_stand.ensures ∙ search rules in
     record {
       bytes = c.loop-byte.invariant.bytes;
       start =
           subst (λ xs. nat_eq (get_or xs i 0) 10 ≡ starts_line text (i + 1)) (sym c.loop-byte.invariant.bytes)
-            (starts_line-next text i);
+          (starts_line-next text i);
       each = below_more _ _ c.loop-byte.invariant.each here;
     }

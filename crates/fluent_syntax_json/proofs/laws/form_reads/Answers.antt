@@ -11,7 +11,7 @@ returns-clause-spelled c = λ v is. ap body_in is ∙ body-back (resource_view s
 pub returns-clause-alone : goal.returns-clause-alone
 returns-clause-alone c = λ v other is reads.
     one_reading (body_in v) other (resource_view string_bytes c.args.r.now) reads
-        (ap body_in is ∙ body-back (resource_view string_bytes c.args.r.now))
+    (ap body_in is ∙ body-back (resource_view string_bytes c.args.r.now))
 
 pub returns-clause-unique : goal.returns-clause-unique
 returns-clause-unique c = λ v one other. one_reading (body_in v) one other

@@ -11,8 +11,11 @@ pub returns-in-Ok-lines-clause-text : goal.returns-in-Ok-lines-clause-text
 returns-in-Ok-lines-clause-text c =
     let h = c.in-Err-Syntax.ensures.tiling in
     let told =
-        subst (λ (f : ParseFault Span). Answers (λ (s : Span). s) (λ (b : BodyTree Span). b) h.0 (Err f))
-          c.in-Err-Syntax.field-0-is h.2 in
-    (h.0, h.1, c.in-Ok-lines.ensures
+    subst (λ (f : ParseFault Span). Answers (λ (s : Span). s) (λ (b : BodyTree Span). b) h.0 (Err f))
+    c.in-Err-Syntax.field-0-is h.2 in (
+      h.0,
+      h.1,
+      c.in-Ok-lines.ensures
           ∙ lines_of_faults c.args.text.now c.in-Err-Syntax.errors.items (faults h.0) told.1,
-            outcome_of_faults (faults h.0) told.2)
+      outcome_of_faults (faults h.0) told.2,
+    )

@@ -13,9 +13,9 @@ pub returns-in-Err-Syntax-clause-text : goal.returns-in-Err-Syntax-clause-text
 returns-in-Err-Syntax-clause-text c =
     IfOk-weaker c.written-in-Err-Syntax.result _ _ (λ answer h t tiles told.
     let same =
-        subst (λ (f : ParseFault (Bor (List ℕ))). Answers (λ (s : Bor (List ℕ)). s.now) (body_map (bytes_at t)) tiles
-          (Err f)) c.in-Err-Syntax.field-0-is
-            (subst (λ r. Answers (λ (s : Bor (List ℕ)). s.now) (body_map (bytes_at t)) tiles r) c.in-Err-Syntax.is
-              told) in
+    subst (λ (f : ParseFault (Bor (List ℕ))). Answers (λ (s : Bor (List ℕ)). s.now) (body_map (bytes_at t)) tiles
+    (Err f)) c.in-Err-Syntax.field-0-is
+    (subst (λ r. Answers (λ (s : Bor (List ℕ)). s.now) (body_map (bytes_at t)) tiles r) c.in-Err-Syntax.is
+    told) in
     (h.0 ∙ ap (written false) same.0, h.1 ∙ outcome_of_faults (faults tiles) same.2))
-        c.written-in-Err-Syntax.ensures.text
+    c.written-in-Err-Syntax.ensures.text

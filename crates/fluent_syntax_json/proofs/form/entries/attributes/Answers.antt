@@ -7,4 +7,4 @@ use Rattle.fluent_syntax_json.proofs.form.entries.attributes.Goals as goal
 pub returns : goal.returns
 returns c =
     list-made c.loop-item.list _ c.args.attributes.now.items c.loop-item.item-index attribute_form
-        (attribute_view string_bytes) c.loop-item.invariant c.loop-item-test.false c.deref-item-items.ensures.value
+    (attribute_view string_bytes) c.loop-item.invariant c.loop-item-test.false c.deref-item-items.ensures.value

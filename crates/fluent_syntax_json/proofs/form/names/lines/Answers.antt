@@ -6,4 +6,4 @@ use Rattle.fluent_syntax_json.proofs.form.names.lines.Goals as goal
 pub returns : goal.returns
 returns c =
     list-made c.loop-line.list _ c.args.comment.now.content.items c.loop-line.line-index string string_bytes
-        c.loop-line.invariant c.loop-line-test.false c.deref-line-items.ensures.value
+    c.loop-line.invariant c.loop-line-test.false c.deref-line-items.ensures.value

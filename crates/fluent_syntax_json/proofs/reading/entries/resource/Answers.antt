@@ -9,12 +9,15 @@ pub returns-in_err-entry : goal.returns-in_err-entry
 returns-in_err-entry c =
     let p = err_from_is_err_and c.from_residual-in_err-entry.result c.from_residual-in_err-entry.ensures.1 in
     handed _ _ _ _ _ _ p.1 p.2
-        (λ q. rw (c.in_ok-field.ensures, c.in_ok-list.ensures,
-          stopped entry_in c.in_ok-list.field-0.now.items c.deref-item-items.result.now c.loop-item.item-index
-          c.item-item.result c.loop-item-test.true c.item-item.is c.deref-item-items.ensures.value q))
-            c.in_err-entry.ensures
+    (λ q. rw (
+      c.in_ok-field.ensures,
+      c.in_ok-list.ensures,
+      stopped entry_in c.in_ok-list.field-0.now.items c.deref-item-items.result.now c.loop-item.item-index
+          c.item-item.result c.loop-item-test.true c.item-item.is c.deref-item-items.ensures.value q,
+    ))
+    c.in_err-entry.ensures
 
 pub loop-item-preserved : goal.loop-item-preserved
 loop-item-preserved c =
     pushed entry_in (entry_view string_bytes) _ _ c.in_ok-entry.field-0 _ c.loop-item.item-index c.item-item.result
-        c.loop-item.invariant c.in_ok-push.ensures.items c.loop-item-test.true c.item-item.is c.in_ok-entry.ensures
+    c.loop-item.invariant c.in_ok-push.ensures.items c.loop-item-test.true c.item-item.is c.in_ok-entry.ensures

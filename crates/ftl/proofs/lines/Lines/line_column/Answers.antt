@@ -6,11 +6,12 @@ use Rattle.ftl.proofs.lines.Lines.line_column.Goals.{then-place-self, else-place
 pub returns-clause-column : goal.returns-clause-column
 returns-clause-column c =
     let ahead : c.if-place-self.line.2 ≤ c.args.place =
-        elim c.if-place-self.branch
-          [ then-place-self w ↦ omega (arith, ap (λ x. x.2) w.line-is)
-          | else-place-self w ↦ omega (arith, ap (λ x. x.2) w.line-is) ] in
+    elim c.if-place-self.branch [
+      | then-place-self w ↦ omega (arith, ap (λ x. x.2) w.line-is)
+      | else-place-self w ↦ omega (arith, ap (λ x. x.2) w.line-is)
+    ] in
     let end = c.loop-at.auto.at-end ahead in
     let at_place : c.loop-at.at ≡ c.args.place = omega (arith, end) in
     let before : c.loop-at.start ≤ c.args.place = omega (arith, at_place) in
     column_is c.args.self.now.text.now c.args.place c.loop-at.start c.requires before c.loop-at.invariant.starts
-        (λ k f l. let inside : k < c.loop-at.at = omega (arith, at_place) in c.loop-at.invariant.same_line k f inside)
+    (λ k f l. let inside : k < c.loop-at.at = omega (arith, at_place) in c.loop-at.invariant.same_line k f inside)
