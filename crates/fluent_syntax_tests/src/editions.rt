@@ -3,6 +3,7 @@
 use crate::outline::outline;
 use fluent_syntax::parser::{Edition, parse_edition, parse_runtime_edition};
 use fluent_syntax::serializer::serialize;
+use std::alloc::Global;
 use std::test::Fail;
 
 /// What it shows, the text, and the outlines of both answers.
@@ -67,12 +68,17 @@ const KEPT: [&str; 3] = [
 #[test]
 fn trees_of_edition_two_read_back(rt: HostRuntime) -> Result<(), Fail> {
     for text in KEPT {
-        let Ok(tree) = parse_edition(rt.alloc(), text, Edition::Two) else {
-            return Err("a text without errors was refused".into());
-        };
-        let written = serialize(rt.alloc(), &tree)?;
-        let again = parse_edition(rt.alloc(), written.as_str(), Edition::Two);
-        assert!(rt; again == Ok(tree), "{text:?}");
+        assert!(rt; is_kept(rt.alloc(), text)?, "{text:?}");
     }
     Ok(())
+}
+
+/// Whether the text's tree of edition two is read back from what it is written as.
+fn is_kept(alloc: Global, text: &str) -> Result<bool, Fail> {
+    let tree = parse_edition(alloc, String::from_str(alloc, text)?, Edition::Two);
+    let Ok(resource) = &tree else {
+        return Err("a text without errors was refused".into());
+    };
+    let written = serialize(alloc, resource)?;
+    Ok(parse_edition(alloc, written, Edition::Two) == tree)
 }
