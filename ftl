@@ -56,8 +56,10 @@ prove() (
 room_for() {
     local room="$made/rooms/$1" crate
     mkdir -p "$room/crates"
-    cp "$top/crates.txt" "$room"
-    for crate in "$1" "${below[@]}"; do cp -a "$top/crates/$crate" "$room/crates"; done
+    for crate in "$1" "${below[@]}"; do
+        grep "^$crate:" "$top/crates.txt" >>"$room/crates.txt"
+        cp -a "$top/crates/$crate" "$room/crates"
+    done
     echo "$room"
 }
 
