@@ -115,7 +115,7 @@ build_once() {
     flock -n 9 || { say "another ftl builds the program: waiting for it"; flock 9; }
     trap interrupt INT TERM HUP
     while sum="$(sum_of_sources)"; ! is_built "$sum"; do
-        say "building the program; from nothing that takes some 10 to 30 minutes, once"
+        say "building the program; from nothing that takes ten minutes on four processors, longer on fewer"
         build
         echo "$sum" >"$made/built-from"
     done
