@@ -8,6 +8,7 @@ mod flat;
 pub mod laws;
 mod lines;
 pub mod parser;
+mod recovered;
 mod resolved;
 pub mod spans;
 pub mod unicode;

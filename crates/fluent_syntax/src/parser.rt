@@ -10,6 +10,7 @@ ghost use Rattle.fluent_syntax_tree.specs.Entry.{body_map};
 ghost use Rattle.fluent_syntax_tree.specs.Spans.{bytes_at};
 
 pub use crate::flat::is_flat;
+pub use crate::recovered::recovered;
 use crate::resolved::resolve;
 pub use fluent_syntax_reader::fault::ParseFault;
 use fluent_syntax_reader::{parse_runtime_spans_edition, parse_spans_edition};

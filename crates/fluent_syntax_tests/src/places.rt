@@ -1,8 +1,8 @@
 //! Lines and columns of errors, as a caller asks for them: nothing has to be shown of a place.
 
-use fluent_syntax::parser::{ParseFault, parse, parse_runtime};
+use fluent_syntax::parser::{ParseFault, parse, parse_runtime, recovered};
 use fluent_syntax::spans::{line_column, parse_spans};
-use std::alloc::Global;
+use std::alloc::{AllocError, Global};
 use std::test::Fail;
 
 /// Line and column of the last error of the text, or (0, 0) where it has none.
@@ -45,5 +45,26 @@ fn places_by_line_and_column(rt: HostRuntime) -> Result<(), Fail> {
     assert_eq!(rt; first_runtime_place(rt.alloc(), text), (1, 11));
     assert_eq!(rt; first_place_of_spans(rt.alloc(), text), (1, 11));
     assert_eq!(rt; last_place(rt.alloc(), "key = a\n"), (0, 0));
+    Ok(())
+}
+
+/// How many entries the recovered tree has, and the lines of the errors beside it.
+fn entries_and_lines(alloc: Global, text: &str) -> Result<(usize, Vec<usize>), AllocError> {
+    let (tree, errors) = recovered(alloc, parse(alloc, text))?;
+    let mut lines = Vec::new(alloc);
+    for error in &errors {
+        lines.push(line_column(text, error.pos.start).0)?;
+    }
+    Ok((tree.body.len(), lines))
+}
+
+#[test]
+fn a_tree_and_its_errors(rt: HostRuntime) -> Result<(), Fail> {
+    let (entries, lines) = entries_and_lines(rt.alloc(), "key = a\nbro ken = b\n")?;
+    assert_eq!(rt; entries, 2);
+    assert_eq!(rt; lines.as_slice(), [2].as_slice());
+    let (entries, lines) = entries_and_lines(rt.alloc(), "key = a\n")?;
+    assert_eq!(rt; entries, 1);
+    assert!(rt; lines.is_empty());
     Ok(())
 }

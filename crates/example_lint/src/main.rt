@@ -1,0 +1,56 @@
+//! A linter: it reads a Fluent file from standard input and prints its errors with their places, then the messages and
+//! terms that an entry refers to and the file doesn't define.
+#![tactic(auto)]
+
+ghost use Rattle.std.specs.Prelude.{◌+◌, ◌≤◌, ◌^◌, ◌<◌, length, All};
+
+mod names;
+mod references;
+
+use crate::names::{Name, defined};
+use crate::references::references;
+use fluent_syntax::ast::Resource;
+use fluent_syntax::parser::{ParserError, parse, recovered};
+use fluent_syntax::spans::line_column;
+use std::io;
+
+fn main(rt: HostRuntime) -> anyhow::Result<()> {
+    let text = io::read_to_string(rt.alloc(), rt.reader())?;
+    if text.len() == usize::MAX {
+        anyhow::bail!("the file is too long");
+    }
+    lint(&rt, text.as_str())
+}
+
+fn lint<R: Print + AllocGlobal>(rt: &R, text: &str) -> anyhow::Result<()>
+    requires { length text.now + 1 < 2 ^ 64 }
+{
+    let (tree, errors) = recovered(rt.alloc(), parse(rt.alloc(), text))?;
+    print_errors(rt, text, errors.as_slice())?;
+    print_undefined(rt, &tree)
+}
+
+fn print_errors<R: Print>(rt: &R, text: &str, errors: &[ParserError]) -> anyhow::Result<()>
+    requires places { All (λ error. error.pos.start ≤ length text.now) errors.now }
+{
+    for error in errors {
+        let (line, column) = line_column(text, error.pos.start);
+        println!(rt; "{line}:{column}: {error}")?;
+    }
+    Ok(())
+}
+
+fn print_undefined<R: Print + AllocGlobal>(rt: &R, tree: &Resource<&str>) -> anyhow::Result<()> {
+    let defined = defined(rt.alloc(), tree)?;
+    for entry in &tree.body {
+        let Some(name) = Name::of(entry) else {
+            continue;
+        };
+        for reference in &references(rt.alloc(), entry)? {
+            if !defined.contains(reference) {
+                println!(rt; "{name} refers to {reference}, which is not defined")?;
+            }
+        }
+    }
+    Ok(())
+}
