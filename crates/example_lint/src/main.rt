@@ -11,7 +11,7 @@ use crate::names::{Name, defined};
 use crate::references::references;
 use fluent_syntax::ast::Resource;
 use fluent_syntax::parser::{ParserError, parse, recovered};
-use fluent_syntax::spans::line_column;
+use fluent_syntax::spans::Lines;
 use std::io;
 
 fn main(rt: HostRuntime) -> anyhow::Result<()> {
@@ -31,10 +31,12 @@ fn lint<R: Print + AllocGlobal>(rt: &R, text: &str) -> anyhow::Result<()>
 }
 
 fn print_errors<R: Print>(rt: &R, text: &str, errors: &[ParserError]) -> anyhow::Result<()>
+    requires short { length text.now + 1 < 2 ^ 64 }
     requires places { All (λ error. error.pos.start ≤ length text.now) errors.now }
 {
+    let mut lines = Lines::new(text);
     for error in errors {
-        let (line, column) = line_column(text, error.pos.start);
+        let (line, column) = lines.line_column(error.pos.start);
         println!(rt; "{line}:{column}: {error}")?;
     }
     Ok(())

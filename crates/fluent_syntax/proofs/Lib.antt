@@ -1,3 +1,4 @@
+mod Columns
 pub mod FlatSteps
 pub mod ErrorLemmas
 pub mod SameAnswersLemmas

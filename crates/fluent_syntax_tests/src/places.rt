@@ -1,7 +1,7 @@
 //! Lines and columns of errors, as a caller asks for them: nothing has to be shown of a place.
 
 use fluent_syntax::parser::{ParseFault, parse, parse_runtime, recovered};
-use fluent_syntax::spans::{line_column, parse_spans};
+use fluent_syntax::spans::{Lines, line_column, parse_spans};
 use std::alloc::{AllocError, Global};
 use std::test::Fail;
 
@@ -66,5 +66,16 @@ fn a_tree_and_its_errors(rt: HostRuntime) -> Result<(), Fail> {
     let (entries, lines) = entries_and_lines(rt.alloc(), "key = a\n")?;
     assert_eq!(rt; entries, 1);
     assert!(rt; lines.is_empty());
+    Ok(())
+}
+
+#[test]
+fn places_in_any_order(rt: HostRuntime) -> Result<(), Fail> {
+    let mut lines = Lines::new("ab\ncd\n");
+    assert_eq!(rt; lines.line_column(0), (1, 1));
+    assert_eq!(rt; lines.line_column(4), (2, 2));
+    assert_eq!(rt; lines.line_column(6), (3, 1));
+    assert_eq!(rt; lines.line_column(2), (1, 3));
+    assert_eq!(rt; lines.line_column(3), (2, 1));
     Ok(())
 }

@@ -13,7 +13,6 @@ ghost use Rattle.fluent_syntax_reader.specs.Answers.{Answers};
 ghost use Rattle.ftl.specs.Answer.{IsAnswer, error_line, error_lines, error_text, range_text, json_text, normal_text, outcome_of, told};
 
 use crate::command::Command;
-use crate::lines::Lines;
 use crate::outcome::{Outcome, RunFault};
 use fluent_syntax::ast::Resource;
 use fluent_syntax::parser;
@@ -21,7 +20,7 @@ use fluent_syntax::parser::{
     Edition, ParseFault, ParserError, parse_edition, parse_runtime_edition,
 };
 use fluent_syntax::serializer::serialize;
-use fluent_syntax::spans::{Span, parse_spans_edition};
+use fluent_syntax::spans::{Lines, Span, parse_spans_edition};
 use fluent_syntax_json::to_value;
 use std::alloc::{AllocError, Global};
 use std::fmt::Write;
@@ -75,7 +74,7 @@ fn lines(alloc: Global, text: &str, errors: &Vec<ParserError>) -> Result<String,
     ensures { IfOk result (λ lines. string_bytes lines ≡ flat_map (λ e. error_line text.now (told e)) errors.now.items) }
 {
     let mut out = String::new(alloc);
-    let mut places = Lines::new(text.as_bytes());
+    let mut places = Lines::new(text);
     for error in errors {
         let (line, column) = places.line_column(error.pos.start);
         write_line(&mut out, line, column, error)?;

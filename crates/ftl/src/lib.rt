@@ -3,7 +3,6 @@
 
 mod answers;
 mod command;
-mod lines;
 mod outcome;
 mod runs;
 mod watched;

@@ -8,16 +8,16 @@ use Rattle.ftl.proofs.answers.lines.Goals as goal
 
 pub line_column-line-requires : goal.line_column-line-requires
 line_column-line-requires c =
-    lies_within c.args.text.now c.loop-error.places.text.now c.args.errors.now.items c.deref-error-items.result.now
+    lies_within c.args.text.now c.loop-error.places c.args.errors.now.items c.deref-error-items.result.now
     c.loop-error.error-index c.error-item.result c.requires.within c.deref-error-items.ensures.value
     c.loop-error-test.true c.error-item.is c.loop-error.invariant.text
 
 pub loop-error-preserved : goal.loop-error-preserved
 loop-error-preserved c =
     record {
-      text = c.line_column-line.ensures.text ∙ c.loop-error.invariant.text;
+      text = c.line_column-line.ensures.source ∙ c.loop-error.invariant.text;
       so_far =
-          line_added c.args.text.now c.loop-error.places.text.now c.deref-error-items.result.now
+          line_added c.args.text.now c.loop-error.places c.deref-error-items.result.now
           c.loop-error.error-index c.error-item.result _ _ _ _ c.loop-error-test.true c.error-item.is
           c.loop-error.invariant.text c.line_column-line.ensures.line c.line_column-line.ensures.column
           c.loop-error.invariant.so_far c.in_ok-write_line.ensures;
