@@ -2,6 +2,7 @@ pub mod Arguments
 pub mod Bytes
 pub mod Elements
 pub mod Escapes
+pub mod Fused
 pub mod Indents
 pub mod Leaves
 pub mod Marks
