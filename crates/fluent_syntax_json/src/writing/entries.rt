@@ -59,6 +59,7 @@ fn write_resource<X, T: ReadTexts<X>, W: TextSink>(
     writer.write_piece("}");
 }
 
+/// Writes the entries, and the bracket that closes their list.
 fn write_entries<X, T: ReadTexts<X>, W: TextSink>(
     writer: &mut JsonWriter<'_, T, W>,
     entries: &[Entry<X>],

@@ -3,8 +3,9 @@ ghost use Rattle.std.specs.Prelude.{◌≡◌, ◌<◌, ◌∷◌, [], ◌/◌, 
 ghost use Rattle.std.specs.Char.{digit_char};
 ghost use Rattle.json.specs.Print.{escape_byte, escape, quoted};
 ghost use Rattle.json.specs.Run.{is_plain};
+ghost use Rattle.serde_json.specs.Data.{boolean};
 ghost use Rattle.serde_json.specs.Written.{comma_if};
-ghost use Rattle.fluent_syntax_json.specs.Writing.{WritesBytes};
+ghost use Rattle.fluent_syntax_json.specs.Writing.{WritesBytes, WritesData};
 
 use super::escapes::{hexadecimal_digit, short_escape, split_at_escape};
 use fluent_syntax_tree::texts::ReadTexts;
@@ -52,6 +53,16 @@ impl<'w, T, W: TextSink> JsonWriter<'w, T, W> {
     {
         if later {
             self.write_piece(",");
+        }
+    }
+
+    pub fn write_bool(&mut self, value: bool)
+        ensures written { WritesData W.text W.room self.old self.new (boolean value) }
+    {
+        if value {
+            self.write_piece("true");
+        } else {
+            self.write_piece("false");
         }
     }
 

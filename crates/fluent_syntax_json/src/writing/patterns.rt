@@ -1,7 +1,7 @@
 //! Patterns, and all that nests in them.
-ghost use Rattle.std.specs.Prelude.{map, false};
+ghost use Rattle.std.specs.Prelude.{map, option_map, false};
 ghost use Rattle.serde_json.specs.Written.{items_text};
-ghost use Rattle.fluent_syntax_tree.specs.Tree.{elements_of, variants_of, inlines_of, nameds_of};
+ghost use Rattle.fluent_syntax_tree.specs.Tree.{arguments_of, elements_of, variants_of, inlines_of, nameds_of};
 ghost use Rattle.fluent_syntax_tree.specs.View.{expression_view, inline_view, element_view, arguments_view, named_view, pattern_view, variant_view};
 ghost use Rattle.fluent_syntax_json.specs.Form.{expression_form, inline_form, inline_forms, element_form, element_forms, maybe_form, arguments_form, named_form, named_forms, pattern_form, variant_form, variant_forms};
 ghost use Rattle.fluent_syntax_json.specs.Writing.{WritesBytes, WritesData};
@@ -24,6 +24,7 @@ pub fn write_pattern<X, T: ReadTexts<X>, W: TextSink>(
     writer.write_piece("}");
 }
 
+/// Writes the elements, and the bracket that closes their list.
 #[cycle(written)]
 fn write_elements<X, T: ReadTexts<X>, W: TextSink>(
     writer: &mut JsonWriter<'_, T, W>,
@@ -80,6 +81,7 @@ fn write_expression<X, T: ReadTexts<X>, W: TextSink>(
     }
 }
 
+/// Writes the variants, and the bracket that closes their list.
 #[cycle(written)]
 fn write_variants<X, T: ReadTexts<X>, W: TextSink>(
     writer: &mut JsonWriter<'_, T, W>,
@@ -103,11 +105,9 @@ fn write_variant<X, T: ReadTexts<X>, W: TextSink>(
 )
     ensures written { WritesData W.text W.room writer.old writer.new (variant_form (variant_view T.text variant.now)) }
 {
-    if variant.default {
-        writer.write_piece("{\"default\":true,\"key\":");
-    } else {
-        writer.write_piece("{\"default\":false,\"key\":");
-    }
+    writer.write_piece("{\"default\":");
+    writer.write_bool(variant.default);
+    writer.write_piece(",\"key\":");
     write_key(writer, &variant.key);
     writer.write_piece(",\"type\":\"Variant\",\"value\":");
     write_pattern(writer, &variant.value);
@@ -151,14 +151,9 @@ fn write_inline<X, T: ReadTexts<X>, W: TextSink>(
             attribute,
             arguments,
         } => {
-            match arguments {
-                None => writer.write_piece("{\"arguments\":null,\"attribute\":"),
-                Some(arguments) => {
-                    writer.write_piece("{\"arguments\":");
-                    write_arguments(writer, arguments);
-                    writer.write_piece(",\"attribute\":");
-                }
-            }
+            writer.write_piece("{\"arguments\":");
+            write_own_arguments(writer, arguments);
+            writer.write_piece(",\"attribute\":");
             write_attribute_name(writer, attribute);
             writer.write_piece(",\"id\":");
             write_name(writer, id);
@@ -177,6 +172,20 @@ fn write_inline<X, T: ReadTexts<X>, W: TextSink>(
     }
 }
 
+/// Writes the arguments of a term.
+#[cycle(written)]
+fn write_own_arguments<X, T: ReadTexts<X>, W: TextSink>(
+    writer: &mut JsonWriter<'_, T, W>,
+    arguments: &Option<CallArguments<X>>,
+)
+    ensures written { WritesData W.text W.room writer.old writer.new (maybe_form (arguments_of (option_map (arguments_view T.text) arguments.now))) }
+{
+    match arguments {
+        None => writer.write_piece("null"),
+        Some(arguments) => write_arguments(writer, arguments),
+    }
+}
+
 #[cycle(written)]
 fn write_arguments<X, T: ReadTexts<X>, W: TextSink>(
     writer: &mut JsonWriter<'_, T, W>,
@@ -191,6 +200,7 @@ fn write_arguments<X, T: ReadTexts<X>, W: TextSink>(
     writer.write_piece(",\"type\":\"CallArguments\"}");
 }
 
+/// Writes the positional arguments, and the bracket that closes their list.
 #[cycle(written)]
 fn write_positional<X, T: ReadTexts<X>, W: TextSink>(
     writer: &mut JsonWriter<'_, T, W>,
@@ -207,6 +217,7 @@ fn write_positional<X, T: ReadTexts<X>, W: TextSink>(
     writer.write_piece("]");
 }
 
+/// Writes the named arguments, and the bracket that closes their list.
 #[cycle(written)]
 fn write_nameds<X, T: ReadTexts<X>, W: TextSink>(
     writer: &mut JsonWriter<'_, T, W>,
