@@ -7,7 +7,7 @@ use Rattle.fluent_syntax_grammar.specs.Written.{Text, last_of}
 use Rattle.fluent_syntax_writer.specs.Sink.{Takes, TakesBeginning}
 use Rattle.fluent_syntax_writer.specs.Writing.{Outcome, appended, stopped, silent, Appends}
 use Rattle.fluent_syntax_writer.proofs.Sinks.{Takes-none, Takes-append, TakesBeginning-after, TakesBeginning-before}
-use Rattle.fluent_syntax_writer.specs.declared.serializer.text_writer.TextWriter.{TextWriter}
+use Rattle.fluent_syntax_writer.specs.declared.text_writer.TextWriter.{TextWriter}
 
 -- ---- The last byte
 

@@ -2,7 +2,6 @@ pub mod Arguments
 pub mod Bytes
 pub mod Elements
 pub mod Escapes
-pub mod Fused
 pub mod Indents
 pub mod Leaves
 pub mod Marks
