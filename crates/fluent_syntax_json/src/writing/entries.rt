@@ -5,15 +5,17 @@ ghost use Rattle.serde_json.specs.Written.{compact_text, items_text};
 ghost use Rattle.fluent_syntax_tree.specs.View.{comment_view, pattern_view, attribute_view, message_view, term_view, entry_view, resource_view};
 ghost use Rattle.fluent_syntax_writer.specs.Sink.{Takes, TakesBeginning};
 ghost use Rattle.fluent_syntax_json.specs.Form.{or_null, list_form, comment_form, pattern_form, attribute_form, message_form, term_form, entry_form, body_form};
-ghost use Rattle.fluent_syntax_json.specs.Writing.{WritesBytes, WritesData};
+ghost use Rattle.fluent_syntax_json.specs.Writing.{WritesData};
+ghost use Rattle.fluent_syntax_writer.specs.Writing.{Appends};
 
-use super::json_writer::{JsonWriter, write_text};
+use super::tokens::{write_comma, write_text};
 use super::names::{write_lines, write_name};
 use super::patterns::write_pattern;
 use fluent_syntax_tree::ast::*;
 use fluent_syntax_tree::slice::Slice;
 use fluent_syntax_tree::texts::{BySlice, ReadTexts};
 use fluent_syntax_writer::sink::{SinkError, TextSink};
+use fluent_syntax_writer::text_writer::TextWriter;
 
 /// Writes the text that `serde_json` writes of the tree's JSON form to the sink. Takes no memory of its own, since no value is made.
 ///
@@ -38,7 +40,7 @@ fn write_body<X, T: ReadTexts<X>, W: TextSink>(
     ensures taken { OnOk result (Takes W.text W.room w.old w.new (compact_text (body_form (map (entry_view T.text) entries.now)))) }
     ensures refused { OnErr result (TakesBeginning W.text W.room w.old w.new (compact_text (body_form (map (entry_view T.text) entries.now)))) }
 {
-    let mut writer: JsonWriter<'_, T, W> = JsonWriter::new(w);
+    let mut writer: TextWriter<'_, T, W> = TextWriter::new(w);
     write_resource(&mut writer, entries);
     if writer.has_refused() {
         Err(SinkError)
@@ -48,10 +50,10 @@ fn write_body<X, T: ReadTexts<X>, W: TextSink>(
 }
 
 fn write_resource<X, T: ReadTexts<X>, W: TextSink>(
-    writer: &mut JsonWriter<'_, T, W>,
+    writer: &mut TextWriter<'_, T, W>,
     entries: &[Entry<X>],
 )
-    ensures same_sink { writer.new.sink.sink.ghost_name ≡ writer.old.sink.sink.ghost_name }
+    ensures same_sink { writer.new.sink.ghost_name ≡ writer.old.sink.ghost_name }
     ensures written { WritesData W.text W.room writer.old writer.new (body_form (map (entry_view T.text) entries.now)) }
 {
     writer.write_piece("{\"body\":[");
@@ -61,14 +63,14 @@ fn write_resource<X, T: ReadTexts<X>, W: TextSink>(
 
 /// Writes the entries, and the bracket that closes their list.
 fn write_entries<X, T: ReadTexts<X>, W: TextSink>(
-    writer: &mut JsonWriter<'_, T, W>,
+    writer: &mut TextWriter<'_, T, W>,
     entries: &[Entry<X>],
 )
-    ensures written { WritesBytes W.text W.room writer.old writer.new (items_text false (items_of (map entry_form (map (entry_view T.text) entries.now)))) }
+    ensures written { Appends W.text W.room writer.old writer.new (items_text false (items_of (map entry_form (map (entry_view T.text) entries.now)))) }
 {
     let mut later = false;
     for entry in entries {
-        writer.write_comma(later);
+        write_comma(writer, later);
         write_entry(writer, entry);
         later = true;
     }
@@ -76,7 +78,7 @@ fn write_entries<X, T: ReadTexts<X>, W: TextSink>(
 }
 
 fn write_entry<X, T: ReadTexts<X>, W: TextSink>(
-    writer: &mut JsonWriter<'_, T, W>,
+    writer: &mut TextWriter<'_, T, W>,
     entry: &Entry<X>,
 )
     ensures written { WritesData W.text W.room writer.old writer.new (entry_form (entry_view T.text entry.now)) }
@@ -108,7 +110,7 @@ fn write_entry<X, T: ReadTexts<X>, W: TextSink>(
 }
 
 fn write_message<X, T: ReadTexts<X>, W: TextSink>(
-    writer: &mut JsonWriter<'_, T, W>,
+    writer: &mut TextWriter<'_, T, W>,
     message: &Message<X>,
 )
     ensures written { WritesData W.text W.room writer.old writer.new (message_form (message_view T.text message.now)) }
@@ -124,7 +126,7 @@ fn write_message<X, T: ReadTexts<X>, W: TextSink>(
     writer.write_piece("}");
 }
 
-fn write_term<X, T: ReadTexts<X>, W: TextSink>(writer: &mut JsonWriter<'_, T, W>, term: &Term<X>)
+fn write_term<X, T: ReadTexts<X>, W: TextSink>(writer: &mut TextWriter<'_, T, W>, term: &Term<X>)
     ensures written { WritesData W.text W.room writer.old writer.new (term_form (term_view T.text term.now)) }
 {
     writer.write_piece("{\"attributes\":[");
@@ -139,7 +141,7 @@ fn write_term<X, T: ReadTexts<X>, W: TextSink>(writer: &mut JsonWriter<'_, T, W>
 }
 
 fn write_value<X, T: ReadTexts<X>, W: TextSink>(
-    writer: &mut JsonWriter<'_, T, W>,
+    writer: &mut TextWriter<'_, T, W>,
     value: &Option<Pattern<X>>,
 )
     ensures written { WritesData W.text W.room writer.old writer.new (or_null pattern_form (option_map (pattern_view T.text) value.now)) }
@@ -152,14 +154,14 @@ fn write_value<X, T: ReadTexts<X>, W: TextSink>(
 
 /// Writes the attributes, and the bracket that closes their list.
 fn write_attributes<X, T: ReadTexts<X>, W: TextSink>(
-    writer: &mut JsonWriter<'_, T, W>,
+    writer: &mut TextWriter<'_, T, W>,
     attributes: &[Attribute<X>],
 )
-    ensures written { WritesBytes W.text W.room writer.old writer.new (items_text false (items_of (map attribute_form (map (attribute_view T.text) attributes.now)))) }
+    ensures written { Appends W.text W.room writer.old writer.new (items_text false (items_of (map attribute_form (map (attribute_view T.text) attributes.now)))) }
 {
     let mut later = false;
     for attribute in attributes {
-        writer.write_comma(later);
+        write_comma(writer, later);
         write_attribute(writer, attribute);
         later = true;
     }
@@ -167,7 +169,7 @@ fn write_attributes<X, T: ReadTexts<X>, W: TextSink>(
 }
 
 fn write_attribute<X, T: ReadTexts<X>, W: TextSink>(
-    writer: &mut JsonWriter<'_, T, W>,
+    writer: &mut TextWriter<'_, T, W>,
     attribute: &Attribute<X>,
 )
     ensures written { WritesData W.text W.room writer.old writer.new (attribute_form (attribute_view T.text attribute.now)) }
@@ -181,7 +183,7 @@ fn write_attribute<X, T: ReadTexts<X>, W: TextSink>(
 
 /// Writes the comment of a message or a term.
 fn write_hung<X, T: ReadTexts<X>, W: TextSink>(
-    writer: &mut JsonWriter<'_, T, W>,
+    writer: &mut TextWriter<'_, T, W>,
     comment: &Option<Comment<X>>,
 )
     ensures written { WritesData W.text W.room writer.old writer.new (or_null comment_form (option_map (comment_view T.text) comment.now)) }

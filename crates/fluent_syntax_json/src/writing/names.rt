@@ -5,15 +5,17 @@ ghost use Rattle.serde_json.specs.View.{items_of};
 ghost use Rattle.serde_json.specs.Written.{items_text};
 ghost use Rattle.fluent_syntax_tree.specs.View.{identifier_view, key_view, comment_view};
 ghost use Rattle.fluent_syntax_json.specs.Form.{name_form, or_null, key_form};
-ghost use Rattle.fluent_syntax_json.specs.Writing.{WritesBytes, WritesData};
+ghost use Rattle.fluent_syntax_json.specs.Writing.{WritesData};
+ghost use Rattle.fluent_syntax_writer.specs.Writing.{Appends};
 
-use super::json_writer::{JsonWriter, write_text};
+use super::tokens::{write_comma, write_text};
 use fluent_syntax_tree::ast::{Comment, Identifier, VariantKey};
 use fluent_syntax_tree::texts::ReadTexts;
 use fluent_syntax_writer::sink::TextSink;
+use fluent_syntax_writer::text_writer::TextWriter;
 
 pub fn write_name<X, T: ReadTexts<X>, W: TextSink>(
-    writer: &mut JsonWriter<'_, T, W>,
+    writer: &mut TextWriter<'_, T, W>,
     id: &Identifier<X>,
 )
     ensures written { WritesData W.text W.room writer.old writer.new (name_form (identifier_view T.text id.now)) }
@@ -24,7 +26,7 @@ pub fn write_name<X, T: ReadTexts<X>, W: TextSink>(
 }
 
 pub fn write_attribute_name<X, T: ReadTexts<X>, W: TextSink>(
-    writer: &mut JsonWriter<'_, T, W>,
+    writer: &mut TextWriter<'_, T, W>,
     attribute: &Option<Identifier<X>>,
 )
     ensures written { WritesData W.text W.room writer.old writer.new (or_null name_form (option_map (identifier_view T.text) attribute.now)) }
@@ -36,7 +38,7 @@ pub fn write_attribute_name<X, T: ReadTexts<X>, W: TextSink>(
 }
 
 pub fn write_key<X, T: ReadTexts<X>, W: TextSink>(
-    writer: &mut JsonWriter<'_, T, W>,
+    writer: &mut TextWriter<'_, T, W>,
     key: &VariantKey<X>,
 )
     ensures written { WritesData W.text W.room writer.old writer.new (key_form (key_view T.text key.now)) }
@@ -57,14 +59,14 @@ pub fn write_key<X, T: ReadTexts<X>, W: TextSink>(
 
 /// Writes the lines of a comment, and the bracket that closes their list.
 pub fn write_lines<X, T: ReadTexts<X>, W: TextSink>(
-    writer: &mut JsonWriter<'_, T, W>,
+    writer: &mut TextWriter<'_, T, W>,
     comment: &Comment<X>,
 )
-    ensures written { WritesBytes W.text W.room writer.old writer.new (items_text false (items_of (map string (comment_view T.text comment.now)))) }
+    ensures written { Appends W.text W.room writer.old writer.new (items_text false (items_of (map string (comment_view T.text comment.now)))) }
 {
     let mut later = false;
     for line in &comment.content {
-        writer.write_comma(later);
+        write_comma(writer, later);
         write_text(writer, line);
         later = true;
     }

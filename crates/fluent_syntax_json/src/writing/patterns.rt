@@ -4,17 +4,19 @@ ghost use Rattle.serde_json.specs.Written.{items_text};
 ghost use Rattle.fluent_syntax_tree.specs.Tree.{arguments_of, elements_of, variants_of, inlines_of, nameds_of};
 ghost use Rattle.fluent_syntax_tree.specs.View.{expression_view, inline_view, element_view, arguments_view, named_view, pattern_view, variant_view};
 ghost use Rattle.fluent_syntax_json.specs.Form.{expression_form, inline_form, inline_forms, element_form, element_forms, maybe_form, arguments_form, named_form, named_forms, pattern_form, variant_form, variant_forms};
-ghost use Rattle.fluent_syntax_json.specs.Writing.{WritesBytes, WritesData};
+ghost use Rattle.fluent_syntax_json.specs.Writing.{WritesData};
+ghost use Rattle.fluent_syntax_writer.specs.Writing.{Appends};
 
-use super::json_writer::{JsonWriter, write_text};
+use super::tokens::{write_bool, write_comma, write_text};
 use super::names::{write_attribute_name, write_key, write_name};
 use fluent_syntax_tree::ast::*;
 use fluent_syntax_tree::texts::ReadTexts;
 use fluent_syntax_writer::sink::TextSink;
+use fluent_syntax_writer::text_writer::TextWriter;
 
 #[cycle(written)]
 pub fn write_pattern<X, T: ReadTexts<X>, W: TextSink>(
-    writer: &mut JsonWriter<'_, T, W>,
+    writer: &mut TextWriter<'_, T, W>,
     pattern: &Pattern<X>,
 )
     ensures written { WritesData W.text W.room writer.old writer.new (pattern_form (pattern_view T.text pattern.now)) }
@@ -27,14 +29,14 @@ pub fn write_pattern<X, T: ReadTexts<X>, W: TextSink>(
 /// Writes the elements, and the bracket that closes their list.
 #[cycle(written)]
 fn write_elements<X, T: ReadTexts<X>, W: TextSink>(
-    writer: &mut JsonWriter<'_, T, W>,
+    writer: &mut TextWriter<'_, T, W>,
     elements: &[PatternElement<X>],
 )
-    ensures written { WritesBytes W.text W.room writer.old writer.new (items_text false (element_forms (elements_of (map (element_view T.text) elements.now)))) }
+    ensures written { Appends W.text W.room writer.old writer.new (items_text false (element_forms (elements_of (map (element_view T.text) elements.now)))) }
 {
     let mut later = false;
     for element in elements {
-        writer.write_comma(later);
+        write_comma(writer, later);
         write_element(writer, element);
         later = true;
     }
@@ -43,7 +45,7 @@ fn write_elements<X, T: ReadTexts<X>, W: TextSink>(
 
 #[cycle(written)]
 fn write_element<X, T: ReadTexts<X>, W: TextSink>(
-    writer: &mut JsonWriter<'_, T, W>,
+    writer: &mut TextWriter<'_, T, W>,
     element: &PatternElement<X>,
 )
     ensures written { WritesData W.text W.room writer.old writer.new (element_form (element_view T.text element.now)) }
@@ -64,7 +66,7 @@ fn write_element<X, T: ReadTexts<X>, W: TextSink>(
 
 #[cycle(written)]
 fn write_expression<X, T: ReadTexts<X>, W: TextSink>(
-    writer: &mut JsonWriter<'_, T, W>,
+    writer: &mut TextWriter<'_, T, W>,
     expression: &Expression<X>,
 )
     ensures written { WritesData W.text W.room writer.old writer.new (expression_form (expression_view T.text expression.now)) }
@@ -84,14 +86,14 @@ fn write_expression<X, T: ReadTexts<X>, W: TextSink>(
 /// Writes the variants, and the bracket that closes their list.
 #[cycle(written)]
 fn write_variants<X, T: ReadTexts<X>, W: TextSink>(
-    writer: &mut JsonWriter<'_, T, W>,
+    writer: &mut TextWriter<'_, T, W>,
     variants: &[Variant<X>],
 )
-    ensures written { WritesBytes W.text W.room writer.old writer.new (items_text false (variant_forms (variants_of (map (variant_view T.text) variants.now)))) }
+    ensures written { Appends W.text W.room writer.old writer.new (items_text false (variant_forms (variants_of (map (variant_view T.text) variants.now)))) }
 {
     let mut later = false;
     for variant in variants {
-        writer.write_comma(later);
+        write_comma(writer, later);
         write_variant(writer, variant);
         later = true;
     }
@@ -100,13 +102,13 @@ fn write_variants<X, T: ReadTexts<X>, W: TextSink>(
 
 #[cycle(written)]
 fn write_variant<X, T: ReadTexts<X>, W: TextSink>(
-    writer: &mut JsonWriter<'_, T, W>,
+    writer: &mut TextWriter<'_, T, W>,
     variant: &Variant<X>,
 )
     ensures written { WritesData W.text W.room writer.old writer.new (variant_form (variant_view T.text variant.now)) }
 {
     writer.write_piece("{\"default\":");
-    writer.write_bool(variant.default);
+    write_bool(writer, variant.default);
     writer.write_piece(",\"key\":");
     write_key(writer, &variant.key);
     writer.write_piece(",\"type\":\"Variant\",\"value\":");
@@ -116,7 +118,7 @@ fn write_variant<X, T: ReadTexts<X>, W: TextSink>(
 
 #[cycle(written)]
 fn write_inline<X, T: ReadTexts<X>, W: TextSink>(
-    writer: &mut JsonWriter<'_, T, W>,
+    writer: &mut TextWriter<'_, T, W>,
     inline: &InlineExpression<X>,
 )
     ensures written { WritesData W.text W.room writer.old writer.new (inline_form (inline_view T.text inline.now)) }
@@ -175,7 +177,7 @@ fn write_inline<X, T: ReadTexts<X>, W: TextSink>(
 /// Writes the arguments of a term.
 #[cycle(written)]
 fn write_own_arguments<X, T: ReadTexts<X>, W: TextSink>(
-    writer: &mut JsonWriter<'_, T, W>,
+    writer: &mut TextWriter<'_, T, W>,
     arguments: &Option<CallArguments<X>>,
 )
     ensures written { WritesData W.text W.room writer.old writer.new (maybe_form (arguments_of (option_map (arguments_view T.text) arguments.now))) }
@@ -188,7 +190,7 @@ fn write_own_arguments<X, T: ReadTexts<X>, W: TextSink>(
 
 #[cycle(written)]
 fn write_arguments<X, T: ReadTexts<X>, W: TextSink>(
-    writer: &mut JsonWriter<'_, T, W>,
+    writer: &mut TextWriter<'_, T, W>,
     arguments: &CallArguments<X>,
 )
     ensures written { WritesData W.text W.room writer.old writer.new (arguments_form (arguments_view T.text arguments.now)) }
@@ -203,14 +205,14 @@ fn write_arguments<X, T: ReadTexts<X>, W: TextSink>(
 /// Writes the positional arguments, and the bracket that closes their list.
 #[cycle(written)]
 fn write_positional<X, T: ReadTexts<X>, W: TextSink>(
-    writer: &mut JsonWriter<'_, T, W>,
+    writer: &mut TextWriter<'_, T, W>,
     inlines: &[InlineExpression<X>],
 )
-    ensures written { WritesBytes W.text W.room writer.old writer.new (items_text false (inline_forms (inlines_of (map (inline_view T.text) inlines.now)))) }
+    ensures written { Appends W.text W.room writer.old writer.new (items_text false (inline_forms (inlines_of (map (inline_view T.text) inlines.now)))) }
 {
     let mut later = false;
     for inline in inlines {
-        writer.write_comma(later);
+        write_comma(writer, later);
         write_inline(writer, inline);
         later = true;
     }
@@ -220,14 +222,14 @@ fn write_positional<X, T: ReadTexts<X>, W: TextSink>(
 /// Writes the named arguments, and the bracket that closes their list.
 #[cycle(written)]
 fn write_nameds<X, T: ReadTexts<X>, W: TextSink>(
-    writer: &mut JsonWriter<'_, T, W>,
+    writer: &mut TextWriter<'_, T, W>,
     nameds: &[NamedArgument<X>],
 )
-    ensures written { WritesBytes W.text W.room writer.old writer.new (items_text false (named_forms (nameds_of (map (named_view T.text) nameds.now)))) }
+    ensures written { Appends W.text W.room writer.old writer.new (items_text false (named_forms (nameds_of (map (named_view T.text) nameds.now)))) }
 {
     let mut later = false;
     for named in nameds {
-        writer.write_comma(later);
+        write_comma(writer, later);
         write_named(writer, named);
         later = true;
     }
@@ -236,7 +238,7 @@ fn write_nameds<X, T: ReadTexts<X>, W: TextSink>(
 
 #[cycle(written)]
 fn write_named<X, T: ReadTexts<X>, W: TextSink>(
-    writer: &mut JsonWriter<'_, T, W>,
+    writer: &mut TextWriter<'_, T, W>,
     argument: &NamedArgument<X>,
 )
     ensures written { WritesData W.text W.room writer.old writer.new (named_form (named_view T.text argument.now)) }

@@ -1,8 +1,0 @@
-use Rattle.fluent_syntax_writer.proofs.Fused.{Hands-append}
-use Rattle.fluent_syntax_json.proofs.writing.json_writer.JsonWriter.write_control.Goals as goal
-
-pub returns : goal.returns
-returns g c =
-    let high = rw c.hexadecimal_digit.ensures at c.write_piece-2.ensures.written in
-    let low = rw c.hexadecimal_digit-2.ensures at c.write_piece-3.ensures.written in
-    record { written = Hands-append c.write_piece.ensures.written (Hands-append high low) }
