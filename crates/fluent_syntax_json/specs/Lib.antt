@@ -3,3 +3,4 @@ pub mod Form
 pub mod Reading
 pub mod Answer
 pub mod Json
+pub mod Writing

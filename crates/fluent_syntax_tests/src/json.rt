@@ -8,7 +8,7 @@ use std::alloc::{AllocError, Global};
 use std::test::Fail;
 
 /// A text, and the JSON form of its tree.
-const FORMS: [(&str, &str, &str); 11] = [
+pub const FORMS: [(&str, &str, &str); 11] = [
     ("no entry", "", "{\"body\":[]}"),
     (
         "a variable",

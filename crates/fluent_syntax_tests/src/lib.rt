@@ -14,6 +14,8 @@ mod errors;
 #[cfg(test)]
 mod json;
 #[cfg(test)]
+mod json_text;
+#[cfg(test)]
 mod kinds;
 #[cfg(test)]
 mod outline;

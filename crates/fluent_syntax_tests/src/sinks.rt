@@ -5,6 +5,7 @@ use fluent_syntax::ast::Resource;
 use fluent_syntax::parser::{ParseFault, parse};
 use fluent_syntax::serializer::{Options, serialize_to, serialize_with_options};
 use fluent_syntax::unicode::{SinkError, TextSink, unescape_unicode, unescape_unicode_to_string};
+use fluent_syntax_json::write_to;
 use std::alloc::{AllocError, Global};
 use std::test::Fail;
 
@@ -172,6 +173,44 @@ fn a_tree_to_a_sink_that_refuses(rt: HostRuntime) -> Result<(), Fail> {
             has_refused |= sink.has_refused;
         }
         assert_eq!(rt; has_refused, !whole.is_empty());
+    }
+    Ok(())
+}
+
+#[test]
+fn a_json_text_to_a_sink_that_refuses(rt: HostRuntime) -> Result<(), Fail> {
+    let alloc = rt.alloc();
+    for text in TEXTS {
+        let tree = tree(alloc, text)?;
+        let mut whole = String::new(alloc);
+        assert_eq!(rt; write_to(&mut whole, &tree), Ok(()));
+        for before in 0..whole.len() {
+            let mut sink = Refusing::new(alloc, before);
+            let written = write_to(&mut sink, &tree);
+            assert!(rt;
+                sink.holds_its_part(whole.as_str(), written),
+                "{text} {before}"
+            );
+        }
+    }
+    Ok(())
+}
+
+#[test]
+fn a_json_text_to_a_sink_of_a_few_bytes(rt: HostRuntime) -> Result<(), Fail> {
+    let alloc = rt.alloc();
+    let tree = tree(alloc, "\"")?;
+    let whole = "{\"body\":[{\"content\":\"\\\"\",\"type\":\"Junk\"}]}";
+    for (room, answer) in [
+        (4, Err(SinkError)),
+        (whole.len() - 1, Err(SinkError)),
+        (whole.len(), Ok(())),
+    ] {
+        let mut sink = Small::new(alloc, room)?;
+        let written = write_to(&mut sink, &tree);
+        assert_eq!(rt; sink.text.as_str() == whole, written.is_ok());
+        assert!(rt; whole.starts_with(sink.text.as_str()));
+        assert_eq!(rt; written, answer);
     }
     Ok(())
 }

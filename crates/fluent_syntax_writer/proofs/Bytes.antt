@@ -7,7 +7,7 @@ use Rattle.fluent_syntax_grammar.specs.Written.{Text, last_of}
 use Rattle.fluent_syntax_writer.specs.Sink.{Takes, TakesBeginning}
 use Rattle.fluent_syntax_writer.specs.Writing.{Outcome, appended, stopped, silent, Appends}
 use Rattle.fluent_syntax_writer.proofs.Sinks.{Takes-none, Takes-append, TakesBeginning-after, TakesBeginning-before}
-use Rattle.fluent_syntax_writer.specs.declared.serializer.text_writer.TextWriter.{TextWriter}
+use Rattle.fluent_syntax_writer.specs.declared.text_writer.TextWriter.{TextWriter}
 
 -- ---- The last byte
 
@@ -75,3 +75,14 @@ module _ {T W : Type 0} {text : W → List ℕ} {room : W → ℕ} where
   pub Appends-bytes : {a b : TextWriter T W} {xs ys : Text}
       → xs ≡ ys → Appends text room a b ys → Appends text room a b xs
   Appends-bytes {a = a} {b = b} e h = subst (λ xs. Appends text room a b xs) (sym e) h
+
+  -- what a sink has taken that refuses among bytes, and not before
+  pub Appends-refused : {a b : TextWriter T W} {old new : W} {bs : Text} → Appends text room a b bs
+      → a.refused ≡ false → b.refused ≡ true → old ≡ a.sink.now → new ≡ b.sink.now
+      → TakesBeginning text room old new bs
+  Appends-refused {a} {b} {old} {new} {bs} h was now before then = rw (before, then) (begun h.outcome)
+    where
+      begun : Outcome text room a b bs → TakesBeginning text room a.sink.now b.sink.now bs
+      begun (appended was' now' taken last) = cc
+      begun (stopped was' now' taken) = taken
+      begun (silent was' now' same) = cc

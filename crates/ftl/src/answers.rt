@@ -21,7 +21,8 @@ use fluent_syntax::parser::{
 };
 use fluent_syntax::serializer::serialize;
 use fluent_syntax::spans::{Lines, Span, parse_spans_edition};
-use fluent_syntax_json::to_value;
+use fluent_syntax::unicode::SinkError;
+use fluent_syntax_json::write_to;
 use std::alloc::{AllocError, Global};
 use std::fmt::Write;
 
@@ -42,11 +43,11 @@ pub fn answer(alloc: Global, command: Command, input: &[u8]) -> Result<(String, 
     }
     match command {
         Command::Check => check(alloc, text, Edition::One),
-        Command::Json => json(alloc, text),
         Command::CheckTwo => check(alloc, text, Edition::Two),
         Command::Format => format(alloc, parse_edition(alloc, text, Edition::One)),
         Command::FormatTwo => format(alloc, parse_edition(alloc, text, Edition::Two)),
         Command::Runtime => format(alloc, parse_runtime_edition(alloc, text, Edition::One)),
+        Command::Json => json(alloc, parse_edition(alloc, text, Edition::One)),
     }
 }
 
@@ -155,29 +156,25 @@ fn written<'s>(
     }
 }
 
-/// The JSON value of the tree that is read, as compact text, and LF.
-fn json(alloc: Global, text: &str) -> Result<(String, Outcome), RunFault>
-    requires { length text.now + 1 < 2 ^ 64 }
-    ensures text { IfOk result (λ answer. (tiles : List Tile) × Tiling Edition.One text.now tiles
-        × (string_bytes answer.0 ≡ json_text text.now tiles) × (answer.1 ≡ outcome_of tiles)) }
+/// The JSON form of the tree that was read, as compact text, and LF.
+fn json<'s>(alloc: Global, parsed: parser::Result<&'s str>) -> Result<(String, Outcome), RunFault>
+    ensures text { IfOk result (λ answer. (t : List ℕ) (tiles : List Tile) → Answers (λ s. s.now) (body_map (bytes_at t)) tiles parsed.entry
+        → (string_bytes answer.0 ≡ json_text t tiles) × (answer.1 ≡ outcome_of tiles)) }
     ensures err { IfErr result (λ fault. fault ≡ RunFault.Memory) }
 {
-    let Ok(source) = String::from_str(alloc, text) else {
-        return Err(RunFault::Memory);
-    };
-    match parse_edition(alloc, source, Edition::One) {
+    match parsed {
         Ok(tree) => json_text(alloc, &tree, Outcome::Clean),
         Err(ParseFault::Syntax(tree, _errors)) => json_text(alloc, &tree, Outcome::SyntaxErrors),
         Err(ParseFault::Memory) => Err(RunFault::Memory),
     }
 }
 
-fn json_text(
+fn json_text<'s>(
     alloc: Global,
-    tree: &Resource<String>,
+    tree: &Resource<&'s str>,
     outcome: Outcome,
 ) -> Result<(String, Outcome), RunFault>
-    ensures text { IfOk result (λ answer. (string_bytes answer.0 ≡ compact_text (body_form (resource_view string_bytes tree.now)) ++ codes "\n") × (answer.1 ≡ outcome)) }
+    ensures text { IfOk result (λ answer. (string_bytes answer.0 ≡ compact_text (body_form (resource_view (λ s. s.now) tree.now)) ++ codes "\n") × (answer.1 ≡ outcome)) }
     ensures err { IfErr result (λ fault. fault ≡ RunFault.Memory) }
 {
     match json_line(alloc, tree) {
@@ -186,11 +183,14 @@ fn json_text(
     }
 }
 
-fn json_line(alloc: Global, tree: &Resource<String>) -> Result<String, AllocError>
-    ensures { IfOk result (λ text. string_bytes text ≡ compact_text (body_form (resource_view string_bytes tree.now)) ++ codes "\n") }
+fn json_line<'s>(alloc: Global, tree: &Resource<&'s str>) -> Result<String, AllocError>
+    ensures { IfOk result (λ text. string_bytes text ≡ compact_text (body_form (resource_view (λ s. s.now) tree.now)) ++ codes "\n") }
 {
-    let value = to_value(alloc, tree)?;
-    let mut text = value.to_string(alloc)?;
+    let mut text = String::new(alloc);
+    match write_to(&mut text, tree) {
+        Ok(()) => (),
+        Err(SinkError) => return Err(AllocError),
+    }
     text.push('\n')?;
     Ok(text)
 }

@@ -54,6 +54,8 @@ returns-in-Runtime-clause-text c =
 pub returns-in-Json-clause-text : goal.returns-in-Json-clause-text
 returns-in-Json-clause-text c =
     let utf8 = c.in-Ok.ensures.cases in
+    let parsed = c.parse_edition-in-Json.ensures.tiling in
     IfOk-weaker c.json.result _ _ (λ answer h.
-    answered c.args.command Json c.args.input.now c.in-Ok.text.now (string_bytes answer.0) answer.1 h.0
-    c.in-Json.is utf8.0 utf8.1 h.1 h.2 h.3) c.json.ensures.text
+    let k = h c.in-Ok.text.now parsed.0 parsed.2 in
+    answered c.args.command Json c.args.input.now c.in-Ok.text.now (string_bytes answer.0) answer.1 parsed.0
+    c.in-Json.is utf8.0 utf8.1 parsed.1 k.0 k.1) c.json.ensures.text

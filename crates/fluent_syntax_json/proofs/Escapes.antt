@@ -1,0 +1,48 @@
+-- The bytes of a text, one by one, and what stands for them in a JSON string.
+use Rattle.std.proofs.Common.{◌≡◌, ℕ, ◌+◌, ◌/◌, ◌%◌, ◌<◌, ◌==◌, cond, nat_lt, ◌||◌, List, [], ◌∷◌, ◌++◌, length, take, drop, get_or, true, false}
+use Rattle.std.proofs.Common.{sym, ap, ◌∙◌, arith, append_assoc}
+use Rattle.std.proofs.lemmas.Bool.{or_parts, not-true, eqb-false, lt-ltb, ltb-false}
+use Rattle.std.proofs.lemmas.Bool.Decides.{nat_tests}
+use Rattle.std.proofs.lemmas.List.{take_more, drop_more}
+use Rattle.json.specs.Print.{escape_letter, escape_byte, escape}
+use Rattle.std.specs.Char.{digit_char}
+use Rattle.json.specs.Run.{is_plain}
+use Rattle.json.proofs.Printed.Strings.{escape_byte_plain}
+
+-- a byte that is escaped is ASCII
+pub escaped_is_ascii : (b : ℕ) → is_plain b ≡ false → b < 128
+escaped_is_ascii b h = grind (arith, nat_tests)
+
+control : (b : ℕ) → is_plain b ≡ false → escape_letter b ≡ 0 → b < 32
+control b escaped none = grind (arith, nat_tests)
+
+-- a control character that has no short escape
+pub control_byte : (b : ℕ) → is_plain b ≡ false → escape_letter b ≡ 0
+    → escape_byte b ≡ 92 ∷ 117 ∷ 48 ∷ 48 ∷ digit_char (b / 16) ∷ digit_char (b % 16) ∷ []
+unfolding escape_byte
+control_byte b escaped none =
+    let small = control b escaped none in
+    let long = 92 ∷ 117 ∷ 48 ∷ 48 ∷ digit_char (b / 16) ∷ digit_char (b % 16) ∷ [] in
+    ap (λ letter. cond (nat_lt 0 letter) (92 ∷ letter ∷ []) (cond (nat_lt b 32) long (b ∷ []))) none
+    ∙ ap (λ t. cond t long (b ∷ [])) (lt-ltb b 32 small)
+
+plain_byte : (b : ℕ) → is_plain b ≡ true → escape_byte b ≡ b ∷ []
+plain_byte b h =
+    let none = or_parts ((b == 34) || (b == 92)) _ (not-true _ h) in
+    let tests = or_parts (b == 34) _ none.0 in
+    escape_byte_plain b (eqb-false b 34 tests.0) (eqb-false b 92 tests.1) (ltb-false b 32 none.1)
+
+-- The bytes before the place stand for themselves.
+module _ (bs : List ℕ) where
+  abbrev pub PlainBefore : ℕ → Type 0
+  PlainBefore end = escape bs ≡ take end bs ++ escape (drop end bs)
+
+  pub plain_more : (end : ℕ) → end < length bs → is_plain (get_or bs end 0) ≡ true → PlainBefore end
+      → PlainBefore (end + 1)
+  plain_more end within plain before =
+      let b = get_or bs end 0 in
+      let rest = escape (drop (end + 1) bs) in
+      before ∙ ap (λ t. take end bs ++ escape t) (drop_more bs end 0 within)
+      ∙ ap (λ t. take end bs ++ (t ++ rest)) (plain_byte b plain)
+      ∙ sym (append_assoc (take end bs) (b ∷ []) rest)
+      ∙ ap (λ t. t ++ rest) (sym (take_more bs end 0 within))

@@ -1,0 +1,6 @@
+//! Trees written as JSON text, with no value made of them.
+pub mod entries;
+mod escapes;
+mod names;
+mod patterns;
+mod tokens;

@@ -1,0 +1,73 @@
+//! What stands in a JSON string for the bytes of a text.
+ghost use Rattle.std.specs.Prelude.{◌≡◌, ◌<◌, ◌∷◌, ◌++◌, [], ◌/◌, ◌%◌, length, IfSome, MatchOption, false};
+ghost use Rattle.std.specs.Char.{digit_char};
+ghost use Rattle.json.specs.Print.{escape_letter, escape_byte, escape};
+ghost use Rattle.json.specs.Run.{is_plain};
+
+/// Whether the byte stands for itself.
+#[inline(always)]
+fn is_plain(byte: u8) -> bool
+    ensures { result ≡ is_plain byte }
+{
+    !(byte == b'"' || byte == b'\\' || byte < b' ')
+}
+
+/// The text before the first byte that is escaped, that byte, and the text after it; or `None` where every byte stands for itself.
+pub fn split_at_escape(text: &str) -> Option<(&str, u8, &str)>
+    ensures parts { MatchOption result (escape text.now ≡ text.now) (λ parts. escape text.now ≡ parts.0.now ++ (escape_byte parts.1 ++ escape parts.2.now)) }
+    ensures escaped { IfSome result (λ parts. is_plain parts.1 ≡ false) }
+    ensures shorter { IfSome result (λ parts. length parts.2.now < length text.now) }
+{
+    let bytes = text.as_bytes();
+    let mut end = 0;
+    while end < bytes.len() {
+        let byte = bytes[end];
+        if !is_plain(byte) {
+            return Some((&text[..end], byte, &text[end + 1..]));
+        }
+        end += 1;
+    }
+    None
+}
+
+/// The escape of two bytes, or `None` for a byte that has none.
+#[tactic(auto, unfolding(json::specs::Print::escape_byte))]
+pub fn short_escape(byte: u8) -> Option<&'static str>
+    ensures { MatchOption result (escape_letter byte ≡ 0) (λ text. text.now ≡ escape_byte byte) }
+{
+    match byte {
+        b'"' => Some("\\\""),
+        b'\\' => Some("\\\\"),
+        8 => Some("\\b"),
+        9 => Some("\\t"),
+        b'\n' => Some("\\n"),
+        12 => Some("\\f"),
+        b'\r' => Some("\\r"),
+        _ => None,
+    }
+}
+
+/// The hexadecimal digit of this value.
+pub fn hexadecimal_digit(value: u8) -> &'static str
+    requires { value < 16 }
+    ensures { result.now ≡ digit_char value ∷ [] }
+{
+    match value {
+        0 => "0",
+        1 => "1",
+        2 => "2",
+        3 => "3",
+        4 => "4",
+        5 => "5",
+        6 => "6",
+        7 => "7",
+        8 => "8",
+        9 => "9",
+        10 => "a",
+        11 => "b",
+        12 => "c",
+        13 => "d",
+        14 => "e",
+        _ => "f",
+    }
+}
