@@ -44,7 +44,7 @@ fn push_last(
 ) -> Result<(), AllocError>
     ensures { OnOk result (map (element_view string_bytes) elements.new.items
         ≡ map (element_view string_bytes) elements.old.items
-            ++ map text_element (option_to_list (option_map string_bytes last))) }
+        ++ map text_element (option_to_list (option_map string_bytes last))) }
 {
     if let Some(value) = last {
         elements.push(PatternElement::TextElement { value })?;
@@ -87,21 +87,40 @@ pub fn pattern<X, T: ReadTexts<X>>(
     let mut elements = list_for(alloc, &pattern.elements);
     let mut last = None;
     for item in &pattern.elements {
-        match item {
-            PatternElement::TextElement { value } => {
-                last = push_text(&mut elements, last, copied::<X, T>(alloc, value)?)?;
-            }
-            PatternElement::Placeable { expression: inner } => {
-                push_last(&mut elements, last)?;
-                last = None;
-                elements.push(PatternElement::Placeable {
-                    expression: expression::<X, T>(alloc, inner)?,
-                })?;
-            }
-        }
+        last = push_element::<X, T>(alloc, item, &mut elements, last)?;
     }
     push_last(&mut elements, last)?;
     Ok(Pattern { elements })
+}
+
+/// Appends the last text and the element, joined or apart, but for what may be joined to the text after it: that is
+/// answered as the new last text.
+#[cycle(joined)]
+#[tactic(auto, using(fluent_syntax_tree::proofs::Views::views))]
+fn push_element<X, T: ReadTexts<X>>(
+    alloc: Global,
+    element: &PatternElement<X>,
+    made: &mut Vec<PatternElement<String>>,
+    last: Option<String>,
+) -> Result<Option<String>, AllocError>
+    ensures { IfOk result (λ next. (rest : PatternTree Text) →
+        before_pattern (map (element_view string_bytes) made.new.items)
+        (joined_from (option_map string_bytes next) rest)
+        ≡ before_pattern (map (element_view string_bytes) made.old.items)
+        (joined_from (option_map string_bytes last) (elements (element_view T.text element.now) rest))) }
+{
+    match element {
+        PatternElement::TextElement { value } => {
+            push_text(made, last, copied::<X, T>(alloc, value)?)
+        }
+        PatternElement::Placeable { expression: inner } => {
+            push_last(made, last)?;
+            made.push(PatternElement::Placeable {
+                expression: expression::<X, T>(alloc, inner)?,
+            })?;
+            Ok(None)
+        }
+    }
 }
 
 #[cycle(joined)]

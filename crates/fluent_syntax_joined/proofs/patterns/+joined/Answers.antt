@@ -1,16 +1,13 @@
 use Rattle.std.proofs.Common.{◌+◌, None, Some, map, option_map, drop, string_bytes, sym, ap, ◌∙◌}
-use Rattle.fluent_syntax_tree.specs.Tree.{arguments_of, some_arguments, elements, elements_of, text_element}
+use Rattle.fluent_syntax_tree.specs.Tree.{arguments_of, some_arguments, elements, elements_of}
 use Rattle.fluent_syntax_tree.specs.View.{expression_view, element_view, arguments_view, named_view, variant_view}
 use Rattle.fluent_syntax_tree.proofs.Lists.{map_finished}
-use Rattle.fluent_syntax_tree.proofs.Views.{view-Pattern, view-TextElement, view-Placeable}
+use Rattle.fluent_syntax_tree.proofs.Views.{view-Pattern, view-Placeable}
 use Rattle.fluent_syntax_grammar.specs.Joined.{joined_maybe, joined_named, joined_pattern, joined_variant}
 use Rattle.fluent_syntax_joined.specs.Joining.{before_pattern, joined_from}
 use Rattle.fluent_syntax_joined.proofs.Elements.{with_placeable, with_end, left_more, left_none, placeable_pushed}
-use Rattle.fluent_syntax_joined.proofs.Elements.{given}
 use Rattle.fluent_syntax_joined.proofs.Trees.{joined-CallArguments, joined-Select, joined-TermReference}
 use Rattle.fluent_syntax_joined.proofs.patterns.+joined.Goals as goal
-use Rattle.fluent_syntax_joined.proofs.patterns.+joined.Goals.{pattern-in-TextElement+in_ok-copied-in-TextElement+in_ok-last-in-TextElement}
-use Rattle.fluent_syntax_joined.proofs.patterns.+joined.Goals.{pattern-in-Placeable+in_ok-push_last-in-Placeable+in_ok-expression-in-Placeable+in_ok-push-in-Placeable}
 
 pub arguments-returns : goal.arguments-returns
 arguments-returns g t c =
@@ -51,26 +48,22 @@ pattern-loop-item-preserved g t c =
     let items = c.deref-item-items.result.now in
     let done = map (element_view string_bytes) c.loop-item.elements.items in
     let last = option_map string_bytes c.loop-item.last in
-    let rest = elements_of (map view (drop (c.loop-item.item-index + 1) items)) in
     c.loop-item.invariant
     ∙ ap (λ p. before_pattern done (joined_from last p))
     (left_more view items c.loop-item.item-index c.item-item.result c.loop-item-test.true c.item-item.is)
-    ∙ elim c.match-item.branch [
-      | pattern-in-TextElement+in_ok-copied-in-TextElement+in_ok-last-in-TextElement w ↦
-          ap (λ x. before_pattern done (joined_from last (elements x rest)))
-          (ap view w.in-TextElement.is ∙ view-TextElement g.T.ReadTexts.text w.in-TextElement.value
-          ∙ ap text_element (sym w.in_ok-copied-in-TextElement.ensures))
-          ∙ sym (w.in_ok-last-in-TextElement.ensures rest)
-          ∙ given string_bytes _ _ _ _ rest w.elements-is w.last-is
-      | pattern-in-Placeable+in_ok-push_last-in-Placeable+in_ok-expression-in-Placeable+in_ok-push-in-Placeable w ↦
-          ap (λ x. before_pattern done (joined_from last (elements x rest)))
-          (ap view w.in-Placeable.is ∙ view-Placeable g.T.ReadTexts.text w.in-Placeable.inner)
-          ∙ sym (with_placeable done last (expression_view g.T.ReadTexts.text w.in-Placeable.inner) rest)
-          ∙ ap (λ l. before_pattern l (joined_pattern rest))
-          (sym (placeable_pushed string_bytes _ _ _ _ _ w.in_ok-push-in-Placeable.ensures.items
-          w.in_ok-push_last-in-Placeable.ensures w.in_ok-expression-in-Placeable.ensures))
-          ∙ given string_bytes _ _ _ _ rest w.elements-is w.last-is
-    ]
+    ∙ sym (c.in_ok-last.ensures (elements_of (map view (drop (c.loop-item.item-index + 1) items))))
+
+pub push_element-returns-in_ok-push-in-Placeable : goal.push_element-returns-in_ok-push-in-Placeable
+push_element-returns-in_ok-push-in-Placeable g t c = λ rest.
+    let text = g.T.ReadTexts.text in
+    let done = map (element_view string_bytes) c.args.made.now.items in
+    let last = option_map string_bytes c.args.last in
+    ap (λ l. before_pattern l (joined_pattern rest))
+    (placeable_pushed string_bytes _ _ _ _ _ c.in_ok-push-in-Placeable.ensures.items
+    c.in_ok-push_last-in-Placeable.ensures c.in_ok-expression-in-Placeable.ensures)
+    ∙ with_placeable done last (expression_view text c.in-Placeable.inner) rest
+    ∙ ap (λ x. before_pattern done (joined_from last (elements x rest)))
+    (sym (ap (element_view text) c.in-Placeable.is ∙ view-Placeable text c.in-Placeable.inner))
 
 pub pattern-returns : goal.pattern-returns
 pattern-returns g t c =
