@@ -3,6 +3,7 @@
 
 mod answers;
 mod command;
+pub mod laws;
 mod lines;
 mod outcome;
 mod runs;
