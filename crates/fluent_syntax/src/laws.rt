@@ -10,6 +10,7 @@ ghost use Rattle.fluent_syntax_tree.specs.Spans.{bytes_at};
 ghost use Rattle.fluent_syntax_tree.specs.View.{resource_view};
 
 use crate::parser::{Edition, ParseFault, Result, Slice, parse};
+pub use fluent_syntax_joined::joined;
 pub use fluent_syntax_laws::{
     formats_again, reads_back, reads_readable, unique_reading, written_apart,
 };

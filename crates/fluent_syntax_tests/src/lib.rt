@@ -22,7 +22,11 @@ mod outline;
 #[cfg(test)]
 mod places;
 #[cfg(test)]
+mod random_trees;
+#[cfg(test)]
 mod round_trip;
+#[cfg(test)]
+mod round_trip_at_random;
 #[cfg(test)]
 mod runs;
 #[cfg(test)]

@@ -3,3 +3,4 @@ pub mod Outcome
 pub mod Watched
 pub mod Answer
 pub mod Run
+pub mod Formatted

@@ -3,6 +3,7 @@
 
 mod answers;
 mod command;
+pub mod laws;
 mod outcome;
 mod runs;
 mod watched;

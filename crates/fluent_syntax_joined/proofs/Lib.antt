@@ -1,0 +1,4 @@
+pub mod LastBytes
+pub mod Elements
+pub mod Trees
+pub mod Bodies

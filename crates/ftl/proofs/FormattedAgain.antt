@@ -1,0 +1,68 @@
+-- What `Format` answers for texts that it answered.
+use Rattle.std.proofs.Common.{◌≡◌, List, [], ◌∷◌, true, false, refl, sym, ap, ◌∙◌, subst}
+use Rattle.fluent_syntax_tree.specs.Entry.{message, term, comment, junk, BodyTree}
+use Rattle.fluent_syntax_tree.specs.declared.edition.Edition.TheVariants.{One}
+use Rattle.fluent_syntax_grammar.specs.Body.{faults}
+use Rattle.fluent_syntax_grammar.specs.Bytes.{hyphen}
+use Rattle.fluent_syntax_grammar.specs.Joined.{joined_body}
+use Rattle.fluent_syntax_grammar.specs.RoundTrip.{ReadsAs, tree_of}
+use Rattle.fluent_syntax_grammar.specs.Tiling.{Fault}
+use Rattle.fluent_syntax_grammar.specs.Written.{Text, written}
+use Rattle.fluent_syntax_grammar.proofs.OneTiling.{one_tiling}
+use Rattle.fluent_syntax_grammar.proofs.marks.Again.{written_again}
+use Rattle.ftl.specs.Answer.{IsAnswer, outcome_with}
+use Rattle.ftl.specs.Formatted.{names, FormatsAgain}
+use Rattle.ftl.specs.declared.command.Command.TheVariants.{Format}
+use Rattle.ftl.specs.declared.outcome.Outcome.{Outcome}
+use Rattle.ftl.specs.declared.outcome.Outcome.TheVariants.{Clean}
+
+joined_names : (tree : BodyTree Text) → names (joined_body tree) ≡ names tree
+joined_names [] = refl
+joined_names (message m ∷ es) = ap (λ l. m.id ∷ l) (joined_names es)
+joined_names (term m ∷ es) = ap (λ l. (hyphen ∷ m.id) ∷ l) (joined_names es)
+joined_names (comment level content ∷ es) = joined_names es
+joined_names (junk content ∷ es) = joined_names es
+
+clean_outcome : (fs : List Fault) → outcome_with fs ≡ Clean → fs ≡ []
+clean_outcome [] h = refl
+clean_outcome (f ∷ fs) h = absurd cc
+
+-- of a text that reads as the tree
+module _ (t : Text) (tree : BodyTree Text) (reads : ReadsAs One t tree) (text : Text) (outcome : Outcome)
+    (answer : IsAnswer Format t text outcome) where
+  same_tiles : answer.tiles ≡ reads.tiles
+  same_tiles = one_tiling One t answer.tiles reads.tiles answer.has_tiles reads.tiling
+
+  answered_clean : outcome ≡ Clean
+  answered_clean = answer.outcome_is ∙ ap outcome_with (ap faults same_tiles ∙ reads.no_faults)
+
+  answered_tree : tree_of t answer.tiles ≡ tree
+  answered_tree = ap (tree_of t) same_tiles ∙ reads.same
+
+  answered_text : text ≡ written false tree
+  answered_text = answer.text_is ∙ ap (written false) answered_tree
+
+pub formats_again : (t : Text) → FormatsAgain t
+formats_again t formatted again outcome next first second canonical =
+    let tree = tree_of t first.tiles in
+    let whole = joined_body tree in
+    let law = written_again t first.tiles first.has_tiles canonical in
+    let reads : ReadsAs One formatted whole =
+    subst (λ x. ReadsAs One x whole) (sym first.text_is) law.0 in
+    let is_written : again ≡ written false whole = answered_text formatted whole reads again next second in
+    let reads_again : ReadsAs One again whole =
+    subst (λ x. ReadsAs One x whole) (sym is_written) law.1 in
+    let reads_as = answered_tree formatted whole reads again next second in
+    record {
+      is_clean = answered_clean formatted whole reads again next second;
+      reads_as = reads_as;
+      same_names = ap names reads_as ∙ joined_names tree;
+      is_written = is_written;
+      is_same = λ clean.
+          is_written ∙ (law.2 (clean_outcome (faults first.tiles) (sym first.outcome_is ∙ clean))
+          ∙ sym first.text_is);
+      is_settled = λ third last answer. (
+        answered_clean again whole reads_again third last answer,
+        answered_text again whole reads_again third last answer ∙ sym is_written,
+      );
+    }

@@ -1,0 +1,15 @@
+//! Laws of the commands' texts that callers may rely on.
+
+ghost use Rattle.ftl.specs.Formatted.{FormatsAgain};
+
+/// The law of `Command::Format`, of a text and what `answer` gives for it, for that, and so on. The joined tree is the
+/// tree that the text is read as, without its junk, and with each text that is one LF joined to the text before it, if
+/// that does not end in LF.
+///
+/// Where the joined tree is canonical, the formatted text has no error and reads as the joined tree: it has the same
+/// messages and terms in the same order. Formatted again it is the text of the joined tree; that is the same text where
+/// the first had no error, and else differs at most in the line end before a comment that followed junk. Formatting
+/// once more changes nothing.
+pub fn formats_again(text: &[u8])
+    ensures { FormatsAgain text.now }
+{}
