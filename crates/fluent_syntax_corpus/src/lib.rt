@@ -13,3 +13,5 @@ pub use values::VALUES;
 mod junk;
 #[cfg(test)]
 mod prefixes;
+#[cfg(test)]
+mod round_trips;

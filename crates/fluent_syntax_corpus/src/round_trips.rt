@@ -1,0 +1,85 @@
+//! Each text cut at each of its characters: joined, formatted, and formatted again.
+
+use crate::texts::TEXTS;
+use fluent_syntax::ast::Resource;
+use fluent_syntax::laws::{joined, reparse, same_texts};
+use fluent_syntax::parser::{ParseFault, parse};
+use fluent_syntax::serializer::serialize;
+use ftl::laws::formats_again;
+use ftl::{Command, Outcome, answer};
+use std::alloc::Global;
+use std::test::Fail;
+
+/// The tree of the text, and whether the text has no error.
+fn tree(alloc: Global, text: &str) -> Result<(Resource<String>, bool), Fail> {
+    match parse(alloc, String::from_str(alloc, text)?) {
+        Ok(tree) => Ok((tree, true)),
+        Err(fault) => match fault {
+            ParseFault::Syntax(tree, _errors) => Ok((tree, false)),
+            ParseFault::Memory => Err("no memory".into()),
+        },
+    }
+}
+
+/// Whether the tree is read as the other, once it is written.
+fn reads_as(alloc: Global, tree: &Resource<String>, other: &Resource<String>) -> bool {
+    let Ok(back) = reparse(alloc, tree) else {
+        return false;
+    };
+    same_texts(&back, other)
+}
+
+/// Whether the tree is joined once for all, already where the text has no CR and no error, and whether without errors
+/// it is written as its joined tree.
+fn joins(alloc: Global, text: &str) -> Result<bool, Fail> {
+    let (tree, clean) = tree(alloc, text)?;
+    let once = joined(alloc, &tree)?;
+    let twice = joined(alloc, &once)?;
+    let stays = !clean || text.as_bytes().contains(&b'\r') || same_texts(&tree, &once);
+    let alike = !clean || serialize(alloc, &tree)? == serialize(alloc, &once)?;
+    Ok(same_texts(&once, &twice) && stays && alike)
+}
+
+/// The text formatted, and whether it has no error.
+fn formatted(alloc: Global, text: &str) -> Result<(String, bool), Fail> {
+    match answer(alloc, Command::Format, text.as_bytes()) {
+        Ok((formatted, outcome)) => Ok((formatted, outcome == Outcome::Clean)),
+        Err(_) => Err("not formatted".into()),
+    }
+}
+
+/// Whether the law of formatting holds of the text, where its joined tree is read back as it is.
+fn formats(alloc: Global, text: &str) -> Result<bool, Fail> {
+    let (tree, clean) = tree(alloc, text)?;
+    let whole = joined(alloc, &tree)?;
+    if !reads_as(alloc, &whole, &whole) {
+        return Ok(true);
+    }
+    let (once, _) = formatted(alloc, text)?;
+    let (twice, once_clean) = formatted(alloc, once.as_str())?;
+    let (again, twice_clean) = formatted(alloc, twice.as_str())?;
+    let kept = again == twice && (!clean || twice == once);
+    Ok(reads_as(alloc, &tree, &whole) && once_clean && twice_clean && kept)
+}
+
+/// The first beginning of the text for which one of these does not hold.
+fn beginning_that_fails<'t>(alloc: Global, text: &'t str) -> Result<Option<&'t str>, Fail> {
+    for end in 0..=text.len() {
+        let Some(cut) = text.get(..end) else {
+            continue;
+        };
+        if !joins(alloc, cut)? || !formats(alloc, cut)? {
+            return Ok(Some(cut));
+        }
+    }
+    Ok(None)
+}
+
+#[test]
+fn each_beginning_joined_and_formatted(rt: HostRuntime) -> Result<(), Fail> {
+    for text in TEXTS {
+        formats_again(text.as_bytes());
+        assert_eq!(rt; beginning_that_fails(rt.alloc(), text)?, None);
+    }
+    Ok(())
+}
