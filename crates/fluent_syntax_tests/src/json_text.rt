@@ -54,7 +54,11 @@ fn texts_of_forms(rt: HostRuntime) -> Result<(), Fail> {
         let borrowed = json_text(alloc, &tree(alloc, text)?)?;
         assert_eq!(rt; borrowed.as_str(), sorted.as_str(), "{what}");
         let owned = tree(alloc, String::from_str(alloc, text)?)?;
-        assert_eq!(rt; json_text(alloc, &owned)?, to_value(alloc, &owned)?.to_string(alloc)?, "{what}");
+        assert_eq!(rt;
+            json_text(alloc, &owned)?,
+            to_value(alloc, &owned)?.to_string(alloc)?,
+            "{what}"
+        );
         assert_eq!(rt; json_text(alloc, &owned)?, borrowed, "{what}");
     }
     Ok(())
@@ -80,10 +84,20 @@ fn characters_as_serde_json_writes_them(rt: HostRuntime) -> Result<(), Fail> {
     let mut text = String::new(alloc);
     for byte in 0..128u8 {
         text.push(char::from(byte))?;
-        let alone = junk(alloc, String::from_str(alloc, &text.as_str()[byte as usize..])?)?;
-        assert_eq!(rt; json_text(alloc, &alone)?, to_value(alloc, &alone)?.to_string(alloc)?, "{byte}");
+        let alone = junk(
+            alloc,
+            String::from_str(alloc, &text.as_str()[byte as usize..])?,
+        )?;
+        assert_eq!(rt;
+            json_text(alloc, &alone)?,
+            to_value(alloc, &alone)?.to_string(alloc)?,
+            "{byte}"
+        );
     }
     let all = junk(alloc, text)?;
-    assert_eq!(rt; json_text(alloc, &all)?, to_value(alloc, &all)?.to_string(alloc)?);
+    assert_eq!(rt;
+        json_text(alloc, &all)?,
+        to_value(alloc, &all)?.to_string(alloc)?
+    );
     Ok(())
 }

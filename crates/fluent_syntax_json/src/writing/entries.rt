@@ -8,9 +8,9 @@ ghost use Rattle.fluent_syntax_json.specs.Form.{or_null, list_form, comment_form
 ghost use Rattle.fluent_syntax_json.specs.Writing.{WritesData};
 ghost use Rattle.fluent_syntax_writer.specs.Writing.{Appends};
 
-use super::tokens::{write_comma, write_text};
 use super::names::{write_lines, write_name};
 use super::patterns::write_pattern;
+use super::tokens::{write_comma, write_text};
 use fluent_syntax_tree::ast::*;
 use fluent_syntax_tree::slice::Slice;
 use fluent_syntax_tree::texts::{BySlice, ReadTexts};
@@ -77,10 +77,7 @@ fn write_entries<X, T: ReadTexts<X>, W: TextSink>(
     writer.write_piece("]");
 }
 
-fn write_entry<X, T: ReadTexts<X>, W: TextSink>(
-    writer: &mut TextWriter<'_, T, W>,
-    entry: &Entry<X>,
-)
+fn write_entry<X, T: ReadTexts<X>, W: TextSink>(writer: &mut TextWriter<'_, T, W>, entry: &Entry<X>)
     ensures written { WritesData W.text W.room writer.old writer.new (entry_form (entry_view T.text entry.now)) }
 {
     match entry {

@@ -7,8 +7,8 @@ ghost use Rattle.fluent_syntax_json.specs.Form.{expression_form, inline_form, in
 ghost use Rattle.fluent_syntax_json.specs.Writing.{WritesData};
 ghost use Rattle.fluent_syntax_writer.specs.Writing.{Appends};
 
-use super::tokens::{write_bool, write_comma, write_text};
 use super::names::{write_attribute_name, write_key, write_name};
+use super::tokens::{write_bool, write_comma, write_text};
 use fluent_syntax_tree::ast::*;
 use fluent_syntax_tree::texts::ReadTexts;
 use fluent_syntax_writer::sink::TextSink;
