@@ -1,12 +1,14 @@
 -- The bytes of a text, one by one, and what stands for them in a JSON string.
-use Rattle.std.proofs.Common.{◌≡◌, ℕ, ◌+◌, ◌/◌, ◌%◌, ◌<◌, ◌==◌, cond, nat_lt, ◌||◌, List, [], ◌∷◌, ◌++◌, length, take, drop, get_or, true, false}
-use Rattle.std.proofs.Common.{sym, ap, ◌∙◌, arith, append_assoc}
+use Rattle.std.proofs.Common.{◌≡◌, ℕ, zero, suc, ◌+◌, ◌≤◌, ◌/◌, ◌%◌, ◌<◌, ◌==◌, cond, nat_lt, ◌||◌, List, [], ◌∷◌, ◌++◌, length, take, drop, get_or, true, false}
+use Rattle.std.proofs.Common.{sym, ap, subst, ◌∙◌, arith, append_assoc}
 use Rattle.std.proofs.lemmas.Bool.{or_parts, not-true, eqb-false, lt-ltb, ltb-false}
 use Rattle.std.proofs.lemmas.Bool.Decides.{nat_tests}
 use Rattle.std.proofs.lemmas.List.{take_more, drop_more}
 use Rattle.json.specs.Print.{escape_letter, escape_byte, escape}
 use Rattle.std.specs.Char.{digit_char}
 use Rattle.json.specs.Run.{is_plain}
+use Rattle.json.specs.Written.{PlainBetween}
+use Rattle.fluent_syntax_json.specs.Writing.{IsPlainBefore}
 use Rattle.json.proofs.Printed.Strings.{escape_byte_plain}
 
 -- a byte that is escaped is ASCII
@@ -34,11 +36,8 @@ plain_byte b h =
 
 -- The bytes before the place stand for themselves.
 module _ (bs : List ℕ) where
-  abbrev pub PlainBefore : ℕ → Type 0
-  PlainBefore end = escape bs ≡ take end bs ++ escape (drop end bs)
-
-  pub plain_more : (end : ℕ) → end < length bs → is_plain (get_or bs end 0) ≡ true → PlainBefore end
-      → PlainBefore (end + 1)
+  pub plain_more : (end : ℕ) → end < length bs → is_plain (get_or bs end 0) ≡ true → IsPlainBefore bs end
+      → IsPlainBefore bs (end + 1)
   plain_more end within plain before =
       let b = get_or bs end 0 in
       let rest = escape (drop (end + 1) bs) in
@@ -46,3 +45,14 @@ module _ (bs : List ℕ) where
       ∙ ap (λ t. take end bs ++ (t ++ rest)) (plain_byte b plain)
       ∙ sym (append_assoc (take end bs) (b ∷ []) rest)
       ∙ ap (λ t. t ++ rest) (sym (take_more bs end 0 within))
+
+  pub plain_block : (start n : ℕ) → start + n ≤ length bs → PlainBetween bs start (start + n) → IsPlainBefore bs start
+      → IsPlainBefore bs (start + n)
+  plain_block start zero within plain before =
+      let same : start ≡ start + 0 = omega arith in
+      subst (IsPlainBefore bs) same before
+  plain_block start (suc n) within plain before =
+      let next : start + n + 1 ≡ start + suc n = omega arith in
+      let shorter = plain_block start n (omega arith) (λ k from to. plain k from (omega arith)) before in
+      let last = plain (start + n) (omega arith) (omega arith) in
+      subst (IsPlainBefore bs) next (plain_more (start + n) (omega arith) last shorter)

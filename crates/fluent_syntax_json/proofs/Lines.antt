@@ -1,9 +1,7 @@
 -- The lines of a comment.
-use Rattle.std.proofs.Common.{◌≡◌, [], ◌∷◌, Some, None, true, false, is_some, refl, sym, ap, ◌∙◌, true≢false}
-use Rattle.std.proofs.lemmas.Option.{none-some, same_Some}
+use Rattle.std.proofs.Common.{◌≡◌, None, true, false, is_some, refl, sym, ap, ◌∙◌, true≢false}
 use Rattle.serde_json.specs.Data.{Data, null, boolean, number, string, array, object}
 use Rattle.serde_json.specs.Find.{as_str}
-use Rattle.fluent_syntax_json.specs.Object.{Text}
 use Rattle.fluent_syntax_json.specs.Reading.{list_by, lines_in}
 
 -- what is no text has to be a list of lines

@@ -1,9 +1,10 @@
-//! JSON values of trees, and trees of values.
+//! JSON values of trees, JSON texts of trees, and trees of values.
 
-use crate::trees::owned_tree;
+use crate::answers::{HELD, Sunk};
+use crate::trees::{lent_tree, owned_tree};
 use crate::turns::{Tally, in_turn, nothing, over};
 use fluent_syntax_corpus::{TEXTS, VALUES};
-use fluent_syntax_json::{from_value, to_value};
+use fluent_syntax_json::{from_value, to_value, write_to};
 use serde_json::Value;
 use std::alloc::{AllocError, Global};
 use std::io;
@@ -12,7 +13,8 @@ pub fn calls<R: Print + AllocGlobal>(rt: &R) -> io::Result<Tally> {
     let formed = over(rt, "to_value", TEXTS.as_slice(), formed)?;
     let forms = over(rt, "from_value of forms", TEXTS.as_slice(), read_form)?;
     let values = over(rt, "from_value", VALUES.as_slice(), read_value)?;
-    Ok(formed.and(forms).and(values))
+    let texts = over(rt, "write_to", TEXTS.as_slice(), written)?;
+    Ok(formed.and(forms).and(values).and(texts))
 }
 
 /// The value of a text's tree, which stays as it was.
@@ -20,6 +22,21 @@ fn formed(alloc: Global, text: &str) -> Result<Tally, AllocError> {
     let tree = owned_tree(alloc, text)?;
     let before = owned_tree(alloc, text)?;
     let tally = in_turn(alloc, nothing, |_| to_value(alloc, &tree))?;
+    Ok(tally.wrong_if(tree != before))
+}
+
+/// The JSON text of a text's tree, which stays as it was.
+fn written(alloc: Global, text: &str) -> Result<Tally, AllocError> {
+    let (tree, _errors) = lent_tree(alloc, text)?;
+    let (before, _errors) = lent_tree(alloc, text)?;
+    let tally = in_turn(
+        alloc,
+        || String::from_str(alloc, HELD),
+        |mut sink| Sunk {
+            answer: write_to(&mut sink, &tree),
+            sink,
+        },
+    )?;
     Ok(tally.wrong_if(tree != before))
 }
 

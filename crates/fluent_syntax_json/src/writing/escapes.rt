@@ -1,8 +1,42 @@
 //! What stands in a JSON string for the bytes of a text.
-ghost use Rattle.std.specs.Prelude.{◌≡◌, ◌<◌, ◌∷◌, ◌++◌, [], ◌/◌, ◌%◌, length, IfSome, MatchOption, false};
+ghost use Rattle.std.specs.Prelude.{◌≡◌, ◌+◌, ◌<◌, ◌≤◌, ◌∷◌, ◌++◌, [], ◌/◌, ◌%◌, length, IfSome, MatchOption, false};
+ghost use Rattle.std.specs.Bool.{OnTrue};
 ghost use Rattle.std.specs.Char.{digit_char};
 ghost use Rattle.json.specs.Print.{escape_letter, escape_byte, escape};
 ghost use Rattle.json.specs.Run.{is_plain};
+ghost use Rattle.json.specs.Written.{PlainBetween};
+ghost use Rattle.fluent_syntax_json.specs.Writing.{IsPlainBefore};
+
+use std::simd::prelude::*;
+
+/// How many bytes are looked at at once.
+const BLOCK: usize = 8;
+
+/// Whether the block of bytes from this place on stands for itself.
+#[inline(always)]
+fn is_plain_block(bytes: &[u8], start: usize) -> bool
+    requires { start + 8 ≤ length bytes.now }
+    ensures { OnTrue result (PlainBetween bytes.now start (start + 8)) }
+{
+    let block = u8x8::from_slice(&bytes[start..]);
+    (block.simd_eq(u8x8::splat(b'"'))
+        | block.simd_eq(u8x8::splat(b'\\'))
+        | block.simd_lt(u8x8::splat(b' '))).to_bitmask()
+        == 0
+}
+
+/// The end of the whole blocks that the bytes begin with and that stand for themselves.
+#[inline(always)]
+fn plain_blocks_end(bytes: &[u8]) -> usize
+    ensures within { result ≤ length bytes.now }
+    ensures plain { IsPlainBefore bytes.now result }
+{
+    let mut end = 0;
+    while bytes.len() - end >= BLOCK && is_plain_block(bytes, end) {
+        end += BLOCK;
+    }
+    end
+}
 
 /// Whether the byte stands for itself.
 #[inline(always)]
@@ -19,7 +53,7 @@ pub fn split_at_escape(text: &str) -> Option<(&str, u8, &str)>
     ensures shorter { IfSome result (λ parts. length parts.2.now < length text.now) }
 {
     let bytes = text.as_bytes();
-    let mut end = 0;
+    let mut end = plain_blocks_end(bytes);
     while end < bytes.len() {
         let byte = bytes[end];
         if !is_plain(byte) {
