@@ -56,7 +56,7 @@ fn without_last_lf(bytes: &[u8]) -> &[u8]
     ensures { result.now ≡ without_last_lf bytes.now }
 {
     match bytes {
-        [rest @ .., b'\n'] => rest,
+        [rest @ .., last] if *last == b'\n' => rest,
         _ => bytes,
     }
 }
