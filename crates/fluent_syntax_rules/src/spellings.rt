@@ -3,7 +3,7 @@ ghost use Rattle.std.specs.Prelude.{◌≡◌, ◌∷◌, List, ℕ, Bool, false
 ghost use Rattle.std.specs.List.{list_all};
 ghost use Rattle.fluent_syntax_grammar.specs.Bytes.{is_name_byte, is_digit};
 ghost use Rattle.fluent_syntax_grammar.specs.Inline.{is_callee_byte};
-ghost use Rattle.fluent_syntax_grammar.specs.Spellings.{is_name, is_digits, is_number_rest, is_unsigned, is_number, is_string};
+ghost use Rattle.fluent_syntax_grammar.specs.Spellings.{is_name, is_digits, is_number_rest, is_unsigned, is_number, is_units, is_escape, is_string};
 ghost use Rattle.fluent_syntax_grammar.specs.Readable.{is_callee};
 ghost use Rattle.fluent_syntax_rules.specs.Strings.{may_follow};
 
@@ -102,24 +102,39 @@ fn next_after(next: Next, byte: u8) -> Option<Next>
         (λ after. (rest : List ℕ) → may_follow next (byte ∷ rest) ≡ may_follow after rest) }
 {
     match next {
-        Next::Units(0) => match byte {
-            b'"' | b'\n' => None,
-            b'\\' => Some(Next::Escape),
-            _ => Some(Next::Units(0)),
-        },
         Next::Units(digits) => {
-            if byte.is_ascii_hexdigit() {
+            if digits == 0 {
+                after_unit(byte)
+            } else if byte.is_ascii_hexdigit() {
                 Some(Next::Units(digits - 1))
             } else {
                 None
             }
         }
-        Next::Escape => match byte {
-            b'\\' | b'"' | b'{' => Some(Next::Units(0)),
-            b'u' => Some(Next::Units(4)),
-            b'U' => Some(Next::Units(6)),
-            _ => None,
-        },
+        Next::Escape => after_backslash(byte),
+    }
+}
+
+fn after_unit(byte: u8) -> Option<Next>
+    ensures { MatchOption result ((rest : List ℕ) → is_units 0 (byte ∷ rest) ≡ false)
+        (λ after. (rest : List ℕ) → is_units 0 (byte ∷ rest) ≡ may_follow after rest) }
+{
+    match byte {
+        b'"' | b'\n' => None,
+        b'\\' => Some(Next::Escape),
+        _ => Some(Next::Units(0)),
+    }
+}
+
+fn after_backslash(byte: u8) -> Option<Next>
+    ensures { MatchOption result ((rest : List ℕ) → is_escape (byte ∷ rest) ≡ false)
+        (λ after. (rest : List ℕ) → is_escape (byte ∷ rest) ≡ may_follow after rest) }
+{
+    match byte {
+        b'\\' | b'"' | b'{' => Some(Next::Units(0)),
+        b'u' => Some(Next::Units(4)),
+        b'U' => Some(Next::Units(6)),
+        _ => None,
     }
 }
 
