@@ -1,14 +1,16 @@
 -- The elements of a pattern, one by one.
-use Rattle.std.proofs.Common.{◌≡◌, ℕ, List, [], ◌∷◌, length, map, Bool, true, false, ◌&&◌, ◌||◌, Some, None, refl, ap, ◌∙◌}
+use Rattle.std.proofs.Common.{◌≡◌, ◌≤◌, List, [], ◌∷◌, length, map, Bool, true, false, ◌&&◌}
+use Rattle.std.proofs.Common.{◌||◌, ◌==◌, not, Some, None, refl, ap, ◌∙◌, arith}
 use Rattle.std.specs.Prelude.{slice_get}
 use Rattle.std.specs.List.{list_any}
 use Rattle.fluent_syntax_tree.specs.Tree.{ElementTree, text_element, placeable, PatternTree, no_elements, elements, elements_of}
 use Rattle.fluent_syntax_tree.specs.declared.edition.Edition.{Edition}
 use Rattle.fluent_syntax_grammar.specs.Readable.{begins_with_placeable, is_text, stands_well, ends_well, stand_after, are_elements}
-use Rattle.fluent_syntax_grammar.specs.Readable.{Stand, after_placeable}
-use Rattle.fluent_syntax_grammar.specs.Canonical.{hides_mark}
+use Rattle.fluent_syntax_grammar.specs.Readable.{Stand, opening, is_line_start, is_pattern}
+use Rattle.fluent_syntax_grammar.specs.Canonical.{hides_mark, are_lone}
+use Rattle.fluent_syntax_grammar.specs.PatternTexts.{is_lone_lf}
 use Rattle.fluent_syntax_grammar.specs.Written.{Text, is_multiline, spans_lines}
-use Rattle.fluent_syntax_rules.specs.Places.{stand_past, is_element, is_placeable, element_hides_mark}
+use Rattle.fluent_syntax_rules.specs.Places.{stand_past, is_element, is_placeable, element_hides_mark, stands_lone}
 
 pub is_multiline-list : {E : Type 0} (view : E → ElementTree Text) (es : List E)
     → is_multiline (elements_of (map view es)) ≡ list_any (λ e. spans_lines (view e)) es
@@ -42,15 +44,70 @@ hides_mark-first (placeable e) es = refl
 
 -- ---- Each element by its place
 
-and_assoc : (a b c d : Bool) → (a && (b && (c && d))) ≡ ((a && (b && c)) && d)
+pub and_assoc : (a b c d : Bool) → (a && (b && (c && d))) ≡ ((a && (b && c)) && d)
 and_assoc true true c d = refl
 and_assoc true false c d = refl
 and_assoc false b c d = refl
 
-pub are_elements-step : (edition : Edition) (multiline : Bool) (s : Stand) (e : ElementTree Text) (es : PatternTree Text)
-    → are_elements edition multiline s (elements e es)
-    ≡ (is_element edition multiline s e es && are_elements edition multiline (stand_past e) es)
-are_elements-step edition multiline s (text_element v) es =
-    and_assoc (is_text v) (stands_well edition multiline s v es) (ends_well v es)
-    (are_elements edition multiline (stand_after v) es)
-are_elements-step edition multiline s (placeable e) es = refl
+or_true : (b : Bool) → true ≡ (b || true)
+or_true true = refl
+or_true false = refl
+
+module _ {E : Type 0} (view : E → ElementTree Text) where
+  abbrev pub tree : List E → PatternTree Text
+  tree es = elements_of (map view es)
+
+  -- where the element after this one stands
+  abbrev pub past : Stand → E → Stand
+  past s e = stand_past (view e)
+
+  module _ (edition : Edition) (multiline : Bool) where
+    abbrev pub obey : Stand → List E → Bool
+    obey s es = are_elements edition multiline s (tree es)
+
+    abbrev pub obeys : Stand → E → List E → Bool
+    obeys s e es = is_element edition multiline s (view e) (tree es)
+
+    by_form : (s : Stand) (e : ElementTree Text) (es : PatternTree Text)
+        → are_elements edition multiline s (elements e es)
+        ≡ (is_element edition multiline s e es && are_elements edition multiline (stand_past e) es)
+    by_form s (text_element v) es =
+        and_assoc (is_text v) (stands_well edition multiline s v es) (ends_well v es)
+        (are_elements edition multiline (stand_after v) es)
+    by_form s (placeable e) es = refl
+
+    pub first_obeys : (s : Stand) (e : E) (es : List E) → obey s (e ∷ es) ≡ (obeys s e es && obey (past s e) es)
+    first_obeys s e es = by_form s (view e) (tree es)
+
+  abbrev pub lone : Stand → List E → Bool
+  lone s es = are_lone s (tree es)
+
+  abbrev pub one_lone : Stand → E → List E → Bool
+  one_lone s e es = stands_lone s (view e)
+
+  lone_by_form : (s : Stand) (e : ElementTree Text) (es : PatternTree Text)
+      → are_lone s (elements e es) ≡ (stands_lone s e && are_lone (stand_past e) es)
+  lone_by_form s (text_element v) es = refl
+  lone_by_form s (placeable e) es =
+      ap (λ b. b && are_lone (stand_past (placeable e)) es) (or_true (not (is_line_start s)))
+
+  pub first_lone : (s : Stand) (e : E) (es : List E) → lone s (e ∷ es) ≡ (one_lone s e es && lone (past s e) es)
+  first_lone s e es = lone_by_form s (view e) (tree es)
+
+-- ---- Whether there are elements
+
+pub ends_well-before : {E : Type 0} (view : E → ElementTree Text) (v : Text) (es : List E) → (length es == 0) ≡ false
+    → true ≡ ends_well v (elements_of (map view es))
+ends_well-before view v [] some = cc
+ends_well-before view v (e ∷ es) some = refl
+
+pub is_pattern-some : {E : Type 0} (view : E → ElementTree Text) (edition : Edition) (es : List E) → 1 ≤ length es
+    → is_pattern edition (elements_of (map view es))
+    ≡ are_elements edition (is_multiline (elements_of (map view es))) opening (elements_of (map view es))
+is_pattern-some view edition [] some = absurd (omega arith)
+is_pattern-some view edition (e ∷ es) some = refl
+
+pub is_pattern-none : {E : Type 0} (view : E → ElementTree Text) (edition : Edition) (es : List E) → length es ≡ 0
+    → is_pattern edition (elements_of (map view es)) ≡ false
+is_pattern-none view edition [] none = refl
+is_pattern-none view edition (e ∷ es) none = absurd (omega arith)

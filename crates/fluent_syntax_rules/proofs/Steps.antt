@@ -1,12 +1,26 @@
 -- Loops over a list, by what a function gives of what is left.
-use Rattle.std.proofs.Common.{◌≡◌, ℕ, ◌+◌, ◌<◌, ◌≤◌, List, [], ◌∷◌, length, get_or, drop, sym, ap, ◌∙◌, arith, refl}
+use Rattle.std.proofs.Common.{◌≡◌, ℕ, ◌+◌, ◌<◌, List, ◌∷◌, length, get_or, drop, Bool, true, false, ◌&&◌, sym, ap, ◌∙◌}
 use Rattle.std.proofs.lemmas.List.{at_drop_more}
 
 pub next_of : {X Y : Type 0} (F : List X → Y) (xs : List X) (i : ℕ) (x : X) → i < length xs → x ≡ get_or xs i x
     → F (drop i xs) ≡ F (x ∷ drop (i + 1) xs)
 next_of F xs i x within is = at_drop_more F xs i x within ∙ ap (λ y. F (y ∷ drop (i + 1) xs)) (sym is)
 
--- a list by its first item
-pub opened : (xs : List ℕ) → 1 ≤ length xs → xs ≡ get_or xs 0 0 ∷ drop 1 xs
-opened [] h = absurd (omega arith)
-opened (x ∷ xs) h = refl
+-- A test of a list, in a state, that is a test of its first item and one of the others in the next state.
+module _ {S X : Type 0} (all : S → List X → Bool) (one : S → X → List X → Bool) (next : S → X → S)
+    (step : (s : S) (x : X) (xs : List X) → all s (x ∷ xs) ≡ (one s x xs && all (next s x) xs)) where
+  pub item_passes : (s : S) (xs : List X) (i : ℕ) (x : X) (whole : Bool) → i < length xs → x ≡ get_or xs i x
+      → one s x (drop (i + 1) xs) ≡ true → all s (drop i xs) ≡ whole → all (next s x) (drop (i + 1) xs) ≡ whole
+  item_passes s xs i x whole within is passes rest =
+      let others = drop (i + 1) xs in
+      let same : all s (drop i xs) ≡ all (next s x) others =
+      next_of (all s) xs i x within is ∙ step s x others ∙ ap (λ b. b && all (next s x) others) passes in
+      sym same ∙ rest
+
+  pub item_fails : (s : S) (xs : List X) (i : ℕ) (x : X) (whole : Bool) → i < length xs → x ≡ get_or xs i x
+      → one s x (drop (i + 1) xs) ≡ false → all s (drop i xs) ≡ whole → false ≡ whole
+  item_fails s xs i x whole within is fails rest =
+      let others = drop (i + 1) xs in
+      let same : all s (drop i xs) ≡ false =
+      next_of (all s) xs i x within is ∙ step s x others ∙ ap (λ b. b && all (next s x) others) fails in
+      sym same ∙ rest

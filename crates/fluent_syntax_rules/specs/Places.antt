@@ -1,5 +1,5 @@
 -- Where the elements of a pattern stand, one by one.
-use Rattle.std.specs.Prelude.{ℕ, List, [], Option, Some, None, Bool, true, false, ◌&&◌, min, if◌then◌else◌}
+use Rattle.std.specs.Prelude.{ℕ, List, [], Option, Some, None, Bool, true, false, ◌&&◌, ◌||◌, not, min, if◌then◌else◌}
 use Rattle.fluent_syntax_tree.specs.Tree.{ElementTree, text_element, placeable, PatternTree}
 use Rattle.fluent_syntax_tree.specs.declared.edition.Edition.{Edition}
 use Rattle.fluent_syntax_grammar.specs.Readable as grammar
@@ -31,10 +31,14 @@ is_element edition multiline s (text_element v) rest =
     is_text v && (stands_well edition multiline s v rest && ends_well v rest)
 is_element edition multiline s (placeable e) rest = true
 
+-- the numbers of a line that begins with the element
+abbrev pub element_numbers : Edition → ElementTree Text → List ℕ
+element_numbers edition (text_element v) = text_numbers edition v
+element_numbers edition (placeable e) = placeable_numbers edition
+
 -- the numbers of the line that begins at the element
 abbrev pub numbers_at : Edition → grammar.Stand → ElementTree Text → List ℕ
-numbers_at edition s (text_element v) = if is_line_start s then text_numbers edition v else []
-numbers_at edition s (placeable e) = if is_line_start s then placeable_numbers edition else []
+numbers_at edition s e = if is_line_start s then element_numbers edition e else []
 
 -- the lesser of two numbers, or the one that is there
 abbrev pub lesser : Option ℕ → Option ℕ → Option ℕ
@@ -51,3 +55,7 @@ element_hides_mark (placeable e) = false
 abbrev pub is_lone : ElementTree Text → Bool
 is_lone (text_element v) = is_lone_lf v
 is_lone (placeable e) = true
+
+-- the rule of one element where no line has a number
+abbrev pub stands_lone : grammar.Stand → ElementTree Text → Bool
+stands_lone s e = not (is_line_start s) || is_lone e

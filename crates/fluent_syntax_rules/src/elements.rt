@@ -1,6 +1,6 @@
 //! The elements of a pattern, by where they stand.
 ghost use Rattle.std.specs.Prelude.{◌≡◌, map};
-ghost use Rattle.fluent_syntax_tree.specs.Tree.{elements_of};
+ghost use Rattle.fluent_syntax_tree.specs.Tree.{text_element, elements_of};
 ghost use Rattle.fluent_syntax_tree.specs.View.{element_view, pattern_view};
 ghost use Rattle.fluent_syntax_grammar.specs.Readable.{opening, is_line_start, stand_after, begins_with_placeable, indents, opens_well, stands_well, ends_well, are_elements, is_pattern};
 ghost use Rattle.fluent_syntax_rules.specs.Places.{stand_of, stand_past, is_element, is_placeable};
@@ -88,13 +88,25 @@ fn is_element<X, T: ReadTexts<X>>(
 {
     match element {
         PatternElement::TextElement { value } => {
-            let text = T::as_str(value);
-            is_text(text)
-                && stands_well::<X, T>(edition, multiline, stand, text, rest)
-                && ends_well::<X, T>(text, rest)
+            is_text_at::<X, T>(edition, multiline, stand, T::as_str(value), rest)
         }
         PatternElement::Placeable { .. } => true,
     }
+}
+
+fn is_text_at<X, T: ReadTexts<X>>(
+    edition: Edition,
+    multiline: bool,
+    stand: Stand,
+    text: &str,
+    rest: &[PatternElement<X>],
+) -> bool
+    ensures { result ≡ is_element edition multiline (stand_of stand) (text_element text.now)
+        (elements_of (map (element_view T.text) rest.now)) }
+{
+    is_text(text)
+        && stands_well::<X, T>(edition, multiline, stand, text, rest)
+        && ends_well::<X, T>(text, rest)
 }
 
 /// Whether the text may stand there.

@@ -5,7 +5,7 @@ ghost use Rattle.fluent_syntax_tree.specs.View.{element_view, pattern_view};
 ghost use Rattle.fluent_syntax_grammar.specs.Canonical.{hides_mark, text_numbers, placeable_numbers, line_numbers, are_lone, are_flush, first_stand, is_flush};
 ghost use Rattle.fluent_syntax_grammar.specs.Layout.{least};
 ghost use Rattle.fluent_syntax_grammar.specs.PatternTexts.{is_lone_lf};
-ghost use Rattle.fluent_syntax_rules.specs.Places.{stand_of, numbers_at, element_hides_mark, is_lone, lesser};
+ghost use Rattle.fluent_syntax_rules.specs.Places.{stand_of, numbers_at, element_numbers, element_hides_mark, is_lone, stands_lone, lesser};
 
 use crate::elements::{Stand, is_line_start, stand_past};
 use crate::patterns::{has_leading_mark, is_multiline};
@@ -107,9 +107,19 @@ fn line_number<X, T: ReadTexts<X>>(
 ) -> Option<usize>
     ensures { option_to_list result ≡ numbers_at edition (stand_of stand) (element_view T.text element.now) }
 {
-    if !is_line_start(stand) {
-        return None;
+    if is_line_start(stand) {
+        element_number::<X, T>(edition, element)
+    } else {
+        None
     }
+}
+
+fn element_number<X, T: ReadTexts<X>>(
+    edition: Edition,
+    element: &PatternElement<X>,
+) -> Option<usize>
+    ensures { option_to_list result ≡ element_numbers edition (element_view T.text element.now) }
+{
     match element {
         PatternElement::TextElement { value } => text_number(edition, T::as_str(value)),
         PatternElement::Placeable { .. } => placeable_number(edition),
@@ -144,12 +154,19 @@ fn are_lone<X, T: ReadTexts<X>>(first: Stand, elements: &[PatternElement<X>]) ->
 {
     let mut stand = first;
     for element in elements {
-        if is_line_start(stand) && !is_lone::<X, T>(element) {
+        if !stands_lone::<X, T>(stand, element) {
             return false;
         }
         stand = stand_past::<X, T>(element);
     }
     true
+}
+
+/// Whether the element begins no line, is no text, or is one LF.
+fn stands_lone<X, T: ReadTexts<X>>(stand: Stand, element: &PatternElement<X>) -> bool
+    ensures { result ≡ stands_lone (stand_of stand) (element_view T.text element.now) }
+{
+    !is_line_start(stand) || is_lone::<X, T>(element)
 }
 
 /// Whether the element is no text, or one LF.
