@@ -1,12 +1,12 @@
 -- The least number of the lines of a pattern.
-use Rattle.std.proofs.Common.{◌≡◌, ℕ, min, List, ◌++◌, Option, Some, None, refl, sym, ap, ◌∙◌, arith}
+use Rattle.std.proofs.Common.{◌≡◌, ℕ, min, List, ◌++◌, Bool, ◌&&◌, ◌||◌, not, true, false, Option, Some, None, refl, sym, ap, ◌∙◌, arith}
 use Rattle.std.specs.Prelude.{option_to_list}
 use Rattle.fluent_syntax_tree.specs.Tree.{ElementTree, text_element, placeable, PatternTree, elements}
 use Rattle.fluent_syntax_tree.specs.declared.edition.Edition.{Edition}
-use Rattle.fluent_syntax_grammar.specs.Canonical.{line_numbers}
+use Rattle.fluent_syntax_grammar.specs.Canonical.{line_numbers, hides_mark, first_stand, are_flush, is_flush}
 use Rattle.fluent_syntax_grammar.specs.Layout.{least, least_with}
 use Rattle.fluent_syntax_grammar.specs.Readable.{Stand}
-use Rattle.fluent_syntax_grammar.specs.Written.{Text}
+use Rattle.fluent_syntax_grammar.specs.Written.{Text, is_multiline}
 use Rattle.fluent_syntax_rules.specs.Places.{stand_past, numbers_at, lesser}
 
 lesser-assoc : (a b c : Option ℕ) → lesser a (lesser b c) ≡ lesser (lesser a b) c
@@ -40,3 +40,10 @@ least-step edition s e es so_far number is =
     ∙ ap (λ ns. lesser so_far (least (ns ++ later))) (sym is)
     ∙ ap (lesser so_far) (least-before number later)
     ∙ lesser-assoc so_far number (least later)
+
+-- A multiline pattern whose first text hides no mark is flush by its lines.
+pub flush_by_lines : (edition : Edition) (p : PatternTree Text) → is_multiline p ≡ true → hides_mark p ≡ false
+    → is_flush edition p ≡ are_flush (least (line_numbers edition (first_stand p) p)) (first_stand p) p
+flush_by_lines edition p spans shows =
+    let lines = are_flush (least (line_numbers edition (first_stand p) p)) (first_stand p) p in
+    ap (λ b. not b || not (hides_mark p) && lines) spans ∙ ap (λ b. not b && lines) shows

@@ -1,6 +1,6 @@
 //! The lines of a multiline pattern.
 ghost use Rattle.std.specs.Prelude.{◌≡◌, map, option_to_list};
-ghost use Rattle.fluent_syntax_tree.specs.Tree.{elements_of};
+ghost use Rattle.fluent_syntax_tree.specs.Tree.{text_element, elements_of};
 ghost use Rattle.fluent_syntax_tree.specs.View.{element_view, pattern_view};
 ghost use Rattle.fluent_syntax_grammar.specs.Canonical.{hides_mark, text_numbers, placeable_numbers, line_numbers, are_lone, are_flush, first_stand, is_flush};
 ghost use Rattle.fluent_syntax_grammar.specs.Layout.{least};
@@ -50,11 +50,15 @@ fn element_hides_mark<X, T: ReadTexts<X>>(element: &PatternElement<X>) -> bool
     ensures { result ≡ element_hides_mark (element_view T.text element.now) }
 {
     match element {
-        PatternElement::TextElement { value } => {
-            begins_with_space(T::as_str(value)) && begins_line_with_mark(T::as_str(value))
-        }
+        PatternElement::TextElement { value } => text_hides_mark(T::as_str(value)),
         PatternElement::Placeable { .. } => false,
     }
+}
+
+fn text_hides_mark(text: &str) -> bool
+    ensures { result ≡ element_hides_mark (text_element text.now) }
+{
+    begins_with_space(text) && begins_line_with_mark(text)
 }
 
 /// Whether the least number of the lines is 0, or no line has a number and each text that begins a line is one LF.

@@ -12,5 +12,5 @@ invariant-loop-element g l =
     record {
       rest :
           are_lone (stand_of l.stand) (tree (drop l.element-index l.elements))
-          ≡ are_lone (stand_of l.first) (tree l.elements);
+          ≡ are_lone (stand_of l.fn.first) (tree l.elements);
     }

@@ -13,5 +13,5 @@ invariant-loop-element g l =
     record {
       rest :
           lesser l.least (least (line_numbers l.edition (stand_of l.stand) (tree (drop l.element-index l.elements))))
-          ≡ least (line_numbers l.edition (stand_of l.first) (tree l.elements));
+          ≡ least (line_numbers l.edition (stand_of l.fn.first) (tree l.elements));
     }
