@@ -1,6 +1,6 @@
 pub mod Bytes
 pub mod Lines
-pub mod Names
+pub mod Named
 pub mod Nodes
 pub mod Steps
 pub mod Strings

@@ -1,8 +1,12 @@
 -- Inline expressions that are no placeables.
 use Rattle.std.proofs.Common.{◌≡◌, false, Option, ℕ, [], ◌∷◌, ◌++◌, Box, Global, codes, refl, sym, ◌∙◌, subst}
+use Rattle.std.specs.Prelude.{is_some, is_none}
+use Rattle.std.proofs.Common.{Some, None, option_map, Bool, true, ◌+◌, arith, if◌then◌else◌}
+use Rattle.fluent_syntax_grammar.specs.Placeables.{selector_fault, is_term_attribute}
 use Rattle.fluent_syntax_tree.specs.Tree.{InlineTree, string_literal, number_literal, function_reference}
 use Rattle.fluent_syntax_tree.specs.Tree.{message_reference, term_reference, variable_reference, ArgumentsTree}
-use Rattle.fluent_syntax_tree.specs.Tree.{MaybeArguments, placeable, inline}
+use Rattle.fluent_syntax_tree.specs.Tree.{MaybeArguments, KeyTree, PatternTree, VariantTrees, variants, variant}
+use Rattle.fluent_syntax_grammar.specs.Readable.{defaults}
 use Rattle.fluent_syntax_tree.specs.View.{inline_view}
 use Rattle.fluent_syntax_tree.proofs.Views.{view-StringLiteral, view-NumberLiteral, view-FunctionReference}
 use Rattle.fluent_syntax_tree.proofs.Views.{view-MessageReference, view-TermReference, view-VariableReference}
@@ -66,3 +70,29 @@ module _ {S : Type 0} (text : S → Text) where
     term = λ x o a. refl;
     variable = λ x. refl;
   })
+
+-- ---- References, by whether they have an attribute
+
+module _ {A : Type 0} (name : A → Text) where
+  pub term_is_selector : (x : Text) (attribute : Option A) (a : MaybeArguments Text)
+      → is_some attribute ≡ is_none (selector_fault (term_reference x (option_map name attribute) a))
+  term_is_selector x None a = refl
+  term_is_selector x (Some attribute) a = refl
+
+  pub term_is_attribute : (x : Text) (attribute : Option A) (a : MaybeArguments Text)
+      → is_some attribute ≡ is_term_attribute (term_reference x (option_map name attribute) a)
+  term_is_attribute x None a = refl
+  term_is_attribute x (Some attribute) a = refl
+
+  pub message_is_no_selector : (x : Text) (attribute : Option A)
+      → false ≡ is_none (selector_fault (message_reference x (option_map name attribute)))
+  message_is_no_selector x None = refl
+  message_is_no_selector x (Some attribute) = refl
+
+-- ---- Defaults
+
+pub defaults-next : (key : KeyTree Text) (value : PatternTree Text) (default : Bool) (vs : VariantTrees Text)
+    (before after : ℕ) → after ≡ (if default then before + 1 else before)
+    → after + defaults vs ≡ before + defaults (variants (variant key value default) vs)
+defaults-next key value true vs before after is = omega arith
+defaults-next key value false vs before after is = omega arith

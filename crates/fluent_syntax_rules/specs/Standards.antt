@@ -1,9 +1,9 @@
 -- The rules of a standard.
 use Rattle.std.specs.Prelude.{List, Bool, false, ◌&&◌}
-use Rattle.fluent_syntax_tree.specs.Tree.{ExpressionTree, PatternTree}
+use Rattle.fluent_syntax_tree.specs.Tree.{ExpressionTree, select, inline, PatternTree}
 use Rattle.fluent_syntax_grammar.specs.Written.{Text}
 use Rattle.fluent_syntax_grammar.specs.Spellings.{is_name, is_number, is_string}
-use Rattle.fluent_syntax_grammar.specs.Rules.{Rules}
+use Rattle.fluent_syntax_grammar.specs.Rules.{Rules, inline_obeys, variants_obey}
 use Rattle.fluent_syntax_grammar.specs.Readable.{is_message, are_lines, is_pattern, is_expression, is_callee}
 use Rattle.fluent_syntax_grammar.specs.Readable.{are_arguments}
 use Rattle.fluent_syntax_grammar.specs.Canonical.{is_plain_comment, is_flush, has_one_default}
@@ -36,3 +36,8 @@ rules_of standard = record {
   number = is_number;
   name = is_name;
 }
+
+-- all that an expression holds obeys
+abbrev pub parts_obey : Rules → ExpressionTree Text → Bool
+parts_obey r (select e vs) = inline_obeys r e && variants_obey r vs
+parts_obey r (inline e) = inline_obeys r e

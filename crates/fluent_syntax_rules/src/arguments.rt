@@ -4,7 +4,7 @@ ghost use Rattle.fluent_syntax_tree.specs.Tree.{nameds_of};
 ghost use Rattle.fluent_syntax_tree.specs.View.{inline_view, arguments_view, named_view};
 ghost use Rattle.fluent_syntax_grammar.specs.Arguments.{is_used};
 ghost use Rattle.fluent_syntax_grammar.specs.Readable.{is_argument_value, are_named_well, are_arguments};
-ghost use Rattle.fluent_syntax_rules.specs.Names.{name_of};
+ghost use Rattle.fluent_syntax_rules.specs.Names.{name_of, is_named_well};
 
 use crate::spellings::is_unsigned;
 use fluent_syntax_tree::ast::*;
@@ -21,15 +21,22 @@ fn are_named_well<X, T: ReadTexts<X>>(named: &[NamedArgument<X>]) -> bool
     ensures { result ≡ are_named_well [] (nameds_of (map (named_view T.text) named.now)) }
 {
     for (index, argument) in named.iter().enumerate() {
-        let name = T::as_str(&argument.name.name);
-        if is_used::<X, T>(name, &named[..index]) {
-            return false;
-        }
-        if !is_argument_value::<X, T>(&argument.value) {
+        if !is_named_well::<X, T>(argument, &named[..index]) {
             return false;
         }
     }
     true
+}
+
+/// Whether the argument has a value that it may have, and a name that none of the earlier ones has.
+fn is_named_well<X, T: ReadTexts<X>>(
+    argument: &NamedArgument<X>,
+    earlier: &[NamedArgument<X>],
+) -> bool
+    ensures { result ≡ is_named_well T.text (map (name_of T.text) earlier.now) argument.now }
+{
+    !is_used::<X, T>(T::as_str(&argument.name.name), earlier)
+        && is_argument_value::<X, T>(&argument.value)
 }
 
 /// Whether an argument has the name.
@@ -38,7 +45,7 @@ fn is_used<X, T: ReadTexts<X>>(name: &str, named: &[NamedArgument<X>]) -> bool
 {
     named
         .iter()
-        .any(|argument| T::as_str(&argument.name.name) == name)
+        .any(|argument| name == T::as_str(&argument.name.name))
 }
 
 /// Whether the value is a string, a number without `-`, a function or a message reference.

@@ -1,5 +1,6 @@
 //! Comments.
 ghost use Rattle.std.specs.Prelude.{◌≡◌, map, not};
+ghost use Rattle.std.specs.List.{list_all};
 ghost use Rattle.fluent_syntax_tree.specs.View.{comment_view};
 ghost use Rattle.fluent_syntax_grammar.specs.Canonical.{is_plain_comment, is_plain_line};
 ghost use Rattle.fluent_syntax_grammar.specs.Readable.{are_lines};
@@ -40,7 +41,13 @@ fn is_line(line: &str) -> bool
 fn is_plain_comment<X, T: ReadTexts<X>>(content: &[X]) -> bool
     ensures { result ≡ is_plain_comment (map T.text content.now) }
 {
-    !content.is_empty() && content.iter().all(|line| is_plain_line(T::as_str(line)))
+    !content.is_empty() && are_plain_lines::<X, T>(content)
+}
+
+fn are_plain_lines<X, T: ReadTexts<X>>(content: &[X]) -> bool
+    ensures { result ≡ list_all is_plain_line (map T.text content.now) }
+{
+    content.iter().all(|line| is_plain_line(T::as_str(line)))
 }
 
 /// Whether the line is empty, or holds a byte other than space, CR and LF.

@@ -1,12 +1,12 @@
 //! The walk over a tree: each node passes the test of its kind.
-ghost use Rattle.std.specs.Prelude.{◌≡◌, map, option_map};
+ghost use Rattle.std.specs.Prelude.{◌≡◌, ◌&&◌, map, option_map};
 ghost use Rattle.std.specs.List.{list_all};
-ghost use Rattle.fluent_syntax_tree.specs.Tree.{elements_of, inlines_of, nameds_of, variants_of};
+ghost use Rattle.fluent_syntax_tree.specs.Tree.{arguments_of, elements_of, inlines_of, nameds_of, variants_of};
 ghost use Rattle.fluent_syntax_tree.specs.View.{identifier_view, key_view, expression_view, inline_view, arguments_view, named_view, element_view, pattern_view, variant_view, comment_view, attribute_view, message_view, term_view, entry_view};
-ghost use Rattle.fluent_syntax_grammar.specs.Readable.{is_message};
+ghost use Rattle.fluent_syntax_grammar.specs.Readable.{is_message, is_callee};
 ghost use Rattle.fluent_syntax_grammar.specs.Spellings.{is_name};
-ghost use Rattle.fluent_syntax_grammar.specs.Rules.{option_obeys, key_obeys, expression_obeys, inline_obeys, arguments_obey, inlines_obey, nameds_obey, named_obeys, pattern_obeys, elements_obey, element_obeys, variants_obey, variant_obeys, attribute_obeys, message_obeys, term_obeys, entry_obeys, body_obeys};
-ghost use Rattle.fluent_syntax_rules.specs.Standards.{comment_rule, pattern_rule, rules_of};
+ghost use Rattle.fluent_syntax_grammar.specs.Rules.{option_obeys, key_obeys, expression_obeys, inline_obeys, maybe_obeys, arguments_obey, inlines_obey, nameds_obey, named_obeys, pattern_obeys, elements_obey, element_obeys, variants_obey, variant_obeys, attribute_obeys, message_obeys, term_obeys, entry_obeys, body_obeys};
+ghost use Rattle.fluent_syntax_rules.specs.Standards.{comment_rule, pattern_rule, rules_of, parts_obey};
 
 use crate::arguments::are_arguments;
 use crate::comments::is_comment;
@@ -150,9 +150,14 @@ fn element_obeys<X, T: ReadTexts<X>>(standard: Standard, element: &PatternElemen
 fn expression_obeys<X, T: ReadTexts<X>>(standard: Standard, expression: &Expression<X>) -> bool
     ensures { result ≡ expression_obeys (rules_of standard) (expression_view T.text expression.now) }
 {
-    if !is_expression_by::<X, T>(standard, expression) {
-        return false;
-    }
+    is_expression_by::<X, T>(standard, expression) && parts_obey::<X, T>(standard, expression)
+}
+
+/// Whether all that the expression holds obeys.
+#[cycle(obeys)]
+fn parts_obey<X, T: ReadTexts<X>>(standard: Standard, expression: &Expression<X>) -> bool
+    ensures { result ≡ parts_obey (rules_of standard) (expression_view T.text expression.now) }
+{
     match expression {
         Expression::Select { selector, variants } => {
             inline_obeys::<X, T>(standard, selector) && variants_obey::<X, T>(standard, variants)
@@ -197,31 +202,39 @@ fn inline_obeys<X, T: ReadTexts<X>>(standard: Standard, inline: &InlineExpressio
         InlineExpression::StringLiteral { value } => is_string(T::as_str(value)),
         InlineExpression::NumberLiteral { value } => is_number(T::as_str(value)),
         InlineExpression::FunctionReference { id, arguments } => {
-            is_name(T::as_str(&id.name))
-                && is_callee(T::as_str(&id.name))
-                && arguments_obey::<X, T>(standard, arguments)
+            is_function_name(T::as_str(&id.name)) && arguments_obey::<X, T>(standard, arguments)
         }
         InlineExpression::MessageReference { id, attribute } => {
-            is_name(T::as_str(&id.name)) && attribute_name_obeys::<X, T>(attribute)
+            reference_obeys::<X, T>(id, attribute)
         }
         InlineExpression::TermReference {
             id,
             attribute,
             arguments,
         } => {
-            if !is_name(T::as_str(&id.name)) || !attribute_name_obeys::<X, T>(attribute) {
-                return false;
-            }
-            match arguments {
-                Some(arguments) => arguments_obey::<X, T>(standard, arguments),
-                None => true,
-            }
+            reference_obeys::<X, T>(id, attribute) && maybe_obeys::<X, T>(standard, arguments)
         }
         InlineExpression::VariableReference { id } => is_name(T::as_str(&id.name)),
         InlineExpression::Placeable { expression } => {
             expression_obeys::<X, T>(standard, expression)
         }
     }
+}
+
+fn is_function_name(name: &str) -> bool
+    ensures { result ≡ (is_name name.now && is_callee name.now) }
+{
+    is_name(name) && is_callee(name)
+}
+
+/// Whether the name, and that of the attribute, are names.
+fn reference_obeys<X, T: ReadTexts<X>>(
+    id: &Identifier<X>,
+    attribute: &Option<Identifier<X>>,
+) -> bool
+    ensures { result ≡ (is_name (T.text id.now.name) && option_obeys is_name (option_map (identifier_view T.text) attribute.now)) }
+{
+    is_name(T::as_str(&id.name)) && attribute_name_obeys::<X, T>(attribute)
 }
 
 fn attribute_name_obeys<X, T: ReadTexts<X>>(attribute: &Option<Identifier<X>>) -> bool
@@ -234,11 +247,26 @@ fn attribute_name_obeys<X, T: ReadTexts<X>>(attribute: &Option<Identifier<X>>) -
 }
 
 #[cycle(obeys)]
+fn maybe_obeys<X, T: ReadTexts<X>>(
+    standard: Standard,
+    arguments: &Option<CallArguments<X>>,
+) -> bool
+    ensures { result ≡ maybe_obeys (rules_of standard) (arguments_of (option_map (arguments_view T.text) arguments.now)) }
+{
+    match arguments {
+        Some(arguments) => arguments_obey::<X, T>(standard, arguments),
+        None => true,
+    }
+}
+
+#[cycle(obeys)]
 fn arguments_obey<X, T: ReadTexts<X>>(standard: Standard, arguments: &CallArguments<X>) -> bool
     ensures { result ≡ arguments_obey (rules_of standard) (arguments_view T.text arguments.now) }
 {
-    are_arguments::<X, T>(arguments)
-        && inlines_obey::<X, T>(standard, &arguments.positional)
+    if !are_arguments::<X, T>(arguments) {
+        return false;
+    }
+    inlines_obey::<X, T>(standard, &arguments.positional)
         && nameds_obey::<X, T>(standard, &arguments.named)
 }
 

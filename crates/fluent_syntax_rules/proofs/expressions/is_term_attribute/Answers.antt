@@ -1,3 +1,6 @@
+use Rattle.fluent_syntax_tree.specs.View.{identifier_view}
+use Rattle.fluent_syntax_rules.proofs.Nodes.{term_is_attribute}
+use Rattle.fluent_syntax_tree.specs.Tree.{no_arguments}
 use Rattle.fluent_syntax_tree.proofs.Views.{view-StringLiteral, view-NumberLiteral, view-FunctionReference, view-MessageReference, view-TermReference, view-VariableReference, view-InlinePlaceable}
 use Rattle.fluent_syntax_rules.proofs.expressions.is_term_attribute.Goals as goal
 
@@ -14,7 +17,9 @@ pub returns-in-MessageReference : goal.returns-in-MessageReference
 returns-in-MessageReference g c = rw (c.in-MessageReference.is, view-MessageReference)
 
 pub returns-in-TermReference : goal.returns-in-TermReference
-returns-in-TermReference g c = ?
+returns-in-TermReference g c = 
+    rw (c.in-TermReference.is, view-TermReference, c.is_some.ensures)
+    (term_is_attribute (identifier_view g.T.ReadTexts.text) (g.T.ReadTexts.text c.in-TermReference.id.name) _ no_arguments)
 
 pub returns-in-VariableReference : goal.returns-in-VariableReference
 returns-in-VariableReference g c = rw (c.in-VariableReference.is, view-VariableReference)
