@@ -1,11 +1,12 @@
 -- Inline expressions that are no placeables.
 use Rattle.std.proofs.Common.{◌≡◌, false, Option, ℕ, [], ◌∷◌, ◌++◌, Box, Global, codes, refl, sym, ◌∙◌, subst}
 use Rattle.std.specs.Prelude.{is_some, is_none}
-use Rattle.std.proofs.Common.{Some, None, option_map, Bool, true, ◌+◌, arith, if◌then◌else◌}
+use Rattle.std.proofs.Common.{Some, None, option_map, Bool, true, ◌+◌, ◌&&◌, ap, arith, if◌then◌else◌}
 use Rattle.fluent_syntax_grammar.specs.Placeables.{selector_fault, is_term_attribute}
 use Rattle.fluent_syntax_tree.specs.Tree.{InlineTree, string_literal, number_literal, function_reference}
 use Rattle.fluent_syntax_tree.specs.Tree.{message_reference, term_reference, variable_reference, ArgumentsTree}
-use Rattle.fluent_syntax_tree.specs.Tree.{MaybeArguments, KeyTree, PatternTree, VariantTrees, variants, variant}
+use Rattle.fluent_syntax_tree.specs.Tree.{MaybeArguments, KeyTree, PatternTree, VariantTrees, variants, variant, no_elements, elements}
+use Rattle.fluent_syntax_grammar.specs.Rules.{Rules, elements_obey, pattern_obeys}
 use Rattle.fluent_syntax_grammar.specs.Readable.{defaults}
 use Rattle.fluent_syntax_tree.specs.View.{inline_view}
 use Rattle.fluent_syntax_tree.proofs.Views.{view-StringLiteral, view-NumberLiteral, view-FunctionReference}
@@ -96,3 +97,9 @@ pub defaults-next : (key : KeyTree Text) (value : PatternTree Text) (default : B
     → after + defaults vs ≡ before + defaults (variants (variant key value default) vs)
 defaults-next key value true vs before after is = omega arith
 defaults-next key value false vs before after is = omega arith
+
+-- ---- Patterns
+
+pub pattern_parts : (r : Rules) (p : PatternTree Text) → r.pattern p ≡ true → elements_obey r p ≡ pattern_obeys r p
+pattern_parts r no_elements holds = sym holds
+pattern_parts r (elements e es) holds = ap (λ b. b && elements_obey r (elements e es)) (sym holds)

@@ -1,5 +1,5 @@
 -- Loops over a list, by what a function gives of what is left.
-use Rattle.std.proofs.Common.{◌≡◌, ℕ, ◌+◌, ◌<◌, List, ◌∷◌, length, get_or, drop, Bool, true, false, ◌&&◌, sym, ap, ◌∙◌}
+use Rattle.std.proofs.Common.{◌≡◌, ℕ, ◌+◌, ◌<◌, List, ◌∷◌, length, get_or, drop, Bool, true, false, ◌&&◌, refl, sym, ap, ◌∙◌}
 use Rattle.std.proofs.lemmas.List.{at_drop_more}
 
 pub next_of : {X Y : Type 0} (F : List X → Y) (xs : List X) (i : ℕ) (x : X) → i < length xs → x ≡ get_or xs i x
@@ -37,3 +37,15 @@ module _ {X : Type 0} (all : List X → Bool) (one : X → Bool)
       → all (drop i xs) ≡ whole → false ≡ whole
   one_fails xs i x whole within is fails rest =
       item_fails {S = Unit {0}} (λ s. all) (λ s x xs. one x) (λ s x. s) (λ s. step) tt xs i x whole within is fails rest
+
+-- Three tests, of which the first two are made at once.
+
+pub three_hold : (a b c r : Bool) → (a && b) ≡ true → r ≡ c → r ≡ (a && (b && c))
+three_hold true true c r both third = third
+three_hold true false c r both third = cc
+three_hold false b c r both third = cc
+
+pub three_fail : (a b c : Bool) → (a && b) ≡ false → false ≡ (a && (b && c))
+three_fail true true c both = cc
+three_fail true false c both = refl
+three_fail false b c both = refl
