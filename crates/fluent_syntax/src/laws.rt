@@ -13,6 +13,7 @@ use crate::parser::{Edition, ParseFault, Result, Slice, parse};
 pub use fluent_syntax_laws::{
     formats_again, reads_back, reads_readable, unique_reading, written_apart,
 };
+pub use fluent_syntax_rules::{is_canonical, is_readable};
 use fluent_syntax_tree::ast::Resource;
 pub use fluent_syntax_tree::laws::same_texts;
 use fluent_syntax_writer::serializer::serialize;
