@@ -5,7 +5,7 @@ use lib.Pointwise.{pointwise}
 use Rattle.std.specs.List.{list_any}
 use Rattle.std.proofs.lemmas.List.{map_more, reverse-append}
 use Rattle.std.proofs.lemmas.List.Sorted.{list_any-IsPermutation, IsPermutation-reverse}
-use Rattle.fluent_syntax_tree.specs.Tree.{nameds, nameds_of, named_argument}
+use Rattle.fluent_syntax_tree.specs.Tree.{nameds, nameds_of}
 use Rattle.fluent_syntax_tree.specs.View.{inline_view, named_view}
 use Rattle.fluent_syntax_tree.specs.declared.ast.NamedArgument.{NamedArgument}
 use Rattle.fluent_syntax_tree.proofs.Views.{view-NamedArgument}

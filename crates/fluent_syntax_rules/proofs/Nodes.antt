@@ -1,5 +1,5 @@
 -- Inline expressions that are no placeables.
-use Rattle.std.proofs.Common.{◌≡◌, false, Option, ℕ, [], ◌∷◌, ◌++◌, Box, Global, codes, refl, sym, ◌∙◌, subst}
+use Rattle.std.proofs.Common.{◌≡◌, false, Option, ℕ, Box, Global, refl, sym, ◌∙◌, subst}
 use Rattle.std.specs.Prelude.{is_some, is_none}
 use Rattle.std.proofs.Common.{Some, None, option_map, Bool, true, ◌+◌, ◌&&◌, ap, arith, if◌then◌else◌}
 use Rattle.fluent_syntax_grammar.specs.Placeables.{selector_fault, is_term_attribute}
@@ -22,7 +22,7 @@ use Rattle.fluent_syntax_tree.specs.declared.ast.CallArguments.{CallArguments}
 use Rattle.fluent_syntax_tree.specs.declared.ast.NamedArgument.{NamedArgument}
 use Rattle.fluent_syntax_tree.specs.declared.ast.Pattern.{Pattern}
 use Rattle.fluent_syntax_tree.specs.declared.ast.Variant.{Variant}
-use Rattle.fluent_syntax_grammar.specs.Written.{Text, literal, element_marks, inline_marks, holds_select}
+use Rattle.fluent_syntax_grammar.specs.Written.{Text, holds_select}
 use denote.Hole.Carrier as carrier
 
 module _ {S : Type 0} (text : S → Text) where

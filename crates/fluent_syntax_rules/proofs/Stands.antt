@@ -8,7 +8,6 @@ use Rattle.fluent_syntax_tree.specs.declared.edition.Edition.{Edition}
 use Rattle.fluent_syntax_grammar.specs.Readable.{begins_with_placeable, is_text, stands_well, ends_well, stand_after, are_elements}
 use Rattle.fluent_syntax_grammar.specs.Readable.{Stand, opening, is_line_start, is_pattern}
 use Rattle.fluent_syntax_grammar.specs.Canonical.{hides_mark, are_lone}
-use Rattle.fluent_syntax_grammar.specs.PatternTexts.{is_lone_lf}
 use Rattle.fluent_syntax_grammar.specs.Written.{Text, is_multiline, spans_lines}
 use Rattle.fluent_syntax_rules.specs.Places.{stand_past, is_element, is_placeable, element_hides_mark, stands_lone}
 

@@ -2,6 +2,7 @@
 //!
 //! No test takes memory.
 #![tactic(auto)]
+
 ghost use Rattle.std.specs.Prelude.{◌≡◌};
 ghost use Rattle.fluent_syntax_tree.specs.View.{resource_view};
 ghost use Rattle.fluent_syntax_grammar.specs.Readable.{is_readable};

@@ -13,10 +13,7 @@ pub(crate) fn is_text(text: &str) -> bool
     ensures { result ≡ is_text text.now }
 {
     let bytes = text.as_bytes();
-    !bytes.is_empty()
-        && !has_brace(bytes)
-        && !has_crlf(bytes)
-        && !has_lf(without_last_lf(bytes))
+    !bytes.is_empty() && !has_brace(bytes) && !has_crlf(bytes) && !has_lf(without_last_lf(bytes))
 }
 
 fn has_brace(bytes: &[u8]) -> bool

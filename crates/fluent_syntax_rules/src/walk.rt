@@ -211,9 +211,7 @@ fn inline_obeys<X, T: ReadTexts<X>>(standard: Standard, inline: &InlineExpressio
             id,
             attribute,
             arguments,
-        } => {
-            reference_obeys::<X, T>(id, attribute) && maybe_obeys::<X, T>(standard, arguments)
-        }
+        } => { reference_obeys::<X, T>(id, attribute) && maybe_obeys::<X, T>(standard, arguments) }
         InlineExpression::VariableReference { id } => is_name(T::as_str(&id.name)),
         InlineExpression::Placeable { expression } => {
             expression_obeys::<X, T>(standard, expression)
@@ -247,10 +245,7 @@ fn attribute_name_obeys<X, T: ReadTexts<X>>(attribute: &Option<Identifier<X>>) -
 }
 
 #[cycle(obeys)]
-fn maybe_obeys<X, T: ReadTexts<X>>(
-    standard: Standard,
-    arguments: &Option<CallArguments<X>>,
-) -> bool
+fn maybe_obeys<X, T: ReadTexts<X>>(standard: Standard, arguments: &Option<CallArguments<X>>) -> bool
     ensures { result ≡ maybe_obeys (rules_of standard) (arguments_of (option_map (arguments_view T.text) arguments.now)) }
 {
     match arguments {

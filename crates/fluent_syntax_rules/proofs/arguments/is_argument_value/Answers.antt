@@ -5,7 +5,7 @@ pub returns-in-StringLiteral : goal.returns-in-StringLiteral
 returns-in-StringLiteral g c = rw (c.in-StringLiteral.is, view-StringLiteral)
 
 pub returns-in-NumberLiteral : goal.returns-in-NumberLiteral
-returns-in-NumberLiteral g c = 
+returns-in-NumberLiteral g c =
     rw (c.in-NumberLiteral.is, view-NumberLiteral, c.is_unsigned.ensures, c.as_bytes.ensures.value, c.as_str.ensures)
 
 pub returns-in-FunctionReference : goal.returns-in-FunctionReference

@@ -1,4 +1,4 @@
-use Rattle.std.proofs.Common.{◌≡◌, List, ℕ, sym, ◌∙◌, nat_eq, rules, tests}
+use Rattle.std.proofs.Common.{sym, ◌∙◌, nat_eq, rules, tests}
 use lib.Pointwise.{pointwise}
 use Rattle.std.proofs.lemmas.Iterator.{YieldsList-from_slice}
 use Rattle.std.proofs.lemmas.Iterator.Search.{any_from_yields_List}

@@ -20,7 +20,7 @@ loop-variant-preserved g c =
     let count = c.loop-variant.count in
     let counted : c.if-variant.count ≡ (if c.variant-item.result.default then count + 1 else count) =
     elim c.if-variant.branch [
-      then-variant w ↦ rw w.if-variant.true w.count-is
+      | then-variant w ↦ rw w.if-variant.true w.count-is
       | else-variant w ↦ rw w.if-variant.false w.count-is
     ] in
     let variant = c.variant-item.result in

@@ -13,12 +13,12 @@ pub returns-in-FunctionReference : goal.returns-in-FunctionReference
 returns-in-FunctionReference g c = rw (c.in-FunctionReference.is, view-FunctionReference)
 
 pub returns-in-MessageReference : goal.returns-in-MessageReference
-returns-in-MessageReference g c = 
+returns-in-MessageReference g c =
     rw (c.in-MessageReference.is, view-MessageReference)
     (message_is_no_selector (identifier_view g.T.ReadTexts.text) (g.T.ReadTexts.text c.in-MessageReference.id.name) _)
 
 pub returns-in-TermReference : goal.returns-in-TermReference
-returns-in-TermReference g c = 
+returns-in-TermReference g c =
     rw (c.in-TermReference.is, view-TermReference, c.is_some.ensures)
     (term_is_selector (identifier_view g.T.ReadTexts.text) (g.T.ReadTexts.text c.in-TermReference.id.name) _ _)
 

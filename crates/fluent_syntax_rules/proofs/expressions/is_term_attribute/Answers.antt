@@ -17,7 +17,7 @@ pub returns-in-MessageReference : goal.returns-in-MessageReference
 returns-in-MessageReference g c = rw (c.in-MessageReference.is, view-MessageReference)
 
 pub returns-in-TermReference : goal.returns-in-TermReference
-returns-in-TermReference g c = 
+returns-in-TermReference g c =
     rw (c.in-TermReference.is, view-TermReference, c.is_some.ensures)
     (term_is_attribute (identifier_view g.T.ReadTexts.text) (g.T.ReadTexts.text c.in-TermReference.id.name) _ no_arguments)
 

@@ -17,7 +17,7 @@ loop-element-preserved g c =
     let stand = stand_of c.loop-element.stand in
     let so_far = c.loop-element.least in
     let left = λ (es : List (PatternElement g.row.X.Denot)).
-        lesser so_far (least (line_numbers c.args.edition stand (tree view es))) in
+    lesser so_far (least (line_numbers c.args.edition stand (tree view es))) in
     let next = next_of left elements place _ c.loop-element-test.true c.element-item.is in
     let later = tree view (drop (place + 1) elements) in
     let step = least-step c.args.edition stand _ later so_far c.line_number.result c.line_number.ensures in

@@ -1,4 +1,3 @@
-use Rattle.std.proofs.Common.{sym}
 use Rattle.fluent_syntax_grammar.specs.Bytes.{is_space}
 use Rattle.fluent_syntax_rules.proofs.Bytes.{not_all}
 use Rattle.fluent_syntax_rules.proofs.texts.is_nonblank.Goals as goal

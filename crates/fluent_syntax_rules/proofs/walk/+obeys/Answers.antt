@@ -15,7 +15,7 @@ use Rattle.fluent_syntax_rules.proofs.Steps.{three_hold, three_fail}
 use Rattle.fluent_syntax_rules.proofs.walk.+obeys.Goals as goal
 
 pub pattern_obeys-returns-then-is_pattern_by : goal.pattern_obeys-returns-then-is_pattern_by
-pattern_obeys-returns-then-is_pattern_by g t c = 
+pattern_obeys-returns-then-is_pattern_by g t c =
     let f = g.T.ReadTexts.text in
     let holds = sym c.is_pattern_by.ensures ∙ c.if-is_pattern_by.true in
     let elements = rw (c.deref.ensures.value, ← view-Pattern f c.args.pattern.now) at c.elements_obey.ensures in
@@ -28,12 +28,12 @@ pub element_obeys-returns-in-Placeable : goal.element_obeys-returns-in-Placeable
 element_obeys-returns-in-Placeable g t c = rw (c.in-Placeable.is, view-Placeable) c.expression_obeys.ensures
 
 pub parts_obey-returns-then-inline_obeys : goal.parts_obey-returns-then-inline_obeys
-parts_obey-returns-then-inline_obeys g t c = 
+parts_obey-returns-then-inline_obeys g t c =
     let holds = sym c.inline_obeys.ensures ∙ c.if-inline_obeys.true in
     rw (c.in-Select.is, view-Select, holds, ← c.deref.ensures.value) c.variants_obey.ensures
 
 pub parts_obey-returns-else-inline_obeys : goal.parts_obey-returns-else-inline_obeys
-parts_obey-returns-else-inline_obeys g t c = 
+parts_obey-returns-else-inline_obeys g t c =
     let fails = sym c.inline_obeys.ensures ∙ c.if-inline_obeys.false in
     rw (c.in-Select.is, view-Select, fails) c.if-inline_obeys.false
 
@@ -41,12 +41,12 @@ pub parts_obey-returns-in-Inline : goal.parts_obey-returns-in-Inline
 parts_obey-returns-in-Inline g t c = rw (c.in-Inline.is, view-Inline) c.inline_obeys-in-Inline.ensures
 
 pub variant_obeys-returns-then-key_obeys : goal.variant_obeys-returns-then-key_obeys
-variant_obeys-returns-then-key_obeys g t c = 
+variant_obeys-returns-then-key_obeys g t c =
     let holds = sym c.key_obeys.ensures ∙ c.if-key_obeys.true in
     rw (view-Variant, holds) c.pattern_obeys.ensures
 
 pub variant_obeys-returns-else-key_obeys : goal.variant_obeys-returns-else-key_obeys
-variant_obeys-returns-else-key_obeys g t c = 
+variant_obeys-returns-else-key_obeys g t c =
     let fails = sym c.key_obeys.ensures ∙ c.if-key_obeys.false in
     rw (view-Variant, fails) c.if-key_obeys.false
 
@@ -54,11 +54,11 @@ pub inline_obeys-returns-in-StringLiteral : goal.inline_obeys-returns-in-StringL
 inline_obeys-returns-in-StringLiteral g t c = rw (c.in-StringLiteral.is, view-StringLiteral, c.is_string.ensures, c.as_str.ensures)
 
 pub inline_obeys-returns-in-NumberLiteral : goal.inline_obeys-returns-in-NumberLiteral
-inline_obeys-returns-in-NumberLiteral g t c = 
+inline_obeys-returns-in-NumberLiteral g t c =
     rw (c.in-NumberLiteral.is, view-NumberLiteral, c.is_number.ensures, c.as_str-in-NumberLiteral.ensures)
 
 pub inline_obeys-returns-then-is_function_name : goal.inline_obeys-returns-then-is_function_name
-inline_obeys-returns-then-is_function_name g t c = 
+inline_obeys-returns-then-is_function_name g t c =
     let name = g.T.ReadTexts.text c.in-FunctionReference.id.name in
     let tested = rw c.as_str-in-FunctionReference.ensures at c.is_function_name.ensures in
     let both = sym tested ∙ c.if-is_function_name.true in
@@ -66,7 +66,7 @@ inline_obeys-returns-then-is_function_name g t c =
     (three_hold (is_name name) (is_callee name) _ _ both c.arguments_obey.ensures)
 
 pub inline_obeys-returns-else-is_function_name : goal.inline_obeys-returns-else-is_function_name
-inline_obeys-returns-else-is_function_name g t c = 
+inline_obeys-returns-else-is_function_name g t c =
     let name = g.T.ReadTexts.text c.in-FunctionReference.id.name in
     let given = arguments_view g.T.ReadTexts.text c.in-FunctionReference.arguments in
     let tested = rw c.as_str-in-FunctionReference.ensures at c.is_function_name.ensures in
@@ -79,7 +79,7 @@ pub inline_obeys-returns-in-MessageReference : goal.inline_obeys-returns-in-Mess
 inline_obeys-returns-in-MessageReference g t c = rw (c.in-MessageReference.is, view-MessageReference) c.reference_obeys.ensures
 
 pub inline_obeys-returns-then-reference_obeys : goal.inline_obeys-returns-then-reference_obeys
-inline_obeys-returns-then-reference_obeys g t c = 
+inline_obeys-returns-then-reference_obeys g t c =
     let f = g.T.ReadTexts.text in
     let reference = c.in-TermReference in
     let named = option_obeys is_name (option_map (identifier_view f) reference.attribute) in
@@ -88,7 +88,7 @@ inline_obeys-returns-then-reference_obeys g t c =
     (three_hold (is_name (f reference.id.name)) named _ _ both c.maybe_obeys.ensures)
 
 pub inline_obeys-returns-else-reference_obeys : goal.inline_obeys-returns-else-reference_obeys
-inline_obeys-returns-else-reference_obeys g t c = 
+inline_obeys-returns-else-reference_obeys g t c =
     let f = g.T.ReadTexts.text in
     let reference = c.in-TermReference in
     let named = option_obeys is_name (option_map (identifier_view f) reference.attribute) in
@@ -99,15 +99,15 @@ inline_obeys-returns-else-reference_obeys g t c =
     ∙ three_fail (is_name (f reference.id.name)) named (maybe_obeys (rules_of c.args.standard) given) both)
 
 pub inline_obeys-returns-in-VariableReference : goal.inline_obeys-returns-in-VariableReference
-inline_obeys-returns-in-VariableReference g t c = 
+inline_obeys-returns-in-VariableReference g t c =
     rw (c.in-VariableReference.is, view-VariableReference, c.is_name.ensures, c.as_str-in-VariableReference.ensures)
 
 pub inline_obeys-returns-in-Placeable : goal.inline_obeys-returns-in-Placeable
-inline_obeys-returns-in-Placeable g t c = 
+inline_obeys-returns-in-Placeable g t c =
     rw (c.in-Placeable.is, view-InlinePlaceable, ← c.deref.ensures) c.expression_obeys.ensures
 
 pub arguments_obey-returns-then-inlines_obey : goal.arguments_obey-returns-then-inlines_obey
-arguments_obey-returns-then-inlines_obey g t c = 
+arguments_obey-returns-then-inlines_obey g t c =
     let allowed = sym c.are_arguments.ensures ∙ c.if-not-are_arguments.false in
     let inlines = rw c.deref.ensures.value at c.inlines_obey.ensures in
     let holds = sym inlines ∙ c.if-inlines_obey.true in
@@ -115,7 +115,7 @@ arguments_obey-returns-then-inlines_obey g t c =
     rw (parts, rw parts at allowed, holds, ← c.deref-then-inlines_obey.ensures.value) c.nameds_obey.ensures
 
 pub arguments_obey-returns-else-inlines_obey : goal.arguments_obey-returns-else-inlines_obey
-arguments_obey-returns-else-inlines_obey g t c = 
+arguments_obey-returns-else-inlines_obey g t c =
     let allowed = sym c.are_arguments.ensures ∙ c.if-not-are_arguments.false in
     let inlines = rw c.deref.ensures.value at c.inlines_obey.ensures in
     let fails = sym inlines ∙ c.if-inlines_obey.false in
@@ -123,13 +123,13 @@ arguments_obey-returns-else-inlines_obey g t c =
     rw (parts, rw parts at allowed, fails) c.if-inlines_obey.false
 
 pub named_obeys-returns-then-is_name : goal.named_obeys-returns-then-is_name
-named_obeys-returns-then-is_name g t c = 
+named_obeys-returns-then-is_name g t c =
     let tested = rw c.as_str.ensures at c.is_name.ensures in
     let holds = sym tested ∙ c.if-is_name.true in
     rw (view-NamedArgument, holds) c.inline_obeys.ensures
 
 pub named_obeys-returns-else-is_name : goal.named_obeys-returns-else-is_name
-named_obeys-returns-else-is_name g t c = 
+named_obeys-returns-else-is_name g t c =
     let tested = rw c.as_str.ensures at c.is_name.ensures in
     let fails = sym tested ∙ c.if-is_name.false in
     rw (view-NamedArgument, fails) c.if-is_name.false
