@@ -22,6 +22,8 @@ mod places;
 #[cfg(test)]
 mod round_trip;
 #[cfg(test)]
+mod rules;
+#[cfg(test)]
 mod runs;
 #[cfg(test)]
 mod runtime;
