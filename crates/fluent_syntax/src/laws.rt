@@ -14,6 +14,7 @@ pub use fluent_syntax_joined::joined;
 pub use fluent_syntax_laws::{
     formats_again, reads_back, reads_readable, unique_reading, written_apart,
 };
+pub use fluent_syntax_rules::{is_canonical, is_readable};
 use fluent_syntax_tree::ast::Resource;
 pub use fluent_syntax_tree::laws::same_texts;
 use fluent_syntax_writer::serializer::serialize;

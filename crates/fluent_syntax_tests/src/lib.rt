@@ -28,6 +28,8 @@ mod round_trip;
 #[cfg(test)]
 mod round_trip_at_random;
 #[cfg(test)]
+mod rules;
+#[cfg(test)]
 mod runs;
 #[cfg(test)]
 mod runtime;

@@ -1,6 +1,5 @@
 pub mod Arguments
 pub mod Bytes
-pub mod Elements
 pub mod Escapes
 pub mod Indents
 pub mod Leaves

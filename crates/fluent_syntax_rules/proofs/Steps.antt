@@ -1,0 +1,51 @@
+-- Loops over a list, by what a function gives of what is left.
+use Rattle.std.proofs.Common.{◌≡◌, ℕ, ◌+◌, ◌<◌, List, ◌∷◌, length, get_or, drop, Bool, true, false, ◌&&◌, refl, sym, ap, ◌∙◌}
+use Rattle.std.proofs.lemmas.List.{at_drop_more}
+
+pub next_of : {X Y : Type 0} (F : List X → Y) (xs : List X) (i : ℕ) (x : X) → i < length xs → x ≡ get_or xs i x
+    → F (drop i xs) ≡ F (x ∷ drop (i + 1) xs)
+next_of F xs i x within is = at_drop_more F xs i x within ∙ ap (λ y. F (y ∷ drop (i + 1) xs)) (sym is)
+
+-- A test of a list, in a state, that is a test of its first item and one of the others in the next state.
+module _ {S X : Type 0} (all : S → List X → Bool) (one : S → X → List X → Bool) (next : S → X → S)
+    (step : (s : S) (x : X) (xs : List X) → all s (x ∷ xs) ≡ (one s x xs && all (next s x) xs)) where
+  pub item_passes : (s : S) (xs : List X) (i : ℕ) (x : X) (whole : Bool) → i < length xs → x ≡ get_or xs i x
+      → one s x (drop (i + 1) xs) ≡ true → all s (drop i xs) ≡ whole → all (next s x) (drop (i + 1) xs) ≡ whole
+  item_passes s xs i x whole within is passes rest =
+      let others = drop (i + 1) xs in
+      let same : all s (drop i xs) ≡ all (next s x) others =
+      next_of (all s) xs i x within is ∙ step s x others ∙ ap (λ b. b && all (next s x) others) passes in
+      sym same ∙ rest
+
+  pub item_fails : (s : S) (xs : List X) (i : ℕ) (x : X) (whole : Bool) → i < length xs → x ≡ get_or xs i x
+      → one s x (drop (i + 1) xs) ≡ false → all s (drop i xs) ≡ whole → false ≡ whole
+  item_fails s xs i x whole within is fails rest =
+      let others = drop (i + 1) xs in
+      let same : all s (drop i xs) ≡ false =
+      next_of (all s) xs i x within is ∙ step s x others ∙ ap (λ b. b && all (next s x) others) fails in
+      sym same ∙ rest
+
+-- The same of a test without a state.
+module _ {X : Type 0} (all : List X → Bool) (one : X → Bool)
+    (step : (x : X) (xs : List X) → all (x ∷ xs) ≡ (one x && all xs)) where
+  pub one_passes : (xs : List X) (i : ℕ) (x : X) (whole : Bool) → i < length xs → x ≡ get_or xs i x → one x ≡ true
+      → all (drop i xs) ≡ whole → all (drop (i + 1) xs) ≡ whole
+  one_passes xs i x whole within is passes rest =
+      item_passes {S = Unit {0}} (λ s. all) (λ s x xs. one x) (λ s x. s) (λ s. step) tt xs i x whole within is passes rest
+
+  pub one_fails : (xs : List X) (i : ℕ) (x : X) (whole : Bool) → i < length xs → x ≡ get_or xs i x → one x ≡ false
+      → all (drop i xs) ≡ whole → false ≡ whole
+  one_fails xs i x whole within is fails rest =
+      item_fails {S = Unit {0}} (λ s. all) (λ s x xs. one x) (λ s x. s) (λ s. step) tt xs i x whole within is fails rest
+
+-- Three tests, of which the first two are made at once.
+
+pub three_hold : (a b c r : Bool) → (a && b) ≡ true → r ≡ c → r ≡ (a && (b && c))
+three_hold true true c r both third = third
+three_hold true false c r both third = cc
+three_hold false b c r both third = cc
+
+pub three_fail : (a b c : Bool) → (a && b) ≡ false → false ≡ (a && (b && c))
+three_fail true true c both = cc
+three_fail true false c both = refl
+three_fail false b c both = refl

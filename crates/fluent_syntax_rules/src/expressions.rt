@@ -1,0 +1,88 @@
+//! Selects, and the expressions of placeables.
+ghost use Rattle.std.specs.Prelude.{◌≡◌, is_none, map};
+ghost use Rattle.fluent_syntax_tree.specs.Tree.{variants_of};
+ghost use Rattle.fluent_syntax_tree.specs.View.{expression_view, inline_view, variant_view};
+ghost use Rattle.fluent_syntax_grammar.specs.Placeables.{selector_fault, is_term_attribute};
+ghost use Rattle.fluent_syntax_grammar.specs.Readable.{is_expression, defaults};
+ghost use Rattle.fluent_syntax_grammar.specs.Canonical.{has_one_default};
+ghost use Rattle.fluent_syntax_rules.specs.Standards.{expression_rule};
+
+use crate::standard::Standard;
+use fluent_syntax_tree::ast::*;
+use fluent_syntax_tree::texts::ReadTexts;
+
+/// Whether the expression obeys the rules of selects and of placeables.
+pub fn is_expression_by<X, T: ReadTexts<X>>(standard: Standard, expression: &Expression<X>) -> bool
+    ensures { result ≡ expression_rule standard (expression_view T.text expression.now) }
+{
+    match standard {
+        Standard::Readable(_) => is_expression::<X, T>(expression),
+        Standard::Canonical(_) => {
+            is_expression::<X, T>(expression) && has_one_default::<X, T>(expression)
+        }
+    }
+}
+
+/// Whether a select has a selector and at most one default, and an inline expression is no term reference with attribute.
+fn is_expression<X, T: ReadTexts<X>>(expression: &Expression<X>) -> bool
+    ensures { result ≡ is_expression (expression_view T.text expression.now) }
+{
+    match expression {
+        Expression::Select { selector, variants } => {
+            is_selector::<X, T>(selector) && defaults::<X, T>(variants) <= 1
+        }
+        Expression::Inline(inline) => !is_term_attribute::<X, T>(inline),
+    }
+}
+
+/// Whether the expression is a string, a number, a variable, a function, or a term reference with attribute.
+fn is_selector<X, T: ReadTexts<X>>(selector: &InlineExpression<X>) -> bool
+    ensures { result ≡ is_none (selector_fault (inline_view T.text selector.now)) }
+{
+    match selector {
+        InlineExpression::StringLiteral { .. } => true,
+        InlineExpression::NumberLiteral { .. } => true,
+        InlineExpression::FunctionReference { .. } => true,
+        InlineExpression::MessageReference { .. } => false,
+        InlineExpression::TermReference { attribute, .. } => attribute.is_some(),
+        InlineExpression::VariableReference { .. } => true,
+        InlineExpression::Placeable { .. } => false,
+    }
+}
+
+fn is_term_attribute<X, T: ReadTexts<X>>(content: &InlineExpression<X>) -> bool
+    ensures { result ≡ is_term_attribute (inline_view T.text content.now) }
+{
+    match content {
+        InlineExpression::StringLiteral { .. } => false,
+        InlineExpression::NumberLiteral { .. } => false,
+        InlineExpression::FunctionReference { .. } => false,
+        InlineExpression::MessageReference { .. } => false,
+        InlineExpression::TermReference { attribute, .. } => attribute.is_some(),
+        InlineExpression::VariableReference { .. } => false,
+        InlineExpression::Placeable { .. } => false,
+    }
+}
+
+/// Whether a select has exactly one default variant.
+fn has_one_default<X, T: ReadTexts<X>>(expression: &Expression<X>) -> bool
+    ensures { result ≡ has_one_default (expression_view T.text expression.now) }
+{
+    match expression {
+        Expression::Select { variants, .. } => defaults::<X, T>(variants) == 1,
+        Expression::Inline(_) => true,
+    }
+}
+
+/// How many of the variants are defaults.
+fn defaults<X, T: ReadTexts<X>>(variants: &[Variant<X>]) -> usize
+    ensures { result ≡ defaults (variants_of (map (variant_view T.text) variants.now)) }
+{
+    let mut count = 0;
+    for variant in variants {
+        if variant.default {
+            count += 1;
+        }
+    }
+    count
+}

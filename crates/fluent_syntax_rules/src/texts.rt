@@ -1,0 +1,168 @@
+//! Tests of one text of a pattern or of a line of a comment.
+ghost use Rattle.std.specs.Prelude.{◌≡◌};
+ghost use Rattle.std.specs.List.{list_all, list_any};
+ghost use Rattle.fluent_syntax_grammar.specs.Bytes.{is_space};
+ghost use Rattle.fluent_syntax_grammar.specs.Elements.{is_nonblank, without_last_lf};
+ghost use Rattle.fluent_syntax_grammar.specs.PatternTexts.{is_brace, has_crlf, is_spaces, begins_with_space, leading_spaces, after_spaces, ends_in_lf, ends_plainly, is_lone_lf};
+ghost use Rattle.fluent_syntax_grammar.specs.Readable.{is_text};
+ghost use Rattle.fluent_syntax_grammar.specs.Written.{has_lf, is_shown, begins_with_mark, is_leading_mark};
+ghost use Rattle.fluent_syntax_tree.specs.Text.{is_trimmed};
+
+/// Whether the text is not empty, and holds no brace, no CR directly before an LF, and an LF only as its last byte.
+pub(crate) fn is_text(text: &str) -> bool
+    ensures { result ≡ is_text text.now }
+{
+    let bytes = text.as_bytes();
+    !bytes.is_empty() && !has_brace(bytes) && !has_crlf(bytes) && !has_lf(without_last_lf(bytes))
+}
+
+fn has_brace(bytes: &[u8]) -> bool
+    ensures { result ≡ list_any is_brace bytes.now }
+{
+    bytes.iter().any(|byte| is_brace(*byte))
+}
+
+fn is_brace(byte: u8) -> bool
+    ensures { result ≡ is_brace byte }
+{
+    byte == b'{' || byte == b'}'
+}
+
+/// Whether a CR stands directly before an LF.
+fn has_crlf(bytes: &[u8]) -> bool
+    ensures { result ≡ has_crlf bytes.now }
+{
+    let mut after_cr = false;
+    for byte in bytes {
+        if after_cr && *byte == b'\n' {
+            return true;
+        }
+        after_cr = *byte == b'\r';
+    }
+    false
+}
+
+pub(crate) fn has_lf(bytes: &[u8]) -> bool
+    ensures { result ≡ has_lf bytes.now }
+{
+    bytes.contains(&b'\n')
+}
+
+/// The bytes without an LF that ends them.
+fn without_last_lf(bytes: &[u8]) -> &[u8]
+    ensures { result.now ≡ without_last_lf bytes.now }
+{
+    match bytes {
+        [rest @ .., last] if *last == b'\n' => rest,
+        _ => bytes,
+    }
+}
+
+/// Whether the text holds a byte other than space, apart from an ending LF.
+pub(crate) fn is_nonblank(text: &str) -> bool
+    ensures { result ≡ is_nonblank text.now }
+{
+    !are_spaces(without_last_lf(text.as_bytes()))
+}
+
+pub(crate) fn is_spaces(text: &str) -> bool
+    ensures { result ≡ is_spaces text.now }
+{
+    are_spaces(text.as_bytes())
+}
+
+fn are_spaces(bytes: &[u8]) -> bool
+    ensures { result ≡ list_all is_space bytes.now }
+{
+    bytes.iter().all(|byte| *byte == b' ')
+}
+
+pub(crate) fn begins_with_space(text: &str) -> bool
+    ensures { result ≡ begins_with_space text.now }
+{
+    match text.as_bytes() {
+        [first, ..] => *first == b' ',
+        [] => false,
+    }
+}
+
+/// How many spaces begin the text.
+pub(crate) fn leading_spaces(bytes: &[u8]) -> usize
+    ensures { result ≡ leading_spaces bytes.now }
+{
+    for (index, byte) in bytes.iter().enumerate() {
+        if *byte != b' ' {
+            return index;
+        }
+    }
+    bytes.len()
+}
+
+/// Whether the text begins, after spaces, with `.`, `[` or `*`.
+pub(crate) fn begins_line_with_mark(text: &str) -> bool
+    ensures { result ≡ begins_with_mark (after_spaces text.now) }
+{
+    for byte in text.as_bytes() {
+        if *byte != b' ' {
+            return is_leading_mark(*byte);
+        }
+    }
+    false
+}
+
+/// Whether the text begins with `.`, `[` or `*`.
+pub(crate) fn begins_with_mark(text: &str) -> bool
+    ensures { result ≡ begins_with_mark text.now }
+{
+    match text.as_bytes() {
+        [first, ..] => is_leading_mark(*first),
+        [] => false,
+    }
+}
+
+fn is_leading_mark(byte: u8) -> bool
+    ensures { result ≡ is_leading_mark byte }
+{
+    byte == b'.' || byte == b'[' || byte == b'*'
+}
+
+pub(crate) fn ends_in_lf(text: &str) -> bool
+    ensures { result ≡ ends_in_lf text.now }
+{
+    match text.as_bytes() {
+        [.., last] => *last == b'\n',
+        [] => false,
+    }
+}
+
+/// Whether the last byte is no space, CR or LF.
+pub(crate) fn ends_plainly(text: &str) -> bool
+    ensures { result ≡ ends_plainly text.now }
+{
+    match text.as_bytes() {
+        [.., last] => !is_trimmed(*last),
+        [] => false,
+    }
+}
+
+fn is_trimmed(byte: u8) -> bool
+    ensures { result ≡ is_trimmed byte }
+{
+    byte == b' ' || byte == b'\r' || byte == b'\n'
+}
+
+pub(crate) fn is_lone_lf(text: &str) -> bool
+    ensures { result ≡ is_lone_lf text.now }
+{
+    match text.as_bytes() {
+        [only] => *only == b'\n',
+        _ => false,
+    }
+}
+
+/// Whether the line holds a byte other than space, CR and LF.
+pub fn is_shown(line: &str) -> bool
+    ensures { result ≡ is_shown line.now }
+{
+    line.as_bytes().iter().any(|byte| !is_trimmed(*byte))
+}

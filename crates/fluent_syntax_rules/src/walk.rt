@@ -1,0 +1,297 @@
+//! The walk over a tree: each node passes the test of its kind.
+ghost use Rattle.std.specs.Prelude.{◌≡◌, ◌&&◌, map, option_map};
+ghost use Rattle.std.specs.List.{list_all};
+ghost use Rattle.fluent_syntax_tree.specs.Tree.{arguments_of, elements_of, inlines_of, nameds_of, variants_of};
+ghost use Rattle.fluent_syntax_tree.specs.View.{identifier_view, key_view, expression_view, inline_view, arguments_view, named_view, element_view, pattern_view, variant_view, comment_view, attribute_view, message_view, term_view, entry_view};
+ghost use Rattle.fluent_syntax_grammar.specs.Readable.{is_message, is_callee};
+ghost use Rattle.fluent_syntax_grammar.specs.Spellings.{is_name};
+ghost use Rattle.fluent_syntax_grammar.specs.Rules.{option_obeys, key_obeys, expression_obeys, inline_obeys, maybe_obeys, arguments_obey, inlines_obey, nameds_obey, named_obeys, pattern_obeys, elements_obey, element_obeys, variants_obey, variant_obeys, attribute_obeys, message_obeys, term_obeys, entry_obeys, body_obeys};
+ghost use Rattle.fluent_syntax_rules.specs.Standards.{comment_rule, pattern_rule, rules_of, parts_obey};
+
+use crate::arguments::are_arguments;
+use crate::comments::is_comment;
+use crate::elements::is_pattern;
+use crate::expressions::is_expression_by;
+use crate::flush::is_flush;
+use crate::spellings::{is_callee, is_name, is_number, is_string};
+use crate::standard::Standard;
+use fluent_syntax_tree::ast::*;
+use fluent_syntax_tree::texts::ReadTexts;
+
+pub fn body_obeys<X, T: ReadTexts<X>>(standard: Standard, entries: &[Entry<X>]) -> bool
+    ensures { result ≡ body_obeys (rules_of standard) (map (entry_view T.text) entries.now) }
+{
+    for entry in entries {
+        if !entry_obeys::<X, T>(standard, entry) {
+            return false;
+        }
+    }
+    true
+}
+
+fn entry_obeys<X, T: ReadTexts<X>>(standard: Standard, entry: &Entry<X>) -> bool
+    ensures { result ≡ entry_obeys (rules_of standard) (entry_view T.text entry.now) }
+{
+    match entry {
+        Entry::Message(message) => message_obeys::<X, T>(standard, message),
+        Entry::Term(term) => term_obeys::<X, T>(standard, term),
+        Entry::Comment(comment) => is_comment::<X, T>(standard, comment),
+        Entry::GroupComment(comment) => is_comment::<X, T>(standard, comment),
+        Entry::ResourceComment(comment) => is_comment::<X, T>(standard, comment),
+        Entry::Junk { .. } => false,
+    }
+}
+
+fn message_obeys<X, T: ReadTexts<X>>(standard: Standard, message: &Message<X>) -> bool
+    ensures { result ≡ message_obeys (rules_of standard) (message_view T.text message.now) }
+{
+    is_message::<X, T>(message)
+        && comment_obeys::<X, T>(standard, &message.comment)
+        && is_name(T::as_str(&message.id.name))
+        && value_obeys::<X, T>(standard, &message.value)
+        && attributes_obey::<X, T>(standard, &message.attributes)
+}
+
+/// Whether the message has a value or an attribute.
+fn is_message<X, T: ReadTexts<X>>(message: &Message<X>) -> bool
+    ensures { result ≡ is_message (message_view T.text message.now) }
+{
+    message.value.is_some() || !message.attributes.is_empty()
+}
+
+fn term_obeys<X, T: ReadTexts<X>>(standard: Standard, term: &Term<X>) -> bool
+    ensures { result ≡ term_obeys (rules_of standard) (term_view T.text term.now) }
+{
+    comment_obeys::<X, T>(standard, &term.comment)
+        && is_name(T::as_str(&term.id.name))
+        && pattern_obeys::<X, T>(standard, &term.value)
+        && attributes_obey::<X, T>(standard, &term.attributes)
+}
+
+fn comment_obeys<X, T: ReadTexts<X>>(standard: Standard, comment: &Option<Comment<X>>) -> bool
+    ensures { result ≡ option_obeys (comment_rule standard) (option_map (comment_view T.text) comment.now) }
+{
+    match comment {
+        Some(comment) => is_comment::<X, T>(standard, comment),
+        None => true,
+    }
+}
+
+fn value_obeys<X, T: ReadTexts<X>>(standard: Standard, value: &Option<Pattern<X>>) -> bool
+    ensures { result ≡ option_obeys (pattern_obeys (rules_of standard)) (option_map (pattern_view T.text) value.now) }
+{
+    match value {
+        Some(pattern) => pattern_obeys::<X, T>(standard, pattern),
+        None => true,
+    }
+}
+
+fn attributes_obey<X, T: ReadTexts<X>>(standard: Standard, attributes: &[Attribute<X>]) -> bool
+    ensures { result ≡ list_all (attribute_obeys (rules_of standard)) (map (attribute_view T.text) attributes.now) }
+{
+    for attribute in attributes {
+        if !attribute_obeys::<X, T>(standard, attribute) {
+            return false;
+        }
+    }
+    true
+}
+
+fn attribute_obeys<X, T: ReadTexts<X>>(standard: Standard, attribute: &Attribute<X>) -> bool
+    ensures { result ≡ attribute_obeys (rules_of standard) (attribute_view T.text attribute.now) }
+{
+    is_name(T::as_str(&attribute.id.name)) && pattern_obeys::<X, T>(standard, &attribute.value)
+}
+
+#[cycle(obeys)]
+fn pattern_obeys<X, T: ReadTexts<X>>(standard: Standard, pattern: &Pattern<X>) -> bool
+    ensures { result ≡ pattern_obeys (rules_of standard) (pattern_view T.text pattern.now) }
+{
+    is_pattern_by::<X, T>(standard, pattern) && elements_obey::<X, T>(standard, &pattern.elements)
+}
+
+/// Whether the pattern obeys the rules of patterns.
+fn is_pattern_by<X, T: ReadTexts<X>>(standard: Standard, pattern: &Pattern<X>) -> bool
+    ensures { result ≡ pattern_rule standard (pattern_view T.text pattern.now) }
+{
+    match standard {
+        Standard::Readable(edition) => is_pattern::<X, T>(edition, pattern),
+        Standard::Canonical(edition) => {
+            is_pattern::<X, T>(edition, pattern) && is_flush::<X, T>(edition, pattern)
+        }
+    }
+}
+
+#[cycle(obeys)]
+fn elements_obey<X, T: ReadTexts<X>>(standard: Standard, elements: &[PatternElement<X>]) -> bool
+    ensures { result ≡ elements_obey (rules_of standard) (elements_of (map (element_view T.text) elements.now)) }
+{
+    for element in elements {
+        if !element_obeys::<X, T>(standard, element) {
+            return false;
+        }
+    }
+    true
+}
+
+#[cycle(obeys)]
+fn element_obeys<X, T: ReadTexts<X>>(standard: Standard, element: &PatternElement<X>) -> bool
+    ensures { result ≡ element_obeys (rules_of standard) (element_view T.text element.now) }
+{
+    match element {
+        PatternElement::TextElement { .. } => true,
+        PatternElement::Placeable { expression } => {
+            expression_obeys::<X, T>(standard, expression)
+        }
+    }
+}
+
+#[cycle(obeys)]
+fn expression_obeys<X, T: ReadTexts<X>>(standard: Standard, expression: &Expression<X>) -> bool
+    ensures { result ≡ expression_obeys (rules_of standard) (expression_view T.text expression.now) }
+{
+    is_expression_by::<X, T>(standard, expression) && parts_obey::<X, T>(standard, expression)
+}
+
+/// Whether all that the expression holds obeys.
+#[cycle(obeys)]
+fn parts_obey<X, T: ReadTexts<X>>(standard: Standard, expression: &Expression<X>) -> bool
+    ensures { result ≡ parts_obey (rules_of standard) (expression_view T.text expression.now) }
+{
+    match expression {
+        Expression::Select { selector, variants } => {
+            inline_obeys::<X, T>(standard, selector) && variants_obey::<X, T>(standard, variants)
+        }
+        Expression::Inline(inline) => inline_obeys::<X, T>(standard, inline),
+    }
+}
+
+#[cycle(obeys)]
+fn variants_obey<X, T: ReadTexts<X>>(standard: Standard, variants: &[Variant<X>]) -> bool
+    ensures { result ≡ variants_obey (rules_of standard) (variants_of (map (variant_view T.text) variants.now)) }
+{
+    for variant in variants {
+        if !variant_obeys::<X, T>(standard, variant) {
+            return false;
+        }
+    }
+    true
+}
+
+#[cycle(obeys)]
+fn variant_obeys<X, T: ReadTexts<X>>(standard: Standard, variant: &Variant<X>) -> bool
+    ensures { result ≡ variant_obeys (rules_of standard) (variant_view T.text variant.now) }
+{
+    key_obeys::<X, T>(standard, &variant.key) && pattern_obeys::<X, T>(standard, &variant.value)
+}
+
+fn key_obeys<X, T: ReadTexts<X>>(standard: Standard, key: &VariantKey<X>) -> bool
+    ensures { result ≡ key_obeys (rules_of standard) (key_view T.text key.now) }
+{
+    match key {
+        VariantKey::Identifier { name } => is_name(T::as_str(name)),
+        VariantKey::NumberLiteral { value } => is_number(T::as_str(value)),
+    }
+}
+
+#[cycle(obeys)]
+fn inline_obeys<X, T: ReadTexts<X>>(standard: Standard, inline: &InlineExpression<X>) -> bool
+    ensures { result ≡ inline_obeys (rules_of standard) (inline_view T.text inline.now) }
+{
+    match inline {
+        InlineExpression::StringLiteral { value } => is_string(T::as_str(value)),
+        InlineExpression::NumberLiteral { value } => is_number(T::as_str(value)),
+        InlineExpression::FunctionReference { id, arguments } => {
+            is_function_name(T::as_str(&id.name)) && arguments_obey::<X, T>(standard, arguments)
+        }
+        InlineExpression::MessageReference { id, attribute } => {
+            reference_obeys::<X, T>(id, attribute)
+        }
+        InlineExpression::TermReference {
+            id,
+            attribute,
+            arguments,
+        } => { reference_obeys::<X, T>(id, attribute) && maybe_obeys::<X, T>(standard, arguments) }
+        InlineExpression::VariableReference { id } => is_name(T::as_str(&id.name)),
+        InlineExpression::Placeable { expression } => {
+            expression_obeys::<X, T>(standard, expression)
+        }
+    }
+}
+
+fn is_function_name(name: &str) -> bool
+    ensures { result ≡ (is_name name.now && is_callee name.now) }
+{
+    is_name(name) && is_callee(name)
+}
+
+/// Whether the name, and that of the attribute, are names.
+fn reference_obeys<X, T: ReadTexts<X>>(
+    id: &Identifier<X>,
+    attribute: &Option<Identifier<X>>,
+) -> bool
+    ensures { result ≡ (is_name (T.text id.now.name) && option_obeys is_name (option_map (identifier_view T.text) attribute.now)) }
+{
+    is_name(T::as_str(&id.name)) && attribute_name_obeys::<X, T>(attribute)
+}
+
+fn attribute_name_obeys<X, T: ReadTexts<X>>(attribute: &Option<Identifier<X>>) -> bool
+    ensures { result ≡ option_obeys is_name (option_map (identifier_view T.text) attribute.now) }
+{
+    match attribute {
+        Some(id) => is_name(T::as_str(&id.name)),
+        None => true,
+    }
+}
+
+#[cycle(obeys)]
+fn maybe_obeys<X, T: ReadTexts<X>>(standard: Standard, arguments: &Option<CallArguments<X>>) -> bool
+    ensures { result ≡ maybe_obeys (rules_of standard) (arguments_of (option_map (arguments_view T.text) arguments.now)) }
+{
+    match arguments {
+        Some(arguments) => arguments_obey::<X, T>(standard, arguments),
+        None => true,
+    }
+}
+
+#[cycle(obeys)]
+fn arguments_obey<X, T: ReadTexts<X>>(standard: Standard, arguments: &CallArguments<X>) -> bool
+    ensures { result ≡ arguments_obey (rules_of standard) (arguments_view T.text arguments.now) }
+{
+    if !are_arguments::<X, T>(arguments) {
+        return false;
+    }
+    inlines_obey::<X, T>(standard, &arguments.positional)
+        && nameds_obey::<X, T>(standard, &arguments.named)
+}
+
+#[cycle(obeys)]
+fn inlines_obey<X, T: ReadTexts<X>>(standard: Standard, inlines: &[InlineExpression<X>]) -> bool
+    ensures { result ≡ inlines_obey (rules_of standard) (inlines_of (map (inline_view T.text) inlines.now)) }
+{
+    for inline in inlines {
+        if !inline_obeys::<X, T>(standard, inline) {
+            return false;
+        }
+    }
+    true
+}
+
+#[cycle(obeys)]
+fn nameds_obey<X, T: ReadTexts<X>>(standard: Standard, nameds: &[NamedArgument<X>]) -> bool
+    ensures { result ≡ nameds_obey (rules_of standard) (nameds_of (map (named_view T.text) nameds.now)) }
+{
+    for named in nameds {
+        if !named_obeys::<X, T>(standard, named) {
+            return false;
+        }
+    }
+    true
+}
+
+#[cycle(obeys)]
+fn named_obeys<X, T: ReadTexts<X>>(standard: Standard, named: &NamedArgument<X>) -> bool
+    ensures { result ≡ named_obeys (rules_of standard) (named_view T.text named.now) }
+{
+    is_name(T::as_str(&named.name.name)) && inline_obeys::<X, T>(standard, &named.value)
+}
