@@ -8,11 +8,16 @@ use fluent_syntax::ast::{
     Entry, Expression, Identifier, InlineExpression, Message, Pattern, PatternElement, Resource,
     Variant, VariantKey,
 };
+use fluent_syntax::laws::is_canonical;
+use fluent_syntax::parser::Edition;
 use fluent_syntax::serializer::{Options, serialize_to};
 use std::alloc::{AllocError, Global};
 
 fn main(rt: HostRuntime) -> anyhow::Result<()> {
     let tree = files(rt.alloc())?;
+    if !is_canonical(&tree, Edition::One) {
+        anyhow::bail!("the tree would not read back");
+    }
     let mut sink = Counted::new(rt.alloc());
     if serialize_to(&mut sink, &tree, Options::default()).is_err() {
         anyhow::bail!("no memory");
