@@ -1,0 +1,4 @@
+pub mod Carried
+pub mod Gathers
+pub mod Scans
+pub mod StringBytes
