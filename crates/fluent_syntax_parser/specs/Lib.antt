@@ -1,3 +1,4 @@
+pub mod CommentLines
 pub mod Meets
 pub mod Starts
 pub mod Strings

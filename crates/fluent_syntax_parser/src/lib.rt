@@ -4,7 +4,10 @@
 #![tactic(auto)]
 
 mod blanks;
+mod comment;
 mod fault;
+mod junk;
+mod line_ends;
 mod references;
 mod source;
 mod starts;
