@@ -1,4 +1,5 @@
 pub mod CommentLines
+pub mod Faults
 pub mod Meets
 pub mod Starts
 pub mod Strings

@@ -5,6 +5,7 @@
 
 mod blanks;
 mod comment;
+mod error;
 mod fault;
 mod junk;
 mod line_ends;
