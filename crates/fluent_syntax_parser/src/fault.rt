@@ -3,6 +3,8 @@
 //! Each is a small value that copies: what an error tells of the text is kept as a place of it, and its texts are
 //! made once, where the error is reported.
 
+use fluent_syntax_tree::ast::Resource;
+use fluent_syntax_tree::errors::ParserError;
 use fluent_syntax_tree::spans::Span;
 use std::alloc::{AllocError, AllocFailed};
 
@@ -88,4 +90,13 @@ impl<T: Drop> From<AllocFailed<T>> for ReadFault {
     fn from(_error: AllocFailed<T>) -> Self {
         ReadFault::Memory
     }
+}
+
+/// Why no tree without errors came of parsing.
+#[derive(PartialEq, Debug, Drop)]
+pub enum ParseFault<S> {
+    /// Parts of the source were refused: the tree, which has them as junk, and an error for each.
+    Syntax(Resource<S>, Vec<ParserError>),
+    /// A growth was refused.
+    Memory,
 }

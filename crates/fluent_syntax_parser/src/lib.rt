@@ -5,12 +5,22 @@
 
 mod blanks;
 mod comment;
+pub mod entries;
+mod entry;
 mod error;
-mod fault;
+pub mod fault;
 mod junk;
 mod line_ends;
+mod next;
+pub mod options;
 mod references;
 mod source;
+mod spans;
 mod starts;
 mod strings;
+mod tile;
 mod words;
+
+pub use spans::{
+    parse_runtime_spans, parse_runtime_spans_edition, parse_spans, parse_spans_edition,
+};
