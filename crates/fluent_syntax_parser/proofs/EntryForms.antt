@@ -1,0 +1,57 @@
+-- The entry that a place has, by its first byte.
+use Rattle.std.proofs.Common.{◌≡◌, ℕ, List, Option, Some, None, true, false, refl}
+use Rattle.std.specs.Prelude.{slice_get, ◌==◌}
+use Rattle.fluent_syntax_tree.specs.Entry.{EntryTree}
+use Rattle.fluent_syntax_tree.specs.declared.edition.Edition.{Edition}
+use Rattle.fluent_syntax_tree.specs.declared.spans.Span.{Span}
+use Rattle.fluent_syntax_grammar.specs.Body.{hung}
+use Rattle.fluent_syntax_grammar.specs.Bytes.{hash, hyphen}
+use Rattle.fluent_syntax_grammar.specs.Comments.{comment_entry}
+use Rattle.fluent_syntax_grammar.specs.Construct.{Outcome, Read, goes_on, chosen, first, second}
+use Rattle.fluent_syntax_grammar.specs.Entries.{message_entry, term_entry}
+use Rattle.fluent_syntax_grammar.specs.Places.{holds, has_byte}
+use Rattle.fluent_syntax_grammar.specs.Tiling.{entry_at, entry_of}
+use Rattle.fluent_syntax_grammar.proofs.Facts.{differs}
+use Rattle.fluent_syntax_grammar.proofs.Holds.{gave}
+
+module _ (edition : Edition) (t : List ℕ) (i : ℕ) (o : Outcome (EntryTree Span)) where
+  comment_of_byte : (here : Option ℕ) → holds (λ b. b == hash) here ≡ true → comment_entry t i o →
+      entry_of edition t here i o
+  comment_of_byte None there h = cc
+  comment_of_byte (Some b) there h = first there h
+
+  term_of_byte : (here : Option ℕ) → holds (λ b. b == hash) here ≡ false → holds (λ b. b == hyphen) here ≡ true →
+      term_entry edition t i o → entry_of edition t here i o
+  term_of_byte None none there h = cc
+  term_of_byte (Some b) none there h = second none (first there h)
+
+  message_of_byte : (here : Option ℕ) → holds (λ b. b == hash) here ≡ false → holds (λ b. b == hyphen) here ≡ false →
+      message_entry edition t i o → entry_of edition t here i o
+  message_of_byte None none other h = h
+  message_of_byte (Some b) none other h = second none (second other h)
+
+  pub comment_there : has_byte t hash i ≡ true → comment_entry t i o → entry_at edition t i o
+  comment_there there h = chosen (comment_of_byte (slice_get t i) there h)
+
+  pub term_there : has_byte t hash i ≡ false → has_byte t hyphen i ≡ true → term_entry edition t i o →
+      entry_at edition t i o
+  term_there none there h = chosen (term_of_byte (slice_get t i) none there h)
+
+  pub message_there : has_byte t hash i ≡ false → has_byte t hyphen i ≡ false → message_entry edition t i o →
+      entry_at edition t i o
+  message_there none other h = chosen (message_of_byte (slice_get t i) none other h)
+
+-- ---- where no entry hangs
+
+module _ (edition : Edition) (t : List ℕ) (content : List Span) (i j : ℕ) (e : EntryTree Span) where
+  comment_hangs_not : comment_entry t i (Read e j) → hung content e ≡ None
+  comment_hangs_not (chosen (goes_on x (goes_on {j = m} y z))) = rw (← (gave _ e m j z).0) refl
+
+  hash_of_byte : (here : Option ℕ) → holds (λ b. b == hash) here ≡ true → entry_of edition t here i (Read e j) →
+      hung content e ≡ None
+  hash_of_byte None there x = cc
+  hash_of_byte (Some b) there (first f x) = comment_hangs_not x
+  hash_of_byte (Some b) there (second f x) = differs there f
+
+  pub hash_hangs_not : has_byte t hash i ≡ true → entry_at edition t i (Read e j) → hung content e ≡ None
+  hash_hangs_not there (chosen x) = hash_of_byte (slice_get t i) there x

@@ -1,0 +1,69 @@
+-- The errors of an answer begin within the text.
+use Rattle.std.proofs.Common.{◌≡◌, ℕ, ◌≤◌, List, [], ◌∷◌, length, Option, Some, None, map, refl, ap, arith}
+use Rattle.std.specs.Prelude.{option_map, Result, Ok, Err}
+use Rattle.std.specs.List.{All}
+use Rattle.std.proofs.lemmas.List.Elements.{All-nil, All-cons}
+use Rattle.fluent_syntax_tree.specs.Kind.{kind_of}
+use Rattle.fluent_syntax_tree.specs.declared.ast.Resource.{Resource}
+use Rattle.fluent_syntax_tree.specs.declared.edition.Edition.{Edition}
+use Rattle.fluent_syntax_tree.specs.declared.errors.ParserError.{ParserError}
+use Rattle.fluent_syntax_tree.specs.declared.spans.Span.{Span}
+use Rattle.fluent_syntax_grammar.specs.Body.{faults}
+use Rattle.fluent_syntax_grammar.specs.Laws.{Ascend}
+use Rattle.fluent_syntax_grammar.specs.Tiling.{Fault, Tile}
+use Rattle.fluent_syntax_grammar.proofs.JunkAndSpans.{errors_ascend, runtime_errors_ascend}
+use Rattle.fluent_syntax_parser.specs.Answers.{Answers, AnswersIn, ErrorsInText}
+use Rattle.fluent_syntax_parser.specs.Faults.{fault_of}
+use Rattle.fluent_syntax_parser.specs.declared.options.Comments.{Comments}
+use Rattle.fluent_syntax_parser.specs.declared.options.Comments.TheVariants.{Kept, Dropped}
+use Rattle.fluent_syntax_parser.specs.declared.fault.ParseFault.{ParseFault}
+use Rattle.fluent_syntax_parser.specs.declared.fault.ParseFault.TheVariants.{Syntax, Memory}
+
+same_place : {R : Type 0} (junk : Option R) (pos : ℕ) (fault : R → Fault) (f : Fault) →
+    ((r : R) → (fault r).pos.start ≡ pos) → option_map fault junk ≡ Some f → pos ≡ f.pos.start
+same_place None pos fault f same e = absurd (cc)
+same_place (Some r) pos fault f same e =
+    let told : fault r ≡ f = cc in
+    let here = ap (λ g. g.pos.start) told in
+    let there = same r in
+    cc
+
+-- an error begins where the fault begins that it tells of
+pub place_told : (e : ParserError) (f : Fault) → fault_of e ≡ Some f → e.pos.start ≡ f.pos.start
+place_told e f told = same_place e.slice e.pos.start (λ slice. record {
+  kind = kind_of e.kind;
+  pos = record { start = e.pos.start; end = e.pos.end };
+  slice = record { start = slice.start; end = slice.end };
+}) f (λ slice. refl) told
+
+module _ (t : List ℕ) where
+  ascend_in_text : (from : ℕ) (fs : List Fault) → Ascend t from fs → from ≤ length t
+  ascend_in_text from [] up = up
+  ascend_in_text from (f ∷ fs) up = let after = ascend_in_text f.slice.end fs up.4 in omega (arith, up.0, up.1)
+
+  -- errors that tell of faults which ascend begin within the text
+  told_in_text : (from : ℕ) (errors : List ParserError) (fs : List Fault) →
+      map fault_of errors ≡ map Some fs → Ascend t from fs → All (λ e. e.pos.start ≤ length t) errors
+  told_in_text from [] fs told up = All-nil (λ e. e.pos.start ≤ length t)
+  told_in_text from (e ∷ errors) [] told up = absurd cc
+  told_in_text from (e ∷ errors) (f ∷ fs) told up =
+      let first : fault_of e ≡ Some f = cc in
+      let others : map fault_of errors ≡ map Some fs = cc in
+      let after = ascend_in_text f.slice.end fs up.4 in
+      let place = place_told e f first in
+      All-cons (λ e. e.pos.start ≤ length t) e errors (omega (arith, up.3))
+      (told_in_text f.slice.end errors fs others up.4)
+
+  given_in_text : (tiles : List Tile) (result : Result (Resource Span) (ParseFault Span)) → Ascend t 0 (faults tiles) →
+      Answers (λ s. s) (λ b. b) tiles result → ErrorsInText t result
+  given_in_text tiles (Ok tree) up given = tt
+  given_in_text tiles (Err (Syntax tree errors)) up (same, told, some) =
+      told_in_text 0 errors.items (faults tiles) told up
+  given_in_text tiles (Err Memory) up given = tt
+
+  pub errors_in_text : (comments : Comments) (edition : Edition) (result : Result (Resource Span) (ParseFault Span)) →
+      AnswersIn comments edition t result → ErrorsInText t result
+  errors_in_text Kept edition result (tiles, tiling, given) =
+      given_in_text tiles result (errors_ascend edition t tiles tiling) given
+  errors_in_text Dropped edition result (tiles, tiling, given) =
+      given_in_text tiles result (runtime_errors_ascend edition t tiles tiling) given

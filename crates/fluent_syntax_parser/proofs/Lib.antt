@@ -1,0 +1,13 @@
+pub mod Carried
+pub mod CommentEntries
+pub mod EntryForms
+pub mod ErrorPlaces
+pub mod Gathers
+pub mod Handed
+pub mod HangsOn
+pub mod LineEnds
+pub mod PartsOfTiling
+pub mod Rests
+pub mod Scans
+pub mod StringBytes
+pub mod TileForms

@@ -1,0 +1,22 @@
+use Rattle.std.proofs.Common.{◌≡◌, ◌-◌, ◌≤◌, ◌++◌, [], length, map, List, Option}
+use Rattle.fluent_syntax_tree.specs.Entry.{BodyTree}
+use Rattle.fluent_syntax_tree.specs.declared.spans.Span.{Span}
+use Rattle.fluent_syntax_grammar.specs.Places.{BlankBlock}
+use Rattle.fluent_syntax_grammar.specs.Tiling.{Fault}
+use Rattle.fluent_syntax_parser.specs.Faults.{fault_of}
+use Rattle.fluent_syntax_parser.specs.Rest.{Rest, tree_of}
+use Rattle.fluent_syntax_parser.proofs.source.Source.get_body.Given as goal
+
+-- Whatever the rest is, the text has it behind what was read. In a text that is one blank block nothing is read.
+abbrev pub invariant-loop-errors : goal.invariant-loop-errors
+invariant-loop-errors l = record {
+  within : l.ptr ≤ length l.self.bytes.now;
+  rest : (entries : BodyTree Span) (errors : List (Option Fault)) →
+      Rest l.options.comments l.options.edition l.self.bytes.now l.ptr entries errors →
+      Rest l.options.comments l.options.edition l.self.bytes.now 0 (map tree_of l.body.items ++ entries)
+      (map fault_of l.errors.items ++ errors);
+  blank : BlankBlock l.self.bytes.now 0 (length l.self.bytes.now) → (l.ptr ≡ 0) × (l.errors.items ≡ []);
+}
+
+abbrev pub decreases-loop-errors : goal.decreases-loop-errors
+decreases-loop-errors l = length l.self.bytes.now - l.ptr

@@ -1,0 +1,25 @@
+use Rattle.std.proofs.Common.{refl, sym, arith}
+use Rattle.std.proofs.lemmas.Result.{err_from_is_err_and}
+use Rattle.fluent_syntax_tree.specs.Entry.{group, regular, resource}
+use Rattle.fluent_syntax_grammar.specs.Construct.{Refused, chosen}
+use Rattle.fluent_syntax_parser.proofs.CommentEntries.{comment_read, level_other}
+use Rattle.fluent_syntax_parser.proofs.source.Source.get_comment.Goals as goal
+use Rattle.fluent_syntax_parser.proofs.source.Source.get_comment.Goals.{in-1, in-2, in_default}
+
+pub returns-in_err-content-clause-meets : goal.returns-in_err-content-clause-meets
+returns-in_err-content-clause-meets c =
+    let p = err_from_is_err_and c.from_residual.result c.from_residual.ensures.1 in
+    rw (p.1, p.2) (λ k from to h. chosen {i = c.args.ptr} {o = Refused k from to}
+    (rw (← c.comment_level-level.ensures.level) (c.in_err-content.ensures.meets k from to h)))
+
+pub returns-clause-meets : goal.returns-clause-meets
+returns-clause-meets c =
+    let count = c.comment_level-level.result in
+    let hashed = sym c.comment_level-level.ensures.level in
+    let named = comment_read c.args.self.now.bytes.now c.args.ptr c.in_ok-content.end count
+    c.in_ok-content.content.items hashed c.in_ok-content.ensures.meets in
+    elim c.match-level.branch [
+      | in-1 w ↦ rw w.entry-is (named regular (rw w.in-1.is refl))
+      | in-2 w ↦ rw w.entry-is (named group (rw w.in-2.is refl))
+      | in_default w ↦ rw w.entry-is (named resource (level_other count (λ e. omega arith) (λ e. omega arith)))
+    ]

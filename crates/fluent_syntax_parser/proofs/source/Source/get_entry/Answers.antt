@@ -1,0 +1,40 @@
+use Rattle.std.proofs.Common.{sym}
+use Rattle.std.proofs.lemmas.Result.{err_from_is_err_and}
+use Rattle.fluent_syntax_tree.specs.View.{entry_view}
+use Rattle.fluent_syntax_grammar.specs.Comments.{comment_entry}
+use Rattle.fluent_syntax_grammar.specs.Construct.{Refused}
+use Rattle.fluent_syntax_grammar.specs.Tiling.{entry_at}
+use Rattle.fluent_syntax_parser.proofs.EntryForms.{comment_there, message_there, term_there}
+use Rattle.fluent_syntax_parser.proofs.Handed.{meets_as}
+use Rattle.fluent_syntax_parser.proofs.source.Source.get_entry.Goals as goal
+
+pub returns-then-is_byte_at-clause-meets : goal.returns-then-is_byte_at-clause-meets
+returns-then-is_byte_at-clause-meets c =
+    let t = c.args.self.now.bytes.now in
+    let edition = c.args.options.edition in
+    meets_as t (comment_entry t) (entry_at edition t) (entry_view (λ s. s)) _ _
+    (λ o h. comment_there edition t _ o (sym c.if-is_byte_at.ensures) h) c.get_comment.ensures.meets
+
+pub returns-in_err-term-clause-meets : goal.returns-in_err-term-clause-meets
+returns-in_err-term-clause-meets c =
+    let p = err_from_is_err_and c.from_residual.result c.from_residual.ensures.1 in
+    rw (p.1, p.2) (λ k from to h.
+    term_there c.args.options.edition c.args.self.now.bytes.now _ (Refused k from to) (sym c.if-is_byte_at.ensures)
+    (sym c.if-is_byte_at-2.ensures) (c.in_err-term.ensures.meets k from to h))
+
+pub returns-in_ok-term-clause-meets : goal.returns-in_ok-term-clause-meets
+returns-in_ok-term-clause-meets c =
+    term_there c.args.options.edition c.args.self.now.bytes.now _ _ (sym c.if-is_byte_at.ensures)
+    (sym c.if-is_byte_at-2.ensures) c.in_ok-term.ensures.meets
+
+pub returns-in_err-message-clause-meets : goal.returns-in_err-message-clause-meets
+returns-in_err-message-clause-meets c =
+    let p = err_from_is_err_and c.from_residual-in_err-message.result c.from_residual-in_err-message.ensures.1 in
+    rw (p.1, p.2) (λ k from to h.
+    message_there c.args.options.edition c.args.self.now.bytes.now _ (Refused k from to) (sym c.if-is_byte_at.ensures)
+    (sym c.if-is_byte_at-2.ensures) (c.in_err-message.ensures.meets k from to h))
+
+pub returns-in_ok-message-clause-meets : goal.returns-in_ok-message-clause-meets
+returns-in_ok-message-clause-meets c =
+    message_there c.args.options.edition c.args.self.now.bytes.now _ _ (sym c.if-is_byte_at.ensures)
+    (sym c.if-is_byte_at-2.ensures) c.in_ok-message.ensures.meets

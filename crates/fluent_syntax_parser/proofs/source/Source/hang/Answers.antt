@@ -1,0 +1,47 @@
+use Rattle.std.proofs.Common.{◌<◌, length, refl, sym, arith}
+use Rattle.fluent_syntax_tree.specs.View.{comment_view}
+use Rattle.fluent_syntax_tree.specs.declared.ast.Entry.TheVariants.{Comment}
+use Rattle.fluent_syntax_parser.proofs.EntryForms.{hash_hangs_not}
+use Rattle.fluent_syntax_parser.proofs.HangsOn.{behind_blank, hangs_not, hangs_on, no_entry, other_entry}
+use Rattle.fluent_syntax_parser.proofs.source.Source.hang.Goals as goal
+use Rattle.fluent_syntax_parser.proofs.source.Source.hang.Goals.{then-is_byte_at-via-then-is_byte_at, then-is_byte_at-via-else-is_byte_at+then-skip_blank_block-ptr}
+
+pub returns-then-is_byte_at-clause-hangs : goal.returns-then-is_byte_at-clause-hangs
+returns-then-is_byte_at-clause-hangs c =
+    let edition = c.args.options.edition in
+    let t = c.args.self.now.bytes.now in
+    let content = comment_view (λ s. s) c.args.comment in
+    hangs_not edition t content c.args.ptr (Comment c.args.comment) refl (elim c.then-is_byte_at.branch [
+      | then-is_byte_at-via-then-is_byte_at w ↦
+          (λ block e j read. hash_hangs_not edition t content c.args.ptr j e (sym w.if-is_byte_at.ensures) read)
+      | then-is_byte_at-via-else-is_byte_at+then-skip_blank_block-ptr w ↦
+          behind_blank edition t content c.args.ptr _ w.skip_blank_block.ensures.blank w.if-skip_blank_block-ptr.true
+    ])
+
+pub returns-in-Ok-hung-clause-hangs : goal.returns-in-Ok-hung-clause-hangs
+returns-in-Ok-hung-clause-hangs c =
+    let t = c.args.self.now.bytes.now in
+    let content = comment_view (λ s. s) c.args.comment in
+    let read = c.in-Ok.ensures in
+    let inside : c.args.ptr < length t = omega (arith, read.within.0, read.within.1) in
+    let block = rw c.if-skip_blank_block-ptr.false at c.skip_blank_block.ensures.blank in
+    hangs_on c.args.options.edition t content c.args.ptr _ _ _ block inside read.meets c.in-Ok-hung.ensures.hung
+
+pub returns-in-Err-clause-hangs : goal.returns-in-Err-clause-hangs
+returns-in-Err-clause-hangs c =
+    let edition = c.args.options.edition in
+    let t = c.args.self.now.bytes.now in
+    let content = comment_view (λ s. s) c.args.comment in
+    let other = c.in-Err.ensures.other in
+    rw other.0
+    (hangs_not edition t content c.args.ptr (Comment c.args.comment) refl
+    (other_entry edition t content c.args.ptr _ _ c.in-Ok.ensures.meets other.1))
+
+pub returns-in-Err-Refused-clause-hangs : goal.returns-in-Err-Refused-clause-hangs
+returns-in-Err-Refused-clause-hangs c =
+    let edition = c.args.options.edition in
+    let t = c.args.self.now.bytes.now in
+    let content = comment_view (λ s. s) c.args.comment in
+    let refused = rw c.in-Err-Refused.field-0-is at c.in-Err-Refused.ensures.meets in
+    hangs_not edition t content c.args.ptr (Comment c.args.comment) refl
+    (no_entry edition t content c.args.ptr _ refused)

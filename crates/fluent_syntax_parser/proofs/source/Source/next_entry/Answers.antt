@@ -1,0 +1,32 @@
+use Rattle.std.proofs.Common.{◌<◌, length, arith}
+use Rattle.fluent_syntax_parser.proofs.Rests.{none_left, rest_comment, rest_tile}
+use Rattle.fluent_syntax_parser.proofs.source.Source.next_entry.Goals as goal
+
+pub returns-then-start-self-clause-next : goal.returns-then-start-self-clause-next
+returns-then-start-self-clause-next c =
+    let options = c.args.options in
+    c.tile_start-start.ensures.rest options.edition _ _
+    (none_left options.comments options.edition c.args.self.now.bytes.now _ c.if-start-self.true)
+
+pub returns-in_ok-entry-in-Ok-clause-next : goal.returns-in_ok-entry-in-Ok-clause-next
+returns-in_ok-entry-in-Ok-clause-next c =
+    let t = c.args.self.now.bytes.now in
+    let options = c.args.options in
+    let start = c.tile_start-start in
+    let read = c.in_ok-entry in
+    let inside : start.result < length t = omega (arith, read.ensures.within.0, read.ensures.within.1) in
+    λ entries errors rest. start.ensures.rest options.edition _ _
+    (rest_comment options.edition t _ _ inside read.entry read.error read.ensures.gives _ c.in-Ok.ensures.comment
+    options.comments start.ensures.dropped _ _ c.in_ok-entry-in-Ok.ensures.hangs entries errors rest)
+
+pub returns-in-Err-clause-next : goal.returns-in-Err-clause-next
+returns-in-Err-clause-next c =
+    let t = c.args.self.now.bytes.now in
+    let options = c.args.options in
+    let start = c.tile_start-start in
+    let read = c.in_ok-entry in
+    let other = c.in-Err.ensures.other in
+    let inside : start.result < length t = omega (arith, read.ensures.within.0, read.ensures.within.1) in
+    λ entries errors rest. start.ensures.rest options.edition _ _
+    (rest_tile options.edition t _ _ inside options.comments start.ensures.dropped c.in-Err.entry read.error
+    (rw other.0 read.ensures.gives) other.1 entries errors rest)

@@ -1,0 +1,57 @@
+use Rattle.std.proofs.Common.{refl, arith}
+use Rattle.std.proofs.lemmas.Option.{gets}
+use Rattle.fluent_syntax_grammar.specs.Bytes.{capital_u, small_u}
+use Rattle.fluent_syntax_grammar.specs.Construct.{Refused, goes_on, failed, passed, chosen, first, second}
+use Rattle.fluent_syntax_grammar.specs.Strings.{hex_digits}
+use Rattle.fluent_syntax_parser.specs.Strings.{escape}
+use Rattle.fluent_syntax_parser.proofs.Carried.{end_as}
+use Rattle.fluent_syntax_parser.proofs.StringBytes.{decimal_32, simple, not_simple, unequal}
+use Rattle.fluent_syntax_parser.proofs.source.Source.skip_escape.Goals as goal
+
+pub returns-in-None-clause-meets : goal.returns-in-None-clause-meets
+returns-in-None-clause-meets c =
+    λ k from to (a, b, d). chosen {o = Refused k from to} (rw (a, b, d, ← c.in-None.ensures, decimal_32) (failed refl))
+
+pub returns-in-Some-eq92-clause-meets : goal.returns-in-Some-eq92-clause-meets
+returns-in-Some-eq92-clause-meets c =
+    chosen
+    (rw (← c.in-Some-eq92.ensures)
+    (first (simple _ c.in-Some-eq92.field-0-test)
+    (passed
+    (record { by = refl }))))
+
+pub returns-in-Some-eq92-clause-within : goal.returns-in-Some-eq92-clause-within
+returns-in-Some-eq92-clause-within c = grind (arith, gets)
+
+pub returns-in-Some-eq117-clause-meets : goal.returns-in-Some-eq117-clause-meets
+returns-in-Some-eq117-clause-meets c =
+    let t = c.args.self.now.bytes.now in
+    let found = rw c.in-Some-eq117.field-0-test at c.in-Some-eq117.ensures in
+    end_as t (hex_digits t 4) (escape t) _ _ _
+    (λ o h. chosen {o = o} (rw (← found)
+    (second refl
+    (first refl
+    (goes_on (passed (record { by = refl })) h)))))
+    c.skip_hex.ensures.meets
+
+pub returns-in-Some-eq85-clause-meets : goal.returns-in-Some-eq85-clause-meets
+returns-in-Some-eq85-clause-meets c =
+    let t = c.args.self.now.bytes.now in
+    let found = rw c.in-Some-eq85.field-0-test at c.in-Some-eq85.ensures in
+    end_as t (hex_digits t 6) (escape t) _ _ _
+    (λ o h. chosen {o = o} (rw (← found)
+    (second refl
+    (second refl
+    (first refl
+    (goes_on (passed (record { by = refl })) h))))))
+    c.skip_hex-in-Some-eq85.ensures.meets
+
+pub returns-in-Some-clause-meets : goal.returns-in-Some-clause-meets
+returns-in-Some-clause-meets c =
+    let test = c.in-Some.byte-test in
+    λ k from to (a, b, d). chosen {o = Refused k from to}
+    (rw (a, b, d, ← c.in-Some.ensures)
+    (second (not_simple _ test.0.0.1)
+    (second (unequal _ small_u test.0.1)
+    (second (unequal _ capital_u test.1)
+    (failed refl)))))

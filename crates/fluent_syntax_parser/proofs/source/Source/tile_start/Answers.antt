@@ -1,0 +1,33 @@
+use Rattle.std.proofs.Common.{◌<◌, length, sym, arith}
+use Rattle.fluent_syntax_grammar.proofs.Functional.{single_block}
+use Rattle.fluent_syntax_parser.proofs.Rests.{rest_behind, rest_dropped}
+use Rattle.fluent_syntax_parser.proofs.source.Source.tile_start.Goals as goal
+
+pub loop-comments-init : goal.loop-comments-init
+loop-comments-init c =
+    let t = c.args.self.now.bytes.now in
+    let block = c.skip_blank_block-start.ensures in
+    record {
+      forward = block.forward;
+      within = block.within;
+      rest = λ edition entries errors rest.
+          rest_behind c.args.comments edition t _ _ entries errors block.blank rest;
+      blank = λ all. single_block.same c.args.ptr _ _ block.blank all;
+    }
+
+pub loop-comments-preserved : goal.loop-comments-preserved
+loop-comments-preserved c =
+    let t = c.args.self.now.bytes.now in
+    let inv = c.loop-comments.invariant in
+    let line = c.skip_comment.ensures in
+    let block = c.skip_blank_block-start-in-loop-comments.ensures in
+    let inside : c.loop-comments.start < length t = omega (arith, line.within.0, line.within.1) in
+    record {
+      forward = omega (arith, inv.forward, line.within.0, block.forward);
+      within = block.within;
+      rest = λ edition entries errors rest. inv.rest edition entries errors
+          (rest_dropped edition t _ _ inside c.args.comments (sym c.loop-comments-test.ensures)
+          (sym c.if-is_byte_at.ensures) line.line entries errors
+          (rest_behind c.args.comments edition t _ _ entries errors block.blank rest));
+      blank = λ all. let end = inv.blank all in absurd (omega (arith, end, inside));
+    }

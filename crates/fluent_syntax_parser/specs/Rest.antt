@@ -1,0 +1,91 @@
+-- What is left of a text that is read entry by entry.
+use Rattle.std.specs.Prelude.{◌≡◌, ℕ, ◌<◌, List, [], ◌∷◌, ◌++◌, length, map, Option, Some, None, Bool, true, false}
+use Rattle.fluent_syntax_tree.specs.Entry.{BodyTree, EntryTree, comment, regular}
+use Rattle.fluent_syntax_tree.specs.View.{entry_view}
+use Rattle.fluent_syntax_tree.specs.declared.ast.Entry.{Entry}
+use Rattle.fluent_syntax_tree.specs.declared.edition.Edition.{Edition}
+use Rattle.fluent_syntax_tree.specs.declared.errors.ParserError.{ParserError}
+use Rattle.fluent_syntax_tree.specs.declared.spans.Span.{Span}
+use Rattle.fluent_syntax_grammar.specs.Body.{alone, body, faults}
+use Rattle.fluent_syntax_grammar.specs.Tiling.{Fault, Tile, entry, Tiled, TileAt, RuntimeTileAt}
+use Rattle.fluent_syntax_parser.specs.Faults.{fault_of}
+use Rattle.fluent_syntax_parser.specs.declared.options.Comments.{Comments}
+use Rattle.fluent_syntax_parser.specs.declared.options.Comments.TheVariants.{Kept, Dropped}
+
+-- the tree of an entry
+abbrev pub tree_of : Entry Span → EntryTree Span
+tree_of e = entry_view (λ s. s) e
+
+-- the faults that an error tells of, if there is one
+abbrev pub faults_of : Option ParserError → List (Option Fault)
+faults_of None = []
+faults_of (Some error) = fault_of error ∷ []
+
+-- whether the entry is a comment of level 1
+abbrev pub may_hang : EntryTree Span → Bool
+may_hang (comment regular content) = true
+may_hang e = false
+
+-- whether comments are dropped
+abbrev pub are_dropped : Comments → Bool
+are_dropped Kept = false
+are_dropped Dropped = true
+
+-- the tile that stands somewhere, with comments or without
+abbrev pub TileIn : Comments → Edition → List ℕ → (i j : ℕ) → Tile → Type 0
+TileIn Kept edition t = TileAt edition t
+TileIn Dropped edition t = RuntimeTileAt edition t
+
+-- A tile stands from i to j, and gives that entry and that error, if there is one.
+pub record GivesTile (edition : Edition) (t : List ℕ) (i j : ℕ) (e : Entry Span) (error : Option ParserError) :
+    Type 0 where
+  pub tile : Tile
+  pub stands : TileAt edition t i j tile
+  pub entry : alone tile ≡ tree_of e ∷ []
+  pub errors : map Some (faults (tile ∷ [])) ≡ faults_of error
+
+-- From the place on, the tiles of the text have this body and these errors.
+pub record Rest (comments : Comments) (edition : Edition) (t : List ℕ) (i : ℕ) (entries : BodyTree Span)
+    (errors : List (Option Fault)) : Type 0 where
+  pub tiles : List Tile
+  pub tiled : Tiled t (TileIn comments edition t) i tiles
+  pub gives : body tiles ≡ entries
+  pub tells : map Some (faults tiles) ≡ errors
+
+-- the tiles from a place on, at which no blank block is left
+pub data Standing (t : List ℕ) (at : (i j : ℕ) → Tile → Type 0) : ℕ → List Tile → Type 0 where
+  at_end : {i : ℕ} → i ≡ length t → Standing t at i []
+  at_tile : {i end : ℕ} {tile : Tile} {tiles : List Tile} → i < length t → at i end tile → Tiled t at end tiles →
+      Standing t at i (tile ∷ tiles)
+
+-- The same from a place on, at which no blank block is left.
+pub record RestAt (comments : Comments) (edition : Edition) (t : List ℕ) (i : ℕ) (entries : BodyTree Span)
+    (errors : List (Option Fault)) : Type 0 where
+  pub tiles : List Tile
+  pub standing : Standing t (TileIn comments edition t) i tiles
+  pub gives : body tiles ≡ entries
+  pub tells : map Some (faults tiles) ≡ errors
+
+-- Behind a comment of level 1 that ends at the place there is that entry, with it or it itself, and the rest from the
+-- other place on.
+abbrev pub Hangs : Edition → List ℕ → List Span → ℕ → Entry Span → ℕ → Type 0
+Hangs edition t content ptr e j =
+    (i : ℕ) (entries : BodyTree Span) (errors : List (Option Fault)) → Rest Kept edition t j entries errors →
+    (tiles : List Tile) × Tiled t (TileAt edition t) ptr tiles ×
+    (body (entry (record { start = i; end = ptr }) (comment regular content) ∷ tiles) ≡ tree_of e ∷ entries) ×
+    (map Some (faults tiles) ≡ errors)
+
+-- What comes next from the place on: that entry, with its error if there is one, before whatever the rest is from the
+-- other place on; or nothing, and nothing is left.
+abbrev pub Next : Comments → Edition → List ℕ → ℕ → Option (Entry Span × Option ParserError × ℕ) → Type 0
+Next comments edition t i None = Rest comments edition t i [] []
+Next comments edition t i (Some read) =
+    (entries : BodyTree Span) (errors : List (Option Fault)) → Rest comments edition t read.2 entries errors →
+    Rest comments edition t i (tree_of read.0 ∷ entries) (faults_of read.1 ++ errors)
+
+-- The same of what is read from the one place to the other.
+abbrev pub NextTo : Comments → Edition → List ℕ → (i j : ℕ) → Option (Entry Span × Option ParserError) → Type 0
+NextTo comments edition t i j None = Rest comments edition t i [] []
+NextTo comments edition t i j (Some read) =
+    (entries : BodyTree Span) (errors : List (Option Fault)) → Rest comments edition t j entries errors →
+    Rest comments edition t i (tree_of read.0 ∷ entries) (faults_of read.1 ++ errors)

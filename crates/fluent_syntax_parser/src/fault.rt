@@ -1,0 +1,102 @@
+//! Why a reader gives up.
+//!
+//! Each is a small value that copies: what an error tells of the text is kept as a place of it, and its texts are
+//! made once, where the error is reported.
+
+use fluent_syntax_tree::ast::Resource;
+use fluent_syntax_tree::errors::ParserError;
+use fluent_syntax_tree::spans::Span;
+use std::alloc::{AllocError, AllocFailed};
+
+/// What was wanted, or is wrong.
+#[derive(Clone, Copy, Debug)]
+pub(crate) enum Fault {
+    Token(u8),
+    Letter,
+    Digit,
+    /// A line end after an arrow.
+    LineEnd,
+    /// A pattern or an attribute of the message of that name.
+    MessageField(Span),
+    /// A pattern of the term of that name, which begins at the place.
+    TermField { start: usize, name: Span },
+    Callee,
+    Value,
+    NoDefault,
+    SecondDefault,
+    MessageAsSelector,
+    MessageAttributeAsSelector,
+    TermAsSelector,
+    PlaceableAsSelector,
+    TermAttribute,
+    UnterminatedString,
+    PositionalAfterNamed,
+    /// A name that was used.
+    Duplicated(Span),
+    /// A backslash before that byte.
+    UnknownEscape(u8),
+    /// Too few digits, which begin at the place.
+    UnicodeEscape(usize),
+    UnbalancedBrace,
+    InlineExpression,
+    Literal,
+}
+
+/// The source is not what the grammar wants, at a place.
+#[derive(Clone, Copy, Debug)]
+pub(crate) struct Refusal {
+    pub(crate) fault: Fault,
+    pub(crate) place: usize,
+}
+
+/// Why a reader gives up that nests or takes memory.
+#[derive(Clone, Copy, Debug)]
+pub(crate) enum ReadFault {
+    Refused(Refusal),
+    /// It nests more deeply than was allowed.
+    TooDeep,
+    /// A growth was refused.
+    Memory,
+}
+
+impl From<Refusal> for ReadFault {
+    ghost use Rattle.fluent_syntax_parser.specs.declared.fault.ReadFault.TheVariants.{Refused};
+    ghost use Rattle.std.specs.Prelude.{◌≡◌};
+
+    ghost from_gives = { λ refusal fault. fault ≡ Refused refusal };
+
+    fn from(refusal: Refusal) -> Self {
+        ReadFault::Refused(refusal)
+    }
+}
+
+impl From<AllocError> for ReadFault {
+    ghost use Rattle.fluent_syntax_parser.specs.declared.fault.ReadFault.TheVariants.{Memory};
+    ghost use Rattle.std.specs.Prelude.{◌≡◌};
+
+    ghost from_gives = { λ _ fault. fault ≡ Memory };
+
+    fn from(_error: AllocError) -> Self {
+        ReadFault::Memory
+    }
+}
+
+impl<T: Drop> From<AllocFailed<T>> for ReadFault {
+    ghost use Rattle.fluent_syntax_parser.specs.declared.fault.ReadFault.TheVariants.{Memory};
+    ghost use Rattle.std.specs.Prelude.{◌≡◌};
+
+    ghost from_gives = { λ _ fault. fault ≡ Memory };
+
+    fn from(_error: AllocFailed<T>) -> Self {
+        ReadFault::Memory
+    }
+}
+
+/// Why no tree without errors came of parsing.
+#[derive(PartialEq, Debug, Drop)]
+pub enum ParseFault<S> {
+    /// Parts of the source were refused: the tree, which has them as junk, and an error for each.
+    Syntax(Resource<S>, Vec<ParserError>),
+    /// A growth was refused.
+    Memory,
+}

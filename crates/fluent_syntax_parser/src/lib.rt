@@ -1,0 +1,26 @@
+//! The parser of Fluent resources, in the form of its grammar: a reader for each construct, written in the order of
+//! the construct's parts. A place of the text is a number that a reader is given, and where it ends is part of its
+//! answer; the text itself never changes.
+#![tactic(auto)]
+
+mod blanks;
+mod comment;
+pub mod entries;
+mod entry;
+mod error;
+pub mod fault;
+mod junk;
+mod line_ends;
+mod next;
+pub mod options;
+mod references;
+mod source;
+mod spans;
+mod starts;
+mod strings;
+mod tile;
+mod words;
+
+pub use spans::{
+    parse_runtime_spans, parse_runtime_spans_edition, parse_spans, parse_spans_edition,
+};

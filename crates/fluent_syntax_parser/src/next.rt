@@ -1,0 +1,74 @@
+//! The next entry of a text.
+ghost use Rattle.std.specs.Prelude.{◌≡◌, ◌<◌, ◌≤◌, length, IfOk, IfSome, None, Ok, false, true, List, Option};
+ghost use Rattle.fluent_syntax_tree.specs.Entry.{BodyTree};
+ghost use Rattle.fluent_syntax_tree.specs.declared.edition.Edition.{Edition};
+ghost use Rattle.fluent_syntax_grammar.specs.Bytes.{hash};
+ghost use Rattle.fluent_syntax_grammar.specs.Places.{BlankBlock, has_byte};
+ghost use Rattle.fluent_syntax_grammar.specs.Tiling.{Fault};
+ghost use Rattle.fluent_syntax_parser.specs.Rest.{Next, Rest, RestAt, are_dropped};
+
+use crate::options::{Comments, Halt, Options};
+use crate::source::Source;
+use crate::tile::as_comment;
+use fluent_syntax_tree::ast::Entry;
+use fluent_syntax_tree::errors::ParserError;
+use fluent_syntax_tree::spans::Span;
+use std::alloc::Global;
+
+impl Comments {
+    fn are_dropped(self) -> bool
+        ensures { result ≡ are_dropped self }
+    {
+        match self {
+            Comments::Kept => false,
+            Comments::Dropped => true,
+        }
+    }
+}
+
+impl<'s> Source<'s> {
+    /// Where the next entry or junk begins, or the text's end.
+    fn tile_start(&self, comments: Comments, ptr: usize) -> usize
+        requires { ptr ≤ length self.now.bytes.now }
+        ensures rest { (edition : Edition) (entries : BodyTree Span) (errors : List (Option Fault)) →
+            RestAt comments edition self.now.bytes.now result entries errors →
+            Rest comments edition self.now.bytes.now ptr entries errors }
+        ensures dropped { are_dropped comments ≡ true → has_byte self.now.bytes.now hash result ≡ false }
+        ensures blank { let t = self.now.bytes.now in BlankBlock t ptr (length t) → result ≡ length t }
+        ensures within { (ptr ≤ result) × (result ≤ length self.now.bytes.now) }
+    {
+        let mut start = self.skip_blank_block(ptr);
+        while comments.are_dropped() && self.is_byte_at(b'#', start) {
+            start = self.skip_blank_block(self.skip_comment(start));
+        }
+        start
+    }
+
+    /// Reads the next entry from a place on, with its error where it is junk; and where it ends.
+    pub(crate) fn next_entry(
+        &self,
+        alloc: Global,
+        options: Options,
+        ptr: usize,
+    ) -> Result<Option<(Entry<Span>, Option<ParserError>, usize)>, Halt>
+        requires { ptr ≤ length self.now.bytes.now }
+        ensures next { let t = self.now.bytes.now in
+            IfOk result (Next options.comments options.edition t ptr) }
+        ensures blank { let t = self.now.bytes.now in BlankBlock t ptr (length t) → result ≡ Ok None }
+        ensures within { let t = self.now.bytes.now in
+            IfOk result (λ found. IfSome found (λ read. (ptr < read.2) × (read.2 ≤ length t))) }
+    {
+        let start = self.tile_start(options.comments, ptr);
+        if start == self.bytes.len() {
+            return Ok(None);
+        }
+        let (entry, error, end) = self.get_tile(alloc, options, start)?;
+        match as_comment(entry) {
+            Ok(comment) => {
+                let (entry, end) = self.hang(alloc, options, comment, end)?;
+                Ok(Some((entry, error, end)))
+            }
+            Err(entry) => Ok(Some((entry, error, end))),
+        }
+    }
+}

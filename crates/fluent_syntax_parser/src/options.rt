@@ -1,0 +1,42 @@
+//! How a text is read.
+
+use fluent_syntax_tree::edition::Edition;
+use std::alloc::{AllocError, AllocFailed};
+
+/// Whether comments are read.
+#[derive(Clone, Copy, Debug)]
+pub enum Comments {
+    /// They are entries, or hang on the entries after them.
+    Kept,
+    /// Where an entry would begin with `#`, the rest of that line is dropped.
+    Dropped,
+}
+
+/// By which edition, with which comments, and how deeply nested a text is read.
+#[derive(Clone, Copy, Debug)]
+pub struct Options {
+    pub edition: Edition,
+    pub comments: Comments,
+    pub nesting: usize,
+}
+
+/// Why reading stops before the text's end.
+#[derive(Clone, Copy, Debug)]
+pub enum Halt {
+    /// It nests more deeply than was allowed.
+    TooDeep,
+    /// A growth was refused.
+    Memory,
+}
+
+impl From<AllocError> for Halt {
+    fn from(_error: AllocError) -> Self {
+        Halt::Memory
+    }
+}
+
+impl<T: Drop> From<AllocFailed<T>> for Halt {
+    fn from(_error: AllocFailed<T>) -> Self {
+        Halt::Memory
+    }
+}

@@ -1,0 +1,77 @@
+//! References: the attribute that one may name, and what a name with its arguments is.
+ghost use Rattle.std.specs.Prelude.{◌≡◌, ◌≤◌, length, option_map, IfOk};
+ghost use Rattle.std.specs.List.{list_all};
+ghost use Rattle.fluent_syntax_tree.specs.Spans.{bytes_at};
+ghost use Rattle.fluent_syntax_tree.specs.Tree.{arguments_of};
+ghost use Rattle.fluent_syntax_tree.specs.View.{arguments_view, identifier_view, inline_view};
+ghost use Rattle.fluent_syntax_grammar.specs.Arguments.{accessor};
+ghost use Rattle.fluent_syntax_grammar.specs.Inline.{is_callee_byte, named_reference};
+ghost use Rattle.fluent_syntax_parser.specs.Meets.{Answers};
+
+use crate::fault::{Fault, Refusal};
+use crate::source::Source;
+use fluent_syntax_tree::ast::{CallArguments, Identifier, InlineExpression};
+use fluent_syntax_tree::spans::Span;
+
+impl<'s> Source<'s> {
+    /// Whether a name holds only `A` to `Z`, digits, `_` and `-`.
+    fn is_callee(&self, name: Span) -> bool
+        ensures { result ≡ list_all is_callee_byte (bytes_at self.now.bytes.now name) }
+    {
+        self.bytes_of(name).iter().all(|c| c.is_ascii_uppercase()
+            || c.is_ascii_digit()
+            || *c == b'_'
+            || *c == b'-')
+    }
+
+    /// Reads `.` and an identifier, if `.` stands there.
+    pub(crate) fn get_attribute_accessor(
+        &self,
+        ptr: usize,
+    ) -> Result<(Option<Identifier<Span>>, usize), Refusal>
+        requires { ptr ≤ length self.now.bytes.now }
+        ensures meets { let t = self.now.bytes.now in
+            Answers t (accessor t) (option_map (identifier_view (λ s. s))) ptr result }
+        ensures within { IfOk result (λ read. (ptr ≤ read.1) × (read.1 ≤ length self.now.bytes.now)) }
+    {
+        let (dot, start) = self.take_byte_if(b'.', ptr);
+        if dot {
+            let end = self.identifier_end(start)?;
+            let name = Span { start, end };
+            Ok((Some(Identifier { name }), end))
+        } else {
+            Ok((None, start))
+        }
+    }
+
+    /// The reference that an identifier with its arguments is: of a function with arguments, and without of a message,
+    /// perhaps with an attribute.
+    pub(crate) fn get_named_reference(
+        &self,
+        id: Identifier<Span>,
+        arguments: Option<CallArguments<Span>>,
+        ptr: usize,
+    ) -> Result<(InlineExpression<Span>, usize), Refusal>
+        requires { ptr ≤ length self.now.bytes.now }
+        ensures meets { let t = self.now.bytes.now in
+            let given = arguments_of (option_map (arguments_view (λ s. s)) arguments) in
+            Answers t (named_reference t id.name given) (inline_view (λ s. s)) ptr result }
+        ensures within { IfOk result (λ read. (ptr ≤ read.1) × (read.1 ≤ length self.now.bytes.now)) }
+    {
+        match arguments {
+            Some(arguments) => {
+                if !self.is_callee(id.name) {
+                    return Err(Refusal {
+                        fault: Fault::Callee,
+                        place: ptr,
+                    });
+                }
+                Ok((InlineExpression::FunctionReference { id, arguments }, ptr))
+            }
+            None => {
+                let (attribute, ptr) = self.get_attribute_accessor(ptr)?;
+                Ok((InlineExpression::MessageReference { id, attribute }, ptr))
+            }
+        }
+    }
+}

@@ -1,0 +1,120 @@
+//! Marks, names and numbers.
+ghost use Rattle.std.specs.Prelude.{◌≡◌, ◌<◌, ◌≤◌, length, IfOk};
+ghost use Rattle.fluent_syntax_grammar.specs.Bytes.{is_digit, is_name_byte};
+ghost use Rattle.fluent_syntax_grammar.specs.Construct.{Read};
+ghost use Rattle.fluent_syntax_grammar.specs.Places.{Word};
+ghost use Rattle.fluent_syntax_grammar.specs.Words.{digits, identifier, number, optional, token};
+ghost use Rattle.fluent_syntax_parser.specs.Meets.{MeetsEnd, MeetsText};
+
+use crate::fault::{Fault, Refusal};
+use crate::source::Source;
+
+fn is_name_byte(byte: u8) -> bool
+    ensures { result ≡ is_name_byte byte }
+{
+    byte.is_ascii_alphanumeric() || byte == b'-' || byte == b'_'
+}
+
+impl<'s> Source<'s> {
+    pub(crate) fn expect_byte(&self, byte: u8, ptr: usize) -> Result<usize, Refusal>
+        requires { ptr ≤ length self.now.bytes.now }
+        ensures meets { MeetsEnd self.now.bytes.now (token self.now.bytes.now byte) ptr result }
+        ensures within { IfOk result (λ end. (ptr < end) × (end ≤ length self.now.bytes.now)) }
+    {
+        if self.is_byte_at(byte, ptr) {
+            Ok(ptr + 1)
+        } else {
+            Err(Refusal {
+                fault: Fault::Token(byte),
+                place: ptr,
+            })
+        }
+    }
+
+    /// Whether the byte stands at a place, and the place after it if it does.
+    pub(crate) fn take_byte_if(&self, byte: u8, ptr: usize) -> (bool, usize)
+        requires { ptr ≤ length self.now.bytes.now }
+        ensures meets { optional self.now.bytes.now byte ptr (Read result.0 result.1) }
+        ensures forward { ptr ≤ result.1 }
+        ensures within { result.1 ≤ length self.now.bytes.now }
+    {
+        if self.is_byte_at(byte, ptr) {
+            (true, ptr + 1)
+        } else {
+            (false, ptr)
+        }
+    }
+
+    /// The end of the longest run of name bytes.
+    fn name_end(&self, ptr: usize) -> usize
+        requires { ptr ≤ length self.now.bytes.now }
+        ensures name { Word self.now.bytes.now is_name_byte ptr result }
+        ensures within { result ≤ length self.now.bytes.now }
+    {
+        let mut end = ptr;
+        while end < self.bytes.len() && is_name_byte(self.bytes[end]) {
+            end += 1;
+        }
+        end
+    }
+
+    /// The end of an identifier, whose text is the bytes from the place up to it.
+    pub(crate) fn identifier_end(&self, ptr: usize) -> Result<usize, Refusal>
+        requires { ptr ≤ length self.now.bytes.now }
+        ensures meets { MeetsText self.now.bytes.now (identifier self.now.bytes.now) ptr result }
+        ensures within { IfOk result (λ end. (ptr < end) × (end ≤ length self.now.bytes.now)) }
+    {
+        if !self.is_letter_at(ptr) {
+            return Err(Refusal {
+                fault: Fault::Letter,
+                place: ptr,
+            });
+        }
+        Ok(self.name_end(ptr))
+    }
+
+    /// The end of the longest run of digits.
+    fn digit_run_end(&self, ptr: usize) -> usize
+        requires { ptr ≤ length self.now.bytes.now }
+        ensures digits { Word self.now.bytes.now is_digit ptr result }
+        ensures within { result ≤ length self.now.bytes.now }
+    {
+        let mut end = ptr;
+        while end < self.bytes.len() && self.bytes[end].is_ascii_digit() {
+            end += 1;
+        }
+        end
+    }
+
+    /// The end of the digits that have to stand at a place.
+    fn digits_end(&self, ptr: usize) -> Result<usize, Refusal>
+        requires { ptr ≤ length self.now.bytes.now }
+        ensures meets { MeetsEnd self.now.bytes.now (digits self.now.bytes.now) ptr result }
+        ensures within { IfOk result (λ end. (ptr < end) × (end ≤ length self.now.bytes.now)) }
+    {
+        if self.is_digit_at(ptr) {
+            Ok(self.digit_run_end(ptr))
+        } else {
+            Err(Refusal {
+                fault: Fault::Digit,
+                place: ptr,
+            })
+        }
+    }
+
+    /// The end of a number, whose text is the bytes from the place up to it.
+    pub(crate) fn number_end(&self, start: usize) -> Result<usize, Refusal>
+        requires { start ≤ length self.now.bytes.now }
+        ensures meets { MeetsText self.now.bytes.now (number self.now.bytes.now) start result }
+        ensures within { IfOk result (λ end. (start < end) × (end ≤ length self.now.bytes.now)) }
+    {
+        let (_, ptr) = self.take_byte_if(b'-', start);
+        let ptr = self.digits_end(ptr)?;
+        let (point, ptr) = self.take_byte_if(b'.', ptr);
+        if point {
+            let end = self.digits_end(ptr)?;
+            return Ok(end);
+        }
+        Ok(ptr)
+    }
+}
