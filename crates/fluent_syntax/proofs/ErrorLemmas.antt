@@ -17,9 +17,10 @@ use Rattle.fluent_syntax_grammar.specs.Laws.{junk_slice, fault_slice}
 use Rattle.fluent_syntax_grammar.specs.Laws as laws
 use Rattle.fluent_syntax_grammar.proofs.Functional.{single_block}
 use Rattle.fluent_syntax_grammar.proofs.JunkAndSpans.{junk_of_errors, runtime_junk_of_errors, errors_ascend, runtime_errors_ascend}
-use Rattle.fluent_syntax_reader.specs.Answers.{fault_of, Answers, AnswersTiling, AnswersRuntimeTiling}
-use Rattle.fluent_syntax_reader.specs.declared.fault.ParseFault.{ParseFault}
-use Rattle.fluent_syntax_reader.specs.declared.fault.ParseFault.TheVariants.{Syntax, Memory}
+use Rattle.fluent_syntax_parser.specs.Faults.{fault_of}
+use Rattle.fluent_syntax_parser.specs.Answers.{Answers, AnswersTiling, AnswersRuntimeTiling}
+use Rattle.fluent_syntax_parser.specs.declared.fault.ParseFault.{ParseFault}
+use Rattle.fluent_syntax_parser.specs.declared.fault.ParseFault.TheVariants.{Syntax, Memory}
 use Rattle.fluent_syntax.specs.Errors.{junk_texts, refused_text, JunkIsRefused, ErrorsAscend}
 
 -- ---- junk

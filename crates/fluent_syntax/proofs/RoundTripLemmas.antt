@@ -15,9 +15,9 @@ use Rattle.fluent_syntax_grammar.specs.RoundTrip.{ReadsAs, tree_of}
 use Rattle.fluent_syntax_grammar.proofs.OneTiling.{one_tiling}
 use Rattle.fluent_syntax_grammar.proofs.SomeTiling.{some_tiling}
 use Rattle.fluent_syntax_grammar.proofs.backward.Bodies.{joined_is_readable, joined_is_same}
-use Rattle.fluent_syntax_reader.specs.Answers.{Answers, AnswersTiling}
-use Rattle.fluent_syntax_reader.specs.declared.fault.ParseFault.{ParseFault}
-use Rattle.fluent_syntax_reader.specs.declared.fault.ParseFault.TheVariants.{Syntax, Memory}
+use Rattle.fluent_syntax_parser.specs.Answers.{Answers, AnswersTiling}
+use Rattle.fluent_syntax_parser.specs.declared.fault.ParseFault.{ParseFault}
+use Rattle.fluent_syntax_parser.specs.declared.fault.ParseFault.TheVariants.{Syntax, Memory}
 use Rattle.fluent_syntax.specs.RoundTrip.{AnswersReadable, AnswersWritten, IsTree}
 
 module _ {S : Type 0} (text : S → List ℕ) where

@@ -7,9 +7,9 @@ use Rattle.fluent_syntax_tree.specs.declared.edition.Edition.{Edition}
 use Rattle.fluent_syntax_tree.specs.declared.spans.Span.{Span}
 use Rattle.fluent_syntax_grammar.specs.Tiling.{Tile}
 use Rattle.fluent_syntax_grammar.proofs.OneTiling.{one_tiling, one_runtime_tiling}
-use Rattle.fluent_syntax_reader.specs.Answers.{Answers, AnswersTiling, AnswersRuntimeTiling}
-use Rattle.fluent_syntax_reader.specs.declared.fault.ParseFault.{ParseFault}
-use Rattle.fluent_syntax_reader.specs.declared.fault.ParseFault.TheVariants.{Syntax, Memory}
+use Rattle.fluent_syntax_parser.specs.Answers.{Answers, AnswersTiling, AnswersRuntimeTiling}
+use Rattle.fluent_syntax_parser.specs.declared.fault.ParseFault.{ParseFault}
+use Rattle.fluent_syntax_parser.specs.declared.fault.ParseFault.TheVariants.{Syntax, Memory}
 use Rattle.fluent_syntax.specs.SameAnswers.{SameAnswers}
 
 module _ {S Z : Type 0} (text : S → List ℕ) (other : Z → List ℕ) (whole : BodyTree Span → BodyTree (List ℕ)) where

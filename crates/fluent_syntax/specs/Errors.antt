@@ -7,9 +7,9 @@ use Rattle.fluent_syntax_tree.specs.declared.ast.Resource.{Resource}
 use Rattle.fluent_syntax_tree.specs.declared.errors.ParserError.{ParserError}
 use Rattle.fluent_syntax_grammar.specs.Laws.{Ascend}
 use Rattle.fluent_syntax_grammar.specs.Tiling.{Fault}
-use Rattle.fluent_syntax_reader.specs.Answers.{fault_of}
-use Rattle.fluent_syntax_reader.specs.declared.fault.ParseFault.{ParseFault}
-use Rattle.fluent_syntax_reader.specs.declared.fault.ParseFault.TheVariants.{Syntax, Memory}
+use Rattle.fluent_syntax_parser.specs.Faults.{fault_of}
+use Rattle.fluent_syntax_parser.specs.declared.fault.ParseFault.{ParseFault}
+use Rattle.fluent_syntax_parser.specs.declared.fault.ParseFault.TheVariants.{Syntax, Memory}
 
 -- the text of an entry that is junk; nothing else
 abbrev pub junk_text : {X : Type 0} → EntryTree X → List X

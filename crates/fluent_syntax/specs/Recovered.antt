@@ -2,8 +2,8 @@
 use Rattle.std.specs.Prelude.{◌≡◌, List, [], Result, Ok, Err}
 use Rattle.fluent_syntax_tree.specs.declared.ast.Resource.{Resource}
 use Rattle.fluent_syntax_tree.specs.declared.errors.ParserError.{ParserError}
-use Rattle.fluent_syntax_reader.specs.declared.fault.ParseFault.{ParseFault}
-use Rattle.fluent_syntax_reader.specs.declared.fault.ParseFault.TheVariants.{Syntax, Memory}
+use Rattle.fluent_syntax_parser.specs.declared.fault.ParseFault.{ParseFault}
+use Rattle.fluent_syntax_parser.specs.declared.fault.ParseFault.TheVariants.{Syntax, Memory}
 
 -- The tree and the errors are those of the answer; of one without errors there are none.
 abbrev pub HasRecovered : {S : Type 0} → Result (Resource S) (ParseFault S) → Resource S → List ParserError → Type 0

@@ -9,9 +9,9 @@ use Rattle.fluent_syntax_grammar.specs.Written.{Text, written}
 use Rattle.fluent_syntax_grammar.specs.Readable.{is_readable}
 use Rattle.fluent_syntax_grammar.specs.Joined.{joined_body}
 use Rattle.fluent_syntax_grammar.specs.RoundTrip.{HasNoBareCr, HasNoCr}
-use Rattle.fluent_syntax_reader.specs.Answers.{AnswersTiling}
-use Rattle.fluent_syntax_reader.specs.declared.fault.ParseFault.{ParseFault}
-use Rattle.fluent_syntax_reader.specs.declared.fault.ParseFault.TheVariants.{Syntax, Memory}
+use Rattle.fluent_syntax_parser.specs.Answers.{AnswersTiling}
+use Rattle.fluent_syntax_parser.specs.declared.fault.ParseFault.{ParseFault}
+use Rattle.fluent_syntax_parser.specs.declared.fault.ParseFault.TheVariants.{Syntax, Memory}
 
 module _ {S : Type 0} (text : S → List ℕ) where
   -- The answer is that of parsing, by edition one, the text that the tree is written as without its junk.

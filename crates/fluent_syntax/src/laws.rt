@@ -4,7 +4,7 @@ ghost use Rattle.fluent_syntax.specs.RoundTrip.{AnswersWritten, IsTree};
 ghost use Rattle.fluent_syntax.specs.SameAnswers.{SameAnswers};
 ghost use Rattle.fluent_syntax_grammar.specs.Canonical.{is_canonical};
 ghost use Rattle.fluent_syntax_grammar.specs.Joined.{joined_body};
-ghost use Rattle.fluent_syntax_reader.specs.Answers.{AnswersRuntimeTiling, AnswersTiling};
+ghost use Rattle.fluent_syntax_parser.specs.Answers.{AnswersRuntimeTiling, AnswersTiling};
 ghost use Rattle.fluent_syntax_tree.specs.Entry.{body_map};
 ghost use Rattle.fluent_syntax_tree.specs.Spans.{bytes_at};
 ghost use Rattle.fluent_syntax_tree.specs.View.{resource_view};

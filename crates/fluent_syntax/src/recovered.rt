@@ -1,11 +1,11 @@
 //! The tree and the errors of an answer, for who goes on with both.
 ghost use Rattle.std.specs.Prelude.{◌≡◌, ◌≤◌, ℕ, List, length, All, Err, IfOk, OnErr};
 ghost use Rattle.fluent_syntax.specs.Recovered.{HasRecovered};
-ghost use Rattle.fluent_syntax_reader.specs.Answers.{ErrorsInText};
-ghost use Rattle.fluent_syntax_reader.specs.declared.fault.ParseFault.TheVariants.{Memory};
+ghost use Rattle.fluent_syntax_parser.specs.Answers.{ErrorsInText};
+ghost use Rattle.fluent_syntax_parser.specs.declared.fault.ParseFault.TheVariants.{Memory};
 
 use crate::parser;
-use fluent_syntax_reader::fault::ParseFault;
+use fluent_syntax_parser::fault::ParseFault;
 use fluent_syntax_tree::ast::Resource;
 use fluent_syntax_tree::errors::ParserError;
 use std::alloc::{AllocError, Global};

@@ -3,6 +3,7 @@ use Rattle.std.proofs.Common.{◌≡◌, ℕ, ◌≤◌, List, [], ◌∷◌, le
 use Rattle.std.specs.Prelude.{option_map, Result, Ok, Err}
 use Rattle.std.specs.List.{All}
 use Rattle.std.proofs.lemmas.List.Elements.{All-nil, All-cons}
+use Rattle.fluent_syntax_tree.specs.Entry.{BodyTree}
 use Rattle.fluent_syntax_tree.specs.Kind.{kind_of}
 use Rattle.fluent_syntax_tree.specs.declared.ast.Resource.{Resource}
 use Rattle.fluent_syntax_tree.specs.declared.edition.Edition.{Edition}
@@ -12,7 +13,8 @@ use Rattle.fluent_syntax_grammar.specs.Body.{faults}
 use Rattle.fluent_syntax_grammar.specs.Laws.{Ascend}
 use Rattle.fluent_syntax_grammar.specs.Tiling.{Fault, Tile}
 use Rattle.fluent_syntax_grammar.proofs.JunkAndSpans.{errors_ascend, runtime_errors_ascend}
-use Rattle.fluent_syntax_parser.specs.Answers.{Answers, AnswersIn, ErrorsInText}
+use Rattle.fluent_syntax_parser.specs.Answers.{Answers, AnswersIn, AnswersTiling, AnswersRuntimeTiling}
+use Rattle.fluent_syntax_parser.specs.Answers.{ErrorsInText}
 use Rattle.fluent_syntax_parser.specs.Faults.{fault_of}
 use Rattle.fluent_syntax_parser.specs.declared.options.Comments.{Comments}
 use Rattle.fluent_syntax_parser.specs.declared.options.Comments.TheVariants.{Kept, Dropped}
@@ -54,16 +56,23 @@ module _ (t : List ℕ) where
       All-cons (λ e. e.pos.start ≤ length t) e errors (omega (arith, up.3))
       (told_in_text f.slice.end errors fs others up.4)
 
-  given_in_text : (tiles : List Tile) (result : Result (Resource Span) (ParseFault Span)) → Ascend t 0 (faults tiles) →
-      Answers (λ s. s) (λ b. b) tiles result → ErrorsInText t result
-  given_in_text tiles (Ok tree) up given = tt
-  given_in_text tiles (Err (Syntax tree errors)) up (same, told, some) =
-      told_in_text 0 errors.items (faults tiles) told up
-  given_in_text tiles (Err Memory) up given = tt
+  module _ {S X : Type 0} (text : S → X) (whole : BodyTree Span → BodyTree X) where
+    given_in_text : (tiles : List Tile) (result : Result (Resource S) (ParseFault S)) →
+        Ascend t 0 (faults tiles) → Answers text whole tiles result → ErrorsInText t result
+    given_in_text tiles (Ok tree) up given = tt
+    given_in_text tiles (Err (Syntax tree errors)) up (same, told, some) =
+        told_in_text 0 errors.items (faults tiles) told up
+    given_in_text tiles (Err Memory) up given = tt
 
-  pub errors_in_text : (comments : Comments) (edition : Edition) (result : Result (Resource Span) (ParseFault Span)) →
-      AnswersIn comments edition t result → ErrorsInText t result
-  errors_in_text Kept edition result (tiles, tiling, given) =
-      given_in_text tiles result (errors_ascend edition t tiles tiling) given
-  errors_in_text Dropped edition result (tiles, tiling, given) =
-      given_in_text tiles result (runtime_errors_ascend edition t tiles tiling) given
+    module _ (edition : Edition) (result : Result (Resource S) (ParseFault S)) where
+      pub errors_in_text : AnswersTiling text whole edition t result → ErrorsInText t result
+      errors_in_text (tiles, tiling, given) = given_in_text tiles result (errors_ascend edition t tiles tiling) given
+
+      pub runtime_errors_in_text : AnswersRuntimeTiling text whole edition t result → ErrorsInText t result
+      runtime_errors_in_text (tiles, tiling, given) =
+          given_in_text tiles result (runtime_errors_ascend edition t tiles tiling) given
+
+  module _ (edition : Edition) (result : Result (Resource Span) (ParseFault Span)) where
+    pub errors_of_spans_in_text : (comments : Comments) → AnswersIn comments edition t result → ErrorsInText t result
+    errors_of_spans_in_text Kept answers = errors_in_text (λ s. s) (λ b. b) edition result answers
+    errors_of_spans_in_text Dropped answers = runtime_errors_in_text (λ s. s) (λ b. b) edition result answers

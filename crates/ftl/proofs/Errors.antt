@@ -6,7 +6,7 @@ use Rattle.fluent_syntax_tree.specs.declared.errors.ParserError.{ParserError}
 use Rattle.fluent_syntax.specs.Lines.{line_at, column_at}
 use Rattle.fluent_syntax_tree.specs.Kind.{Kind, kind_of}
 use Rattle.fluent_syntax_grammar.specs.Tiling.{Fault}
-use Rattle.fluent_syntax_reader.specs.Answers.{fault_of}
+use Rattle.fluent_syntax_parser.specs.Faults.{fault_of}
 use Rattle.fluent_syntax_tree.proofs.Lists.{flat_map-to}
 use Rattle.ftl.specs.declared.outcome.Outcome.TheVariants.{Clean, SyntaxErrors}
 use Rattle.ftl.specs.Answer.{error_line, error_text, outcome_with, told}

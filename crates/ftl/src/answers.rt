@@ -9,7 +9,7 @@ ghost use Rattle.fluent_syntax_grammar.specs.Tiling.{Tile, Tiling};
 ghost use Rattle.fluent_syntax_grammar.specs.Written.{written};
 ghost use Rattle.fluent_syntax_json.specs.Form.{body_form};
 ghost use Rattle.serde_json.specs.Written.{compact_text};
-ghost use Rattle.fluent_syntax_reader.specs.Answers.{Answers};
+ghost use Rattle.fluent_syntax_parser.specs.Answers.{Answers};
 ghost use Rattle.ftl.specs.Answer.{IsAnswer, error_line, error_lines, error_text, range_text, json_text, normal_text, outcome_of, told};
 
 use crate::command::Command;

@@ -7,7 +7,7 @@ use Rattle.fluent_syntax_grammar.specs.Joined.{joined_body}
 use Rattle.fluent_syntax_grammar.specs.Written.{written}
 use Rattle.fluent_syntax_grammar.proofs.marks.Entries.{written_back}
 use Rattle.fluent_syntax_grammar.proofs.marks.JoinedTrees.{joined_back}
-use Rattle.fluent_syntax_reader.specs.Answers.{AnswersTiling}
+use Rattle.fluent_syntax_parser.specs.Answers.{AnswersTiling}
 use Rattle.fluent_syntax.proofs.RoundTripLemmas.{nothing_written, tree_answered}
 use Rattle.fluent_syntax.proofs.laws.reparse.Goals as goal
 

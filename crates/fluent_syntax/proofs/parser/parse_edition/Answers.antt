@@ -1,5 +1,5 @@
 use Rattle.fluent_syntax.proofs.ErrorLemmas.{junk_answered, errors_answered, nothing_answered}
-use Rattle.fluent_syntax_reader.proofs.ErrorPlaces.{errors_in_text}
+use Rattle.fluent_syntax_parser.proofs.ErrorPlaces.{errors_in_text}
 use Rattle.fluent_syntax_tree.specs.Entry.{body_map}
 use Rattle.fluent_syntax_tree.specs.Spans.{bytes_at}
 use Rattle.fluent_syntax.proofs.parser.parse_edition.Goals as goal

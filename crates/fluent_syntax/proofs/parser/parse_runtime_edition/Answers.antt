@@ -1,5 +1,5 @@
 use Rattle.fluent_syntax.proofs.ErrorLemmas.{runtime_junk_answered, runtime_errors_answered, runtime_nothing_answered}
-use Rattle.fluent_syntax_reader.proofs.ErrorPlaces.{runtime_errors_in_text}
+use Rattle.fluent_syntax_parser.proofs.ErrorPlaces.{runtime_errors_in_text}
 use Rattle.fluent_syntax_tree.specs.Entry.{body_map}
 use Rattle.fluent_syntax_tree.specs.Spans.{bytes_at}
 use Rattle.fluent_syntax.proofs.parser.parse_runtime_edition.Goals as goal

@@ -6,7 +6,7 @@ use Rattle.fluent_syntax_parser.specs.Answers.{AnswersIn}
 use Rattle.fluent_syntax_parser.specs.Rest.{TileIn}
 use Rattle.fluent_syntax_parser.specs.declared.options.Comments.{Comments}
 use Rattle.fluent_syntax_parser.specs.declared.options.Comments.TheVariants.{Kept, Dropped}
-use Rattle.fluent_syntax_parser.proofs.ErrorPlaces.{errors_in_text}
+use Rattle.fluent_syntax_parser.proofs.ErrorPlaces.{errors_of_spans_in_text}
 use Rattle.fluent_syntax_parser.proofs.PartsOfTiling.{parts_answered}
 use Rattle.fluent_syntax_parser.proofs.spans.parse_by.Goals as goal
 
@@ -34,5 +34,5 @@ returns-in-Ok-clause-spans c =
 
 pub returns-in-Ok-clause-places : goal.returns-in-Ok-clause-places
 returns-in-Ok-clause-places c =
-    errors_in_text c.args.source.now c.args.options.comments c.args.options.edition c.answer_of.result
+    errors_of_spans_in_text c.args.source.now c.args.options.edition c.answer_of.result c.args.options.comments
     (returns-in-Ok-clause-tiling c)

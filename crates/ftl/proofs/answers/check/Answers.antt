@@ -2,8 +2,8 @@ use Rattle.std.proofs.Common.{◌∙◌, subst, Err}
 use Rattle.fluent_syntax_grammar.specs.Body.{faults}
 use Rattle.fluent_syntax_tree.specs.Entry.{BodyTree}
 use Rattle.fluent_syntax_tree.specs.declared.spans.Span.{Span}
-use Rattle.fluent_syntax_reader.specs.Answers.{Answers}
-use Rattle.fluent_syntax_reader.specs.declared.fault.ParseFault.{ParseFault}
+use Rattle.fluent_syntax_parser.specs.Answers.{Answers}
+use Rattle.fluent_syntax_parser.specs.declared.fault.ParseFault.{ParseFault}
 use Rattle.ftl.proofs.Errors.{lines_of_faults, outcome_of_faults}
 use Rattle.ftl.proofs.answers.check.Goals as goal
 

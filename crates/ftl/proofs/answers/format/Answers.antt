@@ -4,8 +4,8 @@ use Rattle.fluent_syntax_grammar.specs.Body.{faults}
 use Rattle.fluent_syntax_grammar.specs.Written.{written}
 use Rattle.fluent_syntax_tree.specs.Entry.{body_map}
 use Rattle.fluent_syntax_tree.specs.Spans.{bytes_at}
-use Rattle.fluent_syntax_reader.specs.Answers.{Answers}
-use Rattle.fluent_syntax_reader.specs.declared.fault.ParseFault.{ParseFault}
+use Rattle.fluent_syntax_parser.specs.Answers.{Answers}
+use Rattle.fluent_syntax_parser.specs.declared.fault.ParseFault.{ParseFault}
 use Rattle.ftl.proofs.Errors.{outcome_of_faults}
 use Rattle.ftl.proofs.answers.format.Goals as goal
 

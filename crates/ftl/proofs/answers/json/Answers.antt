@@ -6,8 +6,8 @@ use Rattle.fluent_syntax_json.specs.Form.{body_form}
 use Rattle.fluent_syntax_json.specs.Object.{Text}
 use Rattle.fluent_syntax_tree.specs.Entry.{BodyTree, body_map}
 use Rattle.fluent_syntax_tree.specs.Spans.{bytes_at}
-use Rattle.fluent_syntax_reader.specs.Answers.{Answers}
-use Rattle.fluent_syntax_reader.specs.declared.fault.ParseFault.{ParseFault}
+use Rattle.fluent_syntax_parser.specs.Answers.{Answers}
+use Rattle.fluent_syntax_parser.specs.declared.fault.ParseFault.{ParseFault}
 use Rattle.ftl.proofs.Errors.{outcome_of_faults}
 use Rattle.ftl.proofs.answers.json.Goals as goal
 
