@@ -95,11 +95,7 @@ const NAMES: [(Text, bool); 7] = [
 ];
 
 /// What the tree of this entry is in the edition.
-fn judged(
-    alloc: Global,
-    entry: Entry<Text>,
-    edition: Edition,
-) -> Result<Found, AllocError> {
+fn judged(alloc: Global, entry: Entry<Text>, edition: Edition) -> Result<Found, AllocError> {
     let tree = Resource {
         body: vec![in alloc; entry]?,
     };
@@ -206,17 +202,29 @@ fn spellings(rt: HostRuntime) -> Result<(), Fail> {
     for (value, well) in STRINGS {
         let string = InlineExpression::StringLiteral { value };
         let entry = placed(alloc, Expression::Inline(string))?;
-        assert_eq!(rt; judged(alloc, entry, Edition::One)?, spelled(well), "{value:?}");
+        assert_eq!(rt;
+            judged(alloc, entry, Edition::One)?,
+            spelled(well),
+            "{value:?}"
+        );
     }
     for (value, well) in NUMBERS {
         let number = InlineExpression::NumberLiteral { value };
         let entry = placed(alloc, Expression::Inline(number))?;
-        assert_eq!(rt; judged(alloc, entry, Edition::One)?, spelled(well), "{value:?}");
+        assert_eq!(rt;
+            judged(alloc, entry, Edition::One)?,
+            spelled(well),
+            "{value:?}"
+        );
     }
     for (name, well) in NAMES {
         let variable = InlineExpression::VariableReference { id: id(name) };
         let entry = placed(alloc, Expression::Inline(variable))?;
-        assert_eq!(rt; judged(alloc, entry, Edition::One)?, spelled(well), "{name:?}");
+        assert_eq!(rt;
+            judged(alloc, entry, Edition::One)?,
+            spelled(well),
+            "{name:?}"
+        );
         let attribute = Attribute {
             id: id(name),
             value: pattern(alloc, &["a"])?,
@@ -227,7 +235,11 @@ fn spellings(rt: HostRuntime) -> Result<(), Fail> {
             attributes: vec![in alloc; attribute]?,
             comment: None,
         });
-        assert_eq!(rt; judged(alloc, entry, Edition::One)?, spelled(well), "{name:?}");
+        assert_eq!(rt;
+            judged(alloc, entry, Edition::One)?,
+            spelled(well),
+            "{name:?}"
+        );
     }
     Ok(())
 }
@@ -268,7 +280,11 @@ fn selects(rt: HostRuntime) -> Result<(), Fail> {
             selector: variable(),
             variants: variants(alloc, defaults)?,
         };
-        assert_eq!(rt; judged(alloc, placed(alloc, select)?, edition)?, expected, "{defaults:?}");
+        assert_eq!(rt;
+            judged(alloc, placed(alloc, select)?, edition)?,
+            expected,
+            "{defaults:?}"
+        );
     }
     let select = Expression::Select {
         selector: term(Some(id("a"))),
@@ -322,10 +338,17 @@ fn calls(rt: HostRuntime) -> Result<(), Fail> {
     assert_eq!(rt; judged(alloc, small, edition)?, Neither);
     let two = vec![in alloc; named("a", number("1")), named("b", number("1"))]?;
     assert_eq!(rt; judged(alloc, call(alloc, "F", two)?, edition)?, Canonical);
-    let twice = vec![in alloc; named("a", number("1")), named("b", number("1")), named("a", number("2"))]?;
+    let twice = vec![in alloc;
+        named("a", number("1")),
+        named("b", number("1")),
+        named("a", number("2")),
+    ]?;
     assert_eq!(rt; judged(alloc, call(alloc, "F", twice)?, edition)?, Neither);
     let negative = vec![in alloc; named("a", number("-1"))]?;
-    assert_eq!(rt; judged(alloc, call(alloc, "F", negative)?, edition)?, Neither);
+    assert_eq!(rt;
+        judged(alloc, call(alloc, "F", negative)?, edition)?,
+        Neither
+    );
     let lent = vec![in alloc; named("a", variable())]?;
     assert_eq!(rt; judged(alloc, call(alloc, "F", lent)?, edition)?, Neither);
     Ok(())
