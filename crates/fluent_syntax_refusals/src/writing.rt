@@ -1,9 +1,9 @@
-//! The serializer, unescaping, and trees that are written and read again.
+//! The serializer, unescaping, and trees that are joined, or written and read again.
 
 use crate::answers::{HELD, Sunk};
 use crate::trees::lent_tree;
 use crate::turns::{Tally, in_turn, nothing, over};
-use fluent_syntax::laws::reparse;
+use fluent_syntax::laws::{joined, reparse};
 use fluent_syntax::serializer::{Options, serialize, serialize_to, serialize_with_options};
 use fluent_syntax::unicode::{unescape_unicode, unescape_unicode_to_string};
 use fluent_syntax_corpus::{ESCAPED, TEXTS};
@@ -16,7 +16,8 @@ pub fn calls<R: Print + AllocGlobal>(rt: &R) -> io::Result<Tally> {
     let escaped = over(rt, "unescaping", ESCAPED.as_slice(), unescaped)?;
     let corpus = over(rt, "unescaping the corpus", texts, unescaped)?;
     let again = over(rt, "reparse", texts, read_again)?;
-    Ok(trees.and(escaped).and(corpus).and(again))
+    let whole = over(rt, "joined", texts, joined_once)?;
+    Ok(trees.and(escaped).and(corpus).and(again).and(whole))
 }
 
 /// The three ways to write a text's tree, which stays as it was.
@@ -46,6 +47,14 @@ fn read_again(alloc: Global, text: &str) -> Result<Tally, AllocError> {
     let (tree, _errors) = lent_tree(alloc, text)?;
     let (before, _errors) = lent_tree(alloc, text)?;
     let tally = in_turn(alloc, nothing, |_| reparse(alloc, &tree))?;
+    Ok(tally.wrong_if(tree != before))
+}
+
+/// A text's tree joined, which stays as it was.
+fn joined_once(alloc: Global, text: &str) -> Result<Tally, AllocError> {
+    let (tree, _errors) = lent_tree(alloc, text)?;
+    let (before, _errors) = lent_tree(alloc, text)?;
+    let tally = in_turn(alloc, nothing, |_| joined(alloc, &tree))?;
     Ok(tally.wrong_if(tree != before))
 }
 

@@ -1,5 +1,6 @@
 -- The least number of the lines of a pattern.
-use Rattle.std.proofs.Common.{◌≡◌, ℕ, min, List, ◌++◌, ◌&&◌, ◌||◌, not, true, false, Option, Some, None, refl, sym, ap, ◌∙◌, arith}
+use Rattle.std.proofs.Common.{◌≡◌, ℕ, min, List, ◌++◌, ◌&&◌, ◌||◌, not, true, false, Option, Some, None, refl, sym}
+use Rattle.std.proofs.Common.{ap, ◌∙◌, arith}
 use Rattle.std.specs.Prelude.{option_to_list}
 use Rattle.fluent_syntax_tree.specs.Tree.{ElementTree, text_element, placeable, PatternTree, elements}
 use Rattle.fluent_syntax_tree.specs.declared.edition.Edition.{Edition}
@@ -30,8 +31,8 @@ by_form edition s (text_element v) es = refl
 by_form edition s (placeable e) es = refl
 
 -- the least so far, and that of the lines that are left
-pub least-step : (edition : Edition) (s : Stand) (e : ElementTree Text) (es : PatternTree Text) (so_far number : Option ℕ)
-    → option_to_list number ≡ numbers_at edition s e
+pub least-step : (edition : Edition) (s : Stand) (e : ElementTree Text) (es : PatternTree Text)
+    (so_far number : Option ℕ) → option_to_list number ≡ numbers_at edition s e
     → lesser so_far (least (line_numbers edition s (elements e es)))
     ≡ lesser (lesser so_far number) (least (line_numbers edition (stand_past e) es))
 least-step edition s e es so_far number is =

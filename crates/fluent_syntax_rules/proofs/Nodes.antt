@@ -1,11 +1,12 @@
--- Inline expressions that are no placeables.
+-- Nodes by their forms.
 use Rattle.std.proofs.Common.{◌≡◌, false, Option, ℕ, Box, Global, refl, sym, ◌∙◌, subst}
 use Rattle.std.specs.Prelude.{is_some, is_none}
 use Rattle.std.proofs.Common.{Some, None, option_map, Bool, true, ◌+◌, ◌&&◌, ap, arith, if◌then◌else◌}
 use Rattle.fluent_syntax_grammar.specs.Placeables.{selector_fault, is_term_attribute}
 use Rattle.fluent_syntax_tree.specs.Tree.{InlineTree, string_literal, number_literal, function_reference}
 use Rattle.fluent_syntax_tree.specs.Tree.{message_reference, term_reference, variable_reference, ArgumentsTree}
-use Rattle.fluent_syntax_tree.specs.Tree.{MaybeArguments, KeyTree, PatternTree, VariantTrees, variants, variant, no_elements, elements}
+use Rattle.fluent_syntax_tree.specs.Tree.{MaybeArguments, KeyTree, PatternTree, VariantTrees, variants, variant}
+use Rattle.fluent_syntax_tree.specs.Tree.{no_elements, elements}
 use Rattle.fluent_syntax_grammar.specs.Rules.{Rules, elements_obey, pattern_obeys}
 use Rattle.fluent_syntax_grammar.specs.Readable.{defaults}
 use Rattle.fluent_syntax_tree.specs.View.{inline_view}
@@ -24,6 +25,8 @@ use Rattle.fluent_syntax_tree.specs.declared.ast.Pattern.{Pattern}
 use Rattle.fluent_syntax_tree.specs.declared.ast.Variant.{Variant}
 use Rattle.fluent_syntax_grammar.specs.Written.{Text, holds_select}
 use denote.Hole.Carrier as carrier
+
+-- ---- Inline expressions that are no placeables
 
 module _ {S : Type 0} (text : S → Text) where
   abbrev pub NoPlaceable : InlineExpression S → Type 0

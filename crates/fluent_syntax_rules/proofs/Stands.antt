@@ -3,9 +3,11 @@ use Rattle.std.proofs.Common.{◌≡◌, ◌≤◌, List, [], ◌∷◌, length,
 use Rattle.std.proofs.Common.{◌||◌, ◌==◌, not, Some, None, refl, ap, ◌∙◌, arith}
 use Rattle.std.specs.Prelude.{slice_get}
 use Rattle.std.specs.List.{list_any}
-use Rattle.fluent_syntax_tree.specs.Tree.{ElementTree, text_element, placeable, PatternTree, no_elements, elements, elements_of}
+use Rattle.fluent_syntax_tree.specs.Tree.{ElementTree, text_element, placeable, PatternTree, no_elements, elements}
+use Rattle.fluent_syntax_tree.specs.Tree.{elements_of}
 use Rattle.fluent_syntax_tree.specs.declared.edition.Edition.{Edition}
-use Rattle.fluent_syntax_grammar.specs.Readable.{begins_with_placeable, is_text, stands_well, ends_well, stand_after, are_elements}
+use Rattle.fluent_syntax_grammar.specs.Readable.{begins_with_placeable, is_text, stands_well, ends_well, stand_after}
+use Rattle.fluent_syntax_grammar.specs.Readable.{are_elements}
 use Rattle.fluent_syntax_grammar.specs.Readable.{Stand, opening, is_line_start, is_pattern}
 use Rattle.fluent_syntax_grammar.specs.Canonical.{hides_mark, are_lone}
 use Rattle.fluent_syntax_grammar.specs.Written.{Text, is_multiline, spans_lines}

@@ -1,5 +1,6 @@
 -- Loops over a list, by what a function gives of what is left.
-use Rattle.std.proofs.Common.{◌≡◌, ℕ, ◌+◌, ◌<◌, List, ◌∷◌, length, get_or, drop, Bool, true, false, ◌&&◌, refl, sym, ap, ◌∙◌}
+use Rattle.std.proofs.Common.{◌≡◌, ℕ, ◌+◌, ◌<◌, List, ◌∷◌, length, get_or, drop, Bool, true, false, ◌&&◌, refl, sym}
+use Rattle.std.proofs.Common.{ap, ◌∙◌}
 use Rattle.std.proofs.lemmas.List.{at_drop_more}
 
 pub next_of : {X Y : Type 0} (F : List X → Y) (xs : List X) (i : ℕ) (x : X) → i < length xs → x ≡ get_or xs i x
@@ -24,19 +25,6 @@ module _ {S X : Type 0} (all : S → List X → Bool) (one : S → X → List X 
       let same : all s (drop i xs) ≡ false =
       next_of (all s) xs i x within is ∙ step s x others ∙ ap (λ b. b && all (next s x) others) fails in
       sym same ∙ rest
-
--- The same of a test without a state.
-module _ {X : Type 0} (all : List X → Bool) (one : X → Bool)
-    (step : (x : X) (xs : List X) → all (x ∷ xs) ≡ (one x && all xs)) where
-  pub one_passes : (xs : List X) (i : ℕ) (x : X) (whole : Bool) → i < length xs → x ≡ get_or xs i x → one x ≡ true
-      → all (drop i xs) ≡ whole → all (drop (i + 1) xs) ≡ whole
-  one_passes xs i x whole within is passes rest =
-      item_passes {S = Unit {0}} (λ s. all) (λ s x xs. one x) (λ s x. s) (λ s. step) tt xs i x whole within is passes rest
-
-  pub one_fails : (xs : List X) (i : ℕ) (x : X) (whole : Bool) → i < length xs → x ≡ get_or xs i x → one x ≡ false
-      → all (drop i xs) ≡ whole → false ≡ whole
-  one_fails xs i x whole within is fails rest =
-      item_fails {S = Unit {0}} (λ s. all) (λ s x xs. one x) (λ s x. s) (λ s. step) tt xs i x whole within is fails rest
 
 -- Three tests, of which the first two are made at once.
 

@@ -26,7 +26,8 @@ is_placeable (text_element v) = false
 is_placeable (placeable e) = true
 
 -- the rules of one element, by those that follow it
-abbrev pub is_element : Edition → (multiline : Bool) → grammar.Stand → ElementTree Text → (rest : PatternTree Text) → Bool
+abbrev pub is_element :
+    Edition → (multiline : Bool) → grammar.Stand → ElementTree Text → (rest : PatternTree Text) → Bool
 is_element edition multiline s (text_element v) rest =
     is_text v && (stands_well edition multiline s v rest && ends_well v rest)
 is_element edition multiline s (placeable e) rest = true

@@ -23,7 +23,8 @@ pub fn is_expression_by<X, T: ReadTexts<X>>(standard: Standard, expression: &Exp
     }
 }
 
-/// Whether a select has a selector and at most one default, and an inline expression is no term reference with attribute.
+/// Whether a select has a selector and at most one default, and an inline expression is no term reference with
+/// attribute.
 fn is_expression<X, T: ReadTexts<X>>(expression: &Expression<X>) -> bool
     ensures { result ≡ is_expression (expression_view T.text expression.now) }
 {

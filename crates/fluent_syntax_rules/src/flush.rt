@@ -25,7 +25,8 @@ pub fn is_flush<X, T: ReadTexts<X>>(edition: Edition, pattern: &Pattern<X>) -> b
     !hides_mark::<X, T>(pattern) && are_flush::<X, T>(edition, stand, &pattern.elements)
 }
 
-/// Where the first element of a multiline pattern stands: at the beginning of a line, unless it would be read as something else there.
+/// Where the first element of a multiline pattern stands: at the beginning of a line, unless it would be read as
+/// something else there.
 fn first_stand<X, T: ReadTexts<X>>(pattern: &Pattern<X>) -> Stand
     ensures { stand_of result ≡ first_stand (pattern_view T.text pattern.now) }
 {
@@ -67,7 +68,8 @@ fn are_flush<X, T: ReadTexts<X>>(
     stand: Stand,
     elements: &[PatternElement<X>],
 ) -> bool
-    ensures { result ≡ are_flush (least (line_numbers edition (stand_of stand) (elements_of (map (element_view T.text) elements.now))))
+    ensures { result ≡ are_flush
+        (least (line_numbers edition (stand_of stand) (elements_of (map (element_view T.text) elements.now))))
         (stand_of stand) (elements_of (map (element_view T.text) elements.now)) }
 {
     match least_number::<X, T>(edition, stand, elements) {
@@ -82,7 +84,8 @@ fn least_number<X, T: ReadTexts<X>>(
     first: Stand,
     elements: &[PatternElement<X>],
 ) -> Option<usize>
-    ensures { result ≡ least (line_numbers edition (stand_of first) (elements_of (map (element_view T.text) elements.now))) }
+    ensures { result ≡ least
+        (line_numbers edition (stand_of first) (elements_of (map (element_view T.text) elements.now))) }
 {
     let mut stand = first;
     let mut least = None;

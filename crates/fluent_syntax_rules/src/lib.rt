@@ -26,7 +26,9 @@ use fluent_syntax_tree::texts::BySlice;
 use standard::Standard;
 use walk::body_obeys;
 
-/// Whether the tree is canonical in the edition: then it is read back, text by text, from the text that it is written as.
+/// Whether the tree is canonical in the edition. Then it is read back, text by text, from the text that it is written
+/// as.
+///
 /// Takes no memory. The time is that of a walk over the tree, and quadratic in the named arguments of one list.
 pub fn is_canonical<'s, S: Slice<'s>>(r: &Resource<S>, edition: Edition) -> bool
     ensures exact { result ≡ is_canonical edition (resource_view S.text r.now) }
@@ -35,6 +37,7 @@ pub fn is_canonical<'s, S: Slice<'s>>(r: &Resource<S>, edition: Edition) -> bool
 }
 
 /// Whether the tree is readable in the edition: it looks like a tree that was read. Each canonical tree is.
+///
 /// Takes no memory. The time is that of a walk over the tree, and quadratic in the named arguments of one list.
 pub fn is_readable<'s, S: Slice<'s>>(r: &Resource<S>, edition: Edition) -> bool
     ensures exact { result ≡ is_readable edition (resource_view S.text r.now) }

@@ -47,8 +47,8 @@ fn spans_lines<X, T: ReadTexts<X>>(element: &PatternElement<X>) -> bool
     }
 }
 
-/// Whether the first element is a text that begins with `.`, `[` or `*`. At the start of a line it would be read as an attribute, a
-/// variant or a default variant.
+/// Whether the first element is a text that begins with `.`, `[` or `*`. At the start of a line it would be read as an
+/// attribute, a variant or a default variant.
 pub fn has_leading_mark<X, T: ReadTexts<X>>(pattern: &Pattern<X>) -> bool
     ensures { result ≡ has_leading_mark (pattern_view T.text pattern.now) }
 {

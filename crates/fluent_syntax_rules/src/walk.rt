@@ -230,7 +230,8 @@ fn reference_obeys<X, T: ReadTexts<X>>(
     id: &Identifier<X>,
     attribute: &Option<Identifier<X>>,
 ) -> bool
-    ensures { result ≡ (is_name (T.text id.now.name) && option_obeys is_name (option_map (identifier_view T.text) attribute.now)) }
+    ensures { result ≡ (is_name (T.text id.now.name)
+        && option_obeys is_name (option_map (identifier_view T.text) attribute.now)) }
 {
     is_name(T::as_str(&id.name)) && attribute_name_obeys::<X, T>(attribute)
 }
@@ -246,7 +247,8 @@ fn attribute_name_obeys<X, T: ReadTexts<X>>(attribute: &Option<Identifier<X>>) -
 
 #[cycle(obeys)]
 fn maybe_obeys<X, T: ReadTexts<X>>(standard: Standard, arguments: &Option<CallArguments<X>>) -> bool
-    ensures { result ≡ maybe_obeys (rules_of standard) (arguments_of (option_map (arguments_view T.text) arguments.now)) }
+    ensures { result ≡ maybe_obeys (rules_of standard)
+        (arguments_of (option_map (arguments_view T.text) arguments.now)) }
 {
     match arguments {
         Some(arguments) => arguments_obey::<X, T>(standard, arguments),

@@ -1,8 +1,9 @@
 //! Trees at random, joined, written and read again.
 
-use crate::random_trees::RandomTrees;
+use crate::random_trees::{RandomTrees, Text};
 use fluent_syntax::ast::{Entry, Resource};
-use fluent_syntax::laws::{joined, reparse, same_texts};
+use fluent_syntax::laws::{joined, same_texts};
+use fluent_syntax::parser::{Edition, parse_edition};
 use fluent_syntax::serializer::serialize;
 use std::alloc::Global;
 use std::test::Fail;
@@ -16,35 +17,43 @@ fn has_junk<S>(tree: &Resource<S>) -> bool {
         .any(|entry| matches!(entry, Entry::Junk { .. }))
 }
 
-/// Whether the tree is read back as it is, once it is written.
-fn reads_back(alloc: Global, tree: &Resource<String>) -> bool {
-    let Ok(back) = reparse(alloc, tree) else {
-        return false;
+/// Whether the tree is read back by the edition as it is, once it is written.
+fn reads_back(alloc: Global, tree: &Resource<String>, edition: Edition) -> Result<bool, Fail> {
+    let Ok(back) = parse_edition(alloc, serialize(alloc, tree)?, edition) else {
+        return Ok(false);
     };
-    same_texts(tree, &back)
+    Ok(same_texts(tree, &back))
+}
+
+/// Whether the tree is joined once for all, and, if it has no junk, is written as its joined tree.
+fn joins(alloc: Global, tree: &Resource<Text>, whole: &Resource<String>) -> Result<bool, Fail> {
+    let again = joined(alloc, whole)?;
+    let alike = has_junk(tree) || serialize(alloc, tree)? == serialize(alloc, whole)?;
+    Ok(same_texts(whole, &again) && !has_junk(whole) && alike)
+}
+
+/// How many of so many trees are read back by the edition once they are joined.
+fn read_back(alloc: Global, edition: Edition) -> Result<usize, Fail> {
+    let mut trees = RandomTrees::new(alloc);
+    let mut count: usize = 0;
+    for number in 0..TREES {
+        let tree = trees.tree()?;
+        let whole = joined(alloc, &tree)?;
+        if !joins(alloc, &tree, &whole)? {
+            return Err(format!(in alloc; "tree {number} is not joined")?.into());
+        }
+        if reads_back(alloc, &whole, edition)? {
+            count = count.saturating_add(1);
+        }
+    }
+    Ok(count)
 }
 
 #[test]
-fn joins_trees(rt: HostRuntime) -> Result<(), Fail> {
-    let alloc = rt.alloc();
-    let mut trees = RandomTrees::new(alloc);
-    let mut read_back: usize = 0;
-    let mut others: usize = 0;
-    for _ in 0..TREES {
-        let tree = trees.tree()?;
-        let once = joined(alloc, &tree)?;
-        let twice = joined(alloc, &once)?;
-        assert!(rt; same_texts(&once, &twice));
-        assert!(rt; !has_junk(&once));
-        if !has_junk(&tree) {
-            assert_eq!(rt; serialize(alloc, &tree)?, serialize(alloc, &once)?);
-        }
-        if reads_back(alloc, &once) {
-            read_back = read_back.saturating_add(1);
-        } else {
-            others = others.saturating_add(1);
-        }
+fn reads_trees_back(rt: HostRuntime) -> Result<(), Fail> {
+    for edition in [Edition::One, Edition::Two] {
+        let count = read_back(rt.alloc(), edition)?;
+        assert!(rt; count > TREES / 4 && count < TREES - TREES / 10, "{count}");
     }
-    assert!(rt; read_back > TREES / 4 && others > TREES / 10);
     Ok(())
 }

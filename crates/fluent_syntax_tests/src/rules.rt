@@ -95,7 +95,7 @@ const NAMES: [(Text, bool); 7] = [
 ];
 
 /// What the tree of this entry is in the edition.
-fn found(alloc: Global, entry: Entry<Text>, edition: Edition) -> Result<Found, AllocError> {
+fn judged(alloc: Global, entry: Entry<Text>, edition: Edition) -> Result<Found, AllocError> {
     let tree = Resource {
         body: vec![in alloc; entry]?,
     };
@@ -151,9 +151,9 @@ fn patterns(rt: HostRuntime) -> Result<(), Fail> {
     let alloc = rt.alloc();
     for (elements, one, two) in PATTERNS {
         let entry = message(alloc, Some(pattern(alloc, elements)?));
-        assert_eq!(rt; found(alloc, entry, Edition::One)?, one, "{elements:?}");
+        assert_eq!(rt; judged(alloc, entry, Edition::One)?, one, "{elements:?}");
         let entry = message(alloc, Some(pattern(alloc, elements)?));
-        assert_eq!(rt; found(alloc, entry, Edition::Two)?, two, "{elements:?}");
+        assert_eq!(rt; judged(alloc, entry, Edition::Two)?, two, "{elements:?}");
     }
     Ok(())
 }
@@ -168,8 +168,8 @@ fn entries(rt: HostRuntime) -> Result<(), Fail> {
     let alloc = rt.alloc();
     let edition = Edition::One;
     let junk = Entry::Junk { content: "x" };
-    assert_eq!(rt; found(alloc, junk, edition)?, Neither);
-    assert_eq!(rt; found(alloc, message(alloc, None), edition)?, Neither);
+    assert_eq!(rt; judged(alloc, junk, edition)?, Neither);
+    assert_eq!(rt; judged(alloc, message(alloc, None), edition)?, Neither);
     let lines: [(&[Text], Found); 5] = [
         (&["a", "", " b\r"], Canonical),
         (&[""], Canonical),
@@ -179,14 +179,14 @@ fn entries(rt: HostRuntime) -> Result<(), Fail> {
     ];
     for (lines, expected) in lines {
         let free = Entry::GroupComment(comment(alloc, lines)?);
-        assert_eq!(rt; found(alloc, free, edition)?, expected, "{lines:?}");
+        assert_eq!(rt; judged(alloc, free, edition)?, expected, "{lines:?}");
         let hung = Entry::Term(Term {
             id: id("t"),
             value: pattern(alloc, &["a"])?,
             attributes: Vec::new(alloc),
             comment: Some(comment(alloc, lines)?),
         });
-        assert_eq!(rt; found(alloc, hung, edition)?, expected, "{lines:?}");
+        assert_eq!(rt; judged(alloc, hung, edition)?, expected, "{lines:?}");
     }
     Ok(())
 }
@@ -203,7 +203,7 @@ fn spellings(rt: HostRuntime) -> Result<(), Fail> {
         let string = InlineExpression::StringLiteral { value };
         let entry = placed(alloc, Expression::Inline(string))?;
         assert_eq!(rt;
-            found(alloc, entry, Edition::One)?,
+            judged(alloc, entry, Edition::One)?,
             spelled(well),
             "{value:?}"
         );
@@ -212,7 +212,7 @@ fn spellings(rt: HostRuntime) -> Result<(), Fail> {
         let number = InlineExpression::NumberLiteral { value };
         let entry = placed(alloc, Expression::Inline(number))?;
         assert_eq!(rt;
-            found(alloc, entry, Edition::One)?,
+            judged(alloc, entry, Edition::One)?,
             spelled(well),
             "{value:?}"
         );
@@ -221,7 +221,7 @@ fn spellings(rt: HostRuntime) -> Result<(), Fail> {
         let variable = InlineExpression::VariableReference { id: id(name) };
         let entry = placed(alloc, Expression::Inline(variable))?;
         assert_eq!(rt;
-            found(alloc, entry, Edition::One)?,
+            judged(alloc, entry, Edition::One)?,
             spelled(well),
             "{name:?}"
         );
@@ -236,7 +236,7 @@ fn spellings(rt: HostRuntime) -> Result<(), Fail> {
             comment: None,
         });
         assert_eq!(rt;
-            found(alloc, entry, Edition::One)?,
+            judged(alloc, entry, Edition::One)?,
             spelled(well),
             "{name:?}"
         );
@@ -281,7 +281,7 @@ fn selects(rt: HostRuntime) -> Result<(), Fail> {
             variants: variants(alloc, defaults)?,
         };
         assert_eq!(rt;
-            found(alloc, placed(alloc, select)?, edition)?,
+            judged(alloc, placed(alloc, select)?, edition)?,
             expected,
             "{defaults:?}"
         );
@@ -290,16 +290,16 @@ fn selects(rt: HostRuntime) -> Result<(), Fail> {
         selector: term(Some(id("a"))),
         variants: variants(alloc, &[true])?,
     };
-    assert_eq!(rt; found(alloc, placed(alloc, select)?, edition)?, Canonical);
+    assert_eq!(rt; judged(alloc, placed(alloc, select)?, edition)?, Canonical);
     let select = Expression::Select {
         selector: term(None),
         variants: variants(alloc, &[true])?,
     };
-    assert_eq!(rt; found(alloc, placed(alloc, select)?, edition)?, Neither);
+    assert_eq!(rt; judged(alloc, placed(alloc, select)?, edition)?, Neither);
     let inline = Expression::Inline(term(None));
-    assert_eq!(rt; found(alloc, placed(alloc, inline)?, edition)?, Canonical);
+    assert_eq!(rt; judged(alloc, placed(alloc, inline)?, edition)?, Canonical);
     let inline = Expression::Inline(term(Some(id("a"))));
-    assert_eq!(rt; found(alloc, placed(alloc, inline)?, edition)?, Neither);
+    assert_eq!(rt; judged(alloc, placed(alloc, inline)?, edition)?, Neither);
     Ok(())
 }
 
@@ -333,23 +333,23 @@ fn calls(rt: HostRuntime) -> Result<(), Fail> {
     let alloc = rt.alloc();
     let edition = Edition::One;
     let none = call(alloc, "F-1_", Vec::new(alloc))?;
-    assert_eq!(rt; found(alloc, none, edition)?, Canonical);
+    assert_eq!(rt; judged(alloc, none, edition)?, Canonical);
     let small = call(alloc, "f", Vec::new(alloc))?;
-    assert_eq!(rt; found(alloc, small, edition)?, Neither);
+    assert_eq!(rt; judged(alloc, small, edition)?, Neither);
     let two = vec![in alloc; named("a", number("1")), named("b", number("1"))]?;
-    assert_eq!(rt; found(alloc, call(alloc, "F", two)?, edition)?, Canonical);
+    assert_eq!(rt; judged(alloc, call(alloc, "F", two)?, edition)?, Canonical);
     let twice = vec![in alloc;
         named("a", number("1")),
         named("b", number("1")),
         named("a", number("2")),
     ]?;
-    assert_eq!(rt; found(alloc, call(alloc, "F", twice)?, edition)?, Neither);
+    assert_eq!(rt; judged(alloc, call(alloc, "F", twice)?, edition)?, Neither);
     let negative = vec![in alloc; named("a", number("-1"))]?;
     assert_eq!(rt;
-        found(alloc, call(alloc, "F", negative)?, edition)?,
+        judged(alloc, call(alloc, "F", negative)?, edition)?,
         Neither
     );
     let lent = vec![in alloc; named("a", variable())]?;
-    assert_eq!(rt; found(alloc, call(alloc, "F", lent)?, edition)?, Neither);
+    assert_eq!(rt; judged(alloc, call(alloc, "F", lent)?, edition)?, Neither);
     Ok(())
 }

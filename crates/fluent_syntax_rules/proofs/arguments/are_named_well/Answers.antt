@@ -1,5 +1,6 @@
 use Rattle.std.proofs.Common.{take, sym, ◌∙◌}
-use Rattle.fluent_syntax_rules.proofs.Named.{named_well, one_named_well, with_name, first_named_well, named_well-used, used, used-next}
+use Rattle.fluent_syntax_rules.proofs.Named.{named_well, one_named_well, with_name, first_named_well, named_well-used}
+use Rattle.fluent_syntax_rules.proofs.Named.{used, used-next}
 use Rattle.fluent_syntax_rules.proofs.Steps.{item_passes, item_fails}
 use Rattle.fluent_syntax_rules.proofs.arguments.are_named_well.Goals as goal
 

@@ -1,4 +1,6 @@
-use Rattle.fluent_syntax_tree.proofs.Views.{view-StringLiteral, view-NumberLiteral, view-FunctionReference, view-MessageReference, view-TermReference, view-VariableReference, view-InlinePlaceable}
+use Rattle.fluent_syntax_tree.proofs.Views.{view-StringLiteral, view-NumberLiteral, view-FunctionReference}
+use Rattle.fluent_syntax_tree.proofs.Views.{view-MessageReference, view-TermReference, view-VariableReference}
+use Rattle.fluent_syntax_tree.proofs.Views.{view-InlinePlaceable}
 use Rattle.fluent_syntax_rules.proofs.arguments.is_argument_value.Goals as goal
 
 pub returns-in-StringLiteral : goal.returns-in-StringLiteral

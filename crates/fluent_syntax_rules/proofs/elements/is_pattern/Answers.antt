@@ -11,7 +11,8 @@ returns-then-not-is_empty g c =
     let filled = eqb-false _ _ (sym c.is_empty.ensures ∙ c.if-not-is_empty.true) in
     let some : 1 ≤ length elements.items = omega (arith, filled, elements.ok.0) in
     let pattern = is_pattern-some (element_view g.T.ReadTexts.text) c.args.edition elements.items some in
-    rw (view-Pattern, pattern) (rw (c.is_multiline.ensures, view-Pattern, c.deref.ensures.value) at c.are_elements.ensures)
+    let tested = rw (c.is_multiline.ensures, view-Pattern, c.deref.ensures.value) at c.are_elements.ensures in
+    rw (view-Pattern, pattern) tested
 
 pub returns-else-not-is_empty : goal.returns-else-not-is_empty
 returns-else-not-is_empty g c =

@@ -1,6 +1,8 @@
 use Rattle.fluent_syntax_tree.specs.View.{identifier_view}
 use Rattle.fluent_syntax_rules.proofs.Nodes.{term_is_selector, message_is_no_selector}
-use Rattle.fluent_syntax_tree.proofs.Views.{view-StringLiteral, view-NumberLiteral, view-FunctionReference, view-MessageReference, view-TermReference, view-VariableReference, view-InlinePlaceable}
+use Rattle.fluent_syntax_tree.proofs.Views.{view-StringLiteral, view-NumberLiteral, view-FunctionReference}
+use Rattle.fluent_syntax_tree.proofs.Views.{view-MessageReference, view-TermReference, view-VariableReference}
+use Rattle.fluent_syntax_tree.proofs.Views.{view-InlinePlaceable}
 use Rattle.fluent_syntax_rules.proofs.expressions.is_selector.Goals as goal
 
 pub returns-in-StringLiteral : goal.returns-in-StringLiteral

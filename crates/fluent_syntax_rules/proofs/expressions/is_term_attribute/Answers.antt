@@ -1,7 +1,9 @@
 use Rattle.fluent_syntax_tree.specs.View.{identifier_view}
 use Rattle.fluent_syntax_rules.proofs.Nodes.{term_is_attribute}
 use Rattle.fluent_syntax_tree.specs.Tree.{no_arguments}
-use Rattle.fluent_syntax_tree.proofs.Views.{view-StringLiteral, view-NumberLiteral, view-FunctionReference, view-MessageReference, view-TermReference, view-VariableReference, view-InlinePlaceable}
+use Rattle.fluent_syntax_tree.proofs.Views.{view-StringLiteral, view-NumberLiteral, view-FunctionReference}
+use Rattle.fluent_syntax_tree.proofs.Views.{view-MessageReference, view-TermReference, view-VariableReference}
+use Rattle.fluent_syntax_tree.proofs.Views.{view-InlinePlaceable}
 use Rattle.fluent_syntax_rules.proofs.expressions.is_term_attribute.Goals as goal
 
 pub returns-in-StringLiteral : goal.returns-in-StringLiteral
@@ -18,8 +20,9 @@ returns-in-MessageReference g c = rw (c.in-MessageReference.is, view-MessageRefe
 
 pub returns-in-TermReference : goal.returns-in-TermReference
 returns-in-TermReference g c =
+    let f = g.T.ReadTexts.text in
     rw (c.in-TermReference.is, view-TermReference, c.is_some.ensures)
-    (term_is_attribute (identifier_view g.T.ReadTexts.text) (g.T.ReadTexts.text c.in-TermReference.id.name) _ no_arguments)
+    (term_is_attribute (identifier_view f) (f c.in-TermReference.id.name) _ no_arguments)
 
 pub returns-in-VariableReference : goal.returns-in-VariableReference
 returns-in-VariableReference g c = rw (c.in-VariableReference.is, view-VariableReference)

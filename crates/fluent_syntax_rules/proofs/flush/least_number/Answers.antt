@@ -21,6 +21,5 @@ loop-element-preserved g c =
     let next = next_of left elements place _ c.loop-element-test.true c.element-item.is in
     let later = tree view (drop (place + 1) elements) in
     let step = least-step c.args.edition stand _ later so_far c.line_number.result c.line_number.ensures in
-    record {
-      rest = rw (c.lesser-least.ensures, c.stand_past-stand.ensures) (sym (next ∙ step) ∙ c.loop-element.invariant.rest);
-    }
+    let rest = sym (next ∙ step) ∙ c.loop-element.invariant.rest in
+    record { rest = rw (c.lesser-least.ensures, c.stand_past-stand.ensures) rest }

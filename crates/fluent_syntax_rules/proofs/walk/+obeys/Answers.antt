@@ -51,7 +51,8 @@ variant_obeys-returns-else-key_obeys g t c =
     rw (view-Variant, fails) c.if-key_obeys.false
 
 pub inline_obeys-returns-in-StringLiteral : goal.inline_obeys-returns-in-StringLiteral
-inline_obeys-returns-in-StringLiteral g t c = rw (c.in-StringLiteral.is, view-StringLiteral, c.is_string.ensures, c.as_str.ensures)
+inline_obeys-returns-in-StringLiteral g t c =
+    rw (c.in-StringLiteral.is, view-StringLiteral, c.is_string.ensures, c.as_str.ensures)
 
 pub inline_obeys-returns-in-NumberLiteral : goal.inline_obeys-returns-in-NumberLiteral
 inline_obeys-returns-in-NumberLiteral g t c =
@@ -76,7 +77,8 @@ inline_obeys-returns-else-is_function_name g t c =
     ∙ three_fail (is_name name) (is_callee name) (arguments_obey (rules_of c.args.standard) given) both)
 
 pub inline_obeys-returns-in-MessageReference : goal.inline_obeys-returns-in-MessageReference
-inline_obeys-returns-in-MessageReference g t c = rw (c.in-MessageReference.is, view-MessageReference) c.reference_obeys.ensures
+inline_obeys-returns-in-MessageReference g t c =
+    rw (c.in-MessageReference.is, view-MessageReference) c.reference_obeys.ensures
 
 pub inline_obeys-returns-then-reference_obeys : goal.inline_obeys-returns-then-reference_obeys
 inline_obeys-returns-then-reference_obeys g t c =
