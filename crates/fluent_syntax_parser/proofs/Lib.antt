@@ -2,6 +2,7 @@ pub mod Carried
 pub mod CommentEntries
 pub mod EntryForms
 pub mod ErrorPlaces
+pub mod FieldForms
 pub mod Gathers
 pub mod Handed
 pub mod HangsOn

@@ -1,6 +1,7 @@
 pub mod Answers
 pub mod CommentLines
 pub mod Faults
+pub mod Fields
 pub mod Meets
 pub mod Parts
 pub mod Rest

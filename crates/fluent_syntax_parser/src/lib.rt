@@ -3,6 +3,7 @@
 //! answer; the text itself never changes.
 #![tactic(auto)]
 
+mod attributes;
 mod blanks;
 mod comment;
 pub mod entries;
@@ -11,8 +12,10 @@ mod error;
 pub mod fault;
 mod junk;
 mod line_ends;
+mod messages;
 mod next;
 pub mod options;
+mod pattern;
 mod references;
 mod source;
 mod spans;
