@@ -3,10 +3,20 @@
 //! answer; the text itself never changes.
 #![tactic(auto)]
 
+mod arguments;
 mod blanks;
+mod elements;
+mod expression;
 mod fault;
+mod forms;
+mod indents;
+mod line;
+mod lines;
+mod pattern;
 mod references;
 mod source;
 mod starts;
 mod strings;
+mod tails;
+mod variants;
 mod words;
