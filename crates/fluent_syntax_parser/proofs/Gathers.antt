@@ -1,4 +1,5 @@
--- Lists that a loop gathers: what the construct gives from here on, it gives from the start on, behind what was gathered.
+-- Lists that a loop gathers: what the construct gives from here on, it gives from the start on, behind what was
+-- gathered.
 use Rattle.std.proofs.Common.{◌≡◌, ℕ, List, [], ◌∷◌, ◌++◌, map, refl, ap}
 use Rattle.fluent_syntax_tree.specs.Kind.{Kind}
 use Rattle.fluent_syntax_grammar.specs.Construct.{Construct, Read, Refused}

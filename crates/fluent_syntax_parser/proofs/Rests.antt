@@ -1,11 +1,11 @@
 -- What is left of a text, from place to place.
-use Rattle.std.proofs.Common.{◌≡◌, ℕ, ◌<◌, Bool, true, false, List, [], ◌∷◌, ◌++◌, length, map, Option, Some, None, refl, sym, ◌∙◌, ap, subst}
+use Rattle.std.proofs.Common.{◌≡◌, ℕ, ◌<◌, true, false, List, [], ◌∷◌, ◌++◌, length, map, Option, Some, None, refl, ◌∙◌, ap, subst}
 use Rattle.fluent_syntax_tree.specs.Entry.{BodyTree, EntryTree, message, term, comment, junk, regular, group, resource}
 use Rattle.fluent_syntax_tree.specs.declared.ast.Entry.{Entry}
 use Rattle.fluent_syntax_tree.specs.declared.edition.Edition.{Edition}
 use Rattle.fluent_syntax_tree.specs.declared.errors.ParserError.{ParserError}
 use Rattle.fluent_syntax_tree.specs.declared.spans.Span.{Span}
-use Rattle.fluent_syntax_grammar.specs.Body.{alone, body, faults, hangs, joined}
+use Rattle.fluent_syntax_grammar.specs.Body.{alone, body, faults, hangs}
 use Rattle.fluent_syntax_grammar.specs.Bytes.{hash}
 use Rattle.fluent_syntax_grammar.specs.Construct.{Read}
 use Rattle.fluent_syntax_grammar.specs.Places.{BlankBlock, has_byte}

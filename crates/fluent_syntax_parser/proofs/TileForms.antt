@@ -1,5 +1,5 @@
 -- What stands at a place: an entry, or junk with its error.
-use Rattle.std.proofs.Common.{◌≡◌, ℕ, ◌<◌, ◌≤◌, List, [], ◌∷◌, length, Some, None, refl, sym, subst, arith}
+use Rattle.std.proofs.Common.{◌≡◌, ℕ, ◌<◌, ◌≤◌, List, length, Some, None, refl, sym, subst, arith}
 use Rattle.fluent_syntax_tree.specs.declared.ast.Entry.{Entry}
 use Rattle.fluent_syntax_tree.specs.declared.ast.Entry.TheVariants.{Junk}
 use Rattle.fluent_syntax_tree.specs.declared.edition.Edition.{Edition}

@@ -1,8 +1,14 @@
 pub mod Answers
 pub mod CommentLines
+pub mod Elements
+pub mod Endings
 pub mod Faults
+pub mod Fields
+pub mod Gathered
+pub mod Lines
 pub mod Meets
 pub mod Parts
 pub mod Rest
+pub mod ShortPatterns
 pub mod Starts
 pub mod Strings

@@ -1,5 +1,5 @@
 -- What a reader answers is an outcome of its construct.
-use Rattle.std.specs.Prelude.{◌≡◌, ℕ, ◌+◌, ◌<◌, slice_range, List, [], ◌∷◌, codes, Result, Ok, Err}
+use Rattle.std.specs.Prelude.{◌≡◌, ℕ, ◌+◌, ◌<◌, slice_range, List, [], ◌∷◌, Option, Some, None, codes, Result, Ok, Err}
 use Rattle.std.specs.Fmt.{decimal}
 use Rattle.fluent_syntax_tree.specs.Kind as kinds
 use Rattle.fluent_syntax_tree.specs.Kind.{Kind}
@@ -94,3 +94,8 @@ MeetsText t c i (Err r) = Refuses t c i r
 -- It nests too deeply only where more bytes are left than it may nest.
 abbrev pub NestsWithin : (nesting left : ℕ) → ReadFault → Type 0
 NestsWithin nesting left f = f ≡ faults.TooDeep → nesting < left
+
+-- The fault is one of the kind, and lies at its place; or there is none.
+abbrev pub FaultIs : List ℕ → ℕ → Option Fault → Option Kind → Type 0
+FaultIs t i None kind = kind ≡ None
+FaultIs t i (Some f) kind = (kind ≡ Some (kind_at t f i)) × (from_of f i ≡ i) × (to_of f i ≡ i + 1)

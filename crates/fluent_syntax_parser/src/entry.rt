@@ -1,49 +1,17 @@
 //! Entries.
-ghost use Rattle.std.specs.Prelude.{◌≡◌, ◌<◌, ◌≤◌, length, IfOk};
-ghost use Rattle.fluent_syntax_tree.specs.Entry.{message, term};
-ghost use Rattle.fluent_syntax_tree.specs.View.{entry_view, message_view, term_view};
-ghost use Rattle.fluent_syntax_grammar.specs.Entries.{message_entry, term_entry};
+ghost use Rattle.std.specs.Prelude.{◌<◌, ◌≤◌, length, IfOk};
+ghost use Rattle.fluent_syntax_tree.specs.View.{entry_view};
 ghost use Rattle.fluent_syntax_grammar.specs.Tiling.{entry_at};
 ghost use Rattle.fluent_syntax_parser.specs.Meets.{Meets};
 
 use crate::fault::ReadFault;
 use crate::options::Options;
 use crate::source::Source;
-use fluent_syntax_tree::ast::{Entry, Message, Term};
+use fluent_syntax_tree::ast::Entry;
 use fluent_syntax_tree::spans::Span;
 use std::alloc::Global;
 
 impl<'s> Source<'s> {
-    // stub
-    fn get_message(
-        &self,
-        alloc: Global,
-        options: Options,
-        start: usize,
-    ) -> Result<(Message<Span>, usize), ReadFault>
-        requires { start ≤ length self.now.bytes.now }
-        ensures meets { let t = self.now.bytes.now in
-            Meets t (message_entry options.edition t) (λ m. message (message_view (λ s. s) m)) start result }
-        ensures within { IfOk result (λ read. (start < read.1) × (read.1 ≤ length self.now.bytes.now)) }
-    {
-        Err(ReadFault::TooDeep)
-    }
-
-    // stub
-    fn get_term(
-        &self,
-        alloc: Global,
-        options: Options,
-        start: usize,
-    ) -> Result<(Term<Span>, usize), ReadFault>
-        requires { start ≤ length self.now.bytes.now }
-        ensures meets { let t = self.now.bytes.now in
-            Meets t (term_entry options.edition t) (λ m. term (term_view (λ s. s) m)) start result }
-        ensures within { IfOk result (λ read. (start < read.1) × (read.1 ≤ length self.now.bytes.now)) }
-    {
-        Err(ReadFault::TooDeep)
-    }
-
     /// Reads an entry: the first byte decides which.
     pub(crate) fn get_entry(
         &self,
@@ -59,10 +27,10 @@ impl<'s> Source<'s> {
         if self.is_byte_at(b'#', start) {
             self.get_comment(alloc, start)
         } else if self.is_byte_at(b'-', start) {
-            let (term, end) = self.get_term(alloc, options, start)?;
+            let (term, end) = self.get_term(alloc, options.edition, options.nesting, start)?;
             Ok((Entry::Term(term), end))
         } else {
-            let (message, end) = self.get_message(alloc, options, start)?;
+            let (message, end) = self.get_message(alloc, options.edition, options.nesting, start)?;
             Ok((Entry::Message(message), end))
         }
     }

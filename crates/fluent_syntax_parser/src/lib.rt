@@ -3,22 +3,34 @@
 //! answer; the text itself never changes.
 #![tactic(auto)]
 
+mod arguments;
+mod attributes;
 mod blanks;
 mod comment;
+mod elements;
 pub mod entries;
 mod entry;
 mod error;
+mod expression;
 pub mod fault;
+mod forms;
+mod indents;
 mod junk;
+mod line;
 mod line_ends;
+mod lines;
+mod messages;
 mod next;
 pub mod options;
+mod pattern;
 mod references;
 mod source;
 mod spans;
 mod starts;
 mod strings;
+mod tails;
 mod tile;
+mod variants;
 mod words;
 
 pub use spans::{

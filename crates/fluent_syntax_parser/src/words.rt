@@ -1,5 +1,5 @@
 //! Marks, names and numbers.
-ghost use Rattle.std.specs.Prelude.{◌≡◌, ◌<◌, ◌≤◌, length, IfOk};
+ghost use Rattle.std.specs.Prelude.{◌≡◌, ◌<◌, ◌≤◌, length, IfOk, IsTrue};
 ghost use Rattle.fluent_syntax_grammar.specs.Bytes.{is_digit, is_name_byte};
 ghost use Rattle.fluent_syntax_grammar.specs.Construct.{Read};
 ghost use Rattle.fluent_syntax_grammar.specs.Places.{Word};
@@ -36,6 +36,7 @@ impl<'s> Source<'s> {
         requires { ptr ≤ length self.now.bytes.now }
         ensures meets { optional self.now.bytes.now byte ptr (Read result.0 result.1) }
         ensures forward { ptr ≤ result.1 }
+        ensures taken { IsTrue result.0 → ptr < result.1 }
         ensures within { result.1 ≤ length self.now.bytes.now }
     {
         if self.is_byte_at(byte, ptr) {

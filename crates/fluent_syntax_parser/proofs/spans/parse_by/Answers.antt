@@ -2,7 +2,6 @@ use Rattle.std.proofs.Common.{ℕ, List}
 use Rattle.fluent_syntax_tree.specs.declared.edition.Edition.{Edition}
 use Rattle.fluent_syntax_grammar.specs.Tiling.{Tile, Tiled}
 use Rattle.fluent_syntax_grammar.proofs.SomeTiling.{some_runtime_tiling, some_tiling}
-use Rattle.fluent_syntax_parser.specs.Answers.{AnswersIn}
 use Rattle.fluent_syntax_parser.specs.Rest.{TileIn}
 use Rattle.fluent_syntax_parser.specs.declared.options.Comments.{Comments}
 use Rattle.fluent_syntax_parser.specs.declared.options.Comments.TheVariants.{Kept, Dropped}

@@ -1,0 +1,144 @@
+-- The rest of an argument list, by what stands there.
+use Rattle.std.proofs.Common.{◌≡◌, ℕ, ◌+◌, ◌≤◌, ◌<◌, true, false, List, [], ◌∷◌, ◌++◌, length, Option, Some, None, refl, sym, ap, ◌∙◌, subst, inl, inr}
+use Rattle.std.specs.Prelude.{◌==◌, ◌⊎◌, slice_get}
+use Rattle.std.proofs.lemmas.Option.{slice_get-get_or, slice_get_past}
+use Rattle.fluent_syntax_tree.specs.Kind.{Kind, ExpectedToken, PositionalArgumentFollowsNamed}
+use Rattle.fluent_syntax_tree.specs.Spans.{bytes_at}
+use Rattle.fluent_syntax_tree.specs.Tree.{InlineTree, ArgumentsTree, arguments, no_inlines, no_named}
+use Rattle.fluent_syntax_tree.specs.View.{inline_view}
+use Rattle.fluent_syntax_tree.specs.declared.ast.InlineExpression.{InlineExpression}
+use Rattle.fluent_syntax_tree.specs.declared.ast.NamedArgument.{NamedArgument}
+use Rattle.fluent_syntax_tree.specs.declared.edition.Edition.{Edition}
+use Rattle.fluent_syntax_tree.specs.declared.spans.Span.{Span}
+use Rattle.fluent_syntax_grammar.specs.Arguments.{add_named, add_positional, argument_name, argument_value, is_used, named_and_more, positional_and_more, argument_and_more, separator}
+use Rattle.fluent_syntax_grammar.specs.Bytes.{colon, right_parenthesis}
+use Rattle.fluent_syntax_grammar.specs.Construct.{Outcome, Read, Refused, ◌>>=◌, gives, at_each, goes_on, stops, given, failed, passed, chosen, first, second}
+use Rattle.fluent_syntax_grammar.specs.Family.{Family}
+use Rattle.fluent_syntax_grammar.specs.Grammar.{family}
+use Rattle.fluent_syntax_grammar.specs.Places.{Blank, has_byte}
+use Rattle.fluent_syntax_grammar.specs.Starts.{start}
+use Rattle.fluent_syntax_grammar.specs.Words.{token}
+use Rattle.fluent_syntax_grammar.proofs.Facts.{byte_found}
+use Rattle.fluent_syntax_grammar.proofs.Nesting.{into_more_arguments}
+use Rattle.fluent_syntax_parser.specs.Gathered.{names_in}
+use Rattle.fluent_syntax_parser.proofs.GatheredArguments.{put_arguments, put_named, put_positional}
+use Rattle.fluent_syntax_parser.proofs.Names.{names_added}
+use Rattle.fluent_syntax_parser.proofs.Puts.{Puts, one_put}
+
+pub token_there : (t : List ℕ) (b i : ℕ) → has_byte t b i ≡ true → token t b i (Read tt (i + 1))
+token_there t b i there =
+    goes_on (chosen (first there (goes_on (passed (record { by = refl })) given))) (first refl given)
+
+module _ (edition : Edition) (t : List ℕ) where
+  abbrev R : Family
+  R = family edition t
+
+  -- the text's end
+  pub list_open : (names : List (List ℕ)) (i : ℕ) → length t ≤ i →
+      R.more_arguments names i (Refused (ExpectedToken right_parenthesis) i (i + 1))
+  list_open names i past =
+      let none = slice_get_past t i past in
+      into_more_arguments edition t names i _
+      (chosen {o = Refused (ExpectedToken right_parenthesis) i (i + 1)} (rw none (failed refl)))
+
+  -- the list's `)`
+  pub list_closed : (names : List (List ℕ)) (i : ℕ) → has_byte t right_parenthesis i ≡ true →
+      R.more_arguments names i (Read (arguments no_inlines no_named) (i + 1))
+  list_closed names i there =
+      let found = byte_found (λ c. c == right_parenthesis) (slice_get t i) there in
+      let close = token_there t right_parenthesis i there in
+      into_more_arguments edition t names i _
+      (chosen {o = Read (arguments no_inlines no_named) (i + 1)}
+      (rw found.1 (first found.2 (goes_on close given))))
+
+  module _ (names : List (List ℕ)) (i : ℕ) (within : i < length t) (other : has_byte t right_parenthesis i ≡ false)
+    where
+      begins : (o : Outcome (ArgumentsTree Span)) →
+          (R.inline_expression >>= λ e.
+          at_each (has_byte t colon) gives >>= λ is_named. argument_and_more t R names e (argument_name e) is_named) i o
+          →
+          R.more_arguments names i o
+      begins o h =
+          let byte = slice_get-get_or t i 0 within in
+          let test = rw byte at other in
+          into_more_arguments edition t names i o (chosen {o = o} (rw byte (second test h)))
+
+      pub inline_fails : (k : Kind) (from to : ℕ) → R.inline_expression i (Refused k from to) →
+          R.more_arguments names i (Refused k from to)
+      inline_fails k from to h = begins _ (stops h)
+
+      module _ (e : InlineTree Span) (j : ℕ) (read : R.inline_expression i (Read e j)) where
+        pub named : (name : Span) → argument_name e ≡ Some name → has_byte t colon j ≡ true →
+            (o : Outcome (ArgumentsTree Span)) → named_and_more t R names name j o → R.more_arguments names i o
+        named name is mark o h = begins o (goes_on read (goes_on (chosen given) (rw (is, mark) h)))
+
+        unmarked : (name : Option Span) (o : Outcome (ArgumentsTree Span)) → positional_and_more t R names e j o →
+            argument_and_more t R names e name false j o
+        unmarked None o h = h
+        unmarked (Some name) o h = h
+
+        pub positional : (argument_name e ≡ None) ⊎ (has_byte t colon j ≡ false) → (o : Outcome (ArgumentsTree Span)) →
+            positional_and_more t R names e j o → R.more_arguments names i o
+        positional (inl none) o h = begins o (goes_on read (goes_on (chosen given) (rw none h)))
+        positional (inr none) o h =
+            begins o (goes_on read (goes_on (chosen given) (rw none (unmarked (argument_name e) o h))))
+
+  -- a positional argument after a named one
+  pub late : (names : List (List ℕ)) (e : InlineTree Span) (j : ℕ) → (names ≡ [] → ⊥) →
+      positional_and_more t R names e j (Refused PositionalArgumentFollowsNamed j (j + 1))
+  late [] e j some = absurd (some refl)
+  late (name ∷ names) e j some = failed refl
+
+  module _ (ps : List (InlineExpression Span)) (ns : List (NamedArgument Span)) (from i : ℕ)
+      (gathered : Puts (R.more_arguments (names_in t ns)) (R.more_arguments []) (put_arguments ps ns) from i)
+      (within : i < length t) (other : has_byte t right_parenthesis i ≡ false)
+      (e : InlineExpression Span) (j : ℕ) (read : R.inline_expression i (Read (inline_view (λ s. s) e) j)) where
+    -- one more named argument
+    pub one_named : (x : NamedArgument Span) → argument_name (inline_view (λ s. s) e) ≡ Some x.name.name →
+        has_byte t colon j ≡ true → is_used (bytes_at t x.name.name) (names_in t ns) ≡ false →
+        (more : List (NamedArgument Span)) → more ≡ ns ++ x ∷ [] → (m end next : ℕ) → Blank t (j + 1) m →
+        at_each (start t) (argument_value t R) m (Read (inline_view (λ s. s) x.value) end) →
+        separator t end (Read tt next) →
+        Puts (R.more_arguments (names_in t more)) (R.more_arguments []) (put_arguments ps more) from next
+    one_named x is mark new more pushed m end next blank value after =
+        let names : names_in t more ≡ bytes_at t x.name.name ∷ names_in t ns =
+        ap (names_in t) pushed ∙ names_added t ns x in
+        let add = add_named x.name.name (inline_view (λ s. s) x.value) in
+        one_put (R.more_arguments []) from (R.more_arguments (names_in t ns)) (R.more_arguments (names_in t more))
+        (put_arguments ps ns) (put_arguments ps more) add i next gathered (put_named ps ns more x pushed)
+        (λ rest last h. named (names_in t ns) i within other (inline_view (λ s. s) e) j read x.name.name is mark
+        (Read (add rest) last)
+        (second new
+        (goes_on (token_there t colon j mark)
+        (goes_on (passed blank)
+        (goes_on value
+        (goes_on after
+        (goes_on (subst (λ xs. R.more_arguments xs next (Read rest last)) names h) given)))))))
+        (λ k a b h. named (names_in t ns) i within other (inline_view (λ s. s) e) j read x.name.name is mark
+        (Refused k a b)
+        (second new
+        (goes_on (token_there t colon j mark)
+        (goes_on (passed blank)
+        (goes_on value
+        (goes_on after
+        (stops (subst (λ xs. R.more_arguments xs next (Refused k a b)) names h))))))))
+
+    -- one more positional argument
+    pub one_positional : (argument_name (inline_view (λ s. s) e) ≡ None) ⊎ (has_byte t colon j ≡ false) → ns ≡ [] →
+        (more : List (InlineExpression Span)) → more ≡ ps ++ e ∷ [] → (next : ℕ) → separator t j (Read tt next) →
+        Puts (R.more_arguments (names_in t ns)) (R.more_arguments []) (put_arguments more ns) from next
+    one_positional is none more pushed next after =
+        let names : names_in t ns ≡ [] = rw none refl in
+        let add = add_positional (inline_view (λ s. s) e) in
+        one_put (R.more_arguments []) from (R.more_arguments (names_in t ns)) (R.more_arguments (names_in t ns))
+        (put_arguments ps ns) (put_arguments more ns) add i next gathered (put_positional ps more ns e pushed)
+        (λ rest last h. positional (names_in t ns) i within other (inline_view (λ s. s) e) j read is
+        (Read (add rest) last)
+        (subst (λ xs. positional_and_more t R xs (inline_view (λ s. s) e) j (Read (add rest) last)) (sym names)
+        (goes_on after
+        (goes_on (subst (λ xs. R.more_arguments xs next (Read rest last)) names h) given))))
+        (λ k a b h. positional (names_in t ns) i within other (inline_view (λ s. s) e) j read is
+        (Refused k a b)
+        (subst (λ xs. positional_and_more t R xs (inline_view (λ s. s) e) j (Refused k a b)) (sym names)
+        (goes_on after
+        (stops (subst (λ xs. R.more_arguments xs next (Refused k a b)) names h)))))

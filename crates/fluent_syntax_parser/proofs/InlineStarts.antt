@@ -1,0 +1,60 @@
+-- An inline expression, by what stands at its start.
+use Rattle.std.proofs.Common.{◌≡◌, ℕ, ◌+◌, List, subst, refl, inl as left, inr}
+use Rattle.std.specs.Prelude.{◌⊎◌}
+use Rattle.fluent_syntax_tree.specs.Kind.{ExpectedLiteral}
+use Rattle.fluent_syntax_tree.specs.Tree.{InlineTree, number_literal}
+use Rattle.fluent_syntax_tree.specs.declared.edition.Edition.{Edition}
+use Rattle.fluent_syntax_tree.specs.declared.spans.Span.{Span}
+use Rattle.fluent_syntax_grammar.specs.Arguments.{argument_value}
+use Rattle.fluent_syntax_grammar.specs.Construct.{Outcome, Refused, ◌>>=◌, gives, at_each, chosen, failed}
+use Rattle.fluent_syntax_grammar.specs.Grammar.{family}
+use Rattle.fluent_syntax_grammar.specs.Inline.{inline_of}
+use Rattle.fluent_syntax_grammar.specs.Starts.{Start, digit, letter, minus, quote, start}
+use Rattle.fluent_syntax_grammar.specs.Words.{number}
+use Rattle.fluent_syntax_grammar.proofs.Nesting.{into_inline_expression}
+use Rattle.fluent_syntax_parser.specs.Starts.{start_view}
+use Rattle.fluent_syntax_parser.specs.declared.starts.Start as found
+use Rattle.fluent_syntax_parser.specs.declared.starts.Start.TheVariants as starts
+
+module _ (edition : Edition) (t : List ℕ) (i : ℕ) where
+  pub by_start : (s : Start) (o : Outcome (InlineTree Span)) → s ≡ start t i → inline_of t (family edition t) s i o →
+      (family edition t).inline_expression i o
+  by_start s o e h =
+      into_inline_expression edition t i o (chosen (subst (λ x. inline_of t (family edition t) x i o) e h))
+
+  pub by_number : (s : found.Start) (o : Outcome (InlineTree Span)) → (s ≡ starts.Digit) ⊎ (s ≡ starts.Minus) →
+      start_view s ≡ start t i → (number t >>= λ v. gives (number_literal v)) i o →
+      (family edition t).inline_expression i o
+  by_number s o (left is) e h = let e' : digit ≡ start t i = rw is at e in by_start digit o e' h
+  by_number s o (inr is) e h = let e' : minus ≡ start t i = rw is at e in by_start minus o e' h
+
+  pub by_value : (s : found.Start) (o : Outcome (InlineTree Span)) →
+      (s ≡ starts.Quote) ⊎ ((s ≡ starts.Digit) ⊎ (s ≡ starts.Letter)) → start_view s ≡ start t i →
+      (family edition t).inline_expression i o → at_each (start t) (argument_value t (family edition t)) i o
+  by_value s o (left is) e h =
+      let e' : quote ≡ start t i = rw is at e in
+      chosen (subst (λ x. argument_value t (family edition t) x i o) e' h)
+  by_value s o (inr (left is)) e h =
+      let e' : digit ≡ start t i = rw is at e in
+      chosen (subst (λ x. argument_value t (family edition t) x i o) e' h)
+  by_value s o (inr (inr is)) e h =
+      let e' : letter ≡ start t i = rw is at e in
+      chosen (subst (λ x. argument_value t (family edition t) x i o) e' h)
+
+  refused_value : (s : found.Start) → (s ≡ starts.Quote → ⊥) → (s ≡ starts.Digit → ⊥) → (s ≡ starts.Letter → ⊥) →
+      argument_value t (family edition t) (start_view s) i (Refused ExpectedLiteral i (i + 1))
+  refused_value starts.Quote a b c = absurd (a refl)
+  refused_value starts.Digit a b c = absurd (b refl)
+  refused_value starts.Letter a b c = absurd (c refl)
+  refused_value starts.Term a b c = failed refl
+  refused_value starts.Minus a b c = failed refl
+  refused_value starts.Dollar a b c = failed refl
+  refused_value starts.Brace a b c = failed refl
+  refused_value starts.Other a b c = failed refl
+
+  pub no_value : (s : found.Start) → (s ≡ starts.Quote → ⊥) → (s ≡ starts.Digit → ⊥) → (s ≡ starts.Letter → ⊥) →
+      start_view s ≡ start t i →
+      at_each (start t) (argument_value t (family edition t)) i (Refused ExpectedLiteral i (i + 1))
+  no_value s a b c e =
+      chosen (subst (λ x. argument_value t (family edition t) x i (Refused ExpectedLiteral i (i + 1))) e
+      (refused_value s a b c))

@@ -1,0 +1,76 @@
+-- Runs of a pattern's text: where they end.
+use Rattle.std.proofs.Common.{◌≡◌, ℕ, ◌+◌, ◌-◌, ◌<◌, ◌≤◌, Bool, true, false, not, List, Option, Some, None, refl, sym, arith, inl, inr}
+use Rattle.std.specs.Prelude.{slice_get, ◌&&◌, ◌||◌, ◌==◌, ◌⊎◌}
+use Rattle.std.proofs.lemmas.Bool.{false≢true}
+use Rattle.std.proofs.lemmas.Bool.Decides.{nat_tests}
+use Rattle.memchr.specs.Find.{is_byte3}
+use Rattle.fluent_syntax_grammar.specs.Bytes.{lf, cr, left_brace, right_brace}
+use Rattle.fluent_syntax_grammar.specs.Places.{Stretch, holds, has, has_byte, Word}
+use Rattle.fluent_syntax_grammar.specs.Lines.{is_run_place}
+
+-- a byte that the search passes over
+abbrev pub is_passed : ℕ → Bool
+is_passed b = not (is_byte3 lf left_brace right_brace b)
+
+passed_run : (o : Option ℕ) (eol : Bool) → holds is_passed o ≡ true → eol ≡ false →
+    (holds (λ b. not (b == lf || b == left_brace || b == right_brace)) o && not (holds (λ c. c == lf) o || eol)) ≡ true
+passed_run None eol e f = absurd (false≢true e)
+passed_run (Some b) eol e f = grind (arith, nat_tests)
+
+passed_no_lf : (o : Option ℕ) → holds is_passed o ≡ true → holds (λ c. c == lf) o ≡ false
+passed_no_lf None e = refl
+passed_no_lf (Some b) e = grind (arith, nat_tests)
+
+pub and_first : (a b : Bool) → a ≡ false → (a && b) ≡ false
+and_first true b e = absurd (false≢true (sym e))
+and_first false b e = refl
+
+pub and_false : (a b : Bool) → b ≡ false → (a && b) ≡ false
+and_false true b e = e
+and_false false b e = refl
+
+module _ (t : List ℕ) (i m : ℕ) (word : Word t is_passed i m) where
+  ends_run : (x : Bool) (o : Option ℕ) → holds is_passed o ≡ false →
+      (holds (λ b. not (b == lf || b == left_brace || b == right_brace)) o && x) ≡ false
+  ends_run x o e = rw e refl
+
+  inside : (k : ℕ) → i ≤ k → k < m → (k + 1 ≡ m → (has_byte t cr k && has_byte t lf (k + 1)) ≡ false) →
+      (k + 1 < m) ⊎ (k + 1 ≡ m) → is_run_place t k ≡ true
+  inside k l r last (inl more) =
+      passed_run (slice_get t k) _ (word.each k l r)
+      (and_false (has_byte t cr k) (has_byte t lf (k + 1))
+      (passed_no_lf (slice_get t (k + 1))
+      (word.each (k + 1) (omega arith) more)))
+  inside k l r last (inr end) = passed_run (slice_get t k) _ (word.each k l r) (last end)
+
+  split : (k : ℕ) → k < m → (k + 1 < m) ⊎ (k + 1 ≡ m)
+  split k l = grind arith
+
+  -- no CRLF ends the search
+  pub run_to : (i < m → (has_byte t cr (m - 1) && has_byte t lf m) ≡ false) → Stretch (is_run_place t) i m
+  run_to last = record {
+    forward = word.forward;
+    each = λ k l r. inside k l r
+        (λ e. let f : k ≡ m - 1 = omega arith in rw (e, f) (last (omega arith)))
+        (split k r);
+    longest = ends_run _ (slice_get t m) word.longest;
+  }
+
+  crlf_ends : (a b c d : Bool) → c ≡ true → d ≡ true → (a && not (b || c && d)) ≡ false
+  crlf_ends true true c d e f = refl
+  crlf_ends true false c d e f = rw (e, f) refl
+  crlf_ends false b c d e f = refl
+
+  -- a CRLF ends it, at its LF
+  pub run_before_crlf : i < m → has_byte t cr (m - 1) ≡ true → has_byte t lf m ≡ true →
+      Stretch (is_run_place t) i (m - 1)
+  run_before_crlf l e f =
+      let next : m - 1 + 1 ≡ m = omega arith in
+      record {
+        forward = omega arith;
+        each = λ k a b. inside k a (omega arith) (λ g. absurd (omega arith)) (inl (omega arith));
+        longest =
+            crlf_ends (has t (λ b. not (b == lf || b == left_brace || b == right_brace)) (m - 1))
+            (has_byte t lf (m - 1)) (has_byte t cr (m - 1)) (has_byte t lf (m - 1 + 1)) e
+            (rw next f);
+      }

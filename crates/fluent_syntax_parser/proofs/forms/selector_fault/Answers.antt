@@ -1,0 +1,33 @@
+use Rattle.std.proofs.Common.{refl}
+use Rattle.fluent_syntax_parser.proofs.InlineForms.{fault_of_message, fault_of_attribute, fault_of_term, no_fault_of_term, fault_of_placeable, no_fault}
+use Rattle.fluent_syntax_parser.proofs.forms.selector_fault.Goals as goal
+
+pub returns-in-None : goal.returns-in-None
+returns-in-None c = λ t i.
+    let arm = c.in-MessageReference in
+    rw arm.is (fault_of_message arm.id arm.attribute c.in-None.is, refl, refl)
+
+pub returns-in-Some : goal.returns-in-Some
+returns-in-Some c = λ t i.
+    let arm = c.in-MessageReference in
+    rw arm.is (fault_of_attribute arm.id arm.attribute _ c.in-Some.is, refl, refl)
+
+pub returns-in-None-attribute : goal.returns-in-None-attribute
+returns-in-None-attribute c = λ t i.
+    let arm = c.in-TermReference in
+    rw arm.is (fault_of_term arm.id arm.attribute arm.arguments c.in-None-attribute.is, refl, refl)
+
+pub returns-in-Some-attribute : goal.returns-in-Some-attribute
+returns-in-Some-attribute c = λ t i.
+    let arm = c.in-TermReference in
+    rw arm.is (no_fault_of_term arm.id arm.attribute arm.arguments _ c.in-Some-attribute.is)
+
+pub returns-in-Placeable : goal.returns-in-Placeable
+returns-in-Placeable c = λ t i.
+    let arm = c.in-Placeable in
+    rw arm.is (fault_of_placeable arm.expression, refl, refl)
+
+pub returns-in_default : goal.returns-in_default
+returns-in_default c = λ t i.
+    let arm = c.in_default in
+    no_fault c.args.expression.now arm.not-MessageReference arm.not-TermReference arm.not-Placeable

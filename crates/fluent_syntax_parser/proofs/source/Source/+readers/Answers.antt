@@ -1,0 +1,938 @@
+use Rattle.std.proofs.Common.{◌≡◌, ◌+◌, ◌∙◌, refl, sym, arith, false, None, inl, inr}
+use Rattle.std.specs.Prelude.{slice_get, ◌==◌, ◌⊎◌}
+use Rattle.std.proofs.lemmas.Option.{gets}
+use Rattle.std.proofs.lemmas.Result.{err_from_is_err_and}
+use Rattle.fluent_syntax_tree.specs.Spans.{bytes_at}
+use Rattle.fluent_syntax_tree.specs.Tree.{variants}
+use Rattle.fluent_syntax_tree.specs.View.{inline_view, variant_view}
+use Rattle.fluent_syntax_tree.specs.declared.ast.NamedArgument.{NamedArgument, roll-NamedArgument}
+use Rattle.fluent_syntax_tree.specs.declared.ast.Identifier.{Identifier}
+use Rattle.fluent_syntax_tree.specs.declared.ast.Variant.{Variant}
+use Rattle.fluent_syntax_tree.specs.declared.spans.Span.{Span}
+use Rattle.fluent_syntax_tree.proofs.Views.{view-StringLiteral, view-NumberLiteral, view-TermReference, view-VariableReference, view-InlinePlaceable, view-Inline, view-Select, view-Variant, view-roll-CallArguments}
+use Rattle.fluent_syntax_grammar.specs.Arguments.{argument_name}
+use Rattle.fluent_syntax_grammar.specs.Bytes.{colon, greater_than}
+use Rattle.fluent_syntax_grammar.specs.Construct.{stops, goes_on, given, failed, passed, chosen, first, second, at_place}
+use Rattle.fluent_syntax_grammar.specs.Grammar.{family}
+use Rattle.fluent_syntax_grammar.specs.Lines.{no_byte, other_line}
+use Rattle.fluent_syntax_grammar.specs.Places.{has_byte}
+use Rattle.fluent_syntax_grammar.specs.Starts as starts
+use Rattle.fluent_syntax_grammar.proofs.Facts.{byte_inside, right_true}
+use Rattle.fluent_syntax_grammar.proofs.Nesting.{into_more_lines, into_more_variants}
+use Rattle.fluent_syntax_parser.specs.Gathered.{names_in}
+use Rattle.fluent_syntax_parser.specs.Lines.{line_view, piece_view}
+use Rattle.fluent_syntax_parser.proofs.ArgumentLists.{inline_fails, late, list_closed, list_open, named, one_named, one_positional, positional, token_there}
+use Rattle.fluent_syntax_parser.proofs.GatheredArguments.{put_whole}
+use Rattle.fluent_syntax_parser.proofs.GatheredVariants.{put_added, put_all, put_variants}
+use Rattle.fluent_syntax_parser.proofs.Gathers as gathers
+use Rattle.fluent_syntax_parser.proofs.InlineStarts.{by_number, by_start, by_value, no_value}
+use Rattle.fluent_syntax_parser.proofs.LineEndings.{by_eol, ends_line, ends_text, eol_none}
+use Rattle.fluent_syntax_parser.proofs.Names.{none_named, some_named, some_names, used_in_order}
+use Rattle.fluent_syntax_parser.proofs.Pieces.{bare_brace, end_pieces, line_read, no_lines, no_pieces, own_lines, placed_piece, run_piece}
+use Rattle.fluent_syntax_parser.proofs.Puts.{one_put}
+use Rattle.fluent_syntax_parser.proofs.Selects.{is_selector, no_selector}
+use Rattle.fluent_syntax_parser.proofs.Stars.{both_true, one_false}
+use Rattle.fluent_syntax_parser.proofs.source.Source.+readers.Goals as goal
+use Rattle.fluent_syntax_parser.proofs.source.Source.+readers.Goals.{get_arguments-in_default-via-in-Some+else-is_byte_at, get_arguments-in_default-via-in_default}
+
+-- ---- inline expressions
+
+pub get_inline_expression-returns-in_err-value-in-Quote-clause-meets :
+    goal.get_inline_expression-returns-in_err-value-in-Quote-clause-meets
+get_inline_expression-returns-in_err-value-in-Quote-clause-meets m c =
+    let p = err_from_is_err_and c.from_residual.result c.from_residual.ensures.1 in
+    rw (p.1, p.2) (λ k from to h.
+    by_start c.args.edition c.args.self.now.bytes.now _ starts.quote _ c.in-Quote.ensures
+    (stops (c.in_err-value-in-Quote.ensures.meets k from to h)))
+
+pub get_inline_expression-returns-in_err-end-in-Digit-clause-meets :
+    goal.get_inline_expression-returns-in_err-end-in-Digit-clause-meets
+get_inline_expression-returns-in_err-end-in-Digit-clause-meets m c =
+    let p = err_from_is_err_and c.from_residual-in_err-end-in-Digit.result c.from_residual-in_err-end-in-Digit.ensures.1
+    in
+    rw (p.1, p.2) (λ k from to h.
+    by_number c.args.edition c.args.self.now.bytes.now _ c.start.result _ c.in-Digit.is c.start.ensures
+    (stops (c.in_err-end-in-Digit.ensures.meets k from to h)))
+
+pub get_inline_expression-returns-in_err-start-in-Term-clause-meets :
+    goal.get_inline_expression-returns-in_err-start-in-Term-clause-meets
+get_inline_expression-returns-in_err-start-in-Term-clause-meets m c =
+    let p = err_from_is_err_and c.from_residual-in_err-start-in-Term.result
+    c.from_residual-in_err-start-in-Term.ensures.1 in
+    rw (p.1, p.2) (λ k from to h.
+    by_start c.args.edition c.args.self.now.bytes.now _ starts.term _ c.in-Term.ensures
+    (stops (c.in_err-start-in-Term.ensures.meets k from to h)))
+
+pub get_inline_expression-returns-in_err-end-in-Term-clause-meets :
+    goal.get_inline_expression-returns-in_err-end-in-Term-clause-meets
+get_inline_expression-returns-in_err-end-in-Term-clause-meets m c =
+    let p = err_from_is_err_and c.from_residual-in_err-end-in-Term.result c.from_residual-in_err-end-in-Term.ensures.1
+    in
+    rw (p.1, p.2) (λ k from to h.
+    by_start c.args.edition c.args.self.now.bytes.now _ starts.term _ c.in-Term.ensures
+    (goes_on c.in_ok-start-in-Term.ensures.meets
+    (stops (c.in_err-end-in-Term.ensures.meets k from to h))))
+
+pub get_inline_expression-returns-in_err-attribute-in-Term-clause-meets :
+    goal.get_inline_expression-returns-in_err-attribute-in-Term-clause-meets
+get_inline_expression-returns-in_err-attribute-in-Term-clause-meets m c =
+    let p = err_from_is_err_and c.from_residual-in_err-attribute-in-Term.result
+    c.from_residual-in_err-attribute-in-Term.ensures.1 in
+    rw (p.1, p.2) (λ k from to h.
+    by_start c.args.edition c.args.self.now.bytes.now _ starts.term _ c.in-Term.ensures
+    (goes_on c.in_ok-start-in-Term.ensures.meets
+    (goes_on c.in_ok-end-in-Term.ensures.meets
+    (stops (c.in_err-attribute-in-Term.ensures.meets k from to h)))))
+
+pub get_inline_expression-returns-in_err-arguments-in-Term-clause-meets :
+    goal.get_inline_expression-returns-in_err-arguments-in-Term-clause-meets
+get_inline_expression-returns-in_err-arguments-in-Term-clause-meets m c =
+    let p = err_from_is_err_and c.from_residual-in_err-arguments-in-Term.result
+    c.from_residual-in_err-arguments-in-Term.ensures.1 in
+    rw (p.1, p.2) (λ k from to h.
+    by_start c.args.edition c.args.self.now.bytes.now _ starts.term _ c.in-Term.ensures
+    (goes_on c.in_ok-start-in-Term.ensures.meets
+    (goes_on c.in_ok-end-in-Term.ensures.meets
+    (goes_on c.in_ok-attribute-in-Term.ensures.meets
+    (stops (c.in_err-arguments-in-Term.ensures.meets k from to h))))))
+
+pub get_inline_expression-returns-in_err-start-in-Dollar-clause-meets :
+    goal.get_inline_expression-returns-in_err-start-in-Dollar-clause-meets
+get_inline_expression-returns-in_err-start-in-Dollar-clause-meets m c =
+    let p = err_from_is_err_and c.from_residual-in_err-start-in-Dollar.result
+    c.from_residual-in_err-start-in-Dollar.ensures.1 in
+    rw (p.1, p.2) (λ k from to h.
+    by_start c.args.edition c.args.self.now.bytes.now _ starts.dollar _ c.in-Dollar.ensures
+    (stops (c.in_err-start-in-Dollar.ensures.meets k from to h)))
+
+pub get_inline_expression-returns-in_err-end-in-Dollar-clause-meets :
+    goal.get_inline_expression-returns-in_err-end-in-Dollar-clause-meets
+get_inline_expression-returns-in_err-end-in-Dollar-clause-meets m c =
+    let p = err_from_is_err_and c.from_residual-in_err-end-in-Dollar.result
+    c.from_residual-in_err-end-in-Dollar.ensures.1 in
+    rw (p.1, p.2) (λ k from to h.
+    by_start c.args.edition c.args.self.now.bytes.now _ starts.dollar _ c.in-Dollar.ensures
+    (goes_on c.in_ok-start-in-Dollar.ensures.meets
+    (stops (c.in_err-end-in-Dollar.ensures.meets k from to h))))
+
+pub get_inline_expression-returns-in_err-end-in-Letter-clause-meets :
+    goal.get_inline_expression-returns-in_err-end-in-Letter-clause-meets
+get_inline_expression-returns-in_err-end-in-Letter-clause-meets m c =
+    let p = err_from_is_err_and c.from_residual-in_err-end-in-Letter.result
+    c.from_residual-in_err-end-in-Letter.ensures.1 in
+    rw (p.1, p.2) (λ k from to h.
+    by_start c.args.edition c.args.self.now.bytes.now _ starts.letter _ c.in-Letter.ensures
+    (stops (c.in_err-end-in-Letter.ensures.meets k from to h)))
+
+pub get_inline_expression-returns-in_err-arguments-in-Letter-clause-meets :
+    goal.get_inline_expression-returns-in_err-arguments-in-Letter-clause-meets
+get_inline_expression-returns-in_err-arguments-in-Letter-clause-meets m c =
+    let p = err_from_is_err_and c.from_residual-in_err-arguments-in-Letter.result
+    c.from_residual-in_err-arguments-in-Letter.ensures.1 in
+    rw (p.1, p.2) (λ k from to h.
+    by_start c.args.edition c.args.self.now.bytes.now _ starts.letter _ c.in-Letter.ensures
+    (goes_on c.in_ok-end-in-Letter.ensures.meets
+    (stops (c.in_err-arguments-in-Letter.ensures.meets k from to h))))
+
+pub get_inline_expression-returns-in_err-reference-in-Letter-clause-meets :
+    goal.get_inline_expression-returns-in_err-reference-in-Letter-clause-meets
+get_inline_expression-returns-in_err-reference-in-Letter-clause-meets m c =
+    let p = err_from_is_err_and c.from_residual-in_err-reference-in-Letter.result
+    c.from_residual-in_err-reference-in-Letter.ensures.1 in
+    rw (p.1, p.2) (λ k from to h.
+    by_start c.args.edition c.args.self.now.bytes.now _ starts.letter _ c.in-Letter.ensures
+    (goes_on c.in_ok-end-in-Letter.ensures.meets
+    (goes_on c.in_ok-arguments-in-Letter.ensures.meets
+    (c.in_err-reference-in-Letter.ensures.meets k from to h))))
+
+pub get_inline_expression-returns-in_err-expression-in-Brace-clause-meets :
+    goal.get_inline_expression-returns-in_err-expression-in-Brace-clause-meets
+get_inline_expression-returns-in_err-expression-in-Brace-clause-meets m c =
+    let p = err_from_is_err_and c.from_residual-in_err-expression-in-Brace.result
+    c.from_residual-in_err-expression-in-Brace.ensures.1 in
+    rw (p.1, p.2) (λ k from to h.
+    by_start c.args.edition c.args.self.now.bytes.now _ starts.brace _ c.in-Brace.ensures
+    (stops (c.in_err-expression-in-Brace.ensures.meets k from to h)))
+
+pub get_inline_expression-returns-in_ok-value-in-Quote-clause-meets :
+    goal.get_inline_expression-returns-in_ok-value-in-Quote-clause-meets
+unfolding family
+get_inline_expression-returns-in_ok-value-in-Quote-clause-meets m c =
+    rw (view-StringLiteral (λ x. x) c.in_ok-value-in-Quote.value)
+    (by_start c.args.edition c.args.self.now.bytes.now _ starts.quote _ c.in-Quote.ensures
+    (goes_on c.in_ok-value-in-Quote.ensures.meets
+    given))
+
+pub get_inline_expression-returns-in_ok-end-in-Digit-clause-meets :
+    goal.get_inline_expression-returns-in_ok-end-in-Digit-clause-meets
+unfolding family
+get_inline_expression-returns-in_ok-end-in-Digit-clause-meets m c =
+    let value : Span = record { start = c.args.ptr; end = c.in_ok-end-in-Digit.end } in
+    rw (view-NumberLiteral (λ x. x) value)
+    (by_number c.args.edition c.args.self.now.bytes.now _ c.start.result _ c.in-Digit.is c.start.ensures
+    (goes_on c.in_ok-end-in-Digit.ensures.meets
+    given))
+
+pub get_inline_expression-returns-in_ok-arguments-in-Term-clause-meets :
+    goal.get_inline_expression-returns-in_ok-arguments-in-Term-clause-meets
+unfolding family
+get_inline_expression-returns-in_ok-arguments-in-Term-clause-meets m c =
+    let name : Span = record { start = c.in_ok-start-in-Term.start; end = c.in_ok-end-in-Term.end } in
+    let id : Identifier Span = record { name = name } in
+    rw (view-TermReference (λ x. x) id c.in_ok-attribute-in-Term.attribute c.in_ok-arguments-in-Term.arguments)
+    (by_start c.args.edition c.args.self.now.bytes.now _ starts.term _ c.in-Term.ensures
+    (goes_on c.in_ok-start-in-Term.ensures.meets
+    (goes_on c.in_ok-end-in-Term.ensures.meets
+    (goes_on c.in_ok-attribute-in-Term.ensures.meets
+    (goes_on c.in_ok-arguments-in-Term.ensures.meets
+    given)))))
+
+pub get_inline_expression-returns-in_ok-end-in-Dollar-clause-meets :
+    goal.get_inline_expression-returns-in_ok-end-in-Dollar-clause-meets
+unfolding family
+get_inline_expression-returns-in_ok-end-in-Dollar-clause-meets m c =
+    let name : Span = record { start = c.in_ok-start-in-Dollar.start; end = c.in_ok-end-in-Dollar.end } in
+    let id : Identifier Span = record { name = name } in
+    rw (view-VariableReference (λ x. x) id)
+    (by_start c.args.edition c.args.self.now.bytes.now _ starts.dollar _ c.in-Dollar.ensures
+    (goes_on c.in_ok-start-in-Dollar.ensures.meets
+    (goes_on c.in_ok-end-in-Dollar.ensures.meets
+    given)))
+
+pub get_inline_expression-returns-in_ok-reference-in-Letter-clause-meets :
+    goal.get_inline_expression-returns-in_ok-reference-in-Letter-clause-meets
+get_inline_expression-returns-in_ok-reference-in-Letter-clause-meets m c =
+    by_start c.args.edition c.args.self.now.bytes.now _ starts.letter _ c.in-Letter.ensures
+    (goes_on c.in_ok-end-in-Letter.ensures.meets
+    (goes_on c.in_ok-arguments-in-Letter.ensures.meets
+    (c.in_ok-reference-in-Letter.ensures.meets)))
+
+pub get_inline_expression-returns-in_ok-expression-in-Brace-2-clause-meets :
+    goal.get_inline_expression-returns-in_ok-expression-in-Brace-2-clause-meets
+unfolding family
+get_inline_expression-returns-in_ok-expression-in-Brace-2-clause-meets m c =
+    rw
+    (view-InlinePlaceable (λ x. x) c.in_ok-expression-in-Brace-2.expression, c.in_ok-expression-in-Brace-2.ensures.ok)
+    (by_start c.args.edition c.args.self.now.bytes.now _ starts.brace _ c.in-Brace.ensures
+    (goes_on c.in_ok-expression-in-Brace.ensures.meets
+    given))
+
+pub get_inline_expression-returns-in-Other-clause-meets : goal.get_inline_expression-returns-in-Other-clause-meets
+get_inline_expression-returns-in-Other-clause-meets m c =
+    λ k from to (a, b, d). rw (a, b, d)
+    (by_start c.args.edition c.args.self.now.bytes.now _ starts.other _ c.in-Other.ensures
+    (failed refl))
+
+-- ---- placeables
+
+pub get_placeable-returns-in_err-start-clause-meets : goal.get_placeable-returns-in_err-start-clause-meets
+get_placeable-returns-in_err-start-clause-meets m c =
+    let p = err_from_is_err_and c.from_residual.result c.from_residual.ensures.1 in
+    rw (p.1, p.2) (λ k from to h.
+    stops (c.in_err-start.ensures.meets k from to h))
+
+pub get_placeable-returns-in_err-expression-clause-meets : goal.get_placeable-returns-in_err-expression-clause-meets
+get_placeable-returns-in_err-expression-clause-meets m c =
+    let p = err_from_is_err_and c.from_residual-in_err-expression.result c.from_residual-in_err-expression.ensures.1 in
+    rw (p.1, p.2) (λ k from to h.
+    goes_on c.in_ok-start.ensures.meets
+    (goes_on (passed c.skip_blank-start.ensures.blank)
+    (stops (c.in_err-expression.ensures.meets k from to h))))
+
+pub get_placeable-returns-in_err-ptr-clause-meets : goal.get_placeable-returns-in_err-ptr-clause-meets
+get_placeable-returns-in_err-ptr-clause-meets m c =
+    let p = err_from_is_err_and c.from_residual-in_err-ptr.result c.from_residual-in_err-ptr.ensures.1 in
+    rw (p.1, p.2) (λ k from to h.
+    goes_on c.in_ok-start.ensures.meets
+    (goes_on (passed c.skip_blank-start.ensures.blank)
+    (goes_on c.in_ok-expression.ensures.meets
+    (goes_on (passed c.skip_blank_inline-ptr.ensures.blank)
+    (stops (c.in_err-ptr.ensures.meets k from to h))))))
+
+pub get_placeable-returns-clause-meets : goal.get_placeable-returns-clause-meets
+get_placeable-returns-clause-meets m c =
+    goes_on c.in_ok-start.ensures.meets
+    (goes_on (passed c.skip_blank-start.ensures.blank)
+    (goes_on c.in_ok-expression.ensures.meets
+    (goes_on (passed c.skip_blank_inline-ptr.ensures.blank)
+    (goes_on c.in_ok-ptr.ensures.meets
+    given))))
+
+-- ---- expressions
+
+pub get_expression-returns-in_err-expression-clause-meets : goal.get_expression-returns-in_err-expression-clause-meets
+get_expression-returns-in_err-expression-clause-meets m c =
+    let p = err_from_is_err_and c.from_residual.result c.from_residual.ensures.1 in
+    rw (p.1, p.2) (λ k from to h.
+    stops (c.in_err-expression.ensures.meets k from to h))
+
+pub get_expression-returns-then-is_term_attribute-clause-meets :
+    goal.get_expression-returns-then-is_term_attribute-clause-meets
+get_expression-returns-then-is_term_attribute-clause-meets m c =
+    λ k from to (a, b, d). rw (a, b, d)
+    (goes_on c.in_ok-expression.ensures.meets
+    (goes_on (passed c.skip_blank-ptr.ensures.blank)
+    (goes_on (chosen given)
+    (second (sym c.if-not-is_arrow.ensures)
+    (first (sym c.if-is_term_attribute.ensures)
+    (failed refl))))))
+
+pub get_expression-returns-then-not-is_arrow-clause-meets : goal.get_expression-returns-then-not-is_arrow-clause-meets
+get_expression-returns-then-not-is_arrow-clause-meets m c =
+    rw (view-Inline (λ x. x) c.in_ok-expression.expression)
+    (goes_on c.in_ok-expression.ensures.meets
+    (goes_on (passed c.skip_blank-ptr.ensures.blank)
+    (goes_on (chosen given)
+    (second (sym c.if-not-is_arrow.ensures)
+    (second (sym c.if-is_term_attribute.ensures)
+    given)))))
+
+pub get_expression-returns-in-Some-clause-meets : goal.get_expression-returns-in-Some-clause-meets
+get_expression-returns-in-Some-clause-meets m c =
+    let is = c.in-Some.ensures c.args.self.now.bytes.now c.skip_blank-ptr.result in
+    λ k from to (a, b, d). rw (a, b ∙ is.1, d ∙ is.2)
+    (goes_on c.in_ok-expression.ensures.meets
+    (goes_on (passed c.skip_blank-ptr.ensures.blank)
+    (goes_on (chosen given)
+    (first (sym c.if-not-is_arrow.ensures)
+    (no_selector c.args.self.now.bytes.now (family c.args.edition c.args.self.now.bytes.now) _ _ _ is.0)))))
+
+pub get_expression-returns-in_err-ptr-in-None-clause-meets : goal.get_expression-returns-in_err-ptr-in-None-clause-meets
+get_expression-returns-in_err-ptr-in-None-clause-meets m c =
+    let is = c.in-None.ensures c.args.self.now.bytes.now c.skip_blank-ptr.result in
+    let p = err_from_is_err_and c.from_residual-in_err-ptr-in-None.result c.from_residual-in_err-ptr-in-None.ensures.1
+    in
+    rw (p.1, p.2) (λ k from to h.
+    goes_on c.in_ok-expression.ensures.meets
+    (goes_on (passed c.skip_blank-ptr.ensures.blank)
+    (goes_on (chosen given)
+    (first (sym c.if-not-is_arrow.ensures)
+    (is_selector c.args.self.now.bytes.now (family c.args.edition c.args.self.now.bytes.now) _ _ _ is
+    (stops
+    (goes_on (passed (record { by = refl }))
+    (goes_on (passed c.skip_blank_inline-ptr.ensures.blank)
+    (stops (c.in_err-ptr-in-None.ensures.meets k from to h))))))))))
+
+pub get_expression-returns-in_err-variants-in-None-clause-meets :
+    goal.get_expression-returns-in_err-variants-in-None-clause-meets
+get_expression-returns-in_err-variants-in-None-clause-meets m c =
+    let is = c.in-None.ensures c.args.self.now.bytes.now c.skip_blank-ptr.result in
+    let p = err_from_is_err_and c.from_residual-in_err-variants-in-None.result
+    c.from_residual-in_err-variants-in-None.ensures.1 in
+    rw (p.1, p.2) (λ k from to h.
+    goes_on c.in_ok-expression.ensures.meets
+    (goes_on (passed c.skip_blank-ptr.ensures.blank)
+    (goes_on (chosen given)
+    (first (sym c.if-not-is_arrow.ensures)
+    (is_selector c.args.self.now.bytes.now (family c.args.edition c.args.self.now.bytes.now) _ _ _ is
+    (stops
+    (goes_on (passed (record { by = refl }))
+    (goes_on (passed c.skip_blank_inline-ptr.ensures.blank)
+    (goes_on c.in_ok-ptr-in-None.ensures.meets
+    (goes_on (passed c.skip_blank-ptr-in-None.ensures.blank)
+    (c.in_err-variants-in-None.ensures.meets k from to h)))))))))))
+
+pub get_expression-returns-in_ok-variants-in-None-clause-meets :
+    goal.get_expression-returns-in_ok-variants-in-None-clause-meets
+get_expression-returns-in_ok-variants-in-None-clause-meets m c =
+    let is = c.in-None.ensures c.args.self.now.bytes.now c.skip_blank-ptr.result in
+    rw (view-Select (λ x. x) c.in_ok-expression.expression c.in_ok-variants-in-None.variants)
+    (goes_on c.in_ok-expression.ensures.meets
+    (goes_on (passed c.skip_blank-ptr.ensures.blank)
+    (goes_on (chosen given)
+    (first (sym c.if-not-is_arrow.ensures)
+    (is_selector c.args.self.now.bytes.now (family c.args.edition c.args.self.now.bytes.now) _ _ _ is
+    (goes_on
+    (goes_on (passed (record { by = refl }))
+    (goes_on (passed c.skip_blank_inline-ptr.ensures.blank)
+    (goes_on c.in_ok-ptr-in-None.ensures.meets
+    (goes_on (passed c.skip_blank-ptr-in-None.ensures.blank)
+    (c.in_ok-variants-in-None.ensures.meets))))) given))))))
+
+-- ---- the arguments of a reference
+
+pub get_call_arguments-returns-then-not-bracket-clause-meets :
+    goal.get_call_arguments-returns-then-not-bracket-clause-meets
+get_call_arguments-returns-then-not-bracket-clause-meets m c =
+    goes_on (passed c.skip_blank-start.ensures.blank)
+    (goes_on c.take_byte_if-bracket.ensures.meets
+    (second c.if-not-bracket.true given))
+
+pub get_call_arguments-returns-in_err-arguments-clause-meets :
+    goal.get_call_arguments-returns-in_err-arguments-clause-meets
+get_call_arguments-returns-in_err-arguments-clause-meets m c =
+    let p = err_from_is_err_and c.from_residual.result c.from_residual.ensures.1 in
+    rw (p.1, p.2) (λ k from to h.
+    goes_on (passed c.skip_blank-start.ensures.blank)
+    (goes_on c.take_byte_if-bracket.ensures.meets
+    (first c.if-not-bracket.false
+    (stops
+    (goes_on (passed c.skip_blank-start-2.ensures.blank)
+    (c.in_err-arguments.ensures.meets k from to h))))))
+
+pub get_call_arguments-returns-clause-meets : goal.get_call_arguments-returns-clause-meets
+get_call_arguments-returns-clause-meets m c =
+    goes_on (passed c.skip_blank-start.ensures.blank)
+    (goes_on c.take_byte_if-bracket.ensures.meets
+    (first c.if-not-bracket.false
+    (goes_on (goes_on (passed c.skip_blank-start-2.ensures.blank) c.in_ok-arguments.ensures.meets)
+    given)))
+
+-- ---- the value of a named argument
+
+pub get_argument_value-returns-in_err-value-in-Quote-clause-meets :
+    goal.get_argument_value-returns-in_err-value-in-Quote-clause-meets
+get_argument_value-returns-in_err-value-in-Quote-clause-meets m c =
+    let p = err_from_is_err_and c.from_residual.result c.from_residual.ensures.1 in
+    rw (p.1, p.2) (λ k from to h.
+    by_value c.args.edition c.args.self.now.bytes.now c.args.ptr c.start.result _ c.in-Quote.is c.start.ensures
+    (c.in_err-value-in-Quote.ensures.meets k from to h))
+
+pub get_argument_value-returns-in_ok-value-in-Quote-clause-meets :
+    goal.get_argument_value-returns-in_ok-value-in-Quote-clause-meets
+get_argument_value-returns-in_ok-value-in-Quote-clause-meets m c =
+    by_value c.args.edition c.args.self.now.bytes.now c.args.ptr c.start.result _ c.in-Quote.is c.start.ensures
+    c.in_ok-value-in-Quote.ensures.meets
+
+pub get_argument_value-returns-in_default : goal.get_argument_value-returns-in_default
+get_argument_value-returns-in_default m c = record {
+  meets = λ k from to (a, b, d).
+      let arm = c.in_default in
+      rw (a, b, d) (no_value c.args.edition c.args.self.now.bytes.now c.args.ptr c.start.result arm.not-Quote
+      arm.not-Digit arm.not-Letter c.start.ensures);
+  within = tt;
+  nests = λ e. cc;
+}
+
+-- ---- argument lists
+
+pub get_arguments-returns-then-place-self-clause-meets : goal.get_arguments-returns-then-place-self-clause-meets
+get_arguments-returns-then-place-self-clause-meets m c = λ k from to (a, b, d).
+    rw (a, b, d) (c.loop-alloc.invariant.gathered.refused _ _ _
+    (list_open c.args.edition c.args.self.now.bytes.now _ _ (omega (arith, c.if-place-self.true))))
+
+pub get_arguments-returns-in_err-expression-clause-meets : goal.get_arguments-returns-in_err-expression-clause-meets
+get_arguments-returns-in_err-expression-clause-meets m c =
+    let t = c.args.self.now.bytes.now in
+    let p = err_from_is_err_and c.from_residual.result c.from_residual.ensures.1 in
+    rw (p.1, p.2) (λ k from to h.
+    c.loop-alloc.invariant.gathered.refused k from to
+    (inline_fails c.args.edition t _ _ (omega (arith, c.if-place-self.false, c.loop-alloc.invariant.within))
+    (sym c.loop-alloc-test.ensures) k from to (c.in_err-expression.ensures.meets k from to h)))
+
+pub get_arguments-returns-then-has_name-clause-meets : goal.get_arguments-returns-then-has_name-clause-meets
+get_arguments-returns-then-has_name-clause-meets m c =
+    let t = c.args.self.now.bytes.now in
+    let names = c.loop-alloc.named.items in
+    let found = rw c.deref.ensures.value at c.if-has_name.ensures in
+    let used = used_in_order t (bytes_at t c.in-Some.name) names ∙ sym found in
+    λ k from to (a, b, d).
+    rw (a, b, d) (c.loop-alloc.invariant.gathered.refused _ _ _
+    (named c.args.edition t (names_in t names) _
+    (omega (arith, c.if-place-self.false, c.loop-alloc.invariant.within)) (sym c.loop-alloc-test.ensures) _ _
+    c.in_ok-expression.ensures.meets c.in-Some.name (sym c.in-Some.ensures) (sym c.if-is_byte_at.ensures) _
+    (first used (failed refl))))
+
+pub get_arguments-skip_blank-start-requires : goal.get_arguments-skip_blank-start-requires
+get_arguments-skip_blank-start-requires m c = grind (arith, gets)
+
+pub get_arguments-returns-in_err-value-in-Some-clause-meets :
+    goal.get_arguments-returns-in_err-value-in-Some-clause-meets
+get_arguments-returns-in_err-value-in-Some-clause-meets m c =
+    let t = c.args.self.now.bytes.now in
+    let names = c.loop-alloc.named.items in
+    let found = rw c.deref.ensures.value at c.if-has_name.ensures in
+    let new = used_in_order t (bytes_at t c.in-Some.name) names ∙ sym found in
+    let mark = sym c.if-is_byte_at.ensures in
+    let p = err_from_is_err_and c.from_residual-in_err-value-in-Some.result
+    c.from_residual-in_err-value-in-Some.ensures.1 in
+    rw (p.1, p.2) (λ k from to h.
+    c.loop-alloc.invariant.gathered.refused k from to
+    (named c.args.edition t (names_in t names) _
+    (omega (arith, c.if-place-self.false, c.loop-alloc.invariant.within)) (sym c.loop-alloc-test.ensures) _ _
+    c.in_ok-expression.ensures.meets c.in-Some.name (sym c.in-Some.ensures) mark _
+    (second new
+    (goes_on (token_there t colon _ mark)
+    (goes_on (passed c.skip_blank-start.ensures.blank)
+    (stops (c.in_err-value-in-Some.ensures.meets k from to h)))))))
+
+pub get_arguments-returns-clause-meets : goal.get_arguments-returns-clause-meets
+unfolding family
+get_arguments-returns-clause-meets m c =
+    let ps = c.loop-alloc.positional.items in
+    let ns = c.loop-alloc.named.items in
+    let whole =
+    put_whole ps ns
+    ∙ sym (view-roll-CallArguments (λ s. s) (record {
+      positional =
+          c.loop-alloc.positional;
+      named = c.loop-alloc.named;
+    })) in
+    rw (← whole) (c.loop-alloc.invariant.gathered.read _ _
+    (list_closed c.args.edition c.args.self.now.bytes.now _ _ (sym c.loop-alloc-test.ensures)))
+
+pub get_arguments-loop-alloc-preserved-then-is_byte_at : goal.get_arguments-loop-alloc-preserved-then-is_byte_at
+get_arguments-loop-alloc-preserved-then-is_byte_at m c =
+    let t = c.args.self.now.bytes.now in
+    let old = c.loop-alloc in
+    let found = rw c.deref.ensures.value at c.if-has_name.ensures in
+    let new = used_in_order t (bytes_at t c.in-Some.name) old.named.items ∙ sym found in
+    let name : Identifier Span = record { name = c.in-Some.name } in
+    let added : NamedArgument Span = roll-NamedArgument Span
+    (record { name = name; value = c.in_ok-value-in-Some.value }) in
+    record {
+      forward =
+          omega (
+            arith,
+            old.invariant.forward,
+            c.in_ok-expression.ensures.within.0,
+            c.skip_blank-start.ensures.blank.forward,
+            c.in_ok-value-in-Some.ensures.within.0,
+            c.skip_separator-place.ensures.within.0,
+          );
+      within = c.skip_separator-place.ensures.within.1;
+      gathered =
+          one_named c.args.edition t old.positional.items old.named.items c.args.ptr old.place old.invariant.gathered
+          (omega (arith, c.if-place-self.false, old.invariant.within)) (sym c.loop-alloc-test.ensures)
+          c.in_ok-expression.expression _ c.in_ok-expression.ensures.meets added (sym c.in-Some.ensures)
+          (sym c.if-is_byte_at.ensures) new _ c.in_ok-push-in-Some.ensures.items _ _ _
+          c.skip_blank-start.ensures.blank c.in_ok-value-in-Some.ensures.meets c.skip_separator-place.ensures.meets;
+    }
+
+pub get_arguments-returns-then-not-is_empty-clause-meets : goal.get_arguments-returns-then-not-is_empty-clause-meets
+get_arguments-returns-then-not-is_empty-clause-meets m c =
+    let t = c.args.self.now.bytes.now in
+    let old = c.loop-alloc in
+    let e = inline_view (λ s. s) c.in_ok-expression.expression in
+    let is : (argument_name e ≡ None) ⊎ (has_byte t colon c.in_ok-expression.next ≡ false) =
+    elim c.in_default.branch [
+      | get_arguments-in_default-via-in-Some+else-is_byte_at w ↦ inr (sym w.if-is_byte_at.ensures)
+      | get_arguments-in_default-via-in_default w ↦ inl (sym w.in_default.ensures)
+    ] in
+    let some = some_named _ old.named.items old.named.ok.0 c.if-not-is_empty.ensures in
+    λ k from to (a, b, d).
+    rw (a, b, d) (old.invariant.gathered.refused _ _ _
+    (positional c.args.edition t (names_in t old.named.items) old.place
+    (omega (arith, c.if-place-self.false, old.invariant.within)) (sym c.loop-alloc-test.ensures) e _
+    c.in_ok-expression.ensures.meets is _
+    (late c.args.edition t (names_in t old.named.items) e _ (some_names t old.named.items some))))
+
+pub get_arguments-loop-alloc-preserved : goal.get_arguments-loop-alloc-preserved
+get_arguments-loop-alloc-preserved m c =
+    let t = c.args.self.now.bytes.now in
+    let old = c.loop-alloc in
+    let e = inline_view (λ s. s) c.in_ok-expression.expression in
+    let is : (argument_name e ≡ None) ⊎ (has_byte t colon c.in_ok-expression.next ≡ false) =
+    elim c.in_default.branch [
+      | get_arguments-in_default-via-in-Some+else-is_byte_at w ↦ inr (sym w.if-is_byte_at.ensures)
+      | get_arguments-in_default-via-in_default w ↦ inl (sym w.in_default.ensures)
+    ] in
+    let none = none_named _ old.named.items old.named.ok.0 c.if-not-is_empty.ensures in
+    record {
+      forward =
+          omega (
+            arith,
+            old.invariant.forward,
+            c.in_ok-expression.ensures.within.0,
+            c.skip_separator-place-in_default.ensures.within.0,
+          );
+      within = c.skip_separator-place-in_default.ensures.within.1;
+      gathered =
+          one_positional c.args.edition t old.positional.items old.named.items c.args.ptr old.place
+          old.invariant.gathered (omega (arith, c.if-place-self.false, old.invariant.within))
+          (sym c.loop-alloc-test.ensures) c.in_ok-expression.expression _ c.in_ok-expression.ensures.meets is none _
+          c.in_ok-push-in_default.ensures.items _ c.skip_separator-place-in_default.ensures.meets;
+    }
+
+pub get_arguments-returns-clause-within : goal.get_arguments-returns-clause-within
+get_arguments-returns-clause-within m c = grind (arith, gets)
+
+-- ---- patterns
+
+pub get_layout-returns-in_err-lines-in-Some-clause-meets : goal.get_layout-returns-in_err-lines-in-Some-clause-meets
+get_layout-returns-in_err-lines-in-Some-clause-meets m c =
+    let p = err_from_is_err_and c.from_residual.result c.from_residual.ensures.1 in
+    rw (p.1, p.2) (λ k from to h.
+    by_eol c.args.self.now.bytes.now (family c.args.edition c.args.self.now.bytes.now) _ _ _ c.in-Some.ensures.eol
+    (goes_on (passed (record { there = refl }))
+    (goes_on (passed c.skip_blank_block-first.ensures.blank)
+    (stops (c.in_err-lines-in-Some.ensures.meets k from to h)))))
+
+pub get_layout-returns-in_ok-lines-in-Some-clause-meets : goal.get_layout-returns-in_ok-lines-in-Some-clause-meets
+get_layout-returns-in_ok-lines-in-Some-clause-meets m c =
+    by_eol c.args.self.now.bytes.now (family c.args.edition c.args.self.now.bytes.now) _ _ _ c.in-Some.ensures.eol
+    (goes_on (passed (record { there = refl }))
+    (goes_on (passed c.skip_blank_block-first.ensures.blank)
+    (goes_on c.in_ok-lines-in-Some.ensures.meets
+    given)))
+
+pub get_layout-returns-in_err-pieces-in-None-clause-meets : goal.get_layout-returns-in_err-pieces-in-None-clause-meets
+get_layout-returns-in_err-pieces-in-None-clause-meets m c =
+    let p = err_from_is_err_and c.from_residual-in_err-pieces-in-None.result
+    c.from_residual-in_err-pieces-in-None.ensures.1 in
+    rw (p.1, p.2) (λ k from to h.
+    by_eol c.args.self.now.bytes.now (family c.args.edition c.args.self.now.bytes.now) _ _ _ c.in-None.ensures.eol
+    (goes_on at_place
+    (stops (c.in_err-pieces-in-None.ensures.meets k from to h))))
+
+pub get_layout-returns-in_err-lines-in-None-clause-meets : goal.get_layout-returns-in_err-lines-in-None-clause-meets
+get_layout-returns-in_err-lines-in-None-clause-meets m c =
+    let p = err_from_is_err_and c.from_residual-in_err-lines-in-None.result
+    c.from_residual-in_err-lines-in-None.ensures.1 in
+    rw (p.1, p.2) (λ k from to h.
+    by_eol c.args.self.now.bytes.now (family c.args.edition c.args.self.now.bytes.now) _ _ _ c.in-None.ensures.eol
+    (goes_on at_place
+    (goes_on c.in_ok-pieces-in-None.ensures.meets
+    (goes_on c.get_ending-ending.ensures.meets
+    (stops (c.in_err-lines-in-None.ensures.meets k from to h))))))
+
+pub get_layout-returns-in_ok-lines-in-None-clause-meets : goal.get_layout-returns-in_ok-lines-in-None-clause-meets
+get_layout-returns-in_ok-lines-in-None-clause-meets m c =
+    by_eol c.args.self.now.bytes.now (family c.args.edition c.args.self.now.bytes.now) _ _ _ c.in-None.ensures.eol
+    (goes_on at_place
+    (goes_on c.in_ok-pieces-in-None.ensures.meets
+    (goes_on c.get_ending-ending.ensures.meets
+    (goes_on c.in_ok-lines-in-None.ensures.meets
+    given))))
+
+pub get_pattern-returns-in_err-layout-in-None-clause-meets : goal.get_pattern-returns-in_err-layout-in-None-clause-meets
+get_pattern-returns-in_err-layout-in-None-clause-meets m c =
+    let p = err_from_is_err_and c.from_residual-in_err-layout-in-None.result
+    c.from_residual-in_err-layout-in-None.ensures.1 in
+    rw (p.1, p.2) (λ k from to h.
+    stops
+    (goes_on (passed c.skip_blank_inline-start.ensures.blank)
+    (c.in_err-layout-in-None.ensures.meets k from to h)))
+
+pub get_pattern-returns-in-Some-clause-meets : goal.get_pattern-returns-in-Some-clause-meets
+get_pattern-returns-in-Some-clause-meets m c =
+    let opens = rw c.in-Some.is at c.in_ok-short.ensures.opens in
+    opens c.args.ptr c.skip_blank_inline-start.ensures.blank
+
+pub get_pattern-returns-in_ok-pattern-in-None-clause-meets : goal.get_pattern-returns-in_ok-pattern-in-None-clause-meets
+get_pattern-returns-in_ok-pattern-in-None-clause-meets m c =
+    rw c.in_ok-pattern-in-None.ensures
+    (goes_on (goes_on (passed c.skip_blank_inline-start.ensures.blank) c.in_ok-layout-in-None.ensures.meets) given)
+
+-- ---- variants
+
+pub get_variants-returns-then-star-clause-meets : goal.get_variants-returns-then-star-clause-meets
+get_variants-returns-then-star-clause-meets m c =
+    λ k from to (a, b, d). rw (a, b, d)
+    (c.loop-starred.invariant.gathered.refused _ _ _
+    (into_more_variants c.args.edition c.args.self.now.bytes.now c.loop-starred.starred _ _
+    (goes_on c.take_byte_if-star.ensures.meets
+    (stops
+    (first (both_true _ _ c.if-starred.true c.if-star.true)
+    (failed refl))))))
+
+pub get_variants-returns-then-has_default-clause-meets : goal.get_variants-returns-then-has_default-clause-meets
+unfolding family
+get_variants-returns-then-has_default-clause-meets m c =
+    rw (← put_all c.loop-starred.variants.items)
+    (c.loop-starred.invariant.gathered.read _ _
+    (into_more_variants c.args.edition c.args.self.now.bytes.now c.loop-starred.starred _ _
+    (goes_on c.take_byte_if-star.ensures.meets
+    (goes_on (second (one_false _ _ c.else-starred.either) given)
+    (goes_on c.take_byte_if-bracket.ensures.meets
+    (second c.if-not-bracket.true
+    (first (sym c.if-has_default.ensures)
+    given)))))))
+
+pub get_variants-returns-then-not-bracket-clause-meets : goal.get_variants-returns-then-not-bracket-clause-meets
+get_variants-returns-then-not-bracket-clause-meets m c =
+    λ k from to (a, b, d). rw (a, b, d)
+    (c.loop-starred.invariant.gathered.refused _ _ _
+    (into_more_variants c.args.edition c.args.self.now.bytes.now c.loop-starred.starred _ _
+    (goes_on c.take_byte_if-star.ensures.meets
+    (goes_on (second (one_false _ _ c.else-starred.either) given)
+    (goes_on c.take_byte_if-bracket.ensures.meets
+    (second c.if-not-bracket.true
+    (second (sym c.if-has_default.ensures)
+    (failed refl))))))))
+
+pub get_variants-returns-in_err-key-clause-meets : goal.get_variants-returns-in_err-key-clause-meets
+get_variants-returns-in_err-key-clause-meets m c =
+    let p = err_from_is_err_and c.from_residual.result c.from_residual.ensures.1 in
+    rw (p.1, p.2) (λ k from to h.
+    c.loop-starred.invariant.gathered.refused k from to
+    (into_more_variants c.args.edition c.args.self.now.bytes.now c.loop-starred.starred _ _
+    (goes_on c.take_byte_if-star.ensures.meets
+    (goes_on (second (one_false _ _ c.else-starred.either) given)
+    (goes_on c.take_byte_if-bracket.ensures.meets
+    (first c.if-not-bracket.false
+    (goes_on (passed c.skip_blank-start.ensures.blank)
+    (stops (c.in_err-key.ensures.meets k from to h)))))))))
+
+pub get_variants-returns-in_err-next-clause-meets : goal.get_variants-returns-in_err-next-clause-meets
+get_variants-returns-in_err-next-clause-meets m c =
+    let p = err_from_is_err_and c.from_residual-in_err-next.result c.from_residual-in_err-next.ensures.1 in
+    rw (p.1, p.2) (λ k from to h.
+    c.loop-starred.invariant.gathered.refused k from to
+    (into_more_variants c.args.edition c.args.self.now.bytes.now c.loop-starred.starred _ _
+    (goes_on c.take_byte_if-star.ensures.meets
+    (goes_on (second (one_false _ _ c.else-starred.either) given)
+    (goes_on c.take_byte_if-bracket.ensures.meets
+    (first c.if-not-bracket.false
+    (goes_on (passed c.skip_blank-start.ensures.blank)
+    (goes_on c.in_ok-key.ensures.meets
+    (goes_on (passed c.skip_blank-next.ensures.blank)
+    (stops (c.in_err-next.ensures.meets k from to h)))))))))))
+
+pub get_variants-returns-in_err-value-clause-meets : goal.get_variants-returns-in_err-value-clause-meets
+get_variants-returns-in_err-value-clause-meets m c =
+    let p = err_from_is_err_and c.from_residual-in_err-value.result c.from_residual-in_err-value.ensures.1 in
+    rw (p.1, p.2) (λ k from to h.
+    c.loop-starred.invariant.gathered.refused k from to
+    (into_more_variants c.args.edition c.args.self.now.bytes.now c.loop-starred.starred _ _
+    (goes_on c.take_byte_if-star.ensures.meets
+    (goes_on (second (one_false _ _ c.else-starred.either) given)
+    (goes_on c.take_byte_if-bracket.ensures.meets
+    (first c.if-not-bracket.false
+    (goes_on (passed c.skip_blank-start.ensures.blank)
+    (goes_on c.in_ok-key.ensures.meets
+    (goes_on (passed c.skip_blank-next.ensures.blank)
+    (goes_on c.in_ok-next.ensures.meets
+    (stops (c.in_err-value.ensures.meets k from to h))))))))))))
+
+pub get_variants-returns-in-None-clause-meets : goal.get_variants-returns-in-None-clause-meets
+get_variants-returns-in-None-clause-meets m c =
+    let none = rw c.in-None.is at c.in_ok-value.ensures.meets in
+    λ k from to (a, b, d). rw (a, b, d)
+    (c.loop-starred.invariant.gathered.refused _ _ _
+    (into_more_variants c.args.edition c.args.self.now.bytes.now c.loop-starred.starred _ _
+    (goes_on c.take_byte_if-star.ensures.meets
+    (goes_on (second (one_false _ _ c.else-starred.either) given)
+    (goes_on c.take_byte_if-bracket.ensures.meets
+    (first c.if-not-bracket.false
+    (goes_on (passed c.skip_blank-start.ensures.blank)
+    (goes_on c.in_ok-key.ensures.meets
+    (goes_on (passed c.skip_blank-next.ensures.blank)
+    (goes_on c.in_ok-next.ensures.meets
+    (goes_on none
+    (failed refl))))))))))))
+
+pub get_variants-loop-starred-preserved : goal.get_variants-loop-starred-preserved
+get_variants-loop-starred-preserved m c =
+    let t = c.args.self.now.bytes.now in
+    let value = rw c.in-Some.is at c.in_ok-value.ensures.meets in
+    let old = c.loop-starred in
+    let new : Variant Span = record
+    { key = c.in_ok-key.key; value = c.in-Some.value; default = c.take_byte_if-star.result.0 } in
+    let R = family c.args.edition t in
+    record {
+      forward =
+          omega (
+            arith,
+            old.invariant.forward,
+            c.take_byte_if-star.ensures.forward,
+            c.take_byte_if-bracket.ensures.forward,
+            c.skip_blank-start.ensures.blank.forward,
+            c.in_ok-key.ensures.within.0,
+            c.skip_blank-next.ensures.blank.forward,
+            c.in_ok-next.ensures.within.0,
+            c.in_ok-value.ensures.within.0,
+            c.skip_blank-place.ensures.blank.forward,
+          );
+      within = c.skip_blank-place.ensures.within;
+      gathered =
+          one_put (R.more_variants false) c.args.ptr (R.more_variants old.starred) _ (put_variants old.variants.items) _
+          (variants (variant_view (λ s. s) new)) old.place _ old.invariant.gathered
+          (put_added _ _ new c.in_ok-push-in-Some.ensures.items)
+          (λ more end h. rw (view-Variant (λ x. x) new)
+          (into_more_variants c.args.edition c.args.self.now.bytes.now c.loop-starred.starred _ _
+          (goes_on c.take_byte_if-star.ensures.meets
+          (goes_on (second (one_false _ _ c.else-starred.either) given)
+          (goes_on c.take_byte_if-bracket.ensures.meets
+          (first c.if-not-bracket.false
+          (goes_on (passed c.skip_blank-start.ensures.blank)
+          (goes_on c.in_ok-key.ensures.meets
+          (goes_on (passed c.skip_blank-next.ensures.blank)
+          (goes_on c.in_ok-next.ensures.meets
+          (goes_on value
+          (goes_on (passed c.skip_blank-place.ensures.blank)
+          (goes_on h
+          given)))))))))))))
+          (λ k from to h.
+          into_more_variants c.args.edition c.args.self.now.bytes.now c.loop-starred.starred _ _
+          (goes_on c.take_byte_if-star.ensures.meets
+          (goes_on (second (one_false _ _ c.else-starred.either) given)
+          (goes_on c.take_byte_if-bracket.ensures.meets
+          (first c.if-not-bracket.false
+          (goes_on (passed c.skip_blank-start.ensures.blank)
+          (goes_on c.in_ok-key.ensures.meets
+          (goes_on (passed c.skip_blank-next.ensures.blank)
+          (goes_on c.in_ok-next.ensures.meets
+          (goes_on value
+          (goes_on (passed c.skip_blank-place.ensures.blank)
+          (stops h))))))))))));
+    }
+
+-- ---- pieces
+
+pub get_pieces-returns-in-None-clause-meets : goal.get_pieces-returns-in-None-clause-meets
+get_pieces-returns-in-None-clause-meets m c =
+    let t = c.args.self.now.bytes.now in
+    gathers.all (family c.args.edition t).more_pieces piece_view c.args.ptr _ _ _ c.loop-pieces.invariant.gathered
+    (end_pieces c.args.edition t _
+    (sym c.in-None.ensures))
+
+pub get_pieces-returns-then-is_eol_at-clause-meets : goal.get_pieces-returns-then-is_eol_at-clause-meets
+get_pieces-returns-then-is_eol_at-clause-meets m c =
+    let t = c.args.self.now.bytes.now in
+    gathers.all (family c.args.edition t).more_pieces piece_view c.args.ptr _ _ _ c.loop-pieces.invariant.gathered
+    (no_pieces c.args.edition t _ _ (sym c.in-Some.ensures) (λ e. cc)
+    (sym c.if-is_eol_at.ensures))
+
+pub get_pieces-returns-then-byte-eq125-clause-meets : goal.get_pieces-returns-then-byte-eq125-clause-meets
+get_pieces-returns-then-byte-eq125-clause-meets m c =
+    let t = c.args.self.now.bytes.now in
+    λ k from to (a, b, d). rw (a, b, d)
+    (c.loop-pieces.invariant.gathered.refused _ _ _
+    (bare_brace c.args.edition t _ _ (sym c.in-Some.ensures) (sym c.if-is_eol_at.ensures) c.if-byte-eq125.true))
+
+pub get_pieces-returns-in_err-expression-in-Some-clause-meets :
+    goal.get_pieces-returns-in_err-expression-in-Some-clause-meets
+get_pieces-returns-in_err-expression-in-Some-clause-meets m c =
+    let t = c.args.self.now.bytes.now in
+    let p = err_from_is_err_and c.from_residual.result c.from_residual.ensures.1 in
+    rw (p.1, p.2) (λ k from to h.
+    c.loop-pieces.invariant.gathered.refused k from to
+    (placed_piece c.args.edition t _ _ (sym c.in-Some.ensures) (sym c.if-is_eol_at.ensures) c.if-byte-eq123.true _
+    (stops
+    (c.in_err-expression-in-Some.ensures.meets k from to h))))
+
+pub get_pieces-loop-pieces-preserved-then-byte-eq123 : goal.get_pieces-loop-pieces-preserved-then-byte-eq123
+get_pieces-loop-pieces-preserved-then-byte-eq123 m c =
+    let t = c.args.self.now.bytes.now in
+    let read = c.in_ok-expression-in-Some.ensures in
+    record {
+      forward = omega (arith, c.loop-pieces.invariant.forward, read.within.0);
+      within = read.within.1;
+      gathered =
+          gathers.one_more (family c.args.edition t).more_pieces piece_view c.args.ptr _ _ _ _ _
+          c.in_ok-push-in-Some.ensures.items c.loop-pieces.invariant.gathered
+          (λ more end h. placed_piece c.args.edition t _ _ (sym c.in-Some.ensures) (sym c.if-is_eol_at.ensures)
+          c.if-byte-eq123.true _
+          (goes_on read.meets
+          (goes_on h given)))
+          (λ k from to h. placed_piece c.args.edition t _ _ (sym c.in-Some.ensures) (sym c.if-is_eol_at.ensures)
+          c.if-byte-eq123.true _
+          (goes_on read.meets
+          (stops h)));
+    }
+
+pub get_pieces-loop-pieces-preserved : goal.get_pieces-loop-pieces-preserved
+get_pieces-loop-pieces-preserved m c =
+    let t = c.args.self.now.bytes.now in
+    let run = c.run_end-to.ensures.run in
+    record {
+      forward = omega (arith, c.loop-pieces.invariant.forward, run.forward);
+      within = c.run_end-to.ensures.within;
+      gathered =
+          gathers.one_more (family c.args.edition t).more_pieces piece_view c.args.ptr _ _ _ _ _
+          c.in_ok-push-in-Some-2.ensures.items c.loop-pieces.invariant.gathered
+          (λ more end h. run_piece c.args.edition t _ _ (sym c.in-Some.ensures) (sym c.if-is_eol_at.ensures)
+          c.if-byte-eq125.false c.if-byte-eq123.false _
+          (goes_on at_place
+          (goes_on (passed run)
+          (goes_on at_place
+          (goes_on h given)))))
+          (λ k from to h. run_piece c.args.edition t _ _ (sym c.in-Some.ensures) (sym c.if-is_eol_at.ensures)
+          c.if-byte-eq125.false c.if-byte-eq123.false _
+          (goes_on at_place
+          (goes_on (passed run)
+          (goes_on at_place
+          (stops h)))));
+    }
+
+-- ---- lines
+
+pub get_lines-returns-in-None-clause-meets : goal.get_lines-returns-in-None-clause-meets
+get_lines-returns-in-None-clause-meets m c =
+    let t = c.args.self.now.bytes.now in
+    gathers.all (family c.args.edition t).more_lines line_view c.args.ptr _ _ _ c.loop-lines.invariant.gathered
+    (into_more_lines c.args.edition t _ _
+    (no_byte c.skip_blank_inline-first.ensures.blank
+    (sym c.in-None.ensures)))
+
+pub get_lines-returns-then-not-belongs-clause-meets : goal.get_lines-returns-then-not-belongs-clause-meets
+get_lines-returns-then-not-belongs-clause-meets m c =
+    let t = c.args.self.now.bytes.now in
+    gathers.all (family c.args.edition t).more_lines line_view c.args.ptr _ _ _ c.loop-lines.invariant.gathered
+    (into_more_lines c.args.edition t _ _
+    (other_line c.skip_blank_inline-first.ensures.blank (sym c.in-Some.ensures)
+    (sym c.if-not-belongs.ensures)))
+
+pub get_lines-returns-in_err-pieces-in-Some-clause-meets : goal.get_lines-returns-in_err-pieces-in-Some-clause-meets
+get_lines-returns-in_err-pieces-in-Some-clause-meets m c =
+    let t = c.args.self.now.bytes.now in
+    let p = err_from_is_err_and c.from_residual.result c.from_residual.ensures.1 in
+    let blank = c.skip_blank_inline-first.ensures.blank in
+    rw (p.1, p.2) (λ k from to h.
+    c.loop-lines.invariant.gathered.refused k from to
+    (own_lines c.args.edition t _ _ _ blank (sym c.in-Some.ensures) (sym c.if-not-belongs.ensures) _
+    (stops
+    (goes_on at_place
+    (goes_on (passed blank)
+    (goes_on at_place
+    (stops
+    (c.in_err-pieces-in-Some.ensures.meets k from to h))))))))
+
+pub get_lines-returns-in-None-eol_end-clause-meets : goal.get_lines-returns-in-None-eol_end-clause-meets
+get_lines-returns-in-None-eol_end-clause-meets m c =
+    let t = c.args.self.now.bytes.now in
+    let list = (family c.args.edition t).more_lines in
+    let blank = c.skip_blank_inline-first.ensures.blank in
+    let pieces = c.in_ok-pieces-in-Some.ensures in
+    let none = sym c.in-None-eol_end.ensures.eol in
+    let read = line_read c.args.edition t _ _ _ blank (sym c.in-Some.ensures) (sym c.if-not-belongs.ensures) _ _ _ _
+    pieces.meets
+    (ends_text t _ none) in
+    let gathered = gathers.one_more list line_view c.args.ptr _ _ _ _ _ c.in_ok-push-in-None-eol_end.ensures.items
+    c.loop-lines.invariant.gathered
+    (λ more end h. own_lines c.args.edition t _ _ _ blank (sym c.in-Some.ensures) (sym c.if-not-belongs.ensures) _
+    (goes_on read
+    (goes_on h given)))
+    (λ k from to h. own_lines c.args.edition t _ _ _ blank (sym c.in-Some.ensures) (sym c.if-not-belongs.ensures) _
+    (goes_on read
+    (stops h))) in
+    gathers.all list line_view c.args.ptr _ _ _ gathered
+    (no_lines c.args.edition t _
+    (pieces.stops
+    (eol_none t _ none)))
+
+pub get_lines-loop-lines-preserved : goal.get_lines-loop-lines-preserved
+get_lines-loop-lines-preserved m c =
+    let t = c.args.self.now.bytes.now in
+    let list = (family c.args.edition t).more_lines in
+    let blank = c.skip_blank_inline-first.ensures.blank in
+    let pieces = c.in_ok-pieces-in-Some.ensures in
+    let eol = c.in-Some-eol_end.ensures in
+    let read = line_read c.args.edition t _ _ _ blank (sym c.in-Some.ensures) (sym c.if-not-belongs.ensures) _ _ _ _
+    pieces.meets
+    (ends_line t _ _
+    (sym eol.eol)) in
+    record {
+      forward = omega (arith, c.loop-lines.invariant.forward, blank.forward, pieces.within.0, eol.within.0);
+      within = eol.within.1;
+      gathered =
+          gathers.one_more list line_view c.args.ptr _ _ _ _ _ c.in_ok-push-in-Some-eol_end.ensures.items
+          c.loop-lines.invariant.gathered
+          (λ more end h. rw c.ending_at-ending.ensures
+          (own_lines c.args.edition t _ _ _ blank (sym c.in-Some.ensures) (sym c.if-not-belongs.ensures) _
+          (goes_on read
+          (goes_on h given))))
+          (λ k from to h. own_lines c.args.edition t _ _ _ blank (sym c.in-Some.ensures) (sym c.if-not-belongs.ensures)
+          _
+          (goes_on read
+          (stops h)));
+    }
+
+pub get_expression-skip_blank_inline-ptr-requires : goal.get_expression-skip_blank_inline-ptr-requires
+get_expression-skip_blank_inline-ptr-requires m c =
+    let t = c.args.self.now.bytes.now in
+    let i = c.skip_blank-ptr.result in
+    let mark = right_true _ _ (sym c.if-not-is_arrow.ensures) in
+    let inside = byte_inside (λ b. b == greater_than) t (i + 1) (slice_get t (i + 1)) refl mark in
+    omega (arith, inside)

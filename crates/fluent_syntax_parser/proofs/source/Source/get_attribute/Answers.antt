@@ -1,0 +1,63 @@
+use Rattle.std.proofs.Common.{refl}
+use Rattle.std.proofs.lemmas.Result.{err_from_is_err_and}
+use Rattle.fluent_syntax_grammar.specs.Construct.{stops, goes_on, given, failed, passed}
+use Rattle.fluent_syntax_parser.proofs.source.Source.get_attribute.Goals as goal
+
+pub returns-in_err-start-clause-meets : goal.returns-in_err-start-clause-meets
+returns-in_err-start-clause-meets c =
+    let p = err_from_is_err_and c.from_residual.result c.from_residual.ensures.1 in
+    rw (p.1, p.2) (λ k from to h.
+    goes_on (passed c.skip_blank_inline-dot.ensures.blank)
+    (stops (c.in_err-start.ensures.meets k from to h)))
+
+pub returns-in_err-end-clause-meets : goal.returns-in_err-end-clause-meets
+returns-in_err-end-clause-meets c =
+    let p = err_from_is_err_and c.from_residual-in_err-end.result c.from_residual-in_err-end.ensures.1 in
+    rw (p.1, p.2) (λ k from to h.
+    goes_on (passed c.skip_blank_inline-dot.ensures.blank)
+    (goes_on c.in_ok-start.ensures.meets
+    (stops (c.in_err-end.ensures.meets k from to h))))
+
+pub returns-in_err-behind-clause-meets : goal.returns-in_err-behind-clause-meets
+returns-in_err-behind-clause-meets c =
+    let p = err_from_is_err_and c.from_residual-in_err-behind.result c.from_residual-in_err-behind.ensures.1 in
+    rw (p.1, p.2) (λ k from to h.
+    goes_on (passed c.skip_blank_inline-dot.ensures.blank)
+    (goes_on c.in_ok-start.ensures.meets
+    (goes_on c.in_ok-end.ensures.meets
+    (goes_on (passed c.skip_blank_inline-equals.ensures.blank)
+    (stops (c.in_err-behind.ensures.meets k from to h))))))
+
+pub returns-in_err-value-clause-meets : goal.returns-in_err-value-clause-meets
+returns-in_err-value-clause-meets c =
+    let p = err_from_is_err_and c.from_residual-in_err-value.result c.from_residual-in_err-value.ensures.1 in
+    rw (p.1, p.2) (λ k from to h.
+    goes_on (passed c.skip_blank_inline-dot.ensures.blank)
+    (goes_on c.in_ok-start.ensures.meets
+    (goes_on c.in_ok-end.ensures.meets
+    (goes_on (passed c.skip_blank_inline-equals.ensures.blank)
+    (goes_on c.in_ok-behind.ensures.meets
+    (stops (c.in_err-value.ensures.meets k from to h)))))))
+
+pub returns-in-Some-clause-meets : goal.returns-in-Some-clause-meets
+returns-in-Some-clause-meets c =
+    let value = rw c.in-Some.is at c.in_ok-value.ensures.meets in
+    goes_on (passed c.skip_blank_inline-dot.ensures.blank)
+    (goes_on c.in_ok-start.ensures.meets
+    (goes_on c.in_ok-end.ensures.meets
+    (goes_on (passed c.skip_blank_inline-equals.ensures.blank)
+    (goes_on c.in_ok-behind.ensures.meets
+    (goes_on value
+    given)))))
+
+pub returns-in-None-clause-meets : goal.returns-in-None-clause-meets
+returns-in-None-clause-meets c =
+    let value = rw c.in-None.is at c.in_ok-value.ensures.meets in
+    λ k from to (a, b, d). rw (a, b, d)
+    (goes_on (passed c.skip_blank_inline-dot.ensures.blank)
+    (goes_on c.in_ok-start.ensures.meets
+    (goes_on c.in_ok-end.ensures.meets
+    (goes_on (passed c.skip_blank_inline-equals.ensures.blank)
+    (goes_on c.in_ok-behind.ensures.meets
+    (goes_on value
+    (failed refl)))))))

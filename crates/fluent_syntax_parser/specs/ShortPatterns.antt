@@ -1,0 +1,20 @@
+-- Patterns of one line without placeable.
+use Rattle.std.specs.Prelude.{◌≡◌, ℕ, ◌+◌, List, length, Some, None}
+use Rattle.fluent_syntax_tree.specs.Tree.{PatternTree}
+use Rattle.fluent_syntax_tree.specs.declared.edition.Edition.{Edition}
+use Rattle.fluent_syntax_tree.specs.declared.spans.Span.{Span}
+use Rattle.fluent_syntax_grammar.specs.Construct.{Read}
+use Rattle.fluent_syntax_grammar.specs.Grammar.{pattern}
+use Rattle.fluent_syntax_grammar.specs.Places.{after_eol, InlineBlank}
+
+-- A line whose run ends at `to` ends there, and `next` is the next line's start: with LF, which the text takes in, with
+-- CRLF, or with the text.
+pub data EndsLine (t : List ℕ) (to : ℕ) : ℕ → ℕ → Type 0 where
+  with_lf : {next : ℕ} → after_eol t to ≡ Some next → next ≡ to + 1 → EndsLine t to next next
+  with_crlf : {next : ℕ} → after_eol t to ≡ Some next → (next ≡ to + 1 → ⊥) → EndsLine t to to next
+  with_text : after_eol t to ≡ None → to ≡ length t → EndsLine t to to to
+
+-- The pattern that opens with an inline blank up to the place is that one, and ends there.
+abbrev pub OpensAs : Edition → List ℕ → ℕ → PatternTree Span → ℕ → Type 0
+OpensAs edition t start value end =
+    (i : ℕ) → InlineBlank t i start → pattern edition t i (Read (Some value) end)

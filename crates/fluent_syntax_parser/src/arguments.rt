@@ -1,0 +1,153 @@
+//! Argument lists.
+ghost use Rattle.std.specs.Prelude.{◌≡◌, ◌-◌, ◌<◌, ◌≤◌, [], length, IfErr, IfOk};
+ghost use Rattle.fluent_syntax_tree.specs.Spans.{bytes_at};
+ghost use Rattle.fluent_syntax_tree.specs.View.{arguments_view, inline_view};
+ghost use Rattle.fluent_syntax_grammar.specs.Arguments.{argument_value, is_used, separator};
+ghost use Rattle.fluent_syntax_grammar.specs.Construct.{Read, at_each};
+ghost use Rattle.fluent_syntax_grammar.specs.Grammar.{call_arguments, family};
+ghost use Rattle.fluent_syntax_grammar.specs.Starts.{start};
+ghost use Rattle.fluent_syntax_parser.specs.Gathered.{maybe_view, names_in_order};
+ghost use Rattle.fluent_syntax_parser.specs.Meets.{Meets, NestsWithin};
+
+use crate::fault::{Fault, ReadFault, Refusal};
+use crate::forms::argument_name;
+use crate::source::Source;
+use crate::starts::Start;
+use fluent_syntax_tree::ast::{CallArguments, Identifier, InlineExpression, NamedArgument};
+use fluent_syntax_tree::edition::Edition;
+use fluent_syntax_tree::spans::Span;
+use std::alloc::Global;
+
+impl<'s> Source<'s> {
+    /// Whether a name is that of one of the arguments, by its bytes.
+    fn has_name(&self, named: &[NamedArgument<Span>], name: Span) -> bool
+        ensures { let t = self.now.bytes.now in
+            result ≡ is_used (bytes_at t name) (names_in_order t named.now) }
+    {
+        for other in named {
+            if self.bytes_of(name) == self.bytes_of(other.name.name) {
+                return true;
+            }
+        }
+        false
+    }
+
+    /// Passes over a blank, perhaps a comma, and a blank.
+    fn skip_separator(&self, ptr: usize) -> usize
+        requires { ptr ≤ length self.now.bytes.now }
+        ensures meets { separator self.now.bytes.now ptr (Read tt result) }
+        ensures within { (ptr ≤ result) × (result ≤ length self.now.bytes.now) }
+    {
+        let ptr = self.skip_blank(ptr);
+        let (_, ptr) = self.take_byte_if(b',', ptr);
+        self.skip_blank(ptr)
+    }
+
+    /// Reads the value of a named argument: a string, a number without `-`, a function or a message reference.
+    #[cycle(readers)]
+    fn get_argument_value(
+        &self,
+        alloc: Global,
+        edition: Edition,
+        nesting: usize,
+        ptr: usize,
+    ) -> Result<(InlineExpression<Span>, usize), ReadFault>
+        requires { ptr ≤ length self.now.bytes.now }
+        ensures meets { let t = self.now.bytes.now in
+            Meets t (at_each (start t) (argument_value t (family edition t))) (inline_view (λ s. s)) ptr result }
+        ensures within { IfOk result (λ read. (ptr < read.1) × (read.1 ≤ length self.now.bytes.now)) }
+        ensures nests { IfErr result (NestsWithin nesting (length self.now.bytes.now - ptr)) }
+    {
+        match self.start(ptr) {
+            Start::Quote | Start::Digit | Start::Letter => {
+                let (value, end) = self.get_inline_expression(alloc, edition, nesting, ptr)?;
+                Ok((value, end))
+            }
+            _ => Err(ReadFault::Refused(Refusal {
+                fault: Fault::Literal,
+                place: ptr,
+            })),
+        }
+    }
+
+    /// Reads the rest of an argument list with its `)`, after the `(` and the blank there.
+    #[cycle(readers)]
+    fn get_arguments(
+        &self,
+        alloc: Global,
+        edition: Edition,
+        nesting: usize,
+        ptr: usize,
+    ) -> Result<(CallArguments<Span>, usize), ReadFault>
+        requires { ptr ≤ length self.now.bytes.now }
+        ensures meets { let t = self.now.bytes.now in
+            Meets t ((family edition t).more_arguments []) (arguments_view (λ s. s)) ptr result }
+        ensures within { IfOk result (λ read. (ptr < read.1) × (read.1 ≤ length self.now.bytes.now)) }
+        ensures nests { IfErr result (NestsWithin nesting (length self.now.bytes.now - ptr)) }
+    {
+        let mut positional = Vec::new(alloc);
+        let mut named = Vec::new(alloc);
+        let mut place = ptr;
+        while !self.is_byte_at(b')', place) {
+            if place == self.bytes.len() {
+                return Err(ReadFault::Refused(Refusal {
+                    fault: Fault::Token(b')'),
+                    place,
+                }));
+            }
+            let (expression, next) = self.get_inline_expression(alloc, edition, nesting, place)?;
+            match argument_name(&expression) {
+                Some(name) if self.is_byte_at(b':', next) => {
+                    if self.has_name(&named, name) {
+                        let fault = Fault::Duplicated(name);
+                        return Err(ReadFault::Refused(Refusal { fault, place: next }));
+                    }
+                    let start = self.skip_blank(next + 1);
+                    let (value, end) = self.get_argument_value(alloc, edition, nesting, start)?;
+                    named.push(NamedArgument {
+                        name: Identifier { name },
+                        value,
+                    })?;
+                    place = self.skip_separator(end);
+                }
+                _ => {
+                    if !named.is_empty() {
+                        let fault = Fault::PositionalAfterNamed;
+                        return Err(ReadFault::Refused(Refusal { fault, place: next }));
+                    }
+                    positional.push(expression)?;
+                    place = self.skip_separator(next);
+                }
+            }
+        }
+        Ok((CallArguments { positional, named }, place + 1))
+    }
+
+    /// Reads a blank and, if `(` follows, the arguments up to `)`.
+    #[cycle(readers)]
+    pub(crate) fn get_call_arguments(
+        &self,
+        alloc: Global,
+        edition: Edition,
+        nesting: usize,
+        ptr: usize,
+    ) -> Result<(Option<CallArguments<Span>>, usize), ReadFault>
+        requires { ptr ≤ length self.now.bytes.now }
+        ensures meets { let t = self.now.bytes.now in
+            Meets t (call_arguments edition t) maybe_view ptr result }
+        ensures within { IfOk result (λ read. (ptr ≤ read.1) × (read.1 ≤ length self.now.bytes.now)) }
+        ensures nests { IfErr result (NestsWithin nesting (length self.now.bytes.now - ptr)) }
+    {
+        let start = self.skip_blank(ptr);
+        let (bracket, start) = self.take_byte_if(b'(', start);
+        if !bracket {
+            return Ok((None, start));
+        }
+        if nesting == 0 {
+            return Err(ReadFault::TooDeep);
+        }
+        let start = self.skip_blank(start);
+        let (arguments, end) = self.get_arguments(alloc, edition, nesting - 1, start)?;
+        Ok((Some(arguments), end))
+    }
+}

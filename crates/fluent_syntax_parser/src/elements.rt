@@ -1,0 +1,150 @@
+//! The items that the lines of a pattern spell.
+ghost use Rattle.std.specs.Prelude.{◌≡◌, ◌+◌, ◌<◌, ◌^◌, ◌++◌, map, IfOk, OnOk};
+ghost use Rattle.fluent_syntax_grammar.specs.Elements.{line_items, with_ending};
+ghost use Rattle.fluent_syntax_parser.specs.Elements.{item_view, items_with, kept_place, layout_view, leading};
+ghost use Rattle.fluent_syntax_parser.specs.Endings.{EndsWithin};
+ghost use Rattle.fluent_syntax_parser.specs.Lines.{ending_view, line_view, piece_view};
+
+use crate::line::{Ending, Line, Piece};
+use fluent_syntax_tree::ast::Expression;
+use fluent_syntax_tree::edition::Edition;
+use fluent_syntax_tree::spans::Span;
+use std::alloc::{AllocError, Global};
+
+/// An element before the tail is cut.
+#[derive(Drop)]
+pub(crate) enum Item {
+    Text { from: usize, to: usize },
+    Filled { expression: Expression<Span> },
+}
+
+/// The source of a pattern: the line on which it opens, if something stands there, and the later lines.
+#[derive(Drop)]
+pub(crate) struct Layout {
+    pub(crate) opening: Option<Line>,
+    pub(crate) lines: Vec<Line>,
+}
+
+/// Adds the pieces of a line and its ending. A run that begins the line begins at `led`, if that is given.
+fn add_pieces(
+    led: Option<usize>,
+    pieces: Vec<Piece>,
+    ending: Ending,
+    items: &mut Vec<Item>,
+) -> Result<(), AllocError>
+    requires { EndsWithin ending }
+    ensures { let found = leading led (map piece_view pieces.items) in
+        OnOk result (map item_view items.new.items
+        ≡ map item_view items.old.items ++ with_ending found (ending_view ending)) }
+{
+    let mut led = led;
+    let mut pending = None;
+    for piece in pieces {
+        if let Some((from, to)) = pending {
+            items.push(Item::Text { from, to })?;
+        }
+        pending = match piece {
+            Piece::Run { from, to } => Some((led.unwrap_or(from), to)),
+            Piece::Placed { expression } => {
+                items.push(Item::Filled { expression })?;
+                None
+            }
+        };
+        led = None;
+    }
+    match (pending, ending) {
+        (Some((from, _)), Ending::Lf(place)) => items.push(Item::Text {
+            from,
+            to: place + 1,
+        })?,
+        (None, Ending::Lf(place)) => items.push(Item::Text {
+            from: place,
+            to: place + 1,
+        })?,
+        (Some((from, to)), Ending::Crlf(place)) => {
+            items.push(Item::Text { from, to })?;
+            items.push(Item::Text {
+                from: place + 1,
+                to: place + 2,
+            })?;
+        }
+        (None, Ending::Crlf(place)) => items.push(Item::Text {
+            from: place + 1,
+            to: place + 2,
+        })?,
+        (Some((from, to)), Ending::TextEnd) => items.push(Item::Text { from, to })?,
+        (None, Ending::TextEnd) => {}
+    }
+    Ok(())
+}
+
+/// Where the leading spaces of a line beyond the common indent begin.
+fn kept_from(common: Option<usize>, start: usize, spaces: usize) -> usize
+    requires { start + spaces < 2 ^ 64 }
+    ensures { result ≡ kept_place common start spaces }
+{
+    match common {
+        None => start + spaces,
+        Some(common) => start + spaces.min(common),
+    }
+}
+
+/// Adds a line that is not the opening line.
+fn add_line(
+    edition: Edition,
+    common: Option<usize>,
+    line: Line,
+    items: &mut Vec<Item>,
+) -> Result<(), AllocError>
+    requires spaces { line.start + line.spaces < 2 ^ 64 }
+    requires ending { EndsWithin line.ending }
+    ensures { OnOk result (map item_view items.new.items
+        ≡ map item_view items.old.items ++ line_items edition common (line_view line)) }
+{
+    let Line {
+        start,
+        spaces,
+        pieces,
+        ending,
+    } = line;
+    let kept = kept_from(common, start, spaces);
+    match (pieces.first(), ending) {
+        (None, Ending::Lf(place)) => {
+            items.push(Item::Text {
+                from: kept,
+                to: place + 1,
+            })?;
+            return Ok(());
+        }
+        (Some(Piece::Placed { .. }), _) => {
+            if edition == Edition::Two && kept < start + spaces {
+                items.push(Item::Text {
+                    from: kept,
+                    to: start + spaces,
+                })?;
+            }
+        }
+        _ => {}
+    }
+    add_pieces(Some(kept), pieces, ending, items)
+}
+
+/// The items of all lines, under a common indent.
+pub(crate) fn items_of(
+    alloc: Global,
+    edition: Edition,
+    common: Option<usize>,
+    layout: Layout,
+) -> Result<Vec<Item>, AllocError>
+    ensures { IfOk result (λ items. map item_view items.items ≡ items_with edition common (layout_view layout)) }
+{
+    let Layout { opening, lines } = layout;
+    let mut items = Vec::new(alloc);
+    if let Some(line) = opening {
+        add_pieces(None, line.pieces, line.ending, &mut items)?;
+    }
+    for line in lines {
+        add_line(edition, common, line, &mut items)?;
+    }
+    Ok(items)
+}

@@ -1,0 +1,32 @@
+//! A line of a pattern.
+ghost use Rattle.std.specs.Prelude.{◌+◌, ◌<◌, ◌^◌};
+ghost use Rattle.fluent_syntax_parser.specs.Endings.{EndsWithin};
+
+use fluent_syntax_tree::ast::Expression;
+use fluent_syntax_tree::spans::Span;
+
+/// A run of text, or a placeable.
+#[derive(Drop)]
+pub(crate) enum Piece {
+    Run { from: usize, to: usize },
+    Placed { expression: Expression<Span> },
+}
+
+/// How a line ends: LF or CRLF, which begins at the place, or the text's end.
+#[derive(Clone, Copy, Debug)]
+pub(crate) enum Ending {
+    Lf(usize),
+    Crlf(usize),
+    TextEnd,
+}
+
+/// A line of a pattern: its leading spaces, what follows them, and its ending.
+#[derive(Drop)]
+pub(crate) struct Line {
+    pub(crate) start: usize,
+    pub(crate) spaces: usize,
+    pub(crate) pieces: Vec<Piece>,
+    pub(crate) ending: Ending,
+    ghost fits: { start + spaces < 2 ^ 64 },
+    ghost ends: { EndsWithin ending },
+}

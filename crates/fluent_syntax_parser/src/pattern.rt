@@ -1,0 +1,166 @@
+//! Patterns.
+ghost use Rattle.std.specs.Prelude.{◌-◌, ◌≤◌, length, option_map, IfErr, IfOk, IfSome, []};
+ghost use Rattle.fluent_syntax_tree.specs.View.{pattern_view};
+ghost use Rattle.fluent_syntax_grammar.specs.Construct.{Read, at_each};
+ghost use Rattle.fluent_syntax_grammar.specs.Grammar.{family, pattern};
+ghost use Rattle.fluent_syntax_grammar.specs.Patterns.{layout_at};
+ghost use Rattle.fluent_syntax_grammar.specs.Places.{after_eol};
+ghost use Rattle.fluent_syntax_parser.specs.Elements.{layout_view};
+ghost use Rattle.fluent_syntax_parser.specs.Meets.{Meets, NestsWithin};
+ghost use Rattle.fluent_syntax_parser.specs.ShortPatterns.{EndsLine, OpensAs};
+
+use crate::elements::Layout;
+use crate::fault::ReadFault;
+use crate::line::Line;
+use crate::source::Source;
+use fluent_syntax_tree::ast::{Pattern, PatternElement};
+use fluent_syntax_tree::edition::Edition;
+use fluent_syntax_tree::spans::Span;
+use std::alloc::{AllocError, Global};
+
+impl<'s> Source<'s> {
+    /// Where a pattern ends that has no line from a line's start on.
+    fn end_without_lines(&self, edition: Edition, ptr: usize) -> Option<usize>
+        requires { ptr ≤ length self.now.bytes.now }
+        ensures lines { IfSome result (λ end. (family edition self.now.bytes.now).more_lines ptr (Read [] end)) }
+        ensures within { IfSome result (λ end. (ptr ≤ end) × (end ≤ length self.now.bytes.now)) }
+    {
+        let first = self.skip_blank_inline(ptr);
+        match self.byte_at(first) {
+            None => Some(first),
+            Some(byte) => {
+                if self.belongs(byte, first > ptr, first) {
+                    None
+                } else {
+                    Some(ptr)
+                }
+            }
+        }
+    }
+
+    /// Where a text ends whose line ends at a place, with the LF there, and where the next line begins. `None`,
+    /// where no line ends there.
+    fn line_ending(&self, to: usize) -> Option<(usize, usize)>
+        requires { to ≤ length self.now.bytes.now }
+        ensures ending { IfSome result (λ read. EndsLine self.now.bytes.now to read.0 read.1) }
+        ensures within { IfSome result
+            (λ read. (to ≤ read.0) × (read.0 ≤ read.1) × (read.1 ≤ length self.now.bytes.now)) }
+    {
+        match self.eol_end(to) {
+            Some(next) => {
+                if next == to + 1 {
+                    Some((next, next))
+                } else {
+                    Some((to, next))
+                }
+            }
+            None => {
+                if to == self.bytes.len() {
+                    Some((to, to))
+                } else {
+                    None
+                }
+            }
+        }
+    }
+
+    /// Reads a pattern of one line without placeable, after the inline blank that opens it, if that stands there.
+    fn get_short_pattern(
+        &self,
+        alloc: Global,
+        edition: Edition,
+        start: usize,
+    ) -> Result<Option<(Pattern<Span>, usize)>, AllocError>
+        requires { start ≤ length self.now.bytes.now }
+        ensures opens { IfOk result (λ short. IfSome short
+            (λ read. OpensAs edition self.now.bytes.now start (pattern_view (λ s. s) read.0) read.1)) }
+        ensures within { IfOk result (λ short. IfSome short
+            (λ read. (start ≤ read.1) × (read.1 ≤ length self.now.bytes.now))) }
+    {
+        let to = self.run_end(start);
+        if start < to {
+            if let Some((text_end, next)) = self.line_ending(to) {
+                if let Some(end) = self.end_without_lines(edition, next) {
+                    let value = Span {
+                        start,
+                        end: self.trimmed_end(start, text_end),
+                    };
+                    let mut elements = Vec::with_capacity(alloc, 1)?;
+                    elements.push(PatternElement::TextElement { value })?;
+                    return Ok(Some((Pattern { elements }, end)));
+                }
+            }
+        }
+        Ok(None)
+    }
+
+    /// Reads the layout of a pattern, after the inline blank that opens it.
+    #[cycle(readers)]
+    fn get_layout(
+        &self,
+        alloc: Global,
+        edition: Edition,
+        nesting: usize,
+        ptr: usize,
+    ) -> Result<(Layout, usize), ReadFault>
+        requires { ptr ≤ length self.now.bytes.now }
+        ensures meets { let t = self.now.bytes.now in
+            Meets t (at_each (after_eol t) (layout_at t (family edition t))) layout_view ptr result }
+        ensures within { IfOk result (λ read. (ptr ≤ read.1) × (read.1 ≤ length self.now.bytes.now)) }
+        ensures nests { IfErr result (NestsWithin nesting (length self.now.bytes.now - ptr)) }
+    {
+        match self.eol_end(ptr) {
+            Some(next) => {
+                let first = self.skip_blank_block(next);
+                let (lines, end) = self.get_lines(alloc, edition, nesting, first)?;
+                Ok((
+                    Layout {
+                        opening: None,
+                        lines,
+                    },
+                    end,
+                ))
+            }
+            None => {
+                let (pieces, end) = self.get_pieces(alloc, edition, nesting, ptr)?;
+                let (ending, next) = self.get_ending(end);
+                let (lines, end) = self.get_lines(alloc, edition, nesting, next)?;
+                let opening = Some(Line {
+                    start: ptr,
+                    spaces: 0,
+                    pieces,
+                    ending,
+                });
+                Ok((Layout { opening, lines }, end))
+            }
+        }
+    }
+
+    /// Reads a pattern, if one stands there. That of one line without placeable is read by itself, and takes one
+    /// allocation.
+    #[cycle(readers)]
+    pub(crate) fn get_pattern(
+        &self,
+        alloc: Global,
+        edition: Edition,
+        nesting: usize,
+        ptr: usize,
+    ) -> Result<(Option<Pattern<Span>>, usize), ReadFault>
+        requires { ptr ≤ length self.now.bytes.now }
+        ensures meets { let t = self.now.bytes.now in
+            Meets t (pattern edition t) (option_map (pattern_view (λ s. s))) ptr result }
+        ensures within { IfOk result (λ read. (ptr ≤ read.1) × (read.1 ≤ length self.now.bytes.now)) }
+        ensures nests { IfErr result (NestsWithin nesting (length self.now.bytes.now - ptr)) }
+    {
+        let start = self.skip_blank_inline(ptr);
+        let short = self.get_short_pattern(alloc, edition, start)?;
+        match short {
+            Some((pattern, end)) => Ok((Some(pattern), end)),
+            None => {
+                let (layout, end) = self.get_layout(alloc, edition, nesting, start)?;
+                let pattern = self.pattern_of(alloc, edition, layout)?;
+                Ok((pattern, end))
+            }
+        }
+    }
+}
