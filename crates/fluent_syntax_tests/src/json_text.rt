@@ -1,6 +1,6 @@
 //! JSON text that is written without a value.
 
-use crate::json::FORMS;
+use crate::json::{FORMS, tree};
 use fluent_syntax::ast::{Entry, Resource};
 use fluent_syntax::parser::{ParseFault, Slice, parse};
 use fluent_syntax_json::{to_value, write_to};
@@ -30,8 +30,8 @@ fn json_text<'s, S: Slice<'s>>(alloc: Global, tree: &Resource<S>) -> Result<Stri
     }
 }
 
-/// The tree of a text, whether it has errors or not.
-fn tree<'s, S: Slice<'s>>(alloc: Global, text: S) -> Result<Resource<S>, Fail> {
+/// The tree of a text that is lent, whether it has errors or not.
+fn lent_tree(alloc: Global, text: &'static str) -> Result<Resource<&'static str>, Fail> {
     match parse(alloc, text) {
         Ok(tree) => Ok(tree),
         Err(ParseFault::Syntax(tree, _)) => Ok(tree),
@@ -51,9 +51,9 @@ fn texts_of_forms(rt: HostRuntime) -> Result<(), Fail> {
     let alloc = rt.alloc();
     for (what, text, form) in FORMS {
         let sorted = Value::from_str(alloc, form)?.to_string(alloc)?;
-        let borrowed = json_text(alloc, &tree(alloc, text)?)?;
+        let borrowed = json_text(alloc, &lent_tree(alloc, text)?)?;
         assert_eq!(rt; borrowed.as_str(), sorted.as_str(), "{what}");
-        let owned = tree(alloc, String::from_str(alloc, text)?)?;
+        let owned = tree(alloc, text)?;
         assert_eq!(rt;
             json_text(alloc, &owned)?,
             to_value(alloc, &owned)?.to_string(alloc)?,
@@ -77,27 +77,23 @@ fn quoted_texts(rt: HostRuntime) -> Result<(), Fail> {
     Ok(())
 }
 
-/// Each character of ASCII, alone and between others.
+/// Each character of ASCII, alone and after those before it.
 #[test]
 fn characters_as_serde_json_writes_them(rt: HostRuntime) -> Result<(), Fail> {
     let alloc = rt.alloc();
-    let mut text = String::new(alloc);
+    let mut all = String::new(alloc);
     for byte in 0..128u8 {
-        text.push(char::from(byte))?;
-        let alone = junk(
-            alloc,
-            String::from_str(alloc, &text.as_str()[byte as usize..])?,
-        )?;
-        assert_eq!(rt;
-            json_text(alloc, &alone)?,
-            to_value(alloc, &alone)?.to_string(alloc)?,
-            "{byte}"
-        );
+        let mut one = String::new(alloc);
+        one.push(char::from(byte))?;
+        all.push(char::from(byte))?;
+        for text in [one, all.clone()?] {
+            let tree = junk(alloc, text)?;
+            assert_eq!(rt;
+                json_text(alloc, &tree)?,
+                to_value(alloc, &tree)?.to_string(alloc)?,
+                "{byte}"
+            );
+        }
     }
-    let all = junk(alloc, text)?;
-    assert_eq!(rt;
-        json_text(alloc, &all)?,
-        to_value(alloc, &all)?.to_string(alloc)?
-    );
     Ok(())
 }
