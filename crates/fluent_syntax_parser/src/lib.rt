@@ -29,6 +29,8 @@ mod spans;
 mod starts;
 mod strings;
 mod tails;
+#[cfg(test)]
+mod tests;
 mod tile;
 mod variants;
 mod words;
