@@ -1,5 +1,5 @@
 -- What `Format` answers for texts that it answered.
-use Rattle.std.proofs.Common.{◌≡◌, List, [], ◌∷◌, true, false, refl, sym, ap, ◌∙◌, subst}
+use Rattle.std.proofs.Common.{◌≡◌, List, [], ◌∷◌, false, refl, sym, ap, ◌∙◌, subst}
 use Rattle.fluent_syntax_tree.specs.Entry.{message, term, comment, junk, BodyTree}
 use Rattle.fluent_syntax_tree.specs.declared.edition.Edition.TheVariants.{One}
 use Rattle.fluent_syntax_grammar.specs.Body.{faults}
