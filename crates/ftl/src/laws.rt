@@ -7,9 +7,8 @@ ghost use Rattle.ftl.specs.Formatted.{FormatsAgain};
 /// that does not end in LF.
 ///
 /// Where the joined tree is canonical, the formatted text has no error and reads as the joined tree: it has the same
-/// messages and terms in the same order. Formatted again it is the text of the joined tree; that is the same text where
-/// the first had no error, and else differs at most in the line end before a comment that followed junk. Formatting
-/// once more changes nothing.
+/// messages and terms in the same order. Formatted again it is the text of the joined tree, and that is the same text
+/// where the first had no error. Formatting once more changes nothing.
 pub fn formats_again(text: &[u8])
     ensures { FormatsAgain text.now }
 {}
