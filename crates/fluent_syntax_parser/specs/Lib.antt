@@ -5,6 +5,7 @@ pub mod Endings
 pub mod Faults
 pub mod Fields
 pub mod Gathered
+pub mod Halts
 pub mod Lines
 pub mod Meets
 pub mod Parts

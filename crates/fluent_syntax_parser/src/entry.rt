@@ -1,8 +1,8 @@
 //! Entries.
-ghost use Rattle.std.specs.Prelude.{◌<◌, ◌≤◌, length, IfOk};
+ghost use Rattle.std.specs.Prelude.{◌-◌, ◌<◌, ◌≤◌, length, IfErr, IfOk};
 ghost use Rattle.fluent_syntax_tree.specs.View.{entry_view};
 ghost use Rattle.fluent_syntax_grammar.specs.Tiling.{entry_at};
-ghost use Rattle.fluent_syntax_parser.specs.Meets.{Meets};
+ghost use Rattle.fluent_syntax_parser.specs.Meets.{Meets, NestsWithin};
 
 use crate::fault::ReadFault;
 use crate::options::Options;
@@ -23,6 +23,7 @@ impl<'s> Source<'s> {
         ensures meets { let t = self.now.bytes.now in
             Meets t (entry_at options.edition t) (entry_view (λ s. s)) start result }
         ensures within { IfOk result (λ read. (start < read.1) × (read.1 ≤ length self.now.bytes.now)) }
+        ensures nests { IfErr result (NestsWithin options.nesting (length self.now.bytes.now - start)) }
     {
         if self.is_byte_at(b'#', start) {
             self.get_comment(alloc, start)

@@ -1,10 +1,11 @@
 //! The next entry of a text.
-ghost use Rattle.std.specs.Prelude.{◌≡◌, ◌<◌, ◌≤◌, length, IfOk, IfSome, None, Ok, false, true, List, Option};
+ghost use Rattle.std.specs.Prelude.{◌≡◌, ◌-◌, ◌<◌, ◌≤◌, length, IfErr, IfOk, IfSome, None, Ok, false, true, List, Option};
 ghost use Rattle.fluent_syntax_tree.specs.Entry.{BodyTree};
 ghost use Rattle.fluent_syntax_tree.specs.declared.edition.Edition.{Edition};
 ghost use Rattle.fluent_syntax_grammar.specs.Bytes.{hash};
 ghost use Rattle.fluent_syntax_grammar.specs.Places.{BlankBlock, has_byte};
 ghost use Rattle.fluent_syntax_grammar.specs.Tiling.{Fault};
+ghost use Rattle.fluent_syntax_parser.specs.Halts.{HaltsWithin};
 ghost use Rattle.fluent_syntax_parser.specs.Rest.{Next, Rest, RestAt, are_dropped};
 
 use crate::options::{Comments, Halt, Options};
@@ -57,6 +58,7 @@ impl<'s> Source<'s> {
         ensures blank { let t = self.now.bytes.now in BlankBlock t ptr (length t) → result ≡ Ok None }
         ensures within { let t = self.now.bytes.now in
             IfOk result (λ found. IfSome found (λ read. (ptr < read.2) × (read.2 ≤ length t))) }
+        ensures nests { IfErr result (HaltsWithin options.nesting (length self.now.bytes.now - ptr)) }
     {
         let start = self.tile_start(options.comments, ptr);
         if start == self.bytes.len() {

@@ -30,12 +30,22 @@ pub enum Halt {
 }
 
 impl From<AllocError> for Halt {
+    ghost use Rattle.fluent_syntax_parser.specs.declared.options.Halt.TheVariants.{Memory};
+    ghost use Rattle.std.specs.Prelude.{◌≡◌};
+
+    ghost from_gives = { λ _ halt. halt ≡ Memory };
+
     fn from(_error: AllocError) -> Self {
         Halt::Memory
     }
 }
 
 impl<T: Drop> From<AllocFailed<T>> for Halt {
+    ghost use Rattle.fluent_syntax_parser.specs.declared.options.Halt.TheVariants.{Memory};
+    ghost use Rattle.std.specs.Prelude.{◌≡◌};
+
+    ghost from_gives = { λ _ halt. halt ≡ Memory };
+
     fn from(_error: AllocFailed<T>) -> Self {
         Halt::Memory
     }

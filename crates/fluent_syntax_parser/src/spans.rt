@@ -1,10 +1,11 @@
 //! Whole texts.
-ghost use Rattle.std.specs.Prelude.{◌≡◌, ◌+◌, ◌++◌, ◌<◌, ◌^◌, [], length, map, List, IfOk, IsOk, IsOkAnd, OnOk, Some};
+ghost use Rattle.std.specs.Prelude.{◌≡◌, ◌+◌, ◌++◌, ◌<◌, ◌^◌, [], length, map, List, IfErr, IfOk, IsOk, IsOkAnd, OnOk, Some};
 ghost use Rattle.fluent_syntax_grammar.specs.Body as bodies;
 ghost use Rattle.fluent_syntax_grammar.specs.Places.{BlankBlock};
 ghost use Rattle.fluent_syntax_grammar.specs.Tiling.{Tile};
 ghost use Rattle.fluent_syntax_parser.specs.Answers.{Answers, AnswersIn, AnswersRuntimeSpans, AnswersSpans, ErrorsInText};
 ghost use Rattle.fluent_syntax_parser.specs.Faults.{fault_of};
+ghost use Rattle.fluent_syntax_parser.specs.Halts.{HaltsWithin};
 ghost use Rattle.fluent_syntax_parser.specs.Parts.{HasParts};
 ghost use Rattle.fluent_syntax_parser.specs.Rest.{Rest, faults_of, tree_of};
 
@@ -55,6 +56,7 @@ impl<'s> Source<'s> {
             Rest options.comments options.edition t 0 (map tree_of read.0.items) (map fault_of read.1.items)) }
         ensures blank { let t = self.now.bytes.now in
             BlankBlock t 0 (length t) → IsOkAnd result (λ read. read.1.items ≡ []) }
+        ensures nests { IfErr result (HaltsWithin options.nesting (length self.now.bytes.now)) }
     {
         let mut body = Vec::new(alloc);
         let mut errors = Vec::new(alloc);

@@ -1,8 +1,9 @@
 //! Entries and junk, each with the comment that hangs on it.
-ghost use Rattle.std.specs.Prelude.{◌≡◌, ◌<◌, ◌≤◌, length, IfErr, IfOk, None, Some, false};
+ghost use Rattle.std.specs.Prelude.{◌≡◌, ◌-◌, ◌<◌, ◌≤◌, length, IfErr, IfOk, None, Some, false};
 ghost use Rattle.fluent_syntax_tree.specs.Entry.{comment, regular};
 ghost use Rattle.fluent_syntax_tree.specs.View.{comment_view};
 ghost use Rattle.fluent_syntax_grammar.specs.Body as bodies;
+ghost use Rattle.fluent_syntax_parser.specs.Halts.{HaltsWithin};
 ghost use Rattle.fluent_syntax_parser.specs.Rest.{GivesTile, Hangs, may_hang, tree_of};
 
 use crate::fault::ReadFault;
@@ -56,6 +57,7 @@ impl<'s> Source<'s> {
         ensures gives { let t = self.now.bytes.now in
             IfOk result (λ read. GivesTile options.edition t start read.2 read.0 read.1) }
         ensures within { IfOk result (λ read. (start < read.2) × (read.2 ≤ length self.now.bytes.now)) }
+        ensures nests { IfErr result (HaltsWithin options.nesting (length self.now.bytes.now - start)) }
     {
         match self.get_entry(alloc, options, start) {
             Ok((entry, end)) => Ok((entry, None, end)),
@@ -83,6 +85,7 @@ impl<'s> Source<'s> {
         ensures hangs { let t = self.now.bytes.now in
             IfOk result (λ read. Hangs options.edition t (comment_view (λ s. s) comment) ptr read.0 read.1) }
         ensures within { IfOk result (λ read. (ptr ≤ read.1) × (read.1 ≤ length self.now.bytes.now)) }
+        ensures nests { IfErr result (HaltsWithin options.nesting (length self.now.bytes.now - ptr)) }
     {
         if self.is_byte_at(b'#', ptr) || self.skip_blank_block(ptr) != ptr {
             return Ok((Entry::Comment(comment), ptr));

@@ -1,0 +1,8 @@
+-- How deeply a text nests where reading it stops.
+use Rattle.std.specs.Prelude.{◌≡◌, ℕ, ◌<◌}
+use Rattle.fluent_syntax_parser.specs.declared.options.Halt.{Halt}
+use Rattle.fluent_syntax_parser.specs.declared.options.Halt.TheVariants.{TooDeep}
+
+-- It nests too deeply only where more bytes are left than it may nest.
+abbrev pub HaltsWithin : (nesting left : ℕ) → Halt → Type 0
+HaltsWithin nesting left halt = halt ≡ TooDeep → nesting < left
