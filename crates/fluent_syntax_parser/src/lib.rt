@@ -29,8 +29,6 @@ mod spans;
 mod starts;
 mod strings;
 mod tails;
-#[cfg(test)]
-mod tests;
 mod tile;
 mod variants;
 mod words;

@@ -10,6 +10,8 @@ mod ends;
 #[cfg(test)]
 mod entries;
 #[cfg(test)]
+mod entries_one_by_one;
+#[cfg(test)]
 mod errors;
 #[cfg(test)]
 mod json;

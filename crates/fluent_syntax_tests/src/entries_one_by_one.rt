@@ -1,9 +1,11 @@
 //! Texts, what is read of them, and their errors.
 
-use crate::entries::Entries;
-use crate::fault::ParseFault;
-use crate::options::{Comments, Options};
-use crate::{parse_runtime_spans, parse_runtime_spans_edition, parse_spans, parse_spans_edition};
+use fluent_syntax_parser::entries::Entries;
+use fluent_syntax_parser::fault::ParseFault;
+use fluent_syntax_parser::options::{Comments, Options};
+use fluent_syntax_parser::{
+    parse_runtime_spans, parse_runtime_spans_edition, parse_spans, parse_spans_edition,
+};
 use fluent_syntax_tree::ast::{Comment, Entry, Resource};
 use fluent_syntax_tree::edition::Edition;
 use fluent_syntax_tree::errors::ParserError;
