@@ -2,7 +2,7 @@
 
 use crate::outline::outline;
 use fluent_syntax::ast::*;
-use fluent_syntax::laws::{reads_back, reads_readable, reparse, same_texts};
+use fluent_syntax::laws::{joined, reads_back, reads_readable, reparse, same_texts};
 use fluent_syntax::parser::{ParseFault, parse};
 use std::alloc::{AllocError, Global};
 use std::test::Fail;
@@ -79,6 +79,30 @@ const OTHER: [(&str, Text, &str); 8] = [
     ),
 ];
 
+/// What it shows, the text, and the outline of its joined tree.
+const JOINED: [(&str, Text, &str); 4] = [
+    (
+        "in a value, and only to a text that does not end in LF",
+        "key = a\r\n\r\n    b",
+        "key = \"a\\n\" \"\\n\" \"b\"\n",
+    ),
+    (
+        "not to a placeable",
+        "key = {x}\r\n    b",
+        "key = {x} \"\\n\" \"b\"\n",
+    ),
+    (
+        "in an attribute",
+        "key =\n    .t = a\r\n        b",
+        "key = | .t = \"a\\n\" \"b\"\n",
+    ),
+    (
+        "without junk",
+        "key = a\n  .b\nc = d",
+        "key = \"a\"\nc = \"d\"\n",
+    ),
+];
+
 /// The tree of the text, which may have errors.
 fn tree(alloc: Global, text: Text) -> Result<Resource<String>, Fail> {
     match parse(alloc, String::from_str(alloc, text)?) {
@@ -113,6 +137,17 @@ fn reads_another_tree(rt: HostRuntime) -> Result<(), Fail> {
     for (what, text, expected) in OTHER {
         let mut found = String::new(alloc);
         outline(&mut found, &reparse(alloc, &tree(alloc, text)?))?;
+        assert_eq!(rt; found.as_str(), expected, "{what}");
+    }
+    Ok(())
+}
+
+#[test]
+fn joins_texts(rt: HostRuntime) -> Result<(), Fail> {
+    let alloc = rt.alloc();
+    for (what, text, expected) in JOINED {
+        let mut found = String::new(alloc);
+        outline(&mut found, &Ok(joined(alloc, &tree(alloc, text)?)?))?;
         assert_eq!(rt; found.as_str(), expected, "{what}");
     }
     Ok(())
