@@ -2,8 +2,8 @@
 
 use crate::texts::TEXTS;
 use fluent_syntax::ast::Resource;
-use fluent_syntax::laws::{joined, reparse, same_texts};
-use fluent_syntax::parser::{ParseFault, parse};
+use fluent_syntax::laws::{is_canonical, is_readable, joined, reparse, same_texts};
+use fluent_syntax::parser::{Edition, ParseFault, parse};
 use fluent_syntax::serializer::serialize;
 use ftl::laws::formats_again;
 use ftl::{Command, Outcome, answer};
@@ -40,6 +40,27 @@ fn joins(alloc: Global, text: &str) -> Result<bool, Fail> {
     Ok(same_texts(&once, &twice) && stays && alike)
 }
 
+/// Whether an LF follows each CR.
+fn has_no_bare_cr(text: &str) -> bool {
+    let mut follows_cr = false;
+    for byte in text.as_bytes() {
+        if follows_cr && *byte != b'\n' {
+            return false;
+        }
+        follows_cr = *byte == b'\r';
+    }
+    !follows_cr
+}
+
+/// Whether the joined tree is readable, where an LF follows each CR of the text, and is read back as it is exactly where
+/// it is canonical.
+fn reads_back(alloc: Global, text: &str) -> Result<bool, Fail> {
+    let (tree, _) = tree(alloc, text)?;
+    let whole = joined(alloc, &tree)?;
+    let readable = !has_no_bare_cr(text) || is_readable(&whole, Edition::One);
+    Ok(readable && is_canonical(&whole, Edition::One) == reads_as(alloc, &whole, &whole))
+}
+
 /// The text formatted, and whether it has no error.
 fn formatted(alloc: Global, text: &str) -> Result<(String, bool), Fail> {
     match answer(alloc, Command::Format, text.as_bytes()) {
@@ -48,11 +69,11 @@ fn formatted(alloc: Global, text: &str) -> Result<(String, bool), Fail> {
     }
 }
 
-/// Whether the law of formatting holds of the text, where its joined tree is read back as it is.
+/// Whether the law of formatting holds of the text, where its joined tree is canonical.
 fn formats(alloc: Global, text: &str) -> Result<bool, Fail> {
     let (tree, clean) = tree(alloc, text)?;
     let whole = joined(alloc, &tree)?;
-    if !reads_as(alloc, &whole, &whole) {
+    if !is_canonical(&whole, Edition::One) {
         return Ok(true);
     }
     let (once, _) = formatted(alloc, text)?;
@@ -68,7 +89,7 @@ fn beginning_that_fails<'t>(alloc: Global, text: &'t str) -> Result<Option<&'t s
         let Some(cut) = text.get(..end) else {
             continue;
         };
-        if !joins(alloc, cut)? || !formats(alloc, cut)? {
+        if !joins(alloc, cut)? || !reads_back(alloc, cut)? || !formats(alloc, cut)? {
             return Ok(Some(cut));
         }
     }

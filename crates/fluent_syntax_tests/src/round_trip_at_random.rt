@@ -2,7 +2,7 @@
 
 use crate::random_trees::{RandomTrees, Text};
 use fluent_syntax::ast::{Entry, Resource};
-use fluent_syntax::laws::{joined, same_texts};
+use fluent_syntax::laws::{is_canonical, is_readable, joined, same_texts};
 use fluent_syntax::parser::{Edition, parse_edition};
 use fluent_syntax::serializer::serialize;
 use std::alloc::Global;
@@ -32,8 +32,8 @@ fn joins(alloc: Global, tree: &Resource<Text>, whole: &Resource<String>) -> Resu
     Ok(same_texts(whole, &again) && !has_junk(whole) && alike)
 }
 
-/// How many of so many trees are read back by the edition once they are joined.
-fn read_back(alloc: Global, edition: Edition) -> Result<usize, Fail> {
+/// How many of so many trees are canonical in the edition once they are joined. Just these are read back as they are.
+fn canonical_trees(alloc: Global, edition: Edition) -> Result<usize, Fail> {
     let mut trees = RandomTrees::new(alloc);
     let mut count: usize = 0;
     for number in 0..TREES {
@@ -42,7 +42,14 @@ fn read_back(alloc: Global, edition: Edition) -> Result<usize, Fail> {
         if !joins(alloc, &tree, &whole)? {
             return Err(format!(in alloc; "tree {number} is not joined")?.into());
         }
-        if reads_back(alloc, &whole, edition)? {
+        let canonical = is_canonical(&whole, edition);
+        if canonical != reads_back(alloc, &whole, edition)? {
+            return Err(format!(in alloc; "tree {number} is canonical: {canonical}")?.into());
+        }
+        if canonical && !is_readable(&whole, edition) {
+            return Err(format!(in alloc; "tree {number} is canonical and not readable")?.into());
+        }
+        if canonical {
             count = count.saturating_add(1);
         }
     }
@@ -52,7 +59,7 @@ fn read_back(alloc: Global, edition: Edition) -> Result<usize, Fail> {
 #[test]
 fn reads_trees_back(rt: HostRuntime) -> Result<(), Fail> {
     for edition in [Edition::One, Edition::Two] {
-        let count = read_back(rt.alloc(), edition)?;
+        let count = canonical_trees(rt.alloc(), edition)?;
         assert!(rt; count > TREES / 4 && count < TREES - TREES / 10, "{count}");
     }
     Ok(())
