@@ -20,7 +20,8 @@ impl<'s> Source<'s> {
         ptr: usize,
     ) -> Result<(Attribute<Span>, usize), ReadFault>
         requires { ptr ≤ length self.now.bytes.now }
-        ensures meets { let t = self.now.bytes.now in Meets t (attribute edition t) (attribute_view (λ s. s)) ptr result }
+        ensures meets { let t = self.now.bytes.now in
+            Meets t (attribute edition t) (attribute_view (λ s. s)) ptr result }
         ensures within { IfOk result (λ read. (ptr < read.1) × (read.1 ≤ length self.now.bytes.now)) }
         ensures nests { IfErr result (NestsWithin nesting (length self.now.bytes.now - ptr)) }
     {

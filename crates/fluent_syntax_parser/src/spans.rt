@@ -125,8 +125,8 @@ pub fn parse_spans_edition(
 
 /// Reads a text by the first edition of the grammar, without its comments.
 ///
-/// Where an entry would begin with `#`, the rest of that line is dropped, malformed or not, so no entry of the answer is
-/// a comment and none has one. Otherwise it is as `parse_spans`.
+/// Where an entry would begin with `#`, the rest of that line is dropped, malformed or not, so no entry of the answer
+/// is a comment and none has one. Otherwise it is as `parse_spans`.
 pub fn parse_runtime_spans(alloc: Global, source: &str) -> Result<Resource<Span>, ParseFault<Span>>
     requires { length source.now + 1 < 2 ^ 64 }
     ensures spans { HasParts source.now result }
