@@ -16,7 +16,8 @@ use Rattle.fluent_syntax_grammar.specs.Body.{body, faults}
 use Rattle.fluent_syntax_grammar.specs.Laws.{junk_slice, fault_slice}
 use Rattle.fluent_syntax_grammar.specs.Laws as laws
 use Rattle.fluent_syntax_grammar.proofs.Functional.{single_block}
-use Rattle.fluent_syntax_grammar.proofs.JunkAndSpans.{junk_of_errors, runtime_junk_of_errors, errors_ascend, runtime_errors_ascend}
+use Rattle.fluent_syntax_grammar.proofs.JunkAndSpans.{junk_of_errors, runtime_junk_of_errors, errors_ascend}
+use Rattle.fluent_syntax_grammar.proofs.JunkAndSpans.{runtime_errors_ascend}
 use Rattle.fluent_syntax_parser.specs.Faults.{fault_of}
 use Rattle.fluent_syntax_parser.specs.Answers.{Answers, AnswersTiling, AnswersRuntimeTiling}
 use Rattle.fluent_syntax_parser.specs.declared.fault.ParseFault.{ParseFault}
@@ -99,7 +100,8 @@ module _ {S : Type 0} (text : S → List ℕ) (edition : Edition) (t : List ℕ)
     junk_answered (tiles, tiling, given) = junk_given text t tiles result (junk_of_errors edition t tiles tiling) given
 
     pub errors_answered : AnswersTiling text (body_map (bytes_at t)) edition t result → ErrorsAscend t result
-    errors_answered (tiles, tiling, given) = errors_given text t tiles result (errors_ascend edition t tiles tiling) given
+    errors_answered (tiles, tiling, given) =
+      errors_given text t tiles result (errors_ascend edition t tiles tiling) given
 
     pub runtime_junk_answered : AnswersRuntimeTiling text (body_map (bytes_at t)) edition t result →
         JunkIsRefused t text result
