@@ -1,5 +1,6 @@
 -- Lists of errors, and the lines that they become.
-use Rattle.std.proofs.Common.{◌≡◌, ◌≢◌, ◌<◌, ◌≤◌, ◌+◌, ◌++◌, ◌∷◌, [], ℕ, List, length, take, get_or, map, Option, Some, None, sym, ap, ◌∙◌, refl, subst, option_map, unwrap_or}
+use Rattle.std.proofs.Common.{◌≡◌, ◌≢◌, ◌<◌, ◌≤◌, ◌+◌, ◌++◌, ◌∷◌, [], ℕ, List, length, take, get_or, map, Option, Some}
+use Rattle.std.proofs.Common.{None, sym, ap, ◌∙◌, refl, subst, option_map, unwrap_or}
 use Rattle.std.specs.List.{flat_map, All}
 use Rattle.std.proofs.lemmas.List.Elements.{All-get_or}
 use Rattle.fluent_syntax_tree.specs.declared.errors.ParserError.{ParserError}

@@ -6,7 +6,9 @@ use Rattle.fluent_syntax_grammar.specs.Places.{has_byte, Word}
 use Rattle.fluent_syntax_parser.proofs.Scans.{scanned}
 use Rattle.fluent_syntax_parser.proofs.Runs.{is_passed, run_to, run_before_crlf, and_first, and_false}
 use Rattle.fluent_syntax_parser.proofs.source.Source.run_end.Goals as goal
-use Rattle.fluent_syntax_parser.proofs.source.Source.run_end.Goals.{else-len-gt0-via-then-len-gt0+then-is_byte_at+else-is_byte_at-2, else-len-gt0-via-then-len-gt0+else-is_byte_at, else-len-gt0-via-else-len-gt0}
+use Rattle.fluent_syntax_parser.proofs.source.Source.run_end.Goals.{else-len-gt0-via-then-len-gt0+then-is_byte_at+else-is_byte_at-2}
+use Rattle.fluent_syntax_parser.proofs.source.Source.run_end.Goals.{else-len-gt0-via-then-len-gt0+else-is_byte_at}
+use Rattle.fluent_syntax_parser.proofs.source.Source.run_end.Goals.{else-len-gt0-via-else-len-gt0}
 
 pub returns-then-is_byte_at-2-clause-run : goal.returns-then-is_byte_at-2-clause-run
 returns-then-is_byte_at-2-clause-run c =
