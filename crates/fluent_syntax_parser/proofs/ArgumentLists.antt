@@ -15,6 +15,7 @@ use Rattle.fluent_syntax_grammar.specs.Bytes.{colon, right_parenthesis}
 use Rattle.fluent_syntax_grammar.specs.Construct.{Outcome, Read, Refused, ◌>>=◌, gives, at_each, goes_on, stops, given, failed, passed, chosen, first, second}
 use Rattle.fluent_syntax_grammar.specs.Family.{Family}
 use Rattle.fluent_syntax_grammar.specs.Grammar.{family}
+use Rattle.fluent_syntax_grammar.specs.Nesting.{Deeper, IsArgument, behind_positional, in_arguments}
 use Rattle.fluent_syntax_grammar.specs.Places.{Blank, has_byte}
 use Rattle.fluent_syntax_grammar.specs.Starts.{start}
 use Rattle.fluent_syntax_grammar.specs.Words.{token}
@@ -142,3 +143,16 @@ module _ (edition : Edition) (t : List ℕ) where
         (subst (λ xs. positional_and_more t R xs (inline_view (λ s. s) e) j (Refused k a b)) (sym names)
         (goes_on after
         (stops (subst (λ xs. R.more_arguments xs next (Refused k a b)) names h)))))
+
+-- the names of named arguments with one more
+pub one_name_more : (t : List ℕ) (ns : List (NamedArgument Span)) (x : NamedArgument Span)
+    (more : List (NamedArgument Span)) → more ≡ ns ++ x ∷ [] →
+    names_in t more ≡ bytes_at t x.name.name ∷ names_in t ns
+one_name_more t ns x more pushed = ap (names_in t) pushed ∙ names_added t ns x
+
+module _ (edition : Edition) (t : List ℕ) (ns : List (NamedArgument Span)) (none : ns ≡ []) where
+  -- what nests behind a positional argument, where no named one stands before it
+  pub behind_only_positional : {i end next n : ℕ} {e : InlineTree Span} → IsArgument edition t i e end →
+      (argument_name e ≡ None) ⊎ (has_byte t colon end ≡ false) → separator t end (Read tt next) →
+      Deeper edition t (in_arguments (names_in t ns)) n next → Deeper edition t (in_arguments (names_in t ns)) n i
+  behind_only_positional argument is after h = rw none (behind_positional argument is after (rw none at h))

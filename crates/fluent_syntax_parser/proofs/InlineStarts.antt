@@ -1,5 +1,5 @@
 -- An inline expression, by what stands at its start.
-use Rattle.std.proofs.Common.{◌≡◌, ℕ, ◌+◌, List, subst, refl, inl as left, inr}
+use Rattle.std.proofs.Common.{◌≡◌, ℕ, ◌+◌, List, true, subst, refl, inl as left, inr}
 use Rattle.std.specs.Prelude.{◌⊎◌}
 use Rattle.fluent_syntax_tree.specs.Kind.{ExpectedLiteral}
 use Rattle.fluent_syntax_tree.specs.Tree.{InlineTree, number_literal}
@@ -9,6 +9,7 @@ use Rattle.fluent_syntax_grammar.specs.Arguments.{argument_value}
 use Rattle.fluent_syntax_grammar.specs.Construct.{Outcome, Refused, ◌>>=◌, gives, at_each, chosen, failed}
 use Rattle.fluent_syntax_grammar.specs.Grammar.{family}
 use Rattle.fluent_syntax_grammar.specs.Inline.{inline_of}
+use Rattle.fluent_syntax_grammar.specs.Nesting.{begins_value}
 use Rattle.fluent_syntax_grammar.specs.Starts.{Start, digit, letter, minus, quote, start}
 use Rattle.fluent_syntax_grammar.specs.Words.{number}
 use Rattle.fluent_syntax_grammar.proofs.Nesting.{into_inline_expression}
@@ -40,6 +41,12 @@ module _ (edition : Edition) (t : List ℕ) (i : ℕ) where
   by_value s o (inr (inr is)) e h =
       let e' : letter ≡ start t i = rw is at e in
       chosen (subst (λ x. argument_value t (family edition t) x i o) e' h)
+
+  pub value_begins : (s : found.Start) → (s ≡ starts.Quote) ⊎ ((s ≡ starts.Digit) ⊎ (s ≡ starts.Letter)) →
+      start_view s ≡ start t i → begins_value (start t i) ≡ true
+  value_begins s (left is) e = let e' : quote ≡ start t i = rw is at e in rw (← e') refl
+  value_begins s (inr (left is)) e = let e' : digit ≡ start t i = rw is at e in rw (← e') refl
+  value_begins s (inr (inr is)) e = let e' : letter ≡ start t i = rw is at e in rw (← e') refl
 
   refused_value : (s : found.Start) → (s ≡ starts.Quote → ⊥) → (s ≡ starts.Digit → ⊥) → (s ≡ starts.Letter → ⊥) →
       argument_value t (family edition t) (start_view s) i (Refused ExpectedLiteral i (i + 1))

@@ -49,11 +49,12 @@ module _ (edition : Edition) (t : List ℕ) (i b : ℕ) (e : slice_get t i ≡ S
     no_line : b ≡ lf → ⊥
     no_line is = let f = rw e at eol in cc
 
+    pub run_there : is_run_place t i ≡ true
+    run_there = run_test (slice_get t i) b (has_eol t i) e eol close opening no_line
+
     -- a run has a byte
     pub run_forward : (j : ℕ) → Stretch (is_run_place t) i j → i < j
-    run_forward j w =
-        let here = run_test (slice_get t i) b (has_eol t i) e eol close opening no_line in grind
-        (arith, w.longest, w.forward)
+    run_forward j w = let here = run_there in grind (arith, w.longest, w.forward)
 
 module _ (edition : Edition) (t : List ℕ) where
   pub no_pieces : (i : ℕ) (o : Option ℕ) → slice_get t i ≡ o → (o ≡ None → ⊥) → has_eol t i ≡ true →

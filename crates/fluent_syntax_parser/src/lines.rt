@@ -4,8 +4,9 @@ ghost use Rattle.fluent_syntax_grammar.specs.Construct.{Read};
 ghost use Rattle.fluent_syntax_grammar.specs.Grammar.{family};
 ghost use Rattle.fluent_syntax_grammar.specs.Layout.{crlf_at, lf_at};
 ghost use Rattle.fluent_syntax_grammar.specs.Lines.{belongs, ending, is_run_place};
+ghost use Rattle.fluent_syntax_grammar.specs.Nesting.{Deeper, in_lines, in_pieces};
 ghost use Rattle.fluent_syntax_grammar.specs.Places.{has_eol, Stretch};
-ghost use Rattle.fluent_syntax_parser.specs.Meets.{Meets, NestsWithin};
+ghost use Rattle.fluent_syntax_parser.specs.Meets.{Meets, NestsWithin, OnTooDeep};
 ghost use Rattle.fluent_syntax_parser.specs.Endings.{EndsWithin};
 ghost use Rattle.fluent_syntax_parser.specs.Lines.{ending_view, line_view, piece_view};
 
@@ -89,6 +90,8 @@ impl<'s> Source<'s> {
         ensures stops { let t = self.now.bytes.now in
             IfOk result (λ read. has_eol t read.1 ≡ false → slice_get t read.1 ≡ None) }
         ensures nests { IfErr result (NestsWithin nesting (length self.now.bytes.now - ptr)) }
+        ensures deeper { let t = self.now.bytes.now in
+            IfErr result (OnTooDeep (Deeper edition t in_pieces nesting ptr)) }
     {
         let mut pieces = Vec::new(alloc);
         let mut place = ptr;
@@ -135,6 +138,8 @@ impl<'s> Source<'s> {
             Meets t (family edition t).more_lines (λ lines. map line_view lines.items) ptr result }
         ensures within { IfOk result (λ read. (ptr ≤ read.1) × (read.1 ≤ length self.now.bytes.now)) }
         ensures nests { IfErr result (NestsWithin nesting (length self.now.bytes.now - ptr)) }
+        ensures deeper { let t = self.now.bytes.now in
+            IfErr result (OnTooDeep (Deeper edition t in_lines nesting ptr)) }
     {
         let mut lines = Vec::new(alloc);
         let mut start = ptr;

@@ -1,4 +1,4 @@
-use Rattle.std.proofs.Common.{◌≡◌, ◌+◌, ◌∙◌, refl, sym, arith, false, None, inl, inr}
+use Rattle.std.proofs.Common.{◌≡◌, ◌+◌, ◌-◌, ◌∙◌, refl, sym, arith, false, None, inl, inr}
 use Rattle.std.specs.Prelude.{slice_get, ◌==◌, ◌⊎◌}
 use Rattle.std.proofs.lemmas.Option.{gets}
 use Rattle.std.proofs.lemmas.Result.{err_from_is_err_and}
@@ -19,16 +19,17 @@ use Rattle.fluent_syntax_grammar.specs.Places.{has_byte}
 use Rattle.fluent_syntax_grammar.specs.Starts as starts
 use Rattle.fluent_syntax_grammar.proofs.Facts.{byte_inside, right_true}
 use Rattle.fluent_syntax_grammar.proofs.Nesting.{into_more_lines, into_more_variants}
+use Rattle.fluent_syntax_grammar.specs.Nesting.{behind_line, behind_named, behind_opening, behind_placeable, behind_run, behind_variant, in_braces, in_list, its_argument, its_arguments, its_layout, its_line, its_lines, its_named_value, its_opening, its_pattern, its_piece, its_placeable, its_selector, its_term_arguments, its_value, its_variants, opens_list, opens_placeable}
 use Rattle.fluent_syntax_parser.specs.Gathered.{names_in}
 use Rattle.fluent_syntax_parser.specs.Lines.{line_view, piece_view}
-use Rattle.fluent_syntax_parser.proofs.ArgumentLists.{inline_fails, late, list_closed, list_open, named, one_named, one_positional, positional, token_there}
+use Rattle.fluent_syntax_parser.proofs.ArgumentLists.{behind_only_positional, inline_fails, late, list_closed, list_open, named, one_named, one_name_more, one_positional, positional, token_there}
 use Rattle.fluent_syntax_parser.proofs.GatheredArguments.{put_whole}
 use Rattle.fluent_syntax_parser.proofs.GatheredVariants.{put_added, put_all, put_variants}
 use Rattle.fluent_syntax_parser.proofs.Gathers as gathers
-use Rattle.fluent_syntax_parser.proofs.InlineStarts.{by_number, by_start, by_value, no_value}
+use Rattle.fluent_syntax_parser.proofs.InlineStarts.{by_number, by_start, by_value, no_value, value_begins}
 use Rattle.fluent_syntax_parser.proofs.LineEndings.{by_eol, ends_line, ends_text, eol_none}
 use Rattle.fluent_syntax_parser.proofs.Names.{none_named, some_named, some_names, used_in_order}
-use Rattle.fluent_syntax_parser.proofs.Pieces.{bare_brace, end_pieces, line_read, no_lines, no_pieces, own_lines, placed_piece, run_piece}
+use Rattle.fluent_syntax_parser.proofs.Pieces.{bare_brace, end_pieces, line_read, no_lines, no_pieces, own_lines, placed_piece, run_piece, run_there}
 use Rattle.fluent_syntax_parser.proofs.Puts.{one_put}
 use Rattle.fluent_syntax_parser.proofs.Selects.{is_selector, no_selector}
 use Rattle.fluent_syntax_parser.proofs.Stars.{both_true, one_false}
@@ -402,6 +403,7 @@ get_argument_value-returns-in_default m c = record {
       arm.not-Digit arm.not-Letter c.start.ensures);
   within = tt;
   nests = λ e. cc;
+  deeper = λ e. cc;
 }
 
 -- ---- argument lists
@@ -497,6 +499,17 @@ get_arguments-loop-alloc-preserved-then-is_byte_at m c =
           c.in_ok-expression.expression _ c.in_ok-expression.ensures.meets added (sym c.in-Some.ensures)
           (sym c.if-is_byte_at.ensures) new _ c.in_ok-push-in-Some.ensures.items _ _ _
           c.skip_blank-start.ensures.blank c.in_ok-value-in-Some.ensures.meets c.skip_separator-place.ensures.meets;
+      deeper = λ h. old.invariant.deeper
+          (behind_named (record {
+            tree = _;
+            end = _;
+            argument = record { other = sym c.loop-alloc-test.ensures; read = c.in_ok-expression.ensures.meets };
+            is = sym c.in-Some.ensures;
+            mark = sym c.if-is_byte_at.ensures;
+            new = new;
+            blank = c.skip_blank-start.ensures.blank;
+          }) c.in_ok-value-in-Some.ensures.meets c.skip_separator-place.ensures.meets
+          (rw (← one_name_more t old.named.items added _ c.in_ok-push-in-Some.ensures.items) h));
     }
 
 pub get_arguments-returns-then-not-is_empty-clause-meets : goal.get_arguments-returns-then-not-is_empty-clause-meets
@@ -542,6 +555,10 @@ get_arguments-loop-alloc-preserved m c =
           old.invariant.gathered (omega (arith, c.if-place-self.false, old.invariant.within))
           (sym c.loop-alloc-test.ensures) c.in_ok-expression.expression _ c.in_ok-expression.ensures.meets is none _
           c.in_ok-push-in_default.ensures.items _ c.skip_separator-place-in_default.ensures.meets;
+      deeper = λ h. old.invariant.deeper
+          (behind_only_positional c.args.edition t old.named.items none
+          (record { other = sym c.loop-alloc-test.ensures; read = c.in_ok-expression.ensures.meets }) is
+          c.skip_separator-place-in_default.ensures.meets h);
     }
 
 pub get_arguments-returns-clause-within : goal.get_arguments-returns-clause-within
@@ -766,6 +783,17 @@ get_variants-loop-starred-preserved m c =
           (goes_on value
           (goes_on (passed c.skip_blank-place.ensures.blank)
           (stops h))))))))))));
+      deeper = λ h. old.invariant.deeper
+          (behind_variant
+          (goes_on c.take_byte_if-star.ensures.meets
+          (goes_on (second (one_false _ _ c.else-starred.either) given)
+          (goes_on (goes_on c.take_byte_if-bracket.ensures.meets (first c.if-not-bracket.false given))
+          (goes_on (passed c.skip_blank-start.ensures.blank)
+          (goes_on c.in_ok-key.ensures.meets
+          (goes_on (passed c.skip_blank-next.ensures.blank)
+          (goes_on c.in_ok-next.ensures.meets
+          given)))))))
+          value c.skip_blank-place.ensures.blank h);
     }
 
 -- ---- pieces
@@ -820,6 +848,7 @@ get_pieces-loop-pieces-preserved-then-byte-eq123 m c =
           c.if-byte-eq123.true _
           (goes_on read.meets
           (stops h)));
+      deeper = λ h. c.loop-pieces.invariant.deeper (behind_placeable read.meets h);
     }
 
 pub get_pieces-loop-pieces-preserved : goal.get_pieces-loop-pieces-preserved
@@ -844,6 +873,9 @@ get_pieces-loop-pieces-preserved m c =
           (goes_on (passed run)
           (goes_on at_place
           (stops h)))));
+      deeper = λ h. c.loop-pieces.invariant.deeper
+          (behind_run (run_there c.args.edition t _ _ (sym c.in-Some.ensures) (sym c.if-is_eol_at.ensures)
+          c.if-byte-eq125.false c.if-byte-eq123.false) run h);
     }
 
 -- ---- lines
@@ -927,6 +959,13 @@ get_lines-loop-lines-preserved m c =
           _
           (goes_on read
           (stops h)));
+      deeper = λ h. c.loop-lines.invariant.deeper
+          (behind_line _ (record {
+            byte = _;
+            blank = blank;
+            there = sym c.in-Some.ensures;
+            own = sym c.if-not-belongs.ensures;
+          }) pieces.meets (ends_line t _ _ (sym eol.eol)) h);
     }
 
 pub get_expression-skip_blank_inline-ptr-requires : goal.get_expression-skip_blank_inline-ptr-requires
@@ -936,3 +975,177 @@ get_expression-skip_blank_inline-ptr-requires m c =
     let mark = right_true _ _ (sym c.if-not-is_arrow.ensures) in
     let inside = byte_inside (λ b. b == greater_than) t (i + 1) (slice_get t (i + 1)) refl mark in
     omega (arith, inside)
+
+-- ---- where it nests too deeply
+
+pub get_inline_expression-returns-in_err-arguments-in-Term-clause-deeper :
+    goal.get_inline_expression-returns-in_err-arguments-in-Term-clause-deeper
+get_inline_expression-returns-in_err-arguments-in-Term-clause-deeper m c =
+    let p = err_from_is_err_and c.from_residual-in_err-arguments-in-Term.result c.from_residual-in_err-arguments-in-Term.ensures.1 in
+    rw (p.1, p.2) (λ e. its_term_arguments (sym c.in-Term.ensures)
+    (goes_on c.in_ok-start-in-Term.ensures.meets
+    (goes_on c.in_ok-end-in-Term.ensures.meets
+    c.in_ok-attribute-in-Term.ensures.meets))
+    (c.in_err-arguments-in-Term.ensures.deeper e))
+
+pub get_inline_expression-returns-in_err-arguments-in-Letter-clause-deeper :
+    goal.get_inline_expression-returns-in_err-arguments-in-Letter-clause-deeper
+get_inline_expression-returns-in_err-arguments-in-Letter-clause-deeper m c =
+    let p = err_from_is_err_and c.from_residual-in_err-arguments-in-Letter.result c.from_residual-in_err-arguments-in-Letter.ensures.1 in
+    rw (p.1, p.2) (λ e. its_arguments (sym c.in-Letter.ensures) c.in_ok-end-in-Letter.ensures.meets
+    (c.in_err-arguments-in-Letter.ensures.deeper e))
+
+pub get_inline_expression-returns-in_err-expression-in-Brace-clause-deeper :
+    goal.get_inline_expression-returns-in_err-expression-in-Brace-clause-deeper
+get_inline_expression-returns-in_err-expression-in-Brace-clause-deeper m c =
+    let p = err_from_is_err_and c.from_residual-in_err-expression-in-Brace.result c.from_residual-in_err-expression-in-Brace.ensures.1 in
+    rw (p.1, p.2) (λ e. its_placeable (sym c.in-Brace.ensures) (c.in_err-expression-in-Brace.ensures.deeper e))
+
+pub get_placeable-returns-then-nesting-eq0-clause-deeper : goal.get_placeable-returns-then-nesting-eq0-clause-deeper
+get_placeable-returns-then-nesting-eq0-clause-deeper m c =
+    λ e. rw c.if-nesting-eq0.true (opens_placeable c.in_ok-start.ensures.meets)
+
+pub get_placeable-returns-in_err-expression-clause-deeper :
+    goal.get_placeable-returns-in_err-expression-clause-deeper
+get_placeable-returns-in_err-expression-clause-deeper m c =
+    let p = err_from_is_err_and c.from_residual-in_err-expression.result c.from_residual-in_err-expression.ensures.1 in
+    rw (p.1, p.2) (λ e. in_braces {m = c.args.nesting - 1} {n = c.args.nesting} (omega (arith, c.if-nesting-eq0.false))
+    (goes_on c.in_ok-start.ensures.meets (passed c.skip_blank-start.ensures.blank))
+    (c.in_err-expression.ensures.deeper e))
+
+pub get_expression-returns-in_err-expression-clause-deeper :
+    goal.get_expression-returns-in_err-expression-clause-deeper
+get_expression-returns-in_err-expression-clause-deeper m c =
+    let p = err_from_is_err_and c.from_residual.result c.from_residual.ensures.1 in
+    rw (p.1, p.2) (λ e. its_selector (c.in_err-expression.ensures.deeper e))
+
+pub get_expression-returns-in_err-variants-in-None-clause-deeper :
+    goal.get_expression-returns-in_err-variants-in-None-clause-deeper
+get_expression-returns-in_err-variants-in-None-clause-deeper m c =
+    let p = err_from_is_err_and c.from_residual-in_err-variants-in-None.result c.from_residual-in_err-variants-in-None.ensures.1 in
+    rw (p.1, p.2) (λ e. its_variants (record {
+      selector = _;
+      end = _;
+      arrow = c.skip_blank-ptr.result;
+      read = c.in_ok-expression.ensures.meets;
+      blank = c.skip_blank-ptr.ensures.blank;
+      there = sym c.if-not-is_arrow.ensures;
+      selects = c.in-None.ensures c.args.self.now.bytes.now c.skip_blank-ptr.result;
+      head =
+          goes_on (passed (record { by = refl }))
+          (goes_on (passed c.skip_blank_inline-ptr.ensures.blank)
+          (goes_on c.in_ok-ptr-in-None.ensures.meets
+          (passed c.skip_blank-ptr-in-None.ensures.blank)));
+    }) (c.in_err-variants-in-None.ensures.deeper e))
+
+pub get_call_arguments-returns-then-nesting-eq0-clause-deeper :
+    goal.get_call_arguments-returns-then-nesting-eq0-clause-deeper
+get_call_arguments-returns-then-nesting-eq0-clause-deeper m c =
+    λ e. rw c.if-nesting-eq0.true (opens_list
+    (goes_on (passed c.skip_blank-start.ensures.blank)
+    (goes_on c.take_byte_if-bracket.ensures.meets
+    (first c.if-not-bracket.false given))))
+
+pub get_call_arguments-returns-in_err-arguments-clause-deeper :
+    goal.get_call_arguments-returns-in_err-arguments-clause-deeper
+get_call_arguments-returns-in_err-arguments-clause-deeper m c =
+    let p = err_from_is_err_and c.from_residual.result c.from_residual.ensures.1 in
+    rw (p.1, p.2) (λ e. in_list {m = c.args.nesting - 1} {n = c.args.nesting} (omega (arith, c.if-nesting-eq0.false))
+    (goes_on (passed c.skip_blank-start.ensures.blank)
+    (goes_on c.take_byte_if-bracket.ensures.meets
+    (first c.if-not-bracket.false given)))
+    c.skip_blank-start-2.ensures.blank
+    (c.in_err-arguments.ensures.deeper e))
+
+pub get_argument_value-returns-in_err-value-in-Quote-clause-deeper :
+    goal.get_argument_value-returns-in_err-value-in-Quote-clause-deeper
+get_argument_value-returns-in_err-value-in-Quote-clause-deeper m c =
+    let p = err_from_is_err_and c.from_residual.result c.from_residual.ensures.1 in
+    rw (p.1, p.2) (λ e. its_value (value_begins c.args.edition c.args.self.now.bytes.now c.args.ptr c.start.result c.in-Quote.is c.start.ensures)
+    (c.in_err-value-in-Quote.ensures.deeper e))
+
+pub get_arguments-returns-in_err-expression-clause-deeper :
+    goal.get_arguments-returns-in_err-expression-clause-deeper
+get_arguments-returns-in_err-expression-clause-deeper m c =
+    let p = err_from_is_err_and c.from_residual.result c.from_residual.ensures.1 in
+    rw (p.1, p.2) (λ e. c.loop-alloc.invariant.deeper
+    (its_argument (sym c.loop-alloc-test.ensures) (c.in_err-expression.ensures.deeper e)))
+
+pub get_arguments-returns-in_err-value-in-Some-clause-deeper :
+    goal.get_arguments-returns-in_err-value-in-Some-clause-deeper
+get_arguments-returns-in_err-value-in-Some-clause-deeper m c =
+    let t = c.args.self.now.bytes.now in
+    let found = rw c.deref.ensures.value at c.if-has_name.ensures in
+    let new = used_in_order t (bytes_at t c.in-Some.name) c.loop-alloc.named.items ∙ sym found in
+    let p = err_from_is_err_and c.from_residual-in_err-value-in-Some.result
+    c.from_residual-in_err-value-in-Some.ensures.1 in
+    rw (p.1, p.2) (λ e. c.loop-alloc.invariant.deeper
+    (its_named_value (record {
+      tree = _;
+      end = _;
+      argument = record { other = sym c.loop-alloc-test.ensures; read = c.in_ok-expression.ensures.meets };
+      is = sym c.in-Some.ensures;
+      mark = sym c.if-is_byte_at.ensures;
+      new = new;
+      blank = c.skip_blank-start.ensures.blank;
+    }) (c.in_err-value-in-Some.ensures.deeper e)))
+
+pub get_layout-returns-in_err-lines-in-Some-clause-deeper :
+    goal.get_layout-returns-in_err-lines-in-Some-clause-deeper
+get_layout-returns-in_err-lines-in-Some-clause-deeper m c =
+    let p = err_from_is_err_and c.from_residual.result c.from_residual.ensures.1 in
+    rw (p.1, p.2) (λ e. its_lines (sym c.in-Some.ensures.eol) c.skip_blank_block-first.ensures.blank
+    (c.in_err-lines-in-Some.ensures.deeper e))
+
+pub get_layout-returns-in_err-pieces-in-None-clause-deeper :
+    goal.get_layout-returns-in_err-pieces-in-None-clause-deeper
+get_layout-returns-in_err-pieces-in-None-clause-deeper m c =
+    let p = err_from_is_err_and c.from_residual-in_err-pieces-in-None.result c.from_residual-in_err-pieces-in-None.ensures.1 in
+    rw (p.1, p.2) (λ e. its_opening (sym c.in-None.ensures.eol) (c.in_err-pieces-in-None.ensures.deeper e))
+
+pub get_layout-returns-in_err-lines-in-None-clause-deeper :
+    goal.get_layout-returns-in_err-lines-in-None-clause-deeper
+get_layout-returns-in_err-lines-in-None-clause-deeper m c =
+    let p = err_from_is_err_and c.from_residual-in_err-lines-in-None.result c.from_residual-in_err-lines-in-None.ensures.1 in
+    rw (p.1, p.2) (λ e. behind_opening _ (sym c.in-None.ensures.eol) c.in_ok-pieces-in-None.ensures.meets
+    c.get_ending-ending.ensures.meets (c.in_err-lines-in-None.ensures.deeper e))
+
+pub get_pattern-returns-in_err-layout-in-None-clause-deeper :
+    goal.get_pattern-returns-in_err-layout-in-None-clause-deeper
+get_pattern-returns-in_err-layout-in-None-clause-deeper m c =
+    let p = err_from_is_err_and c.from_residual-in_err-layout-in-None.result c.from_residual-in_err-layout-in-None.ensures.1 in
+    rw (p.1, p.2) (λ e. its_layout c.skip_blank_inline-start.ensures.blank (c.in_err-layout-in-None.ensures.deeper e))
+
+pub get_variants-returns-in_err-value-clause-deeper :
+    goal.get_variants-returns-in_err-value-clause-deeper
+get_variants-returns-in_err-value-clause-deeper m c =
+    let p = err_from_is_err_and c.from_residual-in_err-value.result c.from_residual-in_err-value.ensures.1 in
+    rw (p.1, p.2) (λ e. c.loop-starred.invariant.deeper
+    (its_pattern
+    (goes_on c.take_byte_if-star.ensures.meets
+    (goes_on (second (one_false _ _ c.else-starred.either) given)
+    (goes_on (goes_on c.take_byte_if-bracket.ensures.meets (first c.if-not-bracket.false given))
+    (goes_on (passed c.skip_blank-start.ensures.blank)
+    (goes_on c.in_ok-key.ensures.meets
+    (goes_on (passed c.skip_blank-next.ensures.blank)
+    (goes_on c.in_ok-next.ensures.meets
+    given)))))))
+    (c.in_err-value.ensures.deeper e)))
+
+pub get_pieces-returns-in_err-expression-in-Some-clause-deeper :
+    goal.get_pieces-returns-in_err-expression-in-Some-clause-deeper
+get_pieces-returns-in_err-expression-in-Some-clause-deeper m c =
+    let p = err_from_is_err_and c.from_residual.result c.from_residual.ensures.1 in
+    rw (p.1, p.2) (λ e. c.loop-pieces.invariant.deeper (its_piece (c.in_err-expression-in-Some.ensures.deeper e)))
+
+pub get_lines-returns-in_err-pieces-in-Some-clause-deeper :
+    goal.get_lines-returns-in_err-pieces-in-Some-clause-deeper
+get_lines-returns-in_err-pieces-in-Some-clause-deeper m c =
+    let p = err_from_is_err_and c.from_residual.result c.from_residual.ensures.1 in
+    rw (p.1, p.2) (λ e. c.loop-lines.invariant.deeper
+    (its_line (record {
+      byte = _;
+      blank = c.skip_blank_inline-first.ensures.blank;
+      there = sym c.in-Some.ensures;
+      own = sym c.if-not-belongs.ensures;
+    }) (c.in_err-pieces-in-Some.ensures.deeper e)))

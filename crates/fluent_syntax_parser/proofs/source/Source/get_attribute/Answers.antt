@@ -1,6 +1,7 @@
 use Rattle.std.proofs.Common.{refl}
 use Rattle.std.proofs.lemmas.Result.{err_from_is_err_and}
 use Rattle.fluent_syntax_grammar.specs.Construct.{stops, goes_on, given, failed, passed}
+use Rattle.fluent_syntax_grammar.specs.Nesting.{its_text}
 use Rattle.fluent_syntax_parser.proofs.source.Source.get_attribute.Goals as goal
 
 pub returns-in_err-start-clause-meets : goal.returns-in_err-start-clause-meets
@@ -61,3 +62,15 @@ returns-in-None-clause-meets c =
     (goes_on c.in_ok-behind.ensures.meets
     (goes_on value
     (failed refl)))))))
+
+pub returns-in_err-value-clause-deeper :
+    goal.returns-in_err-value-clause-deeper
+returns-in_err-value-clause-deeper c =
+    let p = err_from_is_err_and c.from_residual-in_err-value.result c.from_residual-in_err-value.ensures.1 in
+    rw (p.1, p.2) (λ e. its_text
+    (goes_on (passed c.skip_blank_inline-dot.ensures.blank)
+    (goes_on c.in_ok-start.ensures.meets
+    (goes_on c.in_ok-end.ensures.meets
+    (goes_on (passed c.skip_blank_inline-equals.ensures.blank)
+    c.in_ok-behind.ensures.meets))))
+    (c.in_err-value.ensures.deeper e))

@@ -3,6 +3,7 @@ use Rattle.std.proofs.lemmas.Result.{err_from_is_err_and}
 use Rattle.fluent_syntax_tree.specs.View.{entry_view}
 use Rattle.fluent_syntax_grammar.specs.Comments.{comment_entry}
 use Rattle.fluent_syntax_grammar.specs.Construct.{Refused}
+use Rattle.fluent_syntax_grammar.specs.Nesting.{its_message, its_term}
 use Rattle.fluent_syntax_grammar.specs.Tiling.{entry_at}
 use Rattle.fluent_syntax_parser.proofs.EntryForms.{comment_there, message_there, term_there}
 use Rattle.fluent_syntax_parser.proofs.Handed.{meets_as}
@@ -38,3 +39,16 @@ pub returns-in_ok-message-clause-meets : goal.returns-in_ok-message-clause-meets
 returns-in_ok-message-clause-meets c =
     message_there c.args.options.edition c.args.self.now.bytes.now _ _ (sym c.if-is_byte_at.ensures)
     (sym c.if-is_byte_at-2.ensures) c.in_ok-message.ensures.meets
+
+pub returns-in_err-term-clause-deeper :
+    goal.returns-in_err-term-clause-deeper
+returns-in_err-term-clause-deeper c =
+    let p = err_from_is_err_and c.from_residual.result c.from_residual.ensures.1 in
+    rw (p.1, p.2) (λ e. its_term (sym c.if-is_byte_at-2.ensures) (c.in_err-term.ensures.deeper e))
+
+pub returns-in_err-message-clause-deeper :
+    goal.returns-in_err-message-clause-deeper
+returns-in_err-message-clause-deeper c =
+    let p = err_from_is_err_and c.from_residual-in_err-message.result c.from_residual-in_err-message.ensures.1 in
+    rw (p.1, p.2) (λ e. its_message (sym c.if-is_byte_at.ensures) (sym c.if-is_byte_at-2.ensures)
+    (c.in_err-message.ensures.deeper e))

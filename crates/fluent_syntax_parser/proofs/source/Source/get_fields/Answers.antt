@@ -1,5 +1,6 @@
 use Rattle.std.proofs.lemmas.Result.{err_from_is_err_and}
 use Rattle.fluent_syntax_grammar.specs.Construct.{stops, goes_on, given, passed}
+use Rattle.fluent_syntax_grammar.specs.Nesting.{behind_field, its_field}
 use Rattle.fluent_syntax_parser.proofs.source.Source.get_fields.Goals as goal
 
 pub returns-in_err-start-clause-meets : goal.returns-in_err-start-clause-meets
@@ -35,3 +36,17 @@ returns-clause-meets c =
     (goes_on (passed c.skip_blank_block-line.ensures.blank)
     (goes_on c.in_ok-attributes.ensures.meets
     given))))
+
+pub returns-in_err-value-clause-deeper :
+    goal.returns-in_err-value-clause-deeper
+returns-in_err-value-clause-deeper c =
+    let p = err_from_is_err_and c.from_residual-in_err-value.result c.from_residual-in_err-value.ensures.1 in
+    rw (p.1, p.2) (λ e. its_field (goes_on (passed c.skip_blank_inline-equals.ensures.blank) c.in_ok-start.ensures.meets)
+    (c.in_err-value.ensures.deeper e))
+
+pub returns-in_err-attributes-clause-deeper :
+    goal.returns-in_err-attributes-clause-deeper
+returns-in_err-attributes-clause-deeper c =
+    let p = err_from_is_err_and c.from_residual-in_err-attributes.result c.from_residual-in_err-attributes.ensures.1 in
+    rw (p.1, p.2) (λ e. behind_field (goes_on (passed c.skip_blank_inline-equals.ensures.blank) c.in_ok-start.ensures.meets)
+    c.in_ok-value.ensures.meets c.skip_blank_block-line.ensures.blank (c.in_err-attributes.ensures.deeper e))

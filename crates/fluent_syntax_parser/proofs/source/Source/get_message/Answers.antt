@@ -4,6 +4,7 @@ use Rattle.std.proofs.lemmas.Result.{err_from_is_err_and}
 use Rattle.fluent_syntax_tree.specs.declared.spans.Span.{Span}
 use Rattle.fluent_syntax_grammar.specs.Construct.{stops, goes_on, at_place}
 use Rattle.fluent_syntax_grammar.specs.Entries.{message_with}
+use Rattle.fluent_syntax_grammar.specs.Nesting.{its_message_fields}
 use Rattle.fluent_syntax_parser.proofs.FieldForms.{fields_refused, fields_then, message_of_attributes, message_of_value, message_without, no_items, some_items}
 use Rattle.fluent_syntax_parser.proofs.source.Source.get_message.Goals.{else-is_none-via-then-is_none+else-is_empty, else-is_none-via-else-is_none}
 use Rattle.fluent_syntax_parser.proofs.source.Source.get_message.Goals as goal
@@ -55,3 +56,9 @@ returns-clause-meets c =
       | else-is_none-via-else-is_none w ↦
           message_of_value t c.args.start place name found.value rest w.if-is_none.ensures
     ])))
+
+pub returns-in_err-fields-clause-deeper :
+    goal.returns-in_err-fields-clause-deeper
+returns-in_err-fields-clause-deeper c =
+    let p = err_from_is_err_and c.from_residual-in_err-fields.result c.from_residual-in_err-fields.ensures.1 in
+    rw (p.1, p.2) (λ e. its_message_fields c.in_ok-end.ensures.meets (c.in_err-fields.ensures.deeper e))

@@ -2,6 +2,7 @@ use Rattle.std.proofs.lemmas.Result.{err_from_is_err_and}
 use Rattle.fluent_syntax_tree.specs.declared.spans.Span.{Span}
 use Rattle.fluent_syntax_grammar.specs.Construct.{stops, goes_on, at_place, given, failed_from}
 use Rattle.fluent_syntax_grammar.specs.Entries.{term_with}
+use Rattle.fluent_syntax_grammar.specs.Nesting.{its_term_fields}
 use Rattle.fluent_syntax_parser.proofs.FieldForms.{fields_refused, fields_then}
 use Rattle.fluent_syntax_parser.proofs.source.Source.get_term.Goals as goal
 
@@ -50,3 +51,10 @@ returns-in-None-clause-meets c =
     (goes_on c.in_ok-letter.ensures.meets
     (goes_on c.in_ok-end.ensures.meets
     (fields_then c.args.edition t (term_with t c.args.start name) _ _ _ _ fields failed_from))))
+
+pub returns-in_err-fields-clause-deeper :
+    goal.returns-in_err-fields-clause-deeper
+returns-in_err-fields-clause-deeper c =
+    let p = err_from_is_err_and c.from_residual-in_err-fields.result c.from_residual-in_err-fields.ensures.1 in
+    rw (p.1, p.2) (λ e. its_term_fields c.in_ok-letter.ensures.meets c.in_ok-end.ensures.meets
+    (c.in_err-fields.ensures.deeper e))
