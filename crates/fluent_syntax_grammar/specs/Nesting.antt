@@ -211,9 +211,13 @@ module _ (edition : Edition) (t : List ℕ) where
         Deeper in_entry n i
     its_term : {i n : ℕ} → has_byte t hyphen i ≡ true → Deeper in_term n i → Deeper in_entry n i
 
-  -- From the place on a tile stands whose entry nests deeper than n, read or refused. `at` says which tiles stand where.
-  pub data TextDeeper (at : (i j : ℕ) → Tile → Type 0) (n : ℕ) : ℕ → Type 0 where
-    its_entry : {i start : ℕ} → BlankBlock t i start → start < length t → Deeper in_entry n start →
-        TextDeeper at n i
-    behind_tile : {i start end : ℕ} {tile : Tile} → BlankBlock t i start → start < length t → at start end tile →
-        TextDeeper at n end → TextDeeper at n i
+  -- The entry at the place, read or refused, nests deeper than n; or that of a later tile does. `at` says which tiles
+  -- stand where.
+  pub data TileDeeper (at : (i j : ℕ) → Tile → Type 0) (n : ℕ) : ℕ → Type 0 where
+    its_entry : {i : ℕ} → Deeper in_entry n i → TileDeeper at n i
+    behind_tile : {i end next : ℕ} {tile : Tile} → i < length t → at i end tile → BlankBlock t end next →
+        TileDeeper at n next → TileDeeper at n i
+
+  -- From the place on, behind a blank block, the entry of a tile nests deeper than n.
+  abbrev pub TextDeeper : (at : (i j : ℕ) → Tile → Type 0) → (n i : ℕ) → Type 0
+  TextDeeper at n i = (start : ℕ) × BlankBlock t i start × TileDeeper at n start

@@ -2,6 +2,7 @@ pub mod ArgumentLists
 pub mod Carried
 pub mod CommentEntries
 pub mod Cut
+pub mod DeeperTiles
 pub mod EntryForms
 pub mod ErrorPlaces
 pub mod FieldForms

@@ -1,13 +1,14 @@
 //! Whole texts.
 ghost use Rattle.std.specs.Prelude.{◌≡◌, ◌+◌, ◌++◌, ◌<◌, ◌^◌, [], length, map, List, IfErr, IfOk, IsOk, IsOkAnd, OnOk, Some};
 ghost use Rattle.fluent_syntax_grammar.specs.Body as bodies;
+ghost use Rattle.fluent_syntax_grammar.specs.Nesting.{TextDeeper};
 ghost use Rattle.fluent_syntax_grammar.specs.Places.{BlankBlock};
 ghost use Rattle.fluent_syntax_grammar.specs.Tiling.{Tile};
 ghost use Rattle.fluent_syntax_parser.specs.Answers.{Answers, AnswersIn, AnswersRuntimeSpans, AnswersSpans, ErrorsInText};
 ghost use Rattle.fluent_syntax_parser.specs.Faults.{fault_of};
-ghost use Rattle.fluent_syntax_parser.specs.Halts.{HaltsWithin};
+ghost use Rattle.fluent_syntax_parser.specs.Halts.{HaltsWithin, OnHalt};
 ghost use Rattle.fluent_syntax_parser.specs.Parts.{HasParts};
-ghost use Rattle.fluent_syntax_parser.specs.Rest.{Rest, faults_of, tree_of};
+ghost use Rattle.fluent_syntax_parser.specs.Rest.{Rest, TileIn, faults_of, tree_of};
 
 use crate::fault::ParseFault;
 use crate::options::{Comments, Halt, Options};
@@ -57,6 +58,8 @@ impl<'s> Source<'s> {
         ensures blank { let t = self.now.bytes.now in
             BlankBlock t 0 (length t) → IsOkAnd result (λ read. read.1.items ≡ []) }
         ensures nests { IfErr result (HaltsWithin options.nesting (length self.now.bytes.now)) }
+        ensures deeper { let t = self.now.bytes.now in let at = TileIn options.comments options.edition t in
+            IfErr result (OnHalt (TextDeeper options.edition t at options.nesting 0)) }
     {
         let mut body = Vec::new(alloc);
         let mut errors = Vec::new(alloc);

@@ -1,5 +1,6 @@
 use Rattle.std.proofs.Common.{◌<◌, length, sym, arith}
 use Rattle.fluent_syntax_grammar.proofs.Functional.{single_block}
+use Rattle.fluent_syntax_parser.proofs.DeeperTiles.{behind_dropped}
 use Rattle.fluent_syntax_parser.proofs.Rests.{rest_behind, rest_dropped}
 use Rattle.fluent_syntax_parser.proofs.source.Source.tile_start.Goals as goal
 
@@ -12,6 +13,7 @@ loop-comments-init c =
       within = block.within;
       rest = λ edition entries errors rest.
           rest_behind c.args.comments edition t _ _ entries errors block.blank rest;
+      deeper = λ edition n h. (_, block.blank, h);
       blank = λ all. single_block.same c.args.ptr _ _ block.blank all;
     }
 
@@ -29,5 +31,8 @@ loop-comments-preserved c =
           (rest_dropped edition t _ _ inside c.args.comments (sym c.loop-comments-test.ensures)
           (sym c.if-is_byte_at.ensures) line.line entries errors
           (rest_behind c.args.comments edition t _ _ entries errors block.blank rest));
+      deeper = λ edition n h. inv.deeper edition n
+          (behind_dropped edition t _ _ n inside c.args.comments (sym c.loop-comments-test.ensures)
+          (sym c.if-is_byte_at.ensures) line.line (_, block.blank, h));
       blank = λ all. let end = inv.blank all in absurd (omega (arith, end, inside));
     }
