@@ -133,12 +133,12 @@ module _ (edition : Edition) (t : List ℕ) where
   -- of those that the part itself opens: so it nests deeper than n. What was opened before a refusal counts too.
   pub data Deeper : Part → (n i : ℕ) → Type 0 where
     -- a placeable
-    opens_placeable : {i j : ℕ} → token t left_brace i (Read tt j) → Deeper in_placeable 0 i
+    opens_placeable : {i j n : ℕ} → n ≡ 0 → token t left_brace i (Read tt j) → Deeper in_placeable n i
     in_braces : {i j m n : ℕ} → n ≡ m + 1 → placeable_head t i (Read tt j) → Deeper in_expression m j →
         Deeper in_placeable n i
 
     -- an argument list
-    opens_list : {i j : ℕ} → list_head t i (Read tt j) → Deeper in_call 0 i
+    opens_list : {i j n : ℕ} → n ≡ 0 → list_head t i (Read tt j) → Deeper in_call n i
     in_list : {i j k m n : ℕ} → n ≡ m + 1 → list_head t i (Read tt j) → Blank t j k → Deeper (in_arguments []) m k →
         Deeper in_call n i
 
