@@ -16,7 +16,7 @@ use Rattle.fluent_syntax_grammar.specs.Family.{Family}
 use Rattle.fluent_syntax_grammar.specs.Grammar.{family, pattern, placeable}
 use Rattle.fluent_syntax_grammar.specs.Laws.{IsFunctional}
 use Rattle.fluent_syntax_grammar.specs.Layout.{Piece, Ending}
-use Rattle.fluent_syntax_grammar.specs.Lines.{belongs, ending, is_run_place}
+use Rattle.fluent_syntax_grammar.specs.Lines.{belongs, ending, is_run_place, more_lines, no_byte, other_line, own_line}
 use Rattle.fluent_syntax_grammar.specs.Nesting.{Deeper, IsArgument, IsNamed, OwnLine, Selects, attribute_head, begins_value, fields_head, list_head, placeable_head, select_head, term_head, variant_head, in_inline_expression, in_value, in_call, in_expression, in_placeable, in_arguments, in_variants, in_pieces, in_lines, in_layout, in_pattern, in_attribute, in_attributes, in_fields, in_message, in_term, in_entry, opens_placeable, in_braces, opens_list, in_list, its_term_arguments, its_arguments, its_placeable, its_selector, its_variants, its_value, its_argument, its_named_value, behind_named, behind_positional, its_pattern, behind_variant, its_piece, behind_placeable, behind_run, its_line, behind_line, its_lines, its_opening, behind_opening, its_layout, its_text, its_attribute, behind_attribute, its_field, behind_field, its_message_fields, its_term_fields, its_message, its_term}
 use Rattle.fluent_syntax_grammar.specs.Placeables.{arrow_line_end, has_arrow, selector_fault}
 use Rattle.fluent_syntax_grammar.specs.Places.{Blank, BlankBlock, InlineBlank, Stretch, after_eol, has_byte, has_eol, holds}
@@ -28,7 +28,7 @@ use Rattle.fluent_syntax_grammar.proofs.Functional.{functional, single_block, si
 use Rattle.fluent_syntax_grammar.proofs.FunctionalEntries.{functional_attribute, functional_pattern}
 use Rattle.fluent_syntax_grammar.proofs.FunctionalRules as rules
 use Rattle.fluent_syntax_grammar.proofs.FunctionalWords.{functional_identifier, functional_optional, functional_token, functional_number}
-use Rattle.fluent_syntax_grammar.proofs.Nesting.{functional_family}
+use Rattle.fluent_syntax_grammar.proofs.Nesting.{from_family, functional_family}
 
 ruleset words =
     (functional, functional_optional, functional_token, functional_identifier, functional_number)
@@ -464,6 +464,15 @@ module _ (edition : Edition) (t : List ℕ) where
           let there = read_at h.more_pieces k
           (moved R.more_pieces {o = Read qs j'} (single_stretch.same i _ k x.blank blank) p) r in
           inr (move (read_at (rules.functional_ending t) j (moved (ending t) there e) ends) d)
+
+    no_lines_rule : (j : ℕ) → more_lines t R i (Read [] j) → Deeper edition t in_lines n i → ⊥
+    no_lines_rule j (no_byte {k = k} blank none) d = lines_none k blank none d
+    no_lines_rule j (other_line {k = k} blank there none) d = lines_other k blank none d
+    no_lines_rule j (own_line blank there own (goes_on x (goes_on y z))) d = elim z [ ]
+
+    -- where no line is read, none nests
+    pub no_lines_led : (j : ℕ) → R.more_lines i (Read [] j) → Deeper edition t in_lines n i → ⊥
+    no_lines_led j r d = no_lines_rule j ((from_family edition t).more_lines.part i _ r) d
 
     -- ---- patterns
 

@@ -24,6 +24,7 @@ pub mod Rests
 pub mod Runs
 pub mod Scans
 pub mod Selects
+pub mod Shallows
 pub mod ShortPatterns
 pub mod Spelled
 pub mod Stars

@@ -11,7 +11,7 @@ use Rattle.fluent_syntax_grammar.specs.Grammar.{family}
 use Rattle.fluent_syntax_grammar.specs.Layout.{Piece, run, placed, Ending, Line}
 use Rattle.fluent_syntax_grammar.specs.Lines.{is_run_place, pieces_at, ending, no_byte, own_line, belongs, line, line_and_more}
 use Rattle.fluent_syntax_grammar.specs.Placeables.{placeable}
-use Rattle.fluent_syntax_grammar.specs.Places.{Stretch, holds, has_eol, InlineBlank}
+use Rattle.fluent_syntax_grammar.specs.Places.{Stretch, holds, has_byte, has_eol, InlineBlank}
 use Rattle.fluent_syntax_grammar.proofs.Nesting.{into_more_pieces, into_more_lines}
 
 run_test : (o : Option ℕ) (b : ℕ) (eol : Bool) → o ≡ Some b → eol ≡ false → (b ≡ right_brace → ⊥) →
@@ -28,6 +28,9 @@ module _ (edition : Edition) (t : List ℕ) (i b : ℕ) (e : slice_get t i ≡ S
 
   pub bare_brace : b ≡ right_brace → R.more_pieces i (Refused UnbalancedClosingBrace i (i + 1))
   bare_brace is = by_piece _ (chosen (second eol (first (rw is refl) (failed refl))))
+
+  pub brace_stands : b ≡ left_brace → has_byte t left_brace i ≡ true
+  brace_stands is = rw (e, is) refl
 
   pub placed_piece : b ≡ left_brace → (o : Outcome (List Piece)) →
       (placeable t R >>= λ e. R.more_pieces >>= λ ps. gives (placed e ∷ ps)) i o → R.more_pieces i o

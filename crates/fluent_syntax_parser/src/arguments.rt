@@ -8,7 +8,7 @@ ghost use Rattle.fluent_syntax_grammar.specs.Grammar.{call_arguments, family};
 ghost use Rattle.fluent_syntax_grammar.specs.Nesting.{Deeper, in_arguments, in_call, in_value};
 ghost use Rattle.fluent_syntax_grammar.specs.Starts.{start};
 ghost use Rattle.fluent_syntax_parser.specs.Gathered.{maybe_view, names_in_order};
-ghost use Rattle.fluent_syntax_parser.specs.Meets.{Meets, NestsWithin, OnTooDeep};
+ghost use Rattle.fluent_syntax_parser.specs.Meets.{Meets, NestsWithin, OnTooDeep, Shallow};
 
 use crate::fault::{Fault, ReadFault, Refusal};
 use crate::forms::argument_name;
@@ -60,6 +60,8 @@ impl<'s> Source<'s> {
         ensures nests { IfErr result (NestsWithin nesting (length self.now.bytes.now - ptr)) }
         ensures deeper { let t = self.now.bytes.now in
             IfErr result (OnTooDeep (Deeper edition t in_value nesting ptr)) }
+        ensures shallow { let t = self.now.bytes.now in
+            Shallow (Deeper edition t in_value nesting ptr) result }
     {
         match self.start(ptr) {
             Start::Quote | Start::Digit | Start::Letter => {
@@ -89,6 +91,8 @@ impl<'s> Source<'s> {
         ensures nests { IfErr result (NestsWithin nesting (length self.now.bytes.now - ptr)) }
         ensures deeper { let t = self.now.bytes.now in
             IfErr result (OnTooDeep (Deeper edition t (in_arguments []) nesting ptr)) }
+        ensures shallow { let t = self.now.bytes.now in
+            Shallow (Deeper edition t (in_arguments []) nesting ptr) result }
     {
         let mut positional = Vec::new(alloc);
         let mut named = Vec::new(alloc);
@@ -144,6 +148,8 @@ impl<'s> Source<'s> {
         ensures nests { IfErr result (NestsWithin nesting (length self.now.bytes.now - ptr)) }
         ensures deeper { let t = self.now.bytes.now in
             IfErr result (OnTooDeep (Deeper edition t in_call nesting ptr)) }
+        ensures shallow { let t = self.now.bytes.now in
+            Shallow (Deeper edition t in_call nesting ptr) result }
     {
         let start = self.skip_blank(ptr);
         let (bracket, start) = self.take_byte_if(b'(', start);

@@ -3,7 +3,7 @@ ghost use Rattle.std.specs.Prelude.{◌-◌, ◌<◌, ◌≤◌, length, map, If
 ghost use Rattle.fluent_syntax_tree.specs.View.{attribute_view};
 ghost use Rattle.fluent_syntax_grammar.specs.Entries.{attribute, attributes};
 ghost use Rattle.fluent_syntax_grammar.specs.Nesting.{Deeper, in_attribute, in_attributes};
-ghost use Rattle.fluent_syntax_parser.specs.Meets.{Meets, NestsWithin, OnTooDeep};
+ghost use Rattle.fluent_syntax_parser.specs.Meets.{Meets, NestsWithin, OnTooDeep, Shallow};
 
 use crate::fault::{Fault, ReadFault, Refusal};
 use crate::source::Source;
@@ -27,6 +27,8 @@ impl<'s> Source<'s> {
         ensures nests { IfErr result (NestsWithin nesting (length self.now.bytes.now - ptr)) }
         ensures deeper { let t = self.now.bytes.now in
             IfErr result (OnTooDeep (Deeper edition t in_attribute nesting ptr)) }
+        ensures shallow { let t = self.now.bytes.now in
+            Shallow (Deeper edition t in_attribute nesting ptr) result }
     {
         let dot = self.skip_blank_inline(ptr);
         let start = self.expect_byte(b'.', dot)?;
@@ -62,6 +64,8 @@ impl<'s> Source<'s> {
         ensures nests { IfErr result (NestsWithin nesting (length self.now.bytes.now - ptr)) }
         ensures deeper { let t = self.now.bytes.now in
             IfErr result (OnTooDeep (Deeper edition t in_attributes nesting ptr)) }
+        ensures shallow { let t = self.now.bytes.now in
+            Shallow (Deeper edition t in_attributes nesting ptr) result }
     {
         let mut attributes = Vec::new(alloc);
         let mut place = ptr;

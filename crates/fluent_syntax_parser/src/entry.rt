@@ -3,7 +3,7 @@ ghost use Rattle.std.specs.Prelude.{◌-◌, ◌<◌, ◌≤◌, length, IfErr, 
 ghost use Rattle.fluent_syntax_tree.specs.View.{entry_view};
 ghost use Rattle.fluent_syntax_grammar.specs.Nesting.{Deeper, in_entry};
 ghost use Rattle.fluent_syntax_grammar.specs.Tiling.{entry_at};
-ghost use Rattle.fluent_syntax_parser.specs.Meets.{Meets, NestsWithin, OnTooDeep};
+ghost use Rattle.fluent_syntax_parser.specs.Meets.{Meets, NestsWithin, OnTooDeep, Shallow};
 
 use crate::fault::ReadFault;
 use crate::options::Options;
@@ -27,6 +27,8 @@ impl<'s> Source<'s> {
         ensures nests { IfErr result (NestsWithin options.nesting (length self.now.bytes.now - start)) }
         ensures deeper { let t = self.now.bytes.now in
             IfErr result (OnTooDeep (Deeper options.edition t in_entry options.nesting start)) }
+        ensures shallow { let t = self.now.bytes.now in
+            Shallow (Deeper options.edition t in_entry options.nesting start) result }
     {
         if self.is_byte_at(b'#', start) {
             self.get_comment(alloc, start)

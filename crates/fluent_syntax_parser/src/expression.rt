@@ -6,7 +6,7 @@ ghost use Rattle.fluent_syntax_grammar.specs.Grammar.{expression, family, placea
 ghost use Rattle.fluent_syntax_grammar.specs.Nesting.{Deeper, in_expression, in_inline_expression, in_placeable};
 ghost use Rattle.fluent_syntax_grammar.specs.Placeables.{arrow_line_end, has_arrow};
 ghost use Rattle.fluent_syntax_grammar.specs.Places.{after_eol};
-ghost use Rattle.fluent_syntax_parser.specs.Meets.{Meets, MeetsEnd, NestsWithin, OnTooDeep};
+ghost use Rattle.fluent_syntax_parser.specs.Meets.{Meets, MeetsEnd, NestsWithin, OnTooDeep, Shallow};
 
 use crate::fault::{Fault, ReadFault, Refusal};
 use crate::forms::{is_term_attribute, selector_fault};
@@ -33,6 +33,8 @@ impl<'s> Source<'s> {
         ensures nests { IfErr result (NestsWithin nesting (length self.now.bytes.now - ptr)) }
         ensures deeper { let t = self.now.bytes.now in
             IfErr result (OnTooDeep (Deeper edition t in_inline_expression nesting ptr)) }
+        ensures shallow { let t = self.now.bytes.now in
+            Shallow (Deeper edition t in_inline_expression nesting ptr) result }
     {
         match self.start(ptr) {
             Start::Quote => {
@@ -130,6 +132,8 @@ impl<'s> Source<'s> {
         ensures nests { IfErr result (NestsWithin nesting (length self.now.bytes.now - ptr)) }
         ensures deeper { let t = self.now.bytes.now in
             IfErr result (OnTooDeep (Deeper edition t in_expression nesting ptr)) }
+        ensures shallow { let t = self.now.bytes.now in
+            Shallow (Deeper edition t in_expression nesting ptr) result }
     {
         let (expression, ptr) = self.get_inline_expression(alloc, edition, nesting, ptr)?;
         let ptr = self.skip_blank(ptr);
@@ -171,6 +175,8 @@ impl<'s> Source<'s> {
         ensures nests { IfErr result (NestsWithin nesting (length self.now.bytes.now - ptr)) }
         ensures deeper { let t = self.now.bytes.now in
             IfErr result (OnTooDeep (Deeper edition t in_placeable nesting ptr)) }
+        ensures shallow { let t = self.now.bytes.now in
+            Shallow (Deeper edition t in_placeable nesting ptr) result }
     {
         let start = self.expect_byte(b'{', ptr)?;
         if nesting == 0 {

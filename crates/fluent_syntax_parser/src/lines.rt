@@ -6,7 +6,7 @@ ghost use Rattle.fluent_syntax_grammar.specs.Layout.{crlf_at, lf_at};
 ghost use Rattle.fluent_syntax_grammar.specs.Lines.{belongs, ending, is_run_place};
 ghost use Rattle.fluent_syntax_grammar.specs.Nesting.{Deeper, in_lines, in_pieces};
 ghost use Rattle.fluent_syntax_grammar.specs.Places.{has_eol, Stretch};
-ghost use Rattle.fluent_syntax_parser.specs.Meets.{Meets, NestsWithin, OnTooDeep};
+ghost use Rattle.fluent_syntax_parser.specs.Meets.{Meets, NestsWithin, OnTooDeep, Shallow};
 ghost use Rattle.fluent_syntax_parser.specs.Endings.{EndsWithin};
 ghost use Rattle.fluent_syntax_parser.specs.Lines.{ending_view, line_view, piece_view};
 
@@ -92,6 +92,8 @@ impl<'s> Source<'s> {
         ensures nests { IfErr result (NestsWithin nesting (length self.now.bytes.now - ptr)) }
         ensures deeper { let t = self.now.bytes.now in
             IfErr result (OnTooDeep (Deeper edition t in_pieces nesting ptr)) }
+        ensures shallow { let t = self.now.bytes.now in
+            Shallow (Deeper edition t in_pieces nesting ptr) result }
     {
         let mut pieces = Vec::new(alloc);
         let mut place = ptr;
@@ -140,6 +142,8 @@ impl<'s> Source<'s> {
         ensures nests { IfErr result (NestsWithin nesting (length self.now.bytes.now - ptr)) }
         ensures deeper { let t = self.now.bytes.now in
             IfErr result (OnTooDeep (Deeper edition t in_lines nesting ptr)) }
+        ensures shallow { let t = self.now.bytes.now in
+            Shallow (Deeper edition t in_lines nesting ptr) result }
     {
         let mut lines = Vec::new(alloc);
         let mut start = ptr;

@@ -5,7 +5,7 @@ ghost use Rattle.fluent_syntax_tree.specs.View.{message_view, term_view};
 ghost use Rattle.fluent_syntax_grammar.specs.Entries.{message_entry, term_entry};
 ghost use Rattle.fluent_syntax_grammar.specs.Nesting.{Deeper, in_fields, in_message, in_term};
 ghost use Rattle.fluent_syntax_parser.specs.Fields.{fields, fields_view};
-ghost use Rattle.fluent_syntax_parser.specs.Meets.{Meets, NestsWithin, OnTooDeep};
+ghost use Rattle.fluent_syntax_parser.specs.Meets.{Meets, NestsWithin, OnTooDeep, Shallow};
 
 use crate::fault::{Fault, ReadFault, Refusal};
 use crate::source::Source;
@@ -36,6 +36,8 @@ impl<'s> Source<'s> {
         ensures nests { IfErr result (NestsWithin nesting (length self.now.bytes.now - ptr)) }
         ensures deeper { let t = self.now.bytes.now in
             IfErr result (OnTooDeep (Deeper edition t in_fields nesting ptr)) }
+        ensures shallow { let t = self.now.bytes.now in
+            Shallow (Deeper edition t in_fields nesting ptr) result }
     {
         let equals = self.skip_blank_inline(ptr);
         let start = self.expect_byte(b'=', equals)?;
@@ -59,6 +61,8 @@ impl<'s> Source<'s> {
         ensures nests { IfErr result (NestsWithin nesting (length self.now.bytes.now - start)) }
         ensures deeper { let t = self.now.bytes.now in
             IfErr result (OnTooDeep (Deeper edition t in_message nesting start)) }
+        ensures shallow { let t = self.now.bytes.now in
+            Shallow (Deeper edition t in_message nesting start) result }
     {
         let end = self.identifier_end(start)?;
         let name = Span { start, end };
@@ -93,6 +97,8 @@ impl<'s> Source<'s> {
         ensures nests { IfErr result (NestsWithin nesting (length self.now.bytes.now - start)) }
         ensures deeper { let t = self.now.bytes.now in
             IfErr result (OnTooDeep (Deeper edition t in_term nesting start)) }
+        ensures shallow { let t = self.now.bytes.now in
+            Shallow (Deeper edition t in_term nesting start) result }
     {
         let letter = self.expect_byte(b'-', start)?;
         let end = self.identifier_end(letter)?;

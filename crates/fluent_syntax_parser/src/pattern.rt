@@ -1,5 +1,5 @@
 //! Patterns.
-ghost use Rattle.std.specs.Prelude.{◌-◌, ◌≤◌, length, option_map, IfErr, IfOk, IfSome, []};
+ghost use Rattle.std.specs.Prelude.{◌-◌, ◌≤◌, ℕ, length, option_map, IfErr, IfOk, IfSome, []};
 ghost use Rattle.fluent_syntax_tree.specs.View.{pattern_view};
 ghost use Rattle.fluent_syntax_grammar.specs.Construct.{Read, at_each};
 ghost use Rattle.fluent_syntax_grammar.specs.Grammar.{family, pattern};
@@ -7,7 +7,7 @@ ghost use Rattle.fluent_syntax_grammar.specs.Nesting.{Deeper, in_layout, in_patt
 ghost use Rattle.fluent_syntax_grammar.specs.Patterns.{layout_at};
 ghost use Rattle.fluent_syntax_grammar.specs.Places.{after_eol};
 ghost use Rattle.fluent_syntax_parser.specs.Elements.{layout_view};
-ghost use Rattle.fluent_syntax_parser.specs.Meets.{Meets, NestsWithin, OnTooDeep};
+ghost use Rattle.fluent_syntax_parser.specs.Meets.{Meets, NestsWithin, OnTooDeep, Shallow};
 ghost use Rattle.fluent_syntax_parser.specs.ShortPatterns.{EndsLine, OpensAs};
 
 use crate::elements::Layout;
@@ -77,6 +77,8 @@ impl<'s> Source<'s> {
             (λ read. OpensAs edition self.now.bytes.now start (pattern_view (λ s. s) read.0) read.1)) }
         ensures within { IfOk result (λ short. IfSome short
             (λ read. (start ≤ read.1) × (read.1 ≤ length self.now.bytes.now))) }
+        ensures shallow { let t = self.now.bytes.now in IfOk result (λ short. IfSome short
+            (λ _. (n : ℕ) → Deeper edition t in_layout n start → ⊥)) }
     {
         let to = self.run_end(start);
         if start < to {
@@ -111,6 +113,8 @@ impl<'s> Source<'s> {
         ensures nests { IfErr result (NestsWithin nesting (length self.now.bytes.now - ptr)) }
         ensures deeper { let t = self.now.bytes.now in
             IfErr result (OnTooDeep (Deeper edition t in_layout nesting ptr)) }
+        ensures shallow { let t = self.now.bytes.now in
+            Shallow (Deeper edition t in_layout nesting ptr) result }
     {
         match self.eol_end(ptr) {
             Some(next) => {
@@ -156,6 +160,8 @@ impl<'s> Source<'s> {
         ensures nests { IfErr result (NestsWithin nesting (length self.now.bytes.now - ptr)) }
         ensures deeper { let t = self.now.bytes.now in
             IfErr result (OnTooDeep (Deeper edition t in_pattern nesting ptr)) }
+        ensures shallow { let t = self.now.bytes.now in
+            Shallow (Deeper edition t in_pattern nesting ptr) result }
     {
         let start = self.skip_blank_inline(ptr);
         let short = self.get_short_pattern(alloc, edition, start)?;

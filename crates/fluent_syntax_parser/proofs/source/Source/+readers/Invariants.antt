@@ -57,6 +57,8 @@ invariant-get_arguments-loop-alloc l =
           (put_arguments l.positional.items l.named.items) l.ptr l.place;
       deeper : Deeper l.edition t (in_arguments (names_in t l.named.items)) l.nesting l.place →
           Deeper l.edition t (in_arguments []) l.nesting l.ptr;
+      shallow : Deeper l.edition t (in_arguments []) l.nesting l.ptr →
+          Deeper l.edition t (in_arguments (names_in t l.named.items)) l.nesting l.place;
     }
 
 abbrev pub decreases-get_arguments-loop-alloc : goal.decreases-get_arguments-loop-alloc
@@ -73,6 +75,8 @@ invariant-get_variants-loop-starred l =
           (put_variants l.variants.items) l.ptr l.place;
       deeper : Deeper l.edition t (in_variants l.starred) l.nesting l.place →
           Deeper l.edition t (in_variants false) l.nesting l.ptr;
+      shallow : Deeper l.edition t (in_variants false) l.nesting l.ptr →
+          Deeper l.edition t (in_variants l.starred) l.nesting l.place;
     }
 
 abbrev pub decreases-get_variants-loop-starred : goal.decreases-get_variants-loop-starred
@@ -86,6 +90,7 @@ invariant-get_pieces-loop-pieces l =
       within : l.place ≤ length t;
       gathered : Gathers (family l.edition t).more_pieces piece_view l.ptr l.pieces.items l.place;
       deeper : Deeper l.edition t in_pieces l.nesting l.place → Deeper l.edition t in_pieces l.nesting l.ptr;
+      shallow : Deeper l.edition t in_pieces l.nesting l.ptr → Deeper l.edition t in_pieces l.nesting l.place;
     }
 
 abbrev pub decreases-get_pieces-loop-pieces : goal.decreases-get_pieces-loop-pieces
@@ -99,6 +104,7 @@ invariant-get_lines-loop-lines l =
       within : l.start ≤ length t;
       gathered : Gathers (family l.edition t).more_lines line_view l.ptr l.lines.items l.start;
       deeper : Deeper l.edition t in_lines l.nesting l.start → Deeper l.edition t in_lines l.nesting l.ptr;
+      shallow : Deeper l.edition t in_lines l.nesting l.ptr → Deeper l.edition t in_lines l.nesting l.start;
     }
 
 abbrev pub decreases-get_lines-loop-lines : goal.decreases-get_lines-loop-lines

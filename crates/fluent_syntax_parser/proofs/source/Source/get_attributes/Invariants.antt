@@ -12,6 +12,8 @@ invariant-loop-attribute l = record {
   gathered : Gathers (attributes l.edition l.self.bytes.now) (attribute_view (λ s. s)) l.ptr l.attributes.items l.place;
   deeper : Deeper l.edition l.self.bytes.now in_attributes l.nesting l.place →
       Deeper l.edition l.self.bytes.now in_attributes l.nesting l.ptr;
+  shallow : Deeper l.edition l.self.bytes.now in_attributes l.nesting l.ptr →
+      Deeper l.edition l.self.bytes.now in_attributes l.nesting l.place;
 }
 
 abbrev pub decreases-loop-attribute : goal.decreases-loop-attribute
