@@ -2,6 +2,7 @@
 use Rattle.std.proofs.Common.{◌≡◌, ℕ, ◌+◌, ◌<◌, ◌≤◌, List, [], ◌∷◌, length, Option, Some, None, Bool, true, false, refl, sym, ◌∙◌, subst, arith, inl, inr}
 use Rattle.std.specs.Prelude.{slice_get, ◌⊎◌, ◌==◌, ◌||◌, ◌&&◌, not, nat_lt}
 use Rattle.std.proofs.lemmas.Bool.Decides.{nat_tests}
+use Rattle.std.proofs.lemmas.Option.{slice_get_past}
 use Rattle.fluent_syntax_tree.specs.Entry.{AttributeTree}
 use Rattle.fluent_syntax_tree.specs.Kind.{Kind}
 use Rattle.fluent_syntax_tree.specs.Spans.{bytes_at}
@@ -17,10 +18,11 @@ use Rattle.fluent_syntax_grammar.specs.Grammar.{family, pattern, placeable}
 use Rattle.fluent_syntax_grammar.specs.Laws.{IsFunctional}
 use Rattle.fluent_syntax_grammar.specs.Layout.{Piece, Ending}
 use Rattle.fluent_syntax_grammar.specs.Lines.{belongs, ending, is_run_place, more_lines, no_byte, other_line, own_line}
-use Rattle.fluent_syntax_grammar.specs.Nesting.{Deeper, IsArgument, IsNamed, OwnLine, Selects, attribute_head, begins_value, fields_head, list_head, placeable_head, select_head, term_head, variant_head, in_inline_expression, in_value, in_call, in_expression, in_placeable, in_arguments, in_variants, in_pieces, in_lines, in_layout, in_pattern, in_attribute, in_attributes, in_fields, in_message, in_term, in_entry, opens_placeable, in_braces, opens_list, in_list, its_term_arguments, its_arguments, its_placeable, its_selector, its_variants, its_value, its_argument, its_named_value, behind_named, behind_positional, its_pattern, behind_variant, its_piece, behind_placeable, behind_run, its_line, behind_line, its_lines, its_opening, behind_opening, its_layout, its_text, its_attribute, behind_attribute, its_field, behind_field, its_message_fields, its_term_fields, its_message, its_term}
+use Rattle.fluent_syntax_grammar.specs.Nesting.{Deeper, IsArgument, IsNamed, OwnLine, Selects, attribute_head, begins_value, fields_head, list_head, placeable_head, select_head, term_head, variant_head, in_inline_expression, in_value, in_call, in_expression, in_placeable, in_arguments, in_variants, in_pieces, in_lines, in_layout, in_pattern, in_attribute, in_attributes, in_fields, in_message, in_term, in_entry, opens_placeable, in_braces, opens_list, in_list, its_term_arguments, its_arguments, its_placeable, its_selector, its_variants, its_value, its_argument, its_named_value, behind_named, behind_positional, its_pattern, behind_variant, its_piece, behind_placeable, behind_run, its_line, behind_line, its_lines, its_opening, behind_opening, its_layout, its_text, its_attribute, behind_attribute, its_field, behind_field, its_message_fields, its_term_fields, its_message, its_term, TextDeeper, TileDeeper, its_entry, behind_tile}
 use Rattle.fluent_syntax_grammar.specs.Placeables.{arrow_line_end, has_arrow, selector_fault}
 use Rattle.fluent_syntax_grammar.specs.Places.{Blank, BlankBlock, InlineBlank, Stretch, after_eol, has_byte, has_eol, holds}
 use Rattle.fluent_syntax_grammar.specs.Starts.{Start, term, letter, brace, start}
+use Rattle.fluent_syntax_grammar.specs.Tiling.{Tile}
 use Rattle.fluent_syntax_grammar.specs.Variants.{only_star, variant_key}
 use Rattle.fluent_syntax_grammar.specs.Words.{identifier, token}
 use Rattle.fluent_syntax_grammar.proofs.Facts.{differs, equal, some_same}
@@ -29,6 +31,7 @@ use Rattle.fluent_syntax_grammar.proofs.FunctionalEntries.{functional_attribute,
 use Rattle.fluent_syntax_grammar.proofs.FunctionalRules as rules
 use Rattle.fluent_syntax_grammar.proofs.FunctionalWords.{functional_identifier, functional_optional, functional_token, functional_number}
 use Rattle.fluent_syntax_grammar.proofs.Nesting.{from_family, functional_family}
+use Rattle.fluent_syntax_grammar.proofs.OneTiling.{IsOneTile}
 
 ruleset words =
     (functional, functional_optional, functional_token, functional_identifier, functional_number)
@@ -586,3 +589,23 @@ module _ (edition : Edition) (t : List ℕ) where
     entry_end none (its_message a b (its_message_fields x d)) =
         clash (functional_identifier t) i x (goes_on at_place (goes_on (chosen given) (second (rw none refl) (failed refl))))
     entry_end none (its_term mark d) = let f = rw none at mark in cc
+
+-- ---- tiles
+
+module _ (edition : Edition) (t : List ℕ) (at : (i j : ℕ) → Tile → Type 0) {n i : ℕ} where
+  -- behind a tile whose entry nests no deeper
+  pub tile_led : IsOneTile at → (j : ℕ) (tile : Tile) → at i j tile → (Deeper edition t in_entry n i → ⊥) →
+      TileDeeper edition t at n i → TextDeeper edition t at n j
+  tile_led one j tile stands none (its_entry d) = absurd (none d)
+  tile_led one j tile stands none (behind_tile {end = end} {next = next} {tile = x} inside other block d) =
+      (next, subst (λ end. BlankBlock t end next) (one.same_end i end j x tile other stands) block, d)
+
+  -- behind a blank block
+  pub block_behind : (j : ℕ) → BlankBlock t i j → TextDeeper edition t at n i → TileDeeper edition t at n j
+  block_behind j block (start, other, d) =
+      subst (λ start. TileDeeper edition t at n start) (single_block.same i start j other block) d
+
+  -- no tile stands at the text's end
+  pub tile_at_end : i ≡ length t → TileDeeper edition t at n i → ⊥
+  tile_at_end end (its_entry d) = entry_end edition t (slice_get_past t i (omega (arith, end))) d
+  tile_at_end end (behind_tile inside other block d) = omega (arith, end, inside)

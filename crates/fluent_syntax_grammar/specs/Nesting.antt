@@ -136,12 +136,10 @@ module _ (edition : Edition) (t : List ℕ) where
     opens_placeable : {i j n : ℕ} → n ≡ 0 → token t left_brace i (Read tt j) → Deeper in_placeable n i
     in_braces : {i j m n : ℕ} → n ≡ m + 1 → placeable_head t i (Read tt j) → Deeper in_expression m j →
         Deeper in_placeable n i
-
     -- an argument list
     opens_list : {i j n : ℕ} → n ≡ 0 → list_head t i (Read tt j) → Deeper in_call n i
     in_list : {i j k m n : ℕ} → n ≡ m + 1 → list_head t i (Read tt j) → Blank t j k → Deeper (in_arguments []) m k →
         Deeper in_call n i
-
     -- ---- what holds them
 
     its_term_arguments : {i j n : ℕ} {a : Option Span} → start t i ≡ term → term_head t i (Read a j) →
@@ -149,12 +147,9 @@ module _ (edition : Edition) (t : List ℕ) where
     its_arguments : {i j n : ℕ} {id : Span} → start t i ≡ letter → identifier t i (Read id j) → Deeper in_call n j →
         Deeper in_inline_expression n i
     its_placeable : {i n : ℕ} → start t i ≡ brace → Deeper in_placeable n i → Deeper in_inline_expression n i
-
     its_selector : {i n : ℕ} → Deeper in_inline_expression n i → Deeper in_expression n i
     its_variants : {i j n : ℕ} → Selects i j → Deeper (in_variants false) n j → Deeper in_expression n i
-
     its_value : {i n : ℕ} → begins_value (start t i) ≡ true → Deeper in_inline_expression n i → Deeper in_value n i
-
     its_argument : {i n : ℕ} {names : List (List ℕ)} → has_byte t right_parenthesis i ≡ false →
         Deeper in_inline_expression n i → Deeper (in_arguments names) n i
     its_named_value : {i k n : ℕ} {names : List (List ℕ)} {name : Span} → IsNamed names i name k →
@@ -166,43 +161,35 @@ module _ (edition : Edition) (t : List ℕ) where
     behind_positional : {i end next n : ℕ} {e : InlineTree Span} → IsArgument i e end →
         (argument_name e ≡ None) ⊎ (has_byte t colon end ≡ false) → separator t end (Read tt next) →
         Deeper (in_arguments []) n next → Deeper (in_arguments []) n i
-
     its_pattern : {i j n : ℕ} {starred star : Bool} → variant_head t starred i (Read star j) → Deeper in_pattern n j →
         Deeper (in_variants starred) n i
     behind_variant : {i j k m n : ℕ} {starred star : Bool} {value : PatternTree Span} →
         variant_head t starred i (Read star j) → pattern edition t j (Read (Some value) k) → Blank t k m →
         Deeper (in_variants (starred || star)) n m → Deeper (in_variants starred) n i
-
     its_piece : {i n : ℕ} → Deeper in_placeable n i → Deeper in_pieces n i
     behind_placeable : {i j n : ℕ} {e : ExpressionTree Span} → placeable edition t i (Read e j) →
         Deeper in_pieces n j → Deeper in_pieces n i
     behind_run : {i j n : ℕ} → is_run_place t i ≡ true → Stretch (is_run_place t) i j → Deeper in_pieces n j →
         Deeper in_pieces n i
-
     its_line : {i k n : ℕ} → OwnLine t i k → Deeper in_pieces n k → Deeper in_lines n i
     behind_line : {i k j m n : ℕ} (pieces : List Piece) {end : Ending} → OwnLine t i k →
         (family edition t).more_pieces k (Read pieces j) → ending t j (Read end m) → Deeper in_lines n m →
         Deeper in_lines n i
-
     its_lines : {i k m n : ℕ} → after_eol t i ≡ Some k → BlankBlock t k m → Deeper in_lines n m → Deeper in_layout n i
     its_opening : {i n : ℕ} → after_eol t i ≡ None → Deeper in_pieces n i → Deeper in_layout n i
     behind_opening : {i j m n : ℕ} (pieces : List Piece) {end : Ending} → after_eol t i ≡ None →
         (family edition t).more_pieces i (Read pieces j) → ending t j (Read end m) → Deeper in_lines n m →
         Deeper in_layout n i
     its_layout : {i j n : ℕ} → InlineBlank t i j → Deeper in_layout n j → Deeper in_pattern n i
-
     -- ---- entries
 
     its_text : {i j n : ℕ} → attribute_head t i (Read tt j) → Deeper in_pattern n j → Deeper in_attribute n i
-
     its_attribute : {i n : ℕ} → Deeper in_attribute n i → Deeper in_attributes n i
     behind_attribute : {i j n : ℕ} {a : AttributeTree Span} → attribute edition t i (Read a j) →
         Deeper in_attributes n j → Deeper in_attributes n i
-
     its_field : {i j n : ℕ} → fields_head t i (Read tt j) → Deeper in_pattern n j → Deeper in_fields n i
     behind_field : {i j k m n : ℕ} {value : Option (PatternTree Span)} → fields_head t i (Read tt j) →
         pattern edition t j (Read value k) → BlankBlock t k m → Deeper in_attributes n m → Deeper in_fields n i
-
     its_message_fields : {i j n : ℕ} {id : Span} → identifier t i (Read id j) → Deeper in_fields n j →
         Deeper in_message n i
     its_term_fields : {i j k n : ℕ} {id : Span} → token t hyphen i (Read tt j) → identifier t j (Read id k) →

@@ -11,7 +11,9 @@ use Rattle.fluent_syntax_grammar.specs.Nesting.{Deeper, TextDeeper, TileDeeper, 
 use Rattle.fluent_syntax_grammar.specs.Places.{BlankBlock, has_byte}
 use Rattle.fluent_syntax_grammar.specs.Tiling.{Tile, entry, TileAt, drops, whole_line}
 use Rattle.fluent_syntax_grammar.proofs.BareEntries.{bare_tile_at}
+use Rattle.fluent_syntax_grammar.proofs.OneTiling.{IsOneTile, one_runtime_tile, one_tile}
 use Rattle.fluent_syntax_grammar.proofs.Runtime.{IsBareTile}
+use Rattle.fluent_syntax_grammar.proofs.Shallow.{entry_comment, tile_led}
 use Rattle.fluent_syntax_parser.proofs.Rests.{in_mode, is_comment}
 use Rattle.fluent_syntax_parser.specs.Rest.{GivesTile, TileIn, are_dropped, tree_of}
 use Rattle.fluent_syntax_parser.specs.declared.options.Comments.{Comments}
@@ -58,3 +60,35 @@ module _ (edition : Edition) (t : List ℕ) (i j n : ℕ) (inside : i < length t
     behind_hung Dropped none k through h =
         absurd (subst IsBareTile (is_comment edition t i j inside e error tile content same)
         (bare_tile_at edition t i j tile.tile (none refl) tile.stands))
+
+-- ---- where the first tile nests no deeper
+
+one_in : (comments : Comments) (edition : Edition) (t : List ℕ) → IsOneTile (TileIn comments edition t)
+one_in Kept edition t = one_tile edition t
+one_in Dropped edition t = one_runtime_tile edition t
+
+module _ (edition : Edition) (t : List ℕ) (i j n : ℕ) where
+  pub dropped_led : (comments : Comments) → are_dropped comments ≡ true → has_byte t hash i ≡ true →
+      whole_line t i (Read tt j) → TileDeeper edition t (TileIn comments edition t) n i →
+      TextDeeper edition t (TileIn comments edition t) n j
+  dropped_led Kept no_drop there line h = cc
+  dropped_led Dropped drop there line h =
+      tile_led edition t (TileIn Dropped edition t) (one_in Dropped edition t) j _ (drops there line)
+      (entry_comment edition t there) h
+
+  module _ (e : Entry Span) (error : Option ParserError) (tile : GivesTile edition t i j e error)
+      (none : Deeper edition t in_entry n i → ⊥) where
+    pub given_led : (comments : Comments) → (are_dropped comments ≡ true → has_byte t hash i ≡ false) →
+        TileDeeper edition t (TileIn comments edition t) n i → TextDeeper edition t (TileIn comments edition t) n j
+    given_led comments other h =
+        tile_led edition t (TileIn comments edition t) (one_in comments edition t) j tile.tile
+        (in_mode comments edition t i j tile.tile other tile.stands) none h
+
+    pub hung_led : i < length t → (content : List Span) → tree_of e ≡ comment regular content →
+        (comments : Comments) → (are_dropped comments ≡ true → has_byte t hash i ≡ false) → (k : ℕ) →
+        (TextDeeper edition t (TileAt edition t) n j → TextDeeper edition t (TileAt edition t) n k) →
+        TileDeeper edition t (TileIn comments edition t) n i → TextDeeper edition t (TileIn comments edition t) n k
+    hung_led inside content same Kept other k through h = through (given_led Kept other h)
+    hung_led inside content same Dropped other k through h =
+        absurd (subst IsBareTile (is_comment edition t i j inside e error tile content same)
+        (bare_tile_at edition t i j tile.tile (other refl) tile.stands))

@@ -1,7 +1,7 @@
 //! Entries one by one.
 ghost use Rattle.std.specs.Prelude.{◌≡◌, ◌-◌, ◌≤◌, length, IfErr, IfOk, OnErr};
 ghost use Rattle.fluent_syntax_grammar.specs.Nesting.{TextDeeper};
-ghost use Rattle.fluent_syntax_parser.specs.Halts.{HaltsWithin, OnHalt};
+ghost use Rattle.fluent_syntax_parser.specs.Halts.{ComesTo, HaltsWithin, OnHalt};
 ghost use Rattle.fluent_syntax_parser.specs.Rest.{NextTo, TileIn};
 
 use crate::options::{Halt, Options};
@@ -54,6 +54,9 @@ impl<'s> Entries<'s> {
         ensures deeper { let t = self.old.source.bytes.now in let options = self.old.options in
             let at = TileIn options.comments options.edition t in
             IfErr result (OnHalt (TextDeeper options.edition t at options.nesting self.old.ptr)) }
+        ensures shallow { let t = self.old.source.bytes.now in let options = self.old.options in
+            let at = TileIn options.comments options.edition t in
+            IfOk result (ComesTo (TextDeeper options.edition t at options.nesting) self.old.ptr self.new.ptr) }
     {
         match self.source.next_entry(alloc, self.options, self.ptr)? {
             Some((entry, error, end)) => {

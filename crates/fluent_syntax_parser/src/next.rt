@@ -6,7 +6,7 @@ ghost use Rattle.fluent_syntax_grammar.specs.Bytes.{hash};
 ghost use Rattle.fluent_syntax_grammar.specs.Nesting.{TextDeeper, TileDeeper};
 ghost use Rattle.fluent_syntax_grammar.specs.Places.{BlankBlock, has_byte};
 ghost use Rattle.fluent_syntax_grammar.specs.Tiling.{Fault};
-ghost use Rattle.fluent_syntax_parser.specs.Halts.{HaltsWithin, OnHalt};
+ghost use Rattle.fluent_syntax_parser.specs.Halts.{ComesNext, HaltsWithin, OnHalt};
 ghost use Rattle.fluent_syntax_parser.specs.Rest.{Next, Rest, RestAt, TileIn, are_dropped};
 
 use crate::options::{Comments, Halt, Options};
@@ -35,8 +35,12 @@ impl<'s> Source<'s> {
         ensures rest { (edition : Edition) (entries : BodyTree Span) (errors : List (Option Fault)) →
             RestAt comments edition self.now.bytes.now result entries errors →
             Rest comments edition self.now.bytes.now ptr entries errors }
-        ensures deeper { (edition : Edition) (n : ℕ) → let t = self.now.bytes.now in let at = TileIn comments edition t in
+        ensures deeper { (edition : Edition) (n : ℕ) →
+            let t = self.now.bytes.now in let at = TileIn comments edition t in
             TileDeeper edition t at n result → TextDeeper edition t at n ptr }
+        ensures shallow { (edition : Edition) (n : ℕ) →
+            let t = self.now.bytes.now in let at = TileIn comments edition t in
+            TextDeeper edition t at n ptr → TileDeeper edition t at n result }
         ensures dropped { are_dropped comments ≡ true → has_byte self.now.bytes.now hash result ≡ false }
         ensures blank { let t = self.now.bytes.now in BlankBlock t ptr (length t) → result ≡ length t }
         ensures within { (ptr ≤ result) × (result ≤ length self.now.bytes.now) }
@@ -67,6 +71,8 @@ impl<'s> Source<'s> {
         ensures behind { let t = self.now.bytes.now in let at = TileIn options.comments options.edition t in
             let deeper = TextDeeper options.edition t at options.nesting in
             IfOk result (λ found. IfSome found (λ read. deeper read.2 → deeper ptr)) }
+        ensures shallow { let t = self.now.bytes.now in let at = TileIn options.comments options.edition t in
+            IfOk result (ComesNext (TextDeeper options.edition t at options.nesting) ptr) }
     {
         let start = self.tile_start(options.comments, ptr);
         if start == self.bytes.len() {

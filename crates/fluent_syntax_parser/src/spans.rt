@@ -60,6 +60,8 @@ impl<'s> Source<'s> {
         ensures nests { IfErr result (HaltsWithin options.nesting (length self.now.bytes.now)) }
         ensures deeper { let t = self.now.bytes.now in let at = TileIn options.comments options.edition t in
             IfErr result (OnHalt (TextDeeper options.edition t at options.nesting 0)) }
+        ensures shallow { let t = self.now.bytes.now in let at = TileIn options.comments options.edition t in
+            IfOk result (λ _. TextDeeper options.edition t at options.nesting 0 → ⊥) }
     {
         let mut body = Vec::new(alloc);
         let mut errors = Vec::new(alloc);

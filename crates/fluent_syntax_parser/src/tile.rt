@@ -62,6 +62,8 @@ impl<'s> Source<'s> {
         ensures nests { IfErr result (HaltsWithin options.nesting (length self.now.bytes.now - start)) }
         ensures deeper { let t = self.now.bytes.now in
             IfErr result (OnHalt (Deeper options.edition t in_entry options.nesting start)) }
+        ensures shallow { let t = self.now.bytes.now in
+            IfOk result (λ _. Deeper options.edition t in_entry options.nesting start → ⊥) }
     {
         match self.get_entry(alloc, options, start) {
             Ok((entry, end)) => Ok((entry, None, end)),
@@ -95,6 +97,9 @@ impl<'s> Source<'s> {
         ensures behind { let t = self.now.bytes.now in let edition = options.edition in
             let deeper = TextDeeper edition t (TileAt edition t) options.nesting in
             IfOk result (λ read. deeper read.1 → deeper ptr) }
+        ensures shallow { let t = self.now.bytes.now in let edition = options.edition in
+            let deeper = TextDeeper edition t (TileAt edition t) options.nesting in
+            IfOk result (λ read. deeper ptr → deeper read.1) }
     {
         if self.is_byte_at(b'#', ptr) || self.skip_blank_block(ptr) != ptr {
             return Ok((Entry::Comment(comment), ptr));

@@ -20,6 +20,10 @@ invariant-loop-errors l = record {
       (TileIn l.options.comments l.options.edition l.self.bytes.now) l.options.nesting l.ptr →
       TextDeeper l.options.edition l.self.bytes.now (TileIn l.options.comments l.options.edition l.self.bytes.now)
       l.options.nesting 0;
+  shallow : TextDeeper l.options.edition l.self.bytes.now
+      (TileIn l.options.comments l.options.edition l.self.bytes.now) l.options.nesting 0 →
+      TextDeeper l.options.edition l.self.bytes.now (TileIn l.options.comments l.options.edition l.self.bytes.now)
+      l.options.nesting l.ptr;
   blank : BlankBlock l.self.bytes.now 0 (length l.self.bytes.now) → (l.ptr ≡ 0) × (l.errors.items ≡ []);
 }
 

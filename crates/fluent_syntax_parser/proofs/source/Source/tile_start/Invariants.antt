@@ -18,6 +18,9 @@ invariant-loop-comments l = record {
   deeper : (edition : Edition) (n : ℕ) →
       TileDeeper edition l.self.bytes.now (TileIn l.comments edition l.self.bytes.now) n l.start →
       TextDeeper edition l.self.bytes.now (TileIn l.comments edition l.self.bytes.now) n l.ptr;
+  shallow : (edition : Edition) (n : ℕ) →
+      TextDeeper edition l.self.bytes.now (TileIn l.comments edition l.self.bytes.now) n l.ptr →
+      TileDeeper edition l.self.bytes.now (TileIn l.comments edition l.self.bytes.now) n l.start;
   blank : BlankBlock l.self.bytes.now l.ptr (length l.self.bytes.now) → l.start ≡ length l.self.bytes.now;
 }
 
