@@ -7,9 +7,9 @@ use Rattle.fluent_syntax_tree.specs.declared.errors.ParserError.{ParserError}
 use Rattle.fluent_syntax_tree.specs.declared.spans.Span.{Span}
 use Rattle.fluent_syntax_grammar.specs.Bytes.{hash}
 use Rattle.fluent_syntax_grammar.specs.Construct.{Read}
-use Rattle.fluent_syntax_grammar.specs.Nesting.{Deeper, TextDeeper, TileDeeper, behind_tile, in_entry, its_entry}
-use Rattle.fluent_syntax_grammar.specs.Places.{BlankBlock, has_byte}
-use Rattle.fluent_syntax_grammar.specs.Tiling.{Tile, entry, TileAt, drops, whole_line}
+use Rattle.fluent_syntax_grammar.specs.Nesting.{Deeper, TextDeeper, TileDeeper, behind_tile, in_entry}
+use Rattle.fluent_syntax_grammar.specs.Places.{has_byte}
+use Rattle.fluent_syntax_grammar.specs.Tiling.{Tile, TileAt, drops, whole_line}
 use Rattle.fluent_syntax_grammar.proofs.BareEntries.{bare_tile_at}
 use Rattle.fluent_syntax_grammar.proofs.OneTiling.{IsOneTile, one_runtime_tile, one_tile}
 use Rattle.fluent_syntax_grammar.proofs.Runtime.{IsBareTile}
