@@ -99,7 +99,7 @@ module _ (t : List ℕ) (R : Family) (h : IsFunctionalFamily R) where
   pub functional_inline : IsFunctional (inline_expression t R)
   functional_inline = search (words, functional_inline_of) depth 30
 
-  functional_value : (s : Start) → IsFunctional (argument_value t R s)
+  pub functional_value : (s : Start) → IsFunctional (argument_value t R s)
   functional_value quote = h.inline_expression
   functional_value digit = h.inline_expression
   functional_value minus = search words depth 30

@@ -18,13 +18,16 @@ use Rattle.fluent_syntax_grammar.specs.Construct.{Outcome, Read, Refused, ◌>>=
 use Rattle.fluent_syntax_grammar.specs.Construct.{failed, passed, chosen, first, second}
 use Rattle.fluent_syntax_grammar.specs.Family.{Family}
 use Rattle.fluent_syntax_grammar.specs.Grammar.{family}
+use Rattle.fluent_syntax_grammar.specs.Nesting.{Deeper, IsArgument, behind_positional, in_arguments, in_inline_expression}
 use Rattle.fluent_syntax_grammar.specs.Places.{Blank, has_byte}
-use Rattle.fluent_syntax_grammar.specs.Starts.{start}
+use Rattle.fluent_syntax_grammar.specs.Starts.{other, start}
 use Rattle.fluent_syntax_grammar.specs.Words.{token}
 use Rattle.fluent_syntax_grammar.proofs.Facts.{byte_found}
 use Rattle.fluent_syntax_grammar.proofs.Nesting.{into_more_arguments}
+use Rattle.fluent_syntax_grammar.proofs.Shallow.{arguments_stuck, plain_start, positional_led}
 use Rattle.fluent_syntax_parser.specs.Gathered.{names_in}
 use Rattle.fluent_syntax_parser.proofs.GatheredArguments.{put_arguments, put_named, put_positional}
+use Rattle.fluent_syntax_parser.proofs.InlineStarts.{by_start}
 use Rattle.fluent_syntax_parser.proofs.Names.{names_added}
 use Rattle.fluent_syntax_parser.proofs.Puts.{Puts, one_put}
 
@@ -54,7 +57,7 @@ module _ (edition : Edition) (t : List ℕ) where
       (chosen {o = Read (arguments no_inlines no_named) (i + 1)}
       (rw found.1 (first found.2 (goes_on close given))))
 
-  module _ (names : List (List ℕ)) (i : ℕ) (within : i < length t) (other : has_byte t right_parenthesis i ≡ false)
+  module _ (names : List (List ℕ)) (i : ℕ) (within : i < length t) (no_end : has_byte t right_parenthesis i ≡ false)
     where
       begins : (o : Outcome (ArgumentsTree Span)) →
           (R.inline_expression >>= λ e.
@@ -63,7 +66,7 @@ module _ (edition : Edition) (t : List ℕ) where
           R.more_arguments names i o
       begins o h =
           let byte = slice_get-get_or t i 0 within in
-          let test = rw byte at other in
+          let test = rw byte at no_end in
           into_more_arguments edition t names i o (chosen {o = o} (rw byte (second test h)))
 
       pub inline_fails : (k : Kind) (from to : ℕ) → R.inline_expression i (Refused k from to) →
@@ -94,7 +97,7 @@ module _ (edition : Edition) (t : List ℕ) where
 
   module _ (ps : List (InlineExpression Span)) (ns : List (NamedArgument Span)) (from i : ℕ)
       (gathered : Puts (R.more_arguments (names_in t ns)) (R.more_arguments []) (put_arguments ps ns) from i)
-      (within : i < length t) (other : has_byte t right_parenthesis i ≡ false)
+      (within : i < length t) (no_end : has_byte t right_parenthesis i ≡ false)
       (e : InlineExpression Span) (j : ℕ) (read : R.inline_expression i (Read (inline_view (λ s. s) e) j)) where
     -- one more named argument
     pub one_named : (x : NamedArgument Span) → argument_name (inline_view (λ s. s) e) ≡ Some x.name.name →
@@ -109,7 +112,7 @@ module _ (edition : Edition) (t : List ℕ) where
         let add = add_named x.name.name (inline_view (λ s. s) x.value) in
         one_put (R.more_arguments []) from (R.more_arguments (names_in t ns)) (R.more_arguments (names_in t more))
         (put_arguments ps ns) (put_arguments ps more) add i next gathered (put_named ps ns more x pushed)
-        (λ rest last h. named (names_in t ns) i within other (inline_view (λ s. s) e) j read x.name.name is mark
+        (λ rest last h. named (names_in t ns) i within no_end (inline_view (λ s. s) e) j read x.name.name is mark
         (Read (add rest) last)
         (second new
         (goes_on (token_there t colon j mark)
@@ -117,7 +120,7 @@ module _ (edition : Edition) (t : List ℕ) where
         (goes_on value
         (goes_on after
         (goes_on (subst (λ xs. R.more_arguments xs next (Read rest last)) names h) given)))))))
-        (λ k a b h. named (names_in t ns) i within other (inline_view (λ s. s) e) j read x.name.name is mark
+        (λ k a b h. named (names_in t ns) i within no_end (inline_view (λ s. s) e) j read x.name.name is mark
         (Refused k a b)
         (second new
         (goes_on (token_there t colon j mark)
@@ -135,13 +138,41 @@ module _ (edition : Edition) (t : List ℕ) where
         let add = add_positional (inline_view (λ s. s) e) in
         one_put (R.more_arguments []) from (R.more_arguments (names_in t ns)) (R.more_arguments (names_in t ns))
         (put_arguments ps ns) (put_arguments more ns) add i next gathered (put_positional ps more ns e pushed)
-        (λ rest last h. positional (names_in t ns) i within other (inline_view (λ s. s) e) j read is
+        (λ rest last h. positional (names_in t ns) i within no_end (inline_view (λ s. s) e) j read is
         (Read (add rest) last)
         (subst (λ xs. positional_and_more t R xs (inline_view (λ s. s) e) j (Read (add rest) last)) (sym names)
         (goes_on after
         (goes_on (subst (λ xs. R.more_arguments xs next (Read rest last)) names h) given))))
-        (λ k a b h. positional (names_in t ns) i within other (inline_view (λ s. s) e) j read is
+        (λ k a b h. positional (names_in t ns) i within no_end (inline_view (λ s. s) e) j read is
         (Refused k a b)
         (subst (λ xs. positional_and_more t R xs (inline_view (λ s. s) e) j (Refused k a b)) (sym names)
         (goes_on after
         (stops (subst (λ xs. R.more_arguments xs next (Refused k a b)) names h)))))
+
+-- the names of named arguments with one more
+pub one_name_more : (t : List ℕ) (ns : List (NamedArgument Span)) (x : NamedArgument Span)
+    (more : List (NamedArgument Span)) → more ≡ ns ++ x ∷ [] →
+    names_in t more ≡ bytes_at t x.name.name ∷ names_in t ns
+one_name_more t ns x more pushed = ap (names_in t) pushed ∙ names_added t ns x
+
+module _ (edition : Edition) (t : List ℕ) (ns : List (NamedArgument Span)) (none : ns ≡ []) where
+  -- what nests behind a positional argument, where no named one stands before it
+  pub behind_only_positional : {i end next n : ℕ} {e : InlineTree Span} → IsArgument edition t i e end →
+      (argument_name e ≡ None) ⊎ (has_byte t colon end ≡ false) → separator t end (Read tt next) →
+      Deeper edition t (in_arguments (names_in t ns)) n next → Deeper edition t (in_arguments (names_in t ns)) n i
+  behind_only_positional argument is after h = rw none (behind_positional argument is after (rw none at h))
+
+  pub only_positional_led : {i n : ℕ} (e : InlineTree Span) (j next : ℕ) →
+      (family edition t).inline_expression i (Read e j) → (argument_name e ≡ None) ⊎ (has_byte t colon j ≡ false) →
+      separator t j (Read tt next) → Deeper edition t (in_arguments (names_in t ns)) n i →
+      Deeper edition t in_inline_expression n i ⊎ Deeper edition t (in_arguments (names_in t ns)) n next
+  only_positional_led e j next read is after h = rw none (positional_led edition t e j read next is after (rw none at h))
+
+-- the text's end holds no opening
+pub end_flat : (edition : Edition) (t : List ℕ) {n : ℕ} (names : List (List ℕ)) (i : ℕ) → length t ≤ i →
+    Deeper edition t (in_arguments names) n i → ⊥
+end_flat edition t names i past h =
+    let none = slice_get_past t i past in
+    let at_end : other ≡ start t i = rw none refl in
+    plain_start edition t at_end (λ e. cc) (λ e. cc) (λ e. cc)
+    (arguments_stuck edition t _ _ _ names (by_start edition t i other _ at_end (failed refl)) h)

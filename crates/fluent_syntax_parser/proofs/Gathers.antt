@@ -5,7 +5,7 @@ use Rattle.fluent_syntax_tree.specs.Kind.{Kind}
 use Rattle.fluent_syntax_grammar.specs.Construct.{Construct, Read, Refused}
 use Rattle.fluent_syntax_grammar.proofs.Facts.{append_nothing}
 
-map_more : {A X : Type 0} (v : X → A) (xs : List X) (x : X) (more : List A) →
+pub map_more : {A X : Type 0} (v : X → A) (xs : List X) (x : X) (more : List A) →
     map v (xs ++ x ∷ []) ++ more ≡ map v xs ++ (v x ∷ more)
 map_more v [] x more = refl
 map_more v (y ∷ xs) x more = ap (λ zs. v y ∷ zs) (map_more v xs x more)

@@ -1,5 +1,5 @@
 -- An inline expression, by what stands at its start.
-use Rattle.std.proofs.Common.{◌≡◌, ℕ, ◌+◌, List, subst, refl, inl as left, inr}
+use Rattle.std.proofs.Common.{◌≡◌, ℕ, ◌+◌, List, true, false, subst, refl, inl as left, inr}
 use Rattle.std.specs.Prelude.{◌⊎◌}
 use Rattle.fluent_syntax_tree.specs.Kind.{ExpectedLiteral}
 use Rattle.fluent_syntax_tree.specs.Tree.{InlineTree, number_literal}
@@ -9,9 +9,11 @@ use Rattle.fluent_syntax_grammar.specs.Arguments.{argument_value}
 use Rattle.fluent_syntax_grammar.specs.Construct.{Outcome, Refused, ◌>>=◌, gives, at_each, chosen, failed}
 use Rattle.fluent_syntax_grammar.specs.Grammar.{family}
 use Rattle.fluent_syntax_grammar.specs.Inline.{inline_of}
+use Rattle.fluent_syntax_grammar.specs.Nesting.{Deeper, begins_value, in_inline_expression}
 use Rattle.fluent_syntax_grammar.specs.Starts.{Start, digit, letter, minus, quote, start}
 use Rattle.fluent_syntax_grammar.specs.Words.{number}
 use Rattle.fluent_syntax_grammar.proofs.Nesting.{into_inline_expression}
+use Rattle.fluent_syntax_grammar.proofs.Shallow.{plain_start}
 use Rattle.fluent_syntax_parser.specs.Starts.{start_view}
 use Rattle.fluent_syntax_parser.specs.declared.starts.Start as found
 use Rattle.fluent_syntax_parser.specs.declared.starts.Start.TheVariants as starts
@@ -40,6 +42,31 @@ module _ (edition : Edition) (t : List ℕ) (i : ℕ) where
   by_value s o (inr (inr is)) e h =
       let e' : letter ≡ start t i = rw is at e in
       chosen (subst (λ x. argument_value t (family edition t) x i o) e' h)
+
+  pub value_begins : (s : found.Start) → (s ≡ starts.Quote) ⊎ ((s ≡ starts.Digit) ⊎ (s ≡ starts.Letter)) →
+      start_view s ≡ start t i → begins_value (start t i) ≡ true
+  value_begins s (left is) e = let e' : quote ≡ start t i = rw is at e in rw (← e') refl
+  value_begins s (inr (left is)) e = let e' : digit ≡ start t i = rw is at e in rw (← e') refl
+  value_begins s (inr (inr is)) e = let e' : letter ≡ start t i = rw is at e in rw (← e') refl
+
+  pub value_begins_not : (s : found.Start) → (s ≡ starts.Quote → ⊥) → (s ≡ starts.Digit → ⊥) →
+      (s ≡ starts.Letter → ⊥) → start_view s ≡ start t i → begins_value (start t i) ≡ false
+  value_begins_not starts.Quote a b c e = absurd (a refl)
+  value_begins_not starts.Digit a b c e = absurd (b refl)
+  value_begins_not starts.Letter a b c e = absurd (c refl)
+  value_begins_not starts.Term a b c e = rw (← e) refl
+  value_begins_not starts.Minus a b c e = rw (← e) refl
+  value_begins_not starts.Dollar a b c e = rw (← e) refl
+  value_begins_not starts.Brace a b c e = rw (← e) refl
+  value_begins_not starts.Other a b c e = rw (← e) refl
+
+  -- a number holds no opening
+  pub number_flat : {n : ℕ} → (s : found.Start) → (s ≡ starts.Digit) ⊎ (s ≡ starts.Minus) →
+      start_view s ≡ start t i → Deeper edition t in_inline_expression n i → ⊥
+  number_flat s (left is) e = let e' : digit ≡ start t i = rw is at e in
+      plain_start edition t e' (λ f. cc) (λ f. cc) (λ f. cc)
+  number_flat s (inr is) e = let e' : minus ≡ start t i = rw is at e in
+      plain_start edition t e' (λ f. cc) (λ f. cc) (λ f. cc)
 
   refused_value : (s : found.Start) → (s ≡ starts.Quote → ⊥) → (s ≡ starts.Digit → ⊥) → (s ≡ starts.Letter → ⊥) →
       argument_value t (family edition t) (start_view s) i (Refused ExpectedLiteral i (i + 1))

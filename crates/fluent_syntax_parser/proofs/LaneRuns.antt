@@ -1,5 +1,5 @@
 -- Runs of bytes that are looked at several at a time: from the lanes to the bytes.
-use Rattle.std.proofs.Common.{◌≡◌, ℕ, ◌+◌, ◌%◌, ◌^◌, ◌<◌, ◌≤◌, eqb, Bool, true, false, not, cond, List, map, length, get_or, Fits, w8, sym, ap, ◌∙◌, refl, arith}
+use Rattle.std.proofs.Common.{◌≡◌, ℕ, ◌+◌, ◌%◌, ◌^◌, ◌≤◌, eqb, Bool, true, false, not, cond, List, map, length, get_or, Fits, w8, ap, ◌∙◌, refl, arith}
 use Rattle.std.proofs.lemmas.Bool.{agree_below, agree_below_at}
 use Rattle.std.proofs.lemmas.List.{length-map}
 use Rattle.std.proofs.lemmas.Option.{slice_get-get_or}
@@ -7,7 +7,6 @@ use Rattle.std.proofs.lemmas.Simd.{first_set_mask_l, length-chunk, map-map, mask
 use Rattle.std.specs.List.{prefix_len}
 use lib.Count.{count_trailing_zeros}
 use lib.Lanes.{chunk, mask_l, top}
-use Rattle.fluent_syntax_grammar.specs.Places.{has}
 use Rattle.fluent_syntax_parser.specs.Lanes.{RunOf}
 
 -- the lanes that are set before none is, of n

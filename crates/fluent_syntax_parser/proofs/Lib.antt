@@ -3,6 +3,7 @@ pub mod ArgumentLists
 pub mod Carried
 pub mod CommentEntries
 pub mod Cut
+pub mod DeeperTiles
 pub mod EntryForms
 pub mod ErrorPlaces
 pub mod FieldForms
@@ -26,6 +27,7 @@ pub mod Rests
 pub mod Runs
 pub mod Scans
 pub mod Selects
+pub mod Shallows
 pub mod ShortPatterns
 pub mod Spelled
 pub mod Stars

@@ -1,5 +1,5 @@
 -- The texts of each entry that is read are parts of the source.
-use Rattle.std.proofs.Common.{◌≡◌, ℕ, ◌≤◌, List, [], ◌∷◌, ◌++◌, length, map, Option, Some, subst, sym, refl}
+use Rattle.std.proofs.Common.{ℕ, ◌≤◌, List, [], ◌∷◌, ◌++◌, length, map, Option, Some, subst, refl}
 use Rattle.std.specs.Str.{IsUtf8}
 use Rattle.fluent_syntax_tree.specs.Entry.{BodyTree, EntryTree}
 use Rattle.fluent_syntax_tree.specs.Every.{body_every, entry_every}

@@ -14,7 +14,7 @@ use Rattle.fluent_syntax_grammar.specs.Layout.{Piece, run, placed, Ending, Line}
 use Rattle.fluent_syntax_grammar.specs.Lines.{is_run_place, pieces_at, ending, no_byte, own_line, belongs, line}
 use Rattle.fluent_syntax_grammar.specs.Lines.{line_and_more}
 use Rattle.fluent_syntax_grammar.specs.Placeables.{placeable}
-use Rattle.fluent_syntax_grammar.specs.Places.{Stretch, holds, has_eol, InlineBlank}
+use Rattle.fluent_syntax_grammar.specs.Places.{Stretch, holds, has_byte, has_eol, InlineBlank}
 use Rattle.fluent_syntax_grammar.proofs.Nesting.{into_more_pieces, into_more_lines}
 
 run_test : (o : Option ℕ) (b : ℕ) (eol : Bool) → o ≡ Some b → eol ≡ false → (b ≡ right_brace → ⊥) →
@@ -31,6 +31,9 @@ module _ (edition : Edition) (t : List ℕ) (i b : ℕ) (e : slice_get t i ≡ S
 
   pub bare_brace : b ≡ right_brace → R.more_pieces i (Refused UnbalancedClosingBrace i (i + 1))
   bare_brace is = by_piece _ (chosen (second eol (first (rw is refl) (failed refl))))
+
+  pub brace_stands : b ≡ left_brace → has_byte t left_brace i ≡ true
+  brace_stands is = rw (e, is) refl
 
   pub placed_piece : b ≡ left_brace → (o : Outcome (List Piece)) →
       (placeable t R >>= λ e. R.more_pieces >>= λ ps. gives (placed e ∷ ps)) i o → R.more_pieces i o
@@ -52,11 +55,12 @@ module _ (edition : Edition) (t : List ℕ) (i b : ℕ) (e : slice_get t i ≡ S
     no_line : b ≡ lf → ⊥
     no_line is = let f = rw e at eol in cc
 
+    pub run_there : is_run_place t i ≡ true
+    run_there = run_test (slice_get t i) b (has_eol t i) e eol close opening no_line
+
     -- a run has a byte
     pub run_forward : (j : ℕ) → Stretch (is_run_place t) i j → i < j
-    run_forward j w =
-        let here = run_test (slice_get t i) b (has_eol t i) e eol close opening no_line in grind
-        (arith, w.longest, w.forward)
+    run_forward j w = let here = run_there in grind (arith, w.longest, w.forward)
 
 module _ (edition : Edition) (t : List ℕ) where
   pub no_pieces : (i : ℕ) (o : Option ℕ) → slice_get t i ≡ o → (o ≡ None → ⊥) → has_eol t i ≡ true →

@@ -69,7 +69,7 @@ module _ (comments : Comments) (edition : Edition) (t : List ℕ) where
     tells = rest.tells;
   }
 
-in_mode : (comments : Comments) (edition : Edition) (t : List ℕ) (i j : ℕ) (tile : Tile) →
+pub in_mode : (comments : Comments) (edition : Edition) (t : List ℕ) (i j : ℕ) (tile : Tile) →
     (are_dropped comments ≡ true → has_byte t hash i ≡ false) → TileAt edition t i j tile →
     TileIn comments edition t i j tile
 in_mode Kept edition t i j tile none x = x
@@ -112,7 +112,7 @@ comment_tile edition t i j tile content (refuses read end) same = cc
 module _ (edition : Edition) (t : List ℕ) (i j : ℕ) (inside : i < length t) (e : Entry Span)
     (error : Option ParserError) (tile : GivesTile edition t i j e error) (content : List Span)
     (same : tree_of e ≡ comment regular content) where
-  is_comment : tile.tile ≡ entry (record { start = i; end = j }) (comment regular content)
+  pub is_comment : tile.tile ≡ entry (record { start = i; end = j }) (comment regular content)
   is_comment = comment_tile edition t i j tile.tile content tile.stands (tile.entry ∙ ap (λ x. x ∷ []) same)
 
   pub rest_comment : (comments : Comments) → (are_dropped comments ≡ true → has_byte t hash i ≡ false) →

@@ -1,6 +1,6 @@
 -- Patterns of one line without placeable.
 use Rattle.std.proofs.Common.{◌≡◌, ℕ, suc, ◌+◌, ◌-◌, ◌<◌, ◌≤◌, List, [], ◌∷◌, length, take, drop, get_or, Option, Some}
-use Rattle.std.proofs.Common.{None, Bool, true, false, not, refl, sym, subst, arith}
+use Rattle.std.proofs.Common.{None, Bool, true, false, not, refl, sym, subst, arith, inl, inr}
 use Rattle.std.specs.Prelude.{slice_get, slice_range, ◌==◌, ◌||◌, ◌&&◌, if◌then◌else◌}
 use Rattle.std.proofs.Math.Seq.{drop-cons}
 use Rattle.std.proofs.lemmas.Bool.Decides.{nat_tests}
@@ -14,10 +14,13 @@ use Rattle.fluent_syntax_grammar.specs.Family.{Family}
 use Rattle.fluent_syntax_grammar.specs.Grammar.{family, pattern}
 use Rattle.fluent_syntax_grammar.specs.Layout.{Piece, run as run', Ending, lf_at, crlf_at, text_end as text_end'}
 use Rattle.fluent_syntax_grammar.specs.Lines.{is_run_place, ending_of, ending}
+use Rattle.fluent_syntax_grammar.specs.Nesting.{Deeper, in_layout, in_pieces}
 use Rattle.fluent_syntax_grammar.specs.Patterns.{layout_at, layout}
 use Rattle.fluent_syntax_grammar.specs.Places.{Stretch, has_byte, has_eol, InlineBlank}
 use Rattle.fluent_syntax_grammar.proofs.Facts.{left_true, byte_found, equal}
 use Rattle.fluent_syntax_grammar.proofs.Nesting.{into_more_pieces}
+use Rattle.fluent_syntax_grammar.proofs.Shallow.{no_lines_led, opening_led, pieces_end, pieces_eol, run_led}
+use Rattle.fluent_syntax_parser.proofs.LineEndings.{ends_line, ends_text}
 use Rattle.fluent_syntax_parser.specs.ShortPatterns.{EndsLine, with_lf, with_crlf, with_text}
 
 eol_there : (a b : Bool) (i k : ℕ) → (if a then Some (i + 1) else if b then Some (i + 2) else None) ≡ Some k →
@@ -91,8 +94,7 @@ module _ (edition : Edition) (t : List ℕ) where
       (goes_on at_place
       (goes_on h given))))))))))
 
-  module _ (ptr start to : ℕ) (blank : InlineBlank t ptr start) (w : Stretch (is_run_place t) start to)
-      (some : start < to) (within : to ≤ length t) where
+  module _ (start to : ℕ) (w : Stretch (is_run_place t) start to) (some : start < to) where
     first_byte : (b : ℕ) × (slice_get t start ≡ Some b) × (not (b == lf || b == left_brace || b == right_brace) ≡ true)
     first_byte =
         byte_found (λ b. not (b == lf || b == left_brace || b == right_brace)) (slice_get t start)
@@ -102,6 +104,8 @@ module _ (edition : Edition) (t : List ℕ) where
     start_eol : has_eol t start ≡ false
     start_eol = right_not _ _ (w.each start (omega arith) some)
 
+  module _ (ptr start to : ℕ) (blank : InlineBlank t ptr start) (w : Stretch (is_run_place t) start to)
+      (some : start < to) (within : to ≤ length t) where
     no_space : (b : ℕ) → slice_get t start ≡ Some b → (b == space) ≡ false
     no_space b e = let f = rw e at blank.longest in f
 
@@ -110,7 +114,7 @@ module _ (edition : Edition) (t : List ℕ) where
 
     nonblank : (j : ℕ) → to ≤ j → j ≤ length t → is_nonblank (slice_range t start j) ≡ true
     nonblank j l r =
-        let f = first_byte in
+        let f = first_byte start to w some in
         range_nonblank t start j (omega arith) r f.0 f.1 (no_space f.0 f.1) (no_lf f.0 f.2)
 
     layout_is : (e : Ending) (next end : ℕ) → R.more_pieces to (Read [] to) → ending t to (Read e next) →
@@ -121,9 +125,9 @@ module _ (edition : Edition) (t : List ℕ) where
           lines = [];
         })) end)
     layout_is e next end pieces ends lines =
-        let f = first_byte in
-        let run = run_piece start to f.0 [] to f.1 f.2 start_eol w pieces in
-        let none = no_eol (has_byte t lf start) _ start start_eol in
+        let f = first_byte start to w some in
+        let run = run_piece start to f.0 [] to f.1 f.2 (start_eol start to w some) w pieces in
+        let none = no_eol (has_byte t lf start) _ start (start_eol start to w some) in
         let laid : layout_at t R None start
         (Read (record {
           opening = Some (record { start = start; spaces = 0; pieces = run' start to ∷ []; ending = e });
@@ -199,3 +203,32 @@ module _ (edition : Edition) (t : List ℕ) where
         }) ≡ Some (elements_of
         (text_element (record { start = start; end = trimmed_end t start to }) ∷ [])) = rw stays refl in
         rw (← value) (layout_is text_end' to end (into_more_pieces edition t to _ (chosen (rw none given))) ends lines)
+
+  module _ (start to : ℕ) (w : Stretch (is_run_place t) start to) (some : start < to) (within : to ≤ length t) where
+    flat_with : (n : ℕ) (e : Ending) (next end : ℕ) → R.more_pieces to (Read [] to) → ending t to (Read e next) →
+        R.more_lines next (Read [] end) → (Deeper edition t in_pieces n to → ⊥) →
+        Deeper edition t in_layout n start → ⊥
+    flat_with n e next end pieces ends lines none deeper =
+        let f = first_byte start to w some in
+        let run = run_piece start to f.0 [] to f.1 f.2 (start_eol start to w some) w pieces in
+        let no_line = no_eol (has_byte t lf start) _ start (start_eol start to w some) in
+        elim (opening_led edition t _ to e next no_line run ends deeper) [
+          | inl d ↦ none (run_led edition t to (w.each start (omega arith) some) w d)
+          | inr d ↦ no_lines_led edition t end lines d
+        ]
+
+    -- it holds no opening
+    pub short_shallow : (n text_end next end : ℕ) → EndsLine t to text_end next → R.more_lines next (Read [] end) →
+        Deeper edition t in_layout n start → ⊥
+    short_shallow n text_end next end (with_lf eol e) lines =
+        let there = eol_there (has_byte t lf to) _ to text_end eol in
+        flat_with n _ text_end end (no_piece to (slice_get t to) refl there) (ends_line t to text_end eol) lines
+        (pieces_eol edition t there)
+    short_shallow n text_end next end (with_crlf eol e) lines =
+        let there = eol_there (has_byte t lf to) _ to next eol in
+        flat_with n _ next end (no_piece to (slice_get t to) refl there) (ends_line t to next eol) lines
+        (pieces_eol edition t there)
+    short_shallow n text_end next end (with_text eol e) lines =
+        let none : slice_get t to ≡ None = slice_get_past t to (omega arith) in
+        flat_with n text_end' to end (into_more_pieces edition t to _ (chosen (rw none given))) (ends_text t to eol)
+        lines (pieces_end edition t none)

@@ -95,6 +95,20 @@ MeetsText t c i (Err r) = Refuses t c i r
 abbrev pub NestsWithin : (nesting left : ℕ) → ReadFault → Type 0
 NestsWithin nesting left f = f ≡ faults.TooDeep → nesting < left
 
+-- Where it nests too deeply, this holds.
+abbrev pub OnTooDeep : Type 0 → ReadFault → Type 0
+OnTooDeep deeper f = f ≡ faults.TooDeep → deeper
+
+-- Where it is read or refused, this doesn't hold.
+abbrev pub FaultShallow : Type 0 → ReadFault → Type 0
+FaultShallow deeper (faults.Refused r) = deeper → ⊥
+FaultShallow deeper faults.TooDeep = Unit {0}
+FaultShallow deeper faults.Memory = Unit {0}
+
+abbrev pub Shallow : {A : Type 0} → Type 0 → Result A ReadFault → Type 0
+Shallow deeper (Ok x) = deeper → ⊥
+Shallow deeper (Err f) = FaultShallow deeper f
+
 -- The fault is one of the kind, and lies at its place; or there is none.
 abbrev pub FaultIs : List ℕ → ℕ → Option Fault → Option Kind → Type 0
 FaultIs t i None kind = kind ≡ None

@@ -2,7 +2,8 @@
 ghost use Rattle.std.specs.Prelude.{◌-◌, ◌<◌, ◌≤◌, length, map, IfErr, IfOk};
 ghost use Rattle.fluent_syntax_tree.specs.View.{attribute_view};
 ghost use Rattle.fluent_syntax_grammar.specs.Entries.{attribute, attributes};
-ghost use Rattle.fluent_syntax_parser.specs.Meets.{Meets, NestsWithin};
+ghost use Rattle.fluent_syntax_grammar.specs.Nesting.{Deeper, in_attribute, in_attributes};
+ghost use Rattle.fluent_syntax_parser.specs.Meets.{Meets, NestsWithin, OnTooDeep, Shallow};
 
 use crate::fault::{Fault, ReadFault, Refusal};
 use crate::source::Source;
@@ -24,6 +25,10 @@ impl<'s> Source<'s> {
             Meets t (attribute edition t) (attribute_view (λ s. s)) ptr result }
         ensures within { IfOk result (λ read. (ptr < read.1) × (read.1 ≤ length self.now.bytes.now)) }
         ensures nests { IfErr result (NestsWithin nesting (length self.now.bytes.now - ptr)) }
+        ensures deeper { let t = self.now.bytes.now in
+            IfErr result (OnTooDeep (Deeper edition t in_attribute nesting ptr)) }
+        ensures shallow { let t = self.now.bytes.now in
+            Shallow (Deeper edition t in_attribute nesting ptr) result }
     {
         let dot = self.skip_blank_inline(ptr);
         let start = self.expect_byte(b'.', dot)?;
@@ -57,6 +62,10 @@ impl<'s> Source<'s> {
             Meets t (attributes edition t) (λ found. map (attribute_view (λ s. s)) found.items) ptr result }
         ensures within { IfOk result (λ read. (ptr ≤ read.1) × (read.1 ≤ length self.now.bytes.now)) }
         ensures nests { IfErr result (NestsWithin nesting (length self.now.bytes.now - ptr)) }
+        ensures deeper { let t = self.now.bytes.now in
+            IfErr result (OnTooDeep (Deeper edition t in_attributes nesting ptr)) }
+        ensures shallow { let t = self.now.bytes.now in
+            Shallow (Deeper edition t in_attributes nesting ptr) result }
     {
         let mut attributes = Vec::new(alloc);
         let mut place = ptr;

@@ -1,8 +1,9 @@
 //! Entries one by one.
 ghost use Rattle.std.specs.Prelude.{◌≡◌, ◌-◌, ◌<◌, ◌≤◌, length, IfErr, IfOk, IfSome, None, Ok, OnErr};
+ghost use Rattle.fluent_syntax_grammar.specs.Nesting.{TextDeeper};
 ghost use Rattle.fluent_syntax_grammar.specs.Places.{BlankBlock};
-ghost use Rattle.fluent_syntax_parser.specs.Halts.{HaltsWithin};
-ghost use Rattle.fluent_syntax_parser.specs.Rest.{NextTo};
+ghost use Rattle.fluent_syntax_parser.specs.Halts.{ComesTo, HaltsWithin, OnHalt};
+ghost use Rattle.fluent_syntax_parser.specs.Rest.{NextTo, TileIn};
 
 use crate::options::{Halt, Options};
 use crate::source::Source;
@@ -54,6 +55,12 @@ impl<'s> Entries<'s> {
         ensures stays { OnErr result (self.new.ptr ≡ self.old.ptr) }
         ensures nests { let left = length self.old.source.bytes.now - self.old.ptr in
             IfErr result (HaltsWithin self.old.options.nesting left) }
+        ensures deeper { let t = self.old.source.bytes.now in let options = self.old.options in
+            let at = TileIn options.comments options.edition t in
+            IfErr result (OnHalt (TextDeeper options.edition t at options.nesting self.old.ptr)) }
+        ensures shallow { let t = self.old.source.bytes.now in let options = self.old.options in
+            let at = TileIn options.comments options.edition t in
+            IfOk result (ComesTo (TextDeeper options.edition t at options.nesting) self.old.ptr self.new.ptr) }
     {
         match self.source.next_entry(alloc, self.options, self.ptr)? {
             Some((entry, error, end)) => {

@@ -1,8 +1,9 @@
 //! Entries.
 ghost use Rattle.std.specs.Prelude.{◌-◌, ◌<◌, ◌≤◌, length, IfErr, IfOk};
 ghost use Rattle.fluent_syntax_tree.specs.View.{entry_view};
+ghost use Rattle.fluent_syntax_grammar.specs.Nesting.{Deeper, in_entry};
 ghost use Rattle.fluent_syntax_grammar.specs.Tiling.{entry_at};
-ghost use Rattle.fluent_syntax_parser.specs.Meets.{Meets, NestsWithin};
+ghost use Rattle.fluent_syntax_parser.specs.Meets.{Meets, NestsWithin, OnTooDeep, Shallow};
 
 use crate::fault::ReadFault;
 use crate::options::Options;
@@ -24,6 +25,10 @@ impl<'s> Source<'s> {
             Meets t (entry_at options.edition t) (entry_view (λ s. s)) start result }
         ensures within { IfOk result (λ read. (start < read.1) × (read.1 ≤ length self.now.bytes.now)) }
         ensures nests { IfErr result (NestsWithin options.nesting (length self.now.bytes.now - start)) }
+        ensures deeper { let t = self.now.bytes.now in
+            IfErr result (OnTooDeep (Deeper options.edition t in_entry options.nesting start)) }
+        ensures shallow { let t = self.now.bytes.now in
+            Shallow (Deeper options.edition t in_entry options.nesting start) result }
     {
         if self.is_byte_at(b'#', start) {
             self.get_comment(alloc, start)

@@ -3,9 +3,10 @@ ghost use Rattle.std.specs.Prelude.{◌≡◌, ◌-◌, ◌<◌, ◌≤◌, leng
 ghost use Rattle.fluent_syntax_tree.specs.View.{expression_view, inline_view};
 ghost use Rattle.fluent_syntax_grammar.specs.Construct.{at_each};
 ghost use Rattle.fluent_syntax_grammar.specs.Grammar.{expression, family, placeable};
+ghost use Rattle.fluent_syntax_grammar.specs.Nesting.{Deeper, in_expression, in_inline_expression, in_placeable};
 ghost use Rattle.fluent_syntax_grammar.specs.Placeables.{arrow_line_end, has_arrow};
 ghost use Rattle.fluent_syntax_grammar.specs.Places.{after_eol};
-ghost use Rattle.fluent_syntax_parser.specs.Meets.{Meets, MeetsEnd, NestsWithin};
+ghost use Rattle.fluent_syntax_parser.specs.Meets.{Meets, MeetsEnd, NestsWithin, OnTooDeep, Shallow};
 
 use crate::fault::{Fault, ReadFault, Refusal};
 use crate::forms::{is_term_attribute, selector_fault};
@@ -30,6 +31,10 @@ impl<'s> Source<'s> {
             Meets t (family edition t).inline_expression (inline_view (λ s. s)) ptr result }
         ensures within { IfOk result (λ read. (ptr < read.1) × (read.1 ≤ length self.now.bytes.now)) }
         ensures nests { IfErr result (NestsWithin nesting (length self.now.bytes.now - ptr)) }
+        ensures deeper { let t = self.now.bytes.now in
+            IfErr result (OnTooDeep (Deeper edition t in_inline_expression nesting ptr)) }
+        ensures shallow { let t = self.now.bytes.now in
+            Shallow (Deeper edition t in_inline_expression nesting ptr) result }
     {
         match self.start(ptr) {
             Start::Quote => {
@@ -125,6 +130,10 @@ impl<'s> Source<'s> {
             Meets t (expression edition t) (expression_view (λ s. s)) ptr result }
         ensures within { IfOk result (λ read. (ptr < read.1) × (read.1 ≤ length self.now.bytes.now)) }
         ensures nests { IfErr result (NestsWithin nesting (length self.now.bytes.now - ptr)) }
+        ensures deeper { let t = self.now.bytes.now in
+            IfErr result (OnTooDeep (Deeper edition t in_expression nesting ptr)) }
+        ensures shallow { let t = self.now.bytes.now in
+            Shallow (Deeper edition t in_expression nesting ptr) result }
     {
         let (expression, ptr) = self.get_inline_expression(alloc, edition, nesting, ptr)?;
         let ptr = self.skip_blank(ptr);
@@ -164,6 +173,10 @@ impl<'s> Source<'s> {
             Meets t (placeable edition t) (expression_view (λ s. s)) ptr result }
         ensures within { IfOk result (λ read. (ptr < read.1) × (read.1 ≤ length self.now.bytes.now)) }
         ensures nests { IfErr result (NestsWithin nesting (length self.now.bytes.now - ptr)) }
+        ensures deeper { let t = self.now.bytes.now in
+            IfErr result (OnTooDeep (Deeper edition t in_placeable nesting ptr)) }
+        ensures shallow { let t = self.now.bytes.now in
+            Shallow (Deeper edition t in_placeable nesting ptr) result }
     {
         let start = self.expect_byte(b'{', ptr)?;
         if nesting == 0 {

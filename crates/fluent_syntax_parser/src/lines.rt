@@ -5,7 +5,8 @@ ghost use Rattle.fluent_syntax_grammar.specs.Grammar.{family};
 ghost use Rattle.fluent_syntax_grammar.specs.Layout.{crlf_at, lf_at};
 ghost use Rattle.fluent_syntax_grammar.specs.Lines.{belongs, ending, is_run_place};
 ghost use Rattle.fluent_syntax_grammar.specs.Places.{has_eol, Stretch, Word};
-ghost use Rattle.fluent_syntax_parser.specs.Meets.{Meets, NestsWithin};
+ghost use Rattle.fluent_syntax_parser.specs.Meets.{Meets, NestsWithin, OnTooDeep, Shallow};
+ghost use Rattle.fluent_syntax_grammar.specs.Nesting.{Deeper, in_lines, in_pieces};
 ghost use Rattle.fluent_syntax_parser.specs.Endings.{EndsWithin};
 ghost use Rattle.fluent_syntax_parser.specs.Lanes.{is_passed};
 ghost use Rattle.fluent_syntax_parser.specs.Lines.{ending_view, line_view, piece_view};
@@ -112,6 +113,10 @@ impl<'s> Source<'s> {
         ensures stops { let t = self.now.bytes.now in
             IfOk result (λ read. has_eol t read.1 ≡ false → slice_get t read.1 ≡ None) }
         ensures nests { IfErr result (NestsWithin nesting (length self.now.bytes.now - ptr)) }
+        ensures deeper { let t = self.now.bytes.now in
+            IfErr result (OnTooDeep (Deeper edition t in_pieces nesting ptr)) }
+        ensures shallow { let t = self.now.bytes.now in
+            Shallow (Deeper edition t in_pieces nesting ptr) result }
     {
         let mut pieces = Vec::new(alloc);
         let mut place = ptr;
@@ -158,6 +163,10 @@ impl<'s> Source<'s> {
             Meets t (family edition t).more_lines (λ lines. map line_view lines.items) ptr result }
         ensures within { IfOk result (λ read. (ptr ≤ read.1) × (read.1 ≤ length self.now.bytes.now)) }
         ensures nests { IfErr result (NestsWithin nesting (length self.now.bytes.now - ptr)) }
+        ensures deeper { let t = self.now.bytes.now in
+            IfErr result (OnTooDeep (Deeper edition t in_lines nesting ptr)) }
+        ensures shallow { let t = self.now.bytes.now in
+            Shallow (Deeper edition t in_lines nesting ptr) result }
     {
         let mut lines = Vec::new(alloc);
         let mut start = ptr;

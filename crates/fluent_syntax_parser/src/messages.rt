@@ -3,8 +3,9 @@ ghost use Rattle.std.specs.Prelude.{◌-◌, ◌<◌, ◌≤◌, length, IfErr, 
 ghost use Rattle.fluent_syntax_tree.specs.Entry.{message, term};
 ghost use Rattle.fluent_syntax_tree.specs.View.{message_view, term_view};
 ghost use Rattle.fluent_syntax_grammar.specs.Entries.{message_entry, term_entry};
+ghost use Rattle.fluent_syntax_grammar.specs.Nesting.{Deeper, in_fields, in_message, in_term};
 ghost use Rattle.fluent_syntax_parser.specs.Fields.{fields, fields_view};
-ghost use Rattle.fluent_syntax_parser.specs.Meets.{Meets, NestsWithin};
+ghost use Rattle.fluent_syntax_parser.specs.Meets.{Meets, NestsWithin, OnTooDeep, Shallow};
 
 use crate::fault::{Fault, ReadFault, Refusal};
 use crate::source::Source;
@@ -33,6 +34,10 @@ impl<'s> Source<'s> {
         ensures meets { let t = self.now.bytes.now in Meets t (fields edition t) fields_view ptr result }
         ensures within { IfOk result (λ read. (ptr < read.1) × (read.1 ≤ length self.now.bytes.now)) }
         ensures nests { IfErr result (NestsWithin nesting (length self.now.bytes.now - ptr)) }
+        ensures deeper { let t = self.now.bytes.now in
+            IfErr result (OnTooDeep (Deeper edition t in_fields nesting ptr)) }
+        ensures shallow { let t = self.now.bytes.now in
+            Shallow (Deeper edition t in_fields nesting ptr) result }
     {
         let equals = self.skip_blank_inline(ptr);
         let start = self.expect_byte(b'=', equals)?;
@@ -54,6 +59,10 @@ impl<'s> Source<'s> {
             Meets t (message_entry edition t) (λ m. message (message_view (λ s. s) m)) start result }
         ensures within { IfOk result (λ read. (start < read.1) × (read.1 ≤ length self.now.bytes.now)) }
         ensures nests { IfErr result (NestsWithin nesting (length self.now.bytes.now - start)) }
+        ensures deeper { let t = self.now.bytes.now in
+            IfErr result (OnTooDeep (Deeper edition t in_message nesting start)) }
+        ensures shallow { let t = self.now.bytes.now in
+            Shallow (Deeper edition t in_message nesting start) result }
     {
         let end = self.identifier_end(start)?;
         let name = Span { start, end };
@@ -86,6 +95,10 @@ impl<'s> Source<'s> {
             Meets t (term_entry edition t) (λ m. term (term_view (λ s. s) m)) start result }
         ensures within { IfOk result (λ read. (start < read.1) × (read.1 ≤ length self.now.bytes.now)) }
         ensures nests { IfErr result (NestsWithin nesting (length self.now.bytes.now - start)) }
+        ensures deeper { let t = self.now.bytes.now in
+            IfErr result (OnTooDeep (Deeper edition t in_term nesting start)) }
+        ensures shallow { let t = self.now.bytes.now in
+            Shallow (Deeper edition t in_term nesting start) result }
     {
         let letter = self.expect_byte(b'-', start)?;
         let end = self.identifier_end(letter)?;

@@ -1,12 +1,13 @@
 //! The next entry of a text.
-ghost use Rattle.std.specs.Prelude.{◌≡◌, ◌-◌, ◌<◌, ◌≤◌, length, IfErr, IfOk, IfSome, None, Ok, false, true, List, Option};
+ghost use Rattle.std.specs.Prelude.{◌≡◌, ◌-◌, ◌<◌, ◌≤◌, length, IfErr, IfOk, IfSome, None, Ok, false, true, ℕ, List, Option};
 ghost use Rattle.fluent_syntax_tree.specs.Entry.{BodyTree};
 ghost use Rattle.fluent_syntax_tree.specs.declared.edition.Edition.{Edition};
 ghost use Rattle.fluent_syntax_grammar.specs.Bytes.{hash};
+ghost use Rattle.fluent_syntax_grammar.specs.Nesting.{TextDeeper, TileDeeper};
 ghost use Rattle.fluent_syntax_grammar.specs.Places.{BlankBlock, has_byte};
 ghost use Rattle.fluent_syntax_grammar.specs.Tiling.{Fault};
-ghost use Rattle.fluent_syntax_parser.specs.Halts.{HaltsWithin};
-ghost use Rattle.fluent_syntax_parser.specs.Rest.{Next, Rest, RestAt, are_dropped};
+ghost use Rattle.fluent_syntax_parser.specs.Halts.{ComesNext, HaltsWithin, OnHalt};
+ghost use Rattle.fluent_syntax_parser.specs.Rest.{Next, Rest, RestAt, TileIn, are_dropped};
 
 use crate::options::{Comments, Halt, Options};
 use crate::source::Source;
@@ -34,6 +35,12 @@ impl<'s> Source<'s> {
         ensures rest { (edition : Edition) (entries : BodyTree Span) (errors : List (Option Fault)) →
             RestAt comments edition self.now.bytes.now result entries errors →
             Rest comments edition self.now.bytes.now ptr entries errors }
+        ensures deeper { (edition : Edition) (n : ℕ) →
+            let t = self.now.bytes.now in let at = TileIn comments edition t in
+            TileDeeper edition t at n result → TextDeeper edition t at n ptr }
+        ensures shallow { (edition : Edition) (n : ℕ) →
+            let t = self.now.bytes.now in let at = TileIn comments edition t in
+            TextDeeper edition t at n ptr → TileDeeper edition t at n result }
         ensures dropped { are_dropped comments ≡ true → has_byte self.now.bytes.now hash result ≡ false }
         ensures blank { let t = self.now.bytes.now in BlankBlock t ptr (length t) → result ≡ length t }
         ensures within { (ptr ≤ result) × (result ≤ length self.now.bytes.now) }
@@ -59,6 +66,13 @@ impl<'s> Source<'s> {
         ensures within { let t = self.now.bytes.now in
             IfOk result (λ found. IfSome found (λ read. (ptr < read.2) × (read.2 ≤ length t))) }
         ensures nests { IfErr result (HaltsWithin options.nesting (length self.now.bytes.now - ptr)) }
+        ensures deeper { let t = self.now.bytes.now in let at = TileIn options.comments options.edition t in
+            IfErr result (OnHalt (TextDeeper options.edition t at options.nesting ptr)) }
+        ensures behind { let t = self.now.bytes.now in let at = TileIn options.comments options.edition t in
+            let deeper = TextDeeper options.edition t at options.nesting in
+            IfOk result (λ found. IfSome found (λ read. deeper read.2 → deeper ptr)) }
+        ensures shallow { let t = self.now.bytes.now in let at = TileIn options.comments options.edition t in
+            IfOk result (ComesNext (TextDeeper options.edition t at options.nesting) ptr) }
     {
         let start = self.tile_start(options.comments, ptr);
         if start == self.bytes.len() {

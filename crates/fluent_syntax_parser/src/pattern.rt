@@ -1,12 +1,13 @@
 //! Patterns.
-ghost use Rattle.std.specs.Prelude.{◌-◌, ◌≤◌, length, option_map, IfErr, IfOk, IfSome, []};
+ghost use Rattle.std.specs.Prelude.{◌-◌, ◌≤◌, ℕ, length, option_map, IfErr, IfOk, IfSome, []};
 ghost use Rattle.fluent_syntax_tree.specs.View.{pattern_view};
 ghost use Rattle.fluent_syntax_grammar.specs.Construct.{Read, at_each};
 ghost use Rattle.fluent_syntax_grammar.specs.Grammar.{family, pattern};
+ghost use Rattle.fluent_syntax_grammar.specs.Nesting.{Deeper, in_layout, in_pattern};
 ghost use Rattle.fluent_syntax_grammar.specs.Patterns.{layout_at};
 ghost use Rattle.fluent_syntax_grammar.specs.Places.{after_eol};
 ghost use Rattle.fluent_syntax_parser.specs.Elements.{layout_view};
-ghost use Rattle.fluent_syntax_parser.specs.Meets.{Meets, NestsWithin};
+ghost use Rattle.fluent_syntax_parser.specs.Meets.{Meets, NestsWithin, OnTooDeep, Shallow};
 ghost use Rattle.fluent_syntax_parser.specs.ShortPatterns.{EndsLine, OpensAs};
 
 use crate::elements::Layout;
@@ -76,6 +77,8 @@ impl<'s> Source<'s> {
             (λ read. OpensAs edition self.now.bytes.now start (pattern_view (λ s. s) read.0) read.1)) }
         ensures within { IfOk result (λ short. IfSome short
             (λ read. (start ≤ read.1) × (read.1 ≤ length self.now.bytes.now))) }
+        ensures shallow { let t = self.now.bytes.now in IfOk result (λ short. IfSome short
+            (λ _. (n : ℕ) → Deeper edition t in_layout n start → ⊥)) }
     {
         let to = self.run_end(start);
         if start < to {
@@ -108,6 +111,10 @@ impl<'s> Source<'s> {
             Meets t (at_each (after_eol t) (layout_at t (family edition t))) layout_view ptr result }
         ensures within { IfOk result (λ read. (ptr ≤ read.1) × (read.1 ≤ length self.now.bytes.now)) }
         ensures nests { IfErr result (NestsWithin nesting (length self.now.bytes.now - ptr)) }
+        ensures deeper { let t = self.now.bytes.now in
+            IfErr result (OnTooDeep (Deeper edition t in_layout nesting ptr)) }
+        ensures shallow { let t = self.now.bytes.now in
+            Shallow (Deeper edition t in_layout nesting ptr) result }
     {
         match self.eol_end(ptr) {
             Some(next) => {
@@ -151,6 +158,10 @@ impl<'s> Source<'s> {
             Meets t (pattern edition t) (option_map (pattern_view (λ s. s))) ptr result }
         ensures within { IfOk result (λ read. (ptr ≤ read.1) × (read.1 ≤ length self.now.bytes.now)) }
         ensures nests { IfErr result (NestsWithin nesting (length self.now.bytes.now - ptr)) }
+        ensures deeper { let t = self.now.bytes.now in
+            IfErr result (OnTooDeep (Deeper edition t in_pattern nesting ptr)) }
+        ensures shallow { let t = self.now.bytes.now in
+            Shallow (Deeper edition t in_pattern nesting ptr) result }
     {
         let start = self.skip_blank_inline(ptr);
         let short = self.get_short_pattern(alloc, edition, start)?;

@@ -1,11 +1,13 @@
 //! Whole texts.
-ghost use Rattle.std.specs.Prelude.{◌≡◌, ◌+◌, ◌<◌, ◌^◌, [], length, map, IfErr, IfOk, IsOk, IsOkAnd, OnErr};
+ghost use Rattle.std.specs.Prelude.{◌≡◌, ◌+◌, ◌<◌, ◌^◌, ◌≢◌, [], length, map, Err, IfErr, IfOk, IsOk, IsOkAnd, OnErr};
+ghost use Rattle.fluent_syntax_grammar.specs.Nesting.{NestsDeeper, RuntimeNestsDeeper, TextDeeper};
 ghost use Rattle.fluent_syntax_grammar.specs.Places.{BlankBlock};
 ghost use Rattle.fluent_syntax_parser.specs.Answers.{AnswersRuntimeSpans, AnswersSpans, AnswersSpansIn, ErrorsInText};
 ghost use Rattle.fluent_syntax_parser.specs.Faults.{fault_of};
-ghost use Rattle.fluent_syntax_parser.specs.Halts.{HaltsWithin};
+ghost use Rattle.fluent_syntax_parser.specs.Halts.{HaltsWithin, OnHalt};
 ghost use Rattle.fluent_syntax_parser.specs.Parts.{HasParts};
-ghost use Rattle.fluent_syntax_parser.specs.Rest.{Rest, tree_of};
+ghost use Rattle.fluent_syntax_parser.specs.declared.fault.ParseFault.TheVariants.{Memory};
+ghost use Rattle.fluent_syntax_parser.specs.Rest.{Rest, TileIn, tree_of};
 
 use crate::fault::{ParseFault, TooDeep, add_error, answer_of};
 use crate::options::{Comments, Halt, Options};
@@ -28,6 +30,10 @@ impl<'s> Source<'s> {
         ensures blank { let t = self.now.bytes.now in
             BlankBlock t 0 (length t) → IsOkAnd result (λ read. read.1.items ≡ []) }
         ensures nests { IfErr result (HaltsWithin options.nesting (length self.now.bytes.now)) }
+        ensures deeper { let t = self.now.bytes.now in let at = TileIn options.comments options.edition t in
+            IfErr result (OnHalt (TextDeeper options.edition t at options.nesting 0)) }
+        ensures shallow { let t = self.now.bytes.now in let at = TileIn options.comments options.edition t in
+            IfOk result (λ _. TextDeeper options.edition t at options.nesting 0 → ⊥) }
     {
         let mut body = Vec::new(alloc);
         let mut errors = Vec::new(alloc);
@@ -51,7 +57,11 @@ fn parse_by(
     ensures spans { IfOk result (HasParts source.now) }
     ensures places { IfOk result (ErrorsInText source.now) }
     ensures blank { BlankBlock source.now 0 (length source.now) → IfOk result (λ answer. IsOk answer) }
-    ensures deep { OnErr result (options.nesting < length source.now) }
+    ensures nests { OnErr result (options.nesting < length source.now) }
+    ensures deeper { let t = source.now in let at = TileIn options.comments options.edition t in
+        OnErr result (TextDeeper options.edition t at options.nesting 0) }
+    ensures shallow { let t = source.now in let at = TileIn options.comments options.edition t in
+        IfOk result (λ answer. answer ≢ Err Memory → TextDeeper options.edition t at options.nesting 0 → ⊥) }
 {
     let bytes = source.as_bytes();
     match (Source { bytes }).get_body(alloc, options) {
@@ -158,7 +168,9 @@ pub fn parse_spans_within(
     ensures tiling { IfOk result (AnswersSpans edition source.now) }
     ensures places { IfOk result (ErrorsInText source.now) }
     ensures blank { BlankBlock source.now 0 (length source.now) → IfOk result (λ answer. IsOk answer) }
-    ensures deep { OnErr result (nesting < length source.now) }
+    ensures nests { OnErr result (nesting < length source.now) }
+    ensures deeper { OnErr result (NestsDeeper edition source.now nesting) }
+    ensures shallow { IfOk result (λ answer. answer ≢ Err Memory → NestsDeeper edition source.now nesting → ⊥) }
 {
     let options = Options {
         edition,
@@ -181,7 +193,9 @@ pub fn parse_runtime_spans_within(
     ensures tiling { IfOk result (AnswersRuntimeSpans edition source.now) }
     ensures places { IfOk result (ErrorsInText source.now) }
     ensures blank { BlankBlock source.now 0 (length source.now) → IfOk result (λ answer. IsOk answer) }
-    ensures deep { OnErr result (nesting < length source.now) }
+    ensures nests { OnErr result (nesting < length source.now) }
+    ensures deeper { OnErr result (RuntimeNestsDeeper edition source.now nesting) }
+    ensures shallow { IfOk result (λ answer. answer ≢ Err Memory → RuntimeNestsDeeper edition source.now nesting → ⊥) }
 {
     let options = Options {
         edition,

@@ -1,4 +1,4 @@
-use Rattle.std.proofs.Common.{◌≡◌, ◌+◌, ◌∙◌, refl, sym, arith, false, None, inl, inr}
+use Rattle.std.proofs.Common.{◌≡◌, ◌+◌, ◌-◌, ◌∙◌, refl, sym, arith, [], false, None, inl, inr}
 use Rattle.std.specs.Prelude.{slice_get, ◌==◌, ◌⊎◌}
 use Rattle.std.proofs.lemmas.Option.{gets}
 use Rattle.std.proofs.lemmas.Result.{err_from_is_err_and}
@@ -12,30 +12,36 @@ use Rattle.fluent_syntax_tree.specs.declared.spans.Span.{Span}
 use Rattle.fluent_syntax_tree.proofs.Views.{view-StringLiteral, view-NumberLiteral, view-TermReference}
 use Rattle.fluent_syntax_tree.proofs.Views.{view-VariableReference, view-InlinePlaceable, view-Inline, view-Select}
 use Rattle.fluent_syntax_tree.proofs.Views.{view-Variant, view-roll-CallArguments}
-use Rattle.fluent_syntax_grammar.specs.Arguments.{argument_name}
+use Rattle.fluent_syntax_grammar.specs.Arguments.{argument_name, argument_value}
 use Rattle.fluent_syntax_grammar.specs.Bytes.{colon, greater_than}
 use Rattle.fluent_syntax_grammar.specs.Construct.{stops, goes_on, given, failed, passed, chosen, first, second}
-use Rattle.fluent_syntax_grammar.specs.Construct.{at_place}
-use Rattle.fluent_syntax_grammar.specs.Grammar.{family}
+use Rattle.fluent_syntax_grammar.specs.Construct.{at_place, at_each}
+use Rattle.fluent_syntax_grammar.specs.Grammar.{family, call_arguments, expression, pattern, placeable}
 use Rattle.fluent_syntax_grammar.specs.Lines.{no_byte, other_line}
-use Rattle.fluent_syntax_grammar.specs.Places.{has_byte}
+use Rattle.fluent_syntax_grammar.specs.Patterns.{layout_at}
+use Rattle.fluent_syntax_grammar.specs.Places.{after_eol, has_byte}
 use Rattle.fluent_syntax_grammar.specs.Starts as starts
+use Rattle.fluent_syntax_grammar.specs.Starts.{start}
 use Rattle.fluent_syntax_grammar.proofs.Facts.{byte_inside, right_true}
 use Rattle.fluent_syntax_grammar.proofs.Nesting.{into_more_lines, into_more_variants}
+use Rattle.fluent_syntax_grammar.proofs.Shallow.{arguments_closed, arguments_stuck, block_led, brace_led, call_led, call_stuck, duplicate_led, expression_stuck, late_led, letter_led, letter_stuck, lines_led, lines_none, lines_other, lines_stuck, named_led, named_stuck, no_arrow, no_lines_led, no_pattern_led, no_selector_there, opening_led, opening_stuck, pattern_led, pattern_stuck, pieces_close, pieces_end, pieces_eol, placeable_led, placeable_stuck, placed_led, placed_stuck, plain_start, run_led, select_led, select_stuck, term_led, term_stuck, value_led, value_stuck, variants_led, variants_stuck}
+use Rattle.fluent_syntax_grammar.specs.Nesting.{behind_line, behind_named, behind_opening, behind_placeable, behind_run, behind_variant, in_braces, in_list, its_argument, its_arguments, its_layout, its_line, its_lines, its_named_value, its_opening, its_pattern, its_piece, its_placeable, its_selector, its_term_arguments, its_value, its_variants, opens_list, opens_placeable}
 use Rattle.fluent_syntax_parser.specs.Gathered.{names_in}
 use Rattle.fluent_syntax_parser.specs.Lines.{line_view, piece_view}
 use Rattle.fluent_syntax_parser.proofs.ArgumentLists.{inline_fails, late, list_closed, list_open, named, one_named}
-use Rattle.fluent_syntax_parser.proofs.ArgumentLists.{one_positional, positional, token_there}
+use Rattle.fluent_syntax_parser.proofs.ArgumentLists.{one_positional, positional, token_there, behind_only_positional}
+use Rattle.fluent_syntax_parser.proofs.ArgumentLists.{end_flat, one_name_more, only_positional_led}
 use Rattle.fluent_syntax_parser.proofs.GatheredArguments.{put_whole}
 use Rattle.fluent_syntax_parser.proofs.GatheredVariants.{put_added, put_all, put_variants}
 use Rattle.fluent_syntax_parser.proofs.Gathers as gathers
-use Rattle.fluent_syntax_parser.proofs.InlineStarts.{by_number, by_start, by_value, no_value}
+use Rattle.fluent_syntax_parser.proofs.InlineStarts.{by_number, by_start, by_value, no_value, number_flat, value_begins, value_begins_not}
 use Rattle.fluent_syntax_parser.proofs.LineEndings.{by_eol, ends_line, ends_text, eol_none}
 use Rattle.fluent_syntax_parser.proofs.Names.{none_named, some_named, some_names, used_in_order}
 use Rattle.fluent_syntax_parser.proofs.Pieces.{bare_brace, end_pieces, line_read, no_lines, no_pieces, own_lines}
-use Rattle.fluent_syntax_parser.proofs.Pieces.{placed_piece, run_piece}
+use Rattle.fluent_syntax_parser.proofs.Pieces.{placed_piece, run_piece, brace_stands, run_there}
 use Rattle.fluent_syntax_parser.proofs.Puts.{one_put}
 use Rattle.fluent_syntax_parser.proofs.Selects.{is_selector, no_selector}
+use Rattle.fluent_syntax_parser.proofs.Shallows.{falls, not_first}
 use Rattle.fluent_syntax_parser.proofs.Stars.{both_true, one_false}
 use Rattle.fluent_syntax_parser.proofs.source.Source.+readers.Goals as goal
 use Rattle.fluent_syntax_parser.proofs.source.Source.+readers.Goals.{get_arguments-in_default-via-in-Some+else-is_byte_at}
@@ -408,6 +414,11 @@ get_argument_value-returns-in_default m c = record {
       arm.not-Digit arm.not-Letter c.start.ensures);
   within = tt;
   nests = λ e. cc;
+  deeper = λ e. cc;
+  shallow =
+      let arm = c.in_default in
+      value_stuck c.args.edition c.args.self.now.bytes.now (value_begins_not c.args.edition c.args.self.now.bytes.now
+      c.args.ptr c.start.result arm.not-Quote arm.not-Digit arm.not-Letter c.start.ensures);
 }
 
 -- ---- argument lists
@@ -503,6 +514,22 @@ get_arguments-loop-alloc-preserved-then-is_byte_at m c =
           c.in_ok-expression.expression _ c.in_ok-expression.ensures.meets added (sym c.in-Some.ensures)
           (sym c.if-is_byte_at.ensures) new _ c.in_ok-push-in-Some.ensures.items _ _ _
           c.skip_blank-start.ensures.blank c.in_ok-value-in-Some.ensures.meets c.skip_separator-place.ensures.meets;
+      deeper = λ h. old.invariant.deeper
+          (behind_named (record {
+            tree = _;
+            end = _;
+            argument = record { other = sym c.loop-alloc-test.ensures; read = c.in_ok-expression.ensures.meets };
+            is = sym c.in-Some.ensures;
+            mark = sym c.if-is_byte_at.ensures;
+            new = new;
+            blank = c.skip_blank-start.ensures.blank;
+          }) c.in_ok-value-in-Some.ensures.meets c.skip_separator-place.ensures.meets
+          (rw (← one_name_more t old.named.items added _ c.in_ok-push-in-Some.ensures.items) h));
+      shallow = λ h. rw (one_name_more t old.named.items added _ c.in_ok-push-in-Some.ensures.items)
+          (not_first c.in_ok-value-in-Some.ensures.shallow (not_first c.in_ok-expression.ensures.shallow
+          (named_led c.args.edition t _ _ c.in_ok-expression.ensures.meets _ _ (sym c.in-Some.ensures)
+          (sym c.if-is_byte_at.ensures) c.skip_blank-start.ensures.blank _ _ _ _ c.in_ok-value-in-Some.ensures.meets
+          c.skip_separator-place.ensures.meets (old.invariant.shallow h))));
     }
 
 pub get_arguments-returns-then-not-is_empty-clause-meets : goal.get_arguments-returns-then-not-is_empty-clause-meets
@@ -548,6 +575,13 @@ get_arguments-loop-alloc-preserved m c =
           old.invariant.gathered (omega (arith, c.if-place-self.false, old.invariant.within))
           (sym c.loop-alloc-test.ensures) c.in_ok-expression.expression _ c.in_ok-expression.ensures.meets is none _
           c.in_ok-push-in_default.ensures.items _ c.skip_separator-place-in_default.ensures.meets;
+      deeper = λ h. old.invariant.deeper
+          (behind_only_positional c.args.edition t old.named.items none
+          (record { other = sym c.loop-alloc-test.ensures; read = c.in_ok-expression.ensures.meets }) is
+          c.skip_separator-place-in_default.ensures.meets h);
+      shallow = λ h. not_first c.in_ok-expression.ensures.shallow
+          (only_positional_led c.args.edition t old.named.items none _ _ _ c.in_ok-expression.ensures.meets is
+          c.skip_separator-place-in_default.ensures.meets (old.invariant.shallow h));
     }
 
 pub get_arguments-returns-clause-within : goal.get_arguments-returns-clause-within
@@ -772,6 +806,28 @@ get_variants-loop-starred-preserved m c =
           (goes_on value
           (goes_on (passed c.skip_blank-place.ensures.blank)
           (stops h))))))))))));
+      deeper = λ h. old.invariant.deeper
+          (behind_variant
+          (goes_on c.take_byte_if-star.ensures.meets
+          (goes_on (second (one_false _ _ c.else-starred.either) given)
+          (goes_on (goes_on c.take_byte_if-bracket.ensures.meets (first c.if-not-bracket.false given))
+          (goes_on (passed c.skip_blank-start.ensures.blank)
+          (goes_on c.in_ok-key.ensures.meets
+          (goes_on (passed c.skip_blank-next.ensures.blank)
+          (goes_on c.in_ok-next.ensures.meets
+          given)))))))
+          value c.skip_blank-place.ensures.blank h);
+      shallow = λ h. not_first c.in_ok-value.ensures.shallow
+          (variants_led c.args.edition t _ _ _
+          (goes_on c.take_byte_if-star.ensures.meets
+          (goes_on (second (one_false _ _ c.else-starred.either) given)
+          (goes_on (goes_on c.take_byte_if-bracket.ensures.meets (first c.if-not-bracket.false given))
+          (goes_on (passed c.skip_blank-start.ensures.blank)
+          (goes_on c.in_ok-key.ensures.meets
+          (goes_on (passed c.skip_blank-next.ensures.blank)
+          (goes_on c.in_ok-next.ensures.meets
+          given)))))))
+          _ _ _ value c.skip_blank-place.ensures.blank (old.invariant.shallow h));
     }
 
 -- ---- pieces
@@ -826,6 +882,9 @@ get_pieces-loop-pieces-preserved-then-byte-eq123 m c =
           c.if-byte-eq123.true _
           (goes_on read.meets
           (stops h)));
+      deeper = λ h. c.loop-pieces.invariant.deeper (behind_placeable read.meets h);
+      shallow = λ h. not_first read.shallow
+          (placed_led c.args.edition t _ _ read.meets (c.loop-pieces.invariant.shallow h));
     }
 
 pub get_pieces-loop-pieces-preserved : goal.get_pieces-loop-pieces-preserved
@@ -850,6 +909,12 @@ get_pieces-loop-pieces-preserved m c =
           (goes_on (passed run)
           (goes_on at_place
           (stops h)))));
+      deeper = λ h. c.loop-pieces.invariant.deeper
+          (behind_run (run_there c.args.edition t _ _ (sym c.in-Some.ensures) (sym c.if-is_eol_at.ensures)
+          c.if-byte-eq125.false c.if-byte-eq123.false) run h);
+      shallow = λ h. run_led c.args.edition t _
+          (run_there c.args.edition t _ _ (sym c.in-Some.ensures) (sym c.if-is_eol_at.ensures)
+          c.if-byte-eq125.false c.if-byte-eq123.false) run (c.loop-pieces.invariant.shallow h);
     }
 
 -- ---- lines
@@ -933,6 +998,16 @@ get_lines-loop-lines-preserved m c =
           _
           (goes_on read
           (stops h)));
+      deeper = λ h. c.loop-lines.invariant.deeper
+          (behind_line _ (record {
+            byte = _;
+            blank = blank;
+            there = sym c.in-Some.ensures;
+            own = sym c.if-not-belongs.ensures;
+          }) pieces.meets (ends_line t _ _ (sym eol.eol)) h);
+      shallow = λ h. not_first pieces.shallow
+          (lines_led c.args.edition t _ blank _ _ _ _ pieces.meets (ends_line t _ _ (sym eol.eol))
+          (c.loop-lines.invariant.shallow h));
     }
 
 pub get_expression-skip_blank_inline-ptr-requires : goal.get_expression-skip_blank_inline-ptr-requires
@@ -942,3 +1017,786 @@ get_expression-skip_blank_inline-ptr-requires m c =
     let mark = right_true _ _ (sym c.if-not-is_arrow.ensures) in
     let inside = byte_inside (λ b. b == greater_than) t (i + 1) (slice_get t (i + 1)) refl mark in
     omega (arith, inside)
+
+-- ---- where it nests too deeply
+
+pub get_inline_expression-returns-in_err-arguments-in-Term-clause-deeper :
+    goal.get_inline_expression-returns-in_err-arguments-in-Term-clause-deeper
+get_inline_expression-returns-in_err-arguments-in-Term-clause-deeper m c =
+    let p = err_from_is_err_and c.from_residual-in_err-arguments-in-Term.result c.from_residual-in_err-arguments-in-Term.ensures.1 in
+    rw (p.1, p.2) (λ e. its_term_arguments (sym c.in-Term.ensures)
+    (goes_on c.in_ok-start-in-Term.ensures.meets
+    (goes_on c.in_ok-end-in-Term.ensures.meets
+    c.in_ok-attribute-in-Term.ensures.meets))
+    (c.in_err-arguments-in-Term.ensures.deeper e))
+
+pub get_inline_expression-returns-in_err-arguments-in-Letter-clause-deeper :
+    goal.get_inline_expression-returns-in_err-arguments-in-Letter-clause-deeper
+get_inline_expression-returns-in_err-arguments-in-Letter-clause-deeper m c =
+    let p = err_from_is_err_and c.from_residual-in_err-arguments-in-Letter.result c.from_residual-in_err-arguments-in-Letter.ensures.1 in
+    rw (p.1, p.2) (λ e. its_arguments (sym c.in-Letter.ensures) c.in_ok-end-in-Letter.ensures.meets
+    (c.in_err-arguments-in-Letter.ensures.deeper e))
+
+pub get_inline_expression-returns-in_err-expression-in-Brace-clause-deeper :
+    goal.get_inline_expression-returns-in_err-expression-in-Brace-clause-deeper
+get_inline_expression-returns-in_err-expression-in-Brace-clause-deeper m c =
+    let p = err_from_is_err_and c.from_residual-in_err-expression-in-Brace.result c.from_residual-in_err-expression-in-Brace.ensures.1 in
+    rw (p.1, p.2) (λ e. its_placeable (sym c.in-Brace.ensures) (c.in_err-expression-in-Brace.ensures.deeper e))
+
+pub get_placeable-returns-then-nesting-eq0-clause-deeper : goal.get_placeable-returns-then-nesting-eq0-clause-deeper
+get_placeable-returns-then-nesting-eq0-clause-deeper m c =
+    λ e. opens_placeable c.if-nesting-eq0.true c.in_ok-start.ensures.meets
+
+pub get_placeable-returns-in_err-expression-clause-deeper :
+    goal.get_placeable-returns-in_err-expression-clause-deeper
+get_placeable-returns-in_err-expression-clause-deeper m c =
+    let p = err_from_is_err_and c.from_residual-in_err-expression.result c.from_residual-in_err-expression.ensures.1 in
+    rw (p.1, p.2) (λ e. in_braces {m = c.args.nesting - 1} {n = c.args.nesting} (omega (arith, c.if-nesting-eq0.false))
+    (goes_on c.in_ok-start.ensures.meets (passed c.skip_blank-start.ensures.blank))
+    (c.in_err-expression.ensures.deeper e))
+
+pub get_expression-returns-in_err-expression-clause-deeper :
+    goal.get_expression-returns-in_err-expression-clause-deeper
+get_expression-returns-in_err-expression-clause-deeper m c =
+    let p = err_from_is_err_and c.from_residual.result c.from_residual.ensures.1 in
+    rw (p.1, p.2) (λ e. its_selector (c.in_err-expression.ensures.deeper e))
+
+pub get_expression-returns-in_err-variants-in-None-clause-deeper :
+    goal.get_expression-returns-in_err-variants-in-None-clause-deeper
+get_expression-returns-in_err-variants-in-None-clause-deeper m c =
+    let p = err_from_is_err_and c.from_residual-in_err-variants-in-None.result c.from_residual-in_err-variants-in-None.ensures.1 in
+    rw (p.1, p.2) (λ e. its_variants (record {
+      selector = _;
+      end = _;
+      arrow = c.skip_blank-ptr.result;
+      read = c.in_ok-expression.ensures.meets;
+      blank = c.skip_blank-ptr.ensures.blank;
+      there = sym c.if-not-is_arrow.ensures;
+      selects = c.in-None.ensures c.args.self.now.bytes.now c.skip_blank-ptr.result;
+      head =
+          goes_on (passed (record { by = refl }))
+          (goes_on (passed c.skip_blank_inline-ptr.ensures.blank)
+          (goes_on c.in_ok-ptr-in-None.ensures.meets
+          (passed c.skip_blank-ptr-in-None.ensures.blank)));
+    }) (c.in_err-variants-in-None.ensures.deeper e))
+
+pub get_call_arguments-returns-then-nesting-eq0-clause-deeper :
+    goal.get_call_arguments-returns-then-nesting-eq0-clause-deeper
+get_call_arguments-returns-then-nesting-eq0-clause-deeper m c =
+    λ e. opens_list c.if-nesting-eq0.true
+    (goes_on (passed c.skip_blank-start.ensures.blank)
+    (goes_on c.take_byte_if-bracket.ensures.meets
+    (first c.if-not-bracket.false given)))
+
+pub get_call_arguments-returns-in_err-arguments-clause-deeper :
+    goal.get_call_arguments-returns-in_err-arguments-clause-deeper
+get_call_arguments-returns-in_err-arguments-clause-deeper m c =
+    let p = err_from_is_err_and c.from_residual.result c.from_residual.ensures.1 in
+    rw (p.1, p.2) (λ e. in_list {m = c.args.nesting - 1} {n = c.args.nesting} (omega (arith, c.if-nesting-eq0.false))
+    (goes_on (passed c.skip_blank-start.ensures.blank)
+    (goes_on c.take_byte_if-bracket.ensures.meets
+    (first c.if-not-bracket.false given)))
+    c.skip_blank-start-2.ensures.blank
+    (c.in_err-arguments.ensures.deeper e))
+
+pub get_argument_value-returns-in_err-value-in-Quote-clause-deeper :
+    goal.get_argument_value-returns-in_err-value-in-Quote-clause-deeper
+get_argument_value-returns-in_err-value-in-Quote-clause-deeper m c =
+    let p = err_from_is_err_and c.from_residual.result c.from_residual.ensures.1 in
+    rw (p.1, p.2) (λ e. its_value (value_begins c.args.edition c.args.self.now.bytes.now c.args.ptr c.start.result c.in-Quote.is c.start.ensures)
+    (c.in_err-value-in-Quote.ensures.deeper e))
+
+pub get_arguments-returns-in_err-expression-clause-deeper :
+    goal.get_arguments-returns-in_err-expression-clause-deeper
+get_arguments-returns-in_err-expression-clause-deeper m c =
+    let p = err_from_is_err_and c.from_residual.result c.from_residual.ensures.1 in
+    rw (p.1, p.2) (λ e. c.loop-alloc.invariant.deeper
+    (its_argument (sym c.loop-alloc-test.ensures) (c.in_err-expression.ensures.deeper e)))
+
+pub get_arguments-returns-in_err-value-in-Some-clause-deeper :
+    goal.get_arguments-returns-in_err-value-in-Some-clause-deeper
+get_arguments-returns-in_err-value-in-Some-clause-deeper m c =
+    let t = c.args.self.now.bytes.now in
+    let found = rw c.deref.ensures.value at c.if-has_name.ensures in
+    let new = used_in_order t (bytes_at t c.in-Some.name) c.loop-alloc.named.items ∙ sym found in
+    let p = err_from_is_err_and c.from_residual-in_err-value-in-Some.result
+    c.from_residual-in_err-value-in-Some.ensures.1 in
+    rw (p.1, p.2) (λ e. c.loop-alloc.invariant.deeper
+    (its_named_value (record {
+      tree = _;
+      end = _;
+      argument = record { other = sym c.loop-alloc-test.ensures; read = c.in_ok-expression.ensures.meets };
+      is = sym c.in-Some.ensures;
+      mark = sym c.if-is_byte_at.ensures;
+      new = new;
+      blank = c.skip_blank-start.ensures.blank;
+    }) (c.in_err-value-in-Some.ensures.deeper e)))
+
+pub get_layout-returns-in_err-lines-in-Some-clause-deeper :
+    goal.get_layout-returns-in_err-lines-in-Some-clause-deeper
+get_layout-returns-in_err-lines-in-Some-clause-deeper m c =
+    let p = err_from_is_err_and c.from_residual.result c.from_residual.ensures.1 in
+    rw (p.1, p.2) (λ e. its_lines (sym c.in-Some.ensures.eol) c.skip_blank_block-first.ensures.blank
+    (c.in_err-lines-in-Some.ensures.deeper e))
+
+pub get_layout-returns-in_err-pieces-in-None-clause-deeper :
+    goal.get_layout-returns-in_err-pieces-in-None-clause-deeper
+get_layout-returns-in_err-pieces-in-None-clause-deeper m c =
+    let p = err_from_is_err_and c.from_residual-in_err-pieces-in-None.result c.from_residual-in_err-pieces-in-None.ensures.1 in
+    rw (p.1, p.2) (λ e. its_opening (sym c.in-None.ensures.eol) (c.in_err-pieces-in-None.ensures.deeper e))
+
+pub get_layout-returns-in_err-lines-in-None-clause-deeper :
+    goal.get_layout-returns-in_err-lines-in-None-clause-deeper
+get_layout-returns-in_err-lines-in-None-clause-deeper m c =
+    let p = err_from_is_err_and c.from_residual-in_err-lines-in-None.result c.from_residual-in_err-lines-in-None.ensures.1 in
+    rw (p.1, p.2) (λ e. behind_opening _ (sym c.in-None.ensures.eol) c.in_ok-pieces-in-None.ensures.meets
+    c.get_ending-ending.ensures.meets (c.in_err-lines-in-None.ensures.deeper e))
+
+pub get_pattern-returns-in_err-layout-in-None-clause-deeper :
+    goal.get_pattern-returns-in_err-layout-in-None-clause-deeper
+get_pattern-returns-in_err-layout-in-None-clause-deeper m c =
+    let p = err_from_is_err_and c.from_residual-in_err-layout-in-None.result c.from_residual-in_err-layout-in-None.ensures.1 in
+    rw (p.1, p.2) (λ e. its_layout c.skip_blank_inline-start.ensures.blank (c.in_err-layout-in-None.ensures.deeper e))
+
+pub get_variants-returns-in_err-value-clause-deeper :
+    goal.get_variants-returns-in_err-value-clause-deeper
+get_variants-returns-in_err-value-clause-deeper m c =
+    let p = err_from_is_err_and c.from_residual-in_err-value.result c.from_residual-in_err-value.ensures.1 in
+    rw (p.1, p.2) (λ e. c.loop-starred.invariant.deeper
+    (its_pattern
+    (goes_on c.take_byte_if-star.ensures.meets
+    (goes_on (second (one_false _ _ c.else-starred.either) given)
+    (goes_on (goes_on c.take_byte_if-bracket.ensures.meets (first c.if-not-bracket.false given))
+    (goes_on (passed c.skip_blank-start.ensures.blank)
+    (goes_on c.in_ok-key.ensures.meets
+    (goes_on (passed c.skip_blank-next.ensures.blank)
+    (goes_on c.in_ok-next.ensures.meets
+    given)))))))
+    (c.in_err-value.ensures.deeper e)))
+
+pub get_pieces-returns-in_err-expression-in-Some-clause-deeper :
+    goal.get_pieces-returns-in_err-expression-in-Some-clause-deeper
+get_pieces-returns-in_err-expression-in-Some-clause-deeper m c =
+    let p = err_from_is_err_and c.from_residual.result c.from_residual.ensures.1 in
+    rw (p.1, p.2) (λ e. c.loop-pieces.invariant.deeper (its_piece (c.in_err-expression-in-Some.ensures.deeper e)))
+
+pub get_lines-returns-in_err-pieces-in-Some-clause-deeper :
+    goal.get_lines-returns-in_err-pieces-in-Some-clause-deeper
+get_lines-returns-in_err-pieces-in-Some-clause-deeper m c =
+    let p = err_from_is_err_and c.from_residual.result c.from_residual.ensures.1 in
+    rw (p.1, p.2) (λ e. c.loop-lines.invariant.deeper
+    (its_line (record {
+      byte = _;
+      blank = c.skip_blank_inline-first.ensures.blank;
+      there = sym c.in-Some.ensures;
+      own = sym c.if-not-belongs.ensures;
+    }) (c.in_err-pieces-in-Some.ensures.deeper e)))
+
+-- ---- where it nests no deeper
+
+pub get_inline_expression-returns-in_err-value-in-Quote-clause-shallow :
+    goal.get_inline_expression-returns-in_err-value-in-Quote-clause-shallow
+get_inline_expression-returns-in_err-value-in-Quote-clause-shallow m c =
+    let t = c.args.self.now.bytes.now in
+    let edition = c.args.edition in
+    let p = err_from_is_err_and c.from_residual.result c.from_residual.ensures.1 in
+    rw (p.1, p.2) (plain_start edition t c.in-Quote.ensures (λ e. cc) (λ e. cc) (λ e. cc))
+
+pub get_inline_expression-returns-in_err-end-in-Digit-clause-shallow :
+    goal.get_inline_expression-returns-in_err-end-in-Digit-clause-shallow
+get_inline_expression-returns-in_err-end-in-Digit-clause-shallow m c =
+    let t = c.args.self.now.bytes.now in
+    let edition = c.args.edition in
+    let p = err_from_is_err_and c.from_residual-in_err-end-in-Digit.result c.from_residual-in_err-end-in-Digit.ensures.1 in
+    rw (p.1, p.2) (number_flat edition t c.args.ptr c.start.result c.in-Digit.is c.start.ensures)
+
+pub get_inline_expression-returns-in_err-start-in-Term-clause-shallow :
+    goal.get_inline_expression-returns-in_err-start-in-Term-clause-shallow
+get_inline_expression-returns-in_err-start-in-Term-clause-shallow m c =
+    let t = c.args.self.now.bytes.now in
+    let edition = c.args.edition in
+    let p = err_from_is_err_and c.from_residual-in_err-start-in-Term.result c.from_residual-in_err-start-in-Term.ensures.1 in
+    rw (p.1, p.2) (term_stuck edition t _ _ _ c.in-Term.ensures
+    (stops (c.in_err-start-in-Term.ensures.meets _ _ _ (refl, refl, refl))))
+
+pub get_inline_expression-returns-in_err-end-in-Term-clause-shallow :
+    goal.get_inline_expression-returns-in_err-end-in-Term-clause-shallow
+get_inline_expression-returns-in_err-end-in-Term-clause-shallow m c =
+    let t = c.args.self.now.bytes.now in
+    let edition = c.args.edition in
+    let p = err_from_is_err_and c.from_residual-in_err-end-in-Term.result c.from_residual-in_err-end-in-Term.ensures.1 in
+    rw (p.1, p.2) (term_stuck edition t _ _ _ c.in-Term.ensures
+    (goes_on c.in_ok-start-in-Term.ensures.meets
+    (stops (c.in_err-end-in-Term.ensures.meets _ _ _ (refl, refl, refl)))))
+
+pub get_inline_expression-returns-in_err-attribute-in-Term-clause-shallow :
+    goal.get_inline_expression-returns-in_err-attribute-in-Term-clause-shallow
+get_inline_expression-returns-in_err-attribute-in-Term-clause-shallow m c =
+    let t = c.args.self.now.bytes.now in
+    let edition = c.args.edition in
+    let p = err_from_is_err_and c.from_residual-in_err-attribute-in-Term.result c.from_residual-in_err-attribute-in-Term.ensures.1 in
+    rw (p.1, p.2) (term_stuck edition t _ _ _ c.in-Term.ensures
+    (goes_on c.in_ok-start-in-Term.ensures.meets
+    (goes_on c.in_ok-end-in-Term.ensures.meets
+    (c.in_err-attribute-in-Term.ensures.meets _ _ _ (refl, refl, refl)))))
+
+pub get_inline_expression-returns-in_err-arguments-in-Term-clause-shallow :
+    goal.get_inline_expression-returns-in_err-arguments-in-Term-clause-shallow
+get_inline_expression-returns-in_err-arguments-in-Term-clause-shallow m c =
+    let t = c.args.self.now.bytes.now in
+    let edition = c.args.edition in
+    let p = err_from_is_err_and c.from_residual-in_err-arguments-in-Term.result c.from_residual-in_err-arguments-in-Term.ensures.1 in
+    rw (p.1, p.2) (falls t (call_arguments edition t) _ _ _ _ c.in_err-arguments-in-Term.ensures.meets
+    (λ k from to r e. term_led edition t c.in-Term.ensures (goes_on c.in_ok-start-in-Term.ensures.meets
+    (goes_on c.in_ok-end-in-Term.ensures.meets
+    c.in_ok-attribute-in-Term.ensures.meets)) e)
+    c.in_err-arguments-in-Term.ensures.shallow)
+
+pub get_inline_expression-returns-in_err-start-in-Dollar-clause-shallow :
+    goal.get_inline_expression-returns-in_err-start-in-Dollar-clause-shallow
+get_inline_expression-returns-in_err-start-in-Dollar-clause-shallow m c =
+    let t = c.args.self.now.bytes.now in
+    let edition = c.args.edition in
+    let p = err_from_is_err_and c.from_residual-in_err-start-in-Dollar.result c.from_residual-in_err-start-in-Dollar.ensures.1 in
+    rw (p.1, p.2) (plain_start edition t c.in-Dollar.ensures (λ e. cc) (λ e. cc) (λ e. cc))
+
+pub get_inline_expression-returns-in_err-end-in-Dollar-clause-shallow :
+    goal.get_inline_expression-returns-in_err-end-in-Dollar-clause-shallow
+get_inline_expression-returns-in_err-end-in-Dollar-clause-shallow m c =
+    let t = c.args.self.now.bytes.now in
+    let edition = c.args.edition in
+    let p = err_from_is_err_and c.from_residual-in_err-end-in-Dollar.result c.from_residual-in_err-end-in-Dollar.ensures.1 in
+    rw (p.1, p.2) (plain_start edition t c.in-Dollar.ensures (λ e. cc) (λ e. cc) (λ e. cc))
+
+pub get_inline_expression-returns-in_err-end-in-Letter-clause-shallow :
+    goal.get_inline_expression-returns-in_err-end-in-Letter-clause-shallow
+get_inline_expression-returns-in_err-end-in-Letter-clause-shallow m c =
+    let t = c.args.self.now.bytes.now in
+    let edition = c.args.edition in
+    let p = err_from_is_err_and c.from_residual-in_err-end-in-Letter.result c.from_residual-in_err-end-in-Letter.ensures.1 in
+    rw (p.1, p.2) (letter_stuck edition t _ _ _ c.in-Letter.ensures (c.in_err-end-in-Letter.ensures.meets _ _ _ (refl, refl, refl)))
+
+pub get_inline_expression-returns-in_err-arguments-in-Letter-clause-shallow :
+    goal.get_inline_expression-returns-in_err-arguments-in-Letter-clause-shallow
+get_inline_expression-returns-in_err-arguments-in-Letter-clause-shallow m c =
+    let t = c.args.self.now.bytes.now in
+    let edition = c.args.edition in
+    let p = err_from_is_err_and c.from_residual-in_err-arguments-in-Letter.result c.from_residual-in_err-arguments-in-Letter.ensures.1 in
+    rw (p.1, p.2) (falls t (call_arguments edition t) _ _ _ _ c.in_err-arguments-in-Letter.ensures.meets
+    (λ k from to r e. letter_led edition t c.in-Letter.ensures c.in_ok-end-in-Letter.ensures.meets e)
+    c.in_err-arguments-in-Letter.ensures.shallow)
+
+pub get_inline_expression-returns-in_err-reference-in-Letter-clause-shallow :
+    goal.get_inline_expression-returns-in_err-reference-in-Letter-clause-shallow
+get_inline_expression-returns-in_err-reference-in-Letter-clause-shallow m c =
+    let t = c.args.self.now.bytes.now in
+    let edition = c.args.edition in
+    let p = err_from_is_err_and c.from_residual-in_err-reference-in-Letter.result c.from_residual-in_err-reference-in-Letter.ensures.1 in
+    rw (p.1, p.2) (λ e. c.in_ok-arguments-in-Letter.ensures.shallow
+    (letter_led edition t c.in-Letter.ensures c.in_ok-end-in-Letter.ensures.meets e))
+
+pub get_inline_expression-returns-in_err-expression-in-Brace-clause-shallow :
+    goal.get_inline_expression-returns-in_err-expression-in-Brace-clause-shallow
+get_inline_expression-returns-in_err-expression-in-Brace-clause-shallow m c =
+    let t = c.args.self.now.bytes.now in
+    let edition = c.args.edition in
+    let p = err_from_is_err_and c.from_residual-in_err-expression-in-Brace.result c.from_residual-in_err-expression-in-Brace.ensures.1 in
+    rw (p.1, p.2) (falls t (placeable edition t) _ _ _ _ c.in_err-expression-in-Brace.ensures.meets
+    (λ k from to r e. brace_led edition t c.in-Brace.ensures e)
+    c.in_err-expression-in-Brace.ensures.shallow)
+
+pub get_inline_expression-returns-in_ok-value-in-Quote-clause-shallow :
+    goal.get_inline_expression-returns-in_ok-value-in-Quote-clause-shallow
+get_inline_expression-returns-in_ok-value-in-Quote-clause-shallow m c =
+    let t = c.args.self.now.bytes.now in
+    let edition = c.args.edition in
+    plain_start edition t c.in-Quote.ensures (λ e. cc) (λ e. cc) (λ e. cc)
+
+pub get_inline_expression-returns-in_ok-end-in-Digit-clause-shallow :
+    goal.get_inline_expression-returns-in_ok-end-in-Digit-clause-shallow
+get_inline_expression-returns-in_ok-end-in-Digit-clause-shallow m c =
+    let t = c.args.self.now.bytes.now in
+    let edition = c.args.edition in
+    number_flat edition t c.args.ptr c.start.result c.in-Digit.is c.start.ensures
+
+pub get_inline_expression-returns-in_ok-end-in-Dollar-clause-shallow :
+    goal.get_inline_expression-returns-in_ok-end-in-Dollar-clause-shallow
+get_inline_expression-returns-in_ok-end-in-Dollar-clause-shallow m c =
+    let t = c.args.self.now.bytes.now in
+    let edition = c.args.edition in
+    plain_start edition t c.in-Dollar.ensures (λ e. cc) (λ e. cc) (λ e. cc)
+
+pub get_inline_expression-returns-in-Other-clause-shallow : goal.get_inline_expression-returns-in-Other-clause-shallow
+get_inline_expression-returns-in-Other-clause-shallow m c =
+    let t = c.args.self.now.bytes.now in
+    let edition = c.args.edition in
+    plain_start edition t c.in-Other.ensures (λ e. cc) (λ e. cc) (λ e. cc)
+
+pub get_inline_expression-returns-in_ok-arguments-in-Term-clause-shallow :
+    goal.get_inline_expression-returns-in_ok-arguments-in-Term-clause-shallow
+get_inline_expression-returns-in_ok-arguments-in-Term-clause-shallow m c =
+    let t = c.args.self.now.bytes.now in
+    let edition = c.args.edition in
+    λ e. c.in_ok-arguments-in-Term.ensures.shallow (term_led edition t c.in-Term.ensures (goes_on c.in_ok-start-in-Term.ensures.meets
+    (goes_on c.in_ok-end-in-Term.ensures.meets
+    c.in_ok-attribute-in-Term.ensures.meets)) e)
+
+pub get_inline_expression-returns-in_ok-reference-in-Letter-clause-shallow :
+    goal.get_inline_expression-returns-in_ok-reference-in-Letter-clause-shallow
+get_inline_expression-returns-in_ok-reference-in-Letter-clause-shallow m c =
+    let t = c.args.self.now.bytes.now in
+    let edition = c.args.edition in
+    λ e. c.in_ok-arguments-in-Letter.ensures.shallow
+    (letter_led edition t c.in-Letter.ensures c.in_ok-end-in-Letter.ensures.meets e)
+
+pub get_inline_expression-returns-in_ok-expression-in-Brace-2-clause-shallow :
+    goal.get_inline_expression-returns-in_ok-expression-in-Brace-2-clause-shallow
+get_inline_expression-returns-in_ok-expression-in-Brace-2-clause-shallow m c =
+    let t = c.args.self.now.bytes.now in
+    let edition = c.args.edition in
+    λ e. c.in_ok-expression-in-Brace.ensures.shallow (brace_led edition t c.in-Brace.ensures e)
+
+pub get_placeable-returns-in_err-start-clause-shallow : goal.get_placeable-returns-in_err-start-clause-shallow
+get_placeable-returns-in_err-start-clause-shallow m c =
+    let t = c.args.self.now.bytes.now in
+    let edition = c.args.edition in
+    let p = err_from_is_err_and c.from_residual.result c.from_residual.ensures.1 in
+    rw (p.1, p.2) (placeable_stuck edition t _ _ _ (c.in_err-start.ensures.meets _ _ _ (refl, refl, refl)))
+
+pub get_placeable-returns-in_err-expression-clause-shallow :
+    goal.get_placeable-returns-in_err-expression-clause-shallow
+get_placeable-returns-in_err-expression-clause-shallow m c =
+    let t = c.args.self.now.bytes.now in
+    let edition = c.args.edition in
+    let p = err_from_is_err_and c.from_residual-in_err-expression.result c.from_residual-in_err-expression.ensures.1 in
+    rw (p.1, p.2) (falls t (expression edition t) _ _ _ _ c.in_err-expression.ensures.meets
+    (λ k from to r e. (placeable_led edition t {n = c.args.nesting} {m = c.args.nesting - 1} (omega (arith, c.if-nesting-eq0.false))
+    (goes_on c.in_ok-start.ensures.meets (passed c.skip_blank-start.ensures.blank)) e))
+    c.in_err-expression.ensures.shallow)
+
+pub get_placeable-returns-in_err-ptr-clause-shallow : goal.get_placeable-returns-in_err-ptr-clause-shallow
+get_placeable-returns-in_err-ptr-clause-shallow m c =
+    let t = c.args.self.now.bytes.now in
+    let edition = c.args.edition in
+    let p = err_from_is_err_and c.from_residual-in_err-ptr.result c.from_residual-in_err-ptr.ensures.1 in
+    rw (p.1, p.2) (λ e. c.in_ok-expression.ensures.shallow (placeable_led edition t {n = c.args.nesting} {m = c.args.nesting - 1} (omega (arith, c.if-nesting-eq0.false))
+    (goes_on c.in_ok-start.ensures.meets (passed c.skip_blank-start.ensures.blank)) e))
+
+pub get_placeable-returns-clause-shallow : goal.get_placeable-returns-clause-shallow
+get_placeable-returns-clause-shallow m c =
+    let t = c.args.self.now.bytes.now in
+    let edition = c.args.edition in
+    λ e. c.in_ok-expression.ensures.shallow (placeable_led edition t {n = c.args.nesting} {m = c.args.nesting - 1} (omega (arith, c.if-nesting-eq0.false))
+    (goes_on c.in_ok-start.ensures.meets (passed c.skip_blank-start.ensures.blank)) e)
+
+pub get_expression-returns-in_err-expression-clause-shallow :
+    goal.get_expression-returns-in_err-expression-clause-shallow
+get_expression-returns-in_err-expression-clause-shallow m c =
+    let t = c.args.self.now.bytes.now in
+    let edition = c.args.edition in
+    let p = err_from_is_err_and c.from_residual.result c.from_residual.ensures.1 in
+    rw (p.1, p.2) (falls t (family edition t).inline_expression _ _ _ _ c.in_err-expression.ensures.meets
+    (λ k from to r e. expression_stuck edition t k from to r e)
+    c.in_err-expression.ensures.shallow)
+
+pub get_expression-returns-then-is_term_attribute-clause-shallow :
+    goal.get_expression-returns-then-is_term_attribute-clause-shallow
+get_expression-returns-then-is_term_attribute-clause-shallow m c =
+    let t = c.args.self.now.bytes.now in
+    let edition = c.args.edition in
+    λ e. c.in_ok-expression.ensures.shallow
+    (no_arrow edition t _ _ _ c.in_ok-expression.ensures.meets c.skip_blank-ptr.ensures.blank (sym c.if-not-is_arrow.ensures) e)
+
+pub get_expression-returns-then-not-is_arrow-clause-shallow :
+    goal.get_expression-returns-then-not-is_arrow-clause-shallow
+get_expression-returns-then-not-is_arrow-clause-shallow m c =
+    let t = c.args.self.now.bytes.now in
+    let edition = c.args.edition in
+    λ e. c.in_ok-expression.ensures.shallow
+    (no_arrow edition t _ _ _ c.in_ok-expression.ensures.meets c.skip_blank-ptr.ensures.blank (sym c.if-not-is_arrow.ensures) e)
+
+pub get_expression-returns-in-Some-clause-shallow : goal.get_expression-returns-in-Some-clause-shallow
+get_expression-returns-in-Some-clause-shallow m c =
+    let t = c.args.self.now.bytes.now in
+    let edition = c.args.edition in
+    λ e. c.in_ok-expression.ensures.shallow (no_selector_there edition t _ _ _ c.in_ok-expression.ensures.meets c.skip_blank-ptr.ensures.blank
+    _ (c.in-Some.ensures t c.skip_blank-ptr.result).0 e)
+
+pub get_expression-returns-in_err-ptr-in-None-clause-shallow :
+    goal.get_expression-returns-in_err-ptr-in-None-clause-shallow
+get_expression-returns-in_err-ptr-in-None-clause-shallow m c =
+    let t = c.args.self.now.bytes.now in
+    let edition = c.args.edition in
+    let p = err_from_is_err_and c.from_residual-in_err-ptr-in-None.result c.from_residual-in_err-ptr-in-None.ensures.1 in
+    rw (p.1, p.2) (λ e. c.in_ok-expression.ensures.shallow
+    (select_stuck edition t _ _ _ c.in_ok-expression.ensures.meets c.skip_blank-ptr.ensures.blank
+    _ _ _
+    (goes_on (passed (record { by = refl }))
+    (goes_on (passed c.skip_blank_inline-ptr.ensures.blank)
+    (stops (c.in_err-ptr-in-None.ensures.meets _ _ _ (refl, refl, refl))))) e))
+
+pub get_expression-returns-in_err-variants-in-None-clause-shallow :
+    goal.get_expression-returns-in_err-variants-in-None-clause-shallow
+get_expression-returns-in_err-variants-in-None-clause-shallow m c =
+    let t = c.args.self.now.bytes.now in
+    let edition = c.args.edition in
+    let p = err_from_is_err_and c.from_residual-in_err-variants-in-None.result c.from_residual-in_err-variants-in-None.ensures.1 in
+    rw (p.1, p.2) (falls t ((family edition t).more_variants false) _ _ _ _ c.in_err-variants-in-None.ensures.meets
+    (λ k from to r e. not_first c.in_ok-expression.ensures.shallow
+    (select_led edition t _ _ _ c.in_ok-expression.ensures.meets c.skip_blank-ptr.ensures.blank
+    (goes_on (passed (record { by = refl }))
+    (goes_on (passed c.skip_blank_inline-ptr.ensures.blank)
+    (goes_on c.in_ok-ptr-in-None.ensures.meets
+    (passed c.skip_blank-ptr-in-None.ensures.blank)))) e))
+    c.in_err-variants-in-None.ensures.shallow)
+
+pub get_expression-returns-in_ok-variants-in-None-clause-shallow :
+    goal.get_expression-returns-in_ok-variants-in-None-clause-shallow
+get_expression-returns-in_ok-variants-in-None-clause-shallow m c =
+    let t = c.args.self.now.bytes.now in
+    let edition = c.args.edition in
+    λ e. c.in_ok-variants-in-None.ensures.shallow
+    (not_first c.in_ok-expression.ensures.shallow
+    (select_led edition t _ _ _ c.in_ok-expression.ensures.meets c.skip_blank-ptr.ensures.blank
+    (goes_on (passed (record { by = refl }))
+    (goes_on (passed c.skip_blank_inline-ptr.ensures.blank)
+    (goes_on c.in_ok-ptr-in-None.ensures.meets
+    (passed c.skip_blank-ptr-in-None.ensures.blank)))) e))
+
+pub get_call_arguments-returns-then-not-bracket-clause-shallow :
+    goal.get_call_arguments-returns-then-not-bracket-clause-shallow
+get_call_arguments-returns-then-not-bracket-clause-shallow m c =
+    let t = c.args.self.now.bytes.now in
+    let edition = c.args.edition in
+    call_stuck edition t _ _ _
+    (goes_on (passed c.skip_blank-start.ensures.blank)
+    (goes_on c.take_byte_if-bracket.ensures.meets
+    (second c.if-not-bracket.true (failed refl))))
+
+pub get_call_arguments-returns-in_err-arguments-clause-shallow :
+    goal.get_call_arguments-returns-in_err-arguments-clause-shallow
+get_call_arguments-returns-in_err-arguments-clause-shallow m c =
+    let t = c.args.self.now.bytes.now in
+    let edition = c.args.edition in
+    let p = err_from_is_err_and c.from_residual.result c.from_residual.ensures.1 in
+    rw (p.1, p.2) (falls t ((family edition t).more_arguments []) _ _ _ _ c.in_err-arguments.ensures.meets
+    (λ k from to r e. (call_led edition t {n = c.args.nesting} {m = c.args.nesting - 1} (omega (arith, c.if-nesting-eq0.false))
+    (goes_on (passed c.skip_blank-start.ensures.blank)
+    (goes_on c.take_byte_if-bracket.ensures.meets
+    (first c.if-not-bracket.false given)))
+    c.skip_blank-start-2.ensures.blank e))
+    c.in_err-arguments.ensures.shallow)
+
+pub get_call_arguments-returns-clause-shallow : goal.get_call_arguments-returns-clause-shallow
+get_call_arguments-returns-clause-shallow m c =
+    let t = c.args.self.now.bytes.now in
+    let edition = c.args.edition in
+    λ e. c.in_ok-arguments.ensures.shallow (call_led edition t {n = c.args.nesting} {m = c.args.nesting - 1} (omega (arith, c.if-nesting-eq0.false))
+    (goes_on (passed c.skip_blank-start.ensures.blank)
+    (goes_on c.take_byte_if-bracket.ensures.meets
+    (first c.if-not-bracket.false given)))
+    c.skip_blank-start-2.ensures.blank e)
+
+pub get_argument_value-returns-in_err-value-in-Quote-clause-shallow :
+    goal.get_argument_value-returns-in_err-value-in-Quote-clause-shallow
+get_argument_value-returns-in_err-value-in-Quote-clause-shallow m c =
+    let t = c.args.self.now.bytes.now in
+    let edition = c.args.edition in
+    let p = err_from_is_err_and c.from_residual.result c.from_residual.ensures.1 in
+    rw (p.1, p.2) (falls t (family edition t).inline_expression _ _ _ _ c.in_err-value-in-Quote.ensures.meets
+    (λ k from to r e. value_led edition t e)
+    c.in_err-value-in-Quote.ensures.shallow)
+
+pub get_argument_value-returns-in_ok-value-in-Quote-clause-shallow :
+    goal.get_argument_value-returns-in_ok-value-in-Quote-clause-shallow
+get_argument_value-returns-in_ok-value-in-Quote-clause-shallow m c =
+    let t = c.args.self.now.bytes.now in
+    let edition = c.args.edition in
+    λ e. c.in_ok-value-in-Quote.ensures.shallow (value_led edition t e)
+
+pub get_arguments-returns-then-place-self-clause-shallow : goal.get_arguments-returns-then-place-self-clause-shallow
+get_arguments-returns-then-place-self-clause-shallow m c =
+    let t = c.args.self.now.bytes.now in
+    let edition = c.args.edition in
+    λ e. end_flat edition t _ _ (omega (arith, c.if-place-self.true)) (c.loop-alloc.invariant.shallow e)
+
+pub get_arguments-returns-in_err-expression-clause-shallow :
+    goal.get_arguments-returns-in_err-expression-clause-shallow
+get_arguments-returns-in_err-expression-clause-shallow m c =
+    let t = c.args.self.now.bytes.now in
+    let edition = c.args.edition in
+    let p = err_from_is_err_and c.from_residual.result c.from_residual.ensures.1 in
+    rw (p.1, p.2) (falls t (family edition t).inline_expression _ _ _ _ c.in_err-expression.ensures.meets
+    (λ k from to r e. arguments_stuck edition t k from to _ r (c.loop-alloc.invariant.shallow e))
+    c.in_err-expression.ensures.shallow)
+
+pub get_arguments-returns-then-has_name-clause-shallow : goal.get_arguments-returns-then-has_name-clause-shallow
+get_arguments-returns-then-has_name-clause-shallow m c =
+    let t = c.args.self.now.bytes.now in
+    let edition = c.args.edition in
+    let names = c.loop-alloc.named.items in
+    let found = rw c.deref.ensures.value at c.if-has_name.ensures in
+    let used = used_in_order t (bytes_at t c.in-Some.name) names ∙ sym found in
+    λ e. c.in_ok-expression.ensures.shallow
+    (duplicate_led edition t _ _ c.in_ok-expression.ensures.meets (names_in t names) _ (sym c.in-Some.ensures)
+    (sym c.if-is_byte_at.ensures) used (c.loop-alloc.invariant.shallow e))
+
+pub get_arguments-returns-in_err-value-in-Some-clause-shallow :
+    goal.get_arguments-returns-in_err-value-in-Some-clause-shallow
+get_arguments-returns-in_err-value-in-Some-clause-shallow m c =
+    let t = c.args.self.now.bytes.now in
+    let edition = c.args.edition in
+    let p = err_from_is_err_and c.from_residual-in_err-value-in-Some.result c.from_residual-in_err-value-in-Some.ensures.1 in
+    rw (p.1, p.2) (falls t (at_each (start t) (argument_value t (family edition t))) _ _ _ _
+    c.in_err-value-in-Some.ensures.meets
+    (λ k from to r e. not_first c.in_ok-expression.ensures.shallow
+    (named_stuck edition t _ _ c.in_ok-expression.ensures.meets _ _ (sym c.in-Some.ensures)
+    (sym c.if-is_byte_at.ensures) c.skip_blank-start.ensures.blank _ k from to r (c.loop-alloc.invariant.shallow e)))
+    c.in_err-value-in-Some.ensures.shallow)
+
+pub get_arguments-returns-clause-shallow : goal.get_arguments-returns-clause-shallow
+get_arguments-returns-clause-shallow m c =
+    let t = c.args.self.now.bytes.now in
+    let edition = c.args.edition in
+    λ e. arguments_closed edition t _ (sym c.loop-alloc-test.ensures) (c.loop-alloc.invariant.shallow e)
+
+pub get_arguments-returns-then-not-is_empty-clause-shallow :
+    goal.get_arguments-returns-then-not-is_empty-clause-shallow
+get_arguments-returns-then-not-is_empty-clause-shallow m c =
+    let t = c.args.self.now.bytes.now in
+    let edition = c.args.edition in
+    let is : (argument_name (inline_view (λ s. s) c.in_ok-expression.expression) ≡ None) ⊎ (has_byte t colon c.in_ok-expression.next ≡ false) =
+    elim c.in_default.branch [
+      | get_arguments-in_default-via-in-Some+else-is_byte_at w ↦ inr (sym w.if-is_byte_at.ensures)
+      | get_arguments-in_default-via-in_default w ↦ inl (sym w.in_default.ensures)
+    ] in
+    let names = c.loop-alloc.named in
+    let some = some_named _ names.items names.ok.0 c.if-not-is_empty.ensures in
+    λ e. c.in_ok-expression.ensures.shallow
+    (late_led edition t _ _ c.in_ok-expression.ensures.meets _ (some_names t names.items some) is (c.loop-alloc.invariant.shallow e))
+
+pub get_layout-returns-in_err-lines-in-Some-clause-shallow :
+    goal.get_layout-returns-in_err-lines-in-Some-clause-shallow
+get_layout-returns-in_err-lines-in-Some-clause-shallow m c =
+    let t = c.args.self.now.bytes.now in
+    let edition = c.args.edition in
+    let p = err_from_is_err_and c.from_residual.result c.from_residual.ensures.1 in
+    rw (p.1, p.2) (falls t (family edition t).more_lines _ _ _ _ c.in_err-lines-in-Some.ensures.meets
+    (λ k from to r e. block_led edition t _ _ (sym c.in-Some.ensures.eol) c.skip_blank_block-first.ensures.blank e)
+    c.in_err-lines-in-Some.ensures.shallow)
+
+pub get_layout-returns-in_ok-lines-in-Some-clause-shallow : goal.get_layout-returns-in_ok-lines-in-Some-clause-shallow
+get_layout-returns-in_ok-lines-in-Some-clause-shallow m c =
+    let t = c.args.self.now.bytes.now in
+    let edition = c.args.edition in
+    λ e. c.in_ok-lines-in-Some.ensures.shallow
+    (block_led edition t _ _ (sym c.in-Some.ensures.eol) c.skip_blank_block-first.ensures.blank e)
+
+pub get_layout-returns-in_err-pieces-in-None-clause-shallow :
+    goal.get_layout-returns-in_err-pieces-in-None-clause-shallow
+get_layout-returns-in_err-pieces-in-None-clause-shallow m c =
+    let t = c.args.self.now.bytes.now in
+    let edition = c.args.edition in
+    let p = err_from_is_err_and c.from_residual-in_err-pieces-in-None.result c.from_residual-in_err-pieces-in-None.ensures.1 in
+    rw (p.1, p.2) (falls t (family edition t).more_pieces _ _ _ _ c.in_err-pieces-in-None.ensures.meets
+    (λ k from to r e. opening_stuck edition t k from to (sym c.in-None.ensures.eol) r e)
+    c.in_err-pieces-in-None.ensures.shallow)
+
+pub get_layout-returns-in_err-lines-in-None-clause-shallow :
+    goal.get_layout-returns-in_err-lines-in-None-clause-shallow
+get_layout-returns-in_err-lines-in-None-clause-shallow m c =
+    let t = c.args.self.now.bytes.now in
+    let edition = c.args.edition in
+    let p = err_from_is_err_and c.from_residual-in_err-lines-in-None.result c.from_residual-in_err-lines-in-None.ensures.1 in
+    rw (p.1, p.2) (falls t (family edition t).more_lines _ _ _ _ c.in_err-lines-in-None.ensures.meets
+    (λ k from to r e. not_first c.in_ok-pieces-in-None.ensures.shallow
+    (opening_led edition t _ _ _ _ (sym c.in-None.ensures.eol) c.in_ok-pieces-in-None.ensures.meets
+    c.get_ending-ending.ensures.meets e))
+    c.in_err-lines-in-None.ensures.shallow)
+
+pub get_layout-returns-in_ok-lines-in-None-clause-shallow : goal.get_layout-returns-in_ok-lines-in-None-clause-shallow
+get_layout-returns-in_ok-lines-in-None-clause-shallow m c =
+    let t = c.args.self.now.bytes.now in
+    let edition = c.args.edition in
+    λ e. c.in_ok-lines-in-None.ensures.shallow
+    (not_first c.in_ok-pieces-in-None.ensures.shallow
+    (opening_led edition t _ _ _ _ (sym c.in-None.ensures.eol) c.in_ok-pieces-in-None.ensures.meets
+    c.get_ending-ending.ensures.meets e))
+
+pub get_pattern-returns-in_err-layout-in-None-clause-shallow :
+    goal.get_pattern-returns-in_err-layout-in-None-clause-shallow
+get_pattern-returns-in_err-layout-in-None-clause-shallow m c =
+    let t = c.args.self.now.bytes.now in
+    let edition = c.args.edition in
+    let p = err_from_is_err_and c.from_residual-in_err-layout-in-None.result c.from_residual-in_err-layout-in-None.ensures.1 in
+    rw (p.1, p.2) (falls t (at_each (after_eol t) (layout_at t (family edition t))) _ _ _ _
+    c.in_err-layout-in-None.ensures.meets
+    (λ k from to r e. pattern_led edition t _ c.skip_blank_inline-start.ensures.blank e)
+    c.in_err-layout-in-None.ensures.shallow)
+
+pub get_pattern-returns-in_ok-pattern-in-None-clause-shallow :
+    goal.get_pattern-returns-in_ok-pattern-in-None-clause-shallow
+get_pattern-returns-in_ok-pattern-in-None-clause-shallow m c =
+    let t = c.args.self.now.bytes.now in
+    let edition = c.args.edition in
+    λ e. c.in_ok-layout-in-None.ensures.shallow (pattern_led edition t _ c.skip_blank_inline-start.ensures.blank e)
+
+pub get_pattern-returns-in-Some-clause-shallow : goal.get_pattern-returns-in-Some-clause-shallow
+get_pattern-returns-in-Some-clause-shallow m c =
+    let t = c.args.self.now.bytes.now in
+    let edition = c.args.edition in
+    let flat = rw c.in-Some.is at c.in_ok-short.ensures.shallow in
+    λ e. flat _ (pattern_led edition t _ c.skip_blank_inline-start.ensures.blank e)
+
+pub get_variants-returns-then-star-clause-shallow : goal.get_variants-returns-then-star-clause-shallow
+get_variants-returns-then-star-clause-shallow m c =
+    let t = c.args.self.now.bytes.now in
+    let edition = c.args.edition in
+    λ e. variants_stuck edition t _ _ _ _
+    (goes_on c.take_byte_if-star.ensures.meets
+    (stops (first (both_true _ _ c.if-starred.true c.if-star.true) (failed refl))))
+    (c.loop-starred.invariant.shallow e)
+
+pub get_variants-returns-then-has_default-clause-shallow : goal.get_variants-returns-then-has_default-clause-shallow
+get_variants-returns-then-has_default-clause-shallow m c =
+    let t = c.args.self.now.bytes.now in
+    let edition = c.args.edition in
+    λ e. variants_stuck edition t _ _ _ _
+    (goes_on c.take_byte_if-star.ensures.meets
+    (goes_on (second (one_false _ _ c.else-starred.either) given)
+    (stops (goes_on c.take_byte_if-bracket.ensures.meets (second c.if-not-bracket.true (failed refl))))))
+    (c.loop-starred.invariant.shallow e)
+
+pub get_variants-returns-then-not-bracket-clause-shallow : goal.get_variants-returns-then-not-bracket-clause-shallow
+get_variants-returns-then-not-bracket-clause-shallow m c =
+    let t = c.args.self.now.bytes.now in
+    let edition = c.args.edition in
+    λ e. variants_stuck edition t _ _ _ _
+    (goes_on c.take_byte_if-star.ensures.meets
+    (goes_on (second (one_false _ _ c.else-starred.either) given)
+    (stops (goes_on c.take_byte_if-bracket.ensures.meets (second c.if-not-bracket.true (failed refl))))))
+    (c.loop-starred.invariant.shallow e)
+
+pub get_variants-returns-in_err-key-clause-shallow : goal.get_variants-returns-in_err-key-clause-shallow
+get_variants-returns-in_err-key-clause-shallow m c =
+    let t = c.args.self.now.bytes.now in
+    let edition = c.args.edition in
+    let p = err_from_is_err_and c.from_residual.result c.from_residual.ensures.1 in
+    rw (p.1, p.2) (λ e. variants_stuck edition t _ _ _ _
+    (goes_on c.take_byte_if-star.ensures.meets
+    (goes_on (second (one_false _ _ c.else-starred.either) given)
+    (goes_on (goes_on c.take_byte_if-bracket.ensures.meets (first c.if-not-bracket.false given))
+    (goes_on (passed c.skip_blank-start.ensures.blank)
+    (stops (c.in_err-key.ensures.meets _ _ _ (refl, refl, refl)))))))
+    (c.loop-starred.invariant.shallow e))
+
+pub get_variants-returns-in_err-next-clause-shallow : goal.get_variants-returns-in_err-next-clause-shallow
+get_variants-returns-in_err-next-clause-shallow m c =
+    let t = c.args.self.now.bytes.now in
+    let edition = c.args.edition in
+    let p = err_from_is_err_and c.from_residual-in_err-next.result c.from_residual-in_err-next.ensures.1 in
+    rw (p.1, p.2) (λ e. variants_stuck edition t _ _ _ _
+    (goes_on c.take_byte_if-star.ensures.meets
+    (goes_on (second (one_false _ _ c.else-starred.either) given)
+    (goes_on (goes_on c.take_byte_if-bracket.ensures.meets (first c.if-not-bracket.false given))
+    (goes_on (passed c.skip_blank-start.ensures.blank)
+    (goes_on c.in_ok-key.ensures.meets
+    (goes_on (passed c.skip_blank-next.ensures.blank)
+    (stops (c.in_err-next.ensures.meets _ _ _ (refl, refl, refl)))))))))
+    (c.loop-starred.invariant.shallow e))
+
+pub get_variants-returns-in_err-value-clause-shallow : goal.get_variants-returns-in_err-value-clause-shallow
+get_variants-returns-in_err-value-clause-shallow m c =
+    let t = c.args.self.now.bytes.now in
+    let edition = c.args.edition in
+    let p = err_from_is_err_and c.from_residual-in_err-value.result c.from_residual-in_err-value.ensures.1 in
+    rw (p.1, p.2) (falls t (pattern edition t) _ _ _ _ c.in_err-value.ensures.meets
+    (λ k from to r e. pattern_stuck edition t _ _ _
+    (goes_on c.take_byte_if-star.ensures.meets
+    (goes_on (second (one_false _ _ c.else-starred.either) given)
+    (goes_on (goes_on c.take_byte_if-bracket.ensures.meets (first c.if-not-bracket.false given))
+    (goes_on (passed c.skip_blank-start.ensures.blank)
+    (goes_on c.in_ok-key.ensures.meets
+    (goes_on (passed c.skip_blank-next.ensures.blank)
+    (goes_on c.in_ok-next.ensures.meets
+    given)))))))
+    k from to r (c.loop-starred.invariant.shallow e))
+    c.in_err-value.ensures.shallow)
+
+pub get_variants-returns-in-None-clause-shallow : goal.get_variants-returns-in-None-clause-shallow
+get_variants-returns-in-None-clause-shallow m c =
+    let t = c.args.self.now.bytes.now in
+    let edition = c.args.edition in
+    let none = rw c.in-None.is at c.in_ok-value.ensures.meets in
+    λ e. c.in_ok-value.ensures.shallow (no_pattern_led edition t _ _ _
+    (goes_on c.take_byte_if-star.ensures.meets
+    (goes_on (second (one_false _ _ c.else-starred.either) given)
+    (goes_on (goes_on c.take_byte_if-bracket.ensures.meets (first c.if-not-bracket.false given))
+    (goes_on (passed c.skip_blank-start.ensures.blank)
+    (goes_on c.in_ok-key.ensures.meets
+    (goes_on (passed c.skip_blank-next.ensures.blank)
+    (goes_on c.in_ok-next.ensures.meets
+    given)))))))
+    _ none (c.loop-starred.invariant.shallow e))
+
+pub get_pieces-returns-in-None-clause-shallow : goal.get_pieces-returns-in-None-clause-shallow
+get_pieces-returns-in-None-clause-shallow m c =
+    let t = c.args.self.now.bytes.now in
+    let edition = c.args.edition in
+    λ e. pieces_end edition t (sym c.in-None.ensures) (c.loop-pieces.invariant.shallow e)
+
+pub get_pieces-returns-then-is_eol_at-clause-shallow : goal.get_pieces-returns-then-is_eol_at-clause-shallow
+get_pieces-returns-then-is_eol_at-clause-shallow m c =
+    let t = c.args.self.now.bytes.now in
+    let edition = c.args.edition in
+    λ e. pieces_eol edition t (sym c.if-is_eol_at.ensures) (c.loop-pieces.invariant.shallow e)
+
+pub get_pieces-returns-then-byte-eq125-clause-shallow : goal.get_pieces-returns-then-byte-eq125-clause-shallow
+get_pieces-returns-then-byte-eq125-clause-shallow m c =
+    let t = c.args.self.now.bytes.now in
+    let edition = c.args.edition in
+    λ e. pieces_close edition t _ (sym c.in-Some.ensures) c.if-byte-eq125.true (c.loop-pieces.invariant.shallow e)
+
+pub get_pieces-returns-in_err-expression-in-Some-clause-shallow :
+    goal.get_pieces-returns-in_err-expression-in-Some-clause-shallow
+get_pieces-returns-in_err-expression-in-Some-clause-shallow m c =
+    let t = c.args.self.now.bytes.now in
+    let edition = c.args.edition in
+    let p = err_from_is_err_and c.from_residual.result c.from_residual.ensures.1 in
+    rw (p.1, p.2) (falls t (placeable edition t) _ _ _ _ c.in_err-expression-in-Some.ensures.meets
+    (λ k from to r e. placed_stuck edition t k from to
+    (brace_stands edition t _ _ (sym c.in-Some.ensures) (sym c.if-is_eol_at.ensures) c.if-byte-eq123.true) r
+    (c.loop-pieces.invariant.shallow e))
+    c.in_err-expression-in-Some.ensures.shallow)
+
+pub get_lines-returns-in-None-clause-shallow : goal.get_lines-returns-in-None-clause-shallow
+get_lines-returns-in-None-clause-shallow m c =
+    let t = c.args.self.now.bytes.now in
+    let edition = c.args.edition in
+    λ e. lines_none edition t _ c.skip_blank_inline-first.ensures.blank (sym c.in-None.ensures) (c.loop-lines.invariant.shallow e)
+
+pub get_lines-returns-then-not-belongs-clause-shallow : goal.get_lines-returns-then-not-belongs-clause-shallow
+get_lines-returns-then-not-belongs-clause-shallow m c =
+    let t = c.args.self.now.bytes.now in
+    let edition = c.args.edition in
+    λ e. lines_other edition t _ c.skip_blank_inline-first.ensures.blank (sym c.if-not-belongs.ensures) (c.loop-lines.invariant.shallow e)
+
+pub get_lines-returns-in_err-pieces-in-Some-clause-shallow :
+    goal.get_lines-returns-in_err-pieces-in-Some-clause-shallow
+get_lines-returns-in_err-pieces-in-Some-clause-shallow m c =
+    let t = c.args.self.now.bytes.now in
+    let edition = c.args.edition in
+    let p = err_from_is_err_and c.from_residual.result c.from_residual.ensures.1 in
+    rw (p.1, p.2) (falls t (family edition t).more_pieces _ _ _ _ c.in_err-pieces-in-Some.ensures.meets
+    (λ k from to r e. lines_stuck edition t _ c.skip_blank_inline-first.ensures.blank k from to r (c.loop-lines.invariant.shallow e))
+    c.in_err-pieces-in-Some.ensures.shallow)
+
+pub get_lines-returns-in-None-eol_end-clause-shallow : goal.get_lines-returns-in-None-eol_end-clause-shallow
+get_lines-returns-in-None-eol_end-clause-shallow m c =
+    let t = c.args.self.now.bytes.now in
+    let edition = c.args.edition in
+    let pieces = c.in_ok-pieces-in-Some.ensures in
+    let none = sym c.in-None-eol_end.ensures.eol in
+    λ e. no_lines_led edition t _ (no_lines edition t _ (pieces.stops (eol_none t _ none)))
+    (not_first pieces.shallow
+    (lines_led edition t _ c.skip_blank_inline-first.ensures.blank _ _ _ _ pieces.meets (ends_text t _ none) (c.loop-lines.invariant.shallow e)))

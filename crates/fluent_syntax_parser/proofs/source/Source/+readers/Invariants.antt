@@ -1,5 +1,6 @@
 use Rattle.std.proofs.Common.{◌+◌, ◌*◌, length, ◌-◌, ◌≤◌, [], false}
 use Rattle.fluent_syntax_grammar.specs.Grammar.{family}
+use Rattle.fluent_syntax_grammar.specs.Nesting.{Deeper, in_arguments, in_lines, in_pieces, in_variants}
 use Rattle.fluent_syntax_parser.specs.Lines.{line_view, piece_view}
 use Rattle.fluent_syntax_parser.specs.Gathered.{names_in}
 use Rattle.fluent_syntax_parser.proofs.GatheredArguments.{put_arguments}
@@ -54,6 +55,10 @@ invariant-get_arguments-loop-alloc l =
       gathered :
           Puts ((family l.edition t).more_arguments (names_in t l.named.items)) ((family l.edition t).more_arguments [])
           (put_arguments l.positional.items l.named.items) l.ptr l.place;
+      deeper : Deeper l.edition t (in_arguments (names_in t l.named.items)) l.nesting l.place →
+          Deeper l.edition t (in_arguments []) l.nesting l.ptr;
+      shallow : Deeper l.edition t (in_arguments []) l.nesting l.ptr →
+          Deeper l.edition t (in_arguments (names_in t l.named.items)) l.nesting l.place;
     }
 
 abbrev pub decreases-get_arguments-loop-alloc : goal.decreases-get_arguments-loop-alloc
@@ -68,6 +73,10 @@ invariant-get_variants-loop-starred l =
       gathered :
           Puts ((family l.edition t).more_variants l.starred) ((family l.edition t).more_variants false)
           (put_variants l.variants.items) l.ptr l.place;
+      deeper : Deeper l.edition t (in_variants l.starred) l.nesting l.place →
+          Deeper l.edition t (in_variants false) l.nesting l.ptr;
+      shallow : Deeper l.edition t (in_variants false) l.nesting l.ptr →
+          Deeper l.edition t (in_variants l.starred) l.nesting l.place;
     }
 
 abbrev pub decreases-get_variants-loop-starred : goal.decreases-get_variants-loop-starred
@@ -80,6 +89,8 @@ invariant-get_pieces-loop-pieces l =
       forward : l.ptr ≤ l.place;
       within : l.place ≤ length t;
       gathered : Gathers (family l.edition t).more_pieces piece_view l.ptr l.pieces.items l.place;
+      deeper : Deeper l.edition t in_pieces l.nesting l.place → Deeper l.edition t in_pieces l.nesting l.ptr;
+      shallow : Deeper l.edition t in_pieces l.nesting l.ptr → Deeper l.edition t in_pieces l.nesting l.place;
     }
 
 abbrev pub decreases-get_pieces-loop-pieces : goal.decreases-get_pieces-loop-pieces
@@ -92,6 +103,8 @@ invariant-get_lines-loop-lines l =
       forward : l.ptr ≤ l.start;
       within : l.start ≤ length t;
       gathered : Gathers (family l.edition t).more_lines line_view l.ptr l.lines.items l.start;
+      deeper : Deeper l.edition t in_lines l.nesting l.start → Deeper l.edition t in_lines l.nesting l.ptr;
+      shallow : Deeper l.edition t in_lines l.nesting l.ptr → Deeper l.edition t in_lines l.nesting l.start;
     }
 
 abbrev pub decreases-get_lines-loop-lines : goal.decreases-get_lines-loop-lines

@@ -1,4 +1,4 @@
-use Rattle.std.proofs.Common.{◌≡◌, length, arith}
+use Rattle.std.proofs.Common.{◌≡◌, length, refl, arith}
 use Rattle.std.specs.Vec.{vec_len}
 use Rattle.std.proofs.lemmas.Result.{err_from_is_err_and}
 use Rattle.fluent_syntax_tree.specs.declared.spans.Span.{Span}
@@ -8,6 +8,10 @@ use Rattle.fluent_syntax_parser.proofs.FieldForms.{fields_refused, fields_then, 
 use Rattle.fluent_syntax_parser.proofs.FieldForms.{message_without, no_items, some_items}
 use Rattle.fluent_syntax_parser.proofs.source.Source.get_message.Goals.{else-is_none-via-then-is_none+else-is_empty}
 use Rattle.fluent_syntax_parser.proofs.source.Source.get_message.Goals.{else-is_none-via-else-is_none}
+use Rattle.fluent_syntax_grammar.specs.Nesting.{its_message_fields}
+use Rattle.fluent_syntax_grammar.proofs.Shallow.{message_led, message_stuck}
+use Rattle.fluent_syntax_parser.specs.Fields.{fields}
+use Rattle.fluent_syntax_parser.proofs.Shallows.{falls}
 use Rattle.fluent_syntax_parser.proofs.source.Source.get_message.Goals as goal
 
 pub returns-in_err-end-clause-meets : goal.returns-in_err-end-clause-meets
@@ -57,3 +61,37 @@ returns-clause-meets c =
       | else-is_none-via-else-is_none w ↦
           message_of_value t c.args.start place name found.value rest w.if-is_none.ensures
     ])))
+
+pub returns-in_err-fields-clause-deeper :
+    goal.returns-in_err-fields-clause-deeper
+returns-in_err-fields-clause-deeper c =
+    let p = err_from_is_err_and c.from_residual-in_err-fields.result c.from_residual-in_err-fields.ensures.1 in
+    rw (p.1, p.2) (λ e. its_message_fields c.in_ok-end.ensures.meets (c.in_err-fields.ensures.deeper e))
+
+pub returns-in_err-end-clause-shallow : goal.returns-in_err-end-clause-shallow
+returns-in_err-end-clause-shallow c =
+    let t = c.args.self.now.bytes.now in
+    let edition = c.args.edition in
+    let p = err_from_is_err_and c.from_residual.result c.from_residual.ensures.1 in
+    rw (p.1, p.2) (message_stuck edition t _ _ _ (c.in_err-end.ensures.meets _ _ _ (refl, refl, refl)))
+
+pub returns-in_err-fields-clause-shallow : goal.returns-in_err-fields-clause-shallow
+returns-in_err-fields-clause-shallow c =
+    let t = c.args.self.now.bytes.now in
+    let edition = c.args.edition in
+    let p = err_from_is_err_and c.from_residual-in_err-fields.result c.from_residual-in_err-fields.ensures.1 in
+    rw (p.1, p.2) (falls t (fields edition t) _ _ _ _ c.in_err-fields.ensures.meets
+    (λ k from to r e. message_led edition t _ _ c.in_ok-end.ensures.meets e)
+    c.in_err-fields.ensures.shallow)
+
+pub returns-then-is_empty-clause-shallow : goal.returns-then-is_empty-clause-shallow
+returns-then-is_empty-clause-shallow c =
+    let t = c.args.self.now.bytes.now in
+    let edition = c.args.edition in
+    λ e. c.in_ok-fields.ensures.shallow (message_led edition t _ _ c.in_ok-end.ensures.meets e)
+
+pub returns-clause-shallow : goal.returns-clause-shallow
+returns-clause-shallow c =
+    let t = c.args.self.now.bytes.now in
+    let edition = c.args.edition in
+    λ e. c.in_ok-fields.ensures.shallow (message_led edition t _ _ c.in_ok-end.ensures.meets e)

@@ -2,7 +2,7 @@ use Rattle.std.proofs.Common.{◌∷◌, [], ◌++◌, ◌∙◌, ap}
 use Rattle.fluent_syntax_tree.proofs.Views.{view-Pattern, view-TextElement}
 use Rattle.fluent_syntax_tree.specs.declared.ast.PatternElement as elem
 use Rattle.fluent_syntax_tree.specs.declared.spans.Span.{Span}
-use Rattle.fluent_syntax_parser.proofs.ShortPatterns.{short_read}
+use Rattle.fluent_syntax_parser.proofs.ShortPatterns.{short_read, short_shallow}
 use Rattle.fluent_syntax_parser.proofs.source.Source.get_short_pattern.Goals as goal
 
 pub returns-in-Some-end_without_lines-clause-opens : goal.returns-in-Some-end_without_lines-clause-opens
@@ -20,3 +20,10 @@ returns-in-Some-end_without_lines-clause-opens c = λ i blank.
     (short_read c.args.edition c.args.self.now.bytes.now i _ _ blank c.run_end-to.ensures.run c.if-start-to.true
     c.run_end-to.ensures.within a.text_end a.next c.in-Some-end_without_lines.end a.ensures.ending a.ensures.within.2
     c.in-Some-end_without_lines.ensures.lines)
+
+pub returns-in-Some-end_without_lines-clause-shallow : goal.returns-in-Some-end_without_lines-clause-shallow
+returns-in-Some-end_without_lines-clause-shallow c = λ n.
+    let a = c.in-Some in
+    short_shallow c.args.edition c.args.self.now.bytes.now _ _ c.run_end-to.ensures.run c.if-start-to.true
+    c.run_end-to.ensures.within n a.text_end a.next c.in-Some-end_without_lines.end a.ensures.ending
+    c.in-Some-end_without_lines.ensures.lines

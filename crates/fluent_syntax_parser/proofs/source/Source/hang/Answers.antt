@@ -1,6 +1,11 @@
 use Rattle.std.proofs.Common.{◌<◌, length, refl, sym, arith}
 use Rattle.fluent_syntax_tree.specs.View.{comment_view}
 use Rattle.fluent_syntax_tree.specs.declared.ast.Entry.TheVariants.{Comment}
+use Rattle.fluent_syntax_grammar.specs.Nesting.{its_entry}
+use Rattle.fluent_syntax_grammar.specs.Tiling.{TileAt, reads}
+use Rattle.fluent_syntax_grammar.proofs.OneTiling.{one_tile}
+use Rattle.fluent_syntax_grammar.proofs.Shallow.{block_behind, tile_led}
+use Rattle.fluent_syntax_parser.proofs.DeeperTiles.{behind_one}
 use Rattle.fluent_syntax_parser.proofs.EntryForms.{hash_hangs_not}
 use Rattle.fluent_syntax_parser.proofs.HangsOn.{behind_blank, hangs_not, hangs_on, no_entry, other_entry}
 use Rattle.fluent_syntax_parser.proofs.source.Source.hang.Goals as goal
@@ -46,3 +51,28 @@ returns-in-Err-Refused-clause-hangs c =
     let refused = rw c.in-Err-Refused.field-0-is at c.in-Err-Refused.ensures.meets in
     hangs_not edition t content c.args.ptr (Comment c.args.comment) refl
     (no_entry edition t content c.args.ptr _ refused)
+
+-- ---- how deeply it nests
+
+pub returns-in-Ok-hung-clause-behind : goal.returns-in-Ok-hung-clause-behind
+returns-in-Ok-hung-clause-behind c =
+    let t = c.args.self.now.bytes.now in
+    let edition = c.args.options.edition in
+    let read = c.in-Ok.ensures in
+    let inside : c.args.ptr < length t = omega (arith, read.within.0, read.within.1) in
+    let block = rw c.if-skip_blank_block-ptr.false at c.skip_blank_block.ensures.blank in
+    λ h. (_, block, behind_one edition t (TileAt edition t) _ _ _ inside _ (reads read.meets) h)
+
+pub returns-in-Err-TooDeep-clause-deeper : goal.returns-in-Err-TooDeep-clause-deeper
+returns-in-Err-TooDeep-clause-deeper c =
+    let block = rw c.if-skip_blank_block-ptr.false at c.skip_blank_block.ensures.blank in
+    λ e. (_, block, its_entry (c.in-Err-TooDeep.ensures.deeper c.in-Err-TooDeep.field-0-is))
+
+pub returns-in-Ok-hung-clause-shallow : goal.returns-in-Ok-hung-clause-shallow
+returns-in-Ok-hung-clause-shallow c =
+    let t = c.args.self.now.bytes.now in
+    let edition = c.args.options.edition in
+    let read = c.in-Ok.ensures in
+    let block = rw c.if-skip_blank_block-ptr.false at c.skip_blank_block.ensures.blank in
+    λ h. tile_led edition t (TileAt edition t) (one_tile edition t) _ _ (reads read.meets) read.shallow
+    (block_behind edition t (TileAt edition t) _ block h)

@@ -1,4 +1,3 @@
-use Rattle.std.proofs.Common.{◌≤◌, length, arith}
 use Rattle.memchr.specs.Find.{is_byte3}
 use Rattle.fluent_syntax_grammar.specs.Bytes.{lf, left_brace, right_brace}
 use Rattle.fluent_syntax_parser.specs.Lanes.{is_passed}

@@ -1,5 +1,8 @@
 use Rattle.std.proofs.Common.{◌<◌, length, sym, arith}
 use Rattle.fluent_syntax_grammar.proofs.Functional.{single_block}
+use Rattle.fluent_syntax_grammar.proofs.Shallow.{block_behind}
+use Rattle.fluent_syntax_parser.specs.Rest.{TileIn}
+use Rattle.fluent_syntax_parser.proofs.DeeperTiles.{behind_dropped, dropped_led}
 use Rattle.fluent_syntax_parser.proofs.Rests.{rest_behind, rest_dropped}
 use Rattle.fluent_syntax_parser.proofs.source.Source.tile_start.Goals as goal
 
@@ -12,6 +15,8 @@ loop-comments-init c =
       within = block.within;
       rest = λ edition entries errors rest.
           rest_behind c.args.comments edition t _ _ entries errors block.blank rest;
+      deeper = λ edition n h. (_, block.blank, h);
+      shallow = λ edition n h. block_behind edition t (TileIn c.args.comments edition t) _ block.blank h;
       blank = λ all. single_block.same c.args.ptr _ _ block.blank all;
     }
 
@@ -29,5 +34,11 @@ loop-comments-preserved c =
           (rest_dropped edition t _ _ inside c.args.comments (sym c.loop-comments-test.ensures)
           (sym c.if-is_byte_at.ensures) line.line entries errors
           (rest_behind c.args.comments edition t _ _ entries errors block.blank rest));
+      deeper = λ edition n h. inv.deeper edition n
+          (behind_dropped edition t _ _ n inside c.args.comments (sym c.loop-comments-test.ensures)
+          (sym c.if-is_byte_at.ensures) line.line (_, block.blank, h));
+      shallow = λ edition n h. block_behind edition t (TileIn c.args.comments edition t) _ block.blank
+          (dropped_led edition t _ _ n c.args.comments (sym c.loop-comments-test.ensures)
+          (sym c.if-is_byte_at.ensures) line.line (inv.shallow edition n h));
       blank = λ all. let end = inv.blank all in absurd (omega (arith, end, inside));
     }

@@ -1,10 +1,11 @@
-use Rattle.std.proofs.Common.{length, ◌-◌, ◌≡◌, ◌≤◌, List, Option}
+use Rattle.std.proofs.Common.{length, ◌-◌, ◌≡◌, ◌≤◌, ℕ, List, Option}
 use Rattle.fluent_syntax_tree.specs.Entry.{BodyTree}
 use Rattle.fluent_syntax_tree.specs.declared.edition.Edition.{Edition}
 use Rattle.fluent_syntax_tree.specs.declared.spans.Span.{Span}
+use Rattle.fluent_syntax_grammar.specs.Nesting.{TextDeeper, TileDeeper}
 use Rattle.fluent_syntax_grammar.specs.Places.{BlankBlock}
 use Rattle.fluent_syntax_grammar.specs.Tiling.{Fault}
-use Rattle.fluent_syntax_parser.specs.Rest.{Rest, RestAt}
+use Rattle.fluent_syntax_parser.specs.Rest.{Rest, RestAt, TileIn}
 use Rattle.fluent_syntax_parser.proofs.source.Source.tile_start.Given as goal
 
 abbrev pub invariant-loop-comments : goal.invariant-loop-comments
@@ -14,6 +15,12 @@ invariant-loop-comments l = record {
   rest : (edition : Edition) (entries : BodyTree Span) (errors : List (Option Fault)) →
       RestAt l.comments edition l.self.bytes.now l.start entries errors →
       Rest l.comments edition l.self.bytes.now l.ptr entries errors;
+  deeper : (edition : Edition) (n : ℕ) →
+      TileDeeper edition l.self.bytes.now (TileIn l.comments edition l.self.bytes.now) n l.start →
+      TextDeeper edition l.self.bytes.now (TileIn l.comments edition l.self.bytes.now) n l.ptr;
+  shallow : (edition : Edition) (n : ℕ) →
+      TextDeeper edition l.self.bytes.now (TileIn l.comments edition l.self.bytes.now) n l.ptr →
+      TileDeeper edition l.self.bytes.now (TileIn l.comments edition l.self.bytes.now) n l.start;
   blank : BlankBlock l.self.bytes.now l.ptr (length l.self.bytes.now) → l.start ≡ length l.self.bytes.now;
 }
 

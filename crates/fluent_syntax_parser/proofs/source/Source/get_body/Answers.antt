@@ -1,0 +1,25 @@
+use Rattle.std.proofs.Common.{rules, map, append_assoc}
+use Rattle.fluent_syntax_parser.specs.Faults.{fault_of}
+use Rattle.fluent_syntax_parser.specs.Rest.{faults_of, tree_of}
+use Rattle.fluent_syntax_parser.proofs.Gathers.{map_more}
+use Rattle.fluent_syntax_parser.proofs.source.Source.get_body.Goals as goal
+
+pub loop-errors-preserved : goal.loop-errors-preserved
+loop-errors-preserved c =
+    let old = c.loop-errors in
+    let next = rw c.in-Some.is at c.in_ok-entry.ensures.next in
+    let behind = rw c.in-Some.is at c.in_ok-entry.ensures.behind in
+    let shallow = rw c.in-Some.is at c.in_ok-entry.ensures.shallow in
+    record {
+      within = search rules;
+      rest = λ entries errors h.
+          rw (
+            c.in_ok-push.ensures.items,
+            map_more tree_of old.body.items c.in-Some.entry entries,
+            c.in_ok-add_error.ensures,
+            append_assoc (map fault_of old.errors.items) (faults_of c.in-Some.error) errors,
+          ) (old.invariant.rest _ _ (next entries errors h));
+      deeper = λ h. old.invariant.deeper (behind h);
+      shallow = λ h. shallow (old.invariant.shallow h);
+      blank = search rules;
+    }
