@@ -1,8 +1,8 @@
 -- Entries that are read one by one, each with its texts.
-use Rattle.std.proofs.Common.{◌≡◌, ℕ, ◌≤◌, List, [], ◌∷◌, ◌++◌, length, map, Option, Some, None, refl, sym, ◌∙◌, ap, subst}
+use Rattle.std.proofs.Common.{◌≡◌, ℕ, ◌≤◌, List, [], ◌∷◌, ◌++◌, length, map, Option, Some, refl, sym, ◌∙◌, ap}
 use Rattle.std.specs.Str.{IsUtf8}
 use Rattle.std.proofs.lemmas.List.{append-nil, append_assoc, map-append}
-use Rattle.fluent_syntax_tree.specs.Entry.{BodyTree, body_map, entry_map}
+use Rattle.fluent_syntax_tree.specs.Entry.{entry_map}
 use Rattle.fluent_syntax_tree.specs.Every.{entry_every}
 use Rattle.fluent_syntax_tree.specs.Spans.{IsPart, bytes_at}
 use Rattle.fluent_syntax_tree.specs.View.{entry_view}
@@ -10,7 +10,6 @@ use Rattle.fluent_syntax_tree.specs.declared.ast.Entry.{Entry}
 use Rattle.fluent_syntax_tree.specs.declared.edition.Edition.{Edition}
 use Rattle.fluent_syntax_tree.specs.declared.errors.ParserError.{ParserError}
 use Rattle.fluent_syntax_tree.specs.declared.spans.Span.{Span}
-use Rattle.fluent_syntax_grammar.specs.Tiling.{Fault}
 use Rattle.fluent_syntax_parser.specs.Faults.{fault_of}
 use Rattle.fluent_syntax_parser.specs.Rest.{NextTo, Rest, faults_of, tree_of}
 use Rattle.fluent_syntax_parser.specs.declared.options.Comments.{Comments}

@@ -1,11 +1,13 @@
 //! Texts read entry by entry: the texts of each are made while its spans are warm.
-ghost use Rattle.std.specs.Prelude.{◌≡◌, ◌+◌, ◌<◌, ◌^◌, [], ◌∷◌, ◌++◌, length, map, IfErr, IfOk, IsOk, IsOkAnd, OnErr, OnOk};
+ghost use Rattle.std.specs.Prelude.{◌≡◌, ◌+◌, ◌<◌, ◌^◌, ◌≢◌, [], ◌∷◌, ◌++◌, length, map, Err, IfErr, IfOk, IsOk, IsOkAnd, OnErr, OnOk};
 ghost use Rattle.fluent_syntax.specs.Errors.{ErrorsAscend, JunkIsRefused};
 ghost use Rattle.fluent_syntax.specs.ReadEntries.{IsRead};
+ghost use Rattle.fluent_syntax_grammar.specs.Nesting.{TextDeeper};
 ghost use Rattle.fluent_syntax_grammar.specs.Places.{BlankBlock};
 ghost use Rattle.fluent_syntax_parser.specs.Answers.{AnswersIn, ErrorsInText};
-ghost use Rattle.fluent_syntax_parser.specs.Halts.{HaltsWithin};
-ghost use Rattle.fluent_syntax_parser.specs.Rest.{tree_of};
+ghost use Rattle.fluent_syntax_parser.specs.Halts.{HaltsWithin, OnHalt};
+ghost use Rattle.fluent_syntax_parser.specs.Rest.{TileIn, tree_of};
+ghost use Rattle.fluent_syntax_parser.specs.declared.fault.ParseFault.TheVariants.{Memory};
 ghost use Rattle.fluent_syntax_tree.specs.Entry.{body_map, entry_map};
 ghost use Rattle.fluent_syntax_tree.specs.Every.{entry_every};
 ghost use Rattle.fluent_syntax_tree.specs.Spans.{IsPart, bytes_at};
@@ -49,6 +51,10 @@ fn read_entries<'s, S: Slice<'s>>(
     ensures blank { let t = S.text input.now in
         BlankBlock t 0 (length t) → IsOkAnd result (λ read. read.1.items ≡ []) }
     ensures nests { IfErr result (HaltsWithin options.nesting (length (S.text input.now))) }
+    ensures deeper { let t = S.text input.now in let at = TileIn options.comments options.edition t in
+        IfErr result (OnHalt (TextDeeper options.edition t at options.nesting 0)) }
+    ensures shallow { let t = S.text input.now in let at = TileIn options.comments options.edition t in
+        IfOk result (λ read. TextDeeper options.edition t at options.nesting 0 → ⊥) }
 {
     let mut entries = Entries::new(input.as_str(), options);
     let mut body = Vec::new(alloc);
@@ -72,7 +78,11 @@ pub(crate) fn parse_by<'s, S: Slice<'s>>(
     ensures junk { IfOk result (JunkIsRefused (S.text input.now) S.text) }
     ensures errors { IfOk result (ErrorsAscend (S.text input.now)) }
     ensures places { IfOk result (ErrorsInText (S.text input.now)) }
-    ensures deep { OnErr result (options.nesting < length (S.text input.now)) }
+    ensures nests { OnErr result (options.nesting < length (S.text input.now)) }
+    ensures deeper { let t = S.text input.now in let at = TileIn options.comments options.edition t in
+        OnErr result (TextDeeper options.edition t at options.nesting 0) }
+    ensures shallow { let t = S.text input.now in let at = TileIn options.comments options.edition t in
+        IfOk result (λ answer. answer ≢ Err Memory → TextDeeper options.edition t at options.nesting 0 → ⊥) }
 {
     match read_entries(alloc, input, options) {
         Ok((body, errors)) => Ok(answer_of(body, errors)),

@@ -1,9 +1,11 @@
 //! Both parsers, with trees of texts.
-ghost use Rattle.std.specs.Prelude.{◌+◌, ◌^◌, ◌<◌, length, IfOk, IsOk, OnErr};
+ghost use Rattle.std.specs.Prelude.{◌+◌, ◌^◌, ◌<◌, ◌≢◌, length, Err, IfOk, IsOk, OnErr};
 ghost use Rattle.fluent_syntax.specs.Errors.{ErrorsAscend, JunkIsRefused};
 ghost use Rattle.fluent_syntax.specs.RoundTrip.{AnswersReadable};
+ghost use Rattle.fluent_syntax_grammar.specs.Nesting.{NestsDeeper, RuntimeNestsDeeper};
 ghost use Rattle.fluent_syntax_grammar.specs.Places.{BlankBlock};
 ghost use Rattle.fluent_syntax_parser.specs.Answers.{AnswersRuntimeTiling, AnswersTiling, ErrorsInText};
+ghost use Rattle.fluent_syntax_parser.specs.declared.fault.ParseFault.TheVariants.{Memory};
 ghost use Rattle.fluent_syntax_tree.specs.Entry.{body_map};
 ghost use Rattle.fluent_syntax_tree.specs.Spans.{bytes_at};
 
@@ -97,7 +99,10 @@ pub fn parse_within<'s, S: Slice<'s>>(
     ensures junk { IfOk result (JunkIsRefused (S.text input) S.text) }
     ensures errors { IfOk result (ErrorsAscend (S.text input)) }
     ensures places { IfOk result (ErrorsInText (S.text input)) }
-    ensures deep { OnErr result (nesting < length (S.text input)) }
+    ensures nests { OnErr result (nesting < length (S.text input)) }
+    ensures deeper { OnErr result (NestsDeeper edition (S.text input) nesting) }
+    ensures shallow { IfOk result
+        (λ answer. answer ≢ Err Memory → NestsDeeper edition (S.text input) nesting → ⊥) }
 {
     let options = Options {
         edition,
@@ -122,7 +127,10 @@ pub fn parse_runtime_within<'s, S: Slice<'s>>(
     ensures junk { IfOk result (JunkIsRefused (S.text input) S.text) }
     ensures errors { IfOk result (ErrorsAscend (S.text input)) }
     ensures places { IfOk result (ErrorsInText (S.text input)) }
-    ensures deep { OnErr result (nesting < length (S.text input)) }
+    ensures nests { OnErr result (nesting < length (S.text input)) }
+    ensures deeper { OnErr result (RuntimeNestsDeeper edition (S.text input) nesting) }
+    ensures shallow { IfOk result
+        (λ answer. answer ≢ Err Memory → RuntimeNestsDeeper edition (S.text input) nesting → ⊥) }
 {
     let options = Options {
         edition,

@@ -1,5 +1,6 @@
 use Rattle.std.proofs.Common.{refl, ap, ◌∙◌, arith}
-use Rattle.fluent_syntax.proofs.ReadEntriesLemmas.{next_parts, read_on}
+use Rattle.std.proofs.lemmas.Result.{err_from_is_err_and}
+use Rattle.fluent_syntax.proofs.ReadEntriesLemmas.{all_read, next_parts, read_on}
 use Rattle.fluent_syntax.proofs.entries.read_entries.Goals as goal
 
 pub add_entry-requires : goal.add_entry-requires
@@ -34,8 +35,25 @@ loop-errors-preserved g c =
       options = here.options ∙ inv.options;
       read = read_on g.S.Slice.text c.args.options.comments c.args.options.edition t _ _ _ inv.read _ c.in-Some.entry
           c.in-Some.error next _ _ c.in_ok-add_entry.ensures c.in_ok-add_error.ensures;
+      deeper =
+          let here = rw (inv.text, inv.options, c.in-Some.is) at here.shallow in
+          (λ d. inv.deeper.0 (here.1 d), λ d. here.0 (inv.deeper.1 d));
       blank = λ block.
           let nothing = here.blank (rw (inv.text, (inv.blank block).0) block) in
           let some = c.in-Some.is in
           absurd (cc);
     }
+
+pub returns-clause-read : goal.returns-clause-read
+returns-clause-read g c =
+    let t = g.S.Slice.text c.args.input.now in
+    let inv = c.loop-errors.invariant in
+    let none = rw (inv.text, inv.options, c.in_default.is) at c.in_ok-entry.ensures.next in
+    all_read g.S.Slice.text c.args.options.comments c.args.options.edition t _ _ _ inv.read none
+
+pub returns-in_err-entry-clause-nests : goal.returns-in_err-entry-clause-nests
+returns-in_err-entry-clause-nests g c =
+    let inv = c.loop-errors.invariant in
+    let within = rw (inv.text, inv.options) at c.in_err-entry.ensures.nests in
+    let halt = err_from_is_err_and c.from_residual.result c.from_residual.ensures.1 in
+    rw (halt.1, halt.2) (λ deep. let room = within deep in omega (arith, room))
