@@ -76,8 +76,10 @@ no_select (its_variants x d) = differs (left_true _ _ x.there) (absent braces hy
 
 no_fourth : Deeper One braces in_placeable 3 0 → ⊥
 no_fourth d =
-    let second_open = brace_led One braces refl (no_select (placeable_led One braces {m = 2} refl (opening braces 0 refl refl) d)) in
-    let third_open = brace_led One braces refl (no_select (placeable_led One braces {m = 1} refl (opening braces 1 refl refl) second_open)) in
+    let second_open = brace_led One braces refl (no_select (placeable_led One braces {m = 2} refl
+    (opening braces 0 refl refl) d)) in
+    let third_open = brace_led One braces refl (no_select (placeable_led One braces {m = 1} refl
+    (opening braces 1 refl refl) second_open)) in
     let inner = no_select (placeable_led One braces {m = 0} refl (opening braces 2 refl refl) third_open) in
     call_stuck One braces _ _ _
     (goes_on (passed (none_there (is_blank_place braces) 4 refl))
