@@ -317,7 +317,8 @@ module _ (edition : Edition) (t : List ℕ) where
         named_stuck names k from to r (behind_named {k = m'} x v s d) =
             absurd (clash functional_value m
             (moved (at_each (start t) (argument_value t R)) (same_start i e j read m blank x) v) r)
-        named_stuck names k from to r (behind_positional x other s d) = absurd (no_positional i e j read is mark x other)
+        named_stuck names k from to r (behind_positional x other s d) =
+            absurd (no_positional i e j read is mark x other)
 
         pub named_led : (names : List (List ℕ)) (value : InlineTree Span) (end next : ℕ) →
             at_each (start t) (argument_value t R) m (Read value end) → separator t end (Read tt next) →
@@ -585,7 +586,8 @@ module _ (edition : Edition) (t : List ℕ) where
     -- no entry stands at the text's end
     pub entry_end : slice_get t i ≡ None → Deeper edition t in_entry n i → ⊥
     entry_end none (its_message a b (its_message_fields x d)) =
-        clash (functional_identifier t) i x (goes_on at_place (goes_on (chosen given) (second (rw none refl) (failed refl))))
+        clash (functional_identifier t) i x
+        (goes_on at_place (goes_on (chosen given) (second (rw none refl) (failed refl))))
     entry_end none (its_term mark d) = let f = rw none at mark in cc
 
 -- ---- tiles

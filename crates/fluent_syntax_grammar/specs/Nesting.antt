@@ -129,8 +129,8 @@ module _ (edition : Edition) (t : List ℕ) where
     pub new : is_used (bytes_at t name) names ≡ false
     pub blank : Blank t (end + 1) k
 
-  -- Reading the part at the place comes to the `{` of a placeable or the `(` of an argument list inside n that are open,
-  -- of those that the part itself opens: so it nests deeper than n. What was opened before a refusal counts too.
+  -- Reading the part at the place comes to the `{` of a placeable or the `(` of an argument list inside n that are
+  -- open, of those that the part itself opens: so it nests deeper than n. What was opened before a refusal counts too.
   pub data Deeper : Part → (n i : ℕ) → Type 0 where
     -- a placeable
     opens_placeable : {i j n : ℕ} → n ≡ 0 → token t left_brace i (Read tt j) → Deeper in_placeable n i

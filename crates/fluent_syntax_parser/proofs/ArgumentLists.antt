@@ -166,7 +166,8 @@ module _ (edition : Edition) (t : List ℕ) (ns : List (NamedArgument Span)) (no
       (family edition t).inline_expression i (Read e j) → (argument_name e ≡ None) ⊎ (has_byte t colon j ≡ false) →
       separator t j (Read tt next) → Deeper edition t (in_arguments (names_in t ns)) n i →
       Deeper edition t in_inline_expression n i ⊎ Deeper edition t (in_arguments (names_in t ns)) n next
-  only_positional_led e j next read is after h = rw none (positional_led edition t e j read next is after (rw none at h))
+  only_positional_led e j next read is after h =
+      rw none (positional_led edition t e j read next is after (rw none at h))
 
 -- the text's end holds no opening
 pub end_flat : (edition : Edition) (t : List ℕ) {n : ℕ} (names : List (List ℕ)) (i : ℕ) → length t ≤ i →

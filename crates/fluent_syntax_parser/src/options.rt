@@ -17,6 +17,7 @@ pub enum Comments {
 pub struct Options {
     pub edition: Edition,
     pub comments: Comments,
+    /// How many placeables and argument lists may be open at once.
     pub nesting: usize,
 }
 

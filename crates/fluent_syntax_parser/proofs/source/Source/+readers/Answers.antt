@@ -1023,7 +1023,8 @@ get_expression-skip_blank_inline-ptr-requires m c =
 pub get_inline_expression-returns-in_err-arguments-in-Term-clause-deeper :
     goal.get_inline_expression-returns-in_err-arguments-in-Term-clause-deeper
 get_inline_expression-returns-in_err-arguments-in-Term-clause-deeper m c =
-    let p = err_from_is_err_and c.from_residual-in_err-arguments-in-Term.result c.from_residual-in_err-arguments-in-Term.ensures.1 in
+    let p = err_from_is_err_and c.from_residual-in_err-arguments-in-Term.result
+    c.from_residual-in_err-arguments-in-Term.ensures.1 in
     rw (p.1, p.2) (λ e. its_term_arguments (sym c.in-Term.ensures)
     (goes_on c.in_ok-start-in-Term.ensures.meets
     (goes_on c.in_ok-end-in-Term.ensures.meets
@@ -1033,14 +1034,16 @@ get_inline_expression-returns-in_err-arguments-in-Term-clause-deeper m c =
 pub get_inline_expression-returns-in_err-arguments-in-Letter-clause-deeper :
     goal.get_inline_expression-returns-in_err-arguments-in-Letter-clause-deeper
 get_inline_expression-returns-in_err-arguments-in-Letter-clause-deeper m c =
-    let p = err_from_is_err_and c.from_residual-in_err-arguments-in-Letter.result c.from_residual-in_err-arguments-in-Letter.ensures.1 in
+    let p = err_from_is_err_and c.from_residual-in_err-arguments-in-Letter.result
+    c.from_residual-in_err-arguments-in-Letter.ensures.1 in
     rw (p.1, p.2) (λ e. its_arguments (sym c.in-Letter.ensures) c.in_ok-end-in-Letter.ensures.meets
     (c.in_err-arguments-in-Letter.ensures.deeper e))
 
 pub get_inline_expression-returns-in_err-expression-in-Brace-clause-deeper :
     goal.get_inline_expression-returns-in_err-expression-in-Brace-clause-deeper
 get_inline_expression-returns-in_err-expression-in-Brace-clause-deeper m c =
-    let p = err_from_is_err_and c.from_residual-in_err-expression-in-Brace.result c.from_residual-in_err-expression-in-Brace.ensures.1 in
+    let p = err_from_is_err_and c.from_residual-in_err-expression-in-Brace.result
+    c.from_residual-in_err-expression-in-Brace.ensures.1 in
     rw (p.1, p.2) (λ e. its_placeable (sym c.in-Brace.ensures) (c.in_err-expression-in-Brace.ensures.deeper e))
 
 pub get_placeable-returns-then-nesting-eq0-clause-deeper : goal.get_placeable-returns-then-nesting-eq0-clause-deeper
@@ -1064,7 +1067,8 @@ get_expression-returns-in_err-expression-clause-deeper m c =
 pub get_expression-returns-in_err-variants-in-None-clause-deeper :
     goal.get_expression-returns-in_err-variants-in-None-clause-deeper
 get_expression-returns-in_err-variants-in-None-clause-deeper m c =
-    let p = err_from_is_err_and c.from_residual-in_err-variants-in-None.result c.from_residual-in_err-variants-in-None.ensures.1 in
+    let p = err_from_is_err_and c.from_residual-in_err-variants-in-None.result
+    c.from_residual-in_err-variants-in-None.ensures.1 in
     rw (p.1, p.2) (λ e. its_variants (record {
       selector = _;
       end = _;
@@ -1103,7 +1107,8 @@ pub get_argument_value-returns-in_err-value-in-Quote-clause-deeper :
     goal.get_argument_value-returns-in_err-value-in-Quote-clause-deeper
 get_argument_value-returns-in_err-value-in-Quote-clause-deeper m c =
     let p = err_from_is_err_and c.from_residual.result c.from_residual.ensures.1 in
-    rw (p.1, p.2) (λ e. its_value (value_begins c.args.edition c.args.self.now.bytes.now c.args.ptr c.start.result c.in-Quote.is c.start.ensures)
+    rw (p.1, p.2) (λ e. its_value (value_begins c.args.edition c.args.self.now.bytes.now c.args.ptr c.start.result
+    c.in-Quote.is c.start.ensures)
     (c.in_err-value-in-Quote.ensures.deeper e))
 
 pub get_arguments-returns-in_err-expression-clause-deeper :
@@ -1142,20 +1147,23 @@ get_layout-returns-in_err-lines-in-Some-clause-deeper m c =
 pub get_layout-returns-in_err-pieces-in-None-clause-deeper :
     goal.get_layout-returns-in_err-pieces-in-None-clause-deeper
 get_layout-returns-in_err-pieces-in-None-clause-deeper m c =
-    let p = err_from_is_err_and c.from_residual-in_err-pieces-in-None.result c.from_residual-in_err-pieces-in-None.ensures.1 in
+    let p = err_from_is_err_and c.from_residual-in_err-pieces-in-None.result
+    c.from_residual-in_err-pieces-in-None.ensures.1 in
     rw (p.1, p.2) (λ e. its_opening (sym c.in-None.ensures.eol) (c.in_err-pieces-in-None.ensures.deeper e))
 
 pub get_layout-returns-in_err-lines-in-None-clause-deeper :
     goal.get_layout-returns-in_err-lines-in-None-clause-deeper
 get_layout-returns-in_err-lines-in-None-clause-deeper m c =
-    let p = err_from_is_err_and c.from_residual-in_err-lines-in-None.result c.from_residual-in_err-lines-in-None.ensures.1 in
+    let p = err_from_is_err_and c.from_residual-in_err-lines-in-None.result
+    c.from_residual-in_err-lines-in-None.ensures.1 in
     rw (p.1, p.2) (λ e. behind_opening _ (sym c.in-None.ensures.eol) c.in_ok-pieces-in-None.ensures.meets
     c.get_ending-ending.ensures.meets (c.in_err-lines-in-None.ensures.deeper e))
 
 pub get_pattern-returns-in_err-layout-in-None-clause-deeper :
     goal.get_pattern-returns-in_err-layout-in-None-clause-deeper
 get_pattern-returns-in_err-layout-in-None-clause-deeper m c =
-    let p = err_from_is_err_and c.from_residual-in_err-layout-in-None.result c.from_residual-in_err-layout-in-None.ensures.1 in
+    let p = err_from_is_err_and c.from_residual-in_err-layout-in-None.result
+    c.from_residual-in_err-layout-in-None.ensures.1 in
     rw (p.1, p.2) (λ e. its_layout c.skip_blank_inline-start.ensures.blank (c.in_err-layout-in-None.ensures.deeper e))
 
 pub get_variants-returns-in_err-value-clause-deeper :
@@ -1207,7 +1215,8 @@ pub get_inline_expression-returns-in_err-end-in-Digit-clause-shallow :
 get_inline_expression-returns-in_err-end-in-Digit-clause-shallow m c =
     let t = c.args.self.now.bytes.now in
     let edition = c.args.edition in
-    let p = err_from_is_err_and c.from_residual-in_err-end-in-Digit.result c.from_residual-in_err-end-in-Digit.ensures.1 in
+    let p = err_from_is_err_and c.from_residual-in_err-end-in-Digit.result
+    c.from_residual-in_err-end-in-Digit.ensures.1 in
     rw (p.1, p.2) (number_flat edition t c.args.ptr c.start.result c.in-Digit.is c.start.ensures)
 
 pub get_inline_expression-returns-in_err-start-in-Term-clause-shallow :
@@ -1215,7 +1224,8 @@ pub get_inline_expression-returns-in_err-start-in-Term-clause-shallow :
 get_inline_expression-returns-in_err-start-in-Term-clause-shallow m c =
     let t = c.args.self.now.bytes.now in
     let edition = c.args.edition in
-    let p = err_from_is_err_and c.from_residual-in_err-start-in-Term.result c.from_residual-in_err-start-in-Term.ensures.1 in
+    let p = err_from_is_err_and c.from_residual-in_err-start-in-Term.result
+    c.from_residual-in_err-start-in-Term.ensures.1 in
     rw (p.1, p.2) (term_stuck edition t _ _ _ c.in-Term.ensures
     (stops (c.in_err-start-in-Term.ensures.meets _ _ _ (refl, refl, refl))))
 
@@ -1224,7 +1234,8 @@ pub get_inline_expression-returns-in_err-end-in-Term-clause-shallow :
 get_inline_expression-returns-in_err-end-in-Term-clause-shallow m c =
     let t = c.args.self.now.bytes.now in
     let edition = c.args.edition in
-    let p = err_from_is_err_and c.from_residual-in_err-end-in-Term.result c.from_residual-in_err-end-in-Term.ensures.1 in
+    let p = err_from_is_err_and c.from_residual-in_err-end-in-Term.result
+    c.from_residual-in_err-end-in-Term.ensures.1 in
     rw (p.1, p.2) (term_stuck edition t _ _ _ c.in-Term.ensures
     (goes_on c.in_ok-start-in-Term.ensures.meets
     (stops (c.in_err-end-in-Term.ensures.meets _ _ _ (refl, refl, refl)))))
@@ -1234,7 +1245,8 @@ pub get_inline_expression-returns-in_err-attribute-in-Term-clause-shallow :
 get_inline_expression-returns-in_err-attribute-in-Term-clause-shallow m c =
     let t = c.args.self.now.bytes.now in
     let edition = c.args.edition in
-    let p = err_from_is_err_and c.from_residual-in_err-attribute-in-Term.result c.from_residual-in_err-attribute-in-Term.ensures.1 in
+    let p = err_from_is_err_and c.from_residual-in_err-attribute-in-Term.result
+    c.from_residual-in_err-attribute-in-Term.ensures.1 in
     rw (p.1, p.2) (term_stuck edition t _ _ _ c.in-Term.ensures
     (goes_on c.in_ok-start-in-Term.ensures.meets
     (goes_on c.in_ok-end-in-Term.ensures.meets
@@ -1245,7 +1257,8 @@ pub get_inline_expression-returns-in_err-arguments-in-Term-clause-shallow :
 get_inline_expression-returns-in_err-arguments-in-Term-clause-shallow m c =
     let t = c.args.self.now.bytes.now in
     let edition = c.args.edition in
-    let p = err_from_is_err_and c.from_residual-in_err-arguments-in-Term.result c.from_residual-in_err-arguments-in-Term.ensures.1 in
+    let p = err_from_is_err_and c.from_residual-in_err-arguments-in-Term.result
+    c.from_residual-in_err-arguments-in-Term.ensures.1 in
     rw (p.1, p.2) (falls t (call_arguments edition t) _ _ _ _ c.in_err-arguments-in-Term.ensures.meets
     (λ k from to r e. term_led edition t c.in-Term.ensures (goes_on c.in_ok-start-in-Term.ensures.meets
     (goes_on c.in_ok-end-in-Term.ensures.meets
@@ -1257,7 +1270,8 @@ pub get_inline_expression-returns-in_err-start-in-Dollar-clause-shallow :
 get_inline_expression-returns-in_err-start-in-Dollar-clause-shallow m c =
     let t = c.args.self.now.bytes.now in
     let edition = c.args.edition in
-    let p = err_from_is_err_and c.from_residual-in_err-start-in-Dollar.result c.from_residual-in_err-start-in-Dollar.ensures.1 in
+    let p = err_from_is_err_and c.from_residual-in_err-start-in-Dollar.result
+    c.from_residual-in_err-start-in-Dollar.ensures.1 in
     rw (p.1, p.2) (plain_start edition t c.in-Dollar.ensures (λ e. cc) (λ e. cc) (λ e. cc))
 
 pub get_inline_expression-returns-in_err-end-in-Dollar-clause-shallow :
@@ -1265,7 +1279,8 @@ pub get_inline_expression-returns-in_err-end-in-Dollar-clause-shallow :
 get_inline_expression-returns-in_err-end-in-Dollar-clause-shallow m c =
     let t = c.args.self.now.bytes.now in
     let edition = c.args.edition in
-    let p = err_from_is_err_and c.from_residual-in_err-end-in-Dollar.result c.from_residual-in_err-end-in-Dollar.ensures.1 in
+    let p = err_from_is_err_and c.from_residual-in_err-end-in-Dollar.result
+    c.from_residual-in_err-end-in-Dollar.ensures.1 in
     rw (p.1, p.2) (plain_start edition t c.in-Dollar.ensures (λ e. cc) (λ e. cc) (λ e. cc))
 
 pub get_inline_expression-returns-in_err-end-in-Letter-clause-shallow :
@@ -1273,15 +1288,18 @@ pub get_inline_expression-returns-in_err-end-in-Letter-clause-shallow :
 get_inline_expression-returns-in_err-end-in-Letter-clause-shallow m c =
     let t = c.args.self.now.bytes.now in
     let edition = c.args.edition in
-    let p = err_from_is_err_and c.from_residual-in_err-end-in-Letter.result c.from_residual-in_err-end-in-Letter.ensures.1 in
-    rw (p.1, p.2) (letter_stuck edition t _ _ _ c.in-Letter.ensures (c.in_err-end-in-Letter.ensures.meets _ _ _ (refl, refl, refl)))
+    let p = err_from_is_err_and c.from_residual-in_err-end-in-Letter.result
+    c.from_residual-in_err-end-in-Letter.ensures.1 in
+    rw (p.1, p.2) (letter_stuck edition t _ _ _ c.in-Letter.ensures (c.in_err-end-in-Letter.ensures.meets _ _ _
+    (refl, refl, refl)))
 
 pub get_inline_expression-returns-in_err-arguments-in-Letter-clause-shallow :
     goal.get_inline_expression-returns-in_err-arguments-in-Letter-clause-shallow
 get_inline_expression-returns-in_err-arguments-in-Letter-clause-shallow m c =
     let t = c.args.self.now.bytes.now in
     let edition = c.args.edition in
-    let p = err_from_is_err_and c.from_residual-in_err-arguments-in-Letter.result c.from_residual-in_err-arguments-in-Letter.ensures.1 in
+    let p = err_from_is_err_and c.from_residual-in_err-arguments-in-Letter.result
+    c.from_residual-in_err-arguments-in-Letter.ensures.1 in
     rw (p.1, p.2) (falls t (call_arguments edition t) _ _ _ _ c.in_err-arguments-in-Letter.ensures.meets
     (λ k from to r e. letter_led edition t c.in-Letter.ensures c.in_ok-end-in-Letter.ensures.meets e)
     c.in_err-arguments-in-Letter.ensures.shallow)
@@ -1291,7 +1309,8 @@ pub get_inline_expression-returns-in_err-reference-in-Letter-clause-shallow :
 get_inline_expression-returns-in_err-reference-in-Letter-clause-shallow m c =
     let t = c.args.self.now.bytes.now in
     let edition = c.args.edition in
-    let p = err_from_is_err_and c.from_residual-in_err-reference-in-Letter.result c.from_residual-in_err-reference-in-Letter.ensures.1 in
+    let p = err_from_is_err_and c.from_residual-in_err-reference-in-Letter.result
+    c.from_residual-in_err-reference-in-Letter.ensures.1 in
     rw (p.1, p.2) (λ e. c.in_ok-arguments-in-Letter.ensures.shallow
     (letter_led edition t c.in-Letter.ensures c.in_ok-end-in-Letter.ensures.meets e))
 
@@ -1300,7 +1319,8 @@ pub get_inline_expression-returns-in_err-expression-in-Brace-clause-shallow :
 get_inline_expression-returns-in_err-expression-in-Brace-clause-shallow m c =
     let t = c.args.self.now.bytes.now in
     let edition = c.args.edition in
-    let p = err_from_is_err_and c.from_residual-in_err-expression-in-Brace.result c.from_residual-in_err-expression-in-Brace.ensures.1 in
+    let p = err_from_is_err_and c.from_residual-in_err-expression-in-Brace.result
+    c.from_residual-in_err-expression-in-Brace.ensures.1 in
     rw (p.1, p.2) (falls t (placeable edition t) _ _ _ _ c.in_err-expression-in-Brace.ensures.meets
     (λ k from to r e. brace_led edition t c.in-Brace.ensures e)
     c.in_err-expression-in-Brace.ensures.shallow)
@@ -1337,7 +1357,8 @@ pub get_inline_expression-returns-in_ok-arguments-in-Term-clause-shallow :
 get_inline_expression-returns-in_ok-arguments-in-Term-clause-shallow m c =
     let t = c.args.self.now.bytes.now in
     let edition = c.args.edition in
-    λ e. c.in_ok-arguments-in-Term.ensures.shallow (term_led edition t c.in-Term.ensures (goes_on c.in_ok-start-in-Term.ensures.meets
+    λ e. c.in_ok-arguments-in-Term.ensures.shallow (term_led edition t c.in-Term.ensures (goes_on
+    c.in_ok-start-in-Term.ensures.meets
     (goes_on c.in_ok-end-in-Term.ensures.meets
     c.in_ok-attribute-in-Term.ensures.meets)) e)
 
@@ -1370,7 +1391,10 @@ get_placeable-returns-in_err-expression-clause-shallow m c =
     let edition = c.args.edition in
     let p = err_from_is_err_and c.from_residual-in_err-expression.result c.from_residual-in_err-expression.ensures.1 in
     rw (p.1, p.2) (falls t (expression edition t) _ _ _ _ c.in_err-expression.ensures.meets
-    (λ k from to r e. (placeable_led edition t {n = c.args.nesting} {m = c.args.nesting - 1} (omega (arith, c.if-nesting-eq0.false))
+    (λ k from to r e. (placeable_led edition t {n = c.args.nesting} {m = c.args.nesting - 1} (omega (
+      arith,
+      c.if-nesting-eq0.false,
+    ))
     (goes_on c.in_ok-start.ensures.meets (passed c.skip_blank-start.ensures.blank)) e))
     c.in_err-expression.ensures.shallow)
 
@@ -1379,14 +1403,16 @@ get_placeable-returns-in_err-ptr-clause-shallow m c =
     let t = c.args.self.now.bytes.now in
     let edition = c.args.edition in
     let p = err_from_is_err_and c.from_residual-in_err-ptr.result c.from_residual-in_err-ptr.ensures.1 in
-    rw (p.1, p.2) (λ e. c.in_ok-expression.ensures.shallow (placeable_led edition t {n = c.args.nesting} {m = c.args.nesting - 1} (omega (arith, c.if-nesting-eq0.false))
+    rw (p.1, p.2) (λ e. c.in_ok-expression.ensures.shallow
+    (placeable_led edition t {n = c.args.nesting} {m = c.args.nesting - 1} (omega (arith, c.if-nesting-eq0.false))
     (goes_on c.in_ok-start.ensures.meets (passed c.skip_blank-start.ensures.blank)) e))
 
 pub get_placeable-returns-clause-shallow : goal.get_placeable-returns-clause-shallow
 get_placeable-returns-clause-shallow m c =
     let t = c.args.self.now.bytes.now in
     let edition = c.args.edition in
-    λ e. c.in_ok-expression.ensures.shallow (placeable_led edition t {n = c.args.nesting} {m = c.args.nesting - 1} (omega (arith, c.if-nesting-eq0.false))
+    λ e. c.in_ok-expression.ensures.shallow (placeable_led edition t {n = c.args.nesting} {m = c.args.nesting - 1}
+    (omega (arith, c.if-nesting-eq0.false))
     (goes_on c.in_ok-start.ensures.meets (passed c.skip_blank-start.ensures.blank)) e)
 
 pub get_expression-returns-in_err-expression-clause-shallow :
@@ -1405,7 +1431,8 @@ get_expression-returns-then-is_term_attribute-clause-shallow m c =
     let t = c.args.self.now.bytes.now in
     let edition = c.args.edition in
     λ e. c.in_ok-expression.ensures.shallow
-    (no_arrow edition t _ _ _ c.in_ok-expression.ensures.meets c.skip_blank-ptr.ensures.blank (sym c.if-not-is_arrow.ensures) e)
+    (no_arrow edition t _ _ _ c.in_ok-expression.ensures.meets c.skip_blank-ptr.ensures.blank (sym
+    c.if-not-is_arrow.ensures) e)
 
 pub get_expression-returns-then-not-is_arrow-clause-shallow :
     goal.get_expression-returns-then-not-is_arrow-clause-shallow
@@ -1413,13 +1440,15 @@ get_expression-returns-then-not-is_arrow-clause-shallow m c =
     let t = c.args.self.now.bytes.now in
     let edition = c.args.edition in
     λ e. c.in_ok-expression.ensures.shallow
-    (no_arrow edition t _ _ _ c.in_ok-expression.ensures.meets c.skip_blank-ptr.ensures.blank (sym c.if-not-is_arrow.ensures) e)
+    (no_arrow edition t _ _ _ c.in_ok-expression.ensures.meets c.skip_blank-ptr.ensures.blank (sym
+    c.if-not-is_arrow.ensures) e)
 
 pub get_expression-returns-in-Some-clause-shallow : goal.get_expression-returns-in-Some-clause-shallow
 get_expression-returns-in-Some-clause-shallow m c =
     let t = c.args.self.now.bytes.now in
     let edition = c.args.edition in
-    λ e. c.in_ok-expression.ensures.shallow (no_selector_there edition t _ _ _ c.in_ok-expression.ensures.meets c.skip_blank-ptr.ensures.blank
+    λ e. c.in_ok-expression.ensures.shallow (no_selector_there edition t _ _ _ c.in_ok-expression.ensures.meets
+    c.skip_blank-ptr.ensures.blank
     _ (c.in-Some.ensures t c.skip_blank-ptr.result).0 e)
 
 pub get_expression-returns-in_err-ptr-in-None-clause-shallow :
@@ -1427,7 +1456,8 @@ pub get_expression-returns-in_err-ptr-in-None-clause-shallow :
 get_expression-returns-in_err-ptr-in-None-clause-shallow m c =
     let t = c.args.self.now.bytes.now in
     let edition = c.args.edition in
-    let p = err_from_is_err_and c.from_residual-in_err-ptr-in-None.result c.from_residual-in_err-ptr-in-None.ensures.1 in
+    let p = err_from_is_err_and c.from_residual-in_err-ptr-in-None.result
+    c.from_residual-in_err-ptr-in-None.ensures.1 in
     rw (p.1, p.2) (λ e. c.in_ok-expression.ensures.shallow
     (select_stuck edition t _ _ _ c.in_ok-expression.ensures.meets c.skip_blank-ptr.ensures.blank
     _ _ _
@@ -1440,7 +1470,8 @@ pub get_expression-returns-in_err-variants-in-None-clause-shallow :
 get_expression-returns-in_err-variants-in-None-clause-shallow m c =
     let t = c.args.self.now.bytes.now in
     let edition = c.args.edition in
-    let p = err_from_is_err_and c.from_residual-in_err-variants-in-None.result c.from_residual-in_err-variants-in-None.ensures.1 in
+    let p = err_from_is_err_and c.from_residual-in_err-variants-in-None.result
+    c.from_residual-in_err-variants-in-None.ensures.1 in
     rw (p.1, p.2) (falls t ((family edition t).more_variants false) _ _ _ _ c.in_err-variants-in-None.ensures.meets
     (λ k from to r e. not_first c.in_ok-expression.ensures.shallow
     (select_led edition t _ _ _ c.in_ok-expression.ensures.meets c.skip_blank-ptr.ensures.blank
@@ -1480,7 +1511,10 @@ get_call_arguments-returns-in_err-arguments-clause-shallow m c =
     let edition = c.args.edition in
     let p = err_from_is_err_and c.from_residual.result c.from_residual.ensures.1 in
     rw (p.1, p.2) (falls t ((family edition t).more_arguments []) _ _ _ _ c.in_err-arguments.ensures.meets
-    (λ k from to r e. (call_led edition t {n = c.args.nesting} {m = c.args.nesting - 1} (omega (arith, c.if-nesting-eq0.false))
+    (λ k from to r e. (call_led edition t {n = c.args.nesting} {m = c.args.nesting - 1} (omega (
+      arith,
+      c.if-nesting-eq0.false,
+    ))
     (goes_on (passed c.skip_blank-start.ensures.blank)
     (goes_on c.take_byte_if-bracket.ensures.meets
     (first c.if-not-bracket.false given)))
@@ -1491,7 +1525,8 @@ pub get_call_arguments-returns-clause-shallow : goal.get_call_arguments-returns-
 get_call_arguments-returns-clause-shallow m c =
     let t = c.args.self.now.bytes.now in
     let edition = c.args.edition in
-    λ e. c.in_ok-arguments.ensures.shallow (call_led edition t {n = c.args.nesting} {m = c.args.nesting - 1} (omega (arith, c.if-nesting-eq0.false))
+    λ e. c.in_ok-arguments.ensures.shallow (call_led edition t {n = c.args.nesting} {m = c.args.nesting - 1} (omega
+    (arith, c.if-nesting-eq0.false))
     (goes_on (passed c.skip_blank-start.ensures.blank)
     (goes_on c.take_byte_if-bracket.ensures.meets
     (first c.if-not-bracket.false given)))
@@ -1546,7 +1581,8 @@ pub get_arguments-returns-in_err-value-in-Some-clause-shallow :
 get_arguments-returns-in_err-value-in-Some-clause-shallow m c =
     let t = c.args.self.now.bytes.now in
     let edition = c.args.edition in
-    let p = err_from_is_err_and c.from_residual-in_err-value-in-Some.result c.from_residual-in_err-value-in-Some.ensures.1 in
+    let p = err_from_is_err_and c.from_residual-in_err-value-in-Some.result
+    c.from_residual-in_err-value-in-Some.ensures.1 in
     rw (p.1, p.2) (falls t (at_each (start t) (argument_value t (family edition t))) _ _ _ _
     c.in_err-value-in-Some.ensures.meets
     (λ k from to r e. not_first c.in_ok-expression.ensures.shallow
@@ -1565,7 +1601,8 @@ pub get_arguments-returns-then-not-is_empty-clause-shallow :
 get_arguments-returns-then-not-is_empty-clause-shallow m c =
     let t = c.args.self.now.bytes.now in
     let edition = c.args.edition in
-    let is : (argument_name (inline_view (λ s. s) c.in_ok-expression.expression) ≡ None) ⊎ (has_byte t colon c.in_ok-expression.next ≡ false) =
+    let is : (argument_name (inline_view (λ s. s) c.in_ok-expression.expression) ≡ None) ⊎ (has_byte t colon
+    c.in_ok-expression.next ≡ false) =
     elim c.in_default.branch [
       | get_arguments-in_default-via-in-Some+else-is_byte_at w ↦ inr (sym w.if-is_byte_at.ensures)
       | get_arguments-in_default-via-in_default w ↦ inl (sym w.in_default.ensures)
@@ -1573,7 +1610,8 @@ get_arguments-returns-then-not-is_empty-clause-shallow m c =
     let names = c.loop-alloc.named in
     let some = some_named _ names.items names.ok.0 c.if-not-is_empty.ensures in
     λ e. c.in_ok-expression.ensures.shallow
-    (late_led edition t _ _ c.in_ok-expression.ensures.meets _ (some_names t names.items some) is (c.loop-alloc.invariant.shallow e))
+    (late_led edition t _ _ c.in_ok-expression.ensures.meets _ (some_names t names.items some) is
+    (c.loop-alloc.invariant.shallow e))
 
 pub get_layout-returns-in_err-lines-in-Some-clause-shallow :
     goal.get_layout-returns-in_err-lines-in-Some-clause-shallow
@@ -1597,7 +1635,8 @@ pub get_layout-returns-in_err-pieces-in-None-clause-shallow :
 get_layout-returns-in_err-pieces-in-None-clause-shallow m c =
     let t = c.args.self.now.bytes.now in
     let edition = c.args.edition in
-    let p = err_from_is_err_and c.from_residual-in_err-pieces-in-None.result c.from_residual-in_err-pieces-in-None.ensures.1 in
+    let p = err_from_is_err_and c.from_residual-in_err-pieces-in-None.result
+    c.from_residual-in_err-pieces-in-None.ensures.1 in
     rw (p.1, p.2) (falls t (family edition t).more_pieces _ _ _ _ c.in_err-pieces-in-None.ensures.meets
     (λ k from to r e. opening_stuck edition t k from to (sym c.in-None.ensures.eol) r e)
     c.in_err-pieces-in-None.ensures.shallow)
@@ -1607,7 +1646,8 @@ pub get_layout-returns-in_err-lines-in-None-clause-shallow :
 get_layout-returns-in_err-lines-in-None-clause-shallow m c =
     let t = c.args.self.now.bytes.now in
     let edition = c.args.edition in
-    let p = err_from_is_err_and c.from_residual-in_err-lines-in-None.result c.from_residual-in_err-lines-in-None.ensures.1 in
+    let p = err_from_is_err_and c.from_residual-in_err-lines-in-None.result
+    c.from_residual-in_err-lines-in-None.ensures.1 in
     rw (p.1, p.2) (falls t (family edition t).more_lines _ _ _ _ c.in_err-lines-in-None.ensures.meets
     (λ k from to r e. not_first c.in_ok-pieces-in-None.ensures.shallow
     (opening_led edition t _ _ _ _ (sym c.in-None.ensures.eol) c.in_ok-pieces-in-None.ensures.meets
@@ -1628,7 +1668,8 @@ pub get_pattern-returns-in_err-layout-in-None-clause-shallow :
 get_pattern-returns-in_err-layout-in-None-clause-shallow m c =
     let t = c.args.self.now.bytes.now in
     let edition = c.args.edition in
-    let p = err_from_is_err_and c.from_residual-in_err-layout-in-None.result c.from_residual-in_err-layout-in-None.ensures.1 in
+    let p = err_from_is_err_and c.from_residual-in_err-layout-in-None.result
+    c.from_residual-in_err-layout-in-None.ensures.1 in
     rw (p.1, p.2) (falls t (at_each (after_eol t) (layout_at t (family edition t))) _ _ _ _
     c.in_err-layout-in-None.ensures.meets
     (λ k from to r e. pattern_led edition t _ c.skip_blank_inline-start.ensures.blank e)
@@ -1773,13 +1814,15 @@ pub get_lines-returns-in-None-clause-shallow : goal.get_lines-returns-in-None-cl
 get_lines-returns-in-None-clause-shallow m c =
     let t = c.args.self.now.bytes.now in
     let edition = c.args.edition in
-    λ e. lines_none edition t _ c.skip_blank_inline-first.ensures.blank (sym c.in-None.ensures) (c.loop-lines.invariant.shallow e)
+    λ e. lines_none edition t _ c.skip_blank_inline-first.ensures.blank (sym c.in-None.ensures)
+    (c.loop-lines.invariant.shallow e)
 
 pub get_lines-returns-then-not-belongs-clause-shallow : goal.get_lines-returns-then-not-belongs-clause-shallow
 get_lines-returns-then-not-belongs-clause-shallow m c =
     let t = c.args.self.now.bytes.now in
     let edition = c.args.edition in
-    λ e. lines_other edition t _ c.skip_blank_inline-first.ensures.blank (sym c.if-not-belongs.ensures) (c.loop-lines.invariant.shallow e)
+    λ e. lines_other edition t _ c.skip_blank_inline-first.ensures.blank (sym c.if-not-belongs.ensures)
+    (c.loop-lines.invariant.shallow e)
 
 pub get_lines-returns-in_err-pieces-in-Some-clause-shallow :
     goal.get_lines-returns-in_err-pieces-in-Some-clause-shallow
@@ -1788,7 +1831,8 @@ get_lines-returns-in_err-pieces-in-Some-clause-shallow m c =
     let edition = c.args.edition in
     let p = err_from_is_err_and c.from_residual.result c.from_residual.ensures.1 in
     rw (p.1, p.2) (falls t (family edition t).more_pieces _ _ _ _ c.in_err-pieces-in-Some.ensures.meets
-    (λ k from to r e. lines_stuck edition t _ c.skip_blank_inline-first.ensures.blank k from to r (c.loop-lines.invariant.shallow e))
+    (λ k from to r e. lines_stuck edition t _ c.skip_blank_inline-first.ensures.blank k from to r
+    (c.loop-lines.invariant.shallow e))
     c.in_err-pieces-in-Some.ensures.shallow)
 
 pub get_lines-returns-in-None-eol_end-clause-shallow : goal.get_lines-returns-in-None-eol_end-clause-shallow
@@ -1799,4 +1843,5 @@ get_lines-returns-in-None-eol_end-clause-shallow m c =
     let none = sym c.in-None-eol_end.ensures.eol in
     λ e. no_lines_led edition t _ (no_lines edition t _ (pieces.stops (eol_none t _ none)))
     (not_first pieces.shallow
-    (lines_led edition t _ c.skip_blank_inline-first.ensures.blank _ _ _ _ pieces.meets (ends_text t _ none) (c.loop-lines.invariant.shallow e)))
+    (lines_led edition t _ c.skip_blank_inline-first.ensures.blank _ _ _ _ pieces.meets (ends_text t _ none)
+    (c.loop-lines.invariant.shallow e)))

@@ -46,14 +46,16 @@ pub returns-in_err-value-clause-deeper :
     goal.returns-in_err-value-clause-deeper
 returns-in_err-value-clause-deeper c =
     let p = err_from_is_err_and c.from_residual-in_err-value.result c.from_residual-in_err-value.ensures.1 in
-    rw (p.1, p.2) (λ e. its_field (goes_on (passed c.skip_blank_inline-equals.ensures.blank) c.in_ok-start.ensures.meets)
+    rw (p.1, p.2) (λ e. its_field (goes_on (passed c.skip_blank_inline-equals.ensures.blank)
+    c.in_ok-start.ensures.meets)
     (c.in_err-value.ensures.deeper e))
 
 pub returns-in_err-attributes-clause-deeper :
     goal.returns-in_err-attributes-clause-deeper
 returns-in_err-attributes-clause-deeper c =
     let p = err_from_is_err_and c.from_residual-in_err-attributes.result c.from_residual-in_err-attributes.ensures.1 in
-    rw (p.1, p.2) (λ e. behind_field (goes_on (passed c.skip_blank_inline-equals.ensures.blank) c.in_ok-start.ensures.meets)
+    rw (p.1, p.2) (λ e. behind_field (goes_on (passed c.skip_blank_inline-equals.ensures.blank)
+    c.in_ok-start.ensures.meets)
     c.in_ok-value.ensures.meets c.skip_blank_block-line.ensures.blank (c.in_err-attributes.ensures.deeper e))
 
 pub returns-in_err-start-clause-shallow : goal.returns-in_err-start-clause-shallow
@@ -71,7 +73,8 @@ returns-in_err-value-clause-shallow c =
     let edition = c.args.edition in
     let p = err_from_is_err_and c.from_residual-in_err-value.result c.from_residual-in_err-value.ensures.1 in
     rw (p.1, p.2) (falls t (pattern edition t) _ _ _ _ c.in_err-value.ensures.meets
-    (λ k from to r e. field_stuck edition t _ (goes_on (passed c.skip_blank_inline-equals.ensures.blank) c.in_ok-start.ensures.meets)
+    (λ k from to r e. field_stuck edition t _ (goes_on (passed c.skip_blank_inline-equals.ensures.blank)
+    c.in_ok-start.ensures.meets)
     k from to r e)
     c.in_err-value.ensures.shallow)
 

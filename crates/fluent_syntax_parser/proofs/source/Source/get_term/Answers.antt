@@ -75,7 +75,8 @@ returns-in_err-end-clause-shallow c =
     let t = c.args.self.now.bytes.now in
     let edition = c.args.edition in
     let p = err_from_is_err_and c.from_residual-in_err-end.result c.from_residual-in_err-end.ensures.1 in
-    rw (p.1, p.2) (term_name_stuck edition t _ _ _ _ c.in_ok-letter.ensures.meets (c.in_err-end.ensures.meets _ _ _ (refl, refl, refl)))
+    rw (p.1, p.2) (term_name_stuck edition t _ _ _ _ c.in_ok-letter.ensures.meets (c.in_err-end.ensures.meets _ _ _
+    (refl, refl, refl)))
 
 pub returns-in_err-fields-clause-shallow : goal.returns-in_err-fields-clause-shallow
 returns-in_err-fields-clause-shallow c =
