@@ -20,6 +20,8 @@ mod json_text;
 #[cfg(test)]
 mod kinds;
 #[cfg(test)]
+mod made;
+#[cfg(test)]
 mod outline;
 #[cfg(test)]
 mod places;
