@@ -2,10 +2,12 @@
 #![tactic(auto)]
 
 mod escaped;
+mod tally;
 mod texts;
 mod values;
 
 pub use escaped::ESCAPED;
+pub use tally::Tally;
 pub use texts::TEXTS;
 pub use values::VALUES;
 

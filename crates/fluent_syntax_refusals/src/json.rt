@@ -2,8 +2,8 @@
 
 use crate::answers::{HELD, Sunk};
 use crate::trees::{lent_tree, owned_tree};
-use crate::turns::{Tally, in_turn, nothing, over};
-use fluent_syntax_corpus::{TEXTS, VALUES};
+use crate::turns::{in_turn, nothing, over};
+use fluent_syntax_corpus::{TEXTS, Tally, VALUES};
 use fluent_syntax_json::{from_value, to_value, write_to};
 use serde_json::Value;
 use std::alloc::{AllocError, Global};

@@ -15,7 +15,7 @@ mod trees;
 mod turns;
 mod writing;
 
-use crate::turns::Tally;
+use fluent_syntax_corpus::Tally;
 use std::io;
 use std::process::ExitCode;
 

@@ -1,9 +1,9 @@
 //! The parsers, and trees of spans with the texts put back.
 
-use crate::turns::{Tally, in_turn, nothing, over};
+use crate::turns::{in_turn, nothing, over};
 use fluent_syntax::parser::{ParseFault, parse, parse_runtime, recovered};
 use fluent_syntax::spans::{parse_runtime_spans, parse_spans, resolve};
-use fluent_syntax_corpus::TEXTS;
+use fluent_syntax_corpus::{TEXTS, Tally};
 use std::alloc::{AllocError, Global};
 use std::io;
 

@@ -1,8 +1,8 @@
 //! The engine of the program, with each command.
 
 use crate::answers::Answer;
-use crate::turns::{Tally, in_turn, nothing, over};
-use fluent_syntax_corpus::TEXTS;
+use crate::turns::{in_turn, nothing, over};
+use fluent_syntax_corpus::{TEXTS, Tally};
 use ftl::{Command, Outcome, RunFault, Watched, answer, run};
 use std::alloc::{AllocError, Global};
 use std::io::{self, Write};

@@ -1,9 +1,9 @@
 //! Copies of trees and of errors.
 
-use crate::turns::{Tally, in_turn, nothing, over};
+use crate::turns::{in_turn, nothing, over};
 use fluent_syntax::ast::Resource;
 use fluent_syntax::parser::{ParserError, parse, recovered};
-use fluent_syntax_corpus::TEXTS;
+use fluent_syntax_corpus::{TEXTS, Tally};
 use std::alloc::{AllocError, Global};
 use std::io;
 

@@ -1,53 +1,13 @@
 //! A call with its requests for memory refused in turn.
 
-ghost use Rattle.std.specs.Prelude.{◌≡◌, ◌+◌, ◌-◌, ◌^◌, ◌<◌, ◌≤◌, IsTrue, min};
-
 use crate::answers::Answer;
 use crate::requests::{refuse, was_refused};
+use fluent_syntax_corpus::Tally;
 use std::alloc::{AllocError, Global};
 use std::io;
 
 /// More requests than a call makes.
 const MOST: u32 = 100_000;
-
-/// What was seen of a call.
-#[derive(Clone, Copy)]
-pub struct Tally {
-    /// How many requests were refused.
-    pub refused: u64,
-    /// How many answers were wrong.
-    pub wrong: u64,
-}
-
-impl Tally {
-    pub const NONE: Tally = Tally {
-        refused: 0,
-        wrong: 0,
-    };
-
-    /// Both together.
-    pub(crate) fn and(self, other: Tally) -> Tally
-        ensures refused { result.refused ≡ min (self.refused + other.refused) (2 ^ 64 - 1) }
-        ensures wrong { result.wrong ≡ min (self.wrong + other.wrong) (2 ^ 64 - 1) }
-    {
-        Tally {
-            refused: self.refused.saturating_add(other.refused),
-            wrong: self.wrong.saturating_add(other.wrong),
-        }
-    }
-
-    /// One wrong answer more, where it is one.
-    pub(crate) fn wrong_if(self, is_wrong: bool) -> Tally
-        ensures refused { result.refused ≡ self.refused }
-        ensures told { IsTrue is_wrong → 0 < result.wrong }
-        ensures kept { self.wrong ≤ result.wrong }
-    {
-        Tally {
-            refused: self.refused,
-            wrong: self.wrong.saturating_add(u64::from(is_wrong)),
-        }
-    }
-}
 
 /// Calls with the first request refused, then with the second, and so on, until a call made no request
 /// that was refused. What `make` gives the call is made with ample memory.

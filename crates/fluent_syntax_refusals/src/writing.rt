@@ -2,11 +2,11 @@
 
 use crate::answers::{HELD, Sunk};
 use crate::trees::lent_tree;
-use crate::turns::{Tally, in_turn, nothing, over};
+use crate::turns::{in_turn, nothing, over};
 use fluent_syntax::laws::{joined, reparse};
 use fluent_syntax::serializer::{Options, serialize, serialize_to, serialize_with_options};
 use fluent_syntax::unicode::{unescape_unicode, unescape_unicode_to_string};
-use fluent_syntax_corpus::{ESCAPED, TEXTS};
+use fluent_syntax_corpus::{ESCAPED, TEXTS, Tally};
 use std::alloc::{AllocError, Global};
 use std::io;
 

@@ -3,12 +3,20 @@
 use crate::kinds::{KINDS, kind};
 use fluent_syntax::ast::*;
 use fluent_syntax::parser::{ParserError, Slice, parse};
-use std::alloc::Global;
+use std::alloc::{AllocError, Global};
 use std::test::Fail;
 
 /// A text that has each node of the tree.
 const TEXT: &str =
     "# c\nkey = a { -t(\"p\", n: 1) }\n    .b = d\n-t = { $x ->\n   *[one] u\n }\n\n## g\n";
+
+/// Whether there is a copy, and it is equal to the original.
+fn is_copy<T: PartialEq + Drop>(copy: Result<T, AllocError>, original: &T) -> bool {
+    match copy {
+        Ok(copy) => copy == *original,
+        Err(_) => false,
+    }
+}
 
 /// Whether the copies of a message and of what it is made of are equal to them.
 fn copies_of_message<'s, S: Slice<'s>>(alloc: Global, message: &Message<S>) -> Result<bool, Fail> {
@@ -22,11 +30,11 @@ fn copies_of_message<'s, S: Slice<'s>>(alloc: Global, message: &Message<S>) -> R
         return Err("no attribute".into());
     };
     Ok(
-        message.try_clone(alloc)? == *message
-            && message.id.try_clone(alloc)? == message.id
-            && value.try_clone(alloc)? == *value
-            && comment.try_clone(alloc)? == *comment
-            && attribute.try_clone(alloc)? == *attribute,
+        is_copy(message.try_clone(alloc), message)
+            && is_copy(message.id.try_clone(alloc), &message.id)
+            && is_copy(value.try_clone(alloc), value)
+            && is_copy(comment.try_clone(alloc), comment)
+            && is_copy(attribute.try_clone(alloc), attribute),
     )
 }
 
@@ -34,12 +42,12 @@ fn copies_of_message<'s, S: Slice<'s>>(alloc: Global, message: &Message<S>) -> R
 fn copies_of_elements<'s, S: Slice<'s>>(alloc: Global, pattern: &Pattern<S>) -> Result<bool, Fail> {
     let mut equal = true;
     for element in &pattern.elements {
-        equal &= element.try_clone(alloc)? == *element;
+        equal &= is_copy(element.try_clone(alloc), element);
     }
     let Some(PatternElement::Placeable { expression }) = pattern.elements.last() else {
         return Err("no placeable".into());
     };
-    Ok(equal && expression.try_clone(alloc)? == *expression)
+    Ok(equal && is_copy(expression.try_clone(alloc), expression))
 }
 
 /// Whether the copies of a term reference and of what it is made of are equal to them.
@@ -66,9 +74,9 @@ fn copies_of_reference<'s, S: Slice<'s>>(
         return Err("no named argument".into());
     };
     Ok(
-        inline.try_clone(alloc)? == *inline
-            && arguments.try_clone(alloc)? == *arguments
-            && named.try_clone(alloc)? == *named,
+        is_copy(inline.try_clone(alloc), inline)
+            && is_copy(arguments.try_clone(alloc), arguments)
+            && is_copy(named.try_clone(alloc), named),
     )
 }
 
@@ -85,7 +93,10 @@ fn copies_of_variant<'s, S: Slice<'s>>(alloc: Global, pattern: &Pattern<S>) -> R
     let Some(variant) = variants.first() else {
         return Err("no variant".into());
     };
-    Ok(variant.try_clone(alloc)? == *variant && variant.key.try_clone(alloc)? == variant.key)
+    Ok(
+        is_copy(variant.try_clone(alloc), variant)
+            && is_copy(variant.key.try_clone(alloc), &variant.key),
+    )
 }
 
 /// Whether the copies of a tree and of each of its nodes are equal to them.
@@ -103,10 +114,10 @@ fn copies_of_tree<'s, S: Slice<'s>>(alloc: Global, tree: &Resource<S>) -> Result
         return Err("no term".into());
     };
     Ok(
-        tree.try_clone(alloc)? == *tree
-            && first.try_clone(alloc)? == *first
-            && third.try_clone(alloc)? == *third
-            && term.try_clone(alloc)? == *term
+        is_copy(tree.try_clone(alloc), tree)
+            && is_copy(first.try_clone(alloc), first)
+            && is_copy(third.try_clone(alloc), third)
+            && is_copy(term.try_clone(alloc), term)
             && copies_of_message(alloc, message)?
             && copies_of_elements(alloc, value)?
             && copies_of_reference(alloc, value)?
@@ -150,8 +161,11 @@ fn errors_of_each_kind(rt: HostRuntime) -> Result<(), Fail> {
             slice: Some(0..3),
             kind: kind(rt.alloc(), name)?,
         };
-        assert!(rt; error.try_clone(rt.alloc())? == error, "{name}");
-        assert!(rt; error.kind.try_clone(rt.alloc())? == error.kind, "{name}");
+        assert!(rt; is_copy(error.try_clone(rt.alloc()), &error), "{name}");
+        assert!(rt;
+            is_copy(error.kind.try_clone(rt.alloc()), &error.kind),
+            "{name}"
+        );
     }
     Ok(())
 }

@@ -1,13 +1,12 @@
 //! Trees that are written and read again.
 
+use crate::made::{Made, Text, attributed, comment, one, valued};
 use crate::outline::outline;
-use fluent_syntax::ast::*;
+use fluent_syntax::ast::{Entry, Resource};
 use fluent_syntax::laws::{joined, reads_back, reads_readable, reparse, same_texts};
 use fluent_syntax::parser::{ParseFault, parse};
-use std::alloc::{AllocError, Global};
+use std::alloc::Global;
 use std::test::Fail;
-
-type Text = &'static str;
 
 /// Texts without errors, whose trees are read back as they are.
 const SAME: [(&str, Text); 9] = [
@@ -154,81 +153,37 @@ fn joins_texts(rt: HostRuntime) -> Result<(), Fail> {
 }
 
 /// The outline of what the entry is read as once it is written.
-fn reparsed(alloc: Global, entry: Entry<Text>) -> Result<String, AllocError> {
-    let tree = Resource {
-        body: vec![in alloc; entry]?,
-    };
+fn reparsed(alloc: Global, entry: Made<Entry<Text>>) -> Made<String> {
+    let tree = one(alloc, entry?)?;
     let mut found = String::new(alloc);
     outline(&mut found, &reparse(alloc, &tree))?;
     Ok(found)
 }
 
-fn text(value: Text) -> PatternElement<Text> {
-    PatternElement::TextElement { value }
-}
-
-fn message(
-    alloc: Global,
-    name: Text,
-    value: Option<Pattern<Text>>,
-    attributes: Vec<Attribute<Text>>,
-) -> Entry<Text> {
-    Entry::Message(Message {
-        id: Identifier { name },
-        value,
-        attributes,
-        comment: None,
-    })
-}
-
-fn valued(alloc: Global, elements: Vec<PatternElement<Text>>) -> Entry<Text> {
-    message(alloc, "key", Some(Pattern { elements }), Vec::new(alloc))
-}
+/// Elements of which the first begins with a mark, and the outline of what a message of them is read as.
+const MARKED: [(&[Text], &str); 3] = [
+    (&["[a\n", "b"], "key = \"[a\\n\" \"b\"\n"),
+    (&[".a\n", "b"], "key = \".a\\n\" \"b\"\n"),
+    (&["[a\n", "\n", "$x"], "key = \"[a\\n\" \"\\n\" {$x}\n"),
+];
 
 #[test]
 fn reads_marks_that_begin_a_pattern(rt: HostRuntime) -> Result<(), Fail> {
     let alloc = rt.alloc();
-    let found = reparsed(
-        alloc,
-        valued(alloc, vec![in alloc; text("[a\n"), text("b")]?),
-    )?;
-    assert_eq!(rt; found.as_str(), "key = \"[a\\n\" \"b\"\n");
-
-    let found = reparsed(
-        alloc,
-        valued(alloc, vec![in alloc; text(".a\n"), text("b")]?),
-    )?;
-    assert_eq!(rt; found.as_str(), "key = \".a\\n\" \"b\"\n");
-
-    let attribute = Attribute {
-        id: Identifier { name: "t" },
-        value: Pattern {
-            elements: vec![in alloc; text(".a\n"), text("b")]?,
-        },
-    };
-    let found = reparsed(alloc, message(alloc, "k", None, vec![in alloc; attribute]?))?;
+    for (elements, expected) in MARKED {
+        let found = reparsed(alloc, valued(alloc, "key", elements))?;
+        assert_eq!(rt; found.as_str(), expected);
+    }
+    let found = reparsed(alloc, attributed(alloc, "t", &[".a\n", "b"]))?;
     assert_eq!(rt; found.as_str(), "k = | .t = \".a\\n\" \"b\"\n");
-
-    let placeable = PatternElement::Placeable {
-        expression: Expression::Inline(InlineExpression::VariableReference {
-            id: Identifier { name: "x" },
-        }),
-    };
-    let found = reparsed(
-        alloc,
-        valued(alloc, vec![in alloc; text("[a\n"), text("\n"), placeable]?),
-    )?;
-    assert_eq!(rt; found.as_str(), "key = \"[a\\n\" \"\\n\" {$x}\n");
     Ok(())
 }
 
 #[test]
 fn reads_a_cr_that_ends_a_comment(rt: HostRuntime) -> Result<(), Fail> {
     let alloc = rt.alloc();
-    let comment = Comment {
-        content: vec![in alloc; "a\r"]?,
-    };
-    let found = reparsed(alloc, Entry::Comment(comment))?;
+    let comment = comment(alloc, &["a\r"])?;
+    let found = reparsed(alloc, Ok(Entry::Comment(comment)))?;
     assert_eq!(rt; found.as_str(), "# \"a\\r\"\n");
     Ok(())
 }

@@ -1,12 +1,13 @@
 //! The smallest trees that break each rule of readable and canonical trees, and trees beside them that keep it.
 
+use crate::made::{
+    Made, Text, attributed, comment, id, message, number, one, pattern, placed, valued, variable,
+};
 use fluent_syntax::ast::*;
 use fluent_syntax::laws::{is_canonical, is_readable};
 use fluent_syntax::parser::Edition;
-use std::alloc::{AllocError, Global};
+use std::alloc::Global;
 use std::test::Fail;
-
-type Text = &'static str;
 
 /// What a tree is found to be.
 #[derive(Clone, Copy, Debug, Eq, PartialEq)]
@@ -18,14 +19,14 @@ enum Found {
 
 use Found::{Canonical, Neither, Readable};
 
-/// Elements, where `$` is a placeable of a variable, and what a message of them is in edition one and in edition two.
+/// Elements, where `$x` is a placeable of a variable, and what a message of them is in edition one and in edition two.
 const PATTERNS: [(&[Text], Found, Found); 31] = [
     (&["a"], Canonical, Canonical),
     (&["a\n", "b"], Canonical, Canonical),
     (&["a\n", " b"], Canonical, Canonical),
-    (&["$", "\n", "b"], Canonical, Canonical),
+    (&["$x", "\n", "b"], Canonical, Canonical),
     (&["[a\n", "b"], Canonical, Canonical),
-    (&["[a\n", "$", "\n", "\n", "$"], Canonical, Canonical),
+    (&["[a\n", "$x", "\n", "\n", "$x"], Canonical, Canonical),
     (&["a\rb"], Canonical, Canonical),
     (&[], Neither, Neither),
     (&[""], Neither, Neither),
@@ -34,23 +35,23 @@ const PATTERNS: [(&[Text], Found, Found); 31] = [
     (&["a\r\n", "b"], Neither, Neither),
     (&["a\nb"], Neither, Neither),
     (&["a", "b"], Neither, Neither),
-    (&[" ", "$"], Neither, Neither),
+    (&[" ", "$x"], Neither, Neither),
     (&["\n", "b"], Neither, Neither),
     (&[" a"], Neither, Neither),
     (&["a "], Neither, Neither),
     (&["a\r"], Neither, Neither),
     (&["a\n"], Neither, Neither),
-    (&["a\n", "  ", "$"], Neither, Canonical),
+    (&["a\n", "  ", "$x"], Neither, Canonical),
     (&["a\n", "  ", "b"], Neither, Neither),
     (&["a\n", ".b"], Neither, Neither),
     (&["a\n", "  *b"], Neither, Neither),
     (&[" .a\n", "b"], Readable, Readable),
     (&[" a\n", " b"], Readable, Readable),
-    (&["$", "\n", " \n", "b", "$"], Canonical, Canonical),
-    (&["$", "\n", "  b"], Readable, Canonical),
+    (&["$x", "\n", " \n", "b", "$x"], Canonical, Canonical),
+    (&["$x", "\n", "  b"], Readable, Canonical),
     (&["[a\n", " b"], Readable, Readable),
-    (&["  ", "$", "\n", "b"], Neither, Canonical),
-    (&["  ", "$", "\n", " b"], Neither, Readable),
+    (&["  ", "$x", "\n", "b"], Neither, Canonical),
+    (&["  ", "$x", "\n", " b"], Neither, Readable),
 ];
 
 /// Texts between the quotes of a string, and whether they are spelled as such.
@@ -95,10 +96,8 @@ const NAMES: [(Text, bool); 7] = [
 ];
 
 /// What the tree of this entry is in the edition.
-fn judged(alloc: Global, entry: Entry<Text>, edition: Edition) -> Result<Found, AllocError> {
-    let tree = Resource {
-        body: vec![in alloc; entry]?,
-    };
+fn judged(alloc: Global, entry: Made<Entry<Text>>, edition: Edition) -> Made<Found> {
+    let tree = one(alloc, entry?)?;
     if is_canonical(&tree, edition) {
         Ok(Canonical)
     } else if is_readable(&tree, edition) {
@@ -108,85 +107,61 @@ fn judged(alloc: Global, entry: Entry<Text>, edition: Edition) -> Result<Found, 
     }
 }
 
-fn id(name: Text) -> Identifier<Text> {
-    Identifier { name }
-}
-
-fn message(alloc: Global, value: Option<Pattern<Text>>) -> Entry<Text> {
-    Entry::Message(Message {
-        id: id("k"),
-        value,
-        attributes: Vec::new(alloc),
-        comment: None,
-    })
-}
-
-fn variable() -> InlineExpression<Text> {
-    InlineExpression::VariableReference { id: id("x") }
-}
-
-fn pattern(alloc: Global, texts: &[Text]) -> Result<Pattern<Text>, AllocError> {
-    let mut elements = Vec::new(alloc);
-    for text in texts {
-        let element = if *text == "$" {
-            PatternElement::Placeable {
-                expression: Expression::Inline(variable()),
-            }
-        } else {
-            PatternElement::TextElement { value: *text }
-        };
-        elements.push(element)?;
-    }
-    Ok(Pattern { elements })
-}
-
-/// A message of a placeable of the expression.
-fn placed(alloc: Global, expression: Expression<Text>) -> Result<Entry<Text>, AllocError> {
-    let elements = vec![in alloc; PatternElement::Placeable { expression }]?;
-    Ok(message(alloc, Some(Pattern { elements })))
+/// What a message of a placeable of the inline expression is in the edition.
+fn judged_inline(alloc: Global, inline: InlineExpression<Text>, edition: Edition) -> Made<Found> {
+    judged(alloc, placed(alloc, Expression::Inline(inline)), edition)
 }
 
 #[test]
 fn patterns(rt: HostRuntime) -> Result<(), Fail> {
     let alloc = rt.alloc();
     for (elements, one, two) in PATTERNS {
-        let entry = message(alloc, Some(pattern(alloc, elements)?));
-        assert_eq!(rt; judged(alloc, entry, Edition::One)?, one, "{elements:?}");
-        let entry = message(alloc, Some(pattern(alloc, elements)?));
-        assert_eq!(rt; judged(alloc, entry, Edition::Two)?, two, "{elements:?}");
+        let by_one = judged(alloc, valued(alloc, "k", elements), Edition::One)?;
+        assert_eq!(rt; by_one, one, "{elements:?}");
+        let by_two = judged(alloc, valued(alloc, "k", elements), Edition::Two)?;
+        assert_eq!(rt; by_two, two, "{elements:?}");
     }
     Ok(())
 }
 
-fn comment(alloc: Global, lines: &[Text]) -> Result<Comment<Text>, AllocError> {
-    let content = Vec::from_slice(alloc, lines)?;
-    Ok(Comment { content })
+/// The lines of a comment, and what a tree with it is.
+const COMMENTS: [(&[Text], Found); 5] = [
+    (&["a", "", " b\r"], Canonical),
+    (&[""], Canonical),
+    (&["a\nb"], Neither),
+    (&[], Readable),
+    (&["a", " \r"], Readable),
+];
+
+/// A comment of its own.
+fn free(alloc: Global, lines: &[Text]) -> Made<Entry<Text>> {
+    Ok(Entry::GroupComment(comment(alloc, lines)?))
+}
+
+/// A term with a comment.
+fn commented(alloc: Global, lines: &[Text]) -> Made<Entry<Text>> {
+    let value = pattern(alloc, &["a"])?;
+    let comment = comment(alloc, lines)?;
+    Ok(Entry::Term(Term {
+        id: id("t"),
+        value,
+        attributes: Vec::new(alloc),
+        comment: Some(comment),
+    }))
 }
 
 #[test]
 fn entries(rt: HostRuntime) -> Result<(), Fail> {
     let alloc = rt.alloc();
-    let edition = Edition::One;
-    let junk = Entry::Junk { content: "x" };
-    assert_eq!(rt; judged(alloc, junk, edition)?, Neither);
-    assert_eq!(rt; judged(alloc, message(alloc, None), edition)?, Neither);
-    let lines: [(&[Text], Found); 5] = [
-        (&["a", "", " b\r"], Canonical),
-        (&[""], Canonical),
-        (&["a\nb"], Neither),
-        (&[], Readable),
-        (&["a", " \r"], Readable),
-    ];
-    for (lines, expected) in lines {
-        let free = Entry::GroupComment(comment(alloc, lines)?);
-        assert_eq!(rt; judged(alloc, free, edition)?, expected, "{lines:?}");
-        let hung = Entry::Term(Term {
-            id: id("t"),
-            value: pattern(alloc, &["a"])?,
-            attributes: Vec::new(alloc),
-            comment: Some(comment(alloc, lines)?),
-        });
-        assert_eq!(rt; judged(alloc, hung, edition)?, expected, "{lines:?}");
+    let junk = Ok(Entry::Junk { content: "x" });
+    assert_eq!(rt; judged(alloc, junk, Edition::One)?, Neither);
+    let empty = Ok(Entry::Message(message(alloc, "k", None)));
+    assert_eq!(rt; judged(alloc, empty, Edition::One)?, Neither);
+    for (lines, expected) in COMMENTS {
+        let alone = judged(alloc, free(alloc, lines), Edition::One)?;
+        assert_eq!(rt; alone, expected, "{lines:?}");
+        let hung = judged(alloc, commented(alloc, lines), Edition::One)?;
+        assert_eq!(rt; hung, expected, "{lines:?}");
     }
     Ok(())
 }
@@ -201,50 +176,23 @@ fn spellings(rt: HostRuntime) -> Result<(), Fail> {
     let alloc = rt.alloc();
     for (value, well) in STRINGS {
         let string = InlineExpression::StringLiteral { value };
-        let entry = placed(alloc, Expression::Inline(string))?;
-        assert_eq!(rt;
-            judged(alloc, entry, Edition::One)?,
-            spelled(well),
-            "{value:?}"
-        );
+        let found = judged_inline(alloc, string, Edition::One)?;
+        assert_eq!(rt; found, spelled(well), "{value:?}");
     }
     for (value, well) in NUMBERS {
-        let number = InlineExpression::NumberLiteral { value };
-        let entry = placed(alloc, Expression::Inline(number))?;
-        assert_eq!(rt;
-            judged(alloc, entry, Edition::One)?,
-            spelled(well),
-            "{value:?}"
-        );
+        let found = judged_inline(alloc, number(value), Edition::One)?;
+        assert_eq!(rt; found, spelled(well), "{value:?}");
     }
     for (name, well) in NAMES {
-        let variable = InlineExpression::VariableReference { id: id(name) };
-        let entry = placed(alloc, Expression::Inline(variable))?;
-        assert_eq!(rt;
-            judged(alloc, entry, Edition::One)?,
-            spelled(well),
-            "{name:?}"
-        );
-        let attribute = Attribute {
-            id: id(name),
-            value: pattern(alloc, &["a"])?,
-        };
-        let entry = Entry::Message(Message {
-            id: id("k"),
-            value: None,
-            attributes: vec![in alloc; attribute]?,
-            comment: None,
-        });
-        assert_eq!(rt;
-            judged(alloc, entry, Edition::One)?,
-            spelled(well),
-            "{name:?}"
-        );
+        let found = judged_inline(alloc, variable(name), Edition::One)?;
+        assert_eq!(rt; found, spelled(well), "{name:?}");
+        let found = judged(alloc, attributed(alloc, name, &["a"]), Edition::One)?;
+        assert_eq!(rt; found, spelled(well), "{name:?}");
     }
     Ok(())
 }
 
-fn variants(alloc: Global, defaults: &[bool]) -> Result<Vec<Variant<Text>>, AllocError> {
+fn variants(alloc: Global, defaults: &[bool]) -> Made<Vec<Variant<Text>>> {
     let mut variants = Vec::new(alloc);
     for default in defaults {
         variants.push(Variant {
@@ -257,7 +205,11 @@ fn variants(alloc: Global, defaults: &[bool]) -> Result<Vec<Variant<Text>>, Allo
 }
 
 /// A reference to the term `t`.
-fn term(attribute: Option<Identifier<Text>>) -> InlineExpression<Text> {
+fn term(attribute: Option<Text>) -> InlineExpression<Text> {
+    let attribute = match attribute {
+        Some(name) => Some(id(name)),
+        None => None,
+    };
     InlineExpression::TermReference {
         id: id("t"),
         attribute,
@@ -265,91 +217,86 @@ fn term(attribute: Option<Identifier<Text>>) -> InlineExpression<Text> {
     }
 }
 
+/// What a message of a select is in edition two.
+fn judged_select(
+    alloc: Global,
+    selector: InlineExpression<Text>,
+    defaults: &[bool],
+) -> Made<Found> {
+    let variants = variants(alloc, defaults)?;
+    let select = Expression::Select { selector, variants };
+    judged(alloc, placed(alloc, select), Edition::Two)
+}
+
+/// Which variants of a select are defaults, and what it is.
+const DEFAULTS: [(&[bool], Found); 4] = [
+    (&[false, true], Canonical),
+    (&[false], Readable),
+    (&[], Readable),
+    (&[true, false, true], Neither),
+];
+
+/// The attribute of a term reference, and what it is as a selector and in braces.
+const TERMS: [(Option<Text>, Found, Found); 2] = [
+    (Some("a"), Canonical, Neither),
+    (None, Neither, Canonical),
+];
+
 #[test]
 fn selects(rt: HostRuntime) -> Result<(), Fail> {
     let alloc = rt.alloc();
-    let edition = Edition::Two;
-    let defaults: [(&[bool], Found); 4] = [
-        (&[false, true], Canonical),
-        (&[false], Readable),
-        (&[], Readable),
-        (&[true, false, true], Neither),
-    ];
-    for (defaults, expected) in defaults {
-        let select = Expression::Select {
-            selector: variable(),
-            variants: variants(alloc, defaults)?,
-        };
-        assert_eq!(rt;
-            judged(alloc, placed(alloc, select)?, edition)?,
-            expected,
-            "{defaults:?}"
-        );
+    for (defaults, expected) in DEFAULTS {
+        let found = judged_select(alloc, variable("x"), defaults)?;
+        assert_eq!(rt; found, expected, "{defaults:?}");
     }
-    let select = Expression::Select {
-        selector: term(Some(id("a"))),
-        variants: variants(alloc, &[true])?,
-    };
-    assert_eq!(rt; judged(alloc, placed(alloc, select)?, edition)?, Canonical);
-    let select = Expression::Select {
-        selector: term(None),
-        variants: variants(alloc, &[true])?,
-    };
-    assert_eq!(rt; judged(alloc, placed(alloc, select)?, edition)?, Neither);
-    let inline = Expression::Inline(term(None));
-    assert_eq!(rt; judged(alloc, placed(alloc, inline)?, edition)?, Canonical);
-    let inline = Expression::Inline(term(Some(id("a"))));
-    assert_eq!(rt; judged(alloc, placed(alloc, inline)?, edition)?, Neither);
+    for (attribute, as_selector, in_braces) in TERMS {
+        let found = judged_select(alloc, term(attribute), &[true])?;
+        assert_eq!(rt; found, as_selector, "{attribute:?}");
+        let found = judged_inline(alloc, term(attribute), Edition::Two)?;
+        assert_eq!(rt; found, in_braces, "{attribute:?}");
+    }
     Ok(())
 }
 
-fn named(name: Text, value: InlineExpression<Text>) -> NamedArgument<Text> {
-    NamedArgument {
-        name: id(name),
-        value,
+/// The name of a function, the names and values of its named arguments, where `$` is a variable, and what the call is.
+const CALLS: [(Text, &[(Text, Text)], Found); 6] = [
+    ("F-1_", &[], Canonical),
+    ("f", &[], Neither),
+    ("F", &[("a", "1"), ("b", "1")], Canonical),
+    ("F", &[("a", "1"), ("b", "1"), ("a", "2")], Neither),
+    ("F", &[("a", "-1")], Neither),
+    ("F", &[("a", "$")], Neither),
+];
+
+/// The arguments of a call, with a variable before those that have names.
+fn arguments(alloc: Global, rows: &[(Text, Text)]) -> Made<CallArguments<Text>> {
+    let mut named = Vec::new(alloc);
+    for (name, value) in rows {
+        let value = if *value == "$" {
+            variable("x")
+        } else {
+            number(*value)
+        };
+        named.push(NamedArgument {
+            name: id(*name),
+            value,
+        })?;
     }
-}
-
-fn number(value: Text) -> InlineExpression<Text> {
-    InlineExpression::NumberLiteral { value }
-}
-
-/// A message of a call of the function.
-fn call(
-    alloc: Global,
-    name: Text,
-    named: Vec<NamedArgument<Text>>,
-) -> Result<Entry<Text>, AllocError> {
-    let positional = vec![in alloc; variable()]?;
-    let function = InlineExpression::FunctionReference {
-        id: id(name),
-        arguments: CallArguments { positional, named },
-    };
-    placed(alloc, Expression::Inline(function))
+    let mut positional = Vec::new(alloc);
+    positional.push(variable("x"))?;
+    Ok(CallArguments { positional, named })
 }
 
 #[test]
 fn calls(rt: HostRuntime) -> Result<(), Fail> {
     let alloc = rt.alloc();
-    let edition = Edition::One;
-    let none = call(alloc, "F-1_", Vec::new(alloc))?;
-    assert_eq!(rt; judged(alloc, none, edition)?, Canonical);
-    let small = call(alloc, "f", Vec::new(alloc))?;
-    assert_eq!(rt; judged(alloc, small, edition)?, Neither);
-    let two = vec![in alloc; named("a", number("1")), named("b", number("1"))]?;
-    assert_eq!(rt; judged(alloc, call(alloc, "F", two)?, edition)?, Canonical);
-    let twice = vec![in alloc;
-        named("a", number("1")),
-        named("b", number("1")),
-        named("a", number("2")),
-    ]?;
-    assert_eq!(rt; judged(alloc, call(alloc, "F", twice)?, edition)?, Neither);
-    let negative = vec![in alloc; named("a", number("-1"))]?;
-    assert_eq!(rt;
-        judged(alloc, call(alloc, "F", negative)?, edition)?,
-        Neither
-    );
-    let lent = vec![in alloc; named("a", variable())]?;
-    assert_eq!(rt; judged(alloc, call(alloc, "F", lent)?, edition)?, Neither);
+    for (name, rows, expected) in CALLS {
+        let call = InlineExpression::FunctionReference {
+            id: id(name),
+            arguments: arguments(alloc, rows)?,
+        };
+        let found = judged_inline(alloc, call, Edition::One)?;
+        assert_eq!(rt; found, expected, "{name} {rows:?}");
+    }
     Ok(())
 }

@@ -9,39 +9,49 @@ fn unescape(alloc: Global, input: &str) -> Result<String, AllocError> {
     unescape_unicode_to_string(alloc, input)?.into_owned(alloc)
 }
 
+/// Escapes and what they stand for.
+const ESCAPES: [(&str, &str); 5] = [
+    ("Foo \\u5bd2 Bar", "Foo 寒 Bar"),
+    ("Foo \\U01F68A Bar", "Foo 🚊 Bar"),
+    ("Foo \\\" Bar", "Foo \" Bar"),
+    ("Foo \\\\ Bar", "Foo \\ Bar"),
+    ("\\u+041", "A"),
+];
+
 #[test]
 fn reads_escapes(rt: HostRuntime) -> Result<(), Fail> {
     let alloc = rt.alloc();
-    assert_eq!(rt; unescape(alloc, "Foo \\u5bd2 Bar")?.as_str(), "Foo 寒 Bar");
-    assert_eq!(rt; unescape(alloc, "Foo \\U01F68A Bar")?.as_str(), "Foo 🚊 Bar");
-    assert_eq!(rt; unescape(alloc, "Foo \\\" Bar")?.as_str(), "Foo \" Bar");
-    assert_eq!(rt; unescape(alloc, "Foo \\\\ Bar")?.as_str(), "Foo \\ Bar");
-    assert_eq!(rt; unescape(alloc, "\\u+041")?.as_str(), "A");
+    for (input, expected) in ESCAPES {
+        assert_eq!(rt; unescape(alloc, input)?.as_str(), expected);
+    }
     let mut text = String::new(alloc);
     assert_eq!(rt; unescape_unicode(&mut text, "Foo \\U01F60A Bar"), Ok(()));
     assert_eq!(rt; text.as_str(), "Foo 😊 Bar");
     Ok(())
 }
 
+/// What is no escape, and what is given for it.
+const BAD_ESCAPES: [(&str, &str); 12] = [
+    ("\\", "\u{fffd}"),
+    ("\\u00", "\u{fffd}"),
+    ("\\ud83d", "\u{fffd}"),
+    ("\\{", "\u{fffd}"),
+    ("\\U110000", "\u{fffd}"),
+    ("\\U01F68", "\u{fffd}"),
+    ("\\u+00é", "\u{fffd}"),
+    ("a\\éb", "a\u{fffd}b"),
+    ("\\u00é1", "\u{fffd}1"),
+    ("\\u000é1", "\u{fffd}1"),
+    ("\\udfffz", "\u{fffd}z"),
+    ("a\\", "a\u{fffd}"),
+];
+
 #[test]
 fn replaces_bad_escapes(rt: HostRuntime) -> Result<(), Fail> {
     let alloc = rt.alloc();
-    for input in [
-        "\\",
-        "\\u00",
-        "\\ud83d",
-        "\\{",
-        "\\U110000",
-        "\\U01F68",
-        "\\u+00é",
-    ] {
-        assert_eq!(rt; unescape(alloc, input)?.as_str(), "\u{fffd}");
+    for (input, expected) in BAD_ESCAPES {
+        assert_eq!(rt; unescape(alloc, input)?.as_str(), expected);
     }
-    assert_eq!(rt; unescape(alloc, "a\\éb")?.as_str(), "a\u{fffd}b");
-    assert_eq!(rt; unescape(alloc, "\\u00é1")?.as_str(), "\u{fffd}1");
-    assert_eq!(rt; unescape(alloc, "\\u000é1")?.as_str(), "\u{fffd}1");
-    assert_eq!(rt; unescape(alloc, "\\udfffz")?.as_str(), "\u{fffd}z");
-    assert_eq!(rt; unescape(alloc, "a\\")?.as_str(), "a\u{fffd}");
     Ok(())
 }
 

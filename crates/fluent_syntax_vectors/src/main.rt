@@ -1,10 +1,15 @@
-//! Replays the texts of `texts.tsv` through the engine of `ftl`, and counts the answers that differ.
+//! Replays the texts of `texts.tsv` through the engine of `ftl`, and counts the answers that differ; and reads back what
+//! is written of them, by both editions of the grammar.
 //!
 //! A line holds a text and its answers, separated by tabs and escaped: the text, then for `check`,
 //! `format`, `runtime`, `check-two`, `format-two` and `json` the exit status, a colon and the output.
 //! The outputs of `json` are compared as values, since an object's keys may come in any order.
 #![tactic(auto)]
 
+mod round_trips;
+
+use crate::round_trips::RoundTrips;
+use fluent_syntax::parser::Edition;
 use ftl::{Command, answer};
 use serde_json::Value;
 use std::alloc::{AllocError, Global};
@@ -23,28 +28,53 @@ fn main(rt: HostRuntime) -> anyhow::Result<()> {
     let table = fs::read_to_string(&rt, "texts.tsv")?;
     let mut texts = 0u64;
     let mut differences = 0u64;
+    let mut by_one = RoundTrips::new(Edition::One);
+    let mut by_two = RoundTrips::new(Edition::Two);
     for line in table.lines() {
         texts = texts.saturating_add(1);
-        let different = differing(rt.alloc(), line)?;
+        let text = text_of(rt.alloc(), line)?;
+        let different = differing(rt.alloc(), text.as_str(), line)?;
         if different > 0 {
             println!(rt; "{different} answers differ: {line}")?;
         }
         differences = differences.saturating_add(different);
+        let breaks_by_one = by_one.count(rt.alloc(), text.as_str())?;
+        let breaks_by_two = by_two.count(rt.alloc(), text.as_str())?;
+        if breaks_by_one || breaks_by_two {
+            println!(rt; "a round trip is broken: {line}")?;
+        }
     }
     println!(rt; "{texts} texts, {differences} differences")?;
+    print_round_trips(&rt, "one", by_one)?;
+    print_round_trips(&rt, "two", by_two)
+}
+
+fn print_round_trips<R: Print>(rt: &R, edition: &str, counted: RoundTrips) -> anyhow::Result<()> {
+    let RoundTrips {
+        canonical,
+        broken,
+        ..
+    } = counted;
+    println!(rt;
+        "edition {edition}: {canonical} texts with a canonical tree, {broken} round trips broken"
+    )?;
     Ok(())
 }
 
-/// How many answers of a line differ from those that the engine gives.
-fn differing(alloc: Global, line: &str) -> anyhow::Result<u64> {
-    let mut fields = line.split('\t');
-    let text = match fields.next() {
-        Some(field) => unescaped(alloc, field)?,
-        None => String::new(alloc),
-    };
+/// The text of a line.
+fn text_of(alloc: Global, line: &str) -> Result<String, AllocError> {
+    match line.split('\t').next() {
+        Some(field) => unescaped(alloc, field),
+        None => Ok(String::new(alloc)),
+    }
+}
+
+/// How many answers of a line differ from those that the engine gives for its text.
+fn differing(alloc: Global, text: &str, line: &str) -> anyhow::Result<u64> {
+    let mut fields = line.split('\t').skip(1);
     let mut different = 0u64;
     for command in COMMANDS {
-        let got = answered(alloc, command, text.as_str())?;
+        let got = answered(alloc, command, text)?;
         let same = match fields.next() {
             Some(field) => unescaped(alloc, field)?.as_str() == got.as_str(),
             None => false,
@@ -53,7 +83,7 @@ fn differing(alloc: Global, line: &str) -> anyhow::Result<u64> {
             different = different.saturating_add(1);
         }
     }
-    let got = answered(alloc, Command::Json, text.as_str())?;
+    let got = answered(alloc, Command::Json, text)?;
     let same = match fields.next() {
         Some(field) => is_same_value(alloc, unescaped(alloc, field)?.as_str(), got.as_str())?,
         None => false,

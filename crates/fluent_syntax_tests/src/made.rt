@@ -1,0 +1,95 @@
+//! Parts of trees that are made by hand.
+
+use fluent_syntax::ast::*;
+use std::alloc::{AllocError, Global};
+
+pub type Text = &'static str;
+
+pub type Made<T> = Result<T, AllocError>;
+
+pub(crate) fn id(name: Text) -> Identifier<Text> {
+    Identifier { name }
+}
+
+pub(crate) fn variable(name: Text) -> InlineExpression<Text> {
+    InlineExpression::VariableReference { id: id(name) }
+}
+
+pub(crate) fn number(value: Text) -> InlineExpression<Text> {
+    InlineExpression::NumberLiteral { value }
+}
+
+pub(crate) fn reference(name: Text, attribute: Option<Identifier<Text>>) -> InlineExpression<Text> {
+    InlineExpression::MessageReference {
+        id: id(name),
+        attribute,
+    }
+}
+
+/// A placeable of the variable behind a `$`, or of the message behind an `@`; or a text.
+fn element(text: Text) -> PatternElement<Text> {
+    let inline = if let Some(name) = text.strip_prefix('$') {
+        variable(name)
+    } else if let Some(name) = text.strip_prefix('@') {
+        reference(name, None)
+    } else {
+        return PatternElement::TextElement { value: text };
+    };
+    PatternElement::Placeable {
+        expression: Expression::Inline(inline),
+    }
+}
+
+pub(crate) fn pattern(alloc: Global, texts: &[Text]) -> Made<Pattern<Text>> {
+    let mut elements = Vec::new(alloc);
+    for text in texts {
+        elements.push(element(*text))?;
+    }
+    Ok(Pattern { elements })
+}
+
+pub(crate) fn message(alloc: Global, name: Text, value: Option<Pattern<Text>>) -> Message<Text> {
+    Message {
+        id: id(name),
+        value,
+        attributes: Vec::new(alloc),
+        comment: None,
+    }
+}
+
+/// A message that has just a value of these elements.
+pub(crate) fn valued(alloc: Global, name: Text, texts: &[Text]) -> Made<Entry<Text>> {
+    let value = pattern(alloc, texts)?;
+    Ok(Entry::Message(message(alloc, name, Some(value))))
+}
+
+/// A message `k` that has just an attribute of that name, whose value has these elements.
+pub(crate) fn attributed(alloc: Global, name: Text, texts: &[Text]) -> Made<Entry<Text>> {
+    let value = pattern(alloc, texts)?;
+    let mut message = message(alloc, "k", None);
+    message.attributes.push(Attribute {
+        id: id(name),
+        value,
+    })?;
+    Ok(Entry::Message(message))
+}
+
+/// A message `key` that is a placeable of the expression.
+pub(crate) fn placed(alloc: Global, expression: Expression<Text>) -> Made<Entry<Text>> {
+    let mut elements = Vec::new(alloc);
+    elements.push(PatternElement::Placeable { expression })?;
+    Ok(Entry::Message(message(alloc, "key", Some(Pattern { elements }))))
+}
+
+pub(crate) fn comment(alloc: Global, lines: &[Text]) -> Made<Comment<Text>> {
+    Ok(Comment {
+        content: Vec::from_slice(alloc, lines)?,
+    })
+}
+
+/// The tree of one entry.
+pub(crate) fn one(alloc: Global, entry: Entry<Text>) -> Made<Resource<Text>> {
+    let mut body = Vec::new(alloc);
+    body.push(entry)?;
+    Ok(Resource { body })
+}
