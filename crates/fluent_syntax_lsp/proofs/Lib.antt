@@ -1,0 +1,4 @@
+pub mod FrameLemmas
+pub mod FramesMore
+pub mod InboxLemmas
+pub mod PlaceLemmas
