@@ -1,3 +1,4 @@
+pub mod ErrorsShown
 pub mod FrameLemmas
 pub mod FramesMore
 pub mod InboxLemmas

@@ -6,3 +6,5 @@ pub mod Inbox
 pub mod Places
 pub mod Methods
 pub mod Phases
+pub mod Diagnostics
+pub mod Formatting

@@ -1,5 +1,5 @@
 //! Places as the protocol counts them: lines, and UTF-16 units from the line's begin.
-ghost use Rattle.std.specs.Prelude.{◌≡◌, ◌<◌, ◌≤◌, ℕ, List, length, slice_index};
+ghost use Rattle.std.specs.Prelude.{◌≡◌, ◌<◌, ◌≤◌, ℕ, List, length, min};
 ghost use Rattle.fluent_syntax_lsp.specs.Places.{ends_line, utf16_units, place_at, line_at, character_at, IsPlace};
 
 use std::marker::Model;
@@ -72,6 +72,17 @@ impl<'t> Places<'t> {
             character,
         };
         Place { line, character }
+    }
+}
+
+impl Places<'_> {
+    /// The place of a byte, or of the text's end where the byte lies beyond.
+    pub fn place_or_end(&mut self, byte: usize) -> Place
+        ensures text { self.new ≡ self.old }
+        ensures place { result ≡ place_at self.old (min byte (length self.old)) }
+    {
+        let size = self.text.len();
+        self.place(byte.min(size))
     }
 }
 
