@@ -33,7 +33,11 @@ pub fn capabilities(alloc: Global) -> Result<Value, AllocError> {
 }
 
 /// The notification of a document's diagnostics.
-pub fn published(alloc: Global, uri: &str, diagnostics: &Vec<Diagnostic>) -> Result<Value, AllocError> {
+pub fn published(
+    alloc: Global,
+    uri: &str,
+    diagnostics: &Vec<Diagnostic>,
+) -> Result<Value, AllocError> {
     let mut list = Vec::new(alloc);
     for diagnostic in diagnostics {
         list.push(diagnostic_form(alloc, diagnostic)?)?;
@@ -75,7 +79,14 @@ pub fn symbol_list(alloc: Global, text: &str, symbols: &Vec<Symbol>) -> Result<V
         let mut children = Vec::new(alloc);
         for name in &symbol.attributes {
             let none = Value::Array(Vec::new(alloc));
-            children.push(symbol_form(alloc, text, &mut places, SymbolKind::Attribute, *name, none)?)?;
+            children.push(symbol_form(
+                alloc,
+                text,
+                &mut places,
+                SymbolKind::Attribute,
+                *name,
+                none,
+            )?)?;
         }
         let children = Value::Array(children);
         list.push(symbol_form(alloc, text, &mut places, symbol.kind, symbol.name, children)?)?;

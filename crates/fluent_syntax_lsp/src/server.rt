@@ -67,7 +67,12 @@ impl Server {
     }
 
     /// Answers a request.
-    fn request(&mut self, id: Value, name: &str, message: &Value) -> Result<Option<Value>, AllocError> {
+    fn request(
+        &mut self,
+        id: Value,
+        name: &str,
+        message: &Value,
+    ) -> Result<Option<Value>, AllocError> {
         let method = Method::from_name(name);
         if let Some(code) = self.phase.refusal(method) {
             return self.refuse(id, code);
@@ -181,16 +186,22 @@ impl Server {
 
 /// The name of the document that a message speaks of.
 fn uri_of(message: &Value) -> Option<&str> {
-    message.pointer("/params/textDocument/uri").and_then(Value::as_str)
+    message
+        .pointer("/params/textDocument/uri")
+        .and_then(Value::as_str)
 }
 
 /// The text of a document that is opened.
 fn opened_text(message: &Value) -> Option<&str> {
-    message.pointer("/params/textDocument/text").and_then(Value::as_str)
+    message
+        .pointer("/params/textDocument/text")
+        .and_then(Value::as_str)
 }
 
 /// The whole text that the last change of a document sets.
 fn changed_text(message: &Value) -> Option<&str> {
-    let changes = message.pointer("/params/contentChanges").and_then(Value::as_array)?;
+    let changes = message
+        .pointer("/params/contentChanges")
+        .and_then(Value::as_array)?;
     changes.last()?.get("text").and_then(Value::as_str)
 }

@@ -101,9 +101,8 @@ fn comment_of(entry: &Entry<Span>) -> Option<&Comment<Span>> {
     match entry {
         Entry::Message(message) => message.comment.as_ref(),
         Entry::Term(term) => term.comment.as_ref(),
-        Entry::Comment(comment) | Entry::GroupComment(comment) | Entry::ResourceComment(comment) => {
-            Some(comment)
-        }
+        Entry::Comment(comment) | Entry::GroupComment(comment) | Entry::ResourceComment(comment) =>
+            { Some(comment) }
         Entry::Junk { content: _ } => None,
     }
 }
@@ -112,5 +111,9 @@ fn comment_of(entry: &Entry<Span>) -> Option<&Comment<Span>> {
 fn fold_of(places: &mut Places<'_>, comment: &Comment<Span>) -> Option<Fold> {
     let first = places.place_or_end(comment.content.first()?.start).line;
     let last = places.place_or_end(comment.content.last()?.start).line;
-    if first < last { Some(Fold { first, last }) } else { None }
+    if first < last {
+        Some(Fold { first, last })
+    } else {
+        None
+    }
 }

@@ -20,6 +20,8 @@ mod json_text;
 #[cfg(test)]
 mod kinds;
 #[cfg(test)]
+mod language_server;
+#[cfg(test)]
 mod outline;
 #[cfg(test)]
 mod places;
