@@ -1,12 +1,17 @@
 #!/usr/bin/env bash
 # Runs ftl on standard input: ./ftl check|format|runtime|json|check-two|format-two < FILE
+# Runs the language server on standard input and output: ./ftl lsp
 #
 # The first use proves and builds the program, and says on standard error how far it is; later uses start at once.
 # What runs was built from the sources as they are: an older program is never run.
 set -euo pipefail
 unset CDPATH
 top="$(dirname "$(readlink -f "${BASH_SOURCE[0]}")")"
-made="$top/crates/ftl_program/out"
+program=ftl_program
+if [ "${1-}" = lsp ]; then program=ftl_lsp; shift; fi
+made="$top/crates/$program/out"
+# one build at a time, whichever program it is of
+lock="$top/crates/ftl_program/out/lock"
 jobs_running=()
 
 say() { printf 'ftl: %s\n' "$*" >&2; }
@@ -16,7 +21,7 @@ fail() { say "$*"; exit 70; }
 
 # The crates that the program is made of, each with its level: a crate stands on crates of lower levels alone.
 crates() {
-    awk -F: '
+    awk -F: -v program="$program" '
         /^[^#]/ { below[$1] = $2 }
         function level(name,    names, n, i, most, at) {
             if (name in found) return found[name]
@@ -25,7 +30,7 @@ crates() {
             for (i = 1; i <= n; i++) if (names[i] in below) { at = level(names[i]); if (at > most) most = at }
             return found[name] = most + 1
         }
-        END { level("ftl_program"); for (name in found) print found[name], name }' "$top/crates.txt" | sort -n
+        END { level(program); for (name in found) print found[name], name }' "$top/crates.txt" | sort -n
 }
 
 # One sum of all the text that the program is made from.
@@ -49,7 +54,7 @@ interrupt() {
 # Proves a crate in the folder, where it stands with the crates below it, and builds what those above it need.
 prove() (
     cd "$1/crates/$2"
-    if [ "$2" = ftl_program ]; then rt run -- check; else rt lib; fi </dev/null
+    if [ "$2" != "$program" ]; then rt lib </dev/null; elif [ -f args ]; then rt run -- $(cat args) <stdin; else rt run <stdin; fi
 ) >"$made/$2.log" 2>&1
 
 # A copy of the crate and all crates of lower levels: rt lets one check at a time into a crate and those below it.
@@ -102,7 +107,7 @@ build() {
         prove_level "${now[@]}"
         below+=("${now[@]}")
     done
-    cp "$made/ftl_program" "$made/ftl.new"
+    cp "$made/$program" "$made/ftl.new"
     mv "$made/ftl.new" "$made/ftl"
     rm -f "$made"/*.log
 }
@@ -110,8 +115,8 @@ build() {
 # Builds the program unless another run does; then waits for that.
 build_once() {
     command -v rt >/dev/null || fail "the program is not built yet, and the Rattle toolchain, which builds it, is not there (no rt on the PATH)"
-    { mkdir -p "$made" && : >"$made/lock"; } 2>/dev/null || fail "the program is not built yet, and $top cannot be written to"
-    exec 9>"$made/lock"
+    { mkdir -p "$made" "${lock%/*}" && : >"$lock"; } 2>/dev/null || fail "the program is not built yet, and $top cannot be written to"
+    exec 9>"$lock"
     flock -n 9 || { say "another ftl builds the program: waiting for it"; flock 9; }
     trap interrupt INT TERM HUP
     while sum="$(sum_of_sources)"; ! is_built "$sum"; do

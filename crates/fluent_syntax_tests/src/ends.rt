@@ -55,6 +55,16 @@ impl Narrow {
             fails: false,
         }
     }
+
+    /// One that fails at once.
+    pub fn closed(alloc: Global) -> Self {
+        Narrow {
+            taken: Vec::new(alloc),
+            step: usize::MAX,
+            room: 0,
+            fails: true,
+        }
+    }
 }
 
 impl Write for Narrow {

@@ -22,6 +22,8 @@ mod json_text;
 #[cfg(test)]
 mod kinds;
 #[cfg(test)]
+mod language_server;
+#[cfg(test)]
 mod made;
 #[cfg(test)]
 mod nesting;

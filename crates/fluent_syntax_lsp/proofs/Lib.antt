@@ -1,0 +1,5 @@
+pub mod ErrorsShown
+pub mod FrameLemmas
+pub mod FramesMore
+pub mod InboxLemmas
+pub mod PlaceLemmas

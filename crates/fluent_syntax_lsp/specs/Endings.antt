@@ -1,0 +1,29 @@
+-- Exit statuses, and the lines for standard error.
+use Rattle.std.specs.Prelude.{ℕ, List, codes}
+use Rattle.fluent_syntax_lsp.specs.declared.endings.Ending.{Ending}
+use Rattle.fluent_syntax_lsp.specs.declared.endings.Ending.TheVariants.{Exited, Left, Input, Memory, Output, Closed, Cut, Refused}
+use Rattle.fluent_syntax_lsp.specs.declared.frames.FrameFault.TheVariants.{LongHeader, NoLength, LongBody}
+
+abbrev pub status_of : Ending → ℕ
+status_of Exited = 0
+status_of Left = 1
+status_of Input = 3
+status_of Memory = 4
+status_of Output = 5
+status_of Closed = 6
+status_of Cut = 7
+status_of (Refused LongHeader) = 8
+status_of (Refused NoLength) = 8
+status_of (Refused LongBody) = 9
+
+abbrev pub line_of : Ending → List ℕ
+line_of Exited = codes ""
+line_of Left = codes ""
+line_of Input = codes "ftl_lsp: input failed"
+line_of Memory = codes "ftl_lsp: no memory"
+line_of Output = codes "ftl_lsp: output failed"
+line_of Closed = codes "ftl_lsp: the input ended without exit"
+line_of Cut = codes "ftl_lsp: the input ended inside a message"
+line_of (Refused LongHeader) = codes "ftl_lsp: a header has more than 4096 bytes"
+line_of (Refused NoLength) = codes "ftl_lsp: a header has no Content-Length"
+line_of (Refused LongBody) = codes "ftl_lsp: a message has more than 67108864 bytes"

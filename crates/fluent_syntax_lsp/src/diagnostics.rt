@@ -1,0 +1,98 @@
+//! The errors of a text, for a client to show.
+ghost use Rattle.std.specs.Prelude.{◌≡◌, ◌≤◌, [], ◌∷◌, length, map, All, IfOk};
+ghost use Rattle.fluent_syntax_lsp.specs.Diagnostics.{DiagnosesText, deep_diagnostic, diagnostic_of, shown};
+
+use crate::limits::NESTING_LIMIT;
+use crate::places::{Place, Places};
+use fluent_syntax::parser::{Edition, ParseFault, ParserError, TooDeep};
+use fluent_syntax::spans::parse_spans_within;
+use std::alloc::{AllocError, Global};
+
+/// An error of a text: where it is, its kind, and what is said of it.
+#[derive(Debug, Drop)]
+pub struct Diagnostic {
+    pub start: Place,
+    pub end: Place,
+    pub code: &'static str,
+    pub message: String,
+}
+
+/// The diagnostics of a text: one for each of its errors, in order, at the error's place; a lone one at the text's begin
+/// where the text nests deeper than `NESTING_LIMIT`.
+pub fn diagnostics_in(alloc: Global, text: &str) -> Result<Vec<Diagnostic>, AllocError>
+    ensures { IfOk result (λ found. DiagnosesText text.now (map shown found.items)) }
+{
+    match parse_spans_within(alloc, text, Edition::One, NESTING_LIMIT) {
+        Ok(Ok(_tree)) => Ok(Vec::new(alloc)),
+        Ok(Err(ParseFault::Syntax(_tree, errors))) => {
+            let found = diagnostics_of(alloc, text, &errors)?;
+            Ok(found)
+        }
+        Ok(Err(ParseFault::Memory)) => Err(AllocError),
+        Err(TooDeep) => {
+            let found = too_deep(alloc)?;
+            Ok(found)
+        }
+    }
+}
+
+/// What is said of a text that nests too deeply.
+fn too_deep(alloc: Global) -> Result<Vec<Diagnostic>, AllocError>
+    ensures { IfOk result (λ found. map shown found.items ≡ deep_diagnostic ∷ []) }
+{
+    let start = Place {
+        line: 0,
+        character: 0,
+    };
+    let message = String::from_str(alloc, "nested too deeply to be read")?;
+    let mut found = Vec::new(alloc);
+    found.push(Diagnostic {
+        start,
+        end: start,
+        code: "TooDeep",
+        message,
+    })?;
+    Ok(found)
+}
+
+/// A diagnostic for each of the errors, whose places begin within the text.
+fn diagnostics_of(
+    alloc: Global,
+    text: &str,
+    errors: &Vec<ParserError>,
+) -> Result<Vec<Diagnostic>, AllocError>
+    requires { All (λ e. e.pos.start ≤ length text.now) errors.now.items }
+    ensures { IfOk result (λ found. map shown found.items ≡ map (diagnostic_of text.now) errors.now.items) }
+{
+    let mut places = Places::new(text);
+    let mut found = Vec::new(alloc);
+    for error in errors {
+        let diagnostic = diagnose(alloc, &mut places, text.len(), error)?;
+        found.push(diagnostic)?;
+    }
+    Ok(found)
+}
+
+/// The diagnostic of an error. Where the error's place ends beyond the text, it ends with the text.
+fn diagnose(
+    alloc: Global,
+    places: &mut Places<'_>,
+    size: usize,
+    error: &ParserError,
+) -> Result<Diagnostic, AllocError>
+    requires within { error.now.pos.start ≤ length places.old }
+    requires size { size ≡ length places.old }
+    ensures text { places.new ≡ places.old }
+    ensures shown { IfOk result (λ found. shown found ≡ diagnostic_of places.old error.now) }
+{
+    let from = error.pos.start;
+    let start = places.place(from);
+    let end = places.place(error.pos.end.min(size).max(from));
+    let message = format!(in alloc; "{}", error.kind)?;
+    Ok(Diagnostic {
+        start,
+        end,
+        code: error.kind.name(),
+        message,
+    })
+}

@@ -1,0 +1,31 @@
+//! A language server for Fluent Translation Lists: the protocol's frames, places and answers.
+#![tactic(auto)]
+
+mod breaks;
+mod diagnostics;
+mod endings;
+mod fields;
+mod formatting;
+mod frames;
+mod inbox;
+mod limits;
+mod messages;
+mod methods;
+mod outbox;
+mod phases;
+mod places;
+mod replies;
+mod server;
+mod sessions;
+mod symbols;
+
+pub use diagnostics::{Diagnostic, diagnostics_in};
+pub use endings::Ending;
+pub use formatting::formatted;
+pub use frames::{FrameFault, Framing, first_frame};
+pub use limits::{BODY_LIMIT, HEADER_LIMIT, NESTING_LIMIT};
+pub use methods::Method;
+pub use phases::{ErrorCode, Phase};
+pub use places::{Place, Places};
+pub use server::Server;
+pub use sessions::serve;

@@ -1,0 +1,10 @@
+//! What a client may send at most.
+
+/// The most bytes of a header with its empty line.
+pub const HEADER_LIMIT: usize = 4_096;
+
+/// The most bytes of a body: 64 MiB.
+pub const BODY_LIMIT: usize = 67_108_864;
+
+/// How deeply the placeables and argument lists of a document may nest.
+pub const NESTING_LIMIT: usize = 500;

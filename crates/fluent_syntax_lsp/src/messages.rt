@@ -1,0 +1,34 @@
+//! What kind of message a JSON value is.
+
+use serde_json::Value;
+
+/// A message of the protocol, by its kind.
+pub enum Message<'v> {
+    /// It has an identifier and a method, and wants an answer.
+    Request { id: &'v Value, method: &'v str },
+    /// It has a method alone.
+    Notification { method: &'v str },
+    /// It answers a request, which this server never makes.
+    Response,
+    /// It is none of these.
+    Invalid,
+}
+
+/// The kind of message that the value is.
+pub fn message_of(value: &Value) -> Message<'_> {
+    if value.get("jsonrpc").and_then(Value::as_str) != Some("2.0") {
+        return Message::Invalid;
+    }
+    let method = value.get("method").and_then(Value::as_str);
+    match (value.get("id"), method) {
+        (None, Some(method)) => Message::Notification { method },
+        (Some(id), Some(method)) if is_identifier(id) => Message::Request { id, method },
+        (Some(id), None) if is_identifier(id) && value.get("method").is_none() => Message::Response,
+        _ => Message::Invalid,
+    }
+}
+
+/// Whether the value may identify a request: a text or a whole number.
+fn is_identifier(value: &Value) -> bool {
+    value.is_string() || value.is_i64() || value.is_u64()
+}

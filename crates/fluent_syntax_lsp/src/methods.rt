@@ -1,0 +1,40 @@
+//! What a message may ask for.
+ghost use Rattle.std.specs.Prelude.{◌≡◌, ◌≢◌, IfSome, IfNone};
+ghost use Rattle.fluent_syntax_lsp.specs.Methods.{name_of};
+
+/// A request or a notification that is known.
+#[derive(Clone, Copy, Debug, PartialEq, Eq)]
+pub enum Method {
+    Initialize,
+    Shutdown,
+    DocumentSymbol,
+    Formatting,
+    FoldingRange,
+    DidOpen,
+    DidChange,
+    DidClose,
+    DidSave,
+    Exit,
+}
+
+impl Method {
+    /// The method of the name. None where no method that is known has it.
+    pub fn from_name(name: &str) -> Option<Method>
+        ensures named { IfSome result (λ method. name_of method ≡ name.now) }
+        ensures other { IfNone result ((method : Method) → name_of method ≢ name.now) }
+    {
+        match name {
+            "initialize" => Some(Method::Initialize),
+            "shutdown" => Some(Method::Shutdown),
+            "textDocument/documentSymbol" => Some(Method::DocumentSymbol),
+            "textDocument/formatting" => Some(Method::Formatting),
+            "textDocument/foldingRange" => Some(Method::FoldingRange),
+            "textDocument/didOpen" => Some(Method::DidOpen),
+            "textDocument/didChange" => Some(Method::DidChange),
+            "textDocument/didClose" => Some(Method::DidClose),
+            "textDocument/didSave" => Some(Method::DidSave),
+            "exit" => Some(Method::Exit),
+            _ => None,
+        }
+    }
+}

@@ -1,0 +1,207 @@
+//! The open documents, and the answer to each message.
+
+use crate::diagnostics::diagnostics_in;
+use crate::endings::Ending;
+use crate::formatting::formatted;
+use crate::messages::{Message, message_of};
+use crate::methods::Method;
+use crate::phases::{ErrorCode, Phase};
+use crate::replies::{
+    answer, capabilities, fold_list, published, refusal, symbol_list, whole_edit,
+};
+use crate::symbols::{folds_in, symbols_in};
+use serde_json::{Category, Value};
+use std::alloc::{AllocError, Global};
+use std::collections::BTreeMap;
+
+/// The open documents and how far the session is.
+#[derive(Drop)]
+pub struct Server {
+    alloc: Global,
+    phase: Phase,
+    /// The texts of the open documents, by their names.
+    documents: BTreeMap<String, String>,
+}
+
+impl Server {
+    /// One that waits for `initialize`.
+    pub fn new(alloc: Global) -> Self {
+        Server {
+            alloc,
+            phase: Phase::Fresh,
+            documents: BTreeMap::new(alloc),
+        }
+    }
+
+    /// How the session ends. None where it goes on.
+    pub fn ending(&self) -> Option<Ending> {
+        self.phase.ending()
+    }
+
+    /// Takes a message, and gives the one to send for it. None where there is none.
+    ///
+    /// `AllocError` where a growth was refused.
+    pub fn take(&mut self, body: &[u8]) -> Result<Option<Value>, AllocError> {
+        let value = match Value::from_slice(self.alloc, body) {
+            Ok(value) => value,
+            Err(error) => {
+                return match error.classify() {
+                    Category::Memory => Err(AllocError),
+                    _ => self.refuse(Value::Null, ErrorCode::ParseError),
+                };
+            }
+        };
+        match message_of(&value) {
+            Message::Request { id, method } => {
+                let id = id.clone()?;
+                self.request(id, method, &value)
+            }
+            Message::Notification { method } => self.notification(method, &value),
+            Message::Response => Ok(None),
+            Message::Invalid => self.refuse(Value::Null, ErrorCode::InvalidRequest),
+        }
+    }
+
+    fn refuse(&self, id: Value, code: ErrorCode) -> Result<Option<Value>, AllocError> {
+        Ok(Some(refusal(self.alloc, id, code)?))
+    }
+
+    /// Answers a request.
+    fn request(
+        &mut self,
+        id: Value,
+        name: &str,
+        message: &Value,
+    ) -> Result<Option<Value>, AllocError> {
+        let method = Method::from_name(name);
+        if let Some(code) = self.phase.refusal(method) {
+            return self.refuse(id, code);
+        }
+        let found = match method {
+            Some(Method::Initialize) => Some(capabilities(self.alloc)?),
+            Some(Method::DocumentSymbol) => self.symbols(message)?,
+            Some(Method::Formatting) => self.formatting(message)?,
+            Some(Method::FoldingRange) => self.folds(message)?,
+            _ => Some(Value::Null),
+        };
+        let Some(found) = found else {
+            return self.refuse(id, ErrorCode::InvalidParams);
+        };
+        let reply = answer(self.alloc, id, found)?;
+        self.phase = self.phase.after_request(method);
+        Ok(Some(reply))
+    }
+
+    /// The open document that the message names.
+    fn text_of(&self, message: &Value) -> Option<&str> {
+        let text = self.documents.get(uri_of(message)?)?;
+        Some(text.as_str())
+    }
+
+    fn symbols(&self, message: &Value) -> Result<Option<Value>, AllocError> {
+        let Some(text) = self.text_of(message) else {
+            return Ok(None);
+        };
+        let symbols = symbols_in(self.alloc, text)?;
+        Ok(Some(symbol_list(self.alloc, text, &symbols)?))
+    }
+
+    fn folds(&self, message: &Value) -> Result<Option<Value>, AllocError> {
+        let Some(text) = self.text_of(message) else {
+            return Ok(None);
+        };
+        let folds = folds_in(self.alloc, text)?;
+        Ok(Some(fold_list(self.alloc, &folds)?))
+    }
+
+    /// The edit that formats the document; null where it stays as it is.
+    fn formatting(&self, message: &Value) -> Result<Option<Value>, AllocError> {
+        let Some(text) = self.text_of(message) else {
+            return Ok(None);
+        };
+        match formatted(self.alloc, text)? {
+            Some(written) if written.as_str() != text => {
+                Ok(Some(whole_edit(self.alloc, text, written.as_str())?))
+            }
+            _ => Ok(Some(Value::Null)),
+        }
+    }
+
+    /// Follows a notification.
+    fn notification(&mut self, name: &str, message: &Value) -> Result<Option<Value>, AllocError> {
+        let method = Method::from_name(name);
+        if self.phase != Phase::Running {
+            self.phase = self.phase.after_notification(method);
+            return Ok(None);
+        }
+        let Some(uri) = uri_of(message) else {
+            self.phase = self.phase.after_notification(method);
+            return Ok(None);
+        };
+        match method {
+            Some(Method::DidOpen) => self.set(uri, opened_text(message)),
+            Some(Method::DidChange) if self.documents.contains_key(uri) => {
+                self.set(uri, changed_text(message))
+            }
+            Some(Method::DidSave) => self.publish(uri),
+            Some(Method::DidClose) => self.close(uri),
+            _ => {
+                self.phase = self.phase.after_notification(method);
+                Ok(None)
+            }
+        }
+    }
+
+    /// Sets the text of a document, and tells of its diagnostics.
+    fn set(&mut self, uri: &str, text: Option<&str>) -> Result<Option<Value>, AllocError> {
+        let Some(text) = text else {
+            return Ok(None);
+        };
+        let name = String::from_str(self.alloc, uri)?;
+        let text = String::from_str(self.alloc, text)?;
+        drop(self.documents.insert(name, text)?);
+        self.publish(uri)
+    }
+
+    /// The diagnostics of a document; None where it is not open.
+    fn publish(&self, uri: &str) -> Result<Option<Value>, AllocError> {
+        let Some(text) = self.documents.get(uri) else {
+            return Ok(None);
+        };
+        let found = diagnostics_in(self.alloc, text.as_str())?;
+        Ok(Some(published(self.alloc, uri, &found)?))
+    }
+
+    /// Closes a document, and takes its diagnostics back.
+    fn close(&mut self, uri: &str) -> Result<Option<Value>, AllocError> {
+        match self.documents.remove(uri) {
+            None => Ok(None),
+            Some(_) => {
+                let none = Vec::new(self.alloc);
+                Ok(Some(published(self.alloc, uri, &none)?))
+            }
+        }
+    }
+}
+
+/// The name of the document that a message speaks of.
+fn uri_of(message: &Value) -> Option<&str> {
+    message
+        .pointer("/params/textDocument/uri")
+        .and_then(Value::as_str)
+}
+
+/// The text of a document that is opened.
+fn opened_text(message: &Value) -> Option<&str> {
+    message
+        .pointer("/params/textDocument/text")
+        .and_then(Value::as_str)
+}
+
+/// The whole text that the last change of a document sets.
+fn changed_text(message: &Value) -> Option<&str> {
+    let changes = message
+        .pointer("/params/contentChanges")
+        .and_then(Value::as_array)?;
+    changes.last()?.get("text").and_then(Value::as_str)
+}
