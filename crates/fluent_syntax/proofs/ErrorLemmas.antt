@@ -1,6 +1,6 @@
 -- The errors and the junk of a tiling's answer.
-use Rattle.std.proofs.Common.{◌≡◌, ℕ, List, [], ◌∷◌, length, Option, Some, None, map, refl, sym, ◌∙◌, ap, arith}
-use Rattle.std.specs.Prelude.{slice_range, option_map, Result, Ok, Err, IsOk, IsOkAnd}
+use Rattle.std.proofs.Common.{◌≡◌, ℕ, List, [], ◌∷◌, length, Option, Some, None, map, refl, sym, ◌∙◌, ap}
+use Rattle.std.specs.Prelude.{slice_range, option_map, Result, Ok, Err}
 use Rattle.std.specs.List.{flat_map}
 use Rattle.fluent_syntax_tree.specs.Entry.{message, term, comment, junk, BodyTree, body_map}
 use Rattle.fluent_syntax_tree.specs.Kind.{kind_of}
@@ -10,15 +10,15 @@ use Rattle.fluent_syntax_tree.specs.declared.ast.Resource.{Resource}
 use Rattle.fluent_syntax_tree.specs.declared.errors.ParserError.{ParserError}
 use Rattle.fluent_syntax_tree.specs.declared.edition.Edition.{Edition}
 use Rattle.fluent_syntax_tree.specs.declared.spans.Span.{Span}
-use Rattle.fluent_syntax_grammar.specs.Places.{BlankBlock}
-use Rattle.fluent_syntax_grammar.specs.Tiling.{Fault, Tile, Tiled, done, next, TileAt, RuntimeTileAt}
+use Rattle.fluent_syntax_grammar.specs.Tiling.{Fault, Tile}
 use Rattle.fluent_syntax_grammar.specs.Body.{body, faults}
 use Rattle.fluent_syntax_grammar.specs.Laws.{junk_slice, fault_slice}
 use Rattle.fluent_syntax_grammar.specs.Laws as laws
-use Rattle.fluent_syntax_grammar.proofs.Functional.{single_block}
 use Rattle.fluent_syntax_grammar.proofs.JunkAndSpans.{junk_of_errors, runtime_junk_of_errors, errors_ascend, runtime_errors_ascend}
 use Rattle.fluent_syntax_parser.specs.Faults.{fault_of}
-use Rattle.fluent_syntax_parser.specs.Answers.{Answers, AnswersTiling, AnswersRuntimeTiling}
+use Rattle.fluent_syntax_parser.specs.Answers.{Answers, AnswersIn}
+use Rattle.fluent_syntax_parser.specs.declared.options.Comments.{Comments}
+use Rattle.fluent_syntax_parser.specs.declared.options.Comments.TheVariants.{Kept, Dropped}
 use Rattle.fluent_syntax_parser.specs.declared.fault.ParseFault.{ParseFault}
 use Rattle.fluent_syntax_parser.specs.declared.fault.ParseFault.TheVariants.{Syntax, Memory}
 use Rattle.fluent_syntax.specs.Errors.{junk_texts, refused_text, JunkIsRefused, ErrorsAscend}
@@ -95,47 +95,14 @@ module _ {S : Type 0} (text : S → List ℕ) (t : List ℕ) (tiles : List Tile)
 
 module _ {S : Type 0} (text : S → List ℕ) (edition : Edition) (t : List ℕ) (result : Result (Resource S) (ParseFault S))
   where
-    pub junk_answered : AnswersTiling text (body_map (bytes_at t)) edition t result → JunkIsRefused t text result
-    junk_answered (tiles, tiling, given) = junk_given text t tiles result (junk_of_errors edition t tiles tiling) given
-
-    pub errors_answered : AnswersTiling text (body_map (bytes_at t)) edition t result → ErrorsAscend t result
-    errors_answered (tiles, tiling, given) = errors_given text t tiles result (errors_ascend edition t tiles tiling) given
-
-    pub runtime_junk_answered : AnswersRuntimeTiling text (body_map (bytes_at t)) edition t result →
+    pub junk_answered : (comments : Comments) → AnswersIn text (body_map (bytes_at t)) comments edition t result →
         JunkIsRefused t text result
-    runtime_junk_answered (tiles, tiling, given) =
-        junk_given text t tiles result (runtime_junk_of_errors edition t tiles tiling) given
+    junk_answered Kept (tiles, tiled, given) = junk_given text t tiles result (junk_of_errors edition t tiles tiled) given
+    junk_answered Dropped (tiles, tiled, given) =
+        junk_given text t tiles result (runtime_junk_of_errors edition t tiles tiled) given
 
-    pub runtime_errors_answered : AnswersRuntimeTiling text (body_map (bytes_at t)) edition t result →
+    pub errors_answered : (comments : Comments) → AnswersIn text (body_map (bytes_at t)) comments edition t result →
         ErrorsAscend t result
-    runtime_errors_answered (tiles, tiling, given) =
-        errors_given text t tiles result (runtime_errors_ascend edition t tiles tiling) given
-
--- ---- blank texts
-
-nothing_tiled : (t : List ℕ) (at : (i j : ℕ) → Tile → Type 0) (tiles : List Tile) → BlankBlock t 0 (length t) →
-    Tiled t at 0 tiles → tiles ≡ []
-nothing_tiled t at tiles b (done c) = refl
-nothing_tiled t at tiles b (next {start = start} c l x m) =
-    let end : start ≡ length t = single_block.same 0 start (length t) c b in absurd (omega arith)
-
-no_entries : {X Y : Type 0} (view : X → Y) (xs : List X) → map view xs ≡ [] → xs ≡ []
-no_entries view [] e = refl
-no_entries view (x ∷ xs) e = cc
-
-nothing_given : (tiles : List Tile) (result : Result (Resource Span) (ParseFault Span)) → tiles ≡ [] → IsOk result →
-    Answers (λ s. s) (λ b. b) tiles result → IsOkAnd result (λ tree. tree.body.items ≡ [])
-nothing_given tiles (Ok tree) e ok (same, none) = no_entries _ tree.body.items (same ∙ ap body e)
-nothing_given tiles (Err fault) e ok given = cc
-
-module _ (edition : Edition) (t : List ℕ) (result : Result (Resource Span) (ParseFault Span))
-    (b : BlankBlock t 0 (length t)) (ok : IsOk result) where
-  pub nothing_answered : AnswersTiling (λ s. s) (λ b. b) edition t result →
-      IsOkAnd result (λ tree. tree.body.items ≡ [])
-  nothing_answered (tiles, tiling, given) =
-      nothing_given tiles result (nothing_tiled t (TileAt edition t) tiles b tiling) ok given
-
-  pub runtime_nothing_answered : AnswersRuntimeTiling (λ s. s) (λ b. b) edition t result →
-      IsOkAnd result (λ tree. tree.body.items ≡ [])
-  runtime_nothing_answered (tiles, tiling, given) =
-      nothing_given tiles result (nothing_tiled t (RuntimeTileAt edition t) tiles b tiling) ok given
+    errors_answered Kept (tiles, tiled, given) = errors_given text t tiles result (errors_ascend edition t tiles tiled) given
+    errors_answered Dropped (tiles, tiled, given) =
+        errors_given text t tiles result (runtime_errors_ascend edition t tiles tiled) given

@@ -4,6 +4,7 @@
 //! tree; `unicode` resolves the escapes of string literals; `ast` has the nodes of the tree.
 #![tactic(auto)]
 
+mod entries;
 mod flat;
 pub mod laws;
 mod lines;

@@ -1,24 +1,21 @@
 //! Both parsers, with trees of texts.
-ghost use Rattle.std.specs.Prelude.{◌≡◌, ◌+◌, ◌^◌, ◌<◌, List, [], length, IsOk, IsOkAnd};
+ghost use Rattle.std.specs.Prelude.{◌+◌, ◌^◌, ◌<◌, length, IfOk, IsOk, OnErr};
 ghost use Rattle.fluent_syntax.specs.Errors.{ErrorsAscend, JunkIsRefused};
 ghost use Rattle.fluent_syntax.specs.RoundTrip.{AnswersReadable};
 ghost use Rattle.fluent_syntax_grammar.specs.Places.{BlankBlock};
-ghost use Rattle.fluent_syntax_grammar.specs.Tiling.{Tile};
-ghost use Rattle.fluent_syntax_parser.specs.Answers.{Answers, AnswersRuntimeTiling, AnswersTiling, ErrorsInText};
-ghost use Rattle.fluent_syntax_parser.specs.Parts.{HasParts};
+ghost use Rattle.fluent_syntax_parser.specs.Answers.{AnswersRuntimeTiling, AnswersTiling, ErrorsInText};
 ghost use Rattle.fluent_syntax_tree.specs.Entry.{body_map};
 ghost use Rattle.fluent_syntax_tree.specs.Spans.{bytes_at};
 
+use crate::entries::{parse_at_any_depth, parse_by};
 pub use crate::flat::is_flat;
 pub use crate::recovered::recovered;
-use crate::resolved::resolve;
-pub use fluent_syntax_parser::fault::ParseFault;
-use fluent_syntax_parser::{parse_runtime_spans_edition, parse_spans_edition};
+pub use fluent_syntax_parser::fault::{ParseFault, TooDeep};
+use fluent_syntax_parser::options::{Comments, Options};
 use fluent_syntax_tree::ast::Resource;
 pub use fluent_syntax_tree::edition::Edition;
 pub use fluent_syntax_tree::errors::{ErrorKind, ParserError};
 pub use fluent_syntax_tree::slice::Slice;
-use fluent_syntax_tree::spans::Span;
 use std::alloc::Global;
 
 /// The tree of a text; or, where parts of it were refused, the tree with them as junk, and an error
@@ -51,8 +48,7 @@ pub fn parse_edition<'s, S: Slice<'s>>(alloc: Global, input: S, edition: Edition
     ensures errors { ErrorsAscend (S.text input) result }
     ensures places { ErrorsInText (S.text input) result }
 {
-    let spans = parse_spans_edition(alloc, input.as_str(), edition);
-    with_texts(alloc, &input, spans)
+    parse_at_any_depth(alloc, &input, edition, Comments::Kept)
 }
 
 /// Reads a text by edition one of the grammar, without its comments.
@@ -83,25 +79,55 @@ pub fn parse_runtime_edition<'s, S: Slice<'s>>(
     ensures errors { ErrorsAscend (S.text input) result }
     ensures places { ErrorsInText (S.text input) result }
 {
-    let spans = parse_runtime_spans_edition(alloc, input.as_str(), edition);
-    with_texts(alloc, &input, spans)
+    parse_at_any_depth(alloc, &input, edition, Comments::Dropped)
 }
 
-/// The same answer with the source's texts in place of the spans.
-fn with_texts<'s, S: Slice<'s>>(alloc: Global, source: &S, spans: Result<Span>) -> Result<S>
-    requires { HasParts (S.text source.now) spans }
-    ensures answers { (given : List Tile) → Answers (λ s. s) (λ b. b) given spans → Answers S.text (body_map (bytes_at (S.text source.now))) given result }
-    ensures empty { IsOkAnd spans (λ tree. tree.body.items ≡ []) → IsOk result }
+/// Reads a text as `parse_edition` does, if its placeables and argument lists nest at most `nesting` deep.
+///
+/// `TooDeep` where they nest deeper, and nothing comes back. The stack that reading takes is bounded by `nesting`.
+pub fn parse_within<'s, S: Slice<'s>>(
+    alloc: Global,
+    input: S,
+    edition: Edition,
+    nesting: usize,
+) -> std::result::Result<Result<S>, TooDeep>
+    ensures tiling { IfOk result
+        (AnswersTiling S.text (body_map (bytes_at (S.text input))) edition (S.text input)) }
+    ensures blank { BlankBlock (S.text input) 0 (length (S.text input)) → IfOk result (λ answer. IsOk answer) }
+    ensures junk { IfOk result (JunkIsRefused (S.text input) S.text) }
+    ensures errors { IfOk result (ErrorsAscend (S.text input)) }
+    ensures places { IfOk result (ErrorsInText (S.text input)) }
+    ensures deep { OnErr result (nesting < length (S.text input)) }
 {
-    match spans {
-        Ok(tree) => match resolve(alloc, source, &tree) {
-            Ok(tree) => Ok(tree),
-            Err(_) => Err(ParseFault::Memory),
-        },
-        Err(ParseFault::Syntax(tree, errors)) => match resolve(alloc, source, &tree) {
-            Ok(tree) => Err(ParseFault::Syntax(tree, errors)),
-            Err(_) => Err(ParseFault::Memory),
-        },
-        Err(ParseFault::Memory) => Err(ParseFault::Memory),
-    }
+    let options = Options {
+        edition,
+        comments: Comments::Kept,
+        nesting,
+    };
+    parse_by(alloc, &input, options)
+}
+
+/// Reads a text as `parse_runtime_edition` does, if its placeables and argument lists nest at most `nesting` deep.
+///
+/// `TooDeep` where they nest deeper, and nothing comes back. The stack that reading takes is bounded by `nesting`.
+pub fn parse_runtime_within<'s, S: Slice<'s>>(
+    alloc: Global,
+    input: S,
+    edition: Edition,
+    nesting: usize,
+) -> std::result::Result<Result<S>, TooDeep>
+    ensures tiling { IfOk result
+        (AnswersRuntimeTiling S.text (body_map (bytes_at (S.text input))) edition (S.text input)) }
+    ensures blank { BlankBlock (S.text input) 0 (length (S.text input)) → IfOk result (λ answer. IsOk answer) }
+    ensures junk { IfOk result (JunkIsRefused (S.text input) S.text) }
+    ensures errors { IfOk result (ErrorsAscend (S.text input)) }
+    ensures places { IfOk result (ErrorsInText (S.text input)) }
+    ensures deep { OnErr result (nesting < length (S.text input)) }
+{
+    let options = Options {
+        edition,
+        comments: Comments::Dropped,
+        nesting,
+    };
+    parse_by(alloc, &input, options)
 }

@@ -1,11 +1,11 @@
 //! Trees of texts from trees of spans.
 ghost use Rattle.std.specs.Prelude.{◌≡◌, [], IsOk, IfOk};
-ghost use Rattle.fluent_syntax_tree.specs.Entry.{body_map};
-ghost use Rattle.fluent_syntax_tree.specs.Every.{body_every};
+ghost use Rattle.fluent_syntax_tree.specs.Entry.{body_map, entry_map};
+ghost use Rattle.fluent_syntax_tree.specs.Every.{body_every, entry_every};
 ghost use Rattle.fluent_syntax_tree.specs.Spans.{IsPart, bytes_at};
-ghost use Rattle.fluent_syntax_tree.specs.View.{resource_view};
+ghost use Rattle.fluent_syntax_tree.specs.View.{entry_view, resource_view};
 
-use fluent_syntax_tree::ast::Resource;
+use fluent_syntax_tree::ast::{Entry, Resource};
 use fluent_syntax_tree::copied::entries;
 use fluent_syntax_tree::slice::Slice;
 use fluent_syntax_tree::spans::Span;
@@ -27,6 +27,20 @@ impl<'a, 's, S: Slice<'s>> CopyTexts<Span, S> for Parts<'a, 's, S> {
     fn copy(&self, alloc: Global, span: &Span) -> Result<S, AllocError> {
         self.0.slice(alloc, span.start..span.end)
     }
+}
+
+/// The entry with the source's text at each span in its place, or `AllocError` where there is no memory for it.
+pub(crate) fn resolve_entry<'s, S: Slice<'s>>(
+    alloc: Global,
+    source: &S,
+    entry: &Entry<Span>,
+) -> Result<Entry<S>, AllocError>
+    requires parts { entry_every (IsPart (S.text source.now)) (entry_view (λ s. s) entry.now) }
+    ensures texts { IfOk result (λ made. entry_view S.text made
+        ≡ entry_map (bytes_at (S.text source.now)) (entry_view (λ s. s) entry.now)) }
+{
+    let parts: Parts<'_, 's, S> = Parts(source, PhantomData);
+    entries::entry(&parts, alloc, entry)
 }
 
 /// The tree with the source's text at each span in its place, or `AllocError` where there is no

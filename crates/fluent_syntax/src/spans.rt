@@ -2,7 +2,10 @@
 
 pub use crate::lines::{Lines, line_column};
 pub use crate::resolved::resolve;
+pub use fluent_syntax_parser::entries::Entries;
+pub use fluent_syntax_parser::options::{Comments, Halt, Options};
 pub use fluent_syntax_parser::{
-    parse_runtime_spans, parse_runtime_spans_edition, parse_spans, parse_spans_edition,
+    parse_runtime_spans, parse_runtime_spans_edition, parse_runtime_spans_within, parse_spans,
+    parse_spans_edition, parse_spans_within,
 };
 pub use fluent_syntax_tree::spans::Span;

@@ -292,10 +292,18 @@ module _ (edition : Edition) (t : List ℕ) where
   runtime_exist (suc m) i a l = let b = (block_word t).exists i l in
       runtime_at i l b.0 b.1 ((block_word t).in_text i b.0 l b.1) (λ j c d. runtime_exist m j (omega arith) d)
 
+  -- from each place of a text on there are tiles
+  pub some_tiles : (i : ℕ) → i ≤ length t → (tiles : List Tile) × Tiled t (TileAt edition t) i tiles
+  some_tiles i inside = tiles_exist (length t) i (omega arith) inside
+
+  -- and tiles without comments
+  pub some_runtime_tiles : (i : ℕ) → i ≤ length t → (tiles : List Tile) × Tiled t (RuntimeTileAt edition t) i tiles
+  some_runtime_tiles i inside = runtime_exist (length t) i (omega arith) inside
+
   -- every text has a tiling
   pub some_tiling : SomeTiling edition t
-  some_tiling = tiles_exist (length t) 0 (omega arith) (omega arith)
+  some_tiling = some_tiles 0 (omega arith)
 
   -- every text has a tiling without comments
   pub some_runtime_tiling : SomeRuntimeTiling edition t
-  some_runtime_tiling = runtime_exist (length t) 0 (omega arith) (omega arith)
+  some_runtime_tiling = some_runtime_tiles 0 (omega arith)

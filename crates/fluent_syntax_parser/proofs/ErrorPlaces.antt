@@ -72,7 +72,7 @@ module _ (t : List ℕ) where
       runtime_errors_in_text (tiles, tiling, given) =
           given_in_text tiles result (runtime_errors_ascend edition t tiles tiling) given
 
-  module _ (edition : Edition) (result : Result (Resource Span) (ParseFault Span)) where
-    pub errors_of_spans_in_text : (comments : Comments) → AnswersIn comments edition t result → ErrorsInText t result
-    errors_of_spans_in_text Kept answers = errors_in_text (λ s. s) (λ b. b) edition result answers
-    errors_of_spans_in_text Dropped answers = runtime_errors_in_text (λ s. s) (λ b. b) edition result answers
+      pub errors_answered_in_text : (comments : Comments) → AnswersIn text whole comments edition t result →
+          ErrorsInText t result
+      errors_answered_in_text Kept answers = errors_in_text answers
+      errors_answered_in_text Dropped answers = runtime_errors_in_text answers

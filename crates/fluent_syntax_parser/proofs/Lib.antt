@@ -1,3 +1,4 @@
+pub mod AnswerOf
 pub mod ArgumentLists
 pub mod Carried
 pub mod CommentEntries
@@ -15,6 +16,7 @@ pub mod InlineStarts
 pub mod LineEndings
 pub mod LineEnds
 pub mod Names
+pub mod PartsOfEntries
 pub mod PartsOfTiling
 pub mod Pieces
 pub mod Puts

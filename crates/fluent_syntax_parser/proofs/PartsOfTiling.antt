@@ -9,11 +9,10 @@ use Rattle.fluent_syntax_tree.specs.declared.edition.Edition.{Edition}
 use Rattle.fluent_syntax_tree.specs.declared.spans.Span.{Span}
 use Rattle.fluent_syntax_grammar.specs.Tiling.{Tile}
 use Rattle.fluent_syntax_grammar.specs.Body.{body}
-use Rattle.fluent_syntax_grammar.proofs.JunkAndSpans.{body_in_text, runtime_body_in_text}
-use Rattle.fluent_syntax_parser.specs.Answers.{Answers, AnswersIn}
+use Rattle.fluent_syntax_parser.specs.Answers.{Answers, AnswersSpansIn}
 use Rattle.fluent_syntax_parser.specs.Parts.{HasParts}
+use Rattle.fluent_syntax_parser.proofs.PartsOfEntries.{body_parts}
 use Rattle.fluent_syntax_parser.specs.declared.options.Comments.{Comments}
-use Rattle.fluent_syntax_parser.specs.declared.options.Comments.TheVariants.{Kept, Dropped}
 use Rattle.fluent_syntax_parser.specs.declared.fault.ParseFault.{ParseFault}
 use Rattle.fluent_syntax_parser.specs.declared.fault.ParseFault.TheVariants.{Syntax, Memory}
 
@@ -26,8 +25,6 @@ module _ (t : List ℕ) where
   parts_given tiles (Err Memory) parts given = tt
 
   pub parts_answered : (comments : Comments) (edition : Edition) (result : Result (Resource Span) (ParseFault Span)) →
-      IsUtf8 t → AnswersIn comments edition t result → HasParts t result
-  parts_answered Kept edition result u (tiles, tiling, given) =
-      parts_given tiles result (body_in_text edition t tiles u tiling) given
-  parts_answered Dropped edition result u (tiles, tiling, given) =
-      parts_given tiles result (runtime_body_in_text edition t tiles u tiling) given
+      IsUtf8 t → AnswersSpansIn comments edition t result → HasParts t result
+  parts_answered comments edition result utf8 (tiles, tiled, given) =
+      parts_given tiles result (body_parts t edition comments tiles utf8 tiled) given

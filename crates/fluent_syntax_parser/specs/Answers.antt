@@ -31,6 +31,11 @@ module _ {S X : Type 0} (text : S → X) (whole : BodyTree Span → BodyTree X) 
   abbrev pub AnswersRuntimeTiling : Edition → List ℕ → Result (Resource S) (ParseFault S) → Type 0
   AnswersRuntimeTiling edition t result = (tiles : List Tile) × RuntimeTiling edition t tiles × Answers tiles result
 
+  -- The answer is that of a tiling of the text, with comments or without.
+  abbrev pub AnswersIn : Comments → Edition → List ℕ → Result (Resource S) (ParseFault S) → Type 0
+  AnswersIn comments edition t result =
+      (tiles : List Tile) × Tiled t (TileIn comments edition t) 0 tiles × Answers tiles result
+
 -- The answer is that of a tiling of the text, with the ranges of its texts as they are.
 abbrev pub AnswersSpans : Edition → List ℕ → Result (Resource Span) (ParseFault Span) → Type 0
 AnswersSpans edition t result = AnswersTiling (λ s. s) (λ b. b) edition t result
@@ -40,9 +45,8 @@ abbrev pub AnswersRuntimeSpans : Edition → List ℕ → Result (Resource Span)
 AnswersRuntimeSpans edition t result = AnswersRuntimeTiling (λ s. s) (λ b. b) edition t result
 
 -- The same of a tiling of the text with comments or without.
-abbrev pub AnswersIn : Comments → Edition → List ℕ → Result (Resource Span) (ParseFault Span) → Type 0
-AnswersIn comments edition t result =
-    (tiles : List Tile) × Tiled t (TileIn comments edition t) 0 tiles × Answers (λ s. s) (λ b. b) tiles result
+abbrev pub AnswersSpansIn : Comments → Edition → List ℕ → Result (Resource Span) (ParseFault Span) → Type 0
+AnswersSpansIn comments edition t result = AnswersIn (λ s. s) (λ b. b) comments edition t result
 
 -- The place of each error begins within the text.
 abbrev pub ErrorsInText : {S : Type 0} → List ℕ → Result (Resource S) (ParseFault S) → Type 0

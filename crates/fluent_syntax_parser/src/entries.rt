@@ -1,5 +1,6 @@
 //! Entries one by one.
-ghost use Rattle.std.specs.Prelude.{◌≡◌, ◌-◌, ◌≤◌, length, IfErr, IfOk, OnErr};
+ghost use Rattle.std.specs.Prelude.{◌≡◌, ◌-◌, ◌<◌, ◌≤◌, length, IfErr, IfOk, IfSome, None, Ok, OnErr};
+ghost use Rattle.fluent_syntax_grammar.specs.Places.{BlankBlock};
 ghost use Rattle.fluent_syntax_parser.specs.Halts.{HaltsWithin};
 ghost use Rattle.fluent_syntax_parser.specs.Rest.{NextTo};
 
@@ -47,6 +48,9 @@ impl<'s> Entries<'s> {
         ensures next { let t = self.old.source.bytes.now in let options = self.old.options in
             IfOk result (NextTo options.comments options.edition t self.old.ptr self.new.ptr) }
         ensures forward { self.old.ptr ≤ self.new.ptr }
+        ensures onward { IfOk result (λ found. IfSome found (λ read. self.old.ptr < self.new.ptr)) }
+        ensures blank { let t = self.old.source.bytes.now in
+            BlankBlock t self.old.ptr (length t) → result ≡ Ok None }
         ensures stays { OnErr result (self.new.ptr ≡ self.old.ptr) }
         ensures nests { let left = length self.old.source.bytes.now - self.old.ptr in
             IfErr result (HaltsWithin self.old.options.nesting left) }

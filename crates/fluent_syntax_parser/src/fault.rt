@@ -2,8 +2,12 @@
 //!
 //! Each is a small value that copies: what an error tells of the text is kept as a place of it, and its texts are
 //! made once, where the error is reported.
+ghost use Rattle.std.specs.Prelude.{◌≡◌, ◌≢◌, ◌++◌, [], map, Ok, Err, OnOk};
+ghost use Rattle.fluent_syntax_parser.specs.declared.fault.ParseFault.TheVariants.{Syntax};
+ghost use Rattle.fluent_syntax_parser.specs.Faults.{fault_of};
+ghost use Rattle.fluent_syntax_parser.specs.Rest.{faults_of};
 
-use fluent_syntax_tree::ast::Resource;
+use fluent_syntax_tree::ast::{Entry, Resource};
 use fluent_syntax_tree::errors::ParserError;
 use fluent_syntax_tree::spans::Span;
 use std::alloc::{AllocError, AllocFailed};
@@ -99,4 +103,37 @@ pub enum ParseFault<S> {
     Syntax(Resource<S>, Vec<ParserError>),
     /// A growth was refused.
     Memory,
+}
+
+/// The text nests more deeply than was allowed.
+#[derive(Clone, Copy, PartialEq, Eq, Debug)]
+pub struct TooDeep;
+
+/// What parsing answers for the entries and the errors that were read of a text.
+pub fn answer_of<S>(
+    body: Vec<Entry<S>>,
+    errors: Vec<ParserError>,
+) -> Result<Resource<S>, ParseFault<S>>
+    ensures clean { errors.items ≡ [] → result ≡ Ok (record { body = body }) }
+    ensures syntax { errors.items ≢ [] → result ≡ Err (Syntax (record { body = body }) errors) }
+{
+    let resource = Resource { body };
+    if errors.is_empty() {
+        Ok(resource)
+    } else {
+        Err(ParseFault::Syntax(resource, errors))
+    }
+}
+
+/// Adds an error, if there is one. `AllocError` where a growth was refused.
+pub fn add_error(
+    errors: &mut Vec<ParserError>,
+    error: Option<ParserError>,
+) -> Result<(), AllocError>
+    ensures { OnOk result (map fault_of errors.new.items ≡ map fault_of errors.old.items ++ faults_of error) }
+{
+    if let Some(error) = error {
+        errors.push(error)?;
+    }
+    Ok(())
 }

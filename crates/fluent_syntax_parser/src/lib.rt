@@ -34,5 +34,6 @@ mod variants;
 mod words;
 
 pub use spans::{
-    parse_runtime_spans, parse_runtime_spans_edition, parse_spans, parse_spans_edition,
+    parse_runtime_spans, parse_runtime_spans_edition, parse_runtime_spans_within, parse_spans,
+    parse_spans_edition, parse_spans_within,
 };

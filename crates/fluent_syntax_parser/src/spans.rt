@@ -1,49 +1,20 @@
 //! Whole texts.
-ghost use Rattle.std.specs.Prelude.{◌≡◌, ◌+◌, ◌++◌, ◌<◌, ◌^◌, [], length, map, List, IfErr, IfOk, IsOk, IsOkAnd, OnOk, Some};
-ghost use Rattle.fluent_syntax_grammar.specs.Body as bodies;
+ghost use Rattle.std.specs.Prelude.{◌≡◌, ◌+◌, ◌<◌, ◌^◌, [], length, map, IfErr, IfOk, IsOk, IsOkAnd, OnErr};
 ghost use Rattle.fluent_syntax_grammar.specs.Places.{BlankBlock};
-ghost use Rattle.fluent_syntax_grammar.specs.Tiling.{Tile};
-ghost use Rattle.fluent_syntax_parser.specs.Answers.{Answers, AnswersIn, AnswersRuntimeSpans, AnswersSpans, ErrorsInText};
+ghost use Rattle.fluent_syntax_parser.specs.Answers.{AnswersRuntimeSpans, AnswersSpans, AnswersSpansIn, ErrorsInText};
 ghost use Rattle.fluent_syntax_parser.specs.Faults.{fault_of};
 ghost use Rattle.fluent_syntax_parser.specs.Halts.{HaltsWithin};
 ghost use Rattle.fluent_syntax_parser.specs.Parts.{HasParts};
-ghost use Rattle.fluent_syntax_parser.specs.Rest.{Rest, faults_of, tree_of};
+ghost use Rattle.fluent_syntax_parser.specs.Rest.{Rest, tree_of};
 
-use crate::fault::ParseFault;
+use crate::fault::{ParseFault, TooDeep, add_error, answer_of};
 use crate::options::{Comments, Halt, Options};
 use crate::source::Source;
 use fluent_syntax_tree::ast::{Entry, Resource};
 use fluent_syntax_tree::edition::Edition;
 use fluent_syntax_tree::errors::ParserError;
 use fluent_syntax_tree::spans::Span;
-use std::alloc::{AllocError, Global};
-
-/// The tree, and the errors if there are any.
-fn answer_of(
-    body: Vec<Entry<Span>>,
-    errors: Vec<ParserError>,
-) -> Result<Resource<Span>, ParseFault<Span>>
-    ensures answers { (tiles : List Tile) → bodies.body tiles ≡ map tree_of body.items →
-        map Some (bodies.faults tiles) ≡ map fault_of errors.items → Answers (λ s. s) (λ b. b) tiles result }
-    ensures none { errors.items ≡ [] → IsOk result }
-{
-    let resource = Resource { body };
-    if errors.is_empty() {
-        Ok(resource)
-    } else {
-        Err(ParseFault::Syntax(resource, errors))
-    }
-}
-
-/// Adds an error, if there is one.
-fn add_error(errors: &mut Vec<ParserError>, error: Option<ParserError>) -> Result<(), AllocError>
-    ensures { OnOk result (map fault_of errors.new.items ≡ map fault_of errors.old.items ++ faults_of error) }
-{
-    if let Some(error) = error {
-        errors.push(error)?;
-    }
-    Ok(())
-}
+use std::alloc::Global;
 
 impl<'s> Source<'s> {
     /// The entries and the errors of the text.
@@ -70,20 +41,47 @@ impl<'s> Source<'s> {
     }
 }
 
+/// Reads a text as the options say. `TooDeep` where it nests more deeply than they allow.
 fn parse_by(
     alloc: Global,
     source: &str,
     options: Options,
-) -> Result<Resource<Span>, ParseFault<Span>>
-    ensures spans { HasParts source.now result }
-    ensures tiling { AnswersIn options.comments options.edition source.now result }
-    ensures places { ErrorsInText source.now result }
-    ensures blank { BlankBlock source.now 0 (length source.now) → IsOk result }
+) -> Result<Result<Resource<Span>, ParseFault<Span>>, TooDeep>
+    ensures tiling { IfOk result (AnswersSpansIn options.comments options.edition source.now) }
+    ensures spans { IfOk result (HasParts source.now) }
+    ensures places { IfOk result (ErrorsInText source.now) }
+    ensures blank { BlankBlock source.now 0 (length source.now) → IfOk result (λ answer. IsOk answer) }
+    ensures deep { OnErr result (options.nesting < length source.now) }
 {
     let bytes = source.as_bytes();
     match (Source { bytes }).get_body(alloc, options) {
-        Ok((body, errors)) => answer_of(body, errors),
-        Err(_) => Err(ParseFault::Memory),
+        Ok((body, errors)) => Ok(answer_of(body, errors)),
+        Err(Halt::Memory) => Ok(Err(ParseFault::Memory)),
+        Err(Halt::TooDeep) => Err(TooDeep),
+    }
+}
+
+/// Reads a text that may nest as deeply as it does.
+fn parse_at_any_depth(
+    alloc: Global,
+    source: &str,
+    edition: Edition,
+    comments: Comments,
+) -> Result<Resource<Span>, ParseFault<Span>>
+    ensures tiling { AnswersSpansIn comments edition source.now result }
+    ensures spans { HasParts source.now result }
+    ensures places { ErrorsInText source.now result }
+    ensures blank { BlankBlock source.now 0 (length source.now) → IsOk result }
+{
+    let options = Options {
+        edition,
+        comments,
+        nesting: usize::MAX,
+    };
+    match parse_by(alloc, source, options) {
+        Ok(answer) => answer,
+        // no text is longer than the greatest usize
+        Err(TooDeep) => Err(ParseFault::Memory),
     }
 }
 
@@ -115,12 +113,7 @@ pub fn parse_spans_edition(
     ensures places { ErrorsInText source.now result }
     ensures blank { BlankBlock source.now 0 (length source.now) → IsOk result }
 {
-    let options = Options {
-        edition,
-        comments: Comments::Kept,
-        nesting: usize::MAX,
-    };
-    parse_by(alloc, source, options)
+    parse_at_any_depth(alloc, source, edition, Comments::Kept)
 }
 
 /// Reads a text by the first edition of the grammar, without its comments.
@@ -149,10 +142,51 @@ pub fn parse_runtime_spans_edition(
     ensures places { ErrorsInText source.now result }
     ensures blank { BlankBlock source.now 0 (length source.now) → IsOk result }
 {
+    parse_at_any_depth(alloc, source, edition, Comments::Dropped)
+}
+
+/// Reads a text as `parse_spans_edition` does, if its placeables and argument lists nest at most `nesting` deep.
+///
+/// `TooDeep` where they nest deeper, and nothing comes back. The stack that reading takes is bounded by `nesting`.
+pub fn parse_spans_within(
+    alloc: Global,
+    source: &str,
+    edition: Edition,
+    nesting: usize,
+) -> Result<Result<Resource<Span>, ParseFault<Span>>, TooDeep>
+    ensures spans { IfOk result (HasParts source.now) }
+    ensures tiling { IfOk result (AnswersSpans edition source.now) }
+    ensures places { IfOk result (ErrorsInText source.now) }
+    ensures blank { BlankBlock source.now 0 (length source.now) → IfOk result (λ answer. IsOk answer) }
+    ensures deep { OnErr result (nesting < length source.now) }
+{
+    let options = Options {
+        edition,
+        comments: Comments::Kept,
+        nesting,
+    };
+    parse_by(alloc, source, options)
+}
+
+/// Reads a text as `parse_runtime_spans_edition` does, if its placeables and argument lists nest at most `nesting` deep.
+///
+/// `TooDeep` where they nest deeper, and nothing comes back. The stack that reading takes is bounded by `nesting`.
+pub fn parse_runtime_spans_within(
+    alloc: Global,
+    source: &str,
+    edition: Edition,
+    nesting: usize,
+) -> Result<Result<Resource<Span>, ParseFault<Span>>, TooDeep>
+    ensures spans { IfOk result (HasParts source.now) }
+    ensures tiling { IfOk result (AnswersRuntimeSpans edition source.now) }
+    ensures places { IfOk result (ErrorsInText source.now) }
+    ensures blank { BlankBlock source.now 0 (length source.now) → IfOk result (λ answer. IsOk answer) }
+    ensures deep { OnErr result (nesting < length source.now) }
+{
     let options = Options {
         edition,
         comments: Comments::Dropped,
-        nesting: usize::MAX,
+        nesting,
     };
     parse_by(alloc, source, options)
 }

@@ -103,7 +103,7 @@ pub(crate) fn term<X, Y: Drop, C: CopyTexts<X, Y>>(
     })
 }
 
-pub(crate) fn entry<X, Y: Drop, C: CopyTexts<X, Y>>(
+pub fn entry<X, Y: Drop, C: CopyTexts<X, Y>>(
     by: &C,
     alloc: Global,
     entry: &Entry<X>,
