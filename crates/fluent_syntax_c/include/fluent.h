@@ -2,7 +2,8 @@
 
    Each call reads a text, which is UTF-8, and writes into memory of the caller's: an array, and a number that tells how
    many items there are to give. It writes all of them or none, and nothing behind them. It keeps nothing, and may be
-   made from several threads at once, but not from a signal handler.
+   made from several threads at once, but not from a signal handler. `nesting` bounds the stack that it takes, so that
+   no text ends the host.
 
    A pointer may be null where its length is 0. `needed` and `count` are not null. The text and what is written to
    do not overlap. */
@@ -24,8 +25,13 @@ enum ftl_status {
     FTL_WRONG_ARGUMENT = 2, /* no command, or no edition, has the number */
     FTL_NOT_UTF8 = 3,       /* the text is not UTF-8 */
     FTL_NO_MEMORY = 4,      /* a request for memory was refused */
-    FTL_TOO_SMALL = 5       /* the array has no room for all that there is: call again with more */
+    FTL_TOO_SMALL = 5,      /* the array has no room for all that there is: call again with more */
+    FTL_TOO_DEEP = 6        /* the text nests more deeply than `nesting` allows */
 };
+
+/* A `nesting` that does for texts that people write: how many placeables and argument lists may be open at once. Each
+   takes at most 3.1 KB of stack, as measured: with this number a call needs less than 512 KB. */
+#define FTL_NESTING 100
 
 /* What to write for a text. */
 enum ftl_command {
@@ -98,17 +104,17 @@ struct ftl_name {
 
 /* Writes what the command, an ftl_command, writes for the text: `*needed` bytes of UTF-8 without a 0 behind them.
    Returns an ftl_status. */
-uint32_t ftl_answer(uint32_t command, const uint8_t *text, size_t text_len,
+uint32_t ftl_answer(uint32_t command, size_t nesting, const uint8_t *text, size_t text_len,
                     uint8_t *out, size_t out_len, size_t *needed);
 
 /* Writes a row for each syntax error of the text, in order: `*count` rows. `edition` is an ftl_edition.
    Returns an ftl_status. */
-uint32_t ftl_errors(uint32_t edition, const uint8_t *text, size_t text_len,
+uint32_t ftl_errors(uint32_t edition, size_t nesting, const uint8_t *text, size_t text_len,
                     struct ftl_error *rows, size_t rows_len, size_t *count);
 
 /* Writes a row for each message, each term and each attribute of the text, in order, those of a message or a term
    behind its own: `*count` rows. What was refused has none. `edition` is an ftl_edition. Returns an ftl_status. */
-uint32_t ftl_names(uint32_t edition, const uint8_t *text, size_t text_len,
+uint32_t ftl_names(uint32_t edition, size_t nesting, const uint8_t *text, size_t text_len,
                    struct ftl_name *rows, size_t rows_len, size_t *count);
 
 #ifdef __cplusplus

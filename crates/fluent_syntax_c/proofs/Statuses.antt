@@ -4,7 +4,7 @@ use Rattle.std.specs.Prelude.{◌↔◌}
 use Rattle.ftl.specs.declared.outcome.Outcome.{Outcome}
 use Rattle.ftl.specs.declared.outcome.Outcome.TheVariants as outcome
 use Rattle.fluent_syntax_c.specs.declared.status.Refusal.{Refusal}
-use Rattle.fluent_syntax_c.specs.declared.status.Refusal.TheVariants.{Argument, Input, Memory}
+use Rattle.fluent_syntax_c.specs.declared.status.Refusal.TheVariants.{Argument, Input, Memory, Depth}
 use Rattle.fluent_syntax_c.specs.declared.status.Status.{Status}
 use Rattle.fluent_syntax_c.specs.declared.status.Status.TheVariants.{Clean, SyntaxErrors, TooSmall, Refused}
 use Rattle.fluent_syntax_c.specs.Status.{refusal_number, status_number}
@@ -14,7 +14,7 @@ use Rattle.fluent_syntax_c.specs.Output.{Leaves}
 abbrev status_at : ℕ → Status
 status_at n =
     cond (n == 0) Clean (cond (n == 1) SyntaxErrors (cond (n == 2) (Refused Argument)
-    (cond (n == 3) (Refused Input) (cond (n == 4) (Refused Memory) TooSmall))))
+    (cond (n == 3) (Refused Input) (cond (n == 4) (Refused Memory) (cond (n == 5) TooSmall (Refused Depth))))))
 
 number_back : (status : Status) → status_at (status_number status) ≡ status
 number_back Clean = refl
@@ -23,17 +23,24 @@ number_back TooSmall = refl
 number_back (Refused Argument) = refl
 number_back (Refused Input) = refl
 number_back (Refused Memory) = refl
+number_back (Refused Depth) = refl
 
 -- no two statuses have one number
 same_status : (a b : Status) → status_number a ≡ status_number b → a ≡ b
 same_status a b e = sym (number_back a) ∙ ap status_at e ∙ number_back b
 
--- The number of a refusal is told exactly where it was refused for that.
+-- The number of a refusal is told only where it was refused for that.
+pub told_only : {X : Type 0} (answer : Result X Refusal) (number : ℕ) (status : Status) (why : Refusal) →
+    number ≡ status_number status → ((status ≡ Refused why) ↔ (answer ≡ Err why)) → number ≡ refusal_number why →
+    answer ≡ Err why
+told_only answer number status why is refused e = refused.0 (same_status status (Refused why) (sym is ∙ e))
+
+-- It is told exactly there.
 pub told_exactly : {X : Type 0} (answer : Result X Refusal) (number : ℕ) (status : Status) (why : Refusal)
     (P : Type 0) → number ≡ status_number status → ((status ≡ Refused why) ↔ (answer ≡ Err why)) →
     ((answer ≡ Err why) ↔ P) → (number ≡ refusal_number why) ↔ P
 told_exactly answer number status why P is refused exact = (
-  (λ e. exact.0 (refused.0 (same_status status (Refused why) (sym is ∙ e)))),
+  (λ e. exact.0 (told_only answer number status why is refused e)),
   (λ p. is ∙ ap status_number (refused.1 (exact.1 p))),
 )
 

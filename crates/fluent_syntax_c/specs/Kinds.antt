@@ -1,6 +1,13 @@
 -- The numbers of the kinds of errors.
 use Rattle.std.specs.Prelude.{ℕ}
-use Rattle.fluent_syntax_tree.specs.Kind.{Kind, ExpectedToken, ExpectedCharRange, ExpectedMessageField, ExpectedTermField, ForbiddenCallee, MissingDefaultVariant, MissingValue, MultipleDefaultVariants, MessageReferenceAsSelector, TermReferenceAsSelector, MessageAttributeAsSelector, TermAttributeAsPlaceable, UnterminatedStringLiteral, PositionalArgumentFollowsNamed, DuplicatedNamedArgument, UnknownEscapeSequence, InvalidUnicodeEscapeSequence, UnbalancedClosingBrace, ExpectedInlineExpression, ExpectedSimpleExpressionAsSelector, ExpectedLiteral}
+use Rattle.fluent_syntax_tree.specs.Kind.{Kind, ExpectedToken, ExpectedCharRange, ExpectedMessageField}
+use Rattle.fluent_syntax_tree.specs.Kind.{ExpectedTermField, ForbiddenCallee, MissingDefaultVariant, MissingValue}
+use Rattle.fluent_syntax_tree.specs.Kind.{MultipleDefaultVariants, MessageReferenceAsSelector, TermReferenceAsSelector}
+use Rattle.fluent_syntax_tree.specs.Kind.{MessageAttributeAsSelector, TermAttributeAsPlaceable}
+use Rattle.fluent_syntax_tree.specs.Kind.{UnterminatedStringLiteral, PositionalArgumentFollowsNamed}
+use Rattle.fluent_syntax_tree.specs.Kind.{DuplicatedNamedArgument, UnknownEscapeSequence, InvalidUnicodeEscapeSequence}
+use Rattle.fluent_syntax_tree.specs.Kind.{UnbalancedClosingBrace, ExpectedInlineExpression}
+use Rattle.fluent_syntax_tree.specs.Kind.{ExpectedSimpleExpressionAsSelector, ExpectedLiteral}
 
 abbrev pub kind_number : Kind → ℕ
 kind_number (ExpectedToken x) = 1

@@ -1,7 +1,7 @@
 //! Fluent Translation Lists for C, and for all that calls C: a static library.
 //!
-//! `include/fluent.h` declares what is exported here, and `docs/C.md` tells of it. An exported function takes a text and
-//! the caller's memory, and returns the number of a status; nothing of a call is kept.
+//! `include/fluent.h` declares what is exported here, and `docs/C.md` tells of it. An exported function takes a text
+//! and the caller's memory, and returns the number of a status; nothing of a call is kept.
 #![tactic(auto)]
 
 mod answers;

@@ -1,11 +1,13 @@
 //! The names of messages, terms and attributes as rows.
-ghost use Rattle.std.specs.Prelude.{◌≡◌, ◌↔◌, ◌+◌, ◌++◌, ◌<◌, ◌≤◌, ◌^◌, length, map, Err, IfErr, IfOk, OnOk, vec_len};
+ghost use Rattle.std.specs.Prelude.{◌≡◌, ◌↔◌, ◌⊎◌, ◌+◌, ◌++◌, ◌<◌, ◌≤◌, ◌^◌, length, map, Err, IfErr, IfOk, OnOk};
+ghost use Rattle.std.specs.Prelude.{vec_len};
 ghost use Rattle.std.specs.Str.{IsUtf8};
 ghost use Rattle.fluent_syntax_tree.specs.Every.{attribute_every, body_every, entry_every, list_every};
 ghost use Rattle.fluent_syntax_tree.specs.Spans.{IsPart};
 ghost use Rattle.fluent_syntax_tree.specs.View.{attribute_view, entry_view, resource_view};
 ghost use Rattle.fluent_syntax_c.specs.Arguments.{IsNoEdition};
-ghost use Rattle.fluent_syntax_c.specs.Names.{AreEditionNames, AreNames, body_rows, entry_rows, name_row, named_number, owner_rows};
+ghost use Rattle.fluent_syntax_c.specs.Names.{AreEditionNames, AreNames, body_rows, entry_rows, name_row, named_number};
+ghost use Rattle.fluent_syntax_c.specs.Names.{owner_rows};
 ghost use Rattle.fluent_syntax_c.specs.Output.{Leaves};
 ghost use Rattle.fluent_syntax_c.specs.Status.{EndsAs};
 
@@ -14,8 +16,8 @@ use crate::outputs::give;
 use crate::status::Refusal;
 use crate::texts::text_of;
 use fluent_syntax::ast::{Attribute, Entry, Resource};
-use fluent_syntax::parser::{Edition, ParseFault};
-use fluent_syntax::spans::{Lines, Span, parse_spans_edition};
+use fluent_syntax::parser::{Edition, ParseFault, TooDeep};
+use fluent_syntax::spans::{Lines, Span, parse_spans_within};
 use ftl::Outcome;
 use std::alloc::{AllocError, Global};
 
@@ -60,11 +62,13 @@ impl Named {
 ///
 /// Returns 0, or 1 where the input has syntax errors. Where it returns 5 there are more than `rows` has room for:
 /// `count` tells how many, and `rows` is as it was. Otherwise `count` is 0 and `rows` as it was: 2 where no edition has
-/// the number, 3 where the input is not UTF-8, 4 where a growth was refused.
+/// the number, 3 where the input is not UTF-8, 4 where a growth was refused, 6 where the input's placeables and
+/// argument lists nest more than `nesting` deep.
 #[unsafe(no_mangle)]
 pub extern "C" fn ftl_names(
     alloc: Global,
     edition: u32,
+    nesting: usize,
     input: &[u8],
     rows: &mut [FtlName],
     count: &mut usize,
@@ -72,39 +76,49 @@ pub extern "C" fn ftl_names(
     ensures leaves { EndsAs result (Leaves (AreEditionNames edition input.now) rows.old rows.new count.new) }
     ensures argument { (result ≡ 2) ↔ IsNoEdition edition }
     ensures input { ¬ (IsNoEdition edition) → ((result ≡ 3) ↔ ¬ (IsUtf8 input.now)) }
+    ensures deep { result ≡ 6 → nesting < length input.now }
 {
-    give(edition_names(alloc, edition, input), rows, count).number()
+    give(edition_names(alloc, edition, nesting, input), rows, count).number()
 }
 
 /// The names by the edition of the number.
 fn edition_names(
     alloc: Global,
     edition: u32,
+    nesting: usize,
     input: &[u8],
 ) -> Result<(Vec<FtlName>, Outcome), Refusal>
     ensures rows { IfOk result (λ found. AreEditionNames edition input.now found.0.items found.1) }
     ensures argument { (result ≡ Err Refusal.Argument) ↔ IsNoEdition edition }
     ensures input { ¬ (IsNoEdition edition) → ((result ≡ Err Refusal.Input) ↔ ¬ (IsUtf8 input.now)) }
+    ensures deep { result ≡ Err Refusal.Depth → nesting < length input.now }
 {
     let Some(edition) = edition_of(edition) else {
         return Err(Refusal::Argument);
     };
     let text = text_of(input)?;
-    names_of(alloc, text, edition)
+    names_of(alloc, text, edition, nesting)
 }
 
 /// The names of the text.
-fn names_of(alloc: Global, text: &str, edition: Edition) -> Result<(Vec<FtlName>, Outcome), Refusal>
+fn names_of(
+    alloc: Global,
+    text: &str,
+    edition: Edition,
+    nesting: usize,
+) -> Result<(Vec<FtlName>, Outcome), Refusal>
     requires short { length text.now + 1 < 2 ^ 64 }
     ensures rows { IfOk result (λ found. AreNames edition text.now found.0.items found.1) }
-    ensures err { IfErr result (λ refusal. refusal ≡ Refusal.Memory) }
+    ensures err { IfErr result (λ refusal. (refusal ≡ Refusal.Memory) ⊎ (refusal ≡ Refusal.Depth)) }
+    ensures deep { result ≡ Err Refusal.Depth → nesting < length text.now }
 {
-    match parse_spans_edition(alloc, text, edition) {
-        Ok(tree) => names_with(alloc, text, &tree, Outcome::Clean),
-        Err(ParseFault::Syntax(tree, _errors)) => {
+    match parse_spans_within(alloc, text, edition, nesting) {
+        Ok(Ok(tree)) => names_with(alloc, text, &tree, Outcome::Clean),
+        Ok(Err(ParseFault::Syntax(tree, _errors))) => {
             names_with(alloc, text, &tree, Outcome::SyntaxErrors)
         }
-        Err(ParseFault::Memory) => Err(Refusal::Memory),
+        Ok(Err(ParseFault::Memory)) => Err(Refusal::Memory),
+        Err(TooDeep) => Err(Refusal::Depth),
     }
 }
 
@@ -178,7 +192,8 @@ fn add_owner<'t>(
     attributes: &Vec<Attribute<Span>>,
 ) -> Result<(), AllocError>
     requires name { name.start ≤ length places.old }
-    requires attributes { list_every (attribute_every (IsPart places.old)) (map (attribute_view (λ s. s)) attributes.now.items) }
+    requires attributes { list_every (attribute_every (IsPart places.old))
+        (map (attribute_view (λ s. s)) attributes.now.items) }
     ensures rows { OnOk result (rows.new.items ≡ rows.old.items ++
         owner_rows places.old named (vec_len rows.old) name (map (attribute_view (λ s. s)) attributes.now.items)) }
     ensures text { places.new ≡ places.old }

@@ -24,6 +24,8 @@ pub enum Refusal {
     Input,
     /// A growth was refused.
     Memory,
+    /// The input nests more deeply than was allowed.
+    Depth,
 }
 
 impl Status {
@@ -48,6 +50,7 @@ impl Refusal {
             Refusal::Argument => 2,
             Refusal::Input => 3,
             Refusal::Memory => 4,
+            Refusal::Depth => 6,
         }
     }
 }

@@ -1,5 +1,6 @@
 //! The text that a command writes.
-ghost use Rattle.std.specs.Prelude.{◌≡◌, ◌≢◌, ◌↔◌, ◌+◌, ◌++◌, ◌^◌, ◌<◌, ◌≤◌, ℕ, List, length, string_bytes, codes, All, Err, IfErr, IfOk, OnOk, false};
+ghost use Rattle.std.specs.Prelude.{◌≡◌, ◌≢◌, ◌↔◌, ◌+◌, ◌++◌, ◌^◌, ◌<◌, ◌≤◌, ℕ, List, length, string_bytes, codes, All};
+ghost use Rattle.std.specs.Prelude.{Err, Ok, IfErr, IfOk, OnErr, OnOk, false};
 ghost use Rattle.std.specs.List.{flat_map};
 ghost use Rattle.std.specs.Str.{IsUtf8};
 ghost use Rattle.fluent_syntax_tree.specs.Entry.{body_map};
@@ -9,18 +10,19 @@ ghost use Rattle.fluent_syntax_grammar.specs.Tiling.{Tile, Tiling};
 ghost use Rattle.fluent_syntax_grammar.specs.Written.{written};
 ghost use Rattle.fluent_syntax_json.specs.Form.{body_form};
 ghost use Rattle.serde_json.specs.Written.{compact_text};
-ghost use Rattle.fluent_syntax_parser.specs.Answers.{Answers};
-ghost use Rattle.ftl.specs.Answer.{IsAnswer, error_line, error_lines, error_text, range_text, json_text, normal_text, outcome_of, told};
+ghost use Rattle.fluent_syntax_parser.specs.Answers.{Answers, ErrorsInText};
+ghost use Rattle.ftl.specs.Answer.{IsAnswer, error_line, error_lines, error_text, range_text, json_text, normal_text};
+ghost use Rattle.ftl.specs.Answer.{outcome_of, told};
 
 use crate::command::Command;
 use crate::outcome::{Outcome, RunFault};
 use fluent_syntax::ast::Resource;
 use fluent_syntax::parser;
 use fluent_syntax::parser::{
-    Edition, ParseFault, ParserError, parse_edition, parse_runtime_edition,
+    Edition, ParseFault, ParserError, TooDeep, parse_runtime_within, parse_within,
 };
 use fluent_syntax::serializer::serialize;
-use fluent_syntax::spans::{Lines, Span, parse_spans_edition};
+use fluent_syntax::spans::{Lines, Span, parse_spans_within};
 use fluent_syntax::unicode::SinkError;
 use fluent_syntax_json::write_to;
 use std::alloc::{AllocError, Global};
@@ -35,30 +37,69 @@ pub fn answer(alloc: Global, command: Command, input: &[u8]) -> Result<(String, 
     ensures input { (result ≡ Err RunFault.Input) ↔ ¬ (IsUtf8 input.now) }
     ensures output { result ≢ Err RunFault.Output }
 {
-    let Ok(text) = str::from_utf8(input) else {
-        return Err(RunFault::Input);
-    };
-    if text.len() == usize::MAX {
-        return Err(RunFault::Memory);
-    }
-    match command {
-        Command::Check => check(alloc, text, Edition::One),
-        Command::CheckTwo => check(alloc, text, Edition::Two),
-        Command::Format => format(alloc, parse_edition(alloc, text, Edition::One)),
-        Command::FormatTwo => format(alloc, parse_edition(alloc, text, Edition::Two)),
-        Command::Runtime => format(alloc, parse_runtime_edition(alloc, text, Edition::One)),
-        Command::Json => json(alloc, parse_edition(alloc, text, Edition::One)),
+    match answer_within(alloc, command, input, usize::MAX) {
+        Ok(answer) => answer,
+        // no text is longer than the greatest usize
+        Err(TooDeep) => Err(RunFault::Memory),
     }
 }
 
-/// A line for each error.
-fn check(alloc: Global, text: &str, edition: Edition) -> Result<(String, Outcome), RunFault>
-    requires { length text.now + 1 < 2 ^ 64 }
-    ensures text { IfOk result (λ answer. (tiles : List Tile) × Tiling edition text.now tiles
-        × (string_bytes answer.0 ≡ error_lines text.now tiles) × (answer.1 ≡ outcome_of tiles)) }
+/// What `answer` gives, if the placeables and argument lists of the input nest at most `nesting` deep.
+///
+/// `TooDeep` where they nest deeper. The stack that reading takes is bounded by `nesting`.
+pub fn answer_within(
+    alloc: Global,
+    command: Command,
+    input: &[u8],
+    nesting: usize,
+) -> Result<Result<(String, Outcome), RunFault>, TooDeep>
+    ensures text { IfOk result (λ answer. IfOk answer (λ given.
+        IsAnswer command input.now (string_bytes given.0) given.1)) }
+    ensures input { (result ≡ Ok (Err RunFault.Input)) ↔ ¬ (IsUtf8 input.now) }
+    ensures output { result ≢ Ok (Err RunFault.Output) }
+    ensures deep { OnErr result (nesting < length input.now) }
+{
+    let Ok(text) = str::from_utf8(input) else {
+        return Ok(Err(RunFault::Input));
+    };
+    if text.len() == usize::MAX {
+        return Ok(Err(RunFault::Memory));
+    }
+    let answer = match command {
+        Command::Check => check(
+            alloc,
+            text,
+            parse_spans_within(alloc, text, Edition::One, nesting)?,
+        ),
+        Command::CheckTwo => check(
+            alloc,
+            text,
+            parse_spans_within(alloc, text, Edition::Two, nesting)?,
+        ),
+        Command::Format => format(alloc, parse_within(alloc, text, Edition::One, nesting)?),
+        Command::FormatTwo => format(alloc, parse_within(alloc, text, Edition::Two, nesting)?),
+        Command::Runtime => format(
+            alloc,
+            parse_runtime_within(alloc, text, Edition::One, nesting)?,
+        ),
+        Command::Json => json(alloc, parse_within(alloc, text, Edition::One, nesting)?),
+    };
+    Ok(answer)
+}
+
+/// A line for each error of the text.
+fn check(
+    alloc: Global,
+    text: &str,
+    parsed: parser::Result<Span>,
+) -> Result<(String, Outcome), RunFault>
+    requires short { length text.now + 1 < 2 ^ 64 }
+    requires places { ErrorsInText text.now parsed }
+    ensures text { IfOk result (λ answer. (tiles : List Tile) → Answers (λ s. s) (λ b. b) tiles parsed
+        → (string_bytes answer.0 ≡ error_lines text.now tiles) × (answer.1 ≡ outcome_of tiles)) }
     ensures err { IfErr result (λ fault. fault ≡ RunFault.Memory) }
 {
-    match parse_spans_edition(alloc, text, edition) {
+    match parsed {
         Ok(_) => Ok((String::new(alloc), Outcome::Clean)),
         Err(ParseFault::Syntax(_, errors)) => match lines(alloc, text, &errors) {
             Ok(lines) => Ok((lines, Outcome::SyntaxErrors)),

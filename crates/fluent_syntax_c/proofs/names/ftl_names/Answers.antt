@@ -1,6 +1,6 @@
 use Rattle.fluent_syntax_c.specs.Names.{AreEditionNames}
-use Rattle.fluent_syntax_c.specs.declared.status.Refusal.TheVariants.{Argument, Input}
-use Rattle.fluent_syntax_c.proofs.Statuses.{leaves_answered, told_exactly}
+use Rattle.fluent_syntax_c.specs.declared.status.Refusal.TheVariants.{Argument, Input, Depth}
+use Rattle.fluent_syntax_c.proofs.Statuses.{leaves_answered, told_exactly, told_only}
 use Rattle.fluent_syntax_c.proofs.names.ftl_names.Goals as goal
 
 pub returns-clause-leaves : goal.returns-clause-leaves
@@ -21,3 +21,9 @@ pub returns-clause-input : goal.returns-clause-input
 returns-clause-input c = λ known.
     told_exactly c.edition_names.result c.number.result c.give.result Input _ c.number.ensures
     (c.give.ensures.refused Input) (c.edition_names.ensures.input known)
+
+pub returns-clause-deep : goal.returns-clause-deep
+returns-clause-deep c = λ told.
+    c.edition_names.ensures.deep
+    (told_only c.edition_names.result c.number.result c.give.result Depth c.number.ensures
+    (c.give.ensures.refused Depth) told)

@@ -14,7 +14,8 @@ add_entry-requires c =
     every_item (entry_every (IsPart t)) (entry_view (λ s. s)) c.args.tree.now.body.items
     c.deref-entry-items.result.now c.loop-entry.entry-index c.entry-item.result c.requires.parts
     c.deref-entry-items.ensures.value c.loop-entry-test.true c.entry-item.is in
-    subst (λ u. entry_every (IsPart u) (entry_view (λ s. s) c.entry-item.result)) (sym c.loop-entry.invariant.text) parts
+    subst (λ u. entry_every (IsPart u) (entry_view (λ s. s) c.entry-item.result)) (sym c.loop-entry.invariant.text)
+    parts
 
 pub loop-entry-preserved : goal.loop-entry-preserved
 loop-entry-preserved c = record {
