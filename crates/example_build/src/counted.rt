@@ -1,5 +1,5 @@
 //! A sink.
-ghost use Rattle.std.specs.Prelude.{string_bytes};
+ghost use Rattle.std.specs.Prelude.{◌≡◌, [], string_bytes};
 
 use fluent_syntax::unicode::{SinkError, TextSink};
 use std::alloc::Global;
@@ -13,7 +13,10 @@ pub struct Counted {
 
 impl Counted {
     /// Of nothing yet.
-    pub fn new(alloc: Global) -> Counted {
+    pub(crate) fn new(alloc: Global) -> Counted
+        ensures text { string_bytes result.text ≡ [] }
+        ensures lines { result.lines ≡ 0 }
+    {
         Counted {
             text: String::new(alloc),
             lines: 0,

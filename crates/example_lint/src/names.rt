@@ -1,5 +1,10 @@
 //! What entries are called.
 
+ghost use Rattle.std.specs.Prelude.{◌≡◌, ℕ, List, Some};
+ghost use Rattle.std.specs.Borrow.{Bor};
+ghost use Rattle.fluent_syntax_tree.specs.declared.ast.Message.{Message};
+ghost use Rattle.fluent_syntax_tree.specs.declared.ast.Term.{Term};
+
 use fluent_syntax::ast::{Entry, Resource};
 use std::alloc::{AllocError, Global};
 use std::fmt;
@@ -13,7 +18,11 @@ pub enum Name<'s> {
 
 impl<'s> Name<'s> {
     /// The name of the entry; None of comments and junk.
-    pub fn of(entry: &Entry<&'s str>) -> Option<Name<'s>> {
+    pub(crate) fn of(entry: &Entry<&'s str>) -> Option<Name<'s>>
+        ensures message { (message : Message (Bor (List ℕ))) → entry.now ≡ Entry.Message message
+            → result ≡ Some (Name.Message message.id.name) }
+        ensures term { (term : Term (Bor (List ℕ))) → entry.now ≡ Entry.Term term → result ≡ Some (Name.Term term.id.name) }
+    {
         match entry {
             Entry::Message(message) => Some(Name::Message(message.id.name)),
             Entry::Term(term) => Some(Name::Term(term.id.name)),
@@ -32,7 +41,10 @@ impl<'s> fmt::Display for Name<'s> {
 }
 
 /// The names of all messages and terms of a file.
-pub fn defined<'s>(alloc: Global, tree: &Resource<&'s str>) -> Result<Vec<Name<'s>>, AllocError> {
+pub(crate) fn defined<'s>(
+    alloc: Global,
+    tree: &Resource<&'s str>,
+) -> Result<Vec<Name<'s>>, AllocError> {
     let mut names = Vec::new(alloc);
     for entry in &tree.body {
         if let Some(name) = Name::of(entry) {

@@ -7,7 +7,10 @@ use fluent_syntax::ast::{
 use std::alloc::{AllocError, Global};
 
 /// The messages and terms that the entry refers to, in the order of the file, as often as it does.
-pub fn references<'s>(alloc: Global, entry: &Entry<&'s str>) -> Result<Vec<Name<'s>>, AllocError> {
+pub(crate) fn references<'s>(
+    alloc: Global,
+    entry: &Entry<&'s str>,
+) -> Result<Vec<Name<'s>>, AllocError> {
     let mut names = Vec::new(alloc);
     match entry {
         Entry::Message(message) => {

@@ -9,7 +9,7 @@ use std::time::{Clock, Duration};
 /// How long the call of this name takes on the text: `parse`, `runtime` (both over `&str`), `parse_string` and
 /// `runtime_string` (over `String`), `spans`, `runtime_spans`, `resolve`, `clone`, `drop`, `serialize`,
 /// `serialize_room` (onto a sink with room), `unescape`, `to_value`, `from_value`. None for another name.
-pub fn time_of<R: Clock + AllocGlobal>(
+pub(crate) fn time_of<R: Clock + AllocGlobal>(
     rt: &R,
     call: &str,
     text: &str,

@@ -2,25 +2,27 @@
 
 ghost use Rattle.std.specs.Prelude.{◌+◌, ◌^◌, ◌<◌, length};
 
-use crate::parsing::tree_of;
 use crate::timing::timed;
 use fluent_syntax::serializer::{self, Options};
 use fluent_syntax::{parser, unicode};
 use std::io;
 use std::time::{Clock, Duration};
 
-pub fn serialized<R: Clock + AllocGlobal>(rt: &R, text: &str) -> io::Result<Duration>
+pub(crate) fn serialized<R: Clock + AllocGlobal>(rt: &R, text: &str) -> io::Result<Duration>
     requires { length text.now + 1 < 2 ^ 64 }
 {
-    let tree = tree_of(parser::parse(rt.alloc(), text))?;
+    let (tree, _errors) = parser::recovered(rt.alloc(), parser::parse(rt.alloc(), text))?;
     timed(rt, || serializer::serialize(rt.alloc(), &tree))
 }
 
 /// Onto a text that has the room for twice the source.
-pub fn serialized_into_room<R: Clock + AllocGlobal>(rt: &R, text: &str) -> io::Result<Duration>
+pub(crate) fn serialized_into_room<R: Clock + AllocGlobal>(
+    rt: &R,
+    text: &str,
+) -> io::Result<Duration>
     requires { length text.now + 1 < 2 ^ 64 }
 {
-    let tree = tree_of(parser::parse(rt.alloc(), text))?;
+    let (tree, _errors) = parser::recovered(rt.alloc(), parser::parse(rt.alloc(), text))?;
     let mut written = String::with_capacity(rt.alloc(), text.len().saturating_mul(2))?;
     timed(rt, || {
         serializer::serialize_to(&mut written, &tree, Options::default())
@@ -28,6 +30,6 @@ pub fn serialized_into_room<R: Clock + AllocGlobal>(rt: &R, text: &str) -> io::R
 }
 
 /// The escapes of the whole text.
-pub fn unescaped<R: Clock + AllocGlobal>(rt: &R, text: &str) -> io::Result<Duration> {
+pub(crate) fn unescaped<R: Clock + AllocGlobal>(rt: &R, text: &str) -> io::Result<Duration> {
     timed(rt, || unicode::unescape_unicode_to_string(rt.alloc(), text))
 }

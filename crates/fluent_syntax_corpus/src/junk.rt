@@ -25,7 +25,11 @@ impl Part for Span {
 
 /// Whether there is one error for each junk, in order: the junk stands at the error's slice, the
 /// slices are not empty and don't overlap, and each error's place lies in its slice or at its end.
-pub fn junk_matches<S: Part>(text: &str, tree: &Resource<S>, errors: &Vec<ParserError>) -> bool {
+pub(crate) fn junk_matches<S: Part>(
+    text: &str,
+    tree: &Resource<S>,
+    errors: &Vec<ParserError>,
+) -> bool {
     let mut left = errors.iter();
     let mut end = 0;
     for entry in &tree.body {

@@ -1,5 +1,6 @@
 -- The tiling of a text and its tiling without comments, tile beside tile.
-use Rattle.std.proofs.Common.{◌≡◌, ℕ, ◌+◌, ◌<◌, ◌≤◌, List, [], ◌∷◌, ◌++◌, length, Option, Some, None, Bool, true, false, refl, sym, ◌∙◌, subst, arith, inl, inr}
+use Rattle.std.proofs.Common.{◌≡◌, ℕ, ◌+◌, ◌<◌, ◌≤◌, List, [], ◌∷◌, ◌++◌, length, Option, Some, None, Bool, true, false}
+use Rattle.std.proofs.Common.{refl, sym, ◌∙◌, subst, arith, inl, inr}
 use Rattle.std.specs.Prelude.{slice_get, ◌==◌, ◌⊎◌}
 use Rattle.std.proofs.lemmas.Bool.{false≢true}
 use Rattle.std.proofs.lemmas.Bool.Decides.{nat_tests}
@@ -8,11 +9,16 @@ use Rattle.fluent_syntax_tree.specs.Kind.{Kind}
 use Rattle.fluent_syntax_tree.specs.Entry.{EntryTree, comment, Level}
 use Rattle.fluent_syntax_grammar.specs.Bytes.{is_letter}
 use Rattle.fluent_syntax_grammar.specs.Places.{has, has_byte, starts_line, BlankBlock, no_line, line}
-use Rattle.fluent_syntax_grammar.specs.Construct.{Outcome, Read, Refused, stops, goes_on, given, at_place, chosen, first, second}
+use Rattle.fluent_syntax_grammar.specs.Construct.{Outcome, Read, Refused, stops, goes_on, given, at_place, chosen}
+use Rattle.fluent_syntax_grammar.specs.Construct.{first, second}
 use Rattle.fluent_syntax_grammar.specs.Words.{identifier}
 use Rattle.fluent_syntax_grammar.specs.Entries.{message_entry}
-use Rattle.fluent_syntax_grammar.specs.Comments.{hashes, comment_lines, other_level, no_comment_line, one_more, comment_entry, level_of}
-use Rattle.fluent_syntax_grammar.specs.Tiling.{Fault, Tile, entry, refused, dropped, failing_place, is_entry_byte, starts_entry, JunkEnd, whole_line, Tiled, done, next, entry_of, entry_at, TileAt, reads, refuses, RuntimeTileAt, drops, stands, Tiling, RuntimeTiling}
+use Rattle.fluent_syntax_grammar.specs.Comments.{hashes, comment_lines, other_level, no_comment_line, one_more}
+use Rattle.fluent_syntax_grammar.specs.Comments.{comment_entry, level_of}
+use Rattle.fluent_syntax_grammar.specs.Tiling.{Fault, Tile, entry, refused, dropped, failing_place, is_entry_byte}
+use Rattle.fluent_syntax_grammar.specs.Tiling.{starts_entry, JunkEnd, whole_line, Tiled, done, next, entry_of, entry_at}
+use Rattle.fluent_syntax_grammar.specs.Tiling.{TileAt, reads, refuses, RuntimeTileAt, drops, stands, Tiling}
+use Rattle.fluent_syntax_grammar.specs.Tiling.{RuntimeTiling}
 use Rattle.fluent_syntax_tree.specs.declared.edition.Edition.{Edition}
 use Rattle.fluent_syntax_tree.specs.declared.spans.Span.{Span}
 use Rattle.fluent_syntax_grammar.proofs.Functional.{single_block}
@@ -21,10 +27,13 @@ use Rattle.fluent_syntax_grammar.proofs.OneTiling.{one_tile, junk_same, function
 use Rattle.fluent_syntax_grammar.proofs.Cuts.{block_forward}
 use Rattle.fluent_syntax_grammar.proofs.Sound.{IsPlain}
 use Rattle.fluent_syntax_grammar.proofs.SoundEntries.{plain_place}
-use Rattle.fluent_syntax_grammar.proofs.LineEnds.{IsLineStart, hash_entry, split_at, block_no_entry, block_at_entry, block_at_end, block_start}
-use Rattle.fluent_syntax_grammar.proofs.WholeLines.{IsLine, line_of, line_to, line_start, line_in_text, no_start, hash_bytes, comment_whole, hashes_onward}
+use Rattle.fluent_syntax_grammar.proofs.LineEnds.{IsLineStart, hash_entry, split_at, block_no_entry, block_at_entry}
+use Rattle.fluent_syntax_grammar.proofs.LineEnds.{block_at_end, block_start}
+use Rattle.fluent_syntax_grammar.proofs.WholeLines.{IsLine, line_of, line_to, line_start, line_in_text, no_start}
+use Rattle.fluent_syntax_grammar.proofs.WholeLines.{hash_bytes, comment_whole, hashes_onward}
 use Rattle.fluent_syntax_grammar.proofs.CommentFaults.{IsAt, comment_fault, name_fault, some_hash}
-use Rattle.fluent_syntax_grammar.proofs.Facts.{byte_found, byte_stands, differs, implies, left_true, lt_or_same, right_false, right_true}
+use Rattle.fluent_syntax_grammar.proofs.Facts.{byte_found, byte_stands, differs, implies, left_true, lt_or_same}
+use Rattle.fluent_syntax_grammar.proofs.Facts.{right_false, right_true}
 
 -- Tiles of the one and of the other that are the same; comments of the one and dropped lines of the other; and junk
 -- that a malformed comment makes in the one, which in the other is a dropped line and perhaps junk.

@@ -8,7 +8,8 @@ use Rattle.fluent_syntax_tree.specs.Every.{list_every}
 use Rattle.fluent_syntax_grammar.specs.Places.{holds, has_byte}
 use Rattle.fluent_syntax_grammar.specs.Construct.{Read, Construct, chosen, first, second}
 use Rattle.fluent_syntax_grammar.specs.Entries.{message_with, term_with, message_entry, term_entry}
-use Rattle.fluent_syntax_grammar.specs.Tiling.{Tile, Tiled, done, next, entry_of, TileAt, reads, refuses, RuntimeTileAt, drops, stands}
+use Rattle.fluent_syntax_grammar.specs.Tiling.{Tile, Tiled, done, next, entry_of, TileAt, reads, refuses, RuntimeTileAt}
+use Rattle.fluent_syntax_grammar.specs.Tiling.{drops, stands}
 use Rattle.fluent_syntax_tree.specs.declared.edition.Edition.{Edition}
 use Rattle.fluent_syntax_tree.specs.declared.spans.Span.{Span}
 use Rattle.fluent_syntax_grammar.proofs.Holds.{Holds, holds_bind, holds_gives, holds_fails_from}

@@ -5,8 +5,10 @@ use Rattle.fluent_syntax_tree.specs.Kind.{Kind}
 use Rattle.fluent_syntax_grammar.specs.Places.{has_byte, after_eol}
 use Rattle.fluent_syntax_grammar.specs.Construct.{Refused, chosen}
 use Rattle.fluent_syntax_grammar.specs.Words.{identifier, spanned, token, past_eol, optional_eol, rest_of_line}
-use Rattle.fluent_syntax_grammar.specs.Comments.{hashes, comment_text, comment_rest, comment_lines, comment_of, comment_entry}
-use Rattle.fluent_syntax_grammar.proofs.Holds.{Holds, holds_weaker, holds_bind, holds_gives, holds_here, holds_fails, holds_over, holds_at_each, holds_either}
+use Rattle.fluent_syntax_grammar.specs.Comments.{hashes, comment_text, comment_rest, comment_lines, comment_of}
+use Rattle.fluent_syntax_grammar.specs.Comments.{comment_entry}
+use Rattle.fluent_syntax_grammar.proofs.Holds.{Holds, holds_weaker, holds_bind, holds_gives, holds_here, holds_fails}
+use Rattle.fluent_syntax_grammar.proofs.Holds.{holds_over, holds_at_each, holds_either}
 use Rattle.fluent_syntax_grammar.proofs.Sound.{IsPlain}
 
 -- refused at the place, for a kind that no message and no term lacks its field by

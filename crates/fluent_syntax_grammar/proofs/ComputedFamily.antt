@@ -2,25 +2,37 @@
 use Rattle.std.proofs.Common.{◌≡◌, ℕ, zero, suc, List, [], ◌∷◌, Option, Some, None, Bool, true, false, refl, subst}
 use Rattle.std.specs.Prelude.{slice_get, nat_lt, ◌||◌}
 use Rattle.fluent_syntax_tree.specs.Kind.{Kind}
-use Rattle.fluent_syntax_tree.specs.Tree.{InlineTree, KeyTree, PatternTree, MaybeArguments, no_arguments, some_arguments}
+use Rattle.fluent_syntax_tree.specs.Tree.{InlineTree, KeyTree, PatternTree, MaybeArguments, no_arguments}
+use Rattle.fluent_syntax_tree.specs.Tree.{some_arguments}
 use Rattle.fluent_syntax_grammar.specs.Bytes.{is_space}
 use Rattle.fluent_syntax_grammar.specs.Places.{has}
 use Rattle.fluent_syntax_grammar.specs.Construct.{Outcome, Read}
 use Rattle.fluent_syntax_grammar.specs.Family.{Family}
 use Rattle.fluent_syntax_grammar.specs.Grammar.{family}
 use Rattle.fluent_syntax_grammar.specs.Starts.{Start, quote, digit, term, minus, dollar, letter, brace, other}
-use Rattle.fluent_syntax_grammar.specs.Arguments.{accessor, separator, call_arguments, argument_value, named_and_more, positional_and_more, argument_name, argument_and_more, more_arguments_at, more_arguments}
-use Rattle.fluent_syntax_grammar.specs.Placeables.{arrow_line_end, selector_fault, variants_of_select, select_with, expression, placeable}
+use Rattle.fluent_syntax_grammar.specs.Arguments.{accessor, separator, call_arguments, argument_value, named_and_more}
+use Rattle.fluent_syntax_grammar.specs.Arguments.{positional_and_more, argument_name, argument_and_more}
+use Rattle.fluent_syntax_grammar.specs.Arguments.{more_arguments_at, more_arguments}
+use Rattle.fluent_syntax_grammar.specs.Placeables.{arrow_line_end, selector_fault, variants_of_select, select_with}
+use Rattle.fluent_syntax_grammar.specs.Placeables.{expression, placeable}
 use Rattle.fluent_syntax_grammar.specs.Inline.{named_reference, inline_of, inline_expression}
 use Rattle.fluent_syntax_grammar.specs.Layout.{Line}
-use Rattle.fluent_syntax_grammar.specs.Lines.{belongs, ending_of, ending, pieces_at, more_pieces, line_and_more, more_lines, no_byte, other_line, own_line}
+use Rattle.fluent_syntax_grammar.specs.Lines.{belongs, ending_of, ending, pieces_at, more_pieces, line_and_more}
+use Rattle.fluent_syntax_grammar.specs.Lines.{more_lines, no_byte, other_line, own_line}
 use Rattle.fluent_syntax_grammar.specs.Patterns.{layout_at, layout, pattern}
-use Rattle.fluent_syntax_grammar.specs.Variants.{variant_key, only_star, variants_end, variant_and_more, variant_after, more_variants}
+use Rattle.fluent_syntax_grammar.specs.Variants.{variant_key, only_star, variants_end, variant_and_more, variant_after}
+use Rattle.fluent_syntax_grammar.specs.Variants.{more_variants}
 use Rattle.fluent_syntax_tree.specs.declared.edition.Edition.{Edition}
 use Rattle.fluent_syntax_tree.specs.declared.spans.Span.{Span}
-use Rattle.fluent_syntax_grammar.proofs.Computed.{Computed, choose, computed_bind, computed_gives, computed_here, computed_fails, computed_over, computed_at_each, computed_either, computed_steps, computed_reaches, computed_stretch, find, found_stretch, none_some}
-use Rattle.fluent_syntax_grammar.proofs.ComputedRules.{computed_optional, computed_token, computed_inline_blank, computed_blank, computed_blank_block, computed_identifier, computed_number, computed_string}
-use Rattle.fluent_syntax_grammar.proofs.Nesting.{into_inline_expression, into_more_arguments, into_more_variants, into_more_pieces, into_more_lines}
+use Rattle.fluent_syntax_grammar.proofs.Computed.{Computed, choose, computed_bind, computed_gives, computed_here}
+use Rattle.fluent_syntax_grammar.proofs.Computed.{computed_fails, computed_over, computed_at_each, computed_either}
+use Rattle.fluent_syntax_grammar.proofs.Computed.{computed_steps, computed_reaches, computed_stretch, find}
+use Rattle.fluent_syntax_grammar.proofs.Computed.{found_stretch, none_some}
+use Rattle.fluent_syntax_grammar.proofs.ComputedRules.{computed_optional, computed_token, computed_inline_blank}
+use Rattle.fluent_syntax_grammar.proofs.ComputedRules.{computed_blank, computed_blank_block, computed_identifier}
+use Rattle.fluent_syntax_grammar.proofs.ComputedRules.{computed_number, computed_string}
+use Rattle.fluent_syntax_grammar.proofs.Nesting.{into_inline_expression, into_more_arguments, into_more_variants}
+use Rattle.fluent_syntax_grammar.proofs.Nesting.{into_more_pieces, into_more_lines}
 
 pub record ComputedFamily (R : Family) : Type 0 where
   pub inline_expression : Computed R.inline_expression

@@ -1,5 +1,6 @@
 -- The grammar computes: within so much fuel, the outcome of each construct at a place.
-use Rattle.std.proofs.Common.{◌≡◌, ℕ, zero, suc, ◌+◌, ◌<◌, ◌≤◌, List, Option, Some, None, Bool, true, false, refl, subst, arith, inl, inr}
+use Rattle.std.proofs.Common.{◌≡◌, ℕ, zero, suc, ◌+◌, ◌<◌, ◌≤◌, List, Option, Some, None, Bool, true, false, refl}
+use Rattle.std.proofs.Common.{subst, arith, inl, inr}
 use Rattle.std.specs.Prelude.{slice_get, slice_range, ◌==◌}
 use Rattle.std.proofs.lemmas.Bool.Decides.{nat_tests}
 use Rattle.std.specs.Char.{is_ascii_hexdigit}
@@ -7,9 +8,15 @@ use Rattle.fluent_syntax_tree.specs.Kind.{InvalidUnicodeEscapeSequence}
 use Rattle.fluent_syntax_grammar.specs.Bytes.{is_space}
 use Rattle.fluent_syntax_grammar.specs.Places.{has, has_byte, after_eol, BlankBlock, no_line, line}
 use Rattle.fluent_syntax_grammar.specs.Construct.{Outcome, Read, Refused}
-use Rattle.fluent_syntax_grammar.specs.Words.{spanned, optional, token, inline_blank, blank, blank_block, past_eol, optional_eol, rest_of_line, digits, identifier, number}
-use Rattle.fluent_syntax_grammar.specs.Strings.{HexDigits, hex_digits, all_there, too_few, after_character, escaped, string_unit, string_units, before_quote, unit_and_more, bad_unit, string_literal}
-use Rattle.fluent_syntax_grammar.proofs.Computed.{Computed, ComputedWord, choose, computed_bind, computed_gives, computed_here, computed_fails, computed_over, computed_at_each, computed_either, computed_steps, computed_reaches, computed_stretch, find, found_stretch}
+use Rattle.fluent_syntax_grammar.specs.Words.{spanned, optional, token, inline_blank, blank, blank_block, past_eol}
+use Rattle.fluent_syntax_grammar.specs.Words.{optional_eol, rest_of_line, digits, identifier, number}
+use Rattle.fluent_syntax_grammar.specs.Strings.{HexDigits, hex_digits, all_there, too_few, after_character, escaped}
+use Rattle.fluent_syntax_grammar.specs.Strings.{string_unit, string_units, before_quote, unit_and_more, bad_unit}
+use Rattle.fluent_syntax_grammar.specs.Strings.{string_literal}
+use Rattle.fluent_syntax_grammar.proofs.Computed.{Computed, ComputedWord, choose, computed_bind, computed_gives}
+use Rattle.fluent_syntax_grammar.proofs.Computed.{computed_here, computed_fails, computed_over, computed_at_each}
+use Rattle.fluent_syntax_grammar.proofs.Computed.{computed_either, computed_steps, computed_reaches, computed_stretch}
+use Rattle.fluent_syntax_grammar.proofs.Computed.{find, found_stretch}
 use Rattle.fluent_syntax_grammar.proofs.Facts.{equal, here_or_on}
 
 abbrev pub computed_spanned : {start : ℕ} → Computed (spanned start)

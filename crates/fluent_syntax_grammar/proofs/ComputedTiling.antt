@@ -1,5 +1,6 @@
 -- Entries and tilings compute.
-use Rattle.std.proofs.Common.{◌≡◌, ℕ, zero, suc, ◌+◌, ◌<◌, List, [], ◌∷◌, ◌++◌, length, Option, Some, None, Bool, true, false, refl, subst, arith, inl, inr}
+use Rattle.std.proofs.Common.{◌≡◌, ℕ, zero, suc, ◌+◌, ◌<◌, List, [], ◌∷◌, ◌++◌, length, Option, Some, None, Bool, true}
+use Rattle.std.proofs.Common.{false, refl, subst, arith, inl, inr}
 use Rattle.std.specs.Prelude.{slice_get, ◌==◌, nat_lt}
 use Rattle.std.proofs.lemmas.Option.{slice_get_within}
 use Rattle.fluent_syntax_tree.specs.Kind.{Kind}
@@ -8,14 +9,23 @@ use Rattle.fluent_syntax_tree.specs.Entry.{AttributeTree, EntryTree}
 use Rattle.fluent_syntax_grammar.specs.Places.{has, has_byte, starts_line, BlankBlock}
 use Rattle.fluent_syntax_grammar.specs.Construct.{Outcome, Read, Refused}
 use Rattle.fluent_syntax_grammar.specs.Grammar.{pattern, family}
-use Rattle.fluent_syntax_grammar.specs.Entries.{attribute_with, message_with, term_with, attribute, attributes, no_more, one_more, message_entry, term_entry}
+use Rattle.fluent_syntax_grammar.specs.Entries.{attribute_with, message_with, term_with, attribute, attributes, no_more}
+use Rattle.fluent_syntax_grammar.specs.Entries.{one_more, message_entry, term_entry}
 use Rattle.fluent_syntax_grammar.specs.Comments as comments
-use Rattle.fluent_syntax_grammar.specs.Comments.{hashes, comment_text, comment_rest, comment_line, comment_lines, other_level, no_comment_line, comment_of, comment_entry}
-use Rattle.fluent_syntax_grammar.specs.Tiling.{Tile, entry, refused, dropped, failing_place, is_entry_byte, starts_entry, JunkEnd, whole_line, Tiled, done, next, entry_of, entry_at, TileAt, reads, refuses, RuntimeTileAt, drops, stands, Tiling, RuntimeTiling}
+use Rattle.fluent_syntax_grammar.specs.Comments.{hashes, comment_text, comment_rest, comment_line, comment_lines}
+use Rattle.fluent_syntax_grammar.specs.Comments.{other_level, no_comment_line, comment_of, comment_entry}
+use Rattle.fluent_syntax_grammar.specs.Tiling.{Tile, entry, refused, dropped, failing_place, is_entry_byte}
+use Rattle.fluent_syntax_grammar.specs.Tiling.{starts_entry, JunkEnd, whole_line, Tiled, done, next, entry_of, entry_at}
+use Rattle.fluent_syntax_grammar.specs.Tiling.{TileAt, reads, refuses, RuntimeTileAt, drops, stands, Tiling}
+use Rattle.fluent_syntax_grammar.specs.Tiling.{RuntimeTiling}
 use Rattle.fluent_syntax_tree.specs.declared.edition.Edition.{Edition}
 use Rattle.fluent_syntax_tree.specs.declared.spans.Span.{Span}
-use Rattle.fluent_syntax_grammar.proofs.Computed.{Computed, choose, computed_bind, computed_gives, computed_here, computed_fails, computed_fails_from, computed_over, computed_at_each, computed_either, computed_steps, none_some}
-use Rattle.fluent_syntax_grammar.proofs.ComputedRules.{computed_spanned, computed_token, computed_inline_blank, computed_blank_block, computed_identifier, computed_optional_eol, computed_rest_of_line, find_block, found_block}
+use Rattle.fluent_syntax_grammar.proofs.Computed.{Computed, choose, computed_bind, computed_gives, computed_here}
+use Rattle.fluent_syntax_grammar.proofs.Computed.{computed_fails, computed_fails_from, computed_over, computed_at_each}
+use Rattle.fluent_syntax_grammar.proofs.Computed.{computed_either, computed_steps, none_some}
+use Rattle.fluent_syntax_grammar.proofs.ComputedRules.{computed_spanned, computed_token, computed_inline_blank}
+use Rattle.fluent_syntax_grammar.proofs.ComputedRules.{computed_blank_block, computed_identifier, computed_optional_eol}
+use Rattle.fluent_syntax_grammar.proofs.ComputedRules.{computed_rest_of_line, find_block, found_block}
 use Rattle.fluent_syntax_grammar.proofs.ComputedFamily as rules
 use Rattle.fluent_syntax_grammar.proofs.ComputedFamily.{computed_family}
 use Rattle.fluent_syntax_grammar.proofs.Facts.{byte_found, equal, here_or_on, less, right_true, unequal}

@@ -2,7 +2,8 @@
 -- Each says that the grammar gives just these errors and this tree.
 use Rattle.std.proofs.Common.{[], ◌∷◌, Some, None, refl}
 use Rattle.std.specs.Prelude.{codes}
-use Rattle.fluent_syntax_tree.specs.Tree.{select, inline, message_reference, variable_reference, text_element, placeable, no_elements, elements, no_variants}
+use Rattle.fluent_syntax_tree.specs.Tree.{select, inline, message_reference, variable_reference, text_element}
+use Rattle.fluent_syntax_tree.specs.Tree.{placeable, no_elements, elements, no_variants}
 use Rattle.fluent_syntax_tree.specs.Entry.{message, junk}
 use Rattle.fluent_syntax_tree.specs.Kind.{MissingDefaultVariant}
 use Rattle.fluent_syntax_tree.specs.declared.edition.Edition.TheVariants.{One, Two}

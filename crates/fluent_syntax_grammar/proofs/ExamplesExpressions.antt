@@ -3,9 +3,18 @@
 use Rattle.std.proofs.Common.{[], ◌∷◌, Some, None, true, false, refl}
 use Rattle.std.specs.Prelude.{codes}
 use Rattle.std.specs.Fmt.{digits}
-use Rattle.fluent_syntax_tree.specs.Tree.{name_key, number_key, select, inline, string_literal, number_literal, function_reference, message_reference, term_reference, variable_reference, inline_placeable, arguments, some_arguments, no_inlines, inlines, no_named, nameds, named_argument, text_element, placeable, no_elements, elements, no_variants, variants, variant}
+use Rattle.fluent_syntax_tree.specs.Tree.{name_key, number_key, select, inline, string_literal, number_literal}
+use Rattle.fluent_syntax_tree.specs.Tree.{function_reference, message_reference, term_reference, variable_reference}
+use Rattle.fluent_syntax_tree.specs.Tree.{inline_placeable, arguments, some_arguments, no_inlines, inlines, no_named}
+use Rattle.fluent_syntax_tree.specs.Tree.{nameds, named_argument, text_element, placeable, no_elements, elements}
+use Rattle.fluent_syntax_tree.specs.Tree.{no_variants, variants, variant}
 use Rattle.fluent_syntax_tree.specs.Entry.{message, junk}
-use Rattle.fluent_syntax_tree.specs.Kind.{ExpectedToken, ExpectedCharRange, ForbiddenCallee, MissingDefaultVariant, MissingValue, MultipleDefaultVariants, MessageReferenceAsSelector, TermReferenceAsSelector, MessageAttributeAsSelector, TermAttributeAsPlaceable, UnterminatedStringLiteral, PositionalArgumentFollowsNamed, DuplicatedNamedArgument, UnknownEscapeSequence, InvalidUnicodeEscapeSequence, ExpectedInlineExpression, ExpectedSimpleExpressionAsSelector, ExpectedLiteral}
+use Rattle.fluent_syntax_tree.specs.Kind.{ExpectedToken, ExpectedCharRange, ForbiddenCallee, MissingDefaultVariant}
+use Rattle.fluent_syntax_tree.specs.Kind.{MissingValue, MultipleDefaultVariants, MessageReferenceAsSelector}
+use Rattle.fluent_syntax_tree.specs.Kind.{TermReferenceAsSelector, MessageAttributeAsSelector, TermAttributeAsPlaceable}
+use Rattle.fluent_syntax_tree.specs.Kind.{UnterminatedStringLiteral, PositionalArgumentFollowsNamed}
+use Rattle.fluent_syntax_tree.specs.Kind.{DuplicatedNamedArgument, UnknownEscapeSequence, InvalidUnicodeEscapeSequence}
+use Rattle.fluent_syntax_tree.specs.Kind.{ExpectedInlineExpression, ExpectedSimpleExpressionAsSelector, ExpectedLiteral}
 use Rattle.fluent_syntax_grammar.specs.Construct.{Refused}
 use Rattle.fluent_syntax_grammar.specs.Grammar.{pattern}
 use Rattle.fluent_syntax_tree.specs.declared.edition.Edition.TheVariants.{One}

@@ -3,7 +3,9 @@ use Rattle.std.proofs.Common.{◌≡◌, ℕ, Bool, refl, sym, ◌∙◌, subst,
 use Rattle.fluent_syntax_grammar.specs.Places.{Stretch, Steps, Reaches, BlankBlock, no_line, line}
 use Rattle.std.proofs.Common.{List}
 use Rattle.fluent_syntax_tree.specs.Kind.{Kind}
-use Rattle.fluent_syntax_grammar.specs.Construct.{Outcome, Construct, ◌>>=◌, stops, goes_on, gives, given, here, at_place, fails, failed, fails_from, failed_from, over, passed, at_each, chosen, either, first, second}
+use Rattle.fluent_syntax_grammar.specs.Construct.{Outcome, Construct, ◌>>=◌, stops, goes_on, gives, given, here}
+use Rattle.fluent_syntax_grammar.specs.Construct.{at_place, fails, failed, fails_from, failed_from, over, passed}
+use Rattle.fluent_syntax_grammar.specs.Construct.{at_each, chosen, either, first, second}
 use Rattle.fluent_syntax_grammar.specs.Laws.{IsFunctional}
 
 -- the relation leads from each place to one place at most

@@ -4,15 +4,18 @@ use Rattle.fluent_syntax_tree.specs.Tree.{PatternTree}
 use Rattle.fluent_syntax_tree.specs.Entry.{AttributeTree}
 use Rattle.fluent_syntax_grammar.specs.Construct.{Outcome, Read}
 use Rattle.fluent_syntax_grammar.specs.Grammar.{pattern, family}
-use Rattle.fluent_syntax_grammar.specs.Entries.{attribute_with, message_with, term_with, attribute, attributes, no_more, one_more, message_entry, term_entry}
+use Rattle.fluent_syntax_grammar.specs.Entries.{attribute_with, message_with, term_with, attribute, attributes, no_more}
+use Rattle.fluent_syntax_grammar.specs.Entries.{one_more, message_entry, term_entry}
 use Rattle.fluent_syntax_grammar.specs.Comments as comments
-use Rattle.fluent_syntax_grammar.specs.Comments.{comment_text, comment_rest, comment_line, comment_lines, comment_of, comment_entry, other_level, no_comment_line}
+use Rattle.fluent_syntax_grammar.specs.Comments.{comment_text, comment_rest, comment_line, comment_lines, comment_of}
+use Rattle.fluent_syntax_grammar.specs.Comments.{comment_entry, other_level, no_comment_line}
 use Rattle.fluent_syntax_grammar.specs.Tiling.{entry_of, entry_at}
 use Rattle.fluent_syntax_tree.specs.declared.edition.Edition.{Edition}
 use Rattle.fluent_syntax_tree.specs.declared.spans.Span.{Span}
 use Rattle.fluent_syntax_grammar.specs.Laws.{IsFunctional}
 use Rattle.fluent_syntax_grammar.proofs.Functional.{functional}
-use Rattle.fluent_syntax_grammar.proofs.FunctionalWords.{functional_token, functional_identifier, functional_optional_eol, functional_rest_of_line}
+use Rattle.fluent_syntax_grammar.proofs.FunctionalWords.{functional_token, functional_identifier}
+use Rattle.fluent_syntax_grammar.proofs.FunctionalWords.{functional_optional_eol, functional_rest_of_line}
 use Rattle.fluent_syntax_grammar.proofs.FunctionalRules as rules
 use Rattle.fluent_syntax_grammar.proofs.Nesting.{functional_family}
 

@@ -1,14 +1,19 @@
 -- The rules over a family whose constructs have at most one outcome have at most one.
 use Rattle.std.proofs.Common.{◌≡◌, ℕ, List, [], ◌∷◌, Option, Some, None, Bool, true, false, refl}
 use Rattle.fluent_syntax_tree.specs.Kind.{Kind}
-use Rattle.fluent_syntax_tree.specs.Tree.{InlineTree, KeyTree, PatternTree, MaybeArguments, no_arguments, some_arguments}
+use Rattle.fluent_syntax_tree.specs.Tree.{InlineTree, KeyTree, PatternTree, MaybeArguments, no_arguments}
+use Rattle.fluent_syntax_tree.specs.Tree.{some_arguments}
 use Rattle.fluent_syntax_grammar.specs.Construct.{Outcome}
 use Rattle.fluent_syntax_grammar.specs.Family.{Family}
 use Rattle.fluent_syntax_grammar.specs.Starts.{Start, quote, digit, term, minus, dollar, letter, brace, other}
-use Rattle.fluent_syntax_grammar.specs.Arguments.{accessor, separator, call_arguments, argument_value, named_and_more, positional_and_more, argument_and_more, more_arguments_at, more_arguments}
-use Rattle.fluent_syntax_grammar.specs.Placeables.{arrow_line_end, variants_of_select, select_with, expression, placeable}
+use Rattle.fluent_syntax_grammar.specs.Arguments.{accessor, separator, call_arguments, argument_value, named_and_more}
+use Rattle.fluent_syntax_grammar.specs.Arguments.{positional_and_more, argument_and_more, more_arguments_at}
+use Rattle.fluent_syntax_grammar.specs.Arguments.{more_arguments}
+use Rattle.fluent_syntax_grammar.specs.Placeables.{arrow_line_end, variants_of_select, select_with, expression}
+use Rattle.fluent_syntax_grammar.specs.Placeables.{placeable}
 use Rattle.fluent_syntax_grammar.specs.Inline.{named_reference, inline_of, inline_expression}
-use Rattle.fluent_syntax_grammar.specs.Lines.{ending_of, ending, pieces_at, more_pieces, line, line_and_more, more_lines, no_byte, other_line, own_line}
+use Rattle.fluent_syntax_grammar.specs.Lines.{ending_of, ending, pieces_at, more_pieces, line, line_and_more}
+use Rattle.fluent_syntax_grammar.specs.Lines.{more_lines, no_byte, other_line, own_line}
 use Rattle.fluent_syntax_grammar.specs.Layout.{Line}
 use Rattle.fluent_syntax_grammar.specs.Patterns.{layout_at, layout, pattern}
 use Rattle.fluent_syntax_grammar.specs.Variants.{variant_key, variant_and_more, more_variants}
@@ -17,7 +22,8 @@ use Rattle.fluent_syntax_tree.specs.declared.edition.Edition.{Edition}
 use Rattle.fluent_syntax_tree.specs.declared.spans.Span.{Span}
 use Rattle.fluent_syntax_grammar.specs.Laws.{IsFunctional}
 use Rattle.fluent_syntax_grammar.proofs.Functional.{functional, single_stretch}
-use Rattle.fluent_syntax_grammar.proofs.FunctionalWords.{functional_optional, functional_token, functional_identifier, functional_number, functional_string}
+use Rattle.fluent_syntax_grammar.proofs.FunctionalWords.{functional_optional, functional_token, functional_identifier}
+use Rattle.fluent_syntax_grammar.proofs.FunctionalWords.{functional_number, functional_string}
 
 ruleset words =
     (functional, functional_optional, functional_token, functional_identifier, functional_number, functional_string)

@@ -16,11 +16,13 @@ use Rattle.fluent_syntax_grammar.specs.Spellings.{is_name, is_number, is_string}
 use Rattle.fluent_syntax_grammar.specs.Written.{Text}
 use Rattle.fluent_syntax_grammar.specs.Rules.{key_obeys, expression_obeys, inline_obeys, maybe_obeys, arguments_obey}
 use Rattle.fluent_syntax_grammar.specs.Rules.{inlines_obey, nameds_obey, named_obeys, pattern_obeys, elements_obey}
-use Rattle.fluent_syntax_grammar.specs.Rules.{element_obeys, variants_obey, variant_obeys, option_obeys, attribute_obeys}
+use Rattle.fluent_syntax_grammar.specs.Rules.{element_obeys, variants_obey, variant_obeys, option_obeys}
+use Rattle.fluent_syntax_grammar.specs.Rules.{attribute_obeys}
 use Rattle.fluent_syntax_grammar.specs.Rules.{entry_obeys, body_obeys}
 use Rattle.fluent_syntax_grammar.specs.Readable.{readable_rules, is_readable, is_expression, is_pattern, is_callee}
 use Rattle.fluent_syntax_grammar.specs.Readable.{are_arguments, are_lines, is_message}
-use Rattle.fluent_syntax_grammar.specs.Canonical.{canonical_rules, further_rules, is_canonical, has_one_default, is_flush}
+use Rattle.fluent_syntax_grammar.specs.Canonical.{canonical_rules, further_rules, is_canonical, has_one_default}
+use Rattle.fluent_syntax_grammar.specs.Canonical.{is_flush}
 use Rattle.fluent_syntax_grammar.specs.Canonical.{is_plain_comment}
 
 and_true : (x : Bool) → x ≡ (x && true)

@@ -1,5 +1,6 @@
 -- The elements that a layout spells lie in the text, if the layout does.
-use Rattle.std.proofs.Common.{◌≡◌, ℕ, zero, suc, ◌+◌, ◌-◌, ◌<◌, ◌≤◌, min, List, [], ◌∷◌, length, drop, get_or, Option, Some, None, Bool, true, false, refl, sym, ◌∙◌, subst, ap, arith}
+use Rattle.std.proofs.Common.{◌≡◌, ℕ, zero, suc, ◌+◌, ◌-◌, ◌<◌, ◌≤◌, min, List, [], ◌∷◌, length, drop, get_or, Option}
+use Rattle.std.proofs.Common.{Some, None, Bool, true, false, refl, sym, ◌∙◌, subst, ap, arith}
 use Rattle.std.specs.Prelude.{slice_range, nat_lt, if◌then◌else◌}
 use Rattle.std.specs.List.{flat_map}
 use Rattle.std.proofs.lemmas.Bool.Decides.{nat_tests}
@@ -9,8 +10,11 @@ use Rattle.std.proofs.Common.{length-drop, length-take}
 use Rattle.fluent_syntax_tree.specs.Text.{is_trimmed, trimmed_len_below}
 use Rattle.fluent_syntax_tree.specs.Tree.{ElementTree, elements_of}
 use Rattle.fluent_syntax_tree.specs.Every.{expression_every, element_every, pattern_every, option_every, list_every}
-use Rattle.fluent_syntax_grammar.specs.Layout.{Piece, run, placed, Ending, lf_at, crlf_at, text_end, Line, Layout, common_indent}
-use Rattle.fluent_syntax_grammar.specs.Elements.{Item, text, filled, with_ending, kept_from, indented, items_from, line_items, opening_items, items, stays, cut_before, cut, trimmed_end, spelled, if_any, pattern_of}
+use Rattle.fluent_syntax_grammar.specs.Layout.{Piece, run, placed, Ending, lf_at, crlf_at, text_end, Line, Layout}
+use Rattle.fluent_syntax_grammar.specs.Layout.{common_indent}
+use Rattle.fluent_syntax_grammar.specs.Elements.{Item, text, filled, with_ending, kept_from, indented, items_from}
+use Rattle.fluent_syntax_grammar.specs.Elements.{line_items, opening_items, items, stays, cut_before, cut, trimmed_end}
+use Rattle.fluent_syntax_grammar.specs.Elements.{spelled, if_any, pattern_of}
 use Rattle.fluent_syntax_tree.specs.declared.edition.Edition.{Edition}
 use Rattle.fluent_syntax_tree.specs.declared.edition.Edition.TheVariants.{One, Two}
 use Rattle.fluent_syntax_tree.specs.declared.spans.Span.{Span}

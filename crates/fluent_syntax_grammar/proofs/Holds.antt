@@ -1,7 +1,9 @@
 -- The logic of constructs: what holds after every reading and of every refusal, from each place of a kind.
 use Rattle.std.proofs.Common.{◌≡◌, ℕ, ◌+◌, Bool, true, false, refl}
 use Rattle.fluent_syntax_tree.specs.Kind.{Kind}
-use Rattle.fluent_syntax_grammar.specs.Construct.{Read, Refused, Construct, ◌>>=◌, stops, goes_on, gives, given, here, at_place, fails, failed, fails_from, failed_from, over, passed, at_each, chosen, either, first, second}
+use Rattle.fluent_syntax_grammar.specs.Construct.{Read, Refused, Construct, ◌>>=◌, stops, goes_on, gives, given, here}
+use Rattle.fluent_syntax_grammar.specs.Construct.{at_place, fails, failed, fails_from, failed_from, over, passed}
+use Rattle.fluent_syntax_grammar.specs.Construct.{at_each, chosen, either, first, second}
 
 -- From each place with `pre`, every reading has `read value end`, and every refusal `refused kind from to`.
 pub record Holds {A : Type 0} (pre : ℕ → Type 0) (c : Construct A) (read : A → ℕ → Type 0)

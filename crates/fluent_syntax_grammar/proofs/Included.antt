@@ -2,13 +2,16 @@
 use Rattle.std.proofs.Common.{ℕ, List, [], ◌∷◌, Option, Some, None, Bool, true, false}
 use Rattle.fluent_syntax_tree.specs.Kind.{Kind}
 use Rattle.fluent_syntax_tree.specs.Tree.{InlineTree, KeyTree, PatternTree}
-use Rattle.fluent_syntax_grammar.specs.Construct.{Outcome, Construct, ◌>>=◌, stops, goes_on, at_each, chosen, either, first, second}
+use Rattle.fluent_syntax_grammar.specs.Construct.{Outcome, Construct, ◌>>=◌, stops, goes_on, at_each, chosen, either}
+use Rattle.fluent_syntax_grammar.specs.Construct.{first, second}
 use Rattle.fluent_syntax_grammar.specs.Family.{Family}
 use Rattle.fluent_syntax_grammar.specs.Starts.{Start, quote, digit, term, minus, dollar, letter, brace, other}
-use Rattle.fluent_syntax_grammar.specs.Arguments.{call_arguments, argument_value, named_and_more, positional_and_more, argument_and_more, more_arguments_at, more_arguments}
+use Rattle.fluent_syntax_grammar.specs.Arguments.{call_arguments, argument_value, named_and_more, positional_and_more}
+use Rattle.fluent_syntax_grammar.specs.Arguments.{argument_and_more, more_arguments_at, more_arguments}
 use Rattle.fluent_syntax_grammar.specs.Placeables.{variants_of_select, select_with, expression, placeable}
 use Rattle.fluent_syntax_grammar.specs.Inline.{inline_of, inline_expression}
-use Rattle.fluent_syntax_grammar.specs.Lines.{pieces_at, more_pieces, line_and_more, more_lines, no_byte, other_line, own_line}
+use Rattle.fluent_syntax_grammar.specs.Lines.{pieces_at, more_pieces, line_and_more, more_lines, no_byte, other_line}
+use Rattle.fluent_syntax_grammar.specs.Lines.{own_line}
 use Rattle.fluent_syntax_grammar.specs.Layout.{Line}
 use Rattle.fluent_syntax_grammar.specs.Patterns.{layout_at, layout, pattern}
 use Rattle.fluent_syntax_grammar.specs.Variants.{variant_and_more, variant_after, more_variants}

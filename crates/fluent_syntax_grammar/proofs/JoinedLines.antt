@@ -7,7 +7,8 @@ use Rattle.fluent_syntax_tree.specs.Tree.{function_reference, message_reference,
 use Rattle.fluent_syntax_tree.specs.Tree.{inline_placeable, text_element, placeable, PatternTree, no_elements, elements}
 use Rattle.fluent_syntax_grammar.specs.Bytes.{lf}
 use Rattle.fluent_syntax_grammar.specs.Written.{Text, has_lf, is_select, holds_select, is_multiline}
-use Rattle.fluent_syntax_grammar.specs.Joined.{is_joined, joined_expression, joined_inline, joined_pattern, joined_after}
+use Rattle.fluent_syntax_grammar.specs.Joined.{is_joined, joined_expression, joined_inline, joined_pattern}
+use Rattle.fluent_syntax_grammar.specs.Joined.{joined_after}
 
 mutual
   select_same : (e : ExpressionTree Text) → is_select (joined_expression e) ≡ is_select e

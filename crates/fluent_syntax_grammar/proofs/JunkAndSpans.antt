@@ -1,5 +1,6 @@
 -- The junk of a tiling is that of its errors, its errors ascend, and the texts of its body lie in the source.
-use Rattle.std.proofs.Common.{◌≡◌, ℕ, ◌<◌, ◌≤◌, List, [], ◌∷◌, ◌++◌, length, map, Option, Some, None, Bool, true, false, refl, sym, ◌∙◌, subst, ap, arith}
+use Rattle.std.proofs.Common.{◌≡◌, ℕ, ◌<◌, ◌≤◌, List, [], ◌∷◌, ◌++◌, length, map, Option, Some, None, Bool, true, false}
+use Rattle.std.proofs.Common.{refl, sym, ◌∙◌, subst, ap, arith}
 use Rattle.std.specs.Prelude.{slice_get, ◌==◌, if◌then◌else◌}
 use Rattle.std.specs.List.{flat_map}
 use Rattle.std.specs.Str.{IsCharBoundary}
@@ -9,9 +10,11 @@ use Rattle.fluent_syntax_tree.specs.Every.{list_every, entry_every}
 use Rattle.fluent_syntax_grammar.specs.Places.{BlankBlock}
 use Rattle.fluent_syntax_grammar.specs.Construct.{Read, chosen, goes_on, first, second}
 use Rattle.fluent_syntax_grammar.specs.Comments.{comment_entry, level_of, hashes}
-use Rattle.fluent_syntax_grammar.specs.Tiling.{Fault, Tile, entry, refused, dropped, Tiled, done, next, entry_of, TileAt, reads, refuses, RuntimeTileAt, drops, stands}
+use Rattle.fluent_syntax_grammar.specs.Tiling.{Fault, Tile, entry, refused, dropped, Tiled, done, next, entry_of}
+use Rattle.fluent_syntax_grammar.specs.Tiling.{TileAt, reads, refuses, RuntimeTileAt, drops, stands}
 use Rattle.fluent_syntax_grammar.specs.Body.{faults, hung, hangs, alone, joined, body}
-use Rattle.fluent_syntax_grammar.specs.Laws.{Ascend, junk_slice, fault_slice, JunkOfErrors, RuntimeJunkOfErrors, ErrorsAscend, RuntimeErrorsAscend, BodyInText, RuntimeBodyInText}
+use Rattle.fluent_syntax_grammar.specs.Laws.{Ascend, junk_slice, fault_slice, JunkOfErrors, RuntimeJunkOfErrors}
+use Rattle.fluent_syntax_grammar.specs.Laws.{ErrorsAscend, RuntimeErrorsAscend, BodyInText, RuntimeBodyInText}
 use Rattle.fluent_syntax_tree.specs.declared.edition.Edition.{Edition}
 use Rattle.fluent_syntax_tree.specs.declared.spans.Span.{Span}
 use Rattle.fluent_syntax_grammar.proofs.Holds.{gave}

@@ -13,7 +13,8 @@ use Rattle.fluent_syntax_tree.specs.declared.edition.Edition.{Edition}
 use Rattle.fluent_syntax_tree.specs.declared.spans.Span.{Span}
 use Rattle.fluent_syntax_grammar.proofs.FunctionalRules.{IsFunctionalFamily, functional_next}
 use Rattle.fluent_syntax_grammar.proofs.Included.{IsIncludedFamily, included_next}
-use Rattle.fluent_syntax_grammar.proofs.Union.{IsUnionFamily, union_inline, union_arguments, union_variants, union_pieces, union_lines}
+use Rattle.fluent_syntax_grammar.proofs.Union.{IsUnionFamily, union_inline, union_arguments, union_variants}
+use Rattle.fluent_syntax_grammar.proofs.Union.{union_pieces, union_lines}
 
 module _ (edition : Edition) (t : List ℕ) where
   nothing_included : (n : ℕ) → IsIncludedFamily (within edition t zero) (within edition t n)

@@ -1,7 +1,8 @@
 -- A text has at most one tiling and at most one tiling without comments.
 use Rattle.std.proofs.Common.{◌≡◌, ℕ, ◌<◌, List, refl, sym, ◌∙◌, subst, arith, inl, inr}
 use Rattle.std.proofs.lemmas.Bool.{false≢true}
-use Rattle.fluent_syntax_grammar.specs.Tiling.{Tile, failing_place, JunkEnd, whole_line, Tiled, done, next, TileAt, reads, refuses, RuntimeTileAt, drops, stands, Tiling, RuntimeTiling}
+use Rattle.fluent_syntax_grammar.specs.Tiling.{Tile, failing_place, JunkEnd, whole_line, Tiled, done, next, TileAt}
+use Rattle.fluent_syntax_grammar.specs.Tiling.{reads, refuses, RuntimeTileAt, drops, stands, Tiling, RuntimeTiling}
 use Rattle.fluent_syntax_tree.specs.declared.edition.Edition.{Edition}
 use Rattle.fluent_syntax_grammar.specs.Laws.{IsFunctional}
 use Rattle.fluent_syntax_grammar.proofs.Functional.{functional, single_block}

@@ -8,7 +8,8 @@ use Rattle.fluent_syntax_grammar.specs.Tiling.{Tile, entry, refused, dropped}
 use Rattle.fluent_syntax_grammar.specs.Body.{faults, hung, hangs, alone, joined, body}
 use Rattle.fluent_syntax_grammar.specs.Laws.{bare, without_comments, named, messages_and_terms}
 use Rattle.fluent_syntax_tree.specs.declared.spans.Span.{Span}
-use Rattle.fluent_syntax_grammar.proofs.Aligned.{Aligned, nothing, both, comment_left, dropped_right, junk_left, junk_both}
+use Rattle.fluent_syntax_grammar.proofs.Aligned.{Aligned, nothing, both, comment_left, dropped_right, junk_left}
+use Rattle.fluent_syntax_grammar.proofs.Aligned.{junk_both}
 use Rattle.fluent_syntax_grammar.proofs.Facts.{append_nothing, flat_append}
 
 -- what a tile gives without comments

@@ -9,7 +9,8 @@ use Rattle.fluent_syntax_grammar.specs.Tiling.{Fault, Tile, Tiling, RuntimeTilin
 use Rattle.fluent_syntax_grammar.specs.Body.{faults, body}
 use Rattle.fluent_syntax_tree.specs.declared.edition.Edition.{Edition}
 use Rattle.fluent_syntax_grammar.proofs.Computed.{none_some}
-use Rattle.fluent_syntax_grammar.proofs.ComputedTiling.{tiles_of, runtime_tiles_of, is_tiling, is_runtime_tiling, computed_pattern}
+use Rattle.fluent_syntax_grammar.proofs.ComputedTiling.{tiles_of, runtime_tiles_of, is_tiling, is_runtime_tiling}
+use Rattle.fluent_syntax_grammar.proofs.ComputedTiling.{computed_pattern}
 
 -- The text has a tiling with these errors and this tree; by unique reading it has no other.
 pub record IsRead (edition : Edition) (t : List ℕ) (errors : List Fault) (tree : BodyTree (List ℕ)) : Type 0 where

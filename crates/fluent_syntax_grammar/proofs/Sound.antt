@@ -1,15 +1,20 @@
 -- What holds of every construct: it does not go back, it stays in the text at places of a kind, and its faults mean
 -- what their kinds say.
-use Rattle.std.proofs.Common.{◌≡◌, ℕ, ◌+◌, ◌≤◌, List, length, Option, Some, None, Bool, true, false, refl, sym, subst, arith}
+use Rattle.std.proofs.Common.{◌≡◌, ℕ, ◌+◌, ◌≤◌, List, length, Option, Some, None, Bool, true, false, refl, sym, subst}
+use Rattle.std.proofs.Common.{arith}
 use Rattle.fluent_syntax_tree.specs.Kind.{Kind, ExpectedMessageField, ExpectedTermField}
 use Rattle.fluent_syntax_grammar.specs.Places.{Stretch, after_eol, Word, Blank, BlankBlock, is_line_place}
 use Rattle.fluent_syntax_grammar.specs.Lines.{is_run_place}
-use Rattle.fluent_syntax_grammar.specs.Construct.{Read, Refused, Construct, ◌>>=◌, stops, goes_on, gives, here, at_place, fails, over, at_each, either}
-use Rattle.fluent_syntax_grammar.specs.Words.{spanned, inline_blank, blank, blank_block, past_eol, optional_eol, rest_of_line}
+use Rattle.fluent_syntax_grammar.specs.Construct.{Read, Refused, Construct, ◌>>=◌, stops, goes_on, gives, here}
+use Rattle.fluent_syntax_grammar.specs.Construct.{at_place, fails, over, at_each, either}
+use Rattle.fluent_syntax_grammar.specs.Words.{spanned, inline_blank, blank, blank_block, past_eol, optional_eol}
+use Rattle.fluent_syntax_grammar.specs.Words.{rest_of_line}
 use Rattle.fluent_syntax_grammar.specs.Meaning.{kind_means}
 use Rattle.fluent_syntax_tree.specs.declared.spans.Span.{Span}
-use Rattle.fluent_syntax_grammar.proofs.Holds.{Holds, holds_weaker, holds_bind, holds_gives, holds_fails, holds_over, holds_at_each, holds_either}
-use Rattle.fluent_syntax_grammar.proofs.Cuts.{IsCuts, IsAsciiSet, ascii_space, word_place, blank_place, block_place, block_forward, eol_forward, eol_place, line_stop, run_stop}
+use Rattle.fluent_syntax_grammar.proofs.Holds.{Holds, holds_weaker, holds_bind, holds_gives, holds_fails, holds_over}
+use Rattle.fluent_syntax_grammar.proofs.Holds.{holds_at_each, holds_either}
+use Rattle.fluent_syntax_grammar.proofs.Cuts.{IsCuts, IsAsciiSet, ascii_space, word_place, blank_place, block_place}
+use Rattle.fluent_syntax_grammar.proofs.Cuts.{block_forward, eol_forward, eol_place, line_stop, run_stop}
 
 -- an ordered range between two places of the kind
 abbrev pub IsSpan : (ℕ → Type 0) → Span → Type 0

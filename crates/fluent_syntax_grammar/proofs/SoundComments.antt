@@ -6,11 +6,14 @@ use Rattle.fluent_syntax_tree.specs.Entry.{EntryTree}
 use Rattle.fluent_syntax_tree.specs.Every.{list_every, entry_every}
 use Rattle.fluent_syntax_grammar.specs.Places.{has_byte}
 use Rattle.fluent_syntax_grammar.specs.Construct.{Read, Refused, chosen}
-use Rattle.fluent_syntax_grammar.specs.Comments.{hashes, comment_text, comment_rest, comment_line, comment_lines, other_level, no_comment_line, one_more, comment_of, comment_entry}
+use Rattle.fluent_syntax_grammar.specs.Comments.{hashes, comment_text, comment_rest, comment_line, comment_lines}
+use Rattle.fluent_syntax_grammar.specs.Comments.{other_level, no_comment_line, one_more, comment_of, comment_entry}
 use Rattle.fluent_syntax_tree.specs.declared.spans.Span.{Span}
 use Rattle.fluent_syntax_grammar.proofs.Holds.{Holds, holds_bind, holds_over}
 use Rattle.fluent_syntax_grammar.proofs.Cuts.{IsCuts, ascii_byte}
-use Rattle.fluent_syntax_grammar.proofs.Sound.{IsSpan, Inside, Ended, IsFault, Sound, sound_bind, sound_gives, sound_at_each, sound_here, sound_spanned, known, sound_rest_of_line, sound_optional_eol}
+use Rattle.fluent_syntax_grammar.proofs.Sound.{IsSpan, Inside, Ended, IsFault, Sound, sound_bind, sound_gives}
+use Rattle.fluent_syntax_grammar.proofs.Sound.{sound_at_each, sound_here, sound_spanned, known, sound_rest_of_line}
+use Rattle.fluent_syntax_grammar.proofs.Sound.{sound_optional_eol}
 use Rattle.fluent_syntax_grammar.proofs.SoundWords.{sound_token}
 use Rattle.fluent_syntax_tree.proofs.Every.{every-append}
 use Rattle.fluent_syntax_grammar.proofs.CommentFaults.{some_hash}

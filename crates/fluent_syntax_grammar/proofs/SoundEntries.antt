@@ -1,6 +1,7 @@
 -- Entries are sound: one that is read passes over a byte at least, and a refusal's failing place is not before the
 -- entry.
-use Rattle.std.proofs.Common.{◌≡◌, ℕ, ◌+◌, ◌<◌, ◌≤◌, List, [], ◌∷◌, length, Option, Some, None, true, refl, sym, ◌∙◌, subst, arith, inl, inr}
+use Rattle.std.proofs.Common.{◌≡◌, ℕ, ◌+◌, ◌<◌, ◌≤◌, List, [], ◌∷◌, length, Option, Some, None, true, refl, sym, ◌∙◌}
+use Rattle.std.proofs.Common.{subst, arith, inl, inr}
 use Rattle.std.specs.Prelude.{slice_get, ◌⊎◌}
 use Rattle.std.proofs.lemmas.Bool.Decides.{nat_tests}
 use Rattle.fluent_syntax_tree.specs.Kind.{Kind, ExpectedMessageField, ExpectedTermField}
@@ -9,17 +10,21 @@ use Rattle.fluent_syntax_tree.specs.Entry.{AttributeTree, EntryTree}
 use Rattle.fluent_syntax_tree.specs.Every.{pattern_every, option_every, list_every, attribute_every, entry_every}
 use Rattle.fluent_syntax_grammar.specs.Bytes.{is_letter, is_name_byte}
 use Rattle.fluent_syntax_grammar.specs.Places.{Word, has, has_byte}
-use Rattle.fluent_syntax_grammar.specs.Construct.{Read, Refused, Construct, ◌>>=◌, ◌>>◌, stops, goes_on, gives, given, at_place, passed, chosen, first, second}
+use Rattle.fluent_syntax_grammar.specs.Construct.{Read, Refused, Construct, ◌>>=◌, ◌>>◌, stops, goes_on, gives, given}
+use Rattle.fluent_syntax_grammar.specs.Construct.{at_place, passed, chosen, first, second}
 use Rattle.fluent_syntax_grammar.specs.Words.{token, inline_blank, blank_block, identifier}
 use Rattle.fluent_syntax_grammar.specs.Grammar.{pattern, family}
-use Rattle.fluent_syntax_grammar.specs.Entries.{attribute_with, message_with, term_with, attribute, attributes, no_more, one_more, message_entry, term_entry}
+use Rattle.fluent_syntax_grammar.specs.Entries.{attribute_with, message_with, term_with, attribute, attributes, no_more}
+use Rattle.fluent_syntax_grammar.specs.Entries.{one_more, message_entry, term_entry}
 use Rattle.fluent_syntax_grammar.specs.Meaning.{kind_means}
 use Rattle.fluent_syntax_grammar.specs.Tiling.{failing_place}
 use Rattle.fluent_syntax_tree.specs.declared.edition.Edition.{Edition}
 use Rattle.fluent_syntax_tree.specs.declared.spans.Span.{Span}
-use Rattle.fluent_syntax_grammar.proofs.Holds.{Holds, holds_weaker, holds_bind, holds_gives, holds_fails, holds_fails_from, holds_over, holds_at_each, holds_either}
+use Rattle.fluent_syntax_grammar.proofs.Holds.{Holds, holds_weaker, holds_bind, holds_gives, holds_fails}
+use Rattle.fluent_syntax_grammar.proofs.Holds.{holds_fails_from, holds_over, holds_at_each, holds_either}
 use Rattle.fluent_syntax_grammar.proofs.Cuts.{IsCuts, word_place, ascii_name, ascii_byte}
-use Rattle.fluent_syntax_grammar.proofs.Sound.{IsSpan, IsPlain, Inside, Ended, IsFault, Sound, sound_bind, sound_gives, sound_fails, sound_inline_blank, sound_blank_block}
+use Rattle.fluent_syntax_grammar.proofs.Sound.{IsSpan, IsPlain, Inside, Ended, IsFault, Sound, sound_bind, sound_gives}
+use Rattle.fluent_syntax_grammar.proofs.Sound.{sound_fails, sound_inline_blank, sound_blank_block}
 use Rattle.fluent_syntax_grammar.proofs.SoundWords.{sound_token, sound_identifier}
 use Rattle.fluent_syntax_grammar.proofs.SoundRules.{inside_places}
 use Rattle.fluent_syntax_grammar.proofs.SoundLines as lines

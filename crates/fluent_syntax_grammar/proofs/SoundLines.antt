@@ -1,27 +1,36 @@
 -- Lines, patterns and variants over a sound family are sound.
-use Rattle.std.proofs.Common.{◌≡◌, ℕ, zero, suc, ◌+◌, ◌-◌, ◌≤◌, List, ◌∷◌, Option, Some, None, Bool, true, false, refl, sym, subst, arith, inl, inr}
+use Rattle.std.proofs.Common.{◌≡◌, ℕ, zero, suc, ◌+◌, ◌-◌, ◌≤◌, List, ◌∷◌, Option, Some, None, Bool, true, false, refl}
+use Rattle.std.proofs.Common.{sym, subst, arith, inl, inr}
 use Rattle.std.specs.Prelude.{slice_get, ◌==◌, ◌||◌, if◌then◌else◌}
 use Rattle.std.proofs.lemmas.Bool.Decides.{nat_tests}
 use Rattle.fluent_syntax_tree.specs.Kind.{Kind}
 use Rattle.fluent_syntax_tree.specs.Tree.{ExpressionTree, KeyTree, PatternTree}
-use Rattle.fluent_syntax_tree.specs.Every.{key_every, expression_every, variants_every, pattern_every, option_every, list_every}
+use Rattle.fluent_syntax_tree.specs.Every.{key_every, expression_every, variants_every, pattern_every, option_every}
+use Rattle.fluent_syntax_tree.specs.Every.{list_every}
 use Rattle.fluent_syntax_grammar.specs.Bytes.{lf, is_space}
 use Rattle.fluent_syntax_grammar.specs.Places.{Stretch, has, after_eol, InlineBlank}
-use Rattle.fluent_syntax_grammar.specs.Construct.{Read, Refused, Construct, ◌>>=◌, ◌>>◌, stops, goes_on, gives, given, here, at_place, over, passed, chosen}
+use Rattle.fluent_syntax_grammar.specs.Construct.{Read, Refused, Construct, ◌>>=◌, ◌>>◌, stops, goes_on, gives, given}
+use Rattle.fluent_syntax_grammar.specs.Construct.{here, at_place, over, passed, chosen}
 use Rattle.fluent_syntax_grammar.specs.Family.{Family}
 use Rattle.fluent_syntax_grammar.specs.Layout.{Piece, run, Ending, lf_at, crlf_at, Line}
-use Rattle.fluent_syntax_grammar.specs.Lines.{is_run_place, ending_of, ending, pieces_at, more_pieces, line, line_and_more, more_lines, no_byte, other_line, own_line}
+use Rattle.fluent_syntax_grammar.specs.Lines.{is_run_place, ending_of, ending, pieces_at, more_pieces, line}
+use Rattle.fluent_syntax_grammar.specs.Lines.{line_and_more, more_lines, no_byte, other_line, own_line}
 use Rattle.fluent_syntax_grammar.specs.Patterns.{layout_at, layout, pattern}
 use Rattle.fluent_syntax_grammar.specs.Variants.{variant_and_more, variant_after, more_variants}
 use Rattle.fluent_syntax_grammar.specs.Grammar.{next, within, family}
 use Rattle.fluent_syntax_tree.specs.declared.edition.Edition.{Edition}
 use Rattle.fluent_syntax_tree.specs.declared.spans.Span.{Span}
-use Rattle.fluent_syntax_grammar.proofs.Holds.{Holds, gave, holds_weaker, holds_bind, holds_gives, holds_fails, holds_over, holds_at_each, holds_either}
-use Rattle.fluent_syntax_grammar.proofs.Cuts.{IsCuts, ascii_byte, ascii_has, ascii_space, eol_cases, eol_forward, eol_place, stretch_places, word_place}
-use Rattle.fluent_syntax_grammar.proofs.Sound.{IsSpan, Inside, Ended, IsFault, Sound, weaker_fault, sound_bind, sound_gives, sound_fails, sound_either, sound_here, known, sound_inline_blank, sound_blank, sound_blank_block, onward_run}
+use Rattle.fluent_syntax_grammar.proofs.Holds.{Holds, gave, holds_weaker, holds_bind, holds_gives, holds_fails}
+use Rattle.fluent_syntax_grammar.proofs.Holds.{holds_over, holds_at_each, holds_either}
+use Rattle.fluent_syntax_grammar.proofs.Cuts.{IsCuts, ascii_byte, ascii_has, ascii_space, eol_cases, eol_forward}
+use Rattle.fluent_syntax_grammar.proofs.Cuts.{eol_place, stretch_places, word_place}
+use Rattle.fluent_syntax_grammar.proofs.Sound.{IsSpan, Inside, Ended, IsFault, Sound, weaker_fault, sound_bind}
+use Rattle.fluent_syntax_grammar.proofs.Sound.{sound_gives, sound_fails, sound_either, sound_here, known}
+use Rattle.fluent_syntax_grammar.proofs.Sound.{sound_inline_blank, sound_blank, sound_blank_block, onward_run}
 use Rattle.fluent_syntax_grammar.proofs.SoundWords.{sound_optional, sound_token}
 use Rattle.fluent_syntax_grammar.proofs.GoodLayout.{GoodEnding, GoodLine, GoodLayout, earlier_pieces, good_pattern}
-use Rattle.fluent_syntax_grammar.proofs.SoundRules.{EndedPieces, IsSoundFamily, inside_places, sound_key, sound_only, sound_end, sound_placeable, sound_inline, sound_arguments}
+use Rattle.fluent_syntax_grammar.proofs.SoundRules.{EndedPieces, IsSoundFamily, inside_places, sound_key, sound_only}
+use Rattle.fluent_syntax_grammar.proofs.SoundRules.{sound_end, sound_placeable, sound_inline, sound_arguments}
 use Rattle.fluent_syntax_grammar.proofs.Facts.{byte_stands, two_on}
 
 by_test : (P : ℕ → Type 0) (s i : ℕ) (test : Bool) → (test ≡ true → GoodEnding P s (lf_at i)) →

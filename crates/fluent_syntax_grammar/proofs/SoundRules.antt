@@ -1,25 +1,37 @@
 -- The rules over a sound family are sound.
-use Rattle.std.proofs.Common.{◌≡◌, ℕ, ◌+◌, ◌≤◌, List, [], ◌∷◌, length, Option, Some, None, Bool, true, false, refl, sym, ◌∙◌, subst, arith}
+use Rattle.std.proofs.Common.{◌≡◌, ℕ, ◌+◌, ◌≤◌, List, [], ◌∷◌, length, Option, Some, None, Bool, true, false, refl, sym}
+use Rattle.std.proofs.Common.{◌∙◌, subst, arith}
 use Rattle.std.specs.Prelude.{slice_get, ◌==◌}
-use Rattle.fluent_syntax_tree.specs.Kind.{Kind, MessageReferenceAsSelector, MessageAttributeAsSelector, TermReferenceAsSelector, ExpectedSimpleExpressionAsSelector, TermAttributeAsPlaceable}
+use Rattle.fluent_syntax_tree.specs.Kind.{Kind, MessageReferenceAsSelector, MessageAttributeAsSelector}
+use Rattle.fluent_syntax_tree.specs.Kind.{TermReferenceAsSelector, ExpectedSimpleExpressionAsSelector}
+use Rattle.fluent_syntax_tree.specs.Kind.{TermAttributeAsPlaceable}
 use Rattle.fluent_syntax_tree.specs.Spans.{bytes_at}
 use Rattle.fluent_syntax_grammar.specs.Meaning.{kind_means}
-use Rattle.fluent_syntax_tree.specs.Tree.{inline, InlineTree, string_literal, number_literal, function_reference, message_reference, term_reference, variable_reference, inline_placeable, ArgumentsTree, arguments, MaybeArguments, no_arguments, some_arguments}
-use Rattle.fluent_syntax_tree.specs.Every.{key_every, expression_every, inline_every, arguments_every, maybe_every, variants_every, option_every, list_every}
+use Rattle.fluent_syntax_tree.specs.Tree.{inline, InlineTree, string_literal, number_literal, function_reference}
+use Rattle.fluent_syntax_tree.specs.Tree.{message_reference, term_reference, variable_reference, inline_placeable}
+use Rattle.fluent_syntax_tree.specs.Tree.{ArgumentsTree, arguments, MaybeArguments, no_arguments, some_arguments}
+use Rattle.fluent_syntax_tree.specs.Every.{key_every, expression_every, inline_every, arguments_every, maybe_every}
+use Rattle.fluent_syntax_tree.specs.Every.{variants_every, option_every, list_every}
 use Rattle.fluent_syntax_grammar.specs.Places.{Steps, has_byte, after_eol}
 use Rattle.fluent_syntax_grammar.specs.Construct.{gives, at_each, either, fails}
 use Rattle.fluent_syntax_grammar.specs.Family.{Family}
 use Rattle.fluent_syntax_grammar.specs.Starts.{Start, quote, digit, term, minus, dollar, letter, brace, other}
-use Rattle.fluent_syntax_grammar.specs.Arguments.{accessor, separator, add_positional, add_named, call_arguments, argument_value, named_and_more, positional_and_more, argument_name, argument_and_more, more_arguments_at, more_arguments}
-use Rattle.fluent_syntax_grammar.specs.Placeables.{arrow_line_end, has_arrow, selector_fault, is_term_attribute, variants_of_select, select_with, expression, placeable}
+use Rattle.fluent_syntax_grammar.specs.Arguments.{accessor, separator, add_positional, add_named, call_arguments}
+use Rattle.fluent_syntax_grammar.specs.Arguments.{argument_value, named_and_more, positional_and_more, argument_name}
+use Rattle.fluent_syntax_grammar.specs.Arguments.{argument_and_more, more_arguments_at, more_arguments}
+use Rattle.fluent_syntax_grammar.specs.Placeables.{arrow_line_end, has_arrow, selector_fault, is_term_attribute}
+use Rattle.fluent_syntax_grammar.specs.Placeables.{variants_of_select, select_with, expression, placeable}
 use Rattle.fluent_syntax_grammar.specs.Inline.{named_reference, inline_of, inline_expression}
 use Rattle.fluent_syntax_grammar.specs.Layout.{Piece}
 use Rattle.fluent_syntax_grammar.specs.Variants.{variant_key, only_star, variants_end}
 use Rattle.fluent_syntax_tree.specs.declared.edition.Edition.{Edition}
 use Rattle.fluent_syntax_tree.specs.declared.spans.Span.{Span}
-use Rattle.fluent_syntax_grammar.proofs.Holds.{Holds, holds_weaker, holds_bind, holds_gives, holds_fails, holds_over, holds_at_each, holds_either}
+use Rattle.fluent_syntax_grammar.proofs.Holds.{Holds, holds_weaker, holds_bind, holds_gives, holds_fails, holds_over}
+use Rattle.fluent_syntax_grammar.proofs.Holds.{holds_at_each, holds_either}
 use Rattle.fluent_syntax_grammar.proofs.Cuts.{IsCuts, ascii_byte, eol_forward, eol_place}
-use Rattle.fluent_syntax_grammar.proofs.Sound.{IsSpan, IsPlain, Inside, Ended, IsFault, Sound, sound_bind, sound_gives, sound_fails, sound_at_each, sound_either, sound_inline_blank, sound_blank}
+use Rattle.fluent_syntax_grammar.proofs.Sound.{IsSpan, IsPlain, Inside, Ended, IsFault, Sound, sound_bind, sound_gives}
+use Rattle.fluent_syntax_grammar.proofs.Sound.{sound_fails, sound_at_each, sound_either, sound_inline_blank}
+use Rattle.fluent_syntax_grammar.proofs.Sound.{sound_blank}
 use Rattle.fluent_syntax_grammar.proofs.SoundWords.{sound_optional, sound_token, sound_identifier, sound_number}
 use Rattle.fluent_syntax_grammar.proofs.SoundStrings.{sound_string}
 use Rattle.fluent_syntax_grammar.proofs.GoodLayout.{GoodPiece, GoodLine}

@@ -1,5 +1,6 @@
 -- String literals are sound. Inside one a place may lie within a character; before each quote it does not.
-use Rattle.std.proofs.Common.{◌≡◌, ℕ, ◌+◌, ◌-◌, ◌<◌, ◌≤◌, List, length, Option, Some, None, true, false, refl, arith, inl, inr}
+use Rattle.std.proofs.Common.{◌≡◌, ℕ, ◌+◌, ◌-◌, ◌<◌, ◌≤◌, List, length, Option, Some, None, true, false, refl, arith}
+use Rattle.std.proofs.Common.{inl, inr}
 use Rattle.std.specs.Prelude.{slice_get, ◌==◌, ◌⊎◌}
 use Rattle.std.specs.Char.{is_ascii_hexdigit}
 use Rattle.std.proofs.lemmas.Option.{slice_get_within}
@@ -7,10 +8,13 @@ use Rattle.fluent_syntax_tree.specs.Kind.{Kind}
 use Rattle.fluent_syntax_grammar.specs.Bytes.{lf}
 use Rattle.fluent_syntax_grammar.specs.Places.{has_byte, Steps}
 use Rattle.fluent_syntax_grammar.specs.Construct.{Read, Refused}
-use Rattle.fluent_syntax_grammar.specs.Strings.{HexDigits, hex_digits, all_there, too_few, escaped, string_unit, string_units, before_quote, unit_and_more, bad_unit, string_literal}
-use Rattle.fluent_syntax_grammar.proofs.Holds.{Holds, holds_weaker, holds_bind, holds_fails, holds_over, holds_at_each, holds_either}
+use Rattle.fluent_syntax_grammar.specs.Strings.{HexDigits, hex_digits, all_there, too_few, escaped, string_unit}
+use Rattle.fluent_syntax_grammar.specs.Strings.{string_units, before_quote, unit_and_more, bad_unit, string_literal}
+use Rattle.fluent_syntax_grammar.proofs.Holds.{Holds, holds_weaker, holds_bind, holds_fails, holds_over, holds_at_each}
+use Rattle.fluent_syntax_grammar.proofs.Holds.{holds_either}
 use Rattle.fluent_syntax_grammar.proofs.Cuts.{AsciiAt, IsCuts, ascii_has, ascii_byte, ascii_hex}
-use Rattle.fluent_syntax_grammar.proofs.Sound.{IsSpan, Inside, Ended, IsFault, Sound, sound_bind, sound_gives, sound_here, sound_spanned}
+use Rattle.fluent_syntax_grammar.proofs.Sound.{IsSpan, Inside, Ended, IsFault, Sound, sound_bind, sound_gives}
+use Rattle.fluent_syntax_grammar.proofs.Sound.{sound_here, sound_spanned}
 use Rattle.fluent_syntax_grammar.proofs.SoundWords.{sound_token}
 use Rattle.fluent_syntax_grammar.proofs.Facts.{byte_stands}
 

@@ -1,5 +1,6 @@
 -- The tiles of a tiling: each passes over a byte at least, its texts lie in the source, and its error lies at its junk.
-use Rattle.std.proofs.Common.{◌≡◌, ℕ, ◌+◌, ◌<◌, ◌≤◌, List, length, Option, Some, None, Bool, true, false, refl, sym, subst, arith, inl, inr}
+use Rattle.std.proofs.Common.{◌≡◌, ℕ, ◌+◌, ◌<◌, ◌≤◌, List, length, Option, Some, None, Bool, true, false, refl, sym}
+use Rattle.std.proofs.Common.{subst, arith, inl, inr}
 use Rattle.std.specs.Prelude.{slice_get, ◌==◌, ◌⊎◌}
 use Rattle.std.proofs.lemmas.Bool.{false≢true}
 use Rattle.std.proofs.lemmas.Bool.Decides.{nat_tests}
@@ -10,12 +11,16 @@ use Rattle.fluent_syntax_grammar.specs.Bytes.{is_letter}
 use Rattle.fluent_syntax_grammar.specs.Places.{holds, has, starts_line}
 use Rattle.fluent_syntax_grammar.specs.Construct.{Read, Refused, chosen, first, second}
 use Rattle.fluent_syntax_grammar.specs.Meaning.{kind_means}
-use Rattle.fluent_syntax_grammar.specs.Tiling.{Tile, entry, refused, dropped, failing_place, is_entry_byte, starts_entry, JunkEnd, whole_line, Tiled, done, next, entry_of, entry_at, TileAt, reads, refuses, RuntimeTileAt, drops, stands}
+use Rattle.fluent_syntax_grammar.specs.Tiling.{Tile, entry, refused, dropped, failing_place, is_entry_byte}
+use Rattle.fluent_syntax_grammar.specs.Tiling.{starts_entry, JunkEnd, whole_line, Tiled, done, next, entry_of, entry_at}
+use Rattle.fluent_syntax_grammar.specs.Tiling.{TileAt, reads, refuses, RuntimeTileAt, drops, stands}
 use Rattle.fluent_syntax_tree.specs.declared.edition.Edition.{Edition}
 use Rattle.fluent_syntax_tree.specs.declared.spans.Span.{Span}
 use Rattle.fluent_syntax_grammar.proofs.Cuts.{IsAsciiSet, IsCuts, ascii_has, block_place}
-use Rattle.fluent_syntax_grammar.proofs.Sound.{IsSpan, Inside, Ended, sound_bind, sound_rest_of_line, sound_optional_eol}
-use Rattle.fluent_syntax_grammar.proofs.SoundEntries.{IsEntryFault, earlier_fault, message_read, message_refused, letter_refused, term_read, term_refused}
+use Rattle.fluent_syntax_grammar.proofs.Sound.{IsSpan, Inside, Ended, sound_bind, sound_rest_of_line}
+use Rattle.fluent_syntax_grammar.proofs.Sound.{sound_optional_eol}
+use Rattle.fluent_syntax_grammar.proofs.SoundEntries.{IsEntryFault, earlier_fault, message_read, message_refused}
+use Rattle.fluent_syntax_grammar.proofs.SoundEntries.{letter_refused, term_read, term_refused}
 use Rattle.fluent_syntax_grammar.proofs.SoundComments.{comment_read, comment_refused}
 use Rattle.fluent_syntax_grammar.proofs.Facts.{byte_stands, lt_or_same, right_true}
 

@@ -6,9 +6,12 @@ use Rattle.fluent_syntax_tree.specs.Kind.{ExpectedCharRange}
 use Rattle.fluent_syntax_grammar.specs.Places.{has_byte}
 use Rattle.fluent_syntax_grammar.specs.Construct.{fails}
 use Rattle.fluent_syntax_grammar.specs.Words.{optional, token, digits, identifier, number}
-use Rattle.fluent_syntax_grammar.proofs.Holds.{Holds, holds_weaker, holds_bind, holds_gives, holds_fails, holds_over, holds_at_each, holds_either}
+use Rattle.fluent_syntax_grammar.proofs.Holds.{Holds, holds_weaker, holds_bind, holds_gives, holds_fails, holds_over}
+use Rattle.fluent_syntax_grammar.proofs.Holds.{holds_at_each, holds_either}
 use Rattle.fluent_syntax_grammar.proofs.Cuts.{IsCuts, ascii_byte, ascii_digit, ascii_name}
-use Rattle.fluent_syntax_grammar.proofs.Sound.{IsSpan, Inside, Ended, IsFault, Sound, sound_bind, sound_gives, sound_fails, sound_over, sound_at_each, sound_either, sound_here, sound_spanned, onward_word}
+use Rattle.fluent_syntax_grammar.proofs.Sound.{IsSpan, Inside, Ended, IsFault, Sound, sound_bind, sound_gives}
+use Rattle.fluent_syntax_grammar.proofs.Sound.{sound_fails, sound_over, sound_at_each, sound_either, sound_here}
+use Rattle.fluent_syntax_grammar.proofs.Sound.{sound_spanned, onward_word}
 
 is_small : (b : ℕ) → nat_lt b 128 ≡ true → b < 128
 is_small b e = grind (arith, nat_tests)

@@ -1,8 +1,11 @@
 -- Constructs that have an outcome at each place of the text from some place on, and that do not go back.
 use Rattle.std.proofs.Common.{◌≡◌, ℕ, ◌+◌, ◌≤◌, List, length, Bool, true, false, refl, arith}
 use Rattle.fluent_syntax_tree.specs.Kind.{Kind}
-use Rattle.fluent_syntax_grammar.specs.Construct.{Outcome, Read, Refused, Construct, ◌>>=◌, stops, goes_on, gives, given, here, at_place, fails, failed, fails_from, failed_from, over, passed, at_each, chosen, either, first, second}
-use Rattle.fluent_syntax_grammar.proofs.Holds.{Holds, holds_weaker, holds_bind, holds_gives, holds_here, holds_fails, holds_fails_from, holds_over, holds_at_each, holds_either}
+use Rattle.fluent_syntax_grammar.specs.Construct.{Outcome, Read, Refused, Construct, ◌>>=◌, stops, goes_on, gives}
+use Rattle.fluent_syntax_grammar.specs.Construct.{given, here, at_place, fails, failed, fails_from, failed_from, over}
+use Rattle.fluent_syntax_grammar.specs.Construct.{passed, at_each, chosen, either, first, second}
+use Rattle.fluent_syntax_grammar.proofs.Holds.{Holds, holds_weaker, holds_bind, holds_gives, holds_here, holds_fails}
+use Rattle.fluent_syntax_grammar.proofs.Holds.{holds_fails_from, holds_over, holds_at_each, holds_either}
 
 -- a place of the text from s on
 pub record From (t : List ℕ) (s i : ℕ) : Type 0 where

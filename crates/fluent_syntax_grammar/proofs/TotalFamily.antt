@@ -1,10 +1,12 @@
 -- What nests has an outcome at each place of the text, by induction on the bytes that are left.
-use Rattle.std.proofs.Common.{◌≡◌, ℕ, zero, suc, ◌+◌, ◌<◌, List, [], ◌∷◌, length, Option, Some, None, Bool, true, false, refl, sym, subst, arith}
+use Rattle.std.proofs.Common.{◌≡◌, ℕ, zero, suc, ◌+◌, ◌<◌, List, [], ◌∷◌, length, Option, Some, None, Bool, true, false}
+use Rattle.std.proofs.Common.{refl, sym, subst, arith}
 use Rattle.std.specs.Prelude.{slice_get, ◌||◌, nat_lt}
 use Rattle.fluent_syntax_tree.specs.Tree.{KeyTree, PatternTree, VariantTrees}
 use Rattle.fluent_syntax_grammar.specs.Bytes.{is_space}
 use Rattle.fluent_syntax_grammar.specs.Places.{after_eol, InlineBlank}
-use Rattle.fluent_syntax_grammar.specs.Construct.{Outcome, Read, Construct, ◌>>=◌, goes_on, gives, at_place, passed, either}
+use Rattle.fluent_syntax_grammar.specs.Construct.{Outcome, Read, Construct, ◌>>=◌, goes_on, gives, at_place, passed}
+use Rattle.fluent_syntax_grammar.specs.Construct.{either}
 use Rattle.fluent_syntax_grammar.specs.Words.{optional, blank_block}
 use Rattle.fluent_syntax_grammar.specs.Family.{Family}
 use Rattle.fluent_syntax_grammar.specs.Grammar.{family}
@@ -12,19 +14,27 @@ use Rattle.fluent_syntax_grammar.specs.Grammar as grammar
 use Rattle.fluent_syntax_grammar.specs.Layout.{Line, Layout}
 use Rattle.fluent_syntax_grammar.specs.Lines.{belongs, line, line_and_more, more_lines, no_byte, other_line, own_line}
 use Rattle.fluent_syntax_grammar.specs.Patterns.{layout_at, layout, pattern}
-use Rattle.fluent_syntax_grammar.specs.Variants.{only_star, variants_end, variant_and_more, variant_after, more_variants}
+use Rattle.fluent_syntax_grammar.specs.Variants.{only_star, variants_end, variant_and_more, variant_after}
+use Rattle.fluent_syntax_grammar.specs.Variants.{more_variants}
 use Rattle.fluent_syntax_tree.specs.declared.edition.Edition.{Edition}
 use Rattle.fluent_syntax_tree.specs.declared.spans.Span.{Span}
 use Rattle.fluent_syntax_grammar.proofs.Functional.{single_stretch}
-use Rattle.fluent_syntax_grammar.proofs.Holds.{Holds, gave, holds_weaker, holds_bind, holds_over, holds_at_each, holds_either}
+use Rattle.fluent_syntax_grammar.proofs.Holds.{Holds, gave, holds_weaker, holds_bind, holds_over, holds_at_each}
+use Rattle.fluent_syntax_grammar.proofs.Holds.{holds_either}
 use Rattle.fluent_syntax_grammar.proofs.Cuts.{eol_forward}
 use Rattle.fluent_syntax_grammar.proofs.SoundStrings.{InText}
 use Rattle.fluent_syntax_grammar.proofs.SoundLines.{sound_family}
 use Rattle.fluent_syntax_grammar.proofs.Boundaries.{text_cuts}
-use Rattle.fluent_syntax_grammar.proofs.Nesting.{into_inline_expression, into_more_arguments, into_more_variants, into_more_pieces, into_more_lines, from_family}
-use Rattle.fluent_syntax_grammar.proofs.Total.{From, AnyFault, Total, Both, Strict, total_bind, total_weaker, total_over, total_at_each, total_either, both_bind, both_gives, both_here, both_fails, both_either, both_strict}
-use Rattle.fluent_syntax_grammar.proofs.TotalWords.{both_blank, both_blank_block, both_inline_blank, both_optional, eol_text, on_sound, optional_on, strict_token, total_optional, word_of}
-use Rattle.fluent_syntax_grammar.proofs.TotalRules.{BothFamily, both_key, both_ending, strict_inline, strict_arguments, both_pieces, more_read, ending_after}
+use Rattle.fluent_syntax_grammar.proofs.Nesting.{into_inline_expression, into_more_arguments, into_more_variants}
+use Rattle.fluent_syntax_grammar.proofs.Nesting.{into_more_pieces, into_more_lines, from_family}
+use Rattle.fluent_syntax_grammar.proofs.Total.{From, AnyFault, Total, Both, Strict, total_bind, total_weaker}
+use Rattle.fluent_syntax_grammar.proofs.Total.{total_over, total_at_each, total_either, both_bind, both_gives}
+use Rattle.fluent_syntax_grammar.proofs.Total.{both_here, both_fails, both_either, both_strict}
+use Rattle.fluent_syntax_grammar.proofs.TotalWords.{both_blank, both_blank_block, both_inline_blank, both_optional}
+use Rattle.fluent_syntax_grammar.proofs.TotalWords.{eol_text, on_sound, optional_on, strict_token, total_optional}
+use Rattle.fluent_syntax_grammar.proofs.TotalWords.{word_of}
+use Rattle.fluent_syntax_grammar.proofs.TotalRules.{BothFamily, both_key, both_ending, strict_inline, strict_arguments}
+use Rattle.fluent_syntax_grammar.proofs.TotalRules.{both_pieces, more_read, ending_after}
 
 module _ (edition : Edition) (t : List ℕ) where
   abbrev R : Family

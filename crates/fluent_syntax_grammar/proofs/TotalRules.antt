@@ -1,29 +1,41 @@
 -- What nests has an outcome at each place of the text.
-use Rattle.std.proofs.Common.{◌≡◌, ℕ, ◌+◌, ◌<◌, List, [], ◌∷◌, Option, Some, None, Bool, true, false, refl, sym, ◌∙◌, subst, arith, inl, inr}
+use Rattle.std.proofs.Common.{◌≡◌, ℕ, ◌+◌, ◌<◌, List, [], ◌∷◌, Option, Some, None, Bool, true, false, refl, sym, ◌∙◌}
+use Rattle.std.proofs.Common.{subst, arith, inl, inr}
 use Rattle.std.specs.Prelude.{slice_get, ◌⊎◌, ◌==◌, ◌||◌, ◌&&◌, not, if◌then◌else◌}
 use Rattle.std.proofs.lemmas.Bool.{false≢true}
 use Rattle.fluent_syntax_tree.specs.Kind.{Kind, TermAttributeAsPlaceable, UnbalancedClosingBrace}
-use Rattle.fluent_syntax_tree.specs.Tree.{inline, InlineTree, ExpressionTree, MaybeArguments, no_arguments, some_arguments}
+use Rattle.fluent_syntax_tree.specs.Tree.{inline, InlineTree, ExpressionTree, MaybeArguments, no_arguments}
+use Rattle.fluent_syntax_tree.specs.Tree.{some_arguments}
 use Rattle.fluent_syntax_grammar.specs.Bytes.{lf, cr}
 use Rattle.fluent_syntax_grammar.specs.Places.{holds, Stretch, Steps, has_byte, has_eol, after_eol}
-use Rattle.fluent_syntax_grammar.specs.Construct.{Read, Construct, ◌>>=◌, ◌>>◌, goes_on, gives, here, at_place, over, passed, at_each, chosen, either, first, second, fails}
+use Rattle.fluent_syntax_grammar.specs.Construct.{Read, Construct, ◌>>=◌, ◌>>◌, goes_on, gives, here, at_place, over}
+use Rattle.fluent_syntax_grammar.specs.Construct.{passed, at_each, chosen, either, first, second, fails}
 use Rattle.fluent_syntax_grammar.specs.Words.{inline_blank, blank}
 use Rattle.fluent_syntax_grammar.specs.Family.{Family}
 use Rattle.fluent_syntax_grammar.specs.Starts.{Start, quote, digit, term, minus, dollar, letter, brace, other}
-use Rattle.fluent_syntax_grammar.specs.Arguments.{accessor, separator, call_arguments, argument_value, named_and_more, positional_and_more, argument_name, argument_and_more, more_arguments_at, more_arguments}
-use Rattle.fluent_syntax_grammar.specs.Placeables.{arrow_line_end, has_arrow, selector_fault, is_term_attribute, variants_of_select, select_with, expression, placeable}
+use Rattle.fluent_syntax_grammar.specs.Arguments.{accessor, separator, call_arguments, argument_value, named_and_more}
+use Rattle.fluent_syntax_grammar.specs.Arguments.{positional_and_more, argument_name, argument_and_more}
+use Rattle.fluent_syntax_grammar.specs.Arguments.{more_arguments_at, more_arguments}
+use Rattle.fluent_syntax_grammar.specs.Placeables.{arrow_line_end, has_arrow, selector_fault, is_term_attribute}
+use Rattle.fluent_syntax_grammar.specs.Placeables.{variants_of_select, select_with, expression, placeable}
 use Rattle.fluent_syntax_grammar.specs.Inline.{named_reference, inline_of, inline_expression}
 use Rattle.fluent_syntax_grammar.specs.Layout.{Piece, run, placed, Ending}
 use Rattle.fluent_syntax_grammar.specs.Lines.{is_run_place, ending_of, ending, pieces_at, more_pieces}
 use Rattle.fluent_syntax_grammar.specs.Variants.{variant_key}
 use Rattle.fluent_syntax_tree.specs.declared.spans.Span.{Span}
-use Rattle.fluent_syntax_grammar.proofs.Holds.{Holds, gave, holds_weaker, holds_bind, holds_gives, holds_here, holds_fails, holds_over, holds_at_each, holds_either}
+use Rattle.fluent_syntax_grammar.proofs.Holds.{Holds, gave, holds_weaker, holds_bind, holds_gives, holds_here}
+use Rattle.fluent_syntax_grammar.proofs.Holds.{holds_fails, holds_over, holds_at_each, holds_either}
 use Rattle.fluent_syntax_grammar.proofs.Cuts.{eol_forward}
 use Rattle.fluent_syntax_grammar.proofs.SoundStrings.{InText}
 use Rattle.fluent_syntax_grammar.proofs.SoundLines.{ending_holds}
 use Rattle.fluent_syntax_grammar.proofs.Boundaries.{text_cuts}
-use Rattle.fluent_syntax_grammar.proofs.Total.{From, AnyFault, Total, Both, Strict, total_bind, total_weaker, total_gives, total_here, total_fails, total_over, total_at_each, total_either, both_bind, both_gives, both_here, both_fails, both_at_each, both_either, both_strict, strict_first, strict_fails, strict_at_each, strict_either}
-use Rattle.fluent_syntax_grammar.proofs.TotalWords.{both_blank, both_inline_blank, both_optional, eol_text, run_word, strict_identifier, strict_number, strict_string, strict_token}
+use Rattle.fluent_syntax_grammar.proofs.Total.{From, AnyFault, Total, Both, Strict, total_bind, total_weaker}
+use Rattle.fluent_syntax_grammar.proofs.Total.{total_gives, total_here, total_fails, total_over, total_at_each}
+use Rattle.fluent_syntax_grammar.proofs.Total.{total_either, both_bind, both_gives, both_here, both_fails, both_at_each}
+use Rattle.fluent_syntax_grammar.proofs.Total.{both_either, both_strict, strict_first, strict_fails, strict_at_each}
+use Rattle.fluent_syntax_grammar.proofs.Total.{strict_either}
+use Rattle.fluent_syntax_grammar.proofs.TotalWords.{both_blank, both_inline_blank, both_optional, eol_text, run_word}
+use Rattle.fluent_syntax_grammar.proofs.TotalWords.{strict_identifier, strict_number, strict_string, strict_token}
 use Rattle.fluent_syntax_grammar.proofs.Facts.{byte_inside, differs, lt_or_same, right_true}
 
 -- each construct of the family has an outcome at each place from s on

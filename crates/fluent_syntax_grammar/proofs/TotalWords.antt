@@ -1,23 +1,32 @@
 -- Words, marks, names, numbers and strings have an outcome at each place of the text.
-use Rattle.std.proofs.Common.{◌≡◌, ℕ, zero, suc, ◌+◌, ◌<◌, ◌≤◌, List, length, Option, Some, None, Bool, true, false, refl, sym, ◌∙◌, subst, arith, inl, inr}
+use Rattle.std.proofs.Common.{◌≡◌, ℕ, zero, suc, ◌+◌, ◌<◌, ◌≤◌, List, length, Option, Some, None, Bool, true, false}
+use Rattle.std.proofs.Common.{refl, sym, ◌∙◌, subst, arith, inl, inr}
 use Rattle.std.specs.Prelude.{slice_get, ◌==◌}
 use Rattle.std.proofs.lemmas.Bool.{false≢true}
 use Rattle.std.proofs.lemmas.Option.{slice_get_within}
 use Rattle.fluent_syntax_grammar.specs.Bytes.{is_space, is_digit, is_name_byte}
-use Rattle.fluent_syntax_grammar.specs.Places.{Stretch, Word, Steps, has, has_byte, after_eol, is_blank_place, is_line_place, InlineBlank, BlankBlock, no_line, line}
+use Rattle.fluent_syntax_grammar.specs.Places.{Stretch, Word, Steps, has, has_byte, after_eol, is_blank_place}
+use Rattle.fluent_syntax_grammar.specs.Places.{is_line_place, InlineBlank, BlankBlock, no_line, line}
 use Rattle.fluent_syntax_grammar.specs.Construct.{Outcome, Read, Refused, Construct, over}
-use Rattle.fluent_syntax_grammar.specs.Words.{spanned, optional, token, inline_blank, blank, blank_block, past_eol, optional_eol, rest_of_line, digits, identifier, number}
-use Rattle.fluent_syntax_grammar.specs.Strings.{hex_digits, all_there, escaped, string_unit, string_units, before_quote, unit_and_more, bad_unit, string_literal}
+use Rattle.fluent_syntax_grammar.specs.Words.{spanned, optional, token, inline_blank, blank, blank_block, past_eol}
+use Rattle.fluent_syntax_grammar.specs.Words.{optional_eol, rest_of_line, digits, identifier, number}
+use Rattle.fluent_syntax_grammar.specs.Strings.{hex_digits, all_there, escaped, string_unit, string_units, before_quote}
+use Rattle.fluent_syntax_grammar.specs.Strings.{unit_and_more, bad_unit, string_literal}
 use Rattle.fluent_syntax_grammar.specs.Lines.{is_run_place}
-use Rattle.fluent_syntax_grammar.proofs.Holds.{Holds, holds_weaker, holds_bind, holds_gives, holds_fails, holds_over, holds_at_each, holds_either}
-use Rattle.fluent_syntax_grammar.proofs.Cuts.{ascii_blank, line_inside, run_inside, eol_forward, eol_place, block_forward, block_place}
+use Rattle.fluent_syntax_grammar.proofs.Holds.{Holds, holds_weaker, holds_bind, holds_gives, holds_fails, holds_over}
+use Rattle.fluent_syntax_grammar.proofs.Holds.{holds_at_each, holds_either}
+use Rattle.fluent_syntax_grammar.proofs.Cuts.{ascii_blank, line_inside, run_inside, eol_forward, eol_place}
+use Rattle.fluent_syntax_grammar.proofs.Cuts.{block_forward, block_place}
 use Rattle.fluent_syntax_grammar.proofs.Sound.{Sound}
 use Rattle.fluent_syntax_grammar.proofs.SoundStrings.{InText, unit_holds, sound_units}
 use Rattle.fluent_syntax_grammar.proofs.SoundEntries.{name_read}
 use Rattle.fluent_syntax_grammar.proofs.Boundaries.{text_cuts}
 use Rattle.fluent_syntax_grammar.proofs.Computed.{find_here, find_on}
 use Rattle.fluent_syntax_grammar.proofs.ComputedRules.{computed_hex, hex_run, hex_end}
-use Rattle.fluent_syntax_grammar.proofs.Total.{From, AnyFault, Total, Both, Strict, IsWord, total_bind, total_gives, total_fails, total_over, total_at_each, total_either, both_bind, both_gives, both_here, both_fails, both_over, both_at_each, both_either, both_strict, strict_first, strict_then}
+use Rattle.fluent_syntax_grammar.proofs.Total.{From, AnyFault, Total, Both, Strict, IsWord, total_bind, total_gives}
+use Rattle.fluent_syntax_grammar.proofs.Total.{total_fails, total_over, total_at_each, total_either, both_bind}
+use Rattle.fluent_syntax_grammar.proofs.Total.{both_gives, both_here, both_fails, both_over, both_at_each, both_either}
+use Rattle.fluent_syntax_grammar.proofs.Total.{both_strict, strict_first, strict_then}
 use Rattle.fluent_syntax_grammar.proofs.Facts.{byte_inside, lt_or_same, stretch_in_text}
 
 true_false : {X : Type 0} → false ≡ true → X

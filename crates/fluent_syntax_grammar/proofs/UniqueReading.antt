@@ -4,11 +4,19 @@ use Rattle.fluent_syntax_tree.specs.Every.{list_every}
 use Rattle.fluent_syntax_grammar.specs.Grammar.{family}
 use Rattle.fluent_syntax_grammar.specs.Tiling.{Tile, entry, refused, dropped}
 use Rattle.fluent_syntax_grammar.specs.Body.{faults}
-use Rattle.fluent_syntax_grammar.specs.Laws.{OneReading, OneTiling, OneRuntimeTiling, FaultMeans, KindsMean, RuntimeKindsMean, HasNoComments, SameMessagesAndTerms, NoNewErrors, SameWithoutComments, messages_and_terms}
+use Rattle.fluent_syntax_grammar.specs.Laws.{OneReading, OneTiling, OneRuntimeTiling, FaultMeans, KindsMean}
+use Rattle.fluent_syntax_grammar.specs.Laws.{RuntimeKindsMean, HasNoComments, SameMessagesAndTerms, NoNewErrors}
+use Rattle.fluent_syntax_grammar.specs.Laws.{SameWithoutComments, messages_and_terms}
 use Rattle.fluent_syntax_tree.specs.declared.edition.Edition.{Edition}
-use Rattle.fluent_syntax_grammar.proofs.FunctionalWords.{functional_token, functional_inline_blank, functional_blank, functional_blank_block, functional_optional_eol, functional_rest_of_line, functional_identifier, functional_number, functional_string}
+use Rattle.fluent_syntax_grammar.proofs.FunctionalWords.{functional_token, functional_inline_blank, functional_blank}
+use Rattle.fluent_syntax_grammar.proofs.FunctionalWords.{functional_blank_block, functional_optional_eol}
+use Rattle.fluent_syntax_grammar.proofs.FunctionalWords.{functional_rest_of_line, functional_identifier}
+use Rattle.fluent_syntax_grammar.proofs.FunctionalWords.{functional_number, functional_string}
 use Rattle.fluent_syntax_grammar.proofs.FunctionalRules as rules
-use Rattle.fluent_syntax_grammar.proofs.FunctionalEntries.{functional_pattern, functional_attribute, functional_attributes, functional_message, functional_term, functional_comment_line, functional_comment_lines, functional_comment, functional_entry}
+use Rattle.fluent_syntax_grammar.proofs.FunctionalEntries.{functional_pattern, functional_attribute}
+use Rattle.fluent_syntax_grammar.proofs.FunctionalEntries.{functional_attributes, functional_message, functional_term}
+use Rattle.fluent_syntax_grammar.proofs.FunctionalEntries.{functional_comment_line, functional_comment_lines}
+use Rattle.fluent_syntax_grammar.proofs.FunctionalEntries.{functional_comment, functional_entry}
 use Rattle.fluent_syntax_grammar.proofs.Nesting.{functional_family}
 use Rattle.fluent_syntax_grammar.proofs.OneTiling as tilings
 use Rattle.fluent_syntax_grammar.proofs.SoundStrings.{InText}

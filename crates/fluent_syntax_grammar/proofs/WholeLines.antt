@@ -1,5 +1,6 @@
 -- The rest of a line with its line end, and comment lines, which are such lines.
-use Rattle.std.proofs.Common.{◌≡◌, ℕ, zero, suc, ◌+◌, ◌-◌, ◌<◌, ◌≤◌, List, length, Option, Some, None, Bool, true, false, refl, sym, ◌∙◌, subst, ap, arith, inl, inr}
+use Rattle.std.proofs.Common.{◌≡◌, ℕ, zero, suc, ◌+◌, ◌-◌, ◌<◌, ◌≤◌, List, length, Option, Some, None, Bool, true}
+use Rattle.std.proofs.Common.{false, refl, sym, ◌∙◌, subst, ap, arith, inl, inr}
 use Rattle.std.specs.Prelude.{slice_get, ◌==◌, ◌||◌, ◌&&◌, ◌⊎◌, not, is_some, if◌then◌else◌}
 use Rattle.std.proofs.lemmas.Bool.{false≢true}
 use Rattle.std.proofs.lemmas.Bool.Decides.{nat_tests}

@@ -6,8 +6,12 @@ use lib.Pointwise.{pointwise}
 use Rattle.fluent_syntax_grammar.specs.Bytes.{colon, comma, full_stop, left_parenthesis, right_parenthesis}
 use Rattle.fluent_syntax_grammar.specs.Places.{has_byte}
 use Rattle.fluent_syntax_tree.specs.Spans.{bytes_at}
-use Rattle.fluent_syntax_tree.specs.Tree.{InlineTree, string_literal, number_literal, function_reference, message_reference, term_reference, variable_reference, inline_placeable, ArgumentsTree, arguments, MaybeArguments, no_arguments, some_arguments, no_inlines, inlines, no_named, nameds, named_argument}
-use Rattle.fluent_syntax_tree.specs.Kind.{ExpectedToken, PositionalArgumentFollowsNamed, DuplicatedNamedArgument, ExpectedLiteral}
+use Rattle.fluent_syntax_tree.specs.Tree.{InlineTree, string_literal, number_literal, function_reference}
+use Rattle.fluent_syntax_tree.specs.Tree.{message_reference, term_reference, variable_reference, inline_placeable}
+use Rattle.fluent_syntax_tree.specs.Tree.{ArgumentsTree, arguments, MaybeArguments, no_arguments, some_arguments}
+use Rattle.fluent_syntax_tree.specs.Tree.{no_inlines, inlines, no_named, nameds, named_argument}
+use Rattle.fluent_syntax_tree.specs.Kind.{ExpectedToken, PositionalArgumentFollowsNamed, DuplicatedNamedArgument}
+use Rattle.fluent_syntax_tree.specs.Kind.{ExpectedLiteral}
 use Rattle.fluent_syntax_grammar.specs.Construct.{Construct, ◌>>=◌, ◌>>◌, gives, fails, at_each, either}
 use Rattle.fluent_syntax_grammar.specs.Words.{optional, token, blank, identifier}
 use Rattle.fluent_syntax_grammar.specs.Starts.{Start, quote, digit, term, minus, dollar, letter, brace, other, start}

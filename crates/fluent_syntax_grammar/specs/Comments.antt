@@ -1,10 +1,12 @@
 -- Comments.
-use Rattle.std.specs.Prelude.{◌≡◌, ◌≢◌, ℕ, ◌+◌, List, [], ◌∷◌, ◌++◌, slice_get, Option, Some, None, Bool, true, false, ◌==◌, not, if◌then◌else◌}
+use Rattle.std.specs.Prelude.{◌≡◌, ◌≢◌, ℕ, ◌+◌, List, [], ◌∷◌, ◌++◌, slice_get, Option, Some, None, Bool, true, false}
+use Rattle.std.specs.Prelude.{◌==◌, not, if◌then◌else◌}
 use Rattle.fluent_syntax_grammar.specs.Bytes.{space, hash}
 use Rattle.fluent_syntax_grammar.specs.Places.{Steps, has_byte, has_eol}
 use Rattle.fluent_syntax_tree.specs.Entry.{EntryTree, comment, Level, regular, group, resource}
 use Rattle.fluent_syntax_tree.specs.Kind.{Kind}
-use Rattle.fluent_syntax_grammar.specs.Construct.{Outcome, Read, Refused, Construct, ◌>>=◌, ◌>>◌, gives, here, over, at_each}
+use Rattle.fluent_syntax_grammar.specs.Construct.{Outcome, Read, Refused, Construct, ◌>>=◌, ◌>>◌, gives, here, over}
+use Rattle.fluent_syntax_grammar.specs.Construct.{at_each}
 use Rattle.fluent_syntax_grammar.specs.Words.{spanned, token, optional_eol, rest_of_line}
 use Rattle.fluent_syntax_tree.specs.declared.spans.Span.{Span}
 

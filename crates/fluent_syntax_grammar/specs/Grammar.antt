@@ -9,7 +9,8 @@ use Rattle.fluent_syntax_grammar.specs.Lines as lines
 use Rattle.fluent_syntax_grammar.specs.Patterns as patterns
 use Rattle.fluent_syntax_grammar.specs.Variants as variants
 use Rattle.fluent_syntax_grammar.specs.Layout.{Piece, Line, Layout}
-use Rattle.fluent_syntax_tree.specs.Tree.{ArgumentsTree, ExpressionTree, InlineTree, MaybeArguments, PatternTree, VariantTrees}
+use Rattle.fluent_syntax_tree.specs.Tree.{ArgumentsTree, ExpressionTree, InlineTree, MaybeArguments, PatternTree}
+use Rattle.fluent_syntax_tree.specs.Tree.{VariantTrees}
 use Rattle.fluent_syntax_tree.specs.declared.edition.Edition.{Edition}
 use Rattle.fluent_syntax_tree.specs.declared.spans.Span.{Span}
 

@@ -3,7 +3,9 @@ use Rattle.std.specs.Prelude.{ℕ, List, Bool, ◌||◌, ◌==◌}
 use Rattle.std.specs.List.{list_all}
 use Rattle.fluent_syntax_grammar.specs.Bytes.{dollar_sign, hyphen, underscore, is_capital, is_digit}
 use Rattle.fluent_syntax_tree.specs.Spans.{bytes_at}
-use Rattle.fluent_syntax_tree.specs.Tree.{InlineTree, string_literal, number_literal, function_reference, message_reference, term_reference, variable_reference, inline_placeable, MaybeArguments, no_arguments, some_arguments}
+use Rattle.fluent_syntax_tree.specs.Tree.{InlineTree, string_literal, number_literal, function_reference}
+use Rattle.fluent_syntax_tree.specs.Tree.{message_reference, term_reference, variable_reference, inline_placeable}
+use Rattle.fluent_syntax_tree.specs.Tree.{MaybeArguments, no_arguments, some_arguments}
 use Rattle.fluent_syntax_tree.specs.Kind.{ForbiddenCallee, ExpectedInlineExpression}
 use Rattle.fluent_syntax_grammar.specs.Construct.{Construct, ◌>>=◌, ◌>>◌, gives, fails, at_each, either}
 use Rattle.fluent_syntax_grammar.specs.Words.{token, identifier, number}

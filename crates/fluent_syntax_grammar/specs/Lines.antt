@@ -1,9 +1,11 @@
 -- The lines of a pattern: runs of text and placeables.
-use Rattle.std.specs.Prelude.{◌≡◌, ℕ, ◌+◌, ◌-◌, List, [], ◌∷◌, slice_get, Option, Some, None, Bool, true, false, ◌&&◌, ◌||◌, ◌==◌, not, nat_lt, if◌then◌else◌}
+use Rattle.std.specs.Prelude.{◌≡◌, ℕ, ◌+◌, ◌-◌, List, [], ◌∷◌, slice_get, Option, Some, None, Bool, true, false, ◌&&◌}
+use Rattle.std.specs.Prelude.{◌||◌, ◌==◌, not, nat_lt, if◌then◌else◌}
 use Rattle.fluent_syntax_grammar.specs.Bytes.{lf, cr, asterisk, full_stop, left_brace, left_bracket, right_brace}
 use Rattle.fluent_syntax_grammar.specs.Places.{Stretch, Reaches, has, has_byte, after_eol, has_eol, InlineBlank}
 use Rattle.fluent_syntax_tree.specs.Kind.{UnbalancedClosingBrace}
-use Rattle.fluent_syntax_grammar.specs.Construct.{Outcome, Read, Construct, ◌>>=◌, ◌>>◌, gives, here, fails, over, at_each, either}
+use Rattle.fluent_syntax_grammar.specs.Construct.{Outcome, Read, Construct, ◌>>=◌, ◌>>◌, gives, here, fails, over}
+use Rattle.fluent_syntax_grammar.specs.Construct.{at_each, either}
 use Rattle.fluent_syntax_grammar.specs.Words.{inline_blank}
 use Rattle.fluent_syntax_grammar.specs.Layout.{Piece, run, placed, Ending, lf_at, crlf_at, text_end, Line}
 use Rattle.fluent_syntax_grammar.specs.Family.{Family}

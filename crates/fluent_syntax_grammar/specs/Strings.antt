@@ -1,11 +1,14 @@
 -- String literals: quotes, with units between them.
-use Rattle.std.specs.Prelude.{◌≡◌, ℕ, ◌+◌, ◌<◌, ◌≤◌, List, slice_get, slice_range, Option, Some, None, true, false, ◌||◌, ◌==◌, nat_lt, if◌then◌else◌, codes}
+use Rattle.std.specs.Prelude.{◌≡◌, ℕ, ◌+◌, ◌<◌, ◌≤◌, List, slice_get, slice_range, Option, Some, None, true, false}
+use Rattle.std.specs.Prelude.{◌||◌, ◌==◌, nat_lt, if◌then◌else◌, codes}
 use Rattle.std.specs.Char.{is_ascii_hexdigit}
 use Rattle.std.specs.Fmt.{decimal}
 use Rattle.fluent_syntax_grammar.specs.Bytes.{lf, backslash, capital_u, double_quote, left_brace, small_u}
 use Rattle.fluent_syntax_grammar.specs.Places.{Steps, has, has_byte}
-use Rattle.fluent_syntax_tree.specs.Kind.{Kind, ExpectedToken, UnterminatedStringLiteral, UnknownEscapeSequence, InvalidUnicodeEscapeSequence}
-use Rattle.fluent_syntax_grammar.specs.Construct.{Outcome, Read, Refused, Construct, ◌>>=◌, ◌>>◌, gives, here, fails, over, at_each, either}
+use Rattle.fluent_syntax_tree.specs.Kind.{Kind, ExpectedToken, UnterminatedStringLiteral, UnknownEscapeSequence}
+use Rattle.fluent_syntax_tree.specs.Kind.{InvalidUnicodeEscapeSequence}
+use Rattle.fluent_syntax_grammar.specs.Construct.{Outcome, Read, Refused, Construct, ◌>>=◌, ◌>>◌, gives, here, fails}
+use Rattle.fluent_syntax_grammar.specs.Construct.{over, at_each, either}
 use Rattle.fluent_syntax_grammar.specs.Words.{spanned, token}
 use Rattle.fluent_syntax_tree.specs.declared.spans.Span.{Span}
 

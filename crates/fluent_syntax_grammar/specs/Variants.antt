@@ -2,7 +2,8 @@
 use Rattle.std.specs.Prelude.{ℕ, List, Option, Some, None, Bool, ◌&&◌, ◌||◌, ◌==◌}
 use Rattle.fluent_syntax_grammar.specs.Bytes.{is_digit, asterisk, hyphen, left_bracket, right_bracket}
 use Rattle.fluent_syntax_grammar.specs.Places.{has}
-use Rattle.fluent_syntax_tree.specs.Tree.{KeyTree, name_key, number_key, PatternTree, VariantTrees, no_variants, variants, variant}
+use Rattle.fluent_syntax_tree.specs.Tree.{KeyTree, name_key, number_key, PatternTree, VariantTrees, no_variants}
+use Rattle.fluent_syntax_tree.specs.Tree.{variants, variant}
 use Rattle.fluent_syntax_tree.specs.Kind.{MissingDefaultVariant, MissingValue, MultipleDefaultVariants}
 use Rattle.fluent_syntax_grammar.specs.Construct.{Construct, ◌>>=◌, ◌>>◌, gives, fails, at_each, either}
 use Rattle.fluent_syntax_grammar.specs.Words.{optional, token, blank, identifier, number}

@@ -1,7 +1,8 @@
 -- Marks, blanks, line ends, identifiers and numbers.
 use Rattle.std.specs.Prelude.{ℕ, List, Option, Some, None, Bool, true, false, codes}
 use Rattle.fluent_syntax_grammar.specs.Bytes.{hyphen, full_stop, is_letter, is_digit, is_name_byte}
-use Rattle.fluent_syntax_grammar.specs.Places.{Stretch, Steps, Reaches, has, has_byte, Word, after_eol, is_line_place, InlineBlank, Blank, BlankBlock}
+use Rattle.fluent_syntax_grammar.specs.Places.{Stretch, Steps, Reaches, has, has_byte, Word, after_eol, is_line_place}
+use Rattle.fluent_syntax_grammar.specs.Places.{InlineBlank, Blank, BlankBlock}
 use Rattle.fluent_syntax_tree.specs.Kind.{ExpectedToken, ExpectedCharRange}
 use Rattle.fluent_syntax_grammar.specs.Construct.{Construct, ◌>>=◌, ◌>>◌, gives, here, fails, over, at_each, either}
 use Rattle.fluent_syntax_tree.specs.declared.spans.Span.{Span}

@@ -1,10 +1,18 @@
 -- The text that a tree is written as. A tree gives a list of marks: literals, stars and line ends. Marks stand at
 -- levels, and only where the list is turned into text do levels become spaces.
-use Rattle.std.specs.Prelude.{ℕ, ◌+◌, ◌-◌, ◌*◌, List, [], ◌∷◌, ◌++◌, replicate, Option, Some, None, Bool, true, false, ◌&&◌, ◌||◌, ◌==◌, not, if◌then◌else◌, codes}
+use Rattle.std.specs.Prelude.{ℕ, ◌+◌, ◌-◌, ◌*◌, List, [], ◌∷◌, ◌++◌, replicate, Option, Some, None, Bool, true, false}
+use Rattle.std.specs.Prelude.{◌&&◌, ◌||◌, ◌==◌, not, if◌then◌else◌, codes}
 use Rattle.std.specs.List.{list_any}
 use Rattle.fluent_syntax_grammar.specs.Bytes.{lf, cr, space, asterisk, full_stop, left_bracket}
-use Rattle.fluent_syntax_tree.specs.Tree.{KeyTree, name_key, number_key, ExpressionTree, select, inline, InlineTree, string_literal, number_literal, function_reference, message_reference, term_reference, variable_reference, inline_placeable, ArgumentsTree, arguments, MaybeArguments, no_arguments, some_arguments, InlineTrees, no_inlines, inlines, NamedTree, NamedTrees, no_named, nameds, named_argument, ElementTree, text_element, placeable, PatternTree, no_elements, elements, VariantTree, VariantTrees, no_variants, variants, variant}
-use Rattle.fluent_syntax_tree.specs.Entry.{EntryTree, message, term, comment, junk, Level, regular, group, resource, AttributeTree, MessageTree, TermTree, BodyTree}
+use Rattle.fluent_syntax_tree.specs.Tree.{KeyTree, name_key, number_key, ExpressionTree, select, inline, InlineTree}
+use Rattle.fluent_syntax_tree.specs.Tree.{string_literal, number_literal, function_reference, message_reference}
+use Rattle.fluent_syntax_tree.specs.Tree.{term_reference, variable_reference, inline_placeable, ArgumentsTree}
+use Rattle.fluent_syntax_tree.specs.Tree.{arguments, MaybeArguments, no_arguments, some_arguments, InlineTrees}
+use Rattle.fluent_syntax_tree.specs.Tree.{no_inlines, inlines, NamedTree, NamedTrees, no_named, nameds, named_argument}
+use Rattle.fluent_syntax_tree.specs.Tree.{ElementTree, text_element, placeable, PatternTree, no_elements, elements}
+use Rattle.fluent_syntax_tree.specs.Tree.{VariantTree, VariantTrees, no_variants, variants, variant}
+use Rattle.fluent_syntax_tree.specs.Entry.{EntryTree, message, term, comment, junk, Level, regular, group, resource}
+use Rattle.fluent_syntax_tree.specs.Entry.{AttributeTree, MessageTree, TermTree, BodyTree}
 
 -- a text is its bytes
 abbrev pub Text : Type 0

@@ -3,12 +3,27 @@ use Rattle.std.proofs.Common.{◌≡◌, List, [], ◌∷◌, map, Option, Some,
 use Rattle.serde_json.specs.Data.{Data, string}
 use Rattle.serde_json.specs.Find.{get, as_str}
 use Rattle.serde_json.specs.View.{items_of}
-use Rattle.fluent_syntax_tree.specs.Tree.{KeyTree, name_key, number_key, ExpressionTree, select, inline, InlineTree, string_literal, number_literal, function_reference, message_reference, term_reference, variable_reference, inline_placeable, ArgumentsTree, arguments, MaybeArguments, no_arguments, some_arguments, InlineTrees, no_inlines, inlines, inlines_of, NamedTree, named_argument, NamedTrees, no_named, nameds, nameds_of, ElementTree, text_element, placeable, PatternTree, no_elements, elements, elements_of, VariantTree, variant, VariantTrees, no_variants, variants, variants_of}
-use Rattle.fluent_syntax_tree.specs.Entry.{AttributeTree, MessageTree, TermTree, EntryTree, message, term, comment, junk, regular, group, resource, BodyTree}
+use Rattle.fluent_syntax_tree.specs.Tree.{KeyTree, name_key, number_key, ExpressionTree, select, inline, InlineTree}
+use Rattle.fluent_syntax_tree.specs.Tree.{string_literal, number_literal, function_reference, message_reference}
+use Rattle.fluent_syntax_tree.specs.Tree.{term_reference, variable_reference, inline_placeable, ArgumentsTree}
+use Rattle.fluent_syntax_tree.specs.Tree.{arguments, MaybeArguments, no_arguments, some_arguments, InlineTrees}
+use Rattle.fluent_syntax_tree.specs.Tree.{no_inlines, inlines, inlines_of, NamedTree, named_argument, NamedTrees}
+use Rattle.fluent_syntax_tree.specs.Tree.{no_named, nameds, nameds_of, ElementTree, text_element, placeable}
+use Rattle.fluent_syntax_tree.specs.Tree.{PatternTree, no_elements, elements, elements_of, VariantTree, variant}
+use Rattle.fluent_syntax_tree.specs.Tree.{VariantTrees, no_variants, variants, variants_of}
+use Rattle.fluent_syntax_tree.specs.Entry.{AttributeTree, MessageTree, TermTree, EntryTree, message, term, comment}
+use Rattle.fluent_syntax_tree.specs.Entry.{junk, regular, group, resource, BodyTree}
 use Rattle.fluent_syntax_json.specs.Object.{Text}
-use Rattle.fluent_syntax_json.specs.Form.{name_form, or_null, key_form, element_forms, element_form, expression_form, variant_forms, variant_form, inline_form, maybe_form, arguments_form, inline_forms, named_forms, named_form, pattern_form, lines_form, comment_form, attribute_form, message_form, term_form, entry_form, body_form}
-use Rattle.fluent_syntax_json.specs.Reading.{items_by, unless_null, maybe, name_in, key_in, pattern_in, element_in, expression_in, inline_in, arguments_in, named_in, variant_in, maybe_arguments_rule, lines_in, comment_in, attribute_in, message_in, term_in, entry_in, body_in}
-use Rattle.fluent_syntax_json.proofs.Spelled.{pattern-is, element-is, expression-is, inline-is, arguments-is, named-is, variant-is}
+use Rattle.fluent_syntax_json.specs.Form.{name_form, or_null, key_form, element_forms, element_form, expression_form}
+use Rattle.fluent_syntax_json.specs.Form.{variant_forms, variant_form, inline_form, maybe_form, arguments_form}
+use Rattle.fluent_syntax_json.specs.Form.{inline_forms, named_forms, named_form, pattern_form, lines_form, comment_form}
+use Rattle.fluent_syntax_json.specs.Form.{attribute_form, message_form, term_form, entry_form, body_form}
+use Rattle.fluent_syntax_json.specs.Reading.{items_by, unless_null, maybe, name_in, key_in, pattern_in, element_in}
+use Rattle.fluent_syntax_json.specs.Reading.{expression_in, inline_in, arguments_in, named_in, variant_in}
+use Rattle.fluent_syntax_json.specs.Reading.{maybe_arguments_rule, lines_in, comment_in, attribute_in, message_in}
+use Rattle.fluent_syntax_json.specs.Reading.{term_in, entry_in, body_in}
+use Rattle.fluent_syntax_json.proofs.Spelled.{pattern-is, element-is, expression-is, inline-is, arguments-is, named-is}
+use Rattle.fluent_syntax_json.proofs.Spelled.{variant-is}
 
 -- the lists of a tree as lists
 inlines_list : InlineTrees Text → List (InlineTree Text)

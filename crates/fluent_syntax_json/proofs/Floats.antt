@@ -3,10 +3,20 @@ use Rattle.std.proofs.Common.{◌≡◌, List, [], ◌∷◌, map, Option, Some,
 use Rattle.serde_json.specs.Data.{Data, string}
 use Rattle.serde_json.specs.View.{items_of}
 use Rattle.serde_json.specs.Written.{has_float, items_have_float}
-use Rattle.fluent_syntax_tree.specs.Tree.{KeyTree, name_key, number_key, ExpressionTree, select, inline, InlineTree, string_literal, number_literal, function_reference, message_reference, term_reference, variable_reference, inline_placeable, ArgumentsTree, arguments, MaybeArguments, no_arguments, some_arguments, InlineTrees, no_inlines, inlines, NamedTree, named_argument, NamedTrees, no_named, nameds, ElementTree, text_element, placeable, PatternTree, no_elements, elements, VariantTree, variant, VariantTrees, no_variants, variants}
-use Rattle.fluent_syntax_tree.specs.Entry.{AttributeTree, MessageTree, TermTree, EntryTree, message, term, comment, junk, regular, group, resource, BodyTree}
+use Rattle.fluent_syntax_tree.specs.Tree.{KeyTree, name_key, number_key, ExpressionTree, select, inline, InlineTree}
+use Rattle.fluent_syntax_tree.specs.Tree.{string_literal, number_literal, function_reference, message_reference}
+use Rattle.fluent_syntax_tree.specs.Tree.{term_reference, variable_reference, inline_placeable, ArgumentsTree}
+use Rattle.fluent_syntax_tree.specs.Tree.{arguments, MaybeArguments, no_arguments, some_arguments, InlineTrees}
+use Rattle.fluent_syntax_tree.specs.Tree.{no_inlines, inlines, NamedTree, named_argument, NamedTrees, no_named, nameds}
+use Rattle.fluent_syntax_tree.specs.Tree.{ElementTree, text_element, placeable, PatternTree, no_elements, elements}
+use Rattle.fluent_syntax_tree.specs.Tree.{VariantTree, variant, VariantTrees, no_variants, variants}
+use Rattle.fluent_syntax_tree.specs.Entry.{AttributeTree, MessageTree, TermTree, EntryTree, message, term, comment}
+use Rattle.fluent_syntax_tree.specs.Entry.{junk, regular, group, resource, BodyTree}
 use Rattle.fluent_syntax_json.specs.Object.{Text}
-use Rattle.fluent_syntax_json.specs.Form.{name_form, or_null, key_form, element_forms, element_form, expression_form, variant_forms, variant_form, inline_form, maybe_form, arguments_form, inline_forms, named_forms, named_form, pattern_form, comment_form, attribute_form, message_form, term_form, entry_form, body_form}
+use Rattle.fluent_syntax_json.specs.Form.{name_form, or_null, key_form, element_forms, element_form, expression_form}
+use Rattle.fluent_syntax_json.specs.Form.{variant_forms, variant_form, inline_form, maybe_form, arguments_form}
+use Rattle.fluent_syntax_json.specs.Form.{inline_forms, named_forms, named_form, pattern_form, comment_form}
+use Rattle.fluent_syntax_json.specs.Form.{attribute_form, message_form, term_form, entry_form, body_form}
 
 of_key : (k : KeyTree Text) → has_float (key_form k) ≡ false
 of_key (name_key x) = refl

@@ -5,10 +5,12 @@ use Rattle.serde_json.specs.Data.{Data, null, boolean, array, item}
 use Rattle.serde_json.specs.View.{view, items_of}
 use Rattle.serde_json.specs.declared.value.Value.{Value, Null, Bool, Array, the_lemmas}
 use Rattle.serde_json.proofs.Views.{view-Array}
-use Rattle.fluent_syntax_tree.specs.Tree.{ElementTree, elements_of, VariantTree, variants_of, InlineTree, inlines_of, NamedTree, nameds_of}
+use Rattle.fluent_syntax_tree.specs.Tree.{ElementTree, elements_of, VariantTree, variants_of, InlineTree, inlines_of}
+use Rattle.fluent_syntax_tree.specs.Tree.{NamedTree, nameds_of}
 use Rattle.fluent_syntax_tree.proofs.Lists.{map_finished}
 use Rattle.fluent_syntax_json.specs.Object.{Text}
-use Rattle.fluent_syntax_json.specs.Form.{list_form, element_form, element_forms, variant_form, variant_forms, inline_form, inline_forms, named_form, named_forms}
+use Rattle.fluent_syntax_json.specs.Form.{list_form, element_form, element_forms, variant_form, variant_forms}
+use Rattle.fluent_syntax_json.specs.Form.{inline_form, inline_forms, named_form, named_forms}
 
 pub view-Null : view Null ≡ null
 view-Null = search (rules, the_lemmas)

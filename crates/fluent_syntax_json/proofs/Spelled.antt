@@ -2,11 +2,15 @@
 use Rattle.std.proofs.Common.{◌≡◌, Option, option_map, Ordering, Less, Equal, Greater, codes, nat_cmp, refl, ap}
 use Rattle.std.specs.Cmp.Lexicographic.{slice_cmp}
 use Rattle.std.specs.Ordering.{match_ordering}
-use Rattle.serde_json.specs.Data.{Data, null, boolean, number, string, array, object, Items, no_items, item, Members, no_members, member}
+use Rattle.serde_json.specs.Data.{Data, null, boolean, number, string, array, object, Items, no_items, item, Members}
+use Rattle.serde_json.specs.Data.{no_members, member}
 use Rattle.serde_json.specs.Find.{get, get_member}
 use Rattle.fluent_syntax_tree.specs.Tree.{elements_of}
 use Rattle.fluent_syntax_json.specs.Object.{Text}
-use Rattle.fluent_syntax_json.specs.Reading.{Spelled, spelled, items_spelled, part_spelled, ◌>>=◌, at, one_more, items_by, list_by, type_in, element_rule, inline_rule, expression_rule, arguments_rule, named_rule, variant_rule, pattern_in, element_in, expression_in, inline_in, arguments_in, named_in, variant_in}
+use Rattle.fluent_syntax_json.specs.Reading.{Spelled, spelled, items_spelled, part_spelled, ◌>>=◌, at, one_more}
+use Rattle.fluent_syntax_json.specs.Reading.{items_by, list_by, type_in, element_rule, inline_rule, expression_rule}
+use Rattle.fluent_syntax_json.specs.Reading.{arguments_rule, named_rule, variant_rule, pattern_in, element_in}
+use Rattle.fluent_syntax_json.specs.Reading.{expression_in, inline_in, arguments_in, named_in, variant_in}
 
 either : {A : Type 0} (f : Spelled → Option A) (read : Data → Option A) (o : Ordering) (a b : Option Spelled)
     (c d : Option Data) → a >>= f ≡ c >>= read → b >>= f ≡ d >>= read →

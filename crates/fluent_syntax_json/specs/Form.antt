@@ -1,11 +1,18 @@
 -- The JSON form of a tree: an object for each node, with each of its fields at a key of the field's name; a list for a
--- list, and null for what is not there. Entries, elements, keys and inline expressions have the name of their variant at
--- the key `type`; variants, argument lists and named arguments their own; no other node has a type.
+-- list, and null for what is not there. Entries, elements, keys and inline expressions have the name of their variant
+-- at the key `type`; variants, argument lists and named arguments their own; no other node has a type.
 use Rattle.std.specs.Prelude.{List, [], ◌∷◌, Option, Some, None, codes, map}
 use Rattle.serde_json.specs.Data.{Data, null, boolean, string, array, Items, no_items, item}
 use Rattle.serde_json.specs.View.{items_of}
-use Rattle.fluent_syntax_tree.specs.Tree.{KeyTree, name_key, number_key, ExpressionTree, select, inline, InlineTree, string_literal, number_literal, function_reference, message_reference, term_reference, variable_reference, inline_placeable, ArgumentsTree, arguments, MaybeArguments, no_arguments, some_arguments, InlineTrees, no_inlines, inlines, NamedTree, named_argument, NamedTrees, no_named, nameds, ElementTree, text_element, placeable, PatternTree, no_elements, elements, VariantTree, variant, VariantTrees, no_variants, variants}
-use Rattle.fluent_syntax_tree.specs.Entry.{AttributeTree, MessageTree, TermTree, EntryTree, message, term, comment, junk, Level, regular, group, resource, BodyTree}
+use Rattle.fluent_syntax_tree.specs.Tree.{KeyTree, name_key, number_key, ExpressionTree, select, inline, InlineTree}
+use Rattle.fluent_syntax_tree.specs.Tree.{string_literal, number_literal, function_reference, message_reference}
+use Rattle.fluent_syntax_tree.specs.Tree.{term_reference, variable_reference, inline_placeable, ArgumentsTree}
+use Rattle.fluent_syntax_tree.specs.Tree.{arguments, MaybeArguments, no_arguments, some_arguments, InlineTrees}
+use Rattle.fluent_syntax_tree.specs.Tree.{no_inlines, inlines, NamedTree, named_argument, NamedTrees, no_named, nameds}
+use Rattle.fluent_syntax_tree.specs.Tree.{ElementTree, text_element, placeable, PatternTree, no_elements, elements}
+use Rattle.fluent_syntax_tree.specs.Tree.{VariantTree, variant, VariantTrees, no_variants, variants}
+use Rattle.fluent_syntax_tree.specs.Entry.{AttributeTree, MessageTree, TermTree, EntryTree, message, term, comment}
+use Rattle.fluent_syntax_tree.specs.Entry.{junk, Level, regular, group, resource, BodyTree}
 use Rattle.fluent_syntax_json.specs.Object.{Text, object_with, object_of}
 
 -- an identifier

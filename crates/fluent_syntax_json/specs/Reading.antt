@@ -2,12 +2,19 @@
 -- have any value, and where it looks, a value of another kind spells nothing.
 use Rattle.std.specs.Prelude.{List, [], ◌∷◌, Option, Some, None, option_map, option_and_then, if◌then◌else◌, codes}
 use Rattle.std.specs.Str.{bytes_eq}
-use Rattle.serde_json.specs.Data.{Data, null, boolean, number, string, array, object, Items, no_items, item, Members, no_members, member}
+use Rattle.serde_json.specs.Data.{Data, null, boolean, number, string, array, object, Items, no_items, item, Members}
+use Rattle.serde_json.specs.Data.{no_members, member}
 use Rattle.serde_json.specs.Find.{get, as_str, as_bool, as_array}
 use Rattle.std.specs.Ordering.{nat_cmp, match_ordering}
 use Rattle.std.specs.Cmp.Lexicographic.{slice_cmp}
-use Rattle.fluent_syntax_tree.specs.Tree.{KeyTree, name_key, number_key, ExpressionTree, select, inline, InlineTree, string_literal, number_literal, function_reference, message_reference, term_reference, variable_reference, inline_placeable, ArgumentsTree, arguments, MaybeArguments, no_arguments, some_arguments, inlines_of, NamedTree, named_argument, nameds_of, ElementTree, text_element, placeable, PatternTree, elements_of, VariantTree, variant, variants_of}
-use Rattle.fluent_syntax_tree.specs.Entry.{AttributeTree, MessageTree, TermTree, EntryTree, message, term, comment, junk, regular, group, resource, BodyTree}
+use Rattle.fluent_syntax_tree.specs.Tree.{KeyTree, name_key, number_key, ExpressionTree, select, inline, InlineTree}
+use Rattle.fluent_syntax_tree.specs.Tree.{string_literal, number_literal, function_reference, message_reference}
+use Rattle.fluent_syntax_tree.specs.Tree.{term_reference, variable_reference, inline_placeable, ArgumentsTree}
+use Rattle.fluent_syntax_tree.specs.Tree.{arguments, MaybeArguments, no_arguments, some_arguments, inlines_of}
+use Rattle.fluent_syntax_tree.specs.Tree.{NamedTree, named_argument, nameds_of, ElementTree, text_element, placeable}
+use Rattle.fluent_syntax_tree.specs.Tree.{PatternTree, elements_of, VariantTree, variant, variants_of}
+use Rattle.fluent_syntax_tree.specs.Entry.{AttributeTree, MessageTree, TermTree, EntryTree, message, term, comment}
+use Rattle.fluent_syntax_tree.specs.Entry.{junk, regular, group, resource, BodyTree}
 use Rattle.fluent_syntax_json.specs.Object.{Text}
 
 infixl 10 ◌>>=◌

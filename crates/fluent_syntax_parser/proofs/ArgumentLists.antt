@@ -1,5 +1,6 @@
 -- The rest of an argument list, by what stands there.
-use Rattle.std.proofs.Common.{◌≡◌, ℕ, ◌+◌, ◌≤◌, ◌<◌, true, false, List, [], ◌∷◌, ◌++◌, length, Option, Some, None, refl, sym, ap, ◌∙◌, subst, inl, inr}
+use Rattle.std.proofs.Common.{◌≡◌, ℕ, ◌+◌, ◌≤◌, ◌<◌, true, false, List, [], ◌∷◌, ◌++◌, length, Option, Some, None, refl}
+use Rattle.std.proofs.Common.{sym, ap, ◌∙◌, subst, inl, inr}
 use Rattle.std.specs.Prelude.{◌==◌, ◌⊎◌, slice_get}
 use Rattle.std.proofs.lemmas.Option.{slice_get-get_or, slice_get_past}
 use Rattle.fluent_syntax_tree.specs.Kind.{Kind, ExpectedToken, PositionalArgumentFollowsNamed}
@@ -10,9 +11,11 @@ use Rattle.fluent_syntax_tree.specs.declared.ast.InlineExpression.{InlineExpress
 use Rattle.fluent_syntax_tree.specs.declared.ast.NamedArgument.{NamedArgument}
 use Rattle.fluent_syntax_tree.specs.declared.edition.Edition.{Edition}
 use Rattle.fluent_syntax_tree.specs.declared.spans.Span.{Span}
-use Rattle.fluent_syntax_grammar.specs.Arguments.{add_named, add_positional, argument_name, argument_value, is_used, named_and_more, positional_and_more, argument_and_more, separator}
+use Rattle.fluent_syntax_grammar.specs.Arguments.{add_named, add_positional, argument_name, argument_value, is_used}
+use Rattle.fluent_syntax_grammar.specs.Arguments.{named_and_more, positional_and_more, argument_and_more, separator}
 use Rattle.fluent_syntax_grammar.specs.Bytes.{colon, right_parenthesis}
-use Rattle.fluent_syntax_grammar.specs.Construct.{Outcome, Read, Refused, ◌>>=◌, gives, at_each, goes_on, stops, given, failed, passed, chosen, first, second}
+use Rattle.fluent_syntax_grammar.specs.Construct.{Outcome, Read, Refused, ◌>>=◌, gives, at_each, goes_on, stops, given}
+use Rattle.fluent_syntax_grammar.specs.Construct.{failed, passed, chosen, first, second}
 use Rattle.fluent_syntax_grammar.specs.Family.{Family}
 use Rattle.fluent_syntax_grammar.specs.Grammar.{family}
 use Rattle.fluent_syntax_grammar.specs.Places.{Blank, has_byte}

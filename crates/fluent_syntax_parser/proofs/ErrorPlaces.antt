@@ -1,5 +1,5 @@
 -- The errors of an answer begin within the text.
-use Rattle.std.proofs.Common.{◌≡◌, ℕ, ◌≤◌, List, [], ◌∷◌, length, Option, Some, None, map, refl, ap, arith}
+use Rattle.std.proofs.Common.{◌≡◌, ℕ, ◌≤◌, List, [], ◌∷◌, ◌++◌, length, Option, Some, None, map, refl, ap, arith}
 use Rattle.std.specs.Prelude.{option_map, Result, Ok, Err}
 use Rattle.std.specs.List.{All}
 use Rattle.std.proofs.lemmas.List.Elements.{All-nil, All-cons}
@@ -16,6 +16,7 @@ use Rattle.fluent_syntax_grammar.proofs.JunkAndSpans.{errors_ascend, runtime_err
 use Rattle.fluent_syntax_parser.specs.Answers.{Answers, AnswersIn, AnswersTiling, AnswersRuntimeTiling}
 use Rattle.fluent_syntax_parser.specs.Answers.{ErrorsInText}
 use Rattle.fluent_syntax_parser.specs.Faults.{fault_of}
+use Rattle.fluent_syntax_parser.specs.Rest.{Rest}
 use Rattle.fluent_syntax_parser.specs.declared.options.Comments.{Comments}
 use Rattle.fluent_syntax_parser.specs.declared.options.Comments.TheVariants.{Kept, Dropped}
 use Rattle.fluent_syntax_parser.specs.declared.fault.ParseFault.{ParseFault}
@@ -55,6 +56,31 @@ module _ (t : List ℕ) where
       let place = place_told e f first in
       All-cons (λ e. e.pos.start ≤ length t) e errors (omega (arith, up.3))
       (told_in_text f.slice.end errors fs others up.4)
+
+  -- an error begins within the text that tells of one of some faults which ascend
+  one_in_text : (before : List (Option Fault)) (error : ParserError) (after : List (Option Fault)) (from : ℕ)
+      (fs : List Fault) → map Some fs ≡ before ++ fault_of error ∷ after → Ascend t from fs →
+      error.pos.start ≤ length t
+  one_in_text [] error after from [] told up = absurd cc
+  one_in_text (f ∷ before) error after from [] told up = absurd cc
+  one_in_text [] error after from (g ∷ fs) told up =
+      let here : fault_of error ≡ Some g = cc in
+      let later = ascend_in_text g.slice.end fs up.4 in
+      let place = place_told error g here in
+      omega (arith, up.3)
+  one_in_text (f ∷ before) error after from (g ∷ fs) told up =
+      let others : map Some fs ≡ before ++ fault_of error ∷ after = cc in
+      one_in_text before error after g.slice.end fs others up.4
+
+  -- so does one that a text has between others
+  pub error_in_text : (comments : Comments) (edition : Edition) (entries : BodyTree Span)
+      (before : List (Option Fault)) (error : ParserError) (after : List (Option Fault)) →
+      Rest comments edition t 0 entries (before ++ fault_of error ∷ after) → error.pos.start ≤ length t
+  error_in_text Kept edition entries before error after rest =
+      one_in_text before error after 0 (faults rest.tiles) rest.tells (errors_ascend edition t rest.tiles rest.tiled)
+  error_in_text Dropped edition entries before error after rest =
+      one_in_text before error after 0 (faults rest.tiles) rest.tells
+      (runtime_errors_ascend edition t rest.tiles rest.tiled)
 
   module _ {S X : Type 0} (text : S → X) (whole : BodyTree Span → BodyTree X) where
     given_in_text : (tiles : List Tile) (result : Result (Resource S) (ParseFault S)) →

@@ -12,7 +12,8 @@ use Rattle.fluent_syntax_tree.specs.declared.ast.Pattern.{Pattern}
 use Rattle.fluent_syntax_tree.specs.declared.edition.Edition.{Edition}
 use Rattle.fluent_syntax_tree.specs.declared.spans.Span.{Span}
 use Rattle.fluent_syntax_grammar.specs.Bytes.{equals_sign}
-use Rattle.fluent_syntax_grammar.specs.Construct.{Outcome, Construct, Read, Refused, ◌>>=◌, ◌>>◌, stops, goes_on, given, failed_from}
+use Rattle.fluent_syntax_grammar.specs.Construct.{Outcome, Construct, Read, Refused, ◌>>=◌, ◌>>◌, stops, goes_on, given}
+use Rattle.fluent_syntax_grammar.specs.Construct.{failed_from}
 use Rattle.fluent_syntax_grammar.specs.Entries.{attributes, message_with}
 use Rattle.fluent_syntax_grammar.specs.Grammar.{pattern}
 use Rattle.fluent_syntax_grammar.specs.Words.{blank_block, inline_blank, token}

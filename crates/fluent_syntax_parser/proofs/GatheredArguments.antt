@@ -1,7 +1,9 @@
 -- Gathered arguments before those of the rest of a list.
 use Rattle.std.proofs.Common.{◌≡◌, List, [], ◌∷◌, ◌++◌, map, refl, ap, ◌∙◌}
 use Rattle.std.proofs.lemmas.List.{map-append}
-use Rattle.fluent_syntax_tree.specs.Tree.{InlineTree, ArgumentsTree, arguments, InlineTrees, no_inlines, inlines, inlines_of, NamedTree, named_argument, NamedTrees, no_named, nameds, nameds_of}
+use Rattle.fluent_syntax_tree.specs.Tree.{InlineTree, ArgumentsTree, arguments, InlineTrees, no_inlines, inlines}
+use Rattle.fluent_syntax_tree.specs.Tree.{inlines_of, NamedTree, named_argument, NamedTrees, no_named, nameds}
+use Rattle.fluent_syntax_tree.specs.Tree.{nameds_of}
 use Rattle.fluent_syntax_tree.specs.View.{inline_view, named_view}
 use Rattle.fluent_syntax_tree.proofs.Views.{view-NamedArgument}
 use Rattle.fluent_syntax_tree.specs.declared.ast.InlineExpression.{InlineExpression}

@@ -1,16 +1,21 @@
 -- What is asked of an inline expression, by its form.
 use Rattle.std.proofs.Common.{◌≡◌, Option, Some, None, option_map, false, is_some, Box, Global, refl, ap, ◌∙◌, subst}
-use Rattle.fluent_syntax_tree.specs.Kind.{MessageReferenceAsSelector, TermReferenceAsSelector, MessageAttributeAsSelector, ExpectedSimpleExpressionAsSelector}
+use Rattle.fluent_syntax_tree.specs.Kind.{MessageReferenceAsSelector, TermReferenceAsSelector}
+use Rattle.fluent_syntax_tree.specs.Kind.{MessageAttributeAsSelector, ExpectedSimpleExpressionAsSelector}
 use Rattle.fluent_syntax_tree.specs.Tree.{InlineTree}
-use Rattle.fluent_syntax_tree.specs.View.{identifier_view, inline_step, expression_view, inline_view, element_view, arguments_view, named_view, pattern_view, variant_view}
-use Rattle.fluent_syntax_tree.proofs.Views.{view-MessageReference, view-TermReference, view-InlinePlaceable, view-roll-InlineExpression}
+use Rattle.fluent_syntax_tree.specs.View.{identifier_view, inline_step, expression_view, inline_view, element_view}
+use Rattle.fluent_syntax_tree.specs.View.{arguments_view, named_view, pattern_view, variant_view}
+use Rattle.fluent_syntax_tree.proofs.Views.{view-MessageReference, view-TermReference, view-InlinePlaceable}
+use Rattle.fluent_syntax_tree.proofs.Views.{view-roll-InlineExpression}
 use Rattle.fluent_syntax_tree.specs.declared.ast.Identifier.{Identifier}
 use Rattle.fluent_syntax_tree.specs.declared.ast.CallArguments.{CallArguments}
 use Rattle.fluent_syntax_tree.specs.declared.ast.Expression.{Expression}
 use Rattle.fluent_syntax_tree.specs.declared.ast.Expression.TheOpen as layer
 use Rattle.fluent_syntax_tree.specs.declared.ast.Expression.TheOpen.{InlineExpression-F}
 use Rattle.fluent_syntax_tree.specs.declared.ast.InlineExpression as inl
-use Rattle.fluent_syntax_tree.specs.declared.ast.InlineExpression.{InlineExpression, roll-InlineExpression, out-InlineExpression, roll-out-InlineExpression, map-InlineExpression}
+use Rattle.fluent_syntax_tree.specs.declared.ast.InlineExpression.{InlineExpression, roll-InlineExpression}
+use Rattle.fluent_syntax_tree.specs.declared.ast.InlineExpression.{out-InlineExpression, roll-out-InlineExpression}
+use Rattle.fluent_syntax_tree.specs.declared.ast.InlineExpression.{map-InlineExpression}
 use Rattle.fluent_syntax_tree.specs.declared.spans.Span.{Span}
 use Rattle.fluent_syntax_grammar.specs.Arguments.{argument_name}
 use Rattle.fluent_syntax_grammar.specs.Placeables.{selector_fault, is_term_attribute}

@@ -13,6 +13,7 @@ pub mod Handed
 pub mod HangsOn
 pub mod InlineForms
 pub mod InlineStarts
+pub mod LaneRuns
 pub mod LineEndings
 pub mod LineEnds
 pub mod Names

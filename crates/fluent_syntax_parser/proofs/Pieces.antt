@@ -1,15 +1,18 @@
 -- The rest of a line, by its first byte; and the lines of a pattern.
-use Rattle.std.proofs.Common.{◌≡◌, ℕ, ◌+◌, ◌-◌, ◌<◌, List, [], ◌∷◌, Option, Some, None, Bool, true, false, not, refl, sym, subst, arith}
+use Rattle.std.proofs.Common.{◌≡◌, ℕ, ◌+◌, ◌-◌, ◌<◌, List, [], ◌∷◌, Option, Some, None, Bool, true, false, not, refl}
+use Rattle.std.proofs.Common.{sym, subst, arith}
 use Rattle.std.specs.Prelude.{slice_get, ◌==◌, ◌||◌, ◌&&◌, nat_lt}
 use Rattle.std.proofs.lemmas.Bool.Decides.{nat_tests}
 use Rattle.fluent_syntax_tree.specs.Kind.{UnbalancedClosingBrace}
 use Rattle.fluent_syntax_tree.specs.declared.edition.Edition.{Edition}
 use Rattle.fluent_syntax_grammar.specs.Bytes.{lf, left_brace, right_brace}
-use Rattle.fluent_syntax_grammar.specs.Construct.{Outcome, Read, Refused, ◌>>=◌, ◌>>◌, gives, here, over, goes_on, given, failed, passed, chosen, first, second, at_place}
+use Rattle.fluent_syntax_grammar.specs.Construct.{Outcome, Read, Refused, ◌>>=◌, ◌>>◌, gives, here, over, goes_on}
+use Rattle.fluent_syntax_grammar.specs.Construct.{given, failed, passed, chosen, first, second, at_place}
 use Rattle.fluent_syntax_grammar.specs.Family.{Family}
 use Rattle.fluent_syntax_grammar.specs.Grammar.{family}
 use Rattle.fluent_syntax_grammar.specs.Layout.{Piece, run, placed, Ending, Line}
-use Rattle.fluent_syntax_grammar.specs.Lines.{is_run_place, pieces_at, ending, no_byte, own_line, belongs, line, line_and_more}
+use Rattle.fluent_syntax_grammar.specs.Lines.{is_run_place, pieces_at, ending, no_byte, own_line, belongs, line}
+use Rattle.fluent_syntax_grammar.specs.Lines.{line_and_more}
 use Rattle.fluent_syntax_grammar.specs.Placeables.{placeable}
 use Rattle.fluent_syntax_grammar.specs.Places.{Stretch, holds, has_eol, InlineBlank}
 use Rattle.fluent_syntax_grammar.proofs.Nesting.{into_more_pieces, into_more_lines}

@@ -1,5 +1,6 @@
 -- What is left of a text, from place to place.
-use Rattle.std.proofs.Common.{◌≡◌, ℕ, ◌<◌, true, false, List, [], ◌∷◌, ◌++◌, length, map, Option, Some, None, refl, ◌∙◌, ap, subst}
+use Rattle.std.proofs.Common.{◌≡◌, ℕ, ◌<◌, true, false, List, [], ◌∷◌, ◌++◌, length, map, Option, Some, None, refl, ◌∙◌}
+use Rattle.std.proofs.Common.{ap, subst}
 use Rattle.fluent_syntax_tree.specs.Entry.{BodyTree, EntryTree, message, term, comment, junk, regular, group, resource}
 use Rattle.fluent_syntax_tree.specs.declared.ast.Entry.{Entry}
 use Rattle.fluent_syntax_tree.specs.declared.edition.Edition.{Edition}
@@ -9,10 +10,12 @@ use Rattle.fluent_syntax_grammar.specs.Body.{alone, body, faults, hangs}
 use Rattle.fluent_syntax_grammar.specs.Bytes.{hash}
 use Rattle.fluent_syntax_grammar.specs.Construct.{Read}
 use Rattle.fluent_syntax_grammar.specs.Places.{BlankBlock, has_byte}
-use Rattle.fluent_syntax_grammar.specs.Tiling.{Fault, Tile, entry, refused, dropped, Tiled, done, next, TileAt, reads, refuses, drops, stands, whole_line}
+use Rattle.fluent_syntax_grammar.specs.Tiling.{Fault, Tile, entry, refused, dropped, Tiled, done, next, TileAt, reads}
+use Rattle.fluent_syntax_grammar.specs.Tiling.{refuses, drops, stands, whole_line}
 use Rattle.fluent_syntax_grammar.proofs.BareEntries.{bare_tile_at}
 use Rattle.fluent_syntax_grammar.proofs.Runtime.{IsBareTile}
-use Rattle.fluent_syntax_parser.specs.Rest.{Hangs, GivesTile, Rest, RestAt, Standing, TileIn, are_dropped, at_end, at_tile, faults_of, may_hang, tree_of}
+use Rattle.fluent_syntax_parser.specs.Rest.{Hangs, GivesTile, Rest, RestAt, Standing, TileIn, are_dropped, at_end}
+use Rattle.fluent_syntax_parser.specs.Rest.{at_tile, faults_of, may_hang, tree_of}
 use Rattle.fluent_syntax_parser.specs.declared.options.Comments.{Comments}
 use Rattle.fluent_syntax_parser.specs.declared.options.Comments.TheVariants.{Kept, Dropped}
 

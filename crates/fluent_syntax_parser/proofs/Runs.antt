@@ -1,16 +1,13 @@
 -- Runs of a pattern's text: where they end.
-use Rattle.std.proofs.Common.{◌≡◌, ℕ, ◌+◌, ◌-◌, ◌<◌, ◌≤◌, Bool, true, false, not, List, Option, Some, None, refl, sym, arith, inl, inr}
+use Rattle.std.proofs.Common.{◌≡◌, ℕ, ◌+◌, ◌-◌, ◌<◌, ◌≤◌, Bool, true, false, not, List, Option, Some, None, refl, sym}
+use Rattle.std.proofs.Common.{arith, inl, inr}
 use Rattle.std.specs.Prelude.{slice_get, ◌&&◌, ◌||◌, ◌==◌, ◌⊎◌}
 use Rattle.std.proofs.lemmas.Bool.{false≢true}
 use Rattle.std.proofs.lemmas.Bool.Decides.{nat_tests}
-use Rattle.memchr.specs.Find.{is_byte3}
 use Rattle.fluent_syntax_grammar.specs.Bytes.{lf, cr, left_brace, right_brace}
 use Rattle.fluent_syntax_grammar.specs.Places.{Stretch, holds, has, has_byte, Word}
 use Rattle.fluent_syntax_grammar.specs.Lines.{is_run_place}
-
--- a byte that the search passes over
-abbrev pub is_passed : ℕ → Bool
-is_passed b = not (is_byte3 lf left_brace right_brace b)
+use Rattle.fluent_syntax_parser.specs.Lanes.{is_passed}
 
 passed_run : (o : Option ℕ) (eol : Bool) → holds is_passed o ≡ true → eol ≡ false →
     (holds (λ b. not (b == lf || b == left_brace || b == right_brace)) o && not (holds (λ c. c == lf) o || eol)) ≡ true

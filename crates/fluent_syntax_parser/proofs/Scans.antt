@@ -1,7 +1,8 @@
 -- Runs of bytes that a search has passed over.
-use Rattle.std.proofs.Common.{◌≡◌, ℕ, ◌+◌, ◌-◌, ◌<◌, ◌≤◌, Bool, true, false, not, List, length, take, drop, get_or, Option, Some, None, refl, sym, ◌∙◌, subst, ap, arith, get_or-drop, length-drop}
+use Rattle.std.proofs.Common.{◌≡◌, ℕ, ◌+◌, ◌-◌, ◌<◌, ◌≤◌, Bool, true, false, not, List, length, take, drop, get_or}
+use Rattle.std.proofs.Common.{Option, Some, None, refl, sym, ◌∙◌, subst, ap, arith, inl, inr, get_or-drop, length-drop}
 use Rattle.std.specs.Prelude.{unwrap_or}
-use Rattle.std.proofs.lemmas.Bool.{not_from_false, not_from_true, false_from_ne_true}
+use Rattle.std.proofs.lemmas.Bool.{cases_lt, not_from_false, not_from_true, false_from_ne_true}
 use Rattle.std.proofs.lemmas.List.{get_or-take, length-take}
 use Rattle.std.proofs.lemmas.Option.{slice_get-get_or, slice_get_past}
 use Rattle.memchr.specs.Find.{Passes, NoneBefore, Nowhere, IsFirstByte}
@@ -69,3 +70,15 @@ module _ (t : List ℕ) (test : ℕ → Bool) (i : ℕ) (within : i ≤ length t
       let P = λ (n : ℕ). Word t (λ b. not (test b)) i n in
       subst P e (scanned_all h)
   scanned (Some len) h = scanned_to len h.0 h.1
+
+-- A run that begins where all before passed begins with that.
+pub run_behind : (t : List ℕ) (test : ℕ → Bool) (i j m : ℕ) → i ≤ j →
+    ((k : ℕ) → i ≤ k → k < j → has t test k ≡ true) → Word t test j m → Word t test i m
+run_behind t test i j m ordered passed word = record {
+  forward = omega (arith, ordered, word.forward);
+  each = λ k from to. elim (cases_lt k j) [
+    | inl before ↦ passed k from before
+    | inr behind ↦ word.each k (omega (arith, behind)) to
+  ];
+  longest = word.longest;
+}

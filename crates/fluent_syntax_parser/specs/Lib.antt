@@ -6,6 +6,7 @@ pub mod Faults
 pub mod Fields
 pub mod Gathered
 pub mod Halts
+pub mod Lanes
 pub mod Lines
 pub mod Meets
 pub mod Parts

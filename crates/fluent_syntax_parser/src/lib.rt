@@ -16,6 +16,7 @@ pub mod fault;
 mod forms;
 mod indents;
 mod junk;
+mod lanes;
 mod line;
 mod line_ends;
 mod lines;

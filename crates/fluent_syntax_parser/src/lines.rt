@@ -4,12 +4,14 @@ ghost use Rattle.fluent_syntax_grammar.specs.Construct.{Read};
 ghost use Rattle.fluent_syntax_grammar.specs.Grammar.{family};
 ghost use Rattle.fluent_syntax_grammar.specs.Layout.{crlf_at, lf_at};
 ghost use Rattle.fluent_syntax_grammar.specs.Lines.{belongs, ending, is_run_place};
-ghost use Rattle.fluent_syntax_grammar.specs.Places.{has_eol, Stretch};
+ghost use Rattle.fluent_syntax_grammar.specs.Places.{has_eol, Stretch, Word};
 ghost use Rattle.fluent_syntax_parser.specs.Meets.{Meets, NestsWithin};
 ghost use Rattle.fluent_syntax_parser.specs.Endings.{EndsWithin};
+ghost use Rattle.fluent_syntax_parser.specs.Lanes.{is_passed};
 ghost use Rattle.fluent_syntax_parser.specs.Lines.{ending_view, line_view, piece_view};
 
 use crate::fault::{Fault, ReadFault, Refusal};
+use crate::lanes::{LANES, text_run};
 use crate::line::{Ending, Line, Piece};
 use crate::source::Source;
 use fluent_syntax_tree::edition::Edition;
@@ -28,17 +30,38 @@ fn ending_at(place: usize, next: usize) -> Ending
     }
 }
 
+/// How often sixteen bytes are looked at before a search that is dear to begin with.
+const SHORT: usize = 5;
+
 impl<'s> Source<'s> {
+    /// The place of the next LF or brace, or the text's end.
+    fn text_end(&self, ptr: usize) -> usize
+        requires { ptr ≤ length self.now.bytes.now }
+        ensures text { Word self.now.bytes.now is_passed ptr result }
+        ensures within { result ≤ length self.now.bytes.now }
+    {
+        let mut end = ptr;
+        let mut looks = 0;
+        while looks < SHORT && self.bytes.len() - end >= LANES {
+            let run = text_run(self.bytes, end);
+            end += run;
+            if run < LANES {
+                return end;
+            }
+            looks += 1;
+        }
+        let rest = &self.bytes[end..];
+        end + memchr3(b'\n', b'{', b'}', rest).unwrap_or(rest.len())
+    }
+
     /// Where the run ends that begins at a place: at LF, CRLF, a brace or the text's end.
     pub(crate) fn run_end(&self, ptr: usize) -> usize
         requires { ptr ≤ length self.now.bytes.now }
         ensures run { Stretch (is_run_place self.now.bytes.now) ptr result }
         ensures within { result ≤ length self.now.bytes.now }
     {
-        let rest = &self.bytes[ptr..];
-        let len = memchr3(b'\n', b'{', b'}', rest).unwrap_or(rest.len());
-        let end = ptr + len;
-        if len > 0 && self.is_byte_at(b'\n', end) && self.is_byte_at(b'\r', end - 1) {
+        let end = self.text_end(ptr);
+        if end > ptr && self.is_byte_at(b'\n', end) && self.is_byte_at(b'\r', end - 1) {
             end - 1
         } else {
             end

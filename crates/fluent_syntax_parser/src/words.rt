@@ -7,6 +7,7 @@ ghost use Rattle.fluent_syntax_grammar.specs.Words.{digits, identifier, number, 
 ghost use Rattle.fluent_syntax_parser.specs.Meets.{MeetsEnd, MeetsText};
 
 use crate::fault::{Fault, Refusal};
+use crate::lanes::{LANES, name_run};
 use crate::source::Source;
 
 fn is_name_byte(byte: u8) -> bool
@@ -53,6 +54,13 @@ impl<'s> Source<'s> {
         ensures within { result ≤ length self.now.bytes.now }
     {
         let mut end = ptr;
+        while self.bytes.len() - end >= LANES {
+            let run = name_run(self.bytes, end);
+            end += run;
+            if run < LANES {
+                return end;
+            }
+        }
         while end < self.bytes.len() && is_name_byte(self.bytes[end]) {
             end += 1;
         }

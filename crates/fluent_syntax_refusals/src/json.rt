@@ -9,7 +9,7 @@ use serde_json::Value;
 use std::alloc::{AllocError, Global};
 use std::io;
 
-pub fn calls<R: Print + AllocGlobal>(rt: &R) -> io::Result<Tally> {
+pub(crate) fn calls<R: Print + AllocGlobal>(rt: &R) -> io::Result<Tally> {
     let formed = over(rt, "to_value", TEXTS.as_slice(), formed)?;
     let forms = over(rt, "from_value of forms", TEXTS.as_slice(), read_form)?;
     let values = over(rt, "from_value", VALUES.as_slice(), read_value)?;

@@ -1,9 +1,8 @@
 //! The parsers, and trees of spans with the texts put back.
 
 use crate::turns::{Tally, in_turn, nothing, over};
-use fluent_syntax::ast::Resource;
-use fluent_syntax::parser::{ParseFault, Result as Parsed, parse, parse_runtime};
-use fluent_syntax::spans::{Span, parse_runtime_spans, parse_spans, resolve};
+use fluent_syntax::parser::{ParseFault, parse, parse_runtime, recovered};
+use fluent_syntax::spans::{parse_runtime_spans, parse_spans, resolve};
 use fluent_syntax_corpus::TEXTS;
 use std::alloc::{AllocError, Global};
 use std::io;
@@ -11,7 +10,7 @@ use std::io;
 /// Texts of blank lines alone, which take no memory.
 const BLANK: [&str; 3] = ["", "\n", "\n  \n"];
 
-pub fn calls<R: Print + AllocGlobal>(rt: &R) -> io::Result<Tally> {
+pub(crate) fn calls<R: Print + AllocGlobal>(rt: &R) -> io::Result<Tally> {
     let texts = TEXTS.as_slice();
     let blank = over(rt, "parse of blank texts", BLANK.as_slice(), read_blank)?;
     let lent = over(rt, "parse of lent texts", texts, read)?;
@@ -49,18 +48,9 @@ fn read_spans(alloc: Global, text: &str) -> Result<Tally, AllocError> {
     Ok(whole.and(runtime))
 }
 
-/// The tree of an answer.
-fn tree_of<S>(answer: Parsed<S>) -> Result<Resource<S>, AllocError> {
-    match answer {
-        Ok(tree) => Ok(tree),
-        Err(ParseFault::Syntax(tree, _errors)) => Ok(tree),
-        Err(ParseFault::Memory) => Err(AllocError),
-    }
-}
-
 /// The texts put back, lent and owned, in a tree of spans, which stays as it was.
 fn resolved(alloc: Global, text: &str) -> Result<Tally, AllocError> {
-    let before: Resource<Span> = tree_of(parse_spans(alloc, text))?;
+    let (before, _errors) = recovered(alloc, parse_spans(alloc, text))?;
     let tree = match parse_spans(alloc, text) {
         Ok(tree) => tree,
         Err(ParseFault::Syntax(tree, _errors)) => tree,

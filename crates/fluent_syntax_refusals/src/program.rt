@@ -17,7 +17,7 @@ const COMMANDS: [(&str, Command); 6] = [
     ("format-two", Command::FormatTwo),
 ];
 
-pub fn calls<R: Print + AllocGlobal>(rt: &R) -> io::Result<Tally> {
+pub(crate) fn calls<R: Print + AllocGlobal>(rt: &R) -> io::Result<Tally> {
     let mut total = Tally::NONE;
     for (word, command) in COMMANDS {
         let texts = TEXTS.as_slice();

@@ -9,11 +9,11 @@ const REFUSE: usize = 1 << 62;
 const TELL: usize = 1 << 61;
 
 /// Has the n-th request from now on refused, counting from 1.
-pub fn refuse(alloc: Global, n: u32) {
+pub(crate) fn refuse(alloc: Global, n: u32) {
     let _ = Vec::<u8>::with_capacity(alloc, REFUSE + n as usize);
 }
 
 /// Whether the request was refused; from now on none is.
-pub fn was_refused(alloc: Global) -> bool {
+pub(crate) fn was_refused(alloc: Global) -> bool {
     Vec::<u8>::with_capacity(alloc, TELL).is_ok()
 }

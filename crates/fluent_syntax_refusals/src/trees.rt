@@ -2,12 +2,12 @@
 
 use crate::turns::{Tally, in_turn, nothing, over};
 use fluent_syntax::ast::Resource;
-use fluent_syntax::parser::{ParseFault, ParserError, parse};
+use fluent_syntax::parser::{ParserError, parse, recovered};
 use fluent_syntax_corpus::TEXTS;
 use std::alloc::{AllocError, Global};
 use std::io;
 
-pub fn calls<R: Print + AllocGlobal>(rt: &R) -> io::Result<Tally> {
+pub(crate) fn calls<R: Print + AllocGlobal>(rt: &R) -> io::Result<Tally> {
     let texts = TEXTS.as_slice();
     let lent = over(rt, "try_clone of trees of lent texts", texts, lent_copies)?;
     let owned = over(rt, "try_clone of trees of owned texts", texts, owned_copies)?;
@@ -16,25 +16,18 @@ pub fn calls<R: Print + AllocGlobal>(rt: &R) -> io::Result<Tally> {
 }
 
 /// The tree of a text, and its errors.
-pub fn lent_tree(
+pub(crate) fn lent_tree(
     alloc: Global,
     text: &str,
 ) -> Result<(Resource<&str>, Vec<ParserError>), AllocError> {
-    match parse(alloc, text) {
-        Ok(tree) => Ok((tree, Vec::new(alloc))),
-        Err(ParseFault::Syntax(tree, errors)) => Ok((tree, errors)),
-        Err(ParseFault::Memory) => Err(AllocError),
-    }
+    recovered(alloc, parse(alloc, text))
 }
 
 /// The tree of a text over `String`.
-pub fn owned_tree(alloc: Global, text: &str) -> Result<Resource<String>, AllocError> {
+pub(crate) fn owned_tree(alloc: Global, text: &str) -> Result<Resource<String>, AllocError> {
     let source = String::from_str(alloc, text)?;
-    match parse(alloc, source) {
-        Ok(tree) => Ok(tree),
-        Err(ParseFault::Syntax(tree, _errors)) => Ok(tree),
-        Err(ParseFault::Memory) => Err(AllocError),
-    }
+    let (tree, _errors) = recovered(alloc, parse(alloc, source))?;
+    Ok(tree)
 }
 
 /// Copies of the text's tree of lent texts, which stays as it was.

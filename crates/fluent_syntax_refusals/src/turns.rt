@@ -1,5 +1,7 @@
 //! A call with its requests for memory refused in turn.
 
+ghost use Rattle.std.specs.Prelude.{◌≡◌, ◌+◌, ◌-◌, ◌^◌, ◌<◌, ◌≤◌, IsTrue, min};
+
 use crate::answers::Answer;
 use crate::requests::{refuse, was_refused};
 use std::alloc::{AllocError, Global};
@@ -24,7 +26,10 @@ impl Tally {
     };
 
     /// Both together.
-    pub fn and(self, other: Tally) -> Tally {
+    pub(crate) fn and(self, other: Tally) -> Tally
+        ensures refused { result.refused ≡ min (self.refused + other.refused) (2 ^ 64 - 1) }
+        ensures wrong { result.wrong ≡ min (self.wrong + other.wrong) (2 ^ 64 - 1) }
+    {
         Tally {
             refused: self.refused.saturating_add(other.refused),
             wrong: self.wrong.saturating_add(other.wrong),
@@ -32,7 +37,11 @@ impl Tally {
     }
 
     /// One wrong answer more, where it is one.
-    pub fn wrong_if(self, is_wrong: bool) -> Tally {
+    pub(crate) fn wrong_if(self, is_wrong: bool) -> Tally
+        ensures refused { result.refused ≡ self.refused }
+        ensures told { IsTrue is_wrong → 0 < result.wrong }
+        ensures kept { self.wrong ≤ result.wrong }
+    {
         Tally {
             refused: self.refused,
             wrong: self.wrong.saturating_add(u64::from(is_wrong)),
@@ -42,7 +51,7 @@ impl Tally {
 
 /// Calls with the first request refused, then with the second, and so on, until a call made no request
 /// that was refused. What `make` gives the call is made with ample memory.
-pub fn in_turn<I, A: Answer + Drop, M: Fn() -> Result<I, AllocError>, F: Fn(I) -> A>(
+pub(crate) fn in_turn<I, A: Answer + Drop, M: Fn() -> Result<I, AllocError>, F: Fn(I) -> A>(
     alloc: Global,
     make: M,
     call: F,
@@ -67,12 +76,12 @@ pub fn in_turn<I, A: Answer + Drop, M: Fn() -> Result<I, AllocError>, F: Fn(I) -
 }
 
 /// For a call that is given nothing of its own.
-pub fn nothing() -> Result<(), AllocError> {
+pub(crate) fn nothing() -> Result<(), AllocError> {
     Ok(())
 }
 
 /// A call over each of the texts; prints what was seen of it.
-pub fn over<'t, R: Print + AllocGlobal, F: Fn(Global, &'t str) -> Result<Tally, AllocError>>(
+pub(crate) fn over<'t, R: Print + AllocGlobal, F: Fn(Global, &'t str) -> Result<Tally, AllocError>>(
     rt: &R,
     name: &str,
     texts: &[&'t str],

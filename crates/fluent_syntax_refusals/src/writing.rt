@@ -10,7 +10,7 @@ use fluent_syntax_corpus::{ESCAPED, TEXTS};
 use std::alloc::{AllocError, Global};
 use std::io;
 
-pub fn calls<R: Print + AllocGlobal>(rt: &R) -> io::Result<Tally> {
+pub(crate) fn calls<R: Print + AllocGlobal>(rt: &R) -> io::Result<Tally> {
     let texts = TEXTS.as_slice();
     let trees = over(rt, "serializing", texts, written)?;
     let escaped = over(rt, "unescaping", ESCAPED.as_slice(), unescaped)?;

@@ -13,7 +13,7 @@ pub struct Drip<'a> {
 
 impl<'a> Drip<'a> {
     /// One that never fails.
-    pub fn whole(bytes: &'a [u8]) -> Self {
+    pub(crate) fn whole(bytes: &'a [u8]) -> Self {
         Drip {
             bytes,
             reads: usize::MAX,
@@ -47,7 +47,7 @@ pub struct Narrow {
 
 impl Narrow {
     /// One that takes all.
-    pub fn wide(alloc: Global) -> Self {
+    pub(crate) fn wide(alloc: Global) -> Self {
         Narrow {
             taken: Vec::new(alloc),
             step: usize::MAX,
@@ -76,7 +76,7 @@ impl Write for Narrow {
 }
 
 /// How the command ends over a reader and a writer, and what was written.
-pub fn ran(
+pub(crate) fn ran(
     alloc: Global,
     command: Command,
     reader: Drip<'_>,

@@ -138,7 +138,7 @@ const REFUSED: [(&str, &str); 12] = [
 ];
 
 /// The tree of a text, whether it has errors or not.
-pub fn tree(alloc: Global, text: &str) -> Result<Resource<String>, Fail> {
+pub(crate) fn tree(alloc: Global, text: &str) -> Result<Resource<String>, Fail> {
     match parse(alloc, String::from_str(alloc, text)?) {
         Ok(tree) => Ok(tree),
         Err(ParseFault::Syntax(tree, _)) => Ok(tree),

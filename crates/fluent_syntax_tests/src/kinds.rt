@@ -60,7 +60,7 @@ pub const KINDS: [(&str, &str); 21] = [
 ];
 
 /// The kind of a name, with the payload `k`.
-pub fn kind(alloc: Global, name: &str) -> Result<ErrorKind, Fail> {
+pub(crate) fn kind(alloc: Global, name: &str) -> Result<ErrorKind, Fail> {
     let payload = String::from_str(alloc, "k")?;
     Ok(match name {
         "ExpectedToken" => ErrorKind::ExpectedToken('k'),

@@ -4,6 +4,8 @@
 #[cfg(test)]
 mod copies;
 #[cfg(test)]
+mod depths;
+#[cfg(test)]
 mod editions;
 #[cfg(test)]
 mod ends;

@@ -55,7 +55,10 @@ impl Shown for Span {
 }
 
 /// The outline of what a parser answered.
-pub fn outline<S: Shown>(out: &mut String, answer: &Result<Resource<S>, ParseFault<S>>) -> Written {
+pub(crate) fn outline<S: Shown>(
+    out: &mut String,
+    answer: &Result<Resource<S>, ParseFault<S>>,
+) -> Written {
     match answer {
         Ok(resource) => body(out, resource),
         Err(ParseFault::Syntax(resource, errors)) => {

@@ -60,7 +60,7 @@ pub struct RandomTrees {
 }
 
 impl RandomTrees {
-    pub fn new(alloc: Global) -> Self {
+    pub(crate) fn new(alloc: Global) -> Self {
         RandomTrees {
             alloc,
             state: 0x9e37_79b9_7f4a_7c15,
@@ -122,7 +122,7 @@ impl RandomTrees {
     }
 
     /// A tree of one to three entries, and now and then none.
-    pub fn tree(&mut self) -> Made<Resource<Text>> {
+    pub(crate) fn tree(&mut self) -> Made<Resource<Text>> {
         let mut body = Vec::new(self.alloc);
         if self.is_odd() {
             return Ok(Resource { body });

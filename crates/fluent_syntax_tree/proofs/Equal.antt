@@ -1,26 +1,45 @@
 -- `==` of trees is equality of the trees that they stand for.
-use Rattle.std.proofs.Common.{◌≡◌, List, [], ◌∷◌, map, Option, Some, None, option_map, Vec, Box, Global, Bool, true, false, ◌&&◌, refl, sym, ap, ◌∙◌, subst, true≢false}
+use Rattle.std.proofs.Common.{◌≡◌, List, [], ◌∷◌, map, Option, Some, None, option_map, Vec, Box, Global, Bool, true}
+use Rattle.std.proofs.Common.{false, ◌&&◌, refl, sym, ap, ◌∙◌, subst, true≢false}
 use Rattle.std.specs.Bool.{Decides, beq}
 use Rattle.std.specs.Cmp.Lexicographic.{pointwise}
 use Rattle.std.specs.Option.{option_eq}
-use Rattle.fluent_syntax_tree.specs.Tree.{select, inline, string_literal, number_literal, function_reference, message_reference, term_reference, variable_reference, inline_placeable, arguments, arguments_of, some_arguments, inlines_of, named_argument, nameds_of, text_element, placeable, elements_of, variant, variants_of}
+use Rattle.fluent_syntax_tree.specs.Tree.{select, inline, string_literal, number_literal, function_reference}
+use Rattle.fluent_syntax_tree.specs.Tree.{message_reference, term_reference, variable_reference, inline_placeable}
+use Rattle.fluent_syntax_tree.specs.Tree.{arguments, arguments_of, some_arguments, inlines_of, named_argument}
+use Rattle.fluent_syntax_tree.specs.Tree.{nameds_of, text_element, placeable, elements_of, variant, variants_of}
 use Rattle.fluent_syntax_tree.specs.Entry.{message, term, comment, junk, regular, group, resource}
-use Rattle.fluent_syntax_tree.specs.View.{identifier_view, key_view, expression_view, inline_view, element_view, arguments_view, named_view, pattern_view, variant_view, comment_view, attribute_view, message_view, term_view, entry_view, resource_view}
-use Rattle.fluent_syntax_tree.proofs.Views.{view-Select, view-Inline, view-StringLiteral, view-NumberLiteral, view-FunctionReference, view-MessageReference, view-TermReference, view-VariableReference, view-InlinePlaceable, view-TextElement, view-Placeable, view-Pattern, view-Variant, view-NamedArgument, view-roll-CallArguments, view-roll-Expression, view-roll-InlineExpression}
+use Rattle.fluent_syntax_tree.specs.View.{identifier_view, key_view, expression_view, inline_view, element_view}
+use Rattle.fluent_syntax_tree.specs.View.{arguments_view, named_view, pattern_view, variant_view, comment_view}
+use Rattle.fluent_syntax_tree.specs.View.{attribute_view, message_view, term_view, entry_view, resource_view}
+use Rattle.fluent_syntax_tree.proofs.Views.{view-Select, view-Inline, view-StringLiteral, view-NumberLiteral}
+use Rattle.fluent_syntax_tree.proofs.Views.{view-FunctionReference, view-MessageReference, view-TermReference}
+use Rattle.fluent_syntax_tree.proofs.Views.{view-VariableReference, view-InlinePlaceable, view-TextElement}
+use Rattle.fluent_syntax_tree.proofs.Views.{view-Placeable, view-Pattern, view-Variant, view-NamedArgument}
+use Rattle.fluent_syntax_tree.proofs.Views.{view-roll-CallArguments, view-roll-Expression, view-roll-InlineExpression}
 use Rattle.fluent_syntax_tree.specs.declared.ast.Identifier.{Identifier}
 use Rattle.fluent_syntax_tree.specs.declared.ast.VariantKey.{VariantKey}
 use Rattle.fluent_syntax_tree.specs.declared.ast.VariantKey.TheVariants as key
-use Rattle.fluent_syntax_tree.specs.declared.ast.Expression.{Expression, Select, Inline, roll-Expression, out-Expression, roll-out-Expression, map-Expression}
+use Rattle.fluent_syntax_tree.specs.declared.ast.Expression.{Expression, Select, Inline, roll-Expression}
+use Rattle.fluent_syntax_tree.specs.declared.ast.Expression.{out-Expression, roll-out-Expression, map-Expression}
 use Rattle.fluent_syntax_tree.specs.declared.ast.InlineExpression as inl
-use Rattle.fluent_syntax_tree.specs.declared.ast.InlineExpression.{InlineExpression, roll-InlineExpression, out-InlineExpression, roll-out-InlineExpression, map-InlineExpression}
+use Rattle.fluent_syntax_tree.specs.declared.ast.InlineExpression.{InlineExpression, roll-InlineExpression}
+use Rattle.fluent_syntax_tree.specs.declared.ast.InlineExpression.{out-InlineExpression, roll-out-InlineExpression}
+use Rattle.fluent_syntax_tree.specs.declared.ast.InlineExpression.{map-InlineExpression}
 use Rattle.fluent_syntax_tree.specs.declared.ast.PatternElement as elem
-use Rattle.fluent_syntax_tree.specs.declared.ast.PatternElement.{PatternElement, roll-PatternElement, out-PatternElement, roll-out-PatternElement, map-PatternElement}
-use Rattle.fluent_syntax_tree.specs.declared.ast.CallArguments.{CallArguments, roll-CallArguments, out-CallArguments, roll-out-CallArguments, out-roll-CallArguments, map-CallArguments}
+use Rattle.fluent_syntax_tree.specs.declared.ast.PatternElement.{PatternElement, roll-PatternElement}
+use Rattle.fluent_syntax_tree.specs.declared.ast.PatternElement.{out-PatternElement, roll-out-PatternElement}
+use Rattle.fluent_syntax_tree.specs.declared.ast.PatternElement.{map-PatternElement}
+use Rattle.fluent_syntax_tree.specs.declared.ast.CallArguments.{CallArguments, roll-CallArguments, out-CallArguments}
+use Rattle.fluent_syntax_tree.specs.declared.ast.CallArguments.{roll-out-CallArguments, out-roll-CallArguments}
+use Rattle.fluent_syntax_tree.specs.declared.ast.CallArguments.{map-CallArguments}
 use Rattle.fluent_syntax_tree.specs.declared.ast.NamedArgument.{NamedArgument, roll-NamedArgument, map-NamedArgument}
 use Rattle.fluent_syntax_tree.specs.declared.ast.Pattern.{Pattern, roll-Pattern, map-Pattern, ind-Pattern}
 use Rattle.fluent_syntax_tree.specs.declared.ast.Variant.{Variant, roll-Variant, map-Variant}
 use Rattle.fluent_syntax_tree.specs.declared.ast.Expression.TheOpen as layer
-use Rattle.fluent_syntax_tree.specs.declared.ast.Expression.TheOpen.{Expression-F, InlineExpression-F, PatternElement-F, CallArguments-F, NamedArgument-F, Pattern-F, Variant-F}
+use Rattle.fluent_syntax_tree.specs.declared.ast.Expression.TheOpen.{Expression-F, InlineExpression-F, PatternElement-F}
+use Rattle.fluent_syntax_tree.specs.declared.ast.Expression.TheOpen.{CallArguments-F, NamedArgument-F, Pattern-F}
+use Rattle.fluent_syntax_tree.specs.declared.ast.Expression.TheOpen.{Variant-F}
 use Rattle.fluent_syntax_tree.specs.contracts.ast.IdentifierPartialEq.TheImpl as identifier_eq
 use Rattle.fluent_syntax_tree.specs.contracts.ast.VariantKeyPartialEq.TheImpl as key_eq
 use Rattle.fluent_syntax_tree.specs.contracts.ast.ExpressionPartialEq.TheImpl as expression_eq

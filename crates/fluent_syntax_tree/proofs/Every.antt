@@ -1,9 +1,22 @@
 -- What holds of each text of a value holds of each text of its parts, and the other way round.
-use Rattle.std.proofs.Common.{◌≡◌, ℕ, zero, suc, ◌<◌, List, [], ◌∷◌, ◌++◌, length, get_or, map, Option, Some, None, option_map, Vec, Box, Global, sym, ap, ◌∙◌, subst, arith}
-use Rattle.fluent_syntax_tree.specs.Tree.{KeyTree, name_key, number_key, ExpressionTree, select, inline, InlineTree, string_literal, number_literal, function_reference, message_reference, term_reference, variable_reference, inline_placeable, ArgumentsTree, arguments, MaybeArguments, no_arguments, some_arguments, InlineTrees, no_inlines, inlines, NamedTree, named_argument, NamedTrees, no_named, nameds, ElementTree, text_element, placeable, PatternTree, no_elements, elements, VariantTree, variant, VariantTrees, no_variants, variants, inlines_of, nameds_of, elements_of, variants_of, arguments_of}
-use Rattle.fluent_syntax_tree.specs.Entry.{AttributeTree, MessageTree, TermTree, EntryTree, message, term, comment, junk, BodyTree}
-use Rattle.fluent_syntax_tree.specs.Every.{key_every, option_every, list_every, expression_every, inline_every, arguments_every, maybe_every, inlines_every, named_every, nameds_every, element_every, pattern_every, variant_every, variants_every, attribute_every, message_every, term_every, entry_every, body_every}
-use Rattle.fluent_syntax_tree.specs.View.{identifier_view, key_view, expression_view, inline_view, element_view, arguments_view, named_view, pattern_view, variant_view}
+use Rattle.std.proofs.Common.{◌≡◌, ℕ, zero, suc, ◌<◌, List, [], ◌∷◌, ◌++◌, length, get_or, map, Option, Some, None}
+use Rattle.std.proofs.Common.{option_map, Vec, Box, Global, sym, ap, ◌∙◌, subst, arith}
+use Rattle.fluent_syntax_tree.specs.Tree.{KeyTree, name_key, number_key, ExpressionTree, select, inline, InlineTree}
+use Rattle.fluent_syntax_tree.specs.Tree.{string_literal, number_literal, function_reference, message_reference}
+use Rattle.fluent_syntax_tree.specs.Tree.{term_reference, variable_reference, inline_placeable, ArgumentsTree}
+use Rattle.fluent_syntax_tree.specs.Tree.{arguments, MaybeArguments, no_arguments, some_arguments, InlineTrees}
+use Rattle.fluent_syntax_tree.specs.Tree.{no_inlines, inlines, NamedTree, named_argument, NamedTrees, no_named, nameds}
+use Rattle.fluent_syntax_tree.specs.Tree.{ElementTree, text_element, placeable, PatternTree, no_elements, elements}
+use Rattle.fluent_syntax_tree.specs.Tree.{VariantTree, variant, VariantTrees, no_variants, variants, inlines_of}
+use Rattle.fluent_syntax_tree.specs.Tree.{nameds_of, elements_of, variants_of, arguments_of}
+use Rattle.fluent_syntax_tree.specs.Entry.{AttributeTree, MessageTree, TermTree, EntryTree, message, term, comment}
+use Rattle.fluent_syntax_tree.specs.Entry.{junk, BodyTree}
+use Rattle.fluent_syntax_tree.specs.Every.{key_every, option_every, list_every, expression_every, inline_every}
+use Rattle.fluent_syntax_tree.specs.Every.{arguments_every, maybe_every, inlines_every, named_every, nameds_every}
+use Rattle.fluent_syntax_tree.specs.Every.{element_every, pattern_every, variant_every, variants_every, attribute_every}
+use Rattle.fluent_syntax_tree.specs.Every.{message_every, term_every, entry_every, body_every}
+use Rattle.fluent_syntax_tree.specs.View.{identifier_view, key_view, expression_view, inline_view, element_view}
+use Rattle.fluent_syntax_tree.specs.View.{arguments_view, named_view, pattern_view, variant_view}
 use Rattle.fluent_syntax_tree.specs.declared.ast.Identifier.{Identifier}
 use Rattle.fluent_syntax_tree.specs.declared.ast.Expression.{Expression, Select, Inline}
 use Rattle.fluent_syntax_tree.specs.declared.ast.InlineExpression as inl
@@ -14,7 +27,11 @@ use Rattle.fluent_syntax_tree.specs.declared.ast.CallArguments.{CallArguments, o
 use Rattle.fluent_syntax_tree.specs.declared.ast.NamedArgument.{NamedArgument}
 use Rattle.fluent_syntax_tree.specs.declared.ast.Pattern.{Pattern}
 use Rattle.fluent_syntax_tree.specs.declared.ast.Variant.{Variant}
-use Rattle.fluent_syntax_tree.proofs.Views.{view-Select, view-Inline, view-StringLiteral, view-NumberLiteral, view-FunctionReference, view-MessageReference, view-TermReference, view-VariableReference, view-InlinePlaceable, view-TextElement, view-Placeable, view-Pattern, view-Variant, view-NamedArgument, view-CallArguments}
+use Rattle.fluent_syntax_tree.proofs.Views.{view-Select, view-Inline, view-StringLiteral, view-NumberLiteral}
+use Rattle.fluent_syntax_tree.proofs.Views.{view-FunctionReference, view-MessageReference, view-TermReference}
+use Rattle.fluent_syntax_tree.proofs.Views.{view-VariableReference, view-InlinePlaceable, view-TextElement}
+use Rattle.fluent_syntax_tree.proofs.Views.{view-Placeable, view-Pattern, view-Variant, view-NamedArgument}
+use Rattle.fluent_syntax_tree.proofs.Views.{view-CallArguments}
 
 -- ---- lists
 

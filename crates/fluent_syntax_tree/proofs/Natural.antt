@@ -1,20 +1,31 @@
 -- A view through two functions is the map of a view.
 use Rattle.std.proofs.Common.{◌≡◌, List, [], ◌∷◌, map, Option, Some, None, option_map, refl, sym, ap, ◌∙◌, subst}
-use Rattle.fluent_syntax_tree.specs.Tree.{key_map, option_texts, select, inline, expression_map, function_reference, message_reference, term_reference, inline_placeable, inline_map, arguments, arguments_map, no_arguments, some_arguments, inlines_of, inlines_map, named_argument, named_map, nameds_of, nameds_map, placeable, element_map, elements_of, pattern_map, variant, variant_map, variants_of, variants_map}
-use Rattle.fluent_syntax_tree.specs.Entry.{attribute_map, message_map, term_map, entry_map, body_map, message, term, comment, regular, group, resource}
-use Rattle.fluent_syntax_tree.specs.View.{identifier_view, key_view, expression_view, inline_view, element_view, arguments_view, named_view, pattern_view, variant_view, attribute_view, comment_view, message_view, term_view, entry_view, resource_view}
+use Rattle.fluent_syntax_tree.specs.Tree.{key_map, option_texts, select, inline, expression_map, function_reference}
+use Rattle.fluent_syntax_tree.specs.Tree.{message_reference, term_reference, inline_placeable, inline_map, arguments}
+use Rattle.fluent_syntax_tree.specs.Tree.{arguments_map, no_arguments, some_arguments, inlines_of, inlines_map}
+use Rattle.fluent_syntax_tree.specs.Tree.{named_argument, named_map, nameds_of, nameds_map, placeable, element_map}
+use Rattle.fluent_syntax_tree.specs.Tree.{elements_of, pattern_map, variant, variant_map, variants_of, variants_map}
+use Rattle.fluent_syntax_tree.specs.Entry.{attribute_map, message_map, term_map, entry_map, body_map, message, term}
+use Rattle.fluent_syntax_tree.specs.Entry.{comment, regular, group, resource}
+use Rattle.fluent_syntax_tree.specs.View.{identifier_view, key_view, expression_view, inline_view, element_view}
+use Rattle.fluent_syntax_tree.specs.View.{arguments_view, named_view, pattern_view, variant_view, attribute_view}
+use Rattle.fluent_syntax_tree.specs.View.{comment_view, message_view, term_view, entry_view, resource_view}
 use Rattle.fluent_syntax_tree.specs.declared.ast.Identifier.{Identifier}
 use Rattle.fluent_syntax_tree.specs.declared.ast.VariantKey.{VariantKey}
 use Rattle.fluent_syntax_tree.specs.declared.ast.VariantKey.TheVariants as key
 use Rattle.fluent_syntax_tree.specs.declared.ast.Expression.{Expression, roll-Expression, map-Expression}
-use Rattle.fluent_syntax_tree.specs.declared.ast.InlineExpression.{InlineExpression, roll-InlineExpression, map-InlineExpression}
-use Rattle.fluent_syntax_tree.specs.declared.ast.PatternElement.{PatternElement, roll-PatternElement, map-PatternElement}
+use Rattle.fluent_syntax_tree.specs.declared.ast.InlineExpression.{InlineExpression, roll-InlineExpression}
+use Rattle.fluent_syntax_tree.specs.declared.ast.InlineExpression.{map-InlineExpression}
+use Rattle.fluent_syntax_tree.specs.declared.ast.PatternElement.{PatternElement, roll-PatternElement}
+use Rattle.fluent_syntax_tree.specs.declared.ast.PatternElement.{map-PatternElement}
 use Rattle.fluent_syntax_tree.specs.declared.ast.CallArguments.{CallArguments, roll-CallArguments, map-CallArguments}
 use Rattle.fluent_syntax_tree.specs.declared.ast.NamedArgument.{NamedArgument, roll-NamedArgument, map-NamedArgument}
 use Rattle.fluent_syntax_tree.specs.declared.ast.Pattern.{Pattern, roll-Pattern, map-Pattern, ind-Pattern}
 use Rattle.fluent_syntax_tree.specs.declared.ast.Variant.{Variant, roll-Variant, map-Variant}
 use Rattle.fluent_syntax_tree.specs.declared.ast.Expression.TheOpen as layer
-use Rattle.fluent_syntax_tree.specs.declared.ast.Expression.TheOpen.{Expression-F, InlineExpression-F, PatternElement-F, CallArguments-F, NamedArgument-F, Pattern-F, Variant-F}
+use Rattle.fluent_syntax_tree.specs.declared.ast.Expression.TheOpen.{Expression-F, InlineExpression-F, PatternElement-F}
+use Rattle.fluent_syntax_tree.specs.declared.ast.Expression.TheOpen.{CallArguments-F, NamedArgument-F, Pattern-F}
+use Rattle.fluent_syntax_tree.specs.declared.ast.Expression.TheOpen.{Variant-F}
 use Rattle.fluent_syntax_tree.specs.declared.ast.Attribute.{Attribute}
 use Rattle.fluent_syntax_tree.specs.declared.ast.Comment.{Comment}
 use Rattle.fluent_syntax_tree.specs.declared.ast.Message.{Message}
@@ -22,7 +33,11 @@ use Rattle.fluent_syntax_tree.specs.declared.ast.Term.{Term}
 use Rattle.fluent_syntax_tree.specs.declared.ast.Entry.{Entry}
 use Rattle.fluent_syntax_tree.specs.declared.ast.Entry.TheVariants as entries
 use Rattle.fluent_syntax_tree.specs.declared.ast.Resource.{Resource}
-use Rattle.fluent_syntax_tree.proofs.Views.{view-Select, view-Inline, view-StringLiteral, view-NumberLiteral, view-FunctionReference, view-MessageReference, view-TermReference, view-VariableReference, view-InlinePlaceable, view-TextElement, view-Placeable, view-Pattern, view-Variant, view-NamedArgument, view-roll-CallArguments}
+use Rattle.fluent_syntax_tree.proofs.Views.{view-Select, view-Inline, view-StringLiteral, view-NumberLiteral}
+use Rattle.fluent_syntax_tree.proofs.Views.{view-FunctionReference, view-MessageReference, view-TermReference}
+use Rattle.fluent_syntax_tree.proofs.Views.{view-VariableReference, view-InlinePlaceable, view-TextElement}
+use Rattle.fluent_syntax_tree.proofs.Views.{view-Placeable, view-Pattern, view-Variant, view-NamedArgument}
+use Rattle.fluent_syntax_tree.proofs.Views.{view-roll-CallArguments}
 use denote.Hole.Carrier as carrier
 
 abbrev Such : {A : Type 0} → (A → Type 0) → Type 0

@@ -1,14 +1,22 @@
 -- The view of each form, from the views of what it holds.
 use Rattle.std.proofs.Common.{◌≡◌, map, Option, option_map, Vec, Box, Global, sym, ap, ◌∙◌, rules}
-use Rattle.fluent_syntax_tree.specs.Tree.{select, inline, string_literal, number_literal, function_reference, message_reference, term_reference, variable_reference, inline_placeable, arguments, arguments_of, inlines_of, named_argument, nameds_of, text_element, placeable, elements_of, variant, variants_of}
-use Rattle.fluent_syntax_tree.specs.View.{expression_step, inline_step, identifier_view, key_view, expression_view, inline_view, element_view, arguments_view, named_view, pattern_view, variant_view}
+use Rattle.fluent_syntax_tree.specs.Tree.{select, inline, string_literal, number_literal, function_reference}
+use Rattle.fluent_syntax_tree.specs.Tree.{message_reference, term_reference, variable_reference, inline_placeable}
+use Rattle.fluent_syntax_tree.specs.Tree.{arguments, arguments_of, inlines_of, named_argument, nameds_of, text_element}
+use Rattle.fluent_syntax_tree.specs.Tree.{placeable, elements_of, variant, variants_of}
+use Rattle.fluent_syntax_tree.specs.View.{expression_step, inline_step, identifier_view, key_view, expression_view}
+use Rattle.fluent_syntax_tree.specs.View.{inline_view, element_view, arguments_view, named_view, pattern_view}
+use Rattle.fluent_syntax_tree.specs.View.{variant_view}
 use Rattle.fluent_syntax_tree.specs.declared.ast.Identifier.{Identifier}
-use Rattle.fluent_syntax_tree.specs.declared.ast.Expression.{Expression, Expression-F, Select, Inline, the_lemmas, roll-Expression, map-Expression}
+use Rattle.fluent_syntax_tree.specs.declared.ast.Expression.{Expression, Expression-F, Select, Inline, the_lemmas}
+use Rattle.fluent_syntax_tree.specs.declared.ast.Expression.{roll-Expression, map-Expression}
 use Rattle.fluent_syntax_tree.specs.declared.ast.InlineExpression as inl
-use Rattle.fluent_syntax_tree.specs.declared.ast.InlineExpression.{InlineExpression, InlineExpression-F, roll-InlineExpression, map-InlineExpression}
+use Rattle.fluent_syntax_tree.specs.declared.ast.InlineExpression.{InlineExpression, InlineExpression-F}
+use Rattle.fluent_syntax_tree.specs.declared.ast.InlineExpression.{roll-InlineExpression, map-InlineExpression}
 use Rattle.fluent_syntax_tree.specs.declared.ast.PatternElement as elem
 use Rattle.fluent_syntax_tree.specs.declared.ast.PatternElement.{PatternElement}
-use Rattle.fluent_syntax_tree.specs.declared.ast.CallArguments.{CallArguments, CallArguments-F, out-CallArguments, roll-CallArguments, out-roll-CallArguments}
+use Rattle.fluent_syntax_tree.specs.declared.ast.CallArguments.{CallArguments, CallArguments-F, out-CallArguments}
+use Rattle.fluent_syntax_tree.specs.declared.ast.CallArguments.{roll-CallArguments, out-roll-CallArguments}
 use Rattle.fluent_syntax_tree.specs.declared.ast.NamedArgument.{NamedArgument}
 use Rattle.fluent_syntax_tree.specs.declared.ast.Pattern.{Pattern}
 use Rattle.fluent_syntax_tree.specs.declared.ast.Variant.{Variant}

@@ -1,7 +1,14 @@
 -- P holds of each text of a tree.
 use Rattle.std.specs.Prelude.{List, [], ◌∷◌, Option, Some, None}
-use Rattle.fluent_syntax_tree.specs.Tree.{KeyTree, name_key, number_key, ExpressionTree, select, inline, InlineTree, string_literal, number_literal, function_reference, message_reference, term_reference, variable_reference, inline_placeable, ArgumentsTree, arguments, MaybeArguments, no_arguments, some_arguments, InlineTrees, no_inlines, inlines, NamedTree, named_argument, NamedTrees, no_named, nameds, ElementTree, text_element, placeable, PatternTree, no_elements, elements, VariantTree, variant, VariantTrees, no_variants, variants}
-use Rattle.fluent_syntax_tree.specs.Entry.{AttributeTree, MessageTree, TermTree, EntryTree, message, term, comment, junk, BodyTree}
+use Rattle.fluent_syntax_tree.specs.Tree.{KeyTree, name_key, number_key, ExpressionTree, select, inline, InlineTree}
+use Rattle.fluent_syntax_tree.specs.Tree.{string_literal, number_literal, function_reference, message_reference}
+use Rattle.fluent_syntax_tree.specs.Tree.{term_reference, variable_reference, inline_placeable, ArgumentsTree}
+use Rattle.fluent_syntax_tree.specs.Tree.{arguments, MaybeArguments, no_arguments, some_arguments, InlineTrees}
+use Rattle.fluent_syntax_tree.specs.Tree.{no_inlines, inlines, NamedTree, named_argument, NamedTrees, no_named, nameds}
+use Rattle.fluent_syntax_tree.specs.Tree.{ElementTree, text_element, placeable, PatternTree, no_elements, elements}
+use Rattle.fluent_syntax_tree.specs.Tree.{VariantTree, variant, VariantTrees, no_variants, variants}
+use Rattle.fluent_syntax_tree.specs.Entry.{AttributeTree, MessageTree, TermTree, EntryTree, message, term, comment}
+use Rattle.fluent_syntax_tree.specs.Entry.{junk, BodyTree}
 
 abbrev pub key_every : {X : Type 0} → (X → Type 0) → KeyTree X → Type 0
 key_every P (name_key x) = P x

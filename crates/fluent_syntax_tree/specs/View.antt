@@ -1,7 +1,13 @@
 -- The tree that a value of `ast` stands for: each text is read by `text`.
 use Rattle.std.specs.Prelude.{List, map, option_map}
-use Rattle.fluent_syntax_tree.specs.Tree.{KeyTree, name_key, number_key, ExpressionTree, select, inline, InlineTree, string_literal, number_literal, function_reference, message_reference, term_reference, variable_reference, inline_placeable, ArgumentsTree, arguments, arguments_of, inlines_of, NamedTree, named_argument, nameds_of, ElementTree, text_element, placeable, PatternTree, elements_of, VariantTree, variant, variants_of}
-use Rattle.fluent_syntax_tree.specs.Entry.{AttributeTree, MessageTree, TermTree, EntryTree, message, term, comment, junk, regular, group, resource, BodyTree}
+use Rattle.fluent_syntax_tree.specs.Tree.{KeyTree, name_key, number_key, ExpressionTree, select, inline, InlineTree}
+use Rattle.fluent_syntax_tree.specs.Tree.{string_literal, number_literal, function_reference, message_reference}
+use Rattle.fluent_syntax_tree.specs.Tree.{term_reference, variable_reference, inline_placeable, ArgumentsTree}
+use Rattle.fluent_syntax_tree.specs.Tree.{arguments, arguments_of, inlines_of, NamedTree, named_argument, nameds_of}
+use Rattle.fluent_syntax_tree.specs.Tree.{ElementTree, text_element, placeable, PatternTree, elements_of, VariantTree}
+use Rattle.fluent_syntax_tree.specs.Tree.{variant, variants_of}
+use Rattle.fluent_syntax_tree.specs.Entry.{AttributeTree, MessageTree, TermTree, EntryTree, message, term, comment}
+use Rattle.fluent_syntax_tree.specs.Entry.{junk, regular, group, resource, BodyTree}
 use Rattle.fluent_syntax_tree.specs.declared.ast.Resource.{Resource}
 use Rattle.fluent_syntax_tree.specs.declared.ast.Entry.{Entry}
 use Rattle.fluent_syntax_tree.specs.declared.ast.Entry.TheVariants as entries
@@ -20,8 +26,12 @@ use Rattle.fluent_syntax_tree.specs.declared.ast.NamedArgument.{NamedArgument}
 use Rattle.fluent_syntax_tree.specs.declared.ast.Pattern.{Pattern}
 use Rattle.fluent_syntax_tree.specs.declared.ast.Variant.{Variant}
 use Rattle.fluent_syntax_tree.specs.declared.ast.Expression.TheOpen as open'
-use Rattle.fluent_syntax_tree.specs.declared.ast.Expression.TheOpen.{Expression-F, InlineExpression-F, PatternElement-F, CallArguments-F, NamedArgument-F, Pattern-F, Variant-F}
-use Rattle.fluent_syntax_tree.specs.declared.ast.Expression.TheFolds.{fold-Expression, fold-InlineExpression, fold-PatternElement, fold-CallArguments, fold-NamedArgument, fold-Pattern, fold-Variant}
+use Rattle.fluent_syntax_tree.specs.declared.ast.Expression.TheOpen.{Expression-F, InlineExpression-F, PatternElement-F}
+use Rattle.fluent_syntax_tree.specs.declared.ast.Expression.TheOpen.{CallArguments-F, NamedArgument-F, Pattern-F}
+use Rattle.fluent_syntax_tree.specs.declared.ast.Expression.TheOpen.{Variant-F}
+use Rattle.fluent_syntax_tree.specs.declared.ast.Expression.TheFolds.{fold-Expression, fold-InlineExpression}
+use Rattle.fluent_syntax_tree.specs.declared.ast.Expression.TheFolds.{fold-PatternElement, fold-CallArguments}
+use Rattle.fluent_syntax_tree.specs.declared.ast.Expression.TheFolds.{fold-NamedArgument, fold-Pattern, fold-Variant}
 
 module _ {S X : Type 0} (text : S → X) where
   abbrev pub identifier_view : Identifier S → X

@@ -1,5 +1,5 @@
 -- The text that a command writes of a source, and what was found in it.
-use Rattle.std.specs.Prelude.{◌≡◌, ℕ, List, [], ◌∷◌, ◌++◌, codes, false, unwrap_or}
+use Rattle.std.specs.Prelude.{◌≡◌, ℕ, List, [], ◌∷◌, ◌++◌, codes, false, unwrap_or, Option, Some, None}
 use Rattle.std.specs.Fmt.{decimal}
 use Rattle.std.specs.List.{flat_map}
 use Rattle.std.specs.Str.{IsUtf8}
@@ -43,6 +43,11 @@ module _ (t : List ℕ) where
   -- the line of an error of the source
   abbrev pub error_line : Fault → List ℕ
   error_line f = error_text (line_at t f.pos.start) (column_at t f.pos.start) f
+
+  -- the line of an error, if there is one
+  abbrev pub line_of_error : Option ParserError → List ℕ
+  line_of_error None = []
+  line_of_error (Some error) = error_line (told error)
 
   -- a line for each error of the tiles, in order
   abbrev pub error_lines : List Tile → List ℕ

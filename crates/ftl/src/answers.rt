@@ -1,7 +1,5 @@
 //! The text that a command writes.
-ghost use Rattle.std.specs.Prelude.{◌≡◌, ◌≢◌, ◌↔◌, ◌+◌, ◌++◌, ◌^◌, ◌<◌, ◌≤◌, ℕ, List, length, string_bytes, codes, All};
-ghost use Rattle.std.specs.Prelude.{Err, Ok, IfErr, IfOk, OnErr, OnOk, false};
-ghost use Rattle.std.specs.List.{flat_map};
+ghost use Rattle.std.specs.Prelude.{◌≡◌, ◌≢◌, ◌↔◌, ◌+◌, ◌++◌, ◌^◌, ◌<◌, ◌≤◌, ℕ, List, length, string_bytes, codes, Err, Ok, IfErr, IfOk, IfSome, OnErr, OnOk, false};
 ghost use Rattle.std.specs.Str.{IsUtf8};
 ghost use Rattle.fluent_syntax_tree.specs.Entry.{body_map};
 ghost use Rattle.fluent_syntax_tree.specs.Spans.{bytes_at};
@@ -10,19 +8,19 @@ ghost use Rattle.fluent_syntax_grammar.specs.Tiling.{Tile, Tiling};
 ghost use Rattle.fluent_syntax_grammar.specs.Written.{written};
 ghost use Rattle.fluent_syntax_json.specs.Form.{body_form};
 ghost use Rattle.serde_json.specs.Written.{compact_text};
-ghost use Rattle.fluent_syntax_parser.specs.Answers.{Answers, ErrorsInText};
-ghost use Rattle.ftl.specs.Answer.{IsAnswer, error_line, error_lines, error_text, range_text, json_text, normal_text};
-ghost use Rattle.ftl.specs.Answer.{outcome_of, told};
+ghost use Rattle.fluent_syntax_parser.specs.Answers.{Answers};
+ghost use Rattle.fluent_syntax_parser.specs.Halts.{HaltsWithin};
+ghost use Rattle.ftl.specs.Answer.{IsAnswer, error_lines, error_text, line_of_error, range_text, json_text, normal_text, outcome_of, told};
 
 use crate::command::Command;
 use crate::outcome::{Outcome, RunFault};
-use fluent_syntax::ast::Resource;
+use fluent_syntax::ast::{Entry, Resource};
 use fluent_syntax::parser;
 use fluent_syntax::parser::{
     Edition, ParseFault, ParserError, TooDeep, parse_runtime_within, parse_within,
 };
 use fluent_syntax::serializer::serialize;
-use fluent_syntax::spans::{Lines, Span, parse_spans_within};
+use fluent_syntax::spans::{Comments, Entries, Halt, Lines, Options, Span};
 use fluent_syntax::unicode::SinkError;
 use fluent_syntax_json::write_to;
 use std::alloc::{AllocError, Global};
@@ -66,16 +64,8 @@ pub fn answer_within(
         return Ok(Err(RunFault::Memory));
     }
     let answer = match command {
-        Command::Check => check(
-            alloc,
-            text,
-            parse_spans_within(alloc, text, Edition::One, nesting)?,
-        ),
-        Command::CheckTwo => check(
-            alloc,
-            text,
-            parse_spans_within(alloc, text, Edition::Two, nesting)?,
-        ),
+        Command::Check => check(alloc, text, Edition::One, nesting)?,
+        Command::CheckTwo => check(alloc, text, Edition::Two, nesting)?,
         Command::Format => format(alloc, parse_within(alloc, text, Edition::One, nesting)?),
         Command::FormatTwo => format(alloc, parse_within(alloc, text, Edition::Two, nesting)?),
         Command::Runtime => format(
@@ -87,41 +77,70 @@ pub fn answer_within(
     Ok(answer)
 }
 
-/// A line for each error of the text.
+/// A line for each error.
 fn check(
     alloc: Global,
     text: &str,
-    parsed: parser::Result<Span>,
-) -> Result<(String, Outcome), RunFault>
-    requires short { length text.now + 1 < 2 ^ 64 }
-    requires places { ErrorsInText text.now parsed }
-    ensures text { IfOk result (λ answer. (tiles : List Tile) → Answers (λ s. s) (λ b. b) tiles parsed
-        → (string_bytes answer.0 ≡ error_lines text.now tiles) × (answer.1 ≡ outcome_of tiles)) }
-    ensures err { IfErr result (λ fault. fault ≡ RunFault.Memory) }
+    edition: Edition,
+    nesting: usize,
+) -> Result<Result<(String, Outcome), RunFault>, TooDeep>
+    requires { length text.now + 1 < 2 ^ 64 }
+    ensures text { IfOk result (λ answer. IfOk answer (λ given. (tiles : List Tile) × Tiling edition text.now tiles
+        × (string_bytes given.0 ≡ error_lines text.now tiles) × (given.1 ≡ outcome_of tiles))) }
+    ensures err { IfOk result (λ answer. IfErr answer (λ fault. fault ≡ RunFault.Memory)) }
+    ensures deep { OnErr result (nesting < length text.now) }
 {
-    match parsed {
-        Ok(_) => Ok((String::new(alloc), Outcome::Clean)),
-        Err(ParseFault::Syntax(_, errors)) => match lines(alloc, text, &errors) {
-            Ok(lines) => Ok((lines, Outcome::SyntaxErrors)),
-            Err(_) => Err(RunFault::Memory),
-        },
-        Err(ParseFault::Memory) => Err(RunFault::Memory),
+    match lines(alloc, text, edition, nesting) {
+        Ok(lines) => {
+            let outcome = if lines.is_empty() {
+                Outcome::Clean
+            } else {
+                Outcome::SyntaxErrors
+            };
+            Ok(Ok((lines, outcome)))
+        }
+        Err(Halt::Memory) => Ok(Err(RunFault::Memory)),
+        Err(Halt::TooDeep) => Err(TooDeep),
     }
 }
 
-/// A line for each of the errors, which lie within the text.
-fn lines(alloc: Global, text: &str, errors: &Vec<ParserError>) -> Result<String, AllocError>
-    requires short { length text.now + 1 < 2 ^ 64 }
-    requires within { All (λ e. e.pos.start ≤ length text.now) errors.now.items }
-    ensures { IfOk result (λ lines. string_bytes lines ≡ flat_map (λ e. error_line text.now (told e)) errors.now.items) }
+/// A line for each error, written as the entries come: none of them is kept.
+fn lines(alloc: Global, text: &str, edition: Edition, nesting: usize) -> Result<String, Halt>
+    requires { length text.now + 1 < 2 ^ 64 }
+    ensures text { IfOk result (λ lines. (tiles : List Tile) × Tiling edition text.now tiles
+        × (string_bytes lines ≡ error_lines text.now tiles)) }
+    ensures nests { IfErr result (HaltsWithin nesting (length text.now)) }
 {
-    let mut out = String::new(alloc);
+    let options = Options {
+        edition,
+        comments: Comments::Kept,
+        nesting,
+    };
+    let mut entries = Entries::new(text, options);
     let mut places = Lines::new(text);
-    for error in errors {
-        let (line, column) = places.line_column(error.pos.start);
-        write_line(&mut out, line, column, error)?;
+    let mut out = String::new(alloc);
+    while let Some(read) = entries.next_entry(alloc)? {
+        write_error_of(&mut out, &mut places, read)?;
     }
     Ok(out)
+}
+
+/// Writes the line of the error of what was read, if it is junk.
+fn write_error_of(
+    out: &mut String,
+    places: &mut Lines<'_>,
+    read: (Entry<Span>, Option<ParserError>),
+) -> Result<(), AllocError>
+    requires { IfSome read.1 (λ error. error.pos.start ≤ length places.old) }
+    ensures line { OnOk result (string_bytes out.new ≡ string_bytes out.old ++ line_of_error places.old read.1) }
+    ensures source { places.new ≡ places.old }
+{
+    let (_entry, error) = read;
+    if let Some(error) = error {
+        let (line, column) = places.line_column(error.pos.start);
+        write_line(out, line, column, &error)?;
+    }
+    Ok(())
 }
 
 /// `LINE:COLUMN START..END FROM..TO NAME`: where the error is, by lines and by bytes, the junk's

@@ -18,7 +18,8 @@ use Rattle.fluent_syntax_grammar.specs.Written.{Text}
 use Rattle.fluent_syntax_grammar.specs.Rules.{message_obeys, term_obeys, body_obeys}
 use Rattle.fluent_syntax_grammar.specs.Readable.{readable_rules}
 use Rattle.fluent_syntax_grammar.specs.Joined.{joined_message, joined_term, joined_body}
-use Rattle.fluent_syntax_grammar.specs.RoundTrip.{HasNoBareCr, HasNoCr, JoinedIsReadable, JoinedIsSame, JoinedIsCanonical, tree_of}
+use Rattle.fluent_syntax_grammar.specs.RoundTrip.{HasNoBareCr, HasNoCr, JoinedIsReadable, JoinedIsSame}
+use Rattle.fluent_syntax_grammar.specs.RoundTrip.{JoinedIsCanonical, tree_of}
 use Rattle.fluent_syntax_grammar.proofs.FurtherRules.{readable_further}
 use Rattle.fluent_syntax_grammar.proofs.Facts.{differs}
 use Rattle.fluent_syntax_grammar.proofs.Tests.{both}

@@ -7,8 +7,8 @@ use Rattle.ftl.specs.declared.command.Command.{Command}
 use Rattle.ftl.specs.declared.command.Command.TheVariants.{Check, CheckTwo, Format, FormatTwo, Runtime, Json}
 use Rattle.ftl.specs.declared.outcome.Outcome.{Outcome}
 use Rattle.ftl.proofs.answers.answer_within.Goals as goal
-use Rattle.ftl.proofs.answers.answer_within.Goals.{in-Check+in_ok-parse_spans_within-in-Check}
-use Rattle.ftl.proofs.answers.answer_within.Goals.{in-CheckTwo+in_ok-parse_spans_within-in-CheckTwo}
+use Rattle.ftl.proofs.answers.answer_within.Goals.{in-Check+in_ok-answer-in-Check}
+use Rattle.ftl.proofs.answers.answer_within.Goals.{in-CheckTwo+in_ok-answer-in-CheckTwo}
 use Rattle.ftl.proofs.answers.answer_within.Goals.{in-Format+in_ok-parse_within-in-Format}
 use Rattle.ftl.proofs.answers.answer_within.Goals.{in-FormatTwo+in_ok-parse_within-in-FormatTwo}
 use Rattle.ftl.proofs.answers.answer_within.Goals.{in-Runtime+in_ok-parse_runtime_within-in-Runtime}
@@ -41,21 +41,29 @@ of_arm bytes_of found_of given command input t tiles utf8 is has result answer s
     (IfOk-weaker result _ _ (λ a h.
     answered given command input t (bytes_of a) (found_of a) tiles is utf8.0 utf8.1 has h.0 h.1) told)
 
+-- the answer of a check, which tells of its tiles itself
+of_check : {X E : Type 0} (bytes_of : X → List ℕ) (found_of : X → Outcome) (given command : Command)
+    (input t : List ℕ) (utf8 : (t ≡ input) × IsUtf8 input) → given ≡ command → (result answer : Result X E) →
+    answer ≡ result →
+    IfOk result (λ a. (tiles : List Tile) × HasTiles command t tiles × (bytes_of a ≡ text_of command t tiles) ×
+    (found_of a ≡ outcome_of tiles)) →
+    IfOk answer (λ a. IsAnswer given input (bytes_of a) (found_of a))
+of_check bytes_of found_of given command input t utf8 is result answer same told =
+    subst (λ r. IfOk r (λ a. IsAnswer given input (bytes_of a) (found_of a))) (sym same)
+    (IfOk-weaker result _ _ (λ a h.
+    answered given command input t (bytes_of a) (found_of a) h.0 is utf8.0 utf8.1 h.1 h.2 h.3) told)
+
 pub returns-clause-text : goal.returns-clause-text
 returns-clause-text c =
     elim c.match-command.branch [
-      | in-Check+in_ok-parse_spans_within-in-Check w ↦
-          let parsed = w.in_ok-parse_spans_within-in-Check.ensures.tiling in
-          of_arm (λ a. string_bytes a.0) (λ a. a.1) c.args.command Check c.args.input.now c.in-Ok.text.now parsed.0
-          c.in-Ok.ensures.cases w.in-Check.is parsed.1 w.check-answer.result _ w.answer-is
-          (IfOk-weaker w.check-answer.result _ _ (λ a h. h parsed.0 parsed.2)
-          w.check-answer.ensures.text)
-      | in-CheckTwo+in_ok-parse_spans_within-in-CheckTwo w ↦
-          let parsed = w.in_ok-parse_spans_within-in-CheckTwo.ensures.tiling in
-          of_arm (λ a. string_bytes a.0) (λ a. a.1) c.args.command CheckTwo c.args.input.now c.in-Ok.text.now parsed.0
-          c.in-Ok.ensures.cases w.in-CheckTwo.is parsed.1 w.check-answer-in-CheckTwo.result _ w.answer-is
-          (IfOk-weaker w.check-answer-in-CheckTwo.result _ _ (λ a h. h parsed.0 parsed.2)
-          w.check-answer-in-CheckTwo.ensures.text)
+      | in-Check+in_ok-answer-in-Check w ↦
+          of_check (λ a. string_bytes a.0) (λ a. a.1) c.args.command Check c.args.input.now c.in-Ok.text.now
+          c.in-Ok.ensures.cases w.in-Check.is w.in_ok-answer-in-Check.answer _ w.answer-is
+          w.in_ok-answer-in-Check.ensures.text
+      | in-CheckTwo+in_ok-answer-in-CheckTwo w ↦
+          of_check (λ a. string_bytes a.0) (λ a. a.1) c.args.command CheckTwo c.args.input.now c.in-Ok.text.now
+          c.in-Ok.ensures.cases w.in-CheckTwo.is w.in_ok-answer-in-CheckTwo.answer _ w.answer-is
+          w.in_ok-answer-in-CheckTwo.ensures.text
       | in-Format+in_ok-parse_within-in-Format w ↦
           let parsed = w.in_ok-parse_within-in-Format.ensures.tiling in
           of_arm (λ a. string_bytes a.0) (λ a. a.1) c.args.command Format c.args.input.now c.in-Ok.text.now parsed.0

@@ -18,6 +18,8 @@ returns-in-Err-Syntax-clause-text c =
     subst (λ (f : ParseFault (Bor (List ℕ))). Answers (λ (s : Bor (List ℕ)). s.now) (body_map (bytes_at t)) tiles
     (Err f)) c.in-Err-Syntax.field-0-is
     (subst (λ r. Answers (λ (s : Bor (List ℕ)). s.now) (body_map (bytes_at t)) tiles r) c.in-Err-Syntax.is
-    told) in
-    (h.0 ∙ ap (λ (b : BodyTree Text). compact_text (body_form b) ++ codes "\n") same.0, h.1 ∙ outcome_of_faults (faults tiles) same.2))
+    told) in (
+      h.0 ∙ ap (λ (b : BodyTree Text). compact_text (body_form b) ++ codes "\n") same.0,
+      h.1 ∙ outcome_of_faults (faults tiles) same.2,
+    ))
     c.json_text-in-Err-Syntax.ensures.text

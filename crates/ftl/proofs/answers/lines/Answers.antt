@@ -1,31 +1,48 @@
-use Rattle.std.proofs.Common.{ℕ, List, sym, ap, ◌∙◌}
-use Rattle.fluent_syntax_tree.specs.declared.errors.ParserError.{ParserError}
-use Rattle.std.specs.List.{flat_map}
-use Rattle.ftl.specs.Answer.{error_line, told}
-use Rattle.fluent_syntax_tree.proofs.Lists.{flat_map-end}
-use Rattle.ftl.proofs.Errors.{line_added, lies_within}
+use Rattle.std.proofs.Common.{ap, ◌∙◌}
+use Rattle.ftl.proofs.Checked.{all_checked, checked_on, if_some, next_in_text, nothing_checked}
 use Rattle.ftl.proofs.answers.lines.Goals as goal
 
-pub line_column-line-requires : goal.line_column-line-requires
-line_column-line-requires c =
-    lies_within c.args.text.now c.loop-error.places c.args.errors.now.items c.deref-error-items.result.now
-    c.loop-error.error-index c.error-item.result c.requires.within c.deref-error-items.ensures.value
-    c.loop-error-test.true c.error-item.is c.loop-error.invariant.text
+pub loop-out-init : goal.loop-out-init
+loop-out-init c = record {
+  text = c.new-entries.ensures.text;
+  edition = ap (λ options. options.edition) c.new-entries.ensures.options;
+  comments = ap (λ options. options.comments) c.new-entries.ensures.options;
+  nesting = ap (λ options. options.nesting) c.new-entries.ensures.options;
+  places = c.new-places.ensures;
+  checked = rw (c.new-entries.ensures.start, c.new-out.ensures.bytes) (nothing_checked c.args.edition c.args.text.now);
+}
 
-pub loop-error-preserved : goal.loop-error-preserved
-loop-error-preserved c =
+pub write_error_of-requires : goal.write_error_of-requires
+write_error_of-requires c =
+    let t = c.args.text.now in
+    let inv = c.loop-out.invariant in
+    let here = c.in_ok-read.ensures in
+    let next = rw (inv.text, inv.edition, inv.comments, c.in-Some.is) at here.next in
+    let inside = rw (here.text, inv.text) at c.next_entry.new.self.within in
+    let read = c.in-Some.read in
+    rw inv.places
+    (if_some read.1 (next_in_text c.args.edition t _ _ inv.checked _ read.0 read.1 next inside))
+
+pub loop-out-preserved : goal.loop-out-preserved
+loop-out-preserved c =
+    let t = c.args.text.now in
+    let inv = c.loop-out.invariant in
+    let here = c.in_ok-read.ensures in
+    let next = rw (inv.text, inv.edition, inv.comments, c.in-Some.is) at here.next in
+    let read = c.in-Some.read in
+    let line = rw inv.places at c.in_ok-write_error_of.ensures.line in
     record {
-      text = c.line_column-line.ensures.source ∙ c.loop-error.invariant.text;
-      so_far =
-          line_added c.args.text.now c.loop-error.places c.deref-error-items.result.now
-          c.loop-error.error-index c.error-item.result _ _ _ _ c.loop-error-test.true c.error-item.is
-          c.loop-error.invariant.text c.line_column-line.ensures.line c.line_column-line.ensures.column
-          c.loop-error.invariant.so_far c.in_ok-write_line.ensures;
+      text = ap (λ source. source.bytes.now) here.text ∙ inv.text;
+      edition = ap (λ options. options.edition) here.options ∙ inv.edition;
+      comments = ap (λ options. options.comments) here.options ∙ inv.comments;
+      nesting = ap (λ options. options.nesting) here.options ∙ inv.nesting;
+      places = c.in_ok-write_error_of.ensures.source ∙ inv.places;
+      checked = checked_on c.args.edition t _ _ inv.checked _ read.0 read.1 next _ line;
     }
 
-pub returns : goal.returns
-returns c =
-    let f : ParserError → List ℕ = λ e. error_line c.args.text.now (told e) in
-    c.loop-error.invariant.so_far
-    ∙ sym (flat_map-end f c.deref-error-items.result.now c.loop-error.error-index c.loop-error-test.false)
-    ∙ ap (flat_map f) c.deref-error-items.ensures.value
+pub returns-clause-text : goal.returns-clause-text
+returns-clause-text c =
+    let t = c.args.text.now in
+    let inv = c.loop-out.invariant in
+    let none = rw (inv.text, inv.edition, inv.comments, c.in_default.is) at c.in_ok-read.ensures.next in
+    all_checked c.args.edition t _ _ inv.checked none

@@ -1,8 +1,10 @@
 use Rattle.std.proofs.Common.{string_bytes}
 use Rattle.fluent_syntax_tree.specs.declared.ast.CallArguments.{out-CallArguments}
 use Rattle.fluent_syntax_tree.specs.View.{inline_view, element_view, named_view, variant_view}
-use Rattle.fluent_syntax_tree.proofs.Views.{view-Pattern, view-Select, view-Variant, view-CallArguments, view-TermReference}
-use Rattle.fluent_syntax_json.proofs.Forms.{view-Null, view-Bool, elements-made, variants-made, inlines-made, nameds-made}
+use Rattle.fluent_syntax_tree.proofs.Views.{view-Pattern, view-Select, view-Variant, view-CallArguments}
+use Rattle.fluent_syntax_tree.proofs.Views.{view-TermReference}
+use Rattle.fluent_syntax_json.proofs.Forms.{view-Null, view-Bool, elements-made, variants-made, inlines-made}
+use Rattle.fluent_syntax_json.proofs.Forms.{nameds-made}
 use Rattle.fluent_syntax_json.proofs.form.patterns.+form.Goals as goal
 
 pub pattern-returns : goal.pattern-returns

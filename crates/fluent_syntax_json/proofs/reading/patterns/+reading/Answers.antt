@@ -2,11 +2,16 @@ use Rattle.std.proofs.Common.{codes, string_bytes, sym, rules, arith}
 use Rattle.std.proofs.lemmas.Result.{err_from_is_err_and}
 use Rattle.serde_json.specs.View.{view}
 use Rattle.fluent_syntax_tree.specs.View.{inline_view, element_view, named_view, variant_view}
-use Rattle.fluent_syntax_tree.proofs.Views.{view-Select, view-Inline, view-StringLiteral, view-NumberLiteral, view-FunctionReference, view-MessageReference, view-TermReference, view-VariableReference, view-InlinePlaceable, view-TextElement, view-Placeable, view-Pattern, view-Variant, view-NamedArgument, view-roll-CallArguments}
+use Rattle.fluent_syntax_tree.proofs.Views.{view-Select, view-Inline, view-StringLiteral, view-NumberLiteral}
+use Rattle.fluent_syntax_tree.proofs.Views.{view-FunctionReference, view-MessageReference, view-TermReference}
+use Rattle.fluent_syntax_tree.proofs.Views.{view-VariableReference, view-InlinePlaceable, view-TextElement}
+use Rattle.fluent_syntax_tree.proofs.Views.{view-Placeable, view-Pattern, view-Variant, view-NamedArgument}
+use Rattle.fluent_syntax_tree.proofs.Views.{view-roll-CallArguments}
 use Rattle.fluent_syntax_json.specs.Reading.{inline_in, element_in, named_in, variant_in}
 use Rattle.fluent_syntax_json.proofs.Depth.{get_depth, present_there, item_depth}
 use Rattle.fluent_syntax_json.proofs.Items.{handed, pushed, finished, stopped}
-use Rattle.fluent_syntax_json.proofs.Spelled.{pattern-is, element-is, expression-is, inline-is, arguments-is, named-is, variant-is}
+use Rattle.fluent_syntax_json.proofs.Spelled.{pattern-is, element-is, expression-is, inline-is, arguments-is, named-is}
+use Rattle.fluent_syntax_json.proofs.Spelled.{variant-is}
 use Rattle.fluent_syntax_json.proofs.reading.patterns.+reading.Goals as goal
 
 pub variant-returns-in_err-field : goal.variant-returns-in_err-field

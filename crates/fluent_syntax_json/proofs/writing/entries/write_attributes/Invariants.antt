@@ -9,7 +9,8 @@ use Rattle.fluent_syntax_json.proofs.writing.entries.write_attributes.Given as g
 
 abbrev pub invariant-loop-attribute : goal.invariant-loop-attribute
 invariant-loop-attribute g l =
-    let forms = λ (xs : List (Attribute g.row.X.Denot)). items_of (map attribute_form (map (attribute_view g.T.ReadTexts.text) xs)) in
+    let forms = λ (xs : List (Attribute g.row.X.Denot)).
+    items_of (map attribute_form (map (attribute_view g.T.ReadTexts.text) xs)) in
     let left = items_text l.later (forms (drop l.attribute-index l.attributes)) in
     let all = items_text false (forms l.attributes) in
     record { rest : LeavesBytes g.W.TextSink.text g.W.TextSink.room l.initial.writer l.writer left all }

@@ -17,5 +17,6 @@ loop-end-preserved c =
     let stands = sym c.is_plain.ensures ∙ c.if-not-is_plain.false in
     record {
       within = omega (arith, c.loop-end-test.true);
-      plain = plain_more c.as_bytes-bytes.result.now c.loop-end.end c.loop-end-test.true stands c.loop-end.invariant.plain;
+      plain = plain_more c.as_bytes-bytes.result.now c.loop-end.end c.loop-end-test.true stands
+          c.loop-end.invariant.plain;
     }

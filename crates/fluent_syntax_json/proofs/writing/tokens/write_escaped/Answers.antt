@@ -12,4 +12,7 @@ loop-plain-preserved g c =
 pub returns : goal.returns
 returns g c =
     let plain = rw c.in_default.is at c.split_at_escape.ensures.parts in
-    record { written = LeavesBytes-last c.loop-plain.invariant.rest (Appends-bytes plain c.write_piece-2.ensures.written) }
+    record {
+      written = LeavesBytes-last c.loop-plain.invariant.rest
+          (Appends-bytes plain c.write_piece-2.ensures.written);
+    }

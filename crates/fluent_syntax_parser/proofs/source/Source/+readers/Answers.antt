@@ -9,10 +9,13 @@ use Rattle.fluent_syntax_tree.specs.declared.ast.NamedArgument.{NamedArgument, r
 use Rattle.fluent_syntax_tree.specs.declared.ast.Identifier.{Identifier}
 use Rattle.fluent_syntax_tree.specs.declared.ast.Variant.{Variant}
 use Rattle.fluent_syntax_tree.specs.declared.spans.Span.{Span}
-use Rattle.fluent_syntax_tree.proofs.Views.{view-StringLiteral, view-NumberLiteral, view-TermReference, view-VariableReference, view-InlinePlaceable, view-Inline, view-Select, view-Variant, view-roll-CallArguments}
+use Rattle.fluent_syntax_tree.proofs.Views.{view-StringLiteral, view-NumberLiteral, view-TermReference}
+use Rattle.fluent_syntax_tree.proofs.Views.{view-VariableReference, view-InlinePlaceable, view-Inline, view-Select}
+use Rattle.fluent_syntax_tree.proofs.Views.{view-Variant, view-roll-CallArguments}
 use Rattle.fluent_syntax_grammar.specs.Arguments.{argument_name}
 use Rattle.fluent_syntax_grammar.specs.Bytes.{colon, greater_than}
-use Rattle.fluent_syntax_grammar.specs.Construct.{stops, goes_on, given, failed, passed, chosen, first, second, at_place}
+use Rattle.fluent_syntax_grammar.specs.Construct.{stops, goes_on, given, failed, passed, chosen, first, second}
+use Rattle.fluent_syntax_grammar.specs.Construct.{at_place}
 use Rattle.fluent_syntax_grammar.specs.Grammar.{family}
 use Rattle.fluent_syntax_grammar.specs.Lines.{no_byte, other_line}
 use Rattle.fluent_syntax_grammar.specs.Places.{has_byte}
@@ -21,19 +24,22 @@ use Rattle.fluent_syntax_grammar.proofs.Facts.{byte_inside, right_true}
 use Rattle.fluent_syntax_grammar.proofs.Nesting.{into_more_lines, into_more_variants}
 use Rattle.fluent_syntax_parser.specs.Gathered.{names_in}
 use Rattle.fluent_syntax_parser.specs.Lines.{line_view, piece_view}
-use Rattle.fluent_syntax_parser.proofs.ArgumentLists.{inline_fails, late, list_closed, list_open, named, one_named, one_positional, positional, token_there}
+use Rattle.fluent_syntax_parser.proofs.ArgumentLists.{inline_fails, late, list_closed, list_open, named, one_named}
+use Rattle.fluent_syntax_parser.proofs.ArgumentLists.{one_positional, positional, token_there}
 use Rattle.fluent_syntax_parser.proofs.GatheredArguments.{put_whole}
 use Rattle.fluent_syntax_parser.proofs.GatheredVariants.{put_added, put_all, put_variants}
 use Rattle.fluent_syntax_parser.proofs.Gathers as gathers
 use Rattle.fluent_syntax_parser.proofs.InlineStarts.{by_number, by_start, by_value, no_value}
 use Rattle.fluent_syntax_parser.proofs.LineEndings.{by_eol, ends_line, ends_text, eol_none}
 use Rattle.fluent_syntax_parser.proofs.Names.{none_named, some_named, some_names, used_in_order}
-use Rattle.fluent_syntax_parser.proofs.Pieces.{bare_brace, end_pieces, line_read, no_lines, no_pieces, own_lines, placed_piece, run_piece}
+use Rattle.fluent_syntax_parser.proofs.Pieces.{bare_brace, end_pieces, line_read, no_lines, no_pieces, own_lines}
+use Rattle.fluent_syntax_parser.proofs.Pieces.{placed_piece, run_piece}
 use Rattle.fluent_syntax_parser.proofs.Puts.{one_put}
 use Rattle.fluent_syntax_parser.proofs.Selects.{is_selector, no_selector}
 use Rattle.fluent_syntax_parser.proofs.Stars.{both_true, one_false}
 use Rattle.fluent_syntax_parser.proofs.source.Source.+readers.Goals as goal
-use Rattle.fluent_syntax_parser.proofs.source.Source.+readers.Goals.{get_arguments-in_default-via-in-Some+else-is_byte_at, get_arguments-in_default-via-in_default}
+use Rattle.fluent_syntax_parser.proofs.source.Source.+readers.Goals.{get_arguments-in_default-via-in-Some+else-is_byte_at}
+use Rattle.fluent_syntax_parser.proofs.source.Source.+readers.Goals.{get_arguments-in_default-via-in_default}
 
 -- ---- inline expressions
 

@@ -4,8 +4,10 @@ use Rattle.std.proofs.lemmas.Result.{err_from_is_err_and}
 use Rattle.fluent_syntax_tree.specs.declared.spans.Span.{Span}
 use Rattle.fluent_syntax_grammar.specs.Construct.{stops, goes_on, at_place}
 use Rattle.fluent_syntax_grammar.specs.Entries.{message_with}
-use Rattle.fluent_syntax_parser.proofs.FieldForms.{fields_refused, fields_then, message_of_attributes, message_of_value, message_without, no_items, some_items}
-use Rattle.fluent_syntax_parser.proofs.source.Source.get_message.Goals.{else-is_none-via-then-is_none+else-is_empty, else-is_none-via-else-is_none}
+use Rattle.fluent_syntax_parser.proofs.FieldForms.{fields_refused, fields_then, message_of_attributes, message_of_value}
+use Rattle.fluent_syntax_parser.proofs.FieldForms.{message_without, no_items, some_items}
+use Rattle.fluent_syntax_parser.proofs.source.Source.get_message.Goals.{else-is_none-via-then-is_none+else-is_empty}
+use Rattle.fluent_syntax_parser.proofs.source.Source.get_message.Goals.{else-is_none-via-else-is_none}
 use Rattle.fluent_syntax_parser.proofs.source.Source.get_message.Goals as goal
 
 pub returns-in_err-end-clause-meets : goal.returns-in_err-end-clause-meets

@@ -1,0 +1,57 @@
+-- Runs of bytes that are looked at several at a time: from the lanes to the bytes.
+use Rattle.std.proofs.Common.{◌≡◌, ℕ, ◌+◌, ◌%◌, ◌^◌, ◌<◌, ◌≤◌, eqb, Bool, true, false, not, cond, List, map, length, get_or, Fits, w8, sym, ap, ◌∙◌, refl, arith}
+use Rattle.std.proofs.lemmas.Bool.{agree_below, agree_below_at}
+use Rattle.std.proofs.lemmas.List.{length-map}
+use Rattle.std.proofs.lemmas.Option.{slice_get-get_or}
+use Rattle.std.proofs.lemmas.Simd.{first_set_mask_l, length-chunk, map-map, mask_l-mod, run_in_chunk_fails, run_in_chunk_le, run_in_chunk_stops}
+use Rattle.std.specs.List.{prefix_len}
+use lib.Count.{count_trailing_zeros}
+use lib.Lanes.{chunk, mask_l, top}
+use Rattle.fluent_syntax_grammar.specs.Places.{has}
+use Rattle.fluent_syntax_parser.specs.Lanes.{RunOf}
+
+-- the lanes that are set before none is, of n
+abbrev pub lanes_before : (n mask : ℕ) → ℕ
+lanes_before n mask = cond (eqb mask 0) n (count_trailing_zeros 64 mask)
+
+not_not : (a b : Bool) → a ≡ not b → a ≡ false → b ≡ true
+not_not a true e f = refl
+not_not a false e f = cc
+
+not_true : (a b : Bool) → a ≡ not b → a ≡ true → b ≡ false
+not_true a true e f = cc
+not_true a false e f = refl
+
+module _ (test : ℕ → Bool) (t : List ℕ) (i n r : ℕ) (room : i + n ≤ length t) (few : n ≤ 64)
+    (fits : (k : ℕ) → Fits w8 (get_or t k 0)) (lane : ℕ → ℕ)
+    (exact : agree_below (λ x. top 7 (lane x)) (λ x. not (test x)) 256 ≡ true) (lanes : List ℕ)
+    (are : lanes ≡ map lane (chunk i n t)) (found : r ≡ lanes_before n (mask_l (map (top 7) lanes) % 2 ^ 64)) where
+  abbrev stops : ℕ → Bool
+  stops x = top 7 (lane x)
+
+  mask : mask_l (map (top 7) lanes) % 2 ^ 64 ≡ mask_l (map stops (chunk i n t))
+  mask =
+      let v = chunk i n t in
+      ap (λ z. mask_l z % 2 ^ 64) (ap (map (top 7)) are ∙ map-map (top 7) lane v)
+      ∙ mask_l-mod (map stops v) 64 (omega (arith, length-map v stops, length-chunk i n t room))
+
+  counted : r ≡ prefix_len (λ x. not (stops x)) (chunk i n t)
+  counted = found ∙ (ap (lanes_before n) mask ∙ first_set_mask_l stops (chunk i n t) n (length-chunk i n t room) few)
+
+  byte_at : (k : ℕ) → stops (get_or t k 0) ≡ not (test (get_or t k 0))
+  byte_at k = agree_below_at stops (λ x. not (test x)) 256 (get_or t k 0) exact (fits k).fits
+
+  inside : r ≤ n
+  inside = run_in_chunk_le stops t i n r 0 room counted
+
+  -- a lane is set just where the test fails
+  pub run_of : RunOf test t i n r
+  run_of = record {
+    within = inside;
+    each = λ k from to.
+        rw (slice_get-get_or t k 0 (omega (arith, inside)))
+        (not_not _ _ (byte_at k) (run_in_chunk_fails stops t i n r 0 room counted k from to));
+    stops = λ short.
+        rw (slice_get-get_or t (i + r) 0 (omega arith))
+        (not_true _ _ (byte_at (i + r)) (run_in_chunk_stops stops t i n r 0 room counted short));
+  }

@@ -1,0 +1,91 @@
+-- Texts that are checked entry by entry.
+use Rattle.std.proofs.Common.{◌≡◌, ℕ, ◌≤◌, List, [], ◌∷◌, ◌++◌, length, map, Option, Some, None, refl, sym, ◌∙◌, ap}
+use Rattle.std.specs.Prelude.{IfSome}
+use Rattle.std.specs.List.{flat_map}
+use Rattle.std.proofs.lemmas.Grind.{flat_map-append}
+use Rattle.std.proofs.lemmas.List.{append-nil, append_assoc, map-append}
+use Rattle.fluent_syntax_tree.specs.Entry.{BodyTree}
+use Rattle.fluent_syntax_tree.specs.declared.ast.Entry.{Entry}
+use Rattle.fluent_syntax_tree.specs.declared.edition.Edition.{Edition}
+use Rattle.fluent_syntax_tree.specs.declared.errors.ParserError.{ParserError}
+use Rattle.fluent_syntax_tree.specs.declared.spans.Span.{Span}
+use Rattle.fluent_syntax_grammar.specs.Body.{faults}
+use Rattle.fluent_syntax_grammar.specs.Tiling.{Fault, Tile, Tiling}
+use Rattle.fluent_syntax_parser.specs.Faults.{fault_of}
+use Rattle.fluent_syntax_parser.specs.Rest.{NextTo, Rest, faults_of, tree_of}
+use Rattle.fluent_syntax_parser.specs.declared.options.Comments.TheVariants.{Kept}
+use Rattle.fluent_syntax_parser.proofs.ErrorPlaces.{error_in_text}
+use Rattle.fluent_syntax_parser.proofs.PartsOfEntries.{some_rest}
+use Rattle.ftl.specs.Answer.{error_line, error_lines, line_of_error, told}
+use Rattle.ftl.proofs.Errors.{lines_of_faults}
+
+abbrev pub lines_of : List ℕ → List ParserError → List ℕ
+lines_of t errors = flat_map (λ e. error_line t (told e)) errors
+
+-- The text was checked up to the place, and these are the lines of its errors so far.
+pub record CheckedTo (edition : Edition) (t : List ℕ) (i : ℕ) (lines : List ℕ) : Type 0 where
+  pub spans : BodyTree Span
+  pub errors : List ParserError
+  pub lines_are : lines ≡ lines_of t errors
+  pub rest : (entries : BodyTree Span) (others : List (Option Fault)) → Rest Kept edition t i entries others →
+      Rest Kept edition t 0 (spans ++ entries) (map fault_of errors ++ others)
+
+abbrev errors_of : Option ParserError → List ParserError
+errors_of None = []
+errors_of (Some error) = error ∷ []
+
+faults_told : (error : Option ParserError) → map fault_of (errors_of error) ≡ faults_of error
+faults_told None = refl
+faults_told (Some error) = refl
+
+one_line : (t : List ℕ) (error : Option ParserError) → lines_of t (errors_of error) ≡ line_of_error t error
+one_line t None = refl
+one_line t (Some error) = append-nil (error_line t (told error))
+
+pub if_some : {X : Type 0} {P : X → Type 0} (o : Option X) → ((x : X) → o ≡ Some x → P x) → IfSome o P
+if_some None h = tt
+if_some (Some x) h = h x refl
+
+module _ (edition : Edition) (t : List ℕ) where
+  pub nothing_checked : CheckedTo edition t 0 []
+  nothing_checked = record { spans = []; errors = []; lines_are = refl; rest = λ entries others rest. rest }
+
+  module _ (i : ℕ) (lines : List ℕ) (checked : CheckedTo edition t i lines) where
+    -- with nothing left, these are the lines of all errors
+    pub all_checked : Rest Kept edition t i [] [] →
+        (tiles : List Tile) × Tiling edition t tiles × (lines ≡ error_lines t tiles)
+    all_checked none =
+        let whole = checked.rest [] [] none in
+        let tells = whole.tells ∙ append-nil (map fault_of checked.errors) in (
+          whole.tiles,
+          whole.tiled,
+          checked.lines_are ∙ lines_of_faults t checked.errors (faults whole.tiles) (sym tells),
+        )
+
+    module _ (j : ℕ) (e : Entry Span) (error : Option ParserError)
+        (next : NextTo Kept edition t i j (Some (e, error))) where
+      -- the next error begins within the text
+      pub next_in_text : j ≤ length t → (one : ParserError) → error ≡ Some one → one.pos.start ≤ length t
+      next_in_text inside one is =
+          let some = some_rest t edition Kept j inside in
+          let whole = checked.rest _ _ (next some.0 some.1 some.2) in
+          let more = rw is at whole in
+          error_in_text t Kept edition _ (map fault_of checked.errors) one some.1 more
+
+      -- with the line of the next error, the text is checked up to where that entry ends
+      pub checked_on : (longer : List ℕ) → longer ≡ lines ++ line_of_error t error → CheckedTo edition t j longer
+      checked_on longer more = record {
+        spans = checked.spans ++ tree_of e ∷ [];
+        errors = checked.errors ++ errors_of error;
+        lines_are = more
+            ∙ (ap (λ ls. ls ++ line_of_error t error) checked.lines_are
+            ∙ (ap (λ ls. lines_of t checked.errors ++ ls) (sym (one_line t error))
+            ∙ sym (flat_map-append (λ e. error_line t (told e)) checked.errors (errors_of error))));
+        rest = λ entries others rest. rw (
+          append_assoc checked.spans (tree_of e ∷ []) entries,
+          map-append fault_of checked.errors (errors_of error),
+          faults_told error,
+          append_assoc (map fault_of checked.errors) (faults_of error) others,
+        )
+            (checked.rest _ _ (next entries others rest));
+      }
