@@ -105,8 +105,8 @@ fn answers(rt: HostRuntime) -> Result<(), Fail> {
     Ok(())
 }
 
-/// A text that nests two placeables, and what each command writes for it.
-const NESTED: &str = "key = { { $x } }\n";
+/// A text with an argument list in a placeable, and what each command writes for it.
+const NESTED: &str = "key = { F($x) }\n";
 
 const OF_NESTED: [(Command, &str); 5] = [
     (Command::Check, ""),
