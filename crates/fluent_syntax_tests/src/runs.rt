@@ -1,7 +1,7 @@
 //! What each command writes of a text, as an answer and over a reader and a writer.
 
 use crate::ends::{Drip, Narrow, ran};
-use ftl::{Command, Outcome, answer};
+use ftl::{Command, Outcome, answer, answer_within};
 use serde_json::Value;
 use std::test::Fail;
 
@@ -102,6 +102,32 @@ fn answers(rt: HostRuntime) -> Result<(), Fail> {
         assert_eq!(rt; text.as_str(), *expected, "{shows}");
         assert_eq!(rt; outcome, *ended, "{shows}");
     }
+    Ok(())
+}
+
+/// A text with an argument list in a placeable, and what each command writes for it.
+const NESTED: &str = "key = { F($x) }\n";
+
+const OF_NESTED: [(Command, &str); 5] = [
+    (Command::Check, ""),
+    (Command::CheckTwo, ""),
+    (Command::Format, NESTED),
+    (Command::FormatTwo, NESTED),
+    (Command::Runtime, NESTED),
+];
+
+#[test]
+fn answers_within_a_bound(rt: HostRuntime) -> Result<(), Fail> {
+    let alloc = rt.alloc();
+    for (command, expected) in &OF_NESTED {
+        let Ok(Ok((text, Outcome::Clean))) = answer_within(alloc, *command, NESTED.as_bytes(), 2)
+        else {
+            return Err("no answer within 2".into());
+        };
+        assert_eq!(rt; text.as_str(), *expected);
+        assert!(rt; answer_within(alloc, *command, NESTED.as_bytes(), 1).is_err());
+    }
+    assert!(rt; answer_within(alloc, Command::Json, NESTED.as_bytes(), 1).is_err());
     Ok(())
 }
 

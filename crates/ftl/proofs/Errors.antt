@@ -26,7 +26,7 @@ told_by : {R : Type 0} (kind : Kind) (pos : R) (junk : Option R) (start end : R 
 told_by kind pos None start end f e = absurd cc
 told_by kind pos (Some s) start end f e = cc
 
-told_is : (e : ParserError) (f : Fault) → fault_of e ≡ Some f → told e ≡ f
+pub told_is : (e : ParserError) (f : Fault) → fault_of e ≡ Some f → told e ≡ f
 told_is e f h = told_by (kind_of e.kind) e.pos e.slice (λ r. r.start) (λ r. r.end) f h
 
 -- errors that tell of faults give their lines

@@ -1,5 +1,5 @@
 //! The text that a command writes.
-ghost use Rattle.std.specs.Prelude.{◌≡◌, ◌≢◌, ◌↔◌, ◌+◌, ◌++◌, ◌^◌, ◌<◌, ◌≤◌, ℕ, List, length, string_bytes, codes, Err, IfErr, IfOk, IfSome, OnOk, false};
+ghost use Rattle.std.specs.Prelude.{◌≡◌, ◌≢◌, ◌↔◌, ◌+◌, ◌++◌, ◌^◌, ◌<◌, ◌≤◌, ℕ, List, length, string_bytes, codes, Err, Ok, IfErr, IfOk, IfSome, OnErr, OnOk, false};
 ghost use Rattle.std.specs.Str.{IsUtf8};
 ghost use Rattle.fluent_syntax_tree.specs.Entry.{body_map};
 ghost use Rattle.fluent_syntax_tree.specs.Spans.{bytes_at};
@@ -9,6 +9,7 @@ ghost use Rattle.fluent_syntax_grammar.specs.Written.{written};
 ghost use Rattle.fluent_syntax_json.specs.Form.{body_form};
 ghost use Rattle.serde_json.specs.Written.{compact_text};
 ghost use Rattle.fluent_syntax_parser.specs.Answers.{Answers};
+ghost use Rattle.fluent_syntax_parser.specs.Halts.{HaltsWithin};
 ghost use Rattle.ftl.specs.Answer.{IsAnswer, error_lines, error_text, line_of_error, range_text, json_text, normal_text, outcome_of, told};
 
 use crate::command::Command;
@@ -16,7 +17,7 @@ use crate::outcome::{Outcome, RunFault};
 use fluent_syntax::ast::{Entry, Resource};
 use fluent_syntax::parser;
 use fluent_syntax::parser::{
-    Edition, ParseFault, ParserError, parse_edition, parse_runtime_edition,
+    Edition, ParseFault, ParserError, TooDeep, parse_runtime_within, parse_within,
 };
 use fluent_syntax::serializer::serialize;
 use fluent_syntax::spans::{Comments, Entries, Halt, Lines, Options, Span};
@@ -34,52 +35,86 @@ pub fn answer(alloc: Global, command: Command, input: &[u8]) -> Result<(String, 
     ensures input { (result ≡ Err RunFault.Input) ↔ ¬ (IsUtf8 input.now) }
     ensures output { result ≢ Err RunFault.Output }
 {
-    let Ok(text) = str::from_utf8(input) else {
-        return Err(RunFault::Input);
-    };
-    if text.len() == usize::MAX {
-        return Err(RunFault::Memory);
-    }
-    match command {
-        Command::Check => check(alloc, text, Edition::One),
-        Command::CheckTwo => check(alloc, text, Edition::Two),
-        Command::Format => format(alloc, parse_edition(alloc, text, Edition::One)),
-        Command::FormatTwo => format(alloc, parse_edition(alloc, text, Edition::Two)),
-        Command::Runtime => format(alloc, parse_runtime_edition(alloc, text, Edition::One)),
-        Command::Json => json(alloc, parse_edition(alloc, text, Edition::One)),
+    match answer_within(alloc, command, input, usize::MAX) {
+        Ok(answer) => answer,
+        // no text is longer than the greatest usize
+        Err(TooDeep) => Err(RunFault::Memory),
     }
 }
 
-/// A line for each error.
-fn check(alloc: Global, text: &str, edition: Edition) -> Result<(String, Outcome), RunFault>
-    requires { length text.now + 1 < 2 ^ 64 }
-    ensures text { IfOk result (λ answer. (tiles : List Tile) × Tiling edition text.now tiles
-        × (string_bytes answer.0 ≡ error_lines text.now tiles) × (answer.1 ≡ outcome_of tiles)) }
-    ensures err { IfErr result (λ fault. fault ≡ RunFault.Memory) }
+/// What `answer` gives, if the placeables and argument lists of the input nest at most `nesting` deep.
+///
+/// `TooDeep` where they nest deeper. The stack that reading takes is bounded by `nesting`.
+pub fn answer_within(
+    alloc: Global,
+    command: Command,
+    input: &[u8],
+    nesting: usize,
+) -> Result<Result<(String, Outcome), RunFault>, TooDeep>
+    ensures text { IfOk result (λ answer. IfOk answer (λ given.
+        IsAnswer command input.now (string_bytes given.0) given.1)) }
+    ensures input { (result ≡ Ok (Err RunFault.Input)) ↔ ¬ (IsUtf8 input.now) }
+    ensures output { result ≢ Ok (Err RunFault.Output) }
+    ensures deep { OnErr result (nesting < length input.now) }
 {
-    match lines(alloc, text, edition) {
+    let Ok(text) = str::from_utf8(input) else {
+        return Ok(Err(RunFault::Input));
+    };
+    if text.len() == usize::MAX {
+        return Ok(Err(RunFault::Memory));
+    }
+    let answer = match command {
+        Command::Check => check(alloc, text, Edition::One, nesting)?,
+        Command::CheckTwo => check(alloc, text, Edition::Two, nesting)?,
+        Command::Format => format(alloc, parse_within(alloc, text, Edition::One, nesting)?),
+        Command::FormatTwo => format(alloc, parse_within(alloc, text, Edition::Two, nesting)?),
+        Command::Runtime => format(
+            alloc,
+            parse_runtime_within(alloc, text, Edition::One, nesting)?,
+        ),
+        Command::Json => json(alloc, parse_within(alloc, text, Edition::One, nesting)?),
+    };
+    Ok(answer)
+}
+
+/// A line for each error.
+fn check(
+    alloc: Global,
+    text: &str,
+    edition: Edition,
+    nesting: usize,
+) -> Result<Result<(String, Outcome), RunFault>, TooDeep>
+    requires { length text.now + 1 < 2 ^ 64 }
+    ensures text { IfOk result (λ answer. IfOk answer (λ given. (tiles : List Tile) × Tiling edition text.now tiles
+        × (string_bytes given.0 ≡ error_lines text.now tiles) × (given.1 ≡ outcome_of tiles))) }
+    ensures err { IfOk result (λ answer. IfErr answer (λ fault. fault ≡ RunFault.Memory)) }
+    ensures deep { OnErr result (nesting < length text.now) }
+{
+    match lines(alloc, text, edition, nesting) {
         Ok(lines) => {
             let outcome = if lines.is_empty() {
                 Outcome::Clean
             } else {
                 Outcome::SyntaxErrors
             };
-            Ok((lines, outcome))
+            Ok(Ok((lines, outcome)))
         }
-        Err(_) => Err(RunFault::Memory),
+        Err(Halt::Memory) => Ok(Err(RunFault::Memory)),
+        Err(Halt::TooDeep) => Err(TooDeep),
     }
 }
 
 /// A line for each error, written as the entries come: none of them is kept.
-fn lines(alloc: Global, text: &str, edition: Edition) -> Result<String, Halt>
+fn lines(alloc: Global, text: &str, edition: Edition, nesting: usize) -> Result<String, Halt>
     requires { length text.now + 1 < 2 ^ 64 }
-    ensures { IfOk result (λ lines. (tiles : List Tile) × Tiling edition text.now tiles
+    ensures text { IfOk result (λ lines. (tiles : List Tile) × Tiling edition text.now tiles
         × (string_bytes lines ≡ error_lines text.now tiles)) }
+    ensures nests { IfErr result (HaltsWithin nesting (length text.now)) }
 {
     let options = Options {
         edition,
         comments: Comments::Kept,
-        nesting: usize::MAX,
+        nesting,
     };
     let mut entries = Entries::new(text, options);
     let mut places = Lines::new(text);

@@ -8,7 +8,7 @@ mod outcome;
 mod runs;
 mod watched;
 
-pub use answers::answer;
+pub use answers::{answer, answer_within};
 pub use command::{Command, usage};
 pub use outcome::{Outcome, RunFault};
 pub use runs::run;

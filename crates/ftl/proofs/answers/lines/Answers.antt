@@ -7,6 +7,7 @@ loop-out-init c = record {
   text = c.new-entries.ensures.text;
   edition = ap (λ options. options.edition) c.new-entries.ensures.options;
   comments = ap (λ options. options.comments) c.new-entries.ensures.options;
+  nesting = ap (λ options. options.nesting) c.new-entries.ensures.options;
   places = c.new-places.ensures;
   checked = rw (c.new-entries.ensures.start, c.new-out.ensures.bytes) (nothing_checked c.args.edition c.args.text.now);
 }
@@ -34,12 +35,13 @@ loop-out-preserved c =
       text = ap (λ source. source.bytes.now) here.text ∙ inv.text;
       edition = ap (λ options. options.edition) here.options ∙ inv.edition;
       comments = ap (λ options. options.comments) here.options ∙ inv.comments;
+      nesting = ap (λ options. options.nesting) here.options ∙ inv.nesting;
       places = c.in_ok-write_error_of.ensures.source ∙ inv.places;
       checked = checked_on c.args.edition t _ _ inv.checked _ read.0 read.1 next _ line;
     }
 
-pub returns : goal.returns
-returns c =
+pub returns-clause-text : goal.returns-clause-text
+returns-clause-text c =
     let t = c.args.text.now in
     let inv = c.loop-out.invariant in
     let none = rw (inv.text, inv.edition, inv.comments, c.in_default.is) at c.in_ok-read.ensures.next in

@@ -8,6 +8,7 @@ invariant-loop-out l = record {
   text : l.entries.source.bytes.now ≡ l.text;
   edition : l.entries.options.edition ≡ l.fn.edition;
   comments : l.entries.options.comments ≡ Kept;
+  nesting : l.entries.options.nesting ≡ l.fn.nesting;
   places : l.places ≡ l.text;
   checked : CheckedTo l.fn.edition l.text l.entries.ptr (string_bytes l.out);
 }

@@ -1,0 +1,124 @@
+/* fluent.h: Fluent Translation Lists for C and C++. Link libfluent.a, or libfluent.so by -lfluent.
+
+   Each call reads a text, which is UTF-8, and writes into memory of the caller's: an array, and a number that tells how
+   many items there are to give. It writes all of them or none, and nothing behind them. It keeps nothing, and may be
+   made from several threads at once, but not from a signal handler. `nesting` bounds the stack that it takes, so that
+   no text ends the host.
+
+   A pointer may be null where its length is 0. `needed` and `count` are not null. The text and what is written to
+   do not overlap. */
+#ifndef FLUENT_H
+#define FLUENT_H
+
+#include <stddef.h>
+#include <stdint.h>
+
+#ifdef __cplusplus
+extern "C" {
+#endif
+
+/* How a call ended. After the first two all was given. After the others nothing was written to the array; `needed` or
+   `count` is 0, but after FTL_TOO_SMALL it is the number of items that there are. */
+enum ftl_status {
+    FTL_CLEAN = 0,          /* the text has no syntax error */
+    FTL_SYNTAX_ERRORS = 1,  /* it has some */
+    FTL_WRONG_ARGUMENT = 2, /* no command, or no edition, has the number */
+    FTL_NOT_UTF8 = 3,       /* the text is not UTF-8 */
+    FTL_NO_MEMORY = 4,      /* a request for memory was refused */
+    FTL_TOO_SMALL = 5,      /* the array has no room for all that there is: call again with more */
+    FTL_TOO_DEEP = 6        /* the text nests more deeply than `nesting` allows */
+};
+
+/* A `nesting` that does for texts that people write: how many placeables and argument lists may be open at once. Each
+   takes at most 3.1 KB of stack, as measured: with this number a call needs less than 512 KB. */
+#define FTL_NESTING 100
+
+/* What to write for a text. */
+enum ftl_command {
+    FTL_CHECK = 0,     /* a line for each syntax error: LINE:COLUMN START..END JUNK_START..JUNK_END KIND */
+    FTL_FORMAT = 1,    /* the text in its normal form, without what was refused */
+    FTL_RUNTIME = 2,   /* the same without comments */
+    FTL_JSON = 3,      /* the tree as a JSON value on one line, with what was refused */
+    FTL_CHECK_TWO = 4, /* FTL_CHECK by edition two of the grammar */
+    FTL_FORMAT_TWO = 5 /* FTL_FORMAT by edition two */
+};
+
+/* The editions of the grammar. */
+enum ftl_edition {
+    FTL_EDITION_ONE = 1,
+    FTL_EDITION_TWO = 2
+};
+
+/* What the grammar wanted where a stretch was refused. */
+enum ftl_error_kind {
+    FTL_EXPECTED_TOKEN = 1,
+    FTL_EXPECTED_CHAR_RANGE = 2,
+    FTL_EXPECTED_MESSAGE_FIELD = 3,
+    FTL_EXPECTED_TERM_FIELD = 4,
+    FTL_FORBIDDEN_CALLEE = 5,
+    FTL_MISSING_DEFAULT_VARIANT = 6,
+    FTL_MISSING_VALUE = 7,
+    FTL_MULTIPLE_DEFAULT_VARIANTS = 8,
+    FTL_MESSAGE_REFERENCE_AS_SELECTOR = 9,
+    FTL_TERM_REFERENCE_AS_SELECTOR = 10,
+    FTL_MESSAGE_ATTRIBUTE_AS_SELECTOR = 11,
+    FTL_TERM_ATTRIBUTE_AS_PLACEABLE = 12,
+    FTL_UNTERMINATED_STRING_LITERAL = 13,
+    FTL_POSITIONAL_ARGUMENT_FOLLOWS_NAMED = 14,
+    FTL_DUPLICATED_NAMED_ARGUMENT = 15,
+    FTL_UNKNOWN_ESCAPE_SEQUENCE = 16,
+    FTL_INVALID_UNICODE_ESCAPE_SEQUENCE = 17,
+    FTL_UNBALANCED_CLOSING_BRACE = 18,
+    FTL_EXPECTED_INLINE_EXPRESSION = 19,
+    FTL_EXPECTED_SIMPLE_EXPRESSION_AS_SELECTOR = 20,
+    FTL_EXPECTED_LITERAL = 21
+};
+
+/* A syntax error. */
+struct ftl_error {
+    size_t line;       /* where it is: the line, from 1 */
+    size_t column;     /* and the column, from 1, in bytes */
+    size_t start;      /* its place, in bytes of the text: from start */
+    size_t end;        /* up to end */
+    size_t junk_start; /* the stretch that was refused for it, likewise */
+    size_t junk_end;
+    uint32_t kind;     /* an ftl_error_kind */
+};
+
+/* What a name is the name of. */
+enum ftl_name_kind {
+    FTL_MESSAGE = 1,
+    FTL_TERM = 2,
+    FTL_ATTRIBUTE = 3
+};
+
+/* The name of a message, of a term or of an attribute. */
+struct ftl_name {
+    size_t line;   /* where it is: the line, from 1 */
+    size_t column; /* and the column, from 1, in bytes */
+    size_t start;  /* the bytes of the text that spell it, without the '-' of a term and the '.' of an attribute: */
+    size_t end;    /* from start up to end */
+    size_t owner;  /* the row of the message or the term, from 0: the row itself, or that of which it is an attribute */
+    uint32_t kind; /* an ftl_name_kind */
+};
+
+/* Writes what the command, an ftl_command, writes for the text: `*needed` bytes of UTF-8 without a 0 behind them.
+   Returns an ftl_status. */
+uint32_t ftl_answer(uint32_t command, size_t nesting, const uint8_t *text, size_t text_len,
+                    uint8_t *out, size_t out_len, size_t *needed);
+
+/* Writes a row for each syntax error of the text, in order: `*count` rows. `edition` is an ftl_edition.
+   Returns an ftl_status. */
+uint32_t ftl_errors(uint32_t edition, size_t nesting, const uint8_t *text, size_t text_len,
+                    struct ftl_error *rows, size_t rows_len, size_t *count);
+
+/* Writes a row for each message, each term and each attribute of the text, in order, those of a message or a term
+   behind its own: `*count` rows. What was refused has none. `edition` is an ftl_edition. Returns an ftl_status. */
+uint32_t ftl_names(uint32_t edition, size_t nesting, const uint8_t *text, size_t text_len,
+                   struct ftl_name *rows, size_t rows_len, size_t *count);
+
+#ifdef __cplusplus
+}
+#endif
+
+#endif

@@ -1,0 +1,85 @@
+-- Rows of errors and of names.
+use Rattle.std.proofs.Common.{◌≡◌, ◌<◌, ◌≤◌, ◌+◌, ◌++◌, ◌∷◌, [], ℕ, List, length, get_or, take, drop, map, Some, refl}
+use Rattle.std.proofs.Common.{sym, ap, ◌∙◌, subst, append_assoc, append-nil, length-append}
+use Rattle.std.proofs.lemmas.List.{map_more, map-append, drop_all, drop_more}
+use Rattle.fluent_syntax_tree.specs.Entry.{EntryTree}
+use Rattle.fluent_syntax_tree.specs.Every.{attribute_every, list_every}
+use Rattle.fluent_syntax_tree.specs.Spans.{IsPart}
+use Rattle.fluent_syntax_tree.specs.View.{attribute_view}
+use Rattle.fluent_syntax_tree.specs.declared.ast.Attribute.{Attribute}
+use Rattle.fluent_syntax_tree.specs.declared.errors.ParserError.{ParserError}
+use Rattle.fluent_syntax_tree.specs.declared.spans.Span.{Span}
+use Rattle.fluent_syntax_tree.proofs.Every.{every_item}
+use Rattle.fluent_syntax_grammar.specs.Tiling.{Fault}
+use Rattle.fluent_syntax_parser.specs.Faults.{fault_of}
+use Rattle.ftl.specs.Answer.{told}
+use Rattle.ftl.proofs.Errors.{told_is}
+use Rattle.fluent_syntax_c.specs.Errors.{error_row}
+use Rattle.fluent_syntax_c.specs.Names.{attribute_row, body_rows, entry_rows, name_row, owner_rows}
+use Rattle.fluent_syntax_c.specs.declared.names.FtlName.{FtlName}
+use Rattle.fluent_syntax_c.specs.declared.names.Named.{Named}
+use Rattle.fluent_syntax_c.specs.declared.names.Named.TheVariants as named
+
+-- errors that tell of faults give their rows
+pub rows_of_faults : (t : List ℕ) (errors : List ParserError) (fs : List Fault) → map fault_of errors ≡ map Some fs →
+    map (λ e. error_row t (told e)) errors ≡ map (error_row t) fs
+rows_of_faults t [] [] h = refl
+rows_of_faults t [] (f ∷ fs) h = absurd cc
+rows_of_faults t (e ∷ errors) [] h = absurd cc
+rows_of_faults t (e ∷ errors) (f ∷ fs) h =
+    let first : fault_of e ≡ Some f = cc in
+    let others : map fault_of errors ≡ map Some fs = cc in
+    ap (λ x. error_row t x ∷ map (λ e. error_row t (told e)) errors) (told_is e f first)
+    ∙ ap (λ xs. error_row t f ∷ xs) (rows_of_faults t errors fs others)
+
+-- the name of an attribute of a tree of the text lies within the text
+pub attribute_inside : (t s : List ℕ) (attributes items : List (Attribute Span)) (i : ℕ) (a : Attribute Span) →
+    list_every (attribute_every (IsPart t)) (map (attribute_view (λ s. s)) attributes) → items ≡ attributes →
+    i < length items → a ≡ get_or items i a → s ≡ t → a.id.name.start ≤ length s
+attribute_inside t s attributes items i a all same l is text =
+    let h : attribute_every (IsPart t) (attribute_view (λ s. s) a) =
+    every_item (attribute_every (IsPart t)) (attribute_view (λ s. s)) attributes items i a all same l is in
+    subst (λ u. a.id.name.start ≤ length u) (sym text) h.0.1.0
+
+-- one more attribute's row
+pub attribute_added : (t s : List ℕ) (kind : Named) (owner : ℕ) (name : Span) (items : List (Attribute Span)) (i : ℕ)
+    (a : Attribute Span) (before rows new : List FtlName) → i < length items → a ≡ get_or items i a → s ≡ t →
+    rows ≡ before ++ owner_rows t kind owner name (map (attribute_view (λ s. s)) (take i items)) →
+    new ≡ rows ++ name_row s named.Attribute owner a.id.name ∷ [] →
+    new ≡ before ++ owner_rows t kind owner name (map (attribute_view (λ s. s)) (take (i + 1) items))
+attribute_added t s kind owner name items i a before rows new l is text so_far e =
+    let row : Attribute Span → FtlName = λ x. attribute_row t owner (attribute_view (λ s. s) x) in
+    e ∙ ap (λ u. rows ++ name_row u named.Attribute owner a.id.name ∷ []) text
+    ∙ ap (λ xs. xs ++ row a ∷ []) so_far
+    ∙ append_assoc before (owner_rows t kind owner name (map (attribute_view (λ s. s)) (take i items))) (row a ∷ [])
+    ∙ ap (λ xs. before ++ name_row t kind owner name ∷ xs)
+    (ap (λ x. map (attribute_row t owner) (map (attribute_view (λ s. s)) (take i items)) ++ row x ∷ []) is
+    ∙ sym (ap (map (attribute_row t owner)) (map_more (attribute_view (λ s. s)) items i a l)
+    ∙ map-append (attribute_row t owner) (map (attribute_view (λ s. s)) (take i items))
+    (attribute_view (λ s. s) (get_or items i a) ∷ [])))
+
+-- one more entry's rows, and what is to come after them
+pub entry_added : {E : Type 0} (view : E → EntryTree Span) (t s : List ℕ) (items : List E) (i : ℕ) (e : E)
+    (rows new whole : List FtlName) (number : ℕ) → i < length items → e ≡ get_or items i e → s ≡ t →
+    number ≡ length rows → new ≡ rows ++ entry_rows s number (view e) →
+    rows ++ body_rows t (length rows) (map view (drop i items)) ≡ whole →
+    new ++ body_rows t (length new) (map view (drop (i + 1) items)) ≡ whole
+entry_added view t s items i e rows new whole number l is text counted added to_come =
+    let own = entry_rows t (length rows) (view e) in
+    let rest = map view (drop (i + 1) items) in
+    let new_is : new ≡ rows ++ own =
+    added ∙ ap (λ u. rows ++ entry_rows u number (view e)) text
+    ∙ ap (λ n. rows ++ entry_rows t n (view e)) counted in
+    let first : map view (drop i items) ≡ view e ∷ rest =
+    ap (map view) (drop_more items i e l) ∙ ap (λ x. view x ∷ rest) (sym is) in
+    ap (λ xs. xs ++ body_rows t (length xs) rest) new_is
+    ∙ ap (λ n. (rows ++ own) ++ body_rows t n rest) (length-append rows own)
+    ∙ append_assoc rows own (body_rows t (length rows + length own) rest)
+    ∙ sym (ap (λ es. rows ++ body_rows t (length rows) es) first) ∙ to_come
+
+-- after the last entry nothing is to come
+pub entries_ended : {E : Type 0} (view : E → EntryTree Span) (t : List ℕ) (items : List E) (i : ℕ)
+    (rows whole : List FtlName) → length items ≤ i →
+    rows ++ body_rows t (length rows) (map view (drop i items)) ≡ whole → rows ≡ whole
+entries_ended view t items i rows whole h to_come =
+    sym (ap (λ es. rows ++ body_rows t (length rows) (map view es)) (drop_all i items h) ∙ append-nil rows) ∙ to_come

@@ -1,0 +1,41 @@
+-- Errors as rows.
+use Rattle.std.specs.Prelude.{◌≡◌, ℕ, List, map}
+use Rattle.std.specs.Str.{IsUtf8}
+use Rattle.fluent_syntax_tree.specs.declared.edition.Edition.{Edition}
+use Rattle.fluent_syntax_grammar.specs.Body.{faults}
+use Rattle.fluent_syntax_grammar.specs.Tiling.{Fault, Tile, Tiling}
+use Rattle.fluent_syntax.specs.Lines.{line_at, column_at}
+use Rattle.ftl.specs.Answer.{outcome_of}
+use Rattle.ftl.specs.declared.outcome.Outcome.{Outcome}
+use Rattle.fluent_syntax_c.specs.Arguments.{edition_number}
+use Rattle.fluent_syntax_c.specs.Kinds.{kind_number}
+use Rattle.fluent_syntax_c.specs.declared.errors.FtlError.{FtlError}
+
+-- the row of an error at a line and column
+abbrev pub row_at : (line column : ℕ) → Fault → FtlError
+row_at line column f = record {
+  line = line;
+  column = column;
+  start = f.pos.start;
+  end = f.pos.end;
+  junk_start = f.slice.start;
+  junk_end = f.slice.end;
+  kind = kind_number f.kind;
+}
+
+-- the row of an error of the source
+abbrev pub error_row : List ℕ → Fault → FtlError
+error_row t f = row_at (line_at t f.pos.start) (column_at t f.pos.start) f
+
+-- The source is UTF-8, and the rows are those of the errors of its tiling by the edition, in order, with the outcome.
+pub record AreErrors (edition : Edition) (t : List ℕ) (rows : List FtlError) (outcome : Outcome) : Type 0 where
+  pub is_utf8 : IsUtf8 t
+  pub tiles : List Tile
+  pub has_tiles : Tiling edition t tiles
+  pub rows_are : rows ≡ map (error_row t) (faults tiles)
+  pub outcome_is : outcome ≡ outcome_of tiles
+
+-- The same by the edition of the number.
+abbrev pub AreEditionErrors : (number : ℕ) (t : List ℕ) (rows : List FtlError) (outcome : Outcome) → Type 0
+AreEditionErrors number t rows outcome =
+    (edition : Edition) × (edition_number edition ≡ number) × AreErrors edition t rows outcome

@@ -1,0 +1,29 @@
+-- The numbers of statuses.
+use Rattle.std.specs.Prelude.{◌≡◌, ℕ}
+use Rattle.ftl.specs.declared.outcome.Outcome.{Outcome}
+use Rattle.ftl.specs.declared.outcome.Outcome.TheVariants as outcome
+use Rattle.fluent_syntax_c.specs.declared.status.Refusal.{Refusal}
+use Rattle.fluent_syntax_c.specs.declared.status.Refusal.TheVariants.{Argument, Input, Memory, Depth}
+use Rattle.fluent_syntax_c.specs.declared.status.Status.{Status}
+use Rattle.fluent_syntax_c.specs.declared.status.Status.TheVariants.{Clean, SyntaxErrors, TooSmall, Refused}
+
+abbrev pub refusal_number : Refusal → ℕ
+refusal_number Argument = 2
+refusal_number Input = 3
+refusal_number Memory = 4
+refusal_number Depth = 6
+
+abbrev pub status_number : Status → ℕ
+status_number Clean = 0
+status_number SyntaxErrors = 1
+status_number TooSmall = 5
+status_number (Refused refusal) = refusal_number refusal
+
+-- the status of what was given whole
+abbrev pub status_of : Outcome → Status
+status_of outcome.Clean = Clean
+status_of outcome.SyntaxErrors = SyntaxErrors
+
+-- The number is that of a status of which this holds.
+abbrev pub EndsAs : (number : ℕ) → (Status → Type 0) → Type 0
+EndsAs number holds = (status : Status) × (number ≡ status_number status) × holds status

@@ -1,0 +1,135 @@
+//! Errors as rows.
+ghost use Rattle.std.specs.Prelude.{◌≡◌, ◌↔◌, ◌⊎◌, ◌+◌, ◌<◌, ◌≤◌, ◌^◌, length, map, All, Err, IfErr, IfOk};
+ghost use Rattle.std.specs.Str.{IsUtf8};
+ghost use Rattle.ftl.specs.Answer.{told};
+ghost use Rattle.fluent_syntax_c.specs.Arguments.{IsNoEdition};
+ghost use Rattle.fluent_syntax_c.specs.Errors.{AreEditionErrors, AreErrors, error_row, row_at};
+ghost use Rattle.fluent_syntax_c.specs.Output.{Leaves};
+ghost use Rattle.fluent_syntax_c.specs.Status.{EndsAs};
+
+use crate::arguments::edition_of;
+use crate::kinds::kind_number;
+use crate::outputs::give;
+use crate::status::Refusal;
+use crate::texts::text_of;
+use fluent_syntax::parser::{Edition, ParseFault, ParserError, TooDeep};
+use fluent_syntax::spans::{Lines, parse_spans_within};
+use ftl::Outcome;
+use std::alloc::{AllocError, Global};
+
+/// An error: `struct ftl_error` of `include/fluent.h`.
+#[repr(C)]
+#[derive(Clone, Copy)]
+pub struct FtlError {
+    /// The line and the column of the error's place, both from 1; the column counts bytes.
+    pub line: usize,
+    pub column: usize,
+    /// The error's place, in bytes of the input.
+    pub start: usize,
+    pub end: usize,
+    /// The stretch that became junk.
+    pub junk_start: usize,
+    pub junk_end: usize,
+    /// What the grammar wanted.
+    pub kind: u32,
+}
+
+/// Writes the errors of the input, read by the edition of the number, to the front of `rows`, in order, and their
+/// number to `count`.
+///
+/// Returns 0 where there are none, and 1 where there are some. Where it returns 5 there are more than `rows` has room
+/// for: `count` tells how many, and `rows` is as it was. Otherwise `count` is 0 and `rows` as it was: 2 where no
+/// edition has the number, 3 where the input is not UTF-8, 4 where a growth was refused, 6 where the input's placeables
+/// and argument lists nest more than `nesting` deep.
+#[unsafe(no_mangle)]
+pub extern "C" fn ftl_errors(
+    alloc: Global,
+    edition: u32,
+    nesting: usize,
+    input: &[u8],
+    rows: &mut [FtlError],
+    count: &mut usize,
+) -> u32
+    ensures leaves { EndsAs result (Leaves (AreEditionErrors edition input.now) rows.old rows.new count.new) }
+    ensures argument { (result ≡ 2) ↔ IsNoEdition edition }
+    ensures input { ¬ (IsNoEdition edition) → ((result ≡ 3) ↔ ¬ (IsUtf8 input.now)) }
+    ensures deep { result ≡ 6 → nesting < length input.now }
+{
+    give(edition_errors(alloc, edition, nesting, input), rows, count).number()
+}
+
+/// The errors by the edition of the number.
+fn edition_errors(
+    alloc: Global,
+    edition: u32,
+    nesting: usize,
+    input: &[u8],
+) -> Result<(Vec<FtlError>, Outcome), Refusal>
+    ensures rows { IfOk result (λ found. AreEditionErrors edition input.now found.0.items found.1) }
+    ensures argument { (result ≡ Err Refusal.Argument) ↔ IsNoEdition edition }
+    ensures input { ¬ (IsNoEdition edition) → ((result ≡ Err Refusal.Input) ↔ ¬ (IsUtf8 input.now)) }
+    ensures deep { result ≡ Err Refusal.Depth → nesting < length input.now }
+{
+    let Some(edition) = edition_of(edition) else {
+        return Err(Refusal::Argument);
+    };
+    let text = text_of(input)?;
+    errors_of(alloc, text, edition, nesting)
+}
+
+/// The errors of the text.
+fn errors_of(
+    alloc: Global,
+    text: &str,
+    edition: Edition,
+    nesting: usize,
+) -> Result<(Vec<FtlError>, Outcome), Refusal>
+    requires short { length text.now + 1 < 2 ^ 64 }
+    ensures rows { IfOk result (λ found. AreErrors edition text.now found.0.items found.1) }
+    ensures err { IfErr result (λ refusal. (refusal ≡ Refusal.Memory) ⊎ (refusal ≡ Refusal.Depth)) }
+    ensures deep { result ≡ Err Refusal.Depth → nesting < length text.now }
+{
+    match parse_spans_within(alloc, text, edition, nesting) {
+        Ok(Ok(_)) => Ok((Vec::new(alloc), Outcome::Clean)),
+        Ok(Err(ParseFault::Syntax(_, errors))) => match error_rows(alloc, text, &errors) {
+            Ok(rows) => Ok((rows, Outcome::SyntaxErrors)),
+            Err(_) => Err(Refusal::Memory),
+        },
+        Ok(Err(ParseFault::Memory)) => Err(Refusal::Memory),
+        Err(TooDeep) => Err(Refusal::Depth),
+    }
+}
+
+/// A row for each of the errors, which lie within the text.
+fn error_rows(
+    alloc: Global,
+    text: &str,
+    errors: &Vec<ParserError>,
+) -> Result<Vec<FtlError>, AllocError>
+    requires short { length text.now + 1 < 2 ^ 64 }
+    requires within { All (λ e. e.pos.start ≤ length text.now) errors.now.items }
+    ensures { IfOk result (λ rows. rows.items ≡ map (λ e. error_row text.now (told e)) errors.now.items) }
+{
+    let mut rows = Vec::with_capacity(alloc, errors.len())?;
+    let mut places = Lines::new(text);
+    for error in errors {
+        let (line, column) = places.line_column(error.pos.start);
+        rows.push(row_of(line, column, error))?;
+    }
+    Ok(rows)
+}
+
+fn row_of(line: usize, column: usize, error: &ParserError) -> FtlError
+    ensures { result ≡ row_at line column (told error.now) }
+{
+    let junk = error.slice.as_ref().unwrap_or(&error.pos);
+    FtlError {
+        line,
+        column,
+        start: error.pos.start,
+        end: error.pos.end,
+        junk_start: junk.start,
+        junk_end: junk.end,
+        kind: kind_number(&error.kind),
+    }
+}

@@ -1,0 +1,223 @@
+//! The names of messages, terms and attributes as rows.
+ghost use Rattle.std.specs.Prelude.{◌≡◌, ◌↔◌, ◌⊎◌, ◌+◌, ◌++◌, ◌<◌, ◌≤◌, ◌^◌, length, map, Err, IfErr, IfOk, OnOk};
+ghost use Rattle.std.specs.Prelude.{vec_len};
+ghost use Rattle.std.specs.Str.{IsUtf8};
+ghost use Rattle.fluent_syntax_tree.specs.Every.{attribute_every, body_every, entry_every, list_every};
+ghost use Rattle.fluent_syntax_tree.specs.Spans.{IsPart};
+ghost use Rattle.fluent_syntax_tree.specs.View.{attribute_view, entry_view, resource_view};
+ghost use Rattle.fluent_syntax_c.specs.Arguments.{IsNoEdition};
+ghost use Rattle.fluent_syntax_c.specs.Names.{AreEditionNames, AreNames, body_rows, entry_rows, name_row, named_number};
+ghost use Rattle.fluent_syntax_c.specs.Names.{owner_rows};
+ghost use Rattle.fluent_syntax_c.specs.Output.{Leaves};
+ghost use Rattle.fluent_syntax_c.specs.Status.{EndsAs};
+
+use crate::arguments::edition_of;
+use crate::outputs::give;
+use crate::status::Refusal;
+use crate::texts::text_of;
+use fluent_syntax::ast::{Attribute, Entry, Resource};
+use fluent_syntax::parser::{Edition, ParseFault, TooDeep};
+use fluent_syntax::spans::{Lines, Span, parse_spans_within};
+use ftl::Outcome;
+use std::alloc::{AllocError, Global};
+
+/// A name: `struct ftl_name` of `include/fluent.h`.
+#[repr(C)]
+#[derive(Clone, Copy)]
+pub struct FtlName {
+    /// The line and the column of the name, both from 1; the column counts bytes.
+    pub line: usize,
+    pub column: usize,
+    /// The bytes of the input that spell it. The `-` of a term and the `.` of an attribute stand before them.
+    pub start: usize,
+    pub end: usize,
+    /// The row of the message or the term whose name or attribute it is, from 0.
+    pub owner: usize,
+    /// What is named.
+    pub kind: u32,
+}
+
+/// What is named: `enum ftl_name_kind` of `include/fluent.h`.
+#[derive(Clone, Copy)]
+pub enum Named {
+    Message,
+    Term,
+    Attribute,
+}
+
+impl Named {
+    fn number(self) -> u32
+        ensures { result ≡ named_number self }
+    {
+        match self {
+            Named::Message => 1,
+            Named::Term => 2,
+            Named::Attribute => 3,
+        }
+    }
+}
+
+/// Writes the names of the messages, terms and attributes of the input, read by the edition of the number, to the front
+/// of `rows`, and their number to `count`. They come in the order of the input, and what was refused has none.
+///
+/// Returns 0, or 1 where the input has syntax errors. Where it returns 5 there are more than `rows` has room for:
+/// `count` tells how many, and `rows` is as it was. Otherwise `count` is 0 and `rows` as it was: 2 where no edition has
+/// the number, 3 where the input is not UTF-8, 4 where a growth was refused, 6 where the input's placeables and
+/// argument lists nest more than `nesting` deep.
+#[unsafe(no_mangle)]
+pub extern "C" fn ftl_names(
+    alloc: Global,
+    edition: u32,
+    nesting: usize,
+    input: &[u8],
+    rows: &mut [FtlName],
+    count: &mut usize,
+) -> u32
+    ensures leaves { EndsAs result (Leaves (AreEditionNames edition input.now) rows.old rows.new count.new) }
+    ensures argument { (result ≡ 2) ↔ IsNoEdition edition }
+    ensures input { ¬ (IsNoEdition edition) → ((result ≡ 3) ↔ ¬ (IsUtf8 input.now)) }
+    ensures deep { result ≡ 6 → nesting < length input.now }
+{
+    give(edition_names(alloc, edition, nesting, input), rows, count).number()
+}
+
+/// The names by the edition of the number.
+fn edition_names(
+    alloc: Global,
+    edition: u32,
+    nesting: usize,
+    input: &[u8],
+) -> Result<(Vec<FtlName>, Outcome), Refusal>
+    ensures rows { IfOk result (λ found. AreEditionNames edition input.now found.0.items found.1) }
+    ensures argument { (result ≡ Err Refusal.Argument) ↔ IsNoEdition edition }
+    ensures input { ¬ (IsNoEdition edition) → ((result ≡ Err Refusal.Input) ↔ ¬ (IsUtf8 input.now)) }
+    ensures deep { result ≡ Err Refusal.Depth → nesting < length input.now }
+{
+    let Some(edition) = edition_of(edition) else {
+        return Err(Refusal::Argument);
+    };
+    let text = text_of(input)?;
+    names_of(alloc, text, edition, nesting)
+}
+
+/// The names of the text.
+fn names_of(
+    alloc: Global,
+    text: &str,
+    edition: Edition,
+    nesting: usize,
+) -> Result<(Vec<FtlName>, Outcome), Refusal>
+    requires short { length text.now + 1 < 2 ^ 64 }
+    ensures rows { IfOk result (λ found. AreNames edition text.now found.0.items found.1) }
+    ensures err { IfErr result (λ refusal. (refusal ≡ Refusal.Memory) ⊎ (refusal ≡ Refusal.Depth)) }
+    ensures deep { result ≡ Err Refusal.Depth → nesting < length text.now }
+{
+    match parse_spans_within(alloc, text, edition, nesting) {
+        Ok(Ok(tree)) => names_with(alloc, text, &tree, Outcome::Clean),
+        Ok(Err(ParseFault::Syntax(tree, _errors))) => {
+            names_with(alloc, text, &tree, Outcome::SyntaxErrors)
+        }
+        Ok(Err(ParseFault::Memory)) => Err(Refusal::Memory),
+        Err(TooDeep) => Err(Refusal::Depth),
+    }
+}
+
+fn names_with(
+    alloc: Global,
+    text: &str,
+    tree: &Resource<Span>,
+    outcome: Outcome,
+) -> Result<(Vec<FtlName>, Outcome), Refusal>
+    requires short { length text.now + 1 < 2 ^ 64 }
+    requires parts { body_every (IsPart text.now) (resource_view (λ s. s) tree.now) }
+    ensures rows { IfOk result (λ found.
+        (found.0.items ≡ body_rows text.now 0 (resource_view (λ s. s) tree.now)) × (found.1 ≡ outcome)) }
+    ensures err { IfErr result (λ refusal. refusal ≡ Refusal.Memory) }
+{
+    match tree_rows(alloc, text, tree) {
+        Ok(rows) => Ok((rows, outcome)),
+        Err(_) => Err(Refusal::Memory),
+    }
+}
+
+/// The rows of a tree of the text.
+fn tree_rows(alloc: Global, text: &str, tree: &Resource<Span>) -> Result<Vec<FtlName>, AllocError>
+    requires short { length text.now + 1 < 2 ^ 64 }
+    requires parts { body_every (IsPart text.now) (resource_view (λ s. s) tree.now) }
+    ensures { IfOk result (λ rows. rows.items ≡ body_rows text.now 0 (resource_view (λ s. s) tree.now)) }
+{
+    let mut rows = Vec::new(alloc);
+    let mut places = Lines::new(text);
+    for entry in &tree.body {
+        add_entry(&mut rows, &mut places, entry)?;
+    }
+    Ok(rows)
+}
+
+/// Adds the rows of an entry.
+fn add_entry<'t>(
+    rows: &mut Vec<FtlName>,
+    places: &mut Lines<'t>,
+    entry: &Entry<Span>,
+) -> Result<(), AllocError>
+    requires { entry_every (IsPart places.old) (entry_view (λ s. s) entry.now) }
+    ensures rows { OnOk result (rows.new.items
+        ≡ rows.old.items ++ entry_rows places.old (vec_len rows.old) (entry_view (λ s. s) entry.now)) }
+    ensures text { places.new ≡ places.old }
+{
+    match entry {
+        Entry::Message(message) => {
+            add_owner(
+                rows,
+                places,
+                Named::Message,
+                message.id.name,
+                &message.attributes,
+            )
+        }
+        Entry::Term(term) => add_owner(rows, places, Named::Term, term.id.name, &term.attributes),
+        Entry::Comment(_)
+        | Entry::GroupComment(_)
+        | Entry::ResourceComment(_)
+        | Entry::Junk { .. } => Ok(()),
+    }
+}
+
+/// Adds the rows of a message or a term and its attributes.
+fn add_owner<'t>(
+    rows: &mut Vec<FtlName>,
+    places: &mut Lines<'t>,
+    named: Named,
+    name: Span,
+    attributes: &Vec<Attribute<Span>>,
+) -> Result<(), AllocError>
+    requires name { name.start ≤ length places.old }
+    requires attributes { list_every (attribute_every (IsPart places.old))
+        (map (attribute_view (λ s. s)) attributes.now.items) }
+    ensures rows { OnOk result (rows.new.items ≡ rows.old.items ++
+        owner_rows places.old named (vec_len rows.old) name (map (attribute_view (λ s. s)) attributes.now.items)) }
+    ensures text { places.new ≡ places.old }
+{
+    let owner = rows.len();
+    rows.push(row_of(places, named, owner, name))?;
+    for attribute in attributes {
+        rows.push(row_of(places, Named::Attribute, owner, attribute.id.name))?;
+    }
+    Ok(())
+}
+
+fn row_of<'t>(places: &mut Lines<'t>, named: Named, owner: usize, name: Span) -> FtlName
+    requires { name.start ≤ length places.old }
+    ensures row { result ≡ name_row places.old named owner name }
+    ensures text { places.new ≡ places.old }
+{
+    let (line, column) = places.line_column(name.start);
+    FtlName {
+        line,
+        column,
+        start: name.start,
+        end: name.end,
+        owner,
+        kind: named.number(),
+    }
+}

@@ -1,0 +1,43 @@
+//! The caller's array, and the number that tells how much there is.
+ghost use Rattle.std.specs.Prelude.{◌≡◌, ◌↔◌, Err, IsOkAnd};
+ghost use Rattle.fluent_syntax_c.specs.Output.{Leaves};
+ghost use Rattle.fluent_syntax_c.specs.declared.status.Refusal.{Refusal as Why};
+ghost use Rattle.fluent_syntax_c.specs.declared.status.Status.TheVariants.{Refused};
+
+use crate::status::{Refusal, Status};
+use ftl::Outcome;
+
+/// Gives the caller what was answered, if there is room for all of it, and tells how much it is.
+pub(crate) fn give<T: Copy>(
+    answer: Result<(Vec<T>, Outcome), Refusal>,
+    out: &mut [T],
+    count: &mut usize,
+) -> Status
+    ensures leaves { Leaves (λ items outcome. IsOkAnd answer (λ given. (given.0.items ≡ items) × (given.1 ≡ outcome)))
+        out.old out.new count.new result }
+    ensures refused { (why : Why) → (result ≡ Refused why) ↔ (answer ≡ Err why) }
+{
+    match answer {
+        Ok((items, outcome)) => give_items(items.as_slice(), outcome, out, count),
+        Err(refusal) => {
+            *count = 0;
+            Status::Refused(refusal)
+        }
+    }
+}
+
+fn give_items<T: Copy>(items: &[T], outcome: Outcome, out: &mut [T], count: &mut usize) -> Status
+    ensures leaves { Leaves (λ given found. (given ≡ items.now) × (found ≡ outcome)) out.old out.new count.new result }
+    ensures given { (why : Why) → ¬ (result ≡ Refused why) }
+{
+    *count = items.len();
+    if items.len() > out.len() {
+        return Status::TooSmall;
+    }
+    let (front, _) = out.split_at_mut(items.len());
+    front.copy_from_slice(items);
+    match outcome {
+        Outcome::Clean => Status::Clean,
+        Outcome::SyntaxErrors => Status::SyntaxErrors,
+    }
+}

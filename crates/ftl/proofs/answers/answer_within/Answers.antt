@@ -1,0 +1,91 @@
+use Rattle.std.proofs.Common.{◌≡◌, ℕ, List, Result, IfOk, string_bytes, subst, sym}
+use Rattle.std.specs.Str.{IsUtf8}
+use Rattle.std.proofs.lemmas.Result.{IfOk-weaker}
+use Rattle.fluent_syntax_grammar.specs.Tiling.{Tile}
+use Rattle.ftl.specs.Answer.{HasTiles, IsAnswer, outcome_of, text_of}
+use Rattle.ftl.specs.declared.command.Command.{Command}
+use Rattle.ftl.specs.declared.command.Command.TheVariants.{Check, CheckTwo, Format, FormatTwo, Runtime, Json}
+use Rattle.ftl.specs.declared.outcome.Outcome.{Outcome}
+use Rattle.ftl.proofs.answers.answer_within.Goals as goal
+use Rattle.ftl.proofs.answers.answer_within.Goals.{in-Check+in_ok-answer-in-Check}
+use Rattle.ftl.proofs.answers.answer_within.Goals.{in-CheckTwo+in_ok-answer-in-CheckTwo}
+use Rattle.ftl.proofs.answers.answer_within.Goals.{in-Format+in_ok-parse_within-in-Format}
+use Rattle.ftl.proofs.answers.answer_within.Goals.{in-FormatTwo+in_ok-parse_within-in-FormatTwo}
+use Rattle.ftl.proofs.answers.answer_within.Goals.{in-Runtime+in_ok-parse_runtime_within-in-Runtime}
+use Rattle.ftl.proofs.answers.answer_within.Goals.{in-Json+in_ok-parse_within-in-Json}
+
+-- the answer of the text that the input is, by the command that was given
+answered : (given command : Command) (input t text : List ℕ) (outcome : Outcome) (tiles : List Tile) →
+    given ≡ command → t ≡ input → IsUtf8 input →
+    HasTiles command t tiles → text ≡ text_of command t tiles → outcome ≡ outcome_of tiles →
+    IsAnswer given input text outcome
+answered given command input t text outcome tiles is same utf8 has text_is outcome_is =
+    let of_command : IsAnswer command t text outcome = record {
+      is_utf8 = subst IsUtf8 (sym same) utf8;
+      tiles = tiles;
+      has_tiles = has;
+      text_is = text_is;
+      outcome_is = outcome_is;
+    } in
+    subst (λ (command : Command). IsAnswer command input text outcome) (sym is)
+    (subst (λ (t : List ℕ). IsAnswer command t text outcome) same of_command)
+
+-- the answer of an arm, which is by this command
+of_arm : {X E : Type 0} (bytes_of : X → List ℕ) (found_of : X → Outcome) (given command : Command) (input t : List ℕ)
+    (tiles : List Tile) (utf8 : (t ≡ input) × IsUtf8 input) → given ≡ command → HasTiles command t tiles →
+    (result answer : Result X E) → answer ≡ result →
+    IfOk result (λ a. (bytes_of a ≡ text_of command t tiles) × (found_of a ≡ outcome_of tiles)) →
+    IfOk answer (λ a. IsAnswer given input (bytes_of a) (found_of a))
+of_arm bytes_of found_of given command input t tiles utf8 is has result answer same told =
+    subst (λ r. IfOk r (λ a. IsAnswer given input (bytes_of a) (found_of a))) (sym same)
+    (IfOk-weaker result _ _ (λ a h.
+    answered given command input t (bytes_of a) (found_of a) tiles is utf8.0 utf8.1 has h.0 h.1) told)
+
+-- the answer of a check, which tells of its tiles itself
+of_check : {X E : Type 0} (bytes_of : X → List ℕ) (found_of : X → Outcome) (given command : Command)
+    (input t : List ℕ) (utf8 : (t ≡ input) × IsUtf8 input) → given ≡ command → (result answer : Result X E) →
+    answer ≡ result →
+    IfOk result (λ a. (tiles : List Tile) × HasTiles command t tiles × (bytes_of a ≡ text_of command t tiles) ×
+    (found_of a ≡ outcome_of tiles)) →
+    IfOk answer (λ a. IsAnswer given input (bytes_of a) (found_of a))
+of_check bytes_of found_of given command input t utf8 is result answer same told =
+    subst (λ r. IfOk r (λ a. IsAnswer given input (bytes_of a) (found_of a))) (sym same)
+    (IfOk-weaker result _ _ (λ a h.
+    answered given command input t (bytes_of a) (found_of a) h.0 is utf8.0 utf8.1 h.1 h.2 h.3) told)
+
+pub returns-clause-text : goal.returns-clause-text
+returns-clause-text c =
+    elim c.match-command.branch [
+      | in-Check+in_ok-answer-in-Check w ↦
+          of_check (λ a. string_bytes a.0) (λ a. a.1) c.args.command Check c.args.input.now c.in-Ok.text.now
+          c.in-Ok.ensures.cases w.in-Check.is w.in_ok-answer-in-Check.answer _ w.answer-is
+          w.in_ok-answer-in-Check.ensures.text
+      | in-CheckTwo+in_ok-answer-in-CheckTwo w ↦
+          of_check (λ a. string_bytes a.0) (λ a. a.1) c.args.command CheckTwo c.args.input.now c.in-Ok.text.now
+          c.in-Ok.ensures.cases w.in-CheckTwo.is w.in_ok-answer-in-CheckTwo.answer _ w.answer-is
+          w.in_ok-answer-in-CheckTwo.ensures.text
+      | in-Format+in_ok-parse_within-in-Format w ↦
+          let parsed = w.in_ok-parse_within-in-Format.ensures.tiling in
+          of_arm (λ a. string_bytes a.0) (λ a. a.1) c.args.command Format c.args.input.now c.in-Ok.text.now parsed.0
+          c.in-Ok.ensures.cases w.in-Format.is parsed.1 w.format-answer.result _ w.answer-is
+          (IfOk-weaker w.format-answer.result _ _ (λ a h. h c.in-Ok.text.now parsed.0 parsed.2)
+          w.format-answer.ensures.text)
+      | in-FormatTwo+in_ok-parse_within-in-FormatTwo w ↦
+          let parsed = w.in_ok-parse_within-in-FormatTwo.ensures.tiling in
+          of_arm (λ a. string_bytes a.0) (λ a. a.1) c.args.command FormatTwo c.args.input.now c.in-Ok.text.now parsed.0
+          c.in-Ok.ensures.cases w.in-FormatTwo.is parsed.1 w.format-answer-in-FormatTwo.result _ w.answer-is
+          (IfOk-weaker w.format-answer-in-FormatTwo.result _ _ (λ a h. h c.in-Ok.text.now parsed.0 parsed.2)
+          w.format-answer-in-FormatTwo.ensures.text)
+      | in-Runtime+in_ok-parse_runtime_within-in-Runtime w ↦
+          let parsed = w.in_ok-parse_runtime_within-in-Runtime.ensures.tiling in
+          of_arm (λ a. string_bytes a.0) (λ a. a.1) c.args.command Runtime c.args.input.now c.in-Ok.text.now parsed.0
+          c.in-Ok.ensures.cases w.in-Runtime.is parsed.1 w.format-answer-in-Runtime.result _ w.answer-is
+          (IfOk-weaker w.format-answer-in-Runtime.result _ _ (λ a h. h c.in-Ok.text.now parsed.0 parsed.2)
+          w.format-answer-in-Runtime.ensures.text)
+      | in-Json+in_ok-parse_within-in-Json w ↦
+          let parsed = w.in_ok-parse_within-in-Json.ensures.tiling in
+          of_arm (λ a. string_bytes a.0) (λ a. a.1) c.args.command Json c.args.input.now c.in-Ok.text.now parsed.0
+          c.in-Ok.ensures.cases w.in-Json.is parsed.1 w.json-answer.result _ w.answer-is
+          (IfOk-weaker w.json-answer.result _ _ (λ a h. h c.in-Ok.text.now parsed.0 parsed.2)
+          w.json-answer.ensures.text)
+    ]

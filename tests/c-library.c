@@ -1,0 +1,291 @@
+/* Calls the library over texts, and looks at each status, number and byte. tests/c-library builds it and gives it the
+   texts: of each its length, as a size_t, and its bytes.
+
+   The text and the array that is written to end where memory ends that may be touched; before the array stand bytes
+   that have to stay. The functions by which the library asks for memory are this file's, so that it can refuse a request. */
+#define _DEFAULT_SOURCE
+#include "fluent.h"
+
+#include <stdio.h>
+#include <stdlib.h>
+#include <string.h>
+#include <sys/mman.h>
+
+enum { ROOM = 1 << 22, PAGE = 4096, MARK = 0xA5, CALLS = 10 };
+
+/* ---- memory */
+
+struct grant {
+    uint64_t granted;
+    void *block;
+};
+
+static char nothing;
+static long left = -1; /* the request that is refused, from 0 */
+static long live;      /* blocks that were not given back */
+
+static struct grant granted(void *block)
+{
+    return (struct grant){block != NULL, block != NULL ? block : &nothing};
+}
+
+static int is_refused(void)
+{
+    return left >= 0 && left-- == 0;
+}
+
+struct grant rattle_alloc(size_t size, size_t alignment)
+{
+    if (is_refused())
+        return granted(NULL);
+    live++;
+    return granted(malloc(size != 0 ? size : alignment));
+}
+
+struct grant rattle_realloc(void *block, size_t kept, size_t size, size_t alignment)
+{
+    (void)kept;
+    return is_refused() ? granted(NULL) : granted(realloc(block, size != 0 ? size : alignment));
+}
+
+void rattle_dealloc(void *block)
+{
+    live--;
+    free(block);
+}
+
+/* ---- what may be touched */
+
+/* The end of ROOM bytes behind which nothing may be touched. */
+static uint8_t *fence(void)
+{
+    uint8_t *room = mmap(NULL, ROOM + PAGE, PROT_READ | PROT_WRITE, MAP_PRIVATE | MAP_ANONYMOUS, -1, 0);
+    if (room == MAP_FAILED || mprotect(room + ROOM, PAGE, PROT_NONE) != 0) {
+        perror("c-library");
+        exit(2);
+    }
+    return room + ROOM;
+}
+
+static uint8_t *text_end, *array_end;
+static uint8_t want[ROOM];
+static long faults, calls, refusals;
+
+static void fault(int call, const char *what, size_t text_len, size_t number)
+{
+    if (faults++ < 20)
+        printf("call %d over %zu bytes, %zu: %s\n", call, text_len, number, what);
+}
+
+/* ---- the calls: the six commands, and the errors and names by either edition */
+
+static size_t size_of(int call)
+{
+    return call < 6 ? 1 : call < 8 ? sizeof(struct ftl_error) : sizeof(struct ftl_name);
+}
+
+static uint32_t made(int call, size_t nesting, const uint8_t *text, size_t text_len, void *array, size_t room,
+                     size_t *count)
+{
+    uint32_t edition = call % 2 == 0 ? FTL_EDITION_ONE : FTL_EDITION_TWO;
+    calls++;
+    if (call < 6)
+        return ftl_answer((uint32_t)call, nesting, text, text_len, array, room, count);
+    if (call < 8)
+        return ftl_errors(edition, nesting, text, text_len, array, room, count);
+    return ftl_names(edition, nesting, text, text_len, array, room, count);
+}
+
+/* Makes the call with room for that many items, and says whether the bytes before them stayed. */
+static uint32_t tried(int call, const uint8_t *text, size_t text_len, size_t room, size_t *count)
+{
+    size_t bytes = room * size_of(call);
+    uint8_t *array = array_end - bytes;
+    memset(array - PAGE, MARK, bytes + PAGE);
+    uint32_t status = made(call, FTL_NESTING, text, text_len, room != 0 ? array : NULL, room, count);
+    for (size_t i = 0; i < PAGE; i++)
+        if (array[-1 - (long)i] != MARK) {
+            fault(call, "a byte before the array was written", text_len, room);
+            break;
+        }
+    if (live != 0)
+        fault(call, "a block was not given back", text_len, room);
+    live = 0;
+    return status;
+}
+
+static int is_untouched(const uint8_t *from, const uint8_t *to)
+{
+    for (; from < to; from++)
+        if (*from != MARK)
+            return 0;
+    return 1;
+}
+
+/* A call by its status and number with room for that many items, of which there are `whole`. */
+static void look(int call, uint32_t good, size_t whole, size_t text_len, size_t room, uint32_t status,
+                 size_t count)
+{
+    size_t bytes = whole * size_of(call);
+    uint8_t *array = array_end - room * size_of(call);
+    if (count != whole)
+        fault(call, "another number", text_len, room);
+    if (room < whole) {
+        if (status != FTL_TOO_SMALL)
+            fault(call, "another status without room", text_len, room);
+        if (!is_untouched(array, array_end))
+            fault(call, "written without room", text_len, room);
+    } else {
+        if (status != good)
+            fault(call, "another status", text_len, room);
+        if (memcmp(array, want, bytes) != 0)
+            fault(call, "other bytes", text_len, room);
+        if (!is_untouched(array + bytes, array_end))
+            fault(call, "written beyond", text_len, room);
+    }
+}
+
+/* With room for no item, for each number of them and for more; then each request for memory is refused in turn. */
+static void call_over(int call, const uint8_t *text, size_t text_len)
+{
+    size_t whole, count = 99;
+    uint32_t status = tried(call, text, text_len, 0, &whole);
+    if (whole * size_of(call) > ROOM / 2) {
+        fault(call, "too much for this test", text_len, whole);
+        return;
+    }
+    uint32_t good = tried(call, text, text_len, whole, &count);
+    if (good > FTL_SYNTAX_ERRORS || (status != good && status != FTL_TOO_SMALL))
+        fault(call, "no answer", text_len, good);
+    memcpy(want, array_end - whole * size_of(call), whole * size_of(call));
+    for (size_t room = 0; room <= whole + 2; room++) {
+        count = 99;
+        status = tried(call, text, text_len, room, &count);
+        look(call, good, whole, text_len, room, status, count);
+    }
+    for (long number = 0;; number++) {
+        left = number;
+        count = 99;
+        status = tried(call, text, text_len, whole + 1, &count);
+        int all = left >= 0;
+        left = -1;
+        if (all || status != FTL_NO_MEMORY) {
+            look(call, good, whole, text_len, whole + 1, status, count);
+            if (all)
+                return;
+        } else {
+            refusals++;
+            if (count != 0 || !is_untouched(array_end - (whole + 1) * size_of(call), array_end))
+                fault(call, "something given without memory", text_len, (size_t)number);
+        }
+    }
+}
+
+/* Bytes that are no text, numbers that are none, and no bytes at all. */
+static void odd_calls(void)
+{
+    static const uint8_t bad[] = {'a', ' ', '=', ' ', 0xFF, '\n'};
+    static const uint32_t wrong[] = {6, 7, 0xFFFFFFFF};
+    size_t count;
+    for (int call = 0; call < CALLS; call++) {
+        count = 99;
+        if (tried(call, bad, sizeof bad, 4, &count) != FTL_NOT_UTF8 || count != 0 ||
+            !is_untouched(array_end - 4 * size_of(call), array_end))
+            fault(call, "bytes that are no text", sizeof bad, count);
+        count = 99;
+        size_t line_end = call == FTL_JSON ? strlen("{\"body\":[]}\n") : 0;
+        uint32_t status = tried(call, NULL, 0, 0, &count);
+        if (status != (line_end != 0 ? FTL_TOO_SMALL : FTL_CLEAN) || count != line_end)
+            fault(call, "no bytes", 0, count);
+    }
+    for (size_t i = 0; i < sizeof wrong / sizeof wrong[0]; i++) {
+        uint8_t out[4] = {MARK, MARK, MARK, MARK};
+        struct ftl_error error;
+        struct ftl_name name;
+        memset(&error, MARK, sizeof error);
+        memset(&name, MARK, sizeof name);
+        count = 99;
+        if (ftl_answer(wrong[i], FTL_NESTING, bad, 3, out, 4, &count) != FTL_WRONG_ARGUMENT || count != 0 ||
+            out[0] != MARK)
+            fault(0, "no command has that number", 3, wrong[i]);
+        count = 99;
+        if (ftl_errors(wrong[i], FTL_NESTING, bad, 3, &error, 1, &count) != FTL_WRONG_ARGUMENT || count != 0 ||
+            *(uint8_t *)&error != MARK)
+            fault(6, "no edition has that number", 3, wrong[i]);
+        count = 99;
+        if (ftl_names(wrong[i], FTL_NESTING, bad, 3, &name, 1, &count) != FTL_WRONG_ARGUMENT || count != 0 ||
+            *(uint8_t *)&name != MARK)
+            fault(8, "no edition has that number", 3, wrong[i]);
+    }
+    if (ftl_errors(0, FTL_NESTING, bad, 3, NULL, 0, &count) != FTL_WRONG_ARGUMENT)
+        fault(6, "edition 0", 3, 0);
+}
+
+/* ---- nesting */
+
+/* `before`, so many times `open`, `middle`, so many times `close`, and a line end, at the text's place. */
+static size_t nested(const char *open, const char *close, size_t times)
+{
+    size_t len = 4 + times * (strlen(open) + strlen(close)) + 3;
+    char *to = (char *)text_end - len;
+    to += sprintf(to, "k = ");
+    for (size_t i = 0; i < times; i++, to += strlen(open))
+        memcpy(to, open, strlen(open));
+    memcpy(to, "$a", 2);
+    to += 2;
+    for (size_t i = 0; i < times; i++, to += strlen(close))
+        memcpy(to, close, strlen(close));
+    *to = '\n';
+    return len;
+}
+
+/* Placeables, and calls in placeables, to the bound and one beyond, and far beyond. */
+static void deep_calls(void)
+{
+    static const struct {
+        const char *open, *close;
+        size_t takes;
+    } forms[] = {{"{", "}", 1}, {"{ F(", ") }", 2}, {"{ $a ->\n *[b] ", "\n }", 1}};
+    static const size_t bounds[] = {0, 1, 10, FTL_NESTING};
+    size_t count;
+    for (size_t form = 0; form < sizeof forms / sizeof forms[0]; form++)
+        for (size_t i = 0; i < sizeof bounds / sizeof bounds[0]; i++) {
+            size_t fits = bounds[i] / forms[form].takes;
+            for (size_t more = 0; more < 3; more++) {
+                size_t times = more < 2 ? fits + more : 20000;
+                size_t len = nested(forms[form].open, forms[form].close, times);
+                uint32_t wants = more == 0 ? FTL_CLEAN : FTL_TOO_DEEP;
+                for (int call = 0; call < CALLS; call++) {
+                    size_t bytes = ROOM / 2 / size_of(call) * size_of(call);
+                    uint32_t status =
+                        made(call, bounds[i], text_end - len, len, array_end - bytes, bytes / size_of(call), &count);
+                    if (status != wants || (wants == FTL_TOO_DEEP && count != 0))
+                        fault(call, "another status by nesting", times, status);
+                    if (live != 0)
+                        fault(call, "a block was not given back after nesting", times, status);
+                }
+            }
+        }
+}
+
+int main(int argc, char **argv)
+{
+    size_t len, texts = 0;
+    text_end = fence();
+    array_end = fence();
+    if (argc == 2 && strcmp(argv[1], "deep") == 0) {
+        deep_calls();
+        printf("nesting: %ld calls, %ld faults\n", calls, faults);
+        return faults != 0;
+    }
+    odd_calls();
+    while (fread(&len, sizeof len, 1, stdin) == 1) {
+        if (len > ROOM || fread(text_end - len, 1, len, stdin) != len)
+            return 2;
+        texts++;
+        for (int call = 0; call < CALLS; call++)
+            call_over(call, text_end - len, len);
+    }
+    printf("%zu texts, %ld calls, %ld requests refused, %ld faults\n", texts, calls, refusals, faults);
+    return faults != 0;
+}
