@@ -63,15 +63,26 @@ pub(crate) fn valued(alloc: Global, name: Text, texts: &[Text]) -> Made<Entry<Te
     Ok(Entry::Message(message(alloc, name, Some(value))))
 }
 
+/// The list of the one attribute.
+fn just(alloc: Global, attribute: Attribute<Text>) -> Made<Vec<Attribute<Text>>> {
+    let mut attributes = Vec::new(alloc);
+    attributes.push(attribute)?;
+    Ok(attributes)
+}
+
 /// A message `k` that has just an attribute of that name, whose value has these elements.
 pub(crate) fn attributed(alloc: Global, name: Text, texts: &[Text]) -> Made<Entry<Text>> {
     let value = pattern(alloc, texts)?;
-    let mut message = message(alloc, "k", None);
-    message.attributes.push(Attribute {
+    let attribute = Attribute {
         id: id(name),
         value,
-    })?;
-    Ok(Entry::Message(message))
+    };
+    Ok(Entry::Message(Message {
+        id: id("k"),
+        value: None,
+        attributes: just(alloc, attribute)?,
+        comment: None,
+    }))
 }
 
 /// A message `key` that is a placeable of the expression.
