@@ -57,7 +57,7 @@ impl Narrow {
     }
 
     /// One that fails at once.
-    pub fn closed(alloc: Global) -> Self {
+    pub(crate) fn closed(alloc: Global) -> Self {
         Narrow {
             taken: Vec::new(alloc),
             step: usize::MAX,
