@@ -5,6 +5,7 @@ use Rattle.fluent_syntax_tree.specs.declared.edition.Edition.TheVariants.{One}
 use Rattle.fluent_syntax_tree.specs.declared.errors.ParserError.{ParserError}
 use Rattle.fluent_syntax_tree.specs.declared.spans.Span.{Span}
 use Rattle.fluent_syntax_grammar.specs.Body.{faults}
+use Rattle.fluent_syntax_grammar.specs.Nesting.{NestsDeeper}
 use Rattle.fluent_syntax_grammar.specs.Tiling.{Fault, Tile, Tiling}
 use Rattle.fluent_syntax_lsp.specs.Places.{place_at}
 use Rattle.fluent_syntax_lsp.specs.declared.diagnostics.Diagnostic.{Diagnostic}
@@ -42,8 +43,10 @@ deep_diagnostic = record {
   code = codes "TooDeep";
 }
 
--- One for each fault of the text's tiling, in order; or a lone one of a text that may nest too deeply.
+-- One for each fault of the tiling, in order, of a text that nests no deeper than the limit; a lone one of a text that
+-- nests deeper, which has more bytes than the limit.
 abbrev pub DiagnosesText : List ℕ → List Shown → Type 0
 DiagnosesText t found =
-    ((tiles : List Tile) × Tiling One t tiles × (found ≡ map (fault_shown t) (faults tiles))) ⊎
-    ((found ≡ deep_diagnostic ∷ []) × (NESTING_LIMIT < length t))
+    ((tiles : List Tile) × Tiling One t tiles × (found ≡ map (fault_shown t) (faults tiles)) ×
+    (NestsDeeper One t NESTING_LIMIT → ⊥)) ⊎
+    ((found ≡ deep_diagnostic ∷ []) × (NESTING_LIMIT < length t) × NestsDeeper One t NESTING_LIMIT)

@@ -21,4 +21,5 @@ returns-in_ok-found-in-Ok-Err-Syntax c =
       h.1,
       c.in_ok-found-in-Ok-Err-Syntax.ensures
           ∙ errors_shown c.args.text.now syntax.errors.items (faults h.0) told.1,
+      syntax.ensures.shallow (λ e. let is = syntax.field-0-is in let fault = syntax.field-0-0-is in cc),
     )
