@@ -1,13 +1,14 @@
 -- Statuses and their numbers, and what calls leave by them.
-use Rattle.std.proofs.Common.{◌≡◌, ◌==◌, ℕ, List, Result, Ok, Err, IfOk, IsOkAnd, cond, refl, sym, ap, ◌∙◌, subst}
-use Rattle.std.specs.Prelude.{◌↔◌}
+use Rattle.std.proofs.Common.{◌≡◌, ◌==◌, ℕ, List, Result, Ok, Err, IfOk, IsOkAnd, cond, refl, sym, ap, ◌∙◌}
+use Rattle.std.proofs.Common.{subst, inl, inr}
+use Rattle.std.specs.Prelude.{◌↔◌, ◌⊎◌}
 use Rattle.ftl.specs.declared.outcome.Outcome.{Outcome}
 use Rattle.ftl.specs.declared.outcome.Outcome.TheVariants as outcome
 use Rattle.fluent_syntax_c.specs.declared.status.Refusal.{Refusal}
 use Rattle.fluent_syntax_c.specs.declared.status.Refusal.TheVariants.{Argument, Input, Memory, Depth}
 use Rattle.fluent_syntax_c.specs.declared.status.Status.{Status}
 use Rattle.fluent_syntax_c.specs.declared.status.Status.TheVariants.{Clean, SyntaxErrors, TooSmall, Refused}
-use Rattle.fluent_syntax_c.specs.Status.{refusal_number, status_number}
+use Rattle.fluent_syntax_c.specs.Status.{EndsAs, refusal_number, status_number}
 use Rattle.fluent_syntax_c.specs.Output.{Leaves}
 
 -- the status of a number
@@ -29,20 +30,30 @@ number_back (Refused Depth) = refl
 same_status : (a b : Status) → status_number a ≡ status_number b → a ≡ b
 same_status a b e = sym (number_back a) ∙ ap status_at e ∙ number_back b
 
--- The number of a refusal is told only where it was refused for that.
-pub told_only : {X : Type 0} (answer : Result X Refusal) (number : ℕ) (status : Status) (why : Refusal) →
-    number ≡ status_number status → ((status ≡ Refused why) ↔ (answer ≡ Err why)) → number ≡ refusal_number why →
-    answer ≡ Err why
-told_only answer number status why is refused e = refused.0 (same_status status (Refused why) (sym is ∙ e))
-
--- It is told exactly there.
-pub told_exactly : {X : Type 0} (answer : Result X Refusal) (number : ℕ) (status : Status) (why : Refusal)
-    (P : Type 0) → number ≡ status_number status → ((status ≡ Refused why) ↔ (answer ≡ Err why)) →
-    ((answer ≡ Err why) ↔ P) → (number ≡ refusal_number why) ↔ P
-told_exactly answer number status why P is refused exact = (
-  (λ e. exact.0 (told_only answer number status why is refused e)),
-  (λ p. is ∙ ap status_number (refused.1 (exact.1 p))),
+-- The number of a refusal is told exactly where the answer is that refusal.
+pub told_exactly : {X : Type 0} (answer : Result X Refusal) (number : ℕ) (status : Status) →
+    number ≡ status_number status → ((why : Refusal) → (status ≡ Refused why) ↔ (answer ≡ Err why)) → (why : Refusal) →
+    (number ≡ refusal_number why) ↔ (answer ≡ Err why)
+told_exactly answer number status is refused why = (
+  (λ e. (refused why).0 (same_status status (Refused why) (sym is ∙ e))),
+  (λ e. is ∙ ap status_number ((refused why).1 e)),
 )
+
+-- What is told exactly of an answer that is given exactly where P holds, is told exactly there.
+pub told_where : {Told Answered P : Type 0} → (Told ↔ Answered) → (Answered ↔ P) → Told ↔ P
+told_where told answered = ((λ e. answered.0 (told.0 e)), (λ p. told.1 (answered.1 p)))
+
+-- Where nothing that nests deeper is answered, and no number is wrong, what nests deeper is refused: for its bytes, for
+-- want of memory, or for its depth.
+pub refused_deeper : {X : Type 0} (answer : Result X Refusal) (number : ℕ) (Deeper : Type 0) →
+    ((why : Refusal) → (number ≡ refusal_number why) ↔ (answer ≡ Err why)) →
+    IfOk answer (λ given. Deeper → ⊥) → (answer ≡ Err Argument → Deeper → ⊥) → Deeper →
+    (number ≡ 3) ⊎ (number ≡ 4) ⊎ (number ≡ 6)
+refused_deeper (Ok given) number Deeper refused shallow known deeper = absurd (shallow deeper)
+refused_deeper (Err Argument) number Deeper refused shallow known deeper = absurd (known refl deeper)
+refused_deeper (Err Input) number Deeper refused shallow known deeper = inl ((refused Input).1 refl)
+refused_deeper (Err Memory) number Deeper refused shallow known deeper = inr (inl ((refused Memory).1 refl))
+refused_deeper (Err Depth) number Deeper refused shallow known deeper = inr (inr ((refused Depth).1 refl))
 
 -- what was given is what was asked for, where the answer is
 asked_is : {A X E : Type 0} (asked : List A → Outcome → Type 0) (items_of : X → List A) (found_of : X → Outcome)
@@ -64,9 +75,10 @@ leaves_other P Q before after count (Refused why) to h = h
 
 -- What was asked for was answered, and the answer given.
 pub leaves_answered : {A X E : Type 0} (asked : List A → Outcome → Type 0) (items_of : X → List A)
-    (found_of : X → Outcome) (answer : Result X E) (before after : List A) (count : ℕ) (status : Status) →
+    (found_of : X → Outcome) (answer : Result X E) (before after : List A) (count number : ℕ) →
     IfOk answer (λ given. asked (items_of given) (found_of given)) →
-    Leaves (λ items found. IsOkAnd answer (λ given. (items_of given ≡ items) × (found_of given ≡ found)))
-    before after count status → Leaves asked before after count status
-leaves_answered asked items_of found_of answer before after count status is h =
-    leaves_other _ asked before after count status (asked_is asked items_of found_of answer is) h
+    EndsAs number
+    (Leaves (λ items found. IsOkAnd answer (λ given. (items_of given ≡ items) × (found_of given ≡ found)))
+    before after count) → EndsAs number (Leaves asked before after count)
+leaves_answered asked items_of found_of answer before after count number is h =
+    (h.0, h.1, leaves_other _ asked before after count h.0 (asked_is asked items_of found_of answer is) h.2)

@@ -1,7 +1,9 @@
 pub mod Arguments
 pub mod Answer
+pub mod Depth
 pub mod Status
 pub mod Output
 pub mod Kinds
+pub mod Reading
 pub mod Errors
 pub mod Names

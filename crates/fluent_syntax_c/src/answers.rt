@@ -1,8 +1,9 @@
 //! A command's text.
-ghost use Rattle.std.specs.Prelude.{◌≡◌, ◌↔◌, ◌<◌, length, Err, IfOk};
+ghost use Rattle.std.specs.Prelude.{◌≡◌, ◌↔◌, ◌⊎◌, ◌<◌, length, Err, IfOk};
 ghost use Rattle.std.specs.Str.{IsUtf8};
 ghost use Rattle.fluent_syntax_c.specs.Answer.{IsCommandAnswer};
 ghost use Rattle.fluent_syntax_c.specs.Arguments.{IsNoCommand};
+ghost use Rattle.fluent_syntax_c.specs.Depth.{CommandReadsDeeper};
 ghost use Rattle.fluent_syntax_c.specs.Output.{Leaves};
 ghost use Rattle.fluent_syntax_c.specs.Status.{EndsAs};
 
@@ -32,8 +33,11 @@ pub extern "C" fn ftl_answer(
     ensures argument { (result ≡ 2) ↔ IsNoCommand command }
     ensures input { ¬ (IsNoCommand command) → ((result ≡ 3) ↔ ¬ (IsUtf8 input.now)) }
     ensures deep { result ≡ 6 → nesting < length input.now }
+    ensures deeper { result ≡ 6 → CommandReadsDeeper command input.now nesting }
+    ensures shallow { CommandReadsDeeper command input.now nesting →
+        (result ≡ 3) ⊎ (result ≡ 4) ⊎ (result ≡ 6) }
 {
-    give(command_bytes(alloc, command, nesting, input), out, needed).number()
+    give(command_bytes(alloc, command, nesting, input), out, needed)
 }
 
 /// The bytes of the command's text.
@@ -47,6 +51,8 @@ fn command_bytes(
     ensures argument { (result ≡ Err Refusal.Argument) ↔ IsNoCommand command }
     ensures input { ¬ (IsNoCommand command) → ((result ≡ Err Refusal.Input) ↔ ¬ (IsUtf8 input.now)) }
     ensures deep { result ≡ Err Refusal.Depth → nesting < length input.now }
+    ensures deeper { result ≡ Err Refusal.Depth → CommandReadsDeeper command input.now nesting }
+    ensures shallow { IfOk result (λ answer. CommandReadsDeeper command input.now nesting → ⊥) }
 {
     let Some(command) = command_of(command) else {
         return Err(Refusal::Argument);

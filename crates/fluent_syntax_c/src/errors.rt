@@ -1,19 +1,19 @@
 //! Errors as rows.
-ghost use Rattle.std.specs.Prelude.{◌≡◌, ◌↔◌, ◌⊎◌, ◌+◌, ◌<◌, ◌≤◌, ◌^◌, length, map, All, Err, IfErr, IfOk};
+ghost use Rattle.std.specs.Prelude.{◌≡◌, ◌↔◌, ◌⊎◌, ◌+◌, ◌<◌, ◌≤◌, ◌^◌, length, map, All, Err, IfOk};
 ghost use Rattle.std.specs.Str.{IsUtf8};
 ghost use Rattle.ftl.specs.Answer.{told};
 ghost use Rattle.fluent_syntax_c.specs.Arguments.{IsNoEdition};
-ghost use Rattle.fluent_syntax_c.specs.Errors.{AreEditionErrors, AreErrors, error_row, row_at};
+ghost use Rattle.fluent_syntax_c.specs.Depth.{EditionReadsDeeper};
+ghost use Rattle.fluent_syntax_c.specs.Errors.{AreEditionErrors, error_row, row_at};
 ghost use Rattle.fluent_syntax_c.specs.Output.{Leaves};
 ghost use Rattle.fluent_syntax_c.specs.Status.{EndsAs};
 
-use crate::arguments::edition_of;
 use crate::kinds::kind_number;
 use crate::outputs::give;
+use crate::readings::{outcome_of, read};
 use crate::status::Refusal;
-use crate::texts::text_of;
-use fluent_syntax::parser::{Edition, ParseFault, ParserError, TooDeep};
-use fluent_syntax::spans::{Lines, parse_spans_within};
+use fluent_syntax::parser::ParserError;
+use fluent_syntax::spans::Lines;
 use ftl::Outcome;
 use std::alloc::{AllocError, Global};
 
@@ -54,8 +54,11 @@ pub extern "C" fn ftl_errors(
     ensures argument { (result ≡ 2) ↔ IsNoEdition edition }
     ensures input { ¬ (IsNoEdition edition) → ((result ≡ 3) ↔ ¬ (IsUtf8 input.now)) }
     ensures deep { result ≡ 6 → nesting < length input.now }
+    ensures deeper { result ≡ 6 → EditionReadsDeeper edition input.now nesting }
+    ensures shallow { EditionReadsDeeper edition input.now nesting →
+        (result ≡ 3) ⊎ (result ≡ 4) ⊎ (result ≡ 6) }
 {
-    give(edition_errors(alloc, edition, nesting, input), rows, count).number()
+    give(edition_errors(alloc, edition, nesting, input), rows, count)
 }
 
 /// The errors by the edition of the number.
@@ -69,34 +72,13 @@ fn edition_errors(
     ensures argument { (result ≡ Err Refusal.Argument) ↔ IsNoEdition edition }
     ensures input { ¬ (IsNoEdition edition) → ((result ≡ Err Refusal.Input) ↔ ¬ (IsUtf8 input.now)) }
     ensures deep { result ≡ Err Refusal.Depth → nesting < length input.now }
+    ensures deeper { result ≡ Err Refusal.Depth → EditionReadsDeeper edition input.now nesting }
+    ensures shallow { IfOk result (λ found. EditionReadsDeeper edition input.now nesting → ⊥) }
 {
-    let Some(edition) = edition_of(edition) else {
-        return Err(Refusal::Argument);
-    };
-    let text = text_of(input)?;
-    errors_of(alloc, text, edition, nesting)
-}
-
-/// The errors of the text.
-fn errors_of(
-    alloc: Global,
-    text: &str,
-    edition: Edition,
-    nesting: usize,
-) -> Result<(Vec<FtlError>, Outcome), Refusal>
-    requires short { length text.now + 1 < 2 ^ 64 }
-    ensures rows { IfOk result (λ found. AreErrors edition text.now found.0.items found.1) }
-    ensures err { IfErr result (λ refusal. (refusal ≡ Refusal.Memory) ⊎ (refusal ≡ Refusal.Depth)) }
-    ensures deep { result ≡ Err Refusal.Depth → nesting < length text.now }
-{
-    match parse_spans_within(alloc, text, edition, nesting) {
-        Ok(Ok(_)) => Ok((Vec::new(alloc), Outcome::Clean)),
-        Ok(Err(ParseFault::Syntax(_, errors))) => match error_rows(alloc, text, &errors) {
-            Ok(rows) => Ok((rows, Outcome::SyntaxErrors)),
-            Err(_) => Err(Refusal::Memory),
-        },
-        Ok(Err(ParseFault::Memory)) => Err(Refusal::Memory),
-        Err(TooDeep) => Err(Refusal::Depth),
+    let reading = read(alloc, edition, nesting, input)?;
+    match error_rows(alloc, reading.text, &reading.errors) {
+        Ok(rows) => Ok((rows, outcome_of(&reading.errors))),
+        Err(_) => Err(Refusal::Memory),
     }
 }
 

@@ -10,6 +10,7 @@ mod errors;
 mod kinds;
 mod names;
 mod outputs;
+mod readings;
 mod status;
 mod texts;
 

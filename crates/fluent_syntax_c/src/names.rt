@@ -1,23 +1,22 @@
 //! The names of messages, terms and attributes as rows.
-ghost use Rattle.std.specs.Prelude.{◌≡◌, ◌↔◌, ◌⊎◌, ◌+◌, ◌++◌, ◌<◌, ◌≤◌, ◌^◌, length, map, Err, IfErr, IfOk, OnOk};
+ghost use Rattle.std.specs.Prelude.{◌≡◌, ◌↔◌, ◌⊎◌, ◌+◌, ◌++◌, ◌<◌, ◌≤◌, ◌^◌, length, map, Err, IfOk, OnOk};
 ghost use Rattle.std.specs.Prelude.{vec_len};
 ghost use Rattle.std.specs.Str.{IsUtf8};
 ghost use Rattle.fluent_syntax_tree.specs.Every.{attribute_every, body_every, entry_every, list_every};
 ghost use Rattle.fluent_syntax_tree.specs.Spans.{IsPart};
 ghost use Rattle.fluent_syntax_tree.specs.View.{attribute_view, entry_view, resource_view};
 ghost use Rattle.fluent_syntax_c.specs.Arguments.{IsNoEdition};
-ghost use Rattle.fluent_syntax_c.specs.Names.{AreEditionNames, AreNames, body_rows, entry_rows, name_row, named_number};
+ghost use Rattle.fluent_syntax_c.specs.Depth.{EditionReadsDeeper};
+ghost use Rattle.fluent_syntax_c.specs.Names.{AreEditionNames, body_rows, entry_rows, name_row, named_number};
 ghost use Rattle.fluent_syntax_c.specs.Names.{owner_rows};
 ghost use Rattle.fluent_syntax_c.specs.Output.{Leaves};
 ghost use Rattle.fluent_syntax_c.specs.Status.{EndsAs};
 
-use crate::arguments::edition_of;
 use crate::outputs::give;
+use crate::readings::{outcome_of, read};
 use crate::status::Refusal;
-use crate::texts::text_of;
 use fluent_syntax::ast::{Attribute, Entry, Resource};
-use fluent_syntax::parser::{Edition, ParseFault, TooDeep};
-use fluent_syntax::spans::{Lines, Span, parse_spans_within};
+use fluent_syntax::spans::{Lines, Span};
 use ftl::Outcome;
 use std::alloc::{AllocError, Global};
 
@@ -77,8 +76,11 @@ pub extern "C" fn ftl_names(
     ensures argument { (result ≡ 2) ↔ IsNoEdition edition }
     ensures input { ¬ (IsNoEdition edition) → ((result ≡ 3) ↔ ¬ (IsUtf8 input.now)) }
     ensures deep { result ≡ 6 → nesting < length input.now }
+    ensures deeper { result ≡ 6 → EditionReadsDeeper edition input.now nesting }
+    ensures shallow { EditionReadsDeeper edition input.now nesting →
+        (result ≡ 3) ⊎ (result ≡ 4) ⊎ (result ≡ 6) }
 {
-    give(edition_names(alloc, edition, nesting, input), rows, count).number()
+    give(edition_names(alloc, edition, nesting, input), rows, count)
 }
 
 /// The names by the edition of the number.
@@ -92,50 +94,12 @@ fn edition_names(
     ensures argument { (result ≡ Err Refusal.Argument) ↔ IsNoEdition edition }
     ensures input { ¬ (IsNoEdition edition) → ((result ≡ Err Refusal.Input) ↔ ¬ (IsUtf8 input.now)) }
     ensures deep { result ≡ Err Refusal.Depth → nesting < length input.now }
+    ensures deeper { result ≡ Err Refusal.Depth → EditionReadsDeeper edition input.now nesting }
+    ensures shallow { IfOk result (λ found. EditionReadsDeeper edition input.now nesting → ⊥) }
 {
-    let Some(edition) = edition_of(edition) else {
-        return Err(Refusal::Argument);
-    };
-    let text = text_of(input)?;
-    names_of(alloc, text, edition, nesting)
-}
-
-/// The names of the text.
-fn names_of(
-    alloc: Global,
-    text: &str,
-    edition: Edition,
-    nesting: usize,
-) -> Result<(Vec<FtlName>, Outcome), Refusal>
-    requires short { length text.now + 1 < 2 ^ 64 }
-    ensures rows { IfOk result (λ found. AreNames edition text.now found.0.items found.1) }
-    ensures err { IfErr result (λ refusal. (refusal ≡ Refusal.Memory) ⊎ (refusal ≡ Refusal.Depth)) }
-    ensures deep { result ≡ Err Refusal.Depth → nesting < length text.now }
-{
-    match parse_spans_within(alloc, text, edition, nesting) {
-        Ok(Ok(tree)) => names_with(alloc, text, &tree, Outcome::Clean),
-        Ok(Err(ParseFault::Syntax(tree, _errors))) => {
-            names_with(alloc, text, &tree, Outcome::SyntaxErrors)
-        }
-        Ok(Err(ParseFault::Memory)) => Err(Refusal::Memory),
-        Err(TooDeep) => Err(Refusal::Depth),
-    }
-}
-
-fn names_with(
-    alloc: Global,
-    text: &str,
-    tree: &Resource<Span>,
-    outcome: Outcome,
-) -> Result<(Vec<FtlName>, Outcome), Refusal>
-    requires short { length text.now + 1 < 2 ^ 64 }
-    requires parts { body_every (IsPart text.now) (resource_view (λ s. s) tree.now) }
-    ensures rows { IfOk result (λ found.
-        (found.0.items ≡ body_rows text.now 0 (resource_view (λ s. s) tree.now)) × (found.1 ≡ outcome)) }
-    ensures err { IfErr result (λ refusal. refusal ≡ Refusal.Memory) }
-{
-    match tree_rows(alloc, text, tree) {
-        Ok(rows) => Ok((rows, outcome)),
+    let reading = read(alloc, edition, nesting, input)?;
+    match tree_rows(alloc, reading.text, &reading.tree) {
+        Ok(rows) => Ok((rows, outcome_of(&reading.errors))),
         Err(_) => Err(Refusal::Memory),
     }
 }

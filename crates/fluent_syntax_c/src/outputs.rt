@@ -1,14 +1,29 @@
 //! The caller's array, and the number that tells how much there is.
 ghost use Rattle.std.specs.Prelude.{◌≡◌, ◌↔◌, Err, IsOkAnd};
 ghost use Rattle.fluent_syntax_c.specs.Output.{Leaves};
+ghost use Rattle.fluent_syntax_c.specs.Status.{EndsAs, refusal_number};
 ghost use Rattle.fluent_syntax_c.specs.declared.status.Refusal.{Refusal as Why};
 ghost use Rattle.fluent_syntax_c.specs.declared.status.Status.TheVariants.{Refused};
 
 use crate::status::{Refusal, Status};
 use ftl::Outcome;
 
-/// Gives the caller what was answered, if there is room for all of it, and tells how much it is.
+/// Gives the caller what was answered, if there is room for all of it, and tells how much it is. Returns the number of
+/// how that ended.
 pub(crate) fn give<T: Copy>(
+    answer: Result<(Vec<T>, Outcome), Refusal>,
+    out: &mut [T],
+    count: &mut usize,
+) -> u32
+    ensures leaves { EndsAs result
+        (Leaves (λ items outcome. IsOkAnd answer (λ given. (given.0.items ≡ items) × (given.1 ≡ outcome)))
+        out.old out.new count.new) }
+    ensures refused { (why : Why) → (result ≡ refusal_number why) ↔ (answer ≡ Err why) }
+{
+    given(answer, out, count).number()
+}
+
+fn given<T: Copy>(
     answer: Result<(Vec<T>, Outcome), Refusal>,
     out: &mut [T],
     count: &mut usize,
