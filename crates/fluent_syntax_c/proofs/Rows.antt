@@ -1,5 +1,5 @@
--- Rows of errors and of names.
-use Rattle.std.proofs.Common.{◌≡◌, ◌<◌, ◌≤◌, ◌+◌, ◌++◌, ◌∷◌, [], ℕ, List, length, get_or, take, drop, map, Some, refl}
+-- Rows of names.
+use Rattle.std.proofs.Common.{◌≡◌, ◌<◌, ◌≤◌, ◌+◌, ◌++◌, ◌∷◌, [], ℕ, List, length, get_or, take, drop, map}
 use Rattle.std.proofs.Common.{sym, ap, ◌∙◌, subst, append_assoc, append-nil, length-append}
 use Rattle.std.proofs.lemmas.List.{map_more, map-append, drop_all, drop_more}
 use Rattle.fluent_syntax_tree.specs.Entry.{EntryTree}
@@ -7,30 +7,12 @@ use Rattle.fluent_syntax_tree.specs.Every.{attribute_every, list_every}
 use Rattle.fluent_syntax_tree.specs.Spans.{IsPart}
 use Rattle.fluent_syntax_tree.specs.View.{attribute_view}
 use Rattle.fluent_syntax_tree.specs.declared.ast.Attribute.{Attribute}
-use Rattle.fluent_syntax_tree.specs.declared.errors.ParserError.{ParserError}
 use Rattle.fluent_syntax_tree.specs.declared.spans.Span.{Span}
 use Rattle.fluent_syntax_tree.proofs.Every.{every_item}
-use Rattle.fluent_syntax_grammar.specs.Tiling.{Fault}
-use Rattle.fluent_syntax_parser.specs.Faults.{fault_of}
-use Rattle.ftl.specs.Answer.{told}
-use Rattle.ftl.proofs.Errors.{told_is}
-use Rattle.fluent_syntax_c.specs.Errors.{error_row}
 use Rattle.fluent_syntax_c.specs.Names.{attribute_row, body_rows, entry_rows, name_row, owner_rows}
 use Rattle.fluent_syntax_c.specs.declared.names.FtlName.{FtlName}
 use Rattle.fluent_syntax_c.specs.declared.names.Named.{Named}
 use Rattle.fluent_syntax_c.specs.declared.names.Named.TheVariants as named
-
--- errors that tell of faults give their rows
-pub rows_of_faults : (t : List ℕ) (errors : List ParserError) (fs : List Fault) → map fault_of errors ≡ map Some fs →
-    map (λ e. error_row t (told e)) errors ≡ map (error_row t) fs
-rows_of_faults t [] [] h = refl
-rows_of_faults t [] (f ∷ fs) h = absurd cc
-rows_of_faults t (e ∷ errors) [] h = absurd cc
-rows_of_faults t (e ∷ errors) (f ∷ fs) h =
-    let first : fault_of e ≡ Some f = cc in
-    let others : map fault_of errors ≡ map Some fs = cc in
-    ap (λ x. error_row t x ∷ map (λ e. error_row t (told e)) errors) (told_is e f first)
-    ∙ ap (λ xs. error_row t f ∷ xs) (rows_of_faults t errors fs others)
 
 -- the name of an attribute of a tree of the text lies within the text
 pub attribute_inside : (t s : List ℕ) (attributes items : List (Attribute Span)) (i : ℕ) (a : Attribute Span) →

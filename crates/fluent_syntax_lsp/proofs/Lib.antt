@@ -1,4 +1,3 @@
-pub mod ErrorsShown
 pub mod FrameLemmas
 pub mod FramesMore
 pub mod InboxLemmas

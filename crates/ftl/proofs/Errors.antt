@@ -1,6 +1,8 @@
 -- Lists of errors, and the lines that they become.
-use Rattle.std.proofs.Common.{◌≡◌, ◌≢◌, ◌++◌, ◌∷◌, [], ℕ, List, map, Option, Some}
-use Rattle.std.proofs.Common.{None, ap, ◌∙◌, refl, option_map, unwrap_or}
+use Rattle.std.proofs.Common.{◌≡◌, ◌≢◌, ◌∷◌, [], ℕ, List, map, Option, Some}
+use Rattle.std.proofs.Common.{None, ap, ◌∙◌, refl, sym, option_map, unwrap_or}
+use Rattle.std.proofs.lemmas.List.Folds.{flat_map-map}
+use Rattle.std.proofs.lemmas.Simd.{map-map}
 use Rattle.std.specs.List.{flat_map}
 use Rattle.fluent_syntax_tree.specs.declared.errors.ParserError.{ParserError}
 use Rattle.fluent_syntax_tree.specs.Kind.{Kind, kind_of}
@@ -26,20 +28,31 @@ told_by : {R : Type 0} (kind : Kind) (pos : R) (junk : Option R) (start end : R 
 told_by kind pos None start end f e = absurd cc
 told_by kind pos (Some s) start end f e = cc
 
-pub told_is : (e : ParserError) (f : Fault) → fault_of e ≡ Some f → told e ≡ f
+told_is : (e : ParserError) (f : Fault) → fault_of e ≡ Some f → told e ≡ f
 told_is e f h = told_by (kind_of e.kind) e.pos e.slice (λ r. r.start) (λ r. r.end) f h
+
+-- errors tell of just the faults that they tell of
+told_faults : (errors : List ParserError) (fs : List Fault) → map fault_of errors ≡ map Some fs → map told errors ≡ fs
+told_faults [] [] h = refl
+told_faults [] (f ∷ fs) h = absurd cc
+told_faults (e ∷ errors) [] h = absurd cc
+told_faults (e ∷ errors) (f ∷ fs) h =
+    let first : fault_of e ≡ Some f = cc in
+    let others : map fault_of errors ≡ map Some fs = cc in
+    let same = told_is e f first in
+    let rest = told_faults errors fs others in
+    cc
+
+-- what is made of what errors tell is what is made of the faults
+pub made_of_faults : {X : Type 0} (made : Fault → X) (errors : List ParserError) (fs : List Fault) →
+    map fault_of errors ≡ map Some fs → map (λ e. made (told e)) errors ≡ map made fs
+made_of_faults made errors fs h = sym (map-map made told errors) ∙ ap (map made) (told_faults errors fs h)
 
 -- errors that tell of faults give their lines
 pub lines_of_faults : (t : List ℕ) (errors : List ParserError) (fs : List Fault) → map fault_of errors ≡ map Some fs →
     flat_map (λ e. error_line t (told e)) errors ≡ flat_map (error_line t) fs
-lines_of_faults t [] [] h = refl
-lines_of_faults t [] (f ∷ fs) h = absurd cc
-lines_of_faults t (e ∷ errors) [] h = absurd cc
-lines_of_faults t (e ∷ errors) (f ∷ fs) h =
-    let first : fault_of e ≡ Some f = cc in
-    let others : map fault_of errors ≡ map Some fs = cc in
-    ap (λ x. error_line t x ++ flat_map (λ e. error_line t (told e)) errors) (told_is e f first)
-    ∙ ap (λ xs. error_line t f ++ xs) (lines_of_faults t errors fs others)
+lines_of_faults t errors fs h =
+    sym (flat_map-map (error_line t) told errors) ∙ ap (flat_map (error_line t)) (told_faults errors fs h)
 
 -- where there are faults, the outcome tells of them
 pub outcome_of_faults : (fs : List Fault) → fs ≢ [] → SyntaxErrors ≡ outcome_with fs

@@ -4,7 +4,8 @@ use Rattle.fluent_syntax_tree.specs.Entry.{BodyTree}
 use Rattle.fluent_syntax_tree.specs.declared.spans.Span.{Span}
 use Rattle.fluent_syntax_parser.specs.Answers.{Answers}
 use Rattle.fluent_syntax_parser.specs.declared.fault.ParseFault.{ParseFault}
-use Rattle.fluent_syntax_lsp.proofs.ErrorsShown.{errors_shown}
+use Rattle.ftl.proofs.Errors.{made_of_faults}
+use Rattle.fluent_syntax_lsp.specs.Diagnostics.{fault_shown}
 use Rattle.fluent_syntax_lsp.proofs.diagnostics.diagnostics_in.Goals as goal
 
 pub returns-in_ok-found-in-Ok-Err-Syntax : goal.returns-in_ok-found-in-Ok-Err-Syntax
@@ -20,6 +21,6 @@ returns-in_ok-found-in-Ok-Err-Syntax c =
       h.0,
       h.1,
       c.in_ok-found-in-Ok-Err-Syntax.ensures
-          ∙ errors_shown c.args.text.now syntax.errors.items (faults h.0) told.1,
+          ∙ made_of_faults (fault_shown c.args.text.now) syntax.errors.items (faults h.0) told.1,
       syntax.ensures.shallow (λ e. let is = syntax.field-0-is in let fault = syntax.field-0-0-is in cc),
     )
