@@ -1,8 +1,10 @@
 //! A copy of each node of a tree, over lent and over owned texts, and of each kind of error.
 
-use crate::kinds::{KINDS, kind};
+use crate::alike::{holds, same_text};
+use crate::kinds::{KINDS, Kind, kind};
+use crate::made::{owned_tree_without_errors, tree_without_errors};
 use fluent_syntax::ast::*;
-use fluent_syntax::parser::{ParserError, Slice, parse};
+use fluent_syntax::parser::{ParserError, Slice};
 use std::alloc::{AllocError, Global};
 use std::test::Fail;
 
@@ -128,44 +130,57 @@ fn copies_of_tree<'s, S: Slice<'s>>(alloc: Global, tree: &Resource<S>) -> Result
 
 #[test]
 fn trees_over_lent_texts(rt: HostRuntime) -> Result<(), Fail> {
-    let Ok(tree) = parse(rt.alloc(), TEXT) else {
-        return Err("a text without errors was refused".into());
-    };
-    assert!(rt; copies_of_tree(rt.alloc(), &tree)?);
-    Ok(())
+    let tree = tree_without_errors(rt.alloc(), TEXT)?;
+    holds(
+        rt.alloc(),
+        "equal copies",
+        copies_of_tree(rt.alloc(), &tree)?,
+    )
 }
 
 #[test]
 fn trees_over_owned_texts(rt: HostRuntime) -> Result<(), Fail> {
-    let Ok(tree) = parse(rt.alloc(), String::from_str(rt.alloc(), TEXT)?) else {
-        return Err("a text without errors was refused".into());
-    };
-    assert!(rt; copies_of_tree(rt.alloc(), &tree)?);
-    Ok(())
+    let tree = owned_tree_without_errors(rt.alloc(), TEXT)?;
+    holds(
+        rt.alloc(),
+        "equal copies",
+        copies_of_tree(rt.alloc(), &tree)?,
+    )
+}
+
+/// Fails where the copy of the text is another text.
+fn is_copied<'s, S: Slice<'s>>(alloc: Global, text: &S) -> Result<(), Fail> {
+    let copy = text.try_clone(alloc)?;
+    same_text(alloc, "a copy", copy.as_str(), text.as_str())
 }
 
 #[test]
 fn texts(rt: HostRuntime) -> Result<(), Fail> {
-    let lent = "key";
-    assert_eq!(rt; Slice::try_clone(&lent, rt.alloc())?, lent);
-    let owned = String::from_str(rt.alloc(), "key")?;
-    assert_eq!(rt; Slice::try_clone(&owned, rt.alloc())?.as_str(), "key");
-    Ok(())
+    is_copied(rt.alloc(), &"key")?;
+    is_copied(rt.alloc(), &String::from_str(rt.alloc(), "key")?)
+}
+
+fn error_is_copied(alloc: Global, row: &Kind) -> Result<(), Fail> {
+    let (name, _) = row;
+    let error = ParserError {
+        pos: 1..2,
+        slice: Some(0..3),
+        kind: kind(alloc, *name)?,
+    };
+    holds(alloc, *name, is_copy(error.try_clone(alloc), &error))
+}
+
+fn kind_is_copied(alloc: Global, row: &Kind) -> Result<(), Fail> {
+    let (name, _) = row;
+    let kind = kind(alloc, *name)?;
+    holds(alloc, *name, is_copy(kind.try_clone(alloc), &kind))
 }
 
 #[test]
 fn errors_of_each_kind(rt: HostRuntime) -> Result<(), Fail> {
-    for (name, _) in KINDS {
-        let error = ParserError {
-            pos: 1..2,
-            slice: Some(0..3),
-            kind: kind(rt.alloc(), name)?,
-        };
-        assert!(rt; is_copy(error.try_clone(rt.alloc()), &error), "{name}");
-        assert!(rt;
-            is_copy(error.kind.try_clone(rt.alloc()), &error.kind),
-            "{name}"
-        );
+    for row in &KINDS {
+        error_is_copied(rt.alloc(), row)?;
+        kind_is_copied(rt.alloc(), row)?;
     }
     Ok(())
 }

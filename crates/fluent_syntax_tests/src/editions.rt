@@ -1,13 +1,16 @@
 //! Texts that both editions of the grammar read, each in its way.
 
-use crate::outline::outline;
+use crate::alike::holds;
+use crate::outline::has_outline;
 use fluent_syntax::parser::{Edition, parse_edition, parse_runtime_edition};
 use fluent_syntax::serializer::serialize;
 use std::alloc::Global;
 use std::test::Fail;
 
-/// What it shows, the text, and the outlines of both answers.
-const ROWS: [(&str, &str, &str, &str); 5] = [
+/// What it shows, the text, and the outlines of its answers in edition one and in edition two.
+type Row = (&'static str, &'static str, &'static str, &'static str);
+
+const ROWS: [Row; 5] = [
     (
         "a placeable counts for the common indent",
         "key =\n  {x} a\n    b\n",
@@ -40,20 +43,29 @@ const ROWS: [(&str, &str, &str, &str); 5] = [
     ),
 ];
 
+/// Fails where a call of the edition, with comments or without, does not answer as expected.
+fn is_read(
+    alloc: Global,
+    shows: &str,
+    text: &str,
+    edition: Edition,
+    expected: &str,
+) -> Result<(), Fail> {
+    has_outline(alloc, shows, &parse_edition(alloc, text, edition), expected)?;
+    let runtime = parse_runtime_edition(alloc, text, edition);
+    has_outline(alloc, shows, &runtime, expected)
+}
+
+fn is_read_by_both(alloc: Global, row: &Row) -> Result<(), Fail> {
+    let (shows, text, one, two) = row;
+    is_read(alloc, *shows, *text, Edition::One, *one)?;
+    is_read(alloc, *shows, *text, Edition::Two, *two)
+}
+
 #[test]
 fn editions(rt: HostRuntime) -> Result<(), Fail> {
-    for (shows, text, one, two) in &ROWS {
-        for (edition, expected) in [(Edition::One, *one), (Edition::Two, *two)] {
-            let mut got = String::new(rt.alloc());
-            outline(&mut got, &parse_edition(rt.alloc(), *text, edition))?;
-            assert_eq!(rt; got.as_str(), expected, "{shows}");
-            let mut runtime = String::new(rt.alloc());
-            outline(
-                &mut runtime,
-                &parse_runtime_edition(rt.alloc(), *text, edition),
-            )?;
-            assert_eq!(rt; runtime.as_str(), expected, "{shows}");
-        }
+    for row in &ROWS {
+        is_read_by_both(rt.alloc(), row)?;
     }
     Ok(())
 }
@@ -67,8 +79,8 @@ const KEPT: [&str; 3] = [
 
 #[test]
 fn trees_of_edition_two_read_back(rt: HostRuntime) -> Result<(), Fail> {
-    for text in KEPT {
-        assert!(rt; is_kept(rt.alloc(), text)?, "{text:?}");
+    for text in &KEPT {
+        holds(rt.alloc(), *text, is_kept(rt.alloc(), *text)?)?;
     }
     Ok(())
 }

@@ -1,8 +1,10 @@
 //! Readers and writers that fail, and how a run meets them.
 
+use crate::alike::holds;
 use ftl::{Command, Outcome, RunFault, Watched, run};
 use std::alloc::Global;
 use std::io::{self, Read, Write};
+use std::test::Fail;
 
 /// Gives one byte a read, and fails once it was read so often.
 #[derive(Drop)]
@@ -98,71 +100,92 @@ pub(crate) fn ran(
     (ended, writer.into_inner().taken)
 }
 
+/// Whether the command ends so, and has written just these bytes.
+pub(crate) fn ends_so(
+    alloc: Global,
+    command: Command,
+    reader: Drip<'_>,
+    writer: Narrow,
+    end: Result<Outcome, RunFault>,
+    bytes: &[u8],
+) -> bool {
+    let (ended, written) = ran(alloc, command, reader, writer);
+    ended == end && written.as_slice() == bytes
+}
+
 const INPUT: &str = "\nkey1 = Value 1\n\ng@Rb@ge = #2y ds\n\nkey2 = Value 2\n\n";
 
 const OUTPUT: &str = "key1 = Value 1\nkey2 = Value 2\n";
 
-#[test]
-fn a_failing_read_writes_nothing(rt: HostRuntime) {
-    for reads in 0..INPUT.len() + 1 {
-        let reader = Drip {
-            bytes: INPUT.as_bytes(),
-            reads,
-        };
-        let (ended, written) = ran(
-            rt.alloc(),
-            Command::Format,
-            reader,
-            Narrow::wide(rt.alloc()),
-        );
-        assert_eq!(rt; ended, Err(RunFault::Input), "after {reads} reads");
-        assert_eq!(rt; written.len(), 0);
-    }
+fn fails_after(alloc: Global, reads: usize) -> Result<(), Fail> {
+    let reader = Drip {
+        bytes: INPUT.as_bytes(),
+        reads,
+    };
+    let writer = Narrow::wide(alloc);
+    let end = Err(RunFault::Input);
+    let is_so = ends_so(alloc, Command::Format, reader, writer, end, &[]);
+    holds(alloc, "a failing read", is_so)
 }
 
-/// How formatting the input ends over a writer that takes so many bytes a call, and so many in all.
-fn formatted(
+#[test]
+fn a_failing_read_writes_nothing(rt: HostRuntime) -> Result<(), Fail> {
+    for reads in 0..INPUT.len() + 1 {
+        fails_after(rt.alloc(), reads)?;
+    }
+    Ok(())
+}
+
+/// Fails where formatting the input ends otherwise, or has written other bytes.
+fn is_formatted(
     alloc: Global,
-    step: usize,
-    room: usize,
-    fails: bool,
-) -> (Result<Outcome, RunFault>, Vec<u8>) {
+    writer: Narrow,
+    end: Result<Outcome, RunFault>,
+    bytes: &[u8],
+) -> Result<(), Fail> {
+    let reader = Drip::whole(INPUT.as_bytes());
+    let is_so = ends_so(alloc, Command::Format, reader, writer, end, bytes);
+    holds(alloc, "a writer", is_so)
+}
+
+/// Formats the input onto a writer that takes so many bytes a call, and so many in all.
+fn leaves_a_beginning(alloc: Global, step: usize, room: usize, fails: bool) -> Result<(), Fail> {
     let writer = Narrow {
         taken: Vec::new(alloc),
         step,
         room,
         fails,
     };
-    ran(
-        alloc,
-        Command::Format,
-        Drip::whole(INPUT.as_bytes()),
-        writer,
-    )
+    let room = room.min(OUTPUT.len());
+    let beginning = &OUTPUT.as_bytes()[..room];
+    is_formatted(alloc, writer, Err(RunFault::Output), beginning)
 }
 
 #[test]
-fn a_failing_write_leaves_a_beginning(rt: HostRuntime) {
+fn a_failing_write_leaves_a_beginning(rt: HostRuntime) -> Result<(), Fail> {
     for room in 0..OUTPUT.len() {
-        for step in [1, usize::MAX] {
-            for fails in [false, true] {
-                let (ended, written) = formatted(rt.alloc(), step, room, fails);
-                assert_eq!(rt; ended, Err(RunFault::Output), "after {room} bytes");
-                assert_eq!(rt; written.as_slice(), &OUTPUT.as_bytes()[..room]);
-            }
-        }
+        leaves_a_beginning(rt.alloc(), 1, room, false)?;
+        leaves_a_beginning(rt.alloc(), 1, room, true)?;
+        leaves_a_beginning(rt.alloc(), usize::MAX, room, false)?;
+        leaves_a_beginning(rt.alloc(), usize::MAX, room, true)?;
     }
+    Ok(())
 }
 
 #[test]
-fn a_writer_of_one_byte_a_call_gets_all(rt: HostRuntime) {
-    let (ended, written) = formatted(rt.alloc(), 1, usize::MAX, true);
-    assert_eq!(rt; ended, Ok(Outcome::SyntaxErrors));
-    assert_eq!(rt; written.as_slice(), OUTPUT.as_bytes());
+fn a_writer_of_one_byte_a_call_gets_all(rt: HostRuntime) -> Result<(), Fail> {
+    let writer = Narrow {
+        taken: Vec::new(rt.alloc()),
+        step: 1,
+        room: usize::MAX,
+        fails: true,
+    };
+    let end = Ok(Outcome::SyntaxErrors);
+    is_formatted(rt.alloc(), writer, end, OUTPUT.as_bytes())
 }
 
 #[test]
-fn a_writer_that_fails_after_three_bytes(rt: HostRuntime) {
+fn a_writer_that_fails_after_three_bytes(rt: HostRuntime) -> Result<(), Fail> {
     let writer = Narrow {
         taken: Vec::new(rt.alloc()),
         step: usize::MAX,
@@ -170,18 +193,21 @@ fn a_writer_that_fails_after_three_bytes(rt: HostRuntime) {
         fails: true,
     };
     let reader = Drip::whole(b"\n\nhello-world = Hello World!\n\n");
-    let (ended, written) = ran(rt.alloc(), Command::Format, reader, writer);
-    assert_eq!(rt; ended, Err(RunFault::Output));
-    assert_eq!(rt; written.as_slice(), b"hel".as_slice());
+    let end = Err(RunFault::Output);
+    let is_so = ends_so(rt.alloc(), Command::Format, reader, writer, end, b"hel");
+    holds(rt.alloc(), "three bytes", is_so)
+}
+
+/// Whether bytes that are no text are told as such, with nothing written and without a failure of the reader or writer.
+fn is_no_text(alloc: Global, bytes: &[u8]) -> bool {
+    let mut reader = Watched::new(Drip::whole(bytes));
+    let mut writer = Watched::new(Narrow::wide(alloc));
+    let ended = run(alloc, Command::Format, &mut reader, &mut writer);
+    let has_failed = reader.failed() || writer.failed();
+    ended == Err(RunFault::Input) && !has_failed && writer.into_inner().taken.is_empty()
 }
 
 #[test]
-fn bytes_that_are_no_text(rt: HostRuntime) {
-    let mut reader = Watched::new(Drip::whole(&[255]));
-    let mut writer = Watched::new(Narrow::wide(rt.alloc()));
-    let ended = run(rt.alloc(), Command::Format, &mut reader, &mut writer);
-    assert_eq!(rt; ended, Err(RunFault::Input));
-    assert_eq!(rt; reader.failed(), false);
-    assert_eq!(rt; writer.failed(), false);
-    assert_eq!(rt; writer.into_inner().taken.len(), 0);
+fn bytes_that_are_no_text(rt: HostRuntime) -> Result<(), Fail> {
+    holds(rt.alloc(), "one byte", is_no_text(rt.alloc(), &[255]))
 }

@@ -1,5 +1,7 @@
 //! Texts, what is read of them, and their errors.
 
+use crate::alike::same_text;
+use crate::entries::Row;
 use fluent_syntax_parser::entries::Entries;
 use fluent_syntax_parser::fault::ParseFault;
 use fluent_syntax_parser::options::{Comments, Options};
@@ -10,13 +12,13 @@ use fluent_syntax_tree::ast::{Comment, Entry, Resource};
 use fluent_syntax_tree::edition::Edition;
 use fluent_syntax_tree::errors::ParserError;
 use fluent_syntax_tree::spans::Span;
-use std::alloc::AllocError;
+use std::alloc::{AllocError, Global};
 use std::fmt::Write;
 use std::test::Fail;
 
 /// What it shows, the text, and the outline of the answer: a letter an entry, with the lines of its comment, and a line
 /// an error.
-const ROWS: [(&str, &str, &str); 16] = [
+const ROWS: [Row; 16] = [
     ("nothing", "", ""),
     ("blank lines", "  \n\r\n", ""),
     (
@@ -138,42 +140,87 @@ fn show(
     }
 }
 
+/// Fails where the answer is not shown as expected.
+fn is_shown(
+    alloc: Global,
+    shows: &str,
+    answer: &Result<Resource<Span>, ParseFault<Span>>,
+    expected: &str,
+) -> Result<(), Fail> {
+    let mut got = String::new(alloc);
+    show(&mut got, answer)?;
+    same_text(alloc, shows, got.as_str(), expected)
+}
+
+fn is_read(alloc: Global, row: &Row) -> Result<(), Fail> {
+    let (shows, text, expected) = row;
+    is_shown(alloc, *shows, &parse_spans(alloc, *text), *expected)
+}
+
 #[test]
 fn whole_texts(rt: HostRuntime) -> Result<(), Fail> {
-    for (shows, text, expected) in &ROWS {
-        let mut got = String::new(rt.alloc());
-        show(&mut got, &parse_spans(rt.alloc(), *text))?;
-        assert_eq!(rt; got.as_str(), *expected, "{shows}");
+    for row in &ROWS {
+        is_read(rt.alloc(), row)?;
     }
     Ok(())
 }
 
 #[test]
 fn without_comments(rt: HostRuntime) -> Result<(), Fail> {
-    let text = "#x\n# a\nb = c\n#";
-    let mut got = String::new(rt.alloc());
-    show(&mut got, &parse_runtime_spans(rt.alloc(), text))?;
-    assert_eq!(rt; got.as_str(), "m");
-    Ok(())
+    let answer = parse_runtime_spans(rt.alloc(), "#x\n# a\nb = c\n#");
+    is_shown(rt.alloc(), "comments", &answer, "m")
+}
+
+/// A select whose only default is a lone star.
+const LONE_STAR: &str = "a = {$b ->\n   [one] c\n   *}\n";
+
+fn lone_star_is_none(alloc: Global) -> Result<(), Fail> {
+    let answer = parse_spans_edition(alloc, LONE_STAR, Edition::Two);
+    let missing = "j\n26..27 The select expression must have a default variant";
+    is_shown(alloc, "edition two", &answer, missing)
+}
+
+fn lone_star_is_default(alloc: Global) -> Result<(), Fail> {
+    let answer = parse_runtime_spans_edition(alloc, LONE_STAR, Edition::One);
+    is_shown(alloc, "edition one", &answer, "m")
 }
 
 #[test]
 fn edition_two(rt: HostRuntime) -> Result<(), Fail> {
-    let text = "a = {$b ->\n   [one] c\n   *}\n";
-    let missing = "j\n26..27 The select expression must have a default variant";
-    let mut got = String::new(rt.alloc());
-    show(
-        &mut got,
-        &parse_spans_edition(rt.alloc(), text, Edition::Two),
-    )?;
-    assert_eq!(rt; got.as_str(), missing);
-    let mut runtime = String::new(rt.alloc());
-    show(
-        &mut runtime,
-        &parse_runtime_spans_edition(rt.alloc(), text, Edition::One),
-    )?;
-    assert_eq!(rt; runtime.as_str(), "m");
-    Ok(())
+    lone_star_is_none(rt.alloc())?;
+    lone_star_is_default(rt.alloc())
+}
+
+fn show_read(
+    out: &mut String,
+    entry: &Entry<Span>,
+    error: &Option<ParserError>,
+) -> Result<(), AllocError> {
+    show_entry(out, entry)?;
+    match error {
+        Some(error) => show_error(out, error),
+        None => Ok(()),
+    }
+}
+
+fn show_next(
+    alloc: Global,
+    out: &mut String,
+    entries: &mut Entries<'_>,
+) -> Result<(), AllocError> {
+    match entries.next_entry(alloc) {
+        Ok(Some((entry, error))) => show_read(out, &entry, &error),
+        Ok(None) => out.push_str("."),
+        Err(_) => out.push_str("!"),
+    }
+}
+
+fn are_shown(alloc: Global, mut entries: Entries<'_>, expected: &str) -> Result<(), Fail> {
+    let mut got = String::new(alloc);
+    for _ in 0..3 {
+        show_next(alloc, &mut got, &mut entries)?;
+    }
+    same_text(alloc, "three calls", got.as_str(), expected)
 }
 
 #[test]
@@ -183,21 +230,7 @@ fn one_by_one(rt: HostRuntime) -> Result<(), Fail> {
         comments: Comments::Kept,
         nesting: 2,
     };
-    let mut entries = Entries::new("# a\nb = {{c}}\nd\n", options);
-    let mut got = String::new(rt.alloc());
-    for _ in 0..3 {
-        match entries.next_entry(rt.alloc()) {
-            Ok(Some((entry, error))) => {
-                show_entry(&mut got, &entry)?;
-                if let Some(error) = error {
-                    show_error(&mut got, &error)?;
-                }
-            }
-            Ok(None) => got.push_str(".")?,
-            Err(_) => got.push_str("!")?,
-        }
-    }
+    let entries = Entries::new("# a\nb = {{c}}\nd\n", options);
     let expected = "m1j\n15..16 Expected a token starting with \"=\".";
-    assert_eq!(rt; got.as_str(), expected);
-    Ok(())
+    are_shown(rt.alloc(), entries, expected)
 }

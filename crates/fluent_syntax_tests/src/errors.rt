@@ -1,11 +1,9 @@
 //! Broken texts, and the errors at their places.
 
-use crate::outline::outline;
-use fluent_syntax::parser::parse;
+use crate::entries::{Row, is_read};
 use std::test::Fail;
 
-/// What it shows, the text, and the outline of the answer.
-const ROWS: [(&str, &str, &str); 47] = [
+const ROWS: [Row; 47] = [
     (
         "spaces alone",
         "  ",
@@ -245,10 +243,8 @@ const ROWS: [(&str, &str, &str); 47] = [
 
 #[test]
 fn errors(rt: HostRuntime) -> Result<(), Fail> {
-    for (shows, text, expected) in &ROWS {
-        let mut got = String::new(rt.alloc());
-        outline(&mut got, &parse(rt.alloc(), *text))?;
-        assert_eq!(rt; got.as_str(), *expected, "{shows}");
+    for row in &ROWS {
+        is_read(rt.alloc(), row)?;
     }
     Ok(())
 }

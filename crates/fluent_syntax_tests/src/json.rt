@@ -1,14 +1,17 @@
 //! Values, the trees that they spell, and the JSON forms of trees.
 
+use crate::alike::holds;
+use crate::made::tree_of;
 use fluent_syntax::ast::Resource;
-use fluent_syntax::parser::{ParseFault, parse};
 use fluent_syntax_json::{ValueFault, form_reads, from_value, to_value};
 use serde_json::Value;
-use std::alloc::{AllocError, Global};
+use std::alloc::Global;
 use std::test::Fail;
 
 /// A text, and the JSON form of its tree.
-pub const FORMS: [(&str, &str, &str); 11] = [
+pub type Row = (&'static str, &'static str, &'static str);
+
+pub const FORMS: [Row; 11] = [
     ("no entry", "", "{\"body\":[]}"),
     (
         "a variable",
@@ -63,7 +66,7 @@ pub const FORMS: [(&str, &str, &str); 11] = [
 ];
 
 /// A value that is no form, and the form of the tree that it spells.
-const SPELLED: [(&str, &str, &str); 7] = [
+const SPELLED: [Row; 7] = [
     ("an unknown key", "{\"body\":[],\"x\":1}", "{\"body\":[]}"),
     (
         "absent keys",
@@ -98,7 +101,9 @@ const SPELLED: [(&str, &str, &str); 7] = [
 ];
 
 /// Values that spell no tree.
-const REFUSED: [(&str, &str); 12] = [
+type Refused = (&'static str, &'static str);
+
+const REFUSED: [Refused; 12] = [
     (
         "a number for a text",
         "{\"body\":[{\"type\":\"Junk\",\"content\":5}]}",
@@ -139,69 +144,100 @@ const REFUSED: [(&str, &str); 12] = [
 
 /// The tree of a text, whether it has errors or not.
 pub(crate) fn tree(alloc: Global, text: &str) -> Result<Resource<String>, Fail> {
-    match parse(alloc, String::from_str(alloc, text)?) {
-        Ok(tree) => Ok(tree),
-        Err(ParseFault::Syntax(tree, _)) => Ok(tree),
-        Err(ParseFault::Memory) => Err(Fail::from(AllocError)),
+    Ok(tree_of(alloc, String::from_str(alloc, text)?)?)
+}
+
+/// Whether the tree has the form.
+fn has_form(alloc: Global, tree: &Resource<String>, form: &str) -> Result<bool, Fail> {
+    let value = to_value(alloc, tree)?;
+    Ok(value == Value::from_str(alloc, form)?)
+}
+
+/// Whether the tree is what its own form is read as.
+fn is_read_back(alloc: Global, tree: &Resource<String>) -> Result<bool, Fail> {
+    let value = to_value(alloc, tree)?;
+    match from_value(alloc, &value) {
+        Ok(back) => Ok(back == *tree),
+        Err(_) => Ok(false),
     }
+}
+
+fn goes_there_and_back(alloc: Global, row: &Row) -> Result<(), Fail> {
+    let (what, text, form) = row;
+    let tree = tree(alloc, *text)?;
+    let is_so = has_form(alloc, &tree, *form)? && is_read_back(alloc, &tree)?;
+    holds(alloc, *what, is_so)
 }
 
 #[test]
 fn forms_there_and_back(rt: HostRuntime) -> Result<(), Fail> {
-    let alloc = rt.alloc();
-    for (what, text, form) in FORMS {
-        let tree = tree(alloc, text)?;
-        let value = to_value(alloc, &tree)?;
-        assert!(rt; value == Value::from_str(alloc, form)?, "{what}");
-        assert!(rt; from_value(alloc, &value) == Ok(tree), "{what}");
+    for row in &FORMS {
+        goes_there_and_back(rt.alloc(), row)?;
     }
     Ok(())
+}
+
+/// What the text of a value spells.
+fn read(alloc: Global, text: &str) -> Result<Result<Resource<String>, ValueFault>, Fail> {
+    let value = Value::from_str(alloc, text)?;
+    Ok(from_value(alloc, &value))
+}
+
+fn is_spelled(alloc: Global, row: &Row) -> Result<(), Fail> {
+    let (what, value, form) = row;
+    let Ok(tree) = read(alloc, *value)? else {
+        return holds(alloc, *what, false);
+    };
+    form_reads(&tree);
+    holds(alloc, *what, has_form(alloc, &tree, *form)?)
 }
 
 #[test]
 fn values_that_are_no_forms(rt: HostRuntime) -> Result<(), Fail> {
-    let alloc = rt.alloc();
-    for (what, value, form) in SPELLED {
-        let read = from_value(alloc, &Value::from_str(alloc, value)?);
-        let Ok(tree) = read else {
-            panic!(rt; "{what} is refused");
-        };
-        form_reads(&tree);
-        assert!(rt;
-            to_value(alloc, &tree)? == Value::from_str(alloc, form)?,
-            "{what}"
-        );
+    for row in &SPELLED {
+        is_spelled(rt.alloc(), row)?;
     }
     Ok(())
 }
 
+fn spells_nothing(alloc: Global, row: &Refused) -> Result<(), Fail> {
+    let (what, value) = row;
+    let read = read(alloc, *value)?;
+    holds(alloc, *what, read == Err(ValueFault::Shape))
+}
+
 #[test]
 fn values_that_spell_nothing(rt: HostRuntime) -> Result<(), Fail> {
-    let alloc = rt.alloc();
-    for (what, value) in REFUSED {
-        let read = from_value(alloc, &Value::from_str(alloc, value)?);
-        assert!(rt; read == Err(ValueFault::Shape), "{what}");
+    for row in &REFUSED {
+        spells_nothing(rt.alloc(), row)?;
     }
     Ok(())
+}
+
+/// A message of so many placeables in one another.
+fn deep_text(alloc: Global, depth: usize) -> Result<String, Fail> {
+    let mut text = String::from_str(alloc, "key = ")?;
+    for _ in 0..depth {
+        text.push_str("{ ")?;
+    }
+    text.push_str("$x")?;
+    for _ in 0..depth {
+        text.push_str(" }")?;
+    }
+    Ok(text)
+}
+
+/// Whether the form's text has more than so many bytes, and is refused by `serde_json`.
+fn is_refused(alloc: Global, tree: &Resource<String>, bytes: usize) -> Result<bool, Fail> {
+    let written = to_value(alloc, tree)?.to_string(alloc)?;
+    Ok(written.len() > bytes && Value::from_str(alloc, written.as_str()).is_err())
 }
 
 /// Nested deeper than `serde_json` reads.
 #[test]
 fn a_deep_value(rt: HostRuntime) -> Result<(), Fail> {
     let alloc = rt.alloc();
-    let mut text = String::from_str(alloc, "key = ")?;
-    for _ in 0..200 {
-        text.push_str("{ ")?;
-    }
-    text.push_str("$x")?;
-    for _ in 0..200 {
-        text.push_str(" }")?;
-    }
-    let tree = tree(alloc, text.as_str())?;
-    let value = to_value(alloc, &tree)?;
-    let written = value.to_string(alloc)?;
-    assert!(rt; written.len() > 200 * 20);
-    assert!(rt; Value::from_str(alloc, written.as_str()).is_err());
-    assert!(rt; from_value(alloc, &value) == Ok(tree));
-    Ok(())
+    let tree = tree(alloc, deep_text(alloc, 200)?.as_str())?;
+    let is_so = is_refused(alloc, &tree, 200 * 20)? && is_read_back(alloc, &tree)?;
+    holds(alloc, "a deep value", is_so)
 }

@@ -1,15 +1,19 @@
 //! JSON text that is written without a value.
 
-use crate::json::{FORMS, tree};
+use crate::alike::same_text;
+use crate::json::{FORMS, Row, tree};
+use crate::made::{Made, tree_of};
 use fluent_syntax::ast::{Entry, Resource};
-use fluent_syntax::parser::{ParseFault, Slice, parse};
+use fluent_syntax::parser::Slice;
 use fluent_syntax_json::{to_value, write_to};
 use serde_json::Value;
 use std::alloc::{AllocError, Global};
 use std::test::Fail;
 
 /// A text, and what stands for it in JSON.
-const QUOTED: [(&str, &str); 9] = [
+type Quoted = (&'static str, &'static str);
+
+const QUOTED: [Quoted; 9] = [
     ("", "\"\""),
     ("a b", "\"a b\""),
     ("\"", "\"\\\"\""),
@@ -22,78 +26,109 @@ const QUOTED: [(&str, &str); 9] = [
 ];
 
 /// The JSON text of a tree.
-fn json_text<'s, S: Slice<'s>>(alloc: Global, tree: &Resource<S>) -> Result<String, Fail> {
+pub(crate) fn json_text<'s, S: Slice<'s>>(alloc: Global, tree: &Resource<S>) -> Made<String> {
     let mut text = String::new(alloc);
     match write_to(&mut text, tree) {
         Ok(()) => Ok(text),
-        Err(_) => Err(Fail::from(AllocError)),
+        Err(_) => Err(AllocError),
     }
 }
 
-/// The tree of a text that is lent, whether it has errors or not.
-fn lent_tree(alloc: Global, text: &'static str) -> Result<Resource<&'static str>, Fail> {
-    match parse(alloc, text) {
-        Ok(tree) => Ok(tree),
-        Err(ParseFault::Syntax(tree, _)) => Ok(tree),
-        Err(ParseFault::Memory) => Err(Fail::from(AllocError)),
+/// Fails where the JSON text of the tree is another.
+fn is_written<'s, S: Slice<'s>>(
+    alloc: Global,
+    shows: &str,
+    tree: &Resource<S>,
+    expected: &str,
+) -> Result<(), Fail> {
+    same_text(alloc, shows, json_text(alloc, tree)?.as_str(), expected)
+}
+
+/// The text that `serde_json` writes of the tree's form.
+fn form_text(alloc: Global, tree: &Resource<String>) -> Result<String, Fail> {
+    Ok(to_value(alloc, tree)?.to_string(alloc)?)
+}
+
+/// Fails where the JSON text of the tree is not what `serde_json` writes of its form.
+fn is_text_of_form(alloc: Global, shows: &str, tree: &Resource<String>) -> Result<(), Fail> {
+    is_written(alloc, shows, tree, form_text(alloc, tree)?.as_str())
+}
+
+/// The value's text, as `serde_json` writes it.
+fn sorted(alloc: Global, form: &str) -> Result<String, Fail> {
+    Ok(Value::from_str(alloc, form)?.to_string(alloc)?)
+}
+
+fn is_text(alloc: Global, row: &Row) -> Result<(), Fail> {
+    let (what, text, form) = row;
+    let expected = sorted(alloc, *form)?;
+    is_written(alloc, *what, &tree_of(alloc, *text)?, expected.as_str())?;
+    is_written(alloc, *what, &tree(alloc, *text)?, expected.as_str())
+}
+
+fn is_form(alloc: Global, row: &Row) -> Result<(), Fail> {
+    let (what, text, _) = row;
+    is_text_of_form(alloc, *what, &tree(alloc, *text)?)
+}
+
+#[test]
+fn texts_of_forms(rt: HostRuntime) -> Result<(), Fail> {
+    for row in &FORMS {
+        is_text(rt.alloc(), row)?;
+        is_form(rt.alloc(), row)?;
     }
+    Ok(())
 }
 
 /// A tree that has nothing but the text.
-fn junk<'s, S: Slice<'s>>(alloc: Global, content: S) -> Result<Resource<S>, Fail> {
+fn junk<'s, S: Slice<'s>>(alloc: Global, content: S) -> Made<Resource<S>> {
     let mut body = Vec::new(alloc);
     body.push(Entry::Junk { content })?;
     Ok(Resource { body })
 }
 
-#[test]
-fn texts_of_forms(rt: HostRuntime) -> Result<(), Fail> {
-    let alloc = rt.alloc();
-    for (what, text, form) in FORMS {
-        let sorted = Value::from_str(alloc, form)?.to_string(alloc)?;
-        let borrowed = json_text(alloc, &lent_tree(alloc, text)?)?;
-        assert_eq!(rt; borrowed.as_str(), sorted.as_str(), "{what}");
-        let owned = tree(alloc, text)?;
-        assert_eq!(rt;
-            json_text(alloc, &owned)?,
-            to_value(alloc, &owned)?.to_string(alloc)?,
-            "{what}"
-        );
-        assert_eq!(rt; json_text(alloc, &owned)?, borrowed, "{what}");
-    }
-    Ok(())
+/// The JSON text of a tree that has nothing but the text of these quotes.
+fn junk_text(alloc: Global, quoted: &str) -> Made<String> {
+    format!(in alloc; "{{\"body\":[{{\"content\":{quoted},\"type\":\"Junk\"}}]}}")
+}
+
+fn is_quoted(alloc: Global, row: &Quoted) -> Result<(), Fail> {
+    let (text, quoted) = row;
+    let expected = junk_text(alloc, *quoted)?;
+    is_written(alloc, *text, &junk(alloc, *text)?, expected.as_str())?;
+    let owned = junk(alloc, String::from_str(alloc, *text)?)?;
+    is_written(alloc, *text, &owned, expected.as_str())
 }
 
 #[test]
 fn quoted_texts(rt: HostRuntime) -> Result<(), Fail> {
-    let alloc = rt.alloc();
-    for (text, quoted) in QUOTED {
-        let whole = format!(in alloc; "{{\"body\":[{{\"content\":{quoted},\"type\":\"Junk\"}}]}}")?;
-        let borrowed = junk(alloc, text)?;
-        assert_eq!(rt; json_text(alloc, &borrowed)?, whole);
-        let owned = junk(alloc, String::from_str(alloc, text)?)?;
-        assert_eq!(rt; json_text(alloc, &owned)?, whole);
+    for row in &QUOTED {
+        is_quoted(rt.alloc(), row)?;
     }
     Ok(())
+}
+
+/// Fails where the text is not written as `serde_json` writes it.
+fn is_as_of_form(alloc: Global, text: &str) -> Result<(), Fail> {
+    let owned = junk(alloc, String::from_str(alloc, text)?)?;
+    is_text_of_form(alloc, text, &owned)
+}
+
+/// Appends the character, and fails where it, alone or after those before it, is not written as `serde_json` writes it.
+fn goes_on(alloc: Global, all: &mut String, character: char) -> Result<(), Fail> {
+    let mut one = String::new(alloc);
+    one.push(character)?;
+    all.push(character)?;
+    is_as_of_form(alloc, one.as_str())?;
+    is_as_of_form(alloc, all.as_str())
 }
 
 /// Each character of ASCII, alone and after those before it.
 #[test]
 fn characters_as_serde_json_writes_them(rt: HostRuntime) -> Result<(), Fail> {
-    let alloc = rt.alloc();
-    let mut all = String::new(alloc);
+    let mut all = String::new(rt.alloc());
     for byte in 0..128u8 {
-        let mut one = String::new(alloc);
-        one.push(char::from(byte))?;
-        all.push(char::from(byte))?;
-        for text in [one, all.clone()?] {
-            let tree = junk(alloc, text)?;
-            assert_eq!(rt;
-                json_text(alloc, &tree)?,
-                to_value(alloc, &tree)?.to_string(alloc)?,
-                "{byte}"
-            );
-        }
+        goes_on(rt.alloc(), &mut all, char::from(byte))?;
     }
     Ok(())
 }

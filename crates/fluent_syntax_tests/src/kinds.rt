@@ -1,11 +1,14 @@
 //! The kinds of errors: their names, and the texts that are shown of them.
 
+use crate::alike::same_text;
 use fluent_syntax::parser::{ErrorKind, ParserError};
 use std::alloc::Global;
 use std::test::Fail;
 
 /// The name of each kind, and the text of that with the payload `k`.
-pub const KINDS: [(&str, &str); 21] = [
+pub type Kind = (&'static str, &'static str);
+
+pub const KINDS: [Kind; 21] = [
     ("ExpectedToken", "Expected a token starting with \"k\""),
     ("ExpectedCharRange", "Expected one of \"k\""),
     ("ExpectedMessageField", "Expected a message field for \"k\""),
@@ -88,20 +91,35 @@ pub(crate) fn kind(alloc: Global, name: &str) -> Result<ErrorKind, Fail> {
     })
 }
 
+fn has_name(alloc: Global, row: &Kind) -> Result<(), Fail> {
+    let (name, _) = row;
+    same_text(alloc, *name, kind(alloc, *name)?.name(), *name)
+}
+
+fn kind_is_shown(alloc: Global, row: &Kind) -> Result<(), Fail> {
+    let (name, shown) = row;
+    let kind = kind(alloc, *name)?;
+    let text = format!(in alloc; "{kind}")?;
+    same_text(alloc, *name, text.as_str(), *shown)
+}
+
+fn error_is_shown(alloc: Global, row: &Kind) -> Result<(), Fail> {
+    let (name, shown) = row;
+    let error = ParserError {
+        pos: 0..1,
+        slice: None,
+        kind: kind(alloc, *name)?,
+    };
+    let text = format!(in alloc; "{error}")?;
+    same_text(alloc, *name, text.as_str(), *shown)
+}
+
 #[test]
 fn names_and_shown_texts(rt: HostRuntime) -> Result<(), Fail> {
-    for (name, shown) in KINDS {
-        let kind = kind(rt.alloc(), name)?;
-        assert_eq!(rt; kind.name(), name);
-        let text = format!(in rt.alloc(); "{kind}")?;
-        assert_eq!(rt; text.as_str(), shown);
-        let error = ParserError {
-            pos: 0..1,
-            slice: None,
-            kind,
-        };
-        let text = format!(in rt.alloc(); "{error}")?;
-        assert_eq!(rt; text.as_str(), shown);
+    for row in &KINDS {
+        has_name(rt.alloc(), row)?;
+        kind_is_shown(rt.alloc(), row)?;
+        error_is_shown(rt.alloc(), row)?;
     }
     Ok(())
 }

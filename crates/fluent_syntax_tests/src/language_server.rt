@@ -1,15 +1,20 @@
 //! The language server: places, frames, tables of methods and endings, and whole sessions.
 
+use crate::alike::{holds, same, same_text};
 use crate::ends::{Drip, Narrow};
 use fluent_syntax_lsp::{
-    BODY_LIMIT, Ending, ErrorCode, FrameFault, Framing, Method, Phase, Place, Places,
+    BODY_LIMIT, Diagnostic, Ending, ErrorCode, FrameFault, Framing, Method, Phase, Place, Places,
     diagnostics_in, first_frame, formatted, serve,
 };
 use ftl::Watched;
+use std::alloc::Global;
+use std::io::Read;
 use std::test::Fail;
 
 /// A text, a byte of it, and the byte's line and column.
-const PLACES: [(&str, usize, usize, usize); 23] = [
+type PlaceRow = (&'static str, usize, usize, usize);
+
+const PLACES: [PlaceRow; 23] = [
     ("", 0, 0, 0),
     ("ab", 0, 0, 0),
     ("ab", 2, 0, 2),
@@ -38,53 +43,49 @@ const PLACES: [(&str, usize, usize, usize); 23] = [
     ("日b", 1, 0, 1),
 ];
 
-#[test]
-fn places_by_line_and_unit(rt: HostRuntime) {
-    for (text, byte, line, character) in PLACES {
-        let mut places = Places::new(text);
-        assert_eq!(rt;
-            places.place_or_end(byte),
-            Place { line, character },
-            "{text:?} at {byte}"
-        );
-    }
+fn is_placed(alloc: Global, row: &PlaceRow) -> Result<(), Fail> {
+    let (text, byte, line, character) = row;
+    let place = Places::new(*text).place_or_end(*byte);
+    let expected = Place {
+        line: *line,
+        character: *character,
+    };
+    same(alloc, *text, &place, &expected)
 }
 
 #[test]
-fn places_in_any_order(rt: HostRuntime) {
+fn places_by_line_and_unit(rt: HostRuntime) -> Result<(), Fail> {
+    for row in &PLACES {
+        is_placed(rt.alloc(), row)?;
+    }
+    Ok(())
+}
+
+/// Bytes of a text in any order, with their lines and columns.
+const ANY_ORDER: [(usize, usize, usize); 4] = [(7, 1, 3), (1, 0, 1), (8, 2, 0), (100, 2, 1)];
+
+#[test]
+fn places_in_any_order(rt: HostRuntime) -> Result<(), Fail> {
     let mut places = Places::new("a\n😀b\nc");
-    assert_eq!(rt;
-        places.place_or_end(7),
-        Place {
-            line: 1,
-            character: 3
-        }
-    );
-    assert_eq!(rt;
-        places.place_or_end(1),
-        Place {
-            line: 0,
-            character: 1
-        }
-    );
-    assert_eq!(rt;
-        places.place_or_end(8),
-        Place {
-            line: 2,
-            character: 0
-        }
-    );
-    assert_eq!(rt;
-        places.place_or_end(100),
-        Place {
-            line: 2,
-            character: 1
-        }
-    );
+    for (byte, line, character) in &ANY_ORDER {
+        let expected = Place {
+            line: *line,
+            character: *character,
+        };
+        same(
+            rt.alloc(),
+            "a place",
+            &places.place_or_end(*byte),
+            &expected,
+        )?;
+    }
+    Ok(())
 }
 
 /// Bytes, and what they begin with.
-const FRAMES: [(&str, Framing); 20] = [
+type Frame = (&'static str, Framing);
+
+const FRAMES: [Frame; 20] = [
     (
         "Content-Length: 2\r\n\r\n{}",
         Framing::Frame { start: 21, end: 23 },
@@ -149,28 +150,36 @@ const FRAMES: [(&str, Framing); 20] = [
     ),
 ];
 
+fn is_framed(alloc: Global, row: &Frame) -> Result<(), Fail> {
+    let (bytes, found) = row;
+    same(alloc, *bytes, &first_frame(bytes.as_bytes()), found)
+}
+
 #[test]
-fn frames_at_the_front(rt: HostRuntime) {
-    for (bytes, found) in FRAMES {
-        assert_eq!(rt; first_frame(bytes.as_bytes()), found, "{bytes:?}");
+fn frames_at_the_front(rt: HostRuntime) -> Result<(), Fail> {
+    for row in &FRAMES {
+        is_framed(rt.alloc(), row)?;
     }
+    Ok(())
+}
+
+/// Fails where so many bytes without the end of a header are found to be something else.
+fn is_found(alloc: Global, size: usize, found: Framing) -> Result<(), Fail> {
+    let bytes = vec![in alloc; b'x'; size]?;
+    same(alloc, "bytes", &first_frame(bytes.as_slice()), &found)
 }
 
 #[test]
 fn a_header_without_end(rt: HostRuntime) -> Result<(), Fail> {
-    let short = vec![in rt.alloc(); b'x'; 4095]?;
-    let long = vec![in rt.alloc(); b'x'; 4096]?;
-    assert_eq!(rt; first_frame(short.as_slice()), Framing::Partial);
-    assert_eq!(rt;
-        first_frame(long.as_slice()),
-        Framing::Refused(FrameFault::LongHeader)
-    );
-    assert_eq!(rt; BODY_LIMIT, 64 * 1024 * 1024);
-    Ok(())
+    is_found(rt.alloc(), 4095, Framing::Partial)?;
+    is_found(rt.alloc(), 4096, Framing::Refused(FrameFault::LongHeader))?;
+    holds(rt.alloc(), "the limit", BODY_LIMIT == 64 * 1024 * 1024)
 }
 
 /// Each ending, with its status and the line for standard error.
-const ENDINGS: [(Ending, u8, &str); 10] = [
+type EndingRow = (Ending, u8, &'static str);
+
+const ENDINGS: [EndingRow; 10] = [
     (Ending::Exited, 0, ""),
     (Ending::Left, 1, ""),
     (Ending::Input, 3, "ftl_lsp: input failed"),
@@ -195,16 +204,24 @@ const ENDINGS: [(Ending, u8, &str); 10] = [
     ),
 ];
 
+fn is_told(alloc: Global, row: &EndingRow) -> Result<(), Fail> {
+    let (ending, status, line) = row;
+    same(alloc, *line, &ending.status(), status)?;
+    same_text(alloc, "line", ending.line(), *line)
+}
+
 #[test]
-fn endings(rt: HostRuntime) {
-    for (ending, status, line) in ENDINGS {
-        assert_eq!(rt; ending.status(), status);
-        assert_eq!(rt; ending.line(), line);
+fn endings(rt: HostRuntime) -> Result<(), Fail> {
+    for row in &ENDINGS {
+        is_told(rt.alloc(), row)?;
     }
+    Ok(())
 }
 
 /// A name, and its method.
-const METHODS: [(&str, Option<Method>); 13] = [
+type MethodRow = (&'static str, Option<Method>);
+
+const METHODS: [MethodRow; 13] = [
     ("initialize", Some(Method::Initialize)),
     ("shutdown", Some(Method::Shutdown)),
     ("textDocument/documentSymbol", Some(Method::DocumentSymbol)),
@@ -220,28 +237,47 @@ const METHODS: [(&str, Option<Method>); 13] = [
     ("", None),
 ];
 
-#[test]
-fn methods(rt: HostRuntime) {
-    for (name, method) in METHODS {
-        assert_eq!(rt; Method::from_name(name), method);
-    }
+fn is_named(alloc: Global, row: &MethodRow) -> Result<(), Fail> {
+    let (name, method) = row;
+    same(alloc, *name, &Method::from_name(*name), method)
 }
 
 #[test]
-fn error_codes(rt: HostRuntime) {
-    for (code, number) in [
-        (ErrorCode::ParseError, -32700),
-        (ErrorCode::InvalidRequest, -32600),
-        (ErrorCode::MethodNotFound, -32601),
-        (ErrorCode::InvalidParams, -32602),
-        (ErrorCode::NotInitialized, -32002),
-    ] {
-        assert_eq!(rt; code.number(), number);
+fn methods(rt: HostRuntime) -> Result<(), Fail> {
+    for row in &METHODS {
+        is_named(rt.alloc(), row)?;
     }
+    Ok(())
+}
+
+/// Each code, and its number.
+type CodeRow = (ErrorCode, i64);
+
+const CODES: [CodeRow; 5] = [
+    (ErrorCode::ParseError, -32700),
+    (ErrorCode::InvalidRequest, -32600),
+    (ErrorCode::MethodNotFound, -32601),
+    (ErrorCode::InvalidParams, -32602),
+    (ErrorCode::NotInitialized, -32002),
+];
+
+fn is_numbered(alloc: Global, row: &CodeRow) -> Result<(), Fail> {
+    let (code, number) = row;
+    same(alloc, "a code", &code.number(), number)
+}
+
+#[test]
+fn error_codes(rt: HostRuntime) -> Result<(), Fail> {
+    for row in &CODES {
+        is_numbered(rt.alloc(), row)?;
+    }
+    Ok(())
 }
 
 /// A phase, a method, why a request for it is refused, and the phases behind a request and behind a notification.
-const PHASES: [(Phase, Option<Method>, Option<ErrorCode>, Phase, Phase); 12] = [
+type PhaseRow = (Phase, Option<Method>, Option<ErrorCode>, Phase, Phase);
+
+const PHASES: [PhaseRow; 12] = [
     (
         Phase::Fresh,
         Some(Method::Initialize),
@@ -328,26 +364,49 @@ const PHASES: [(Phase, Option<Method>, Option<ErrorCode>, Phase, Phase); 12] = [
     ),
 ];
 
+fn goes_on(alloc: Global, row: &PhaseRow) -> Result<(), Fail> {
+    let (phase, method, refusal, requested, notified) = row;
+    same(alloc, "a refusal", &phase.refusal(*method), refusal)?;
+    same(alloc, "requested", &phase.after_request(*method), requested)?;
+    same(
+        alloc,
+        "notified",
+        &phase.after_notification(*method),
+        notified,
+    )
+}
+
+/// Each phase, and how a session that is in it has ended.
+type EndRow = (Phase, Option<Ending>);
+
+const ENDS: [EndRow; 5] = [
+    (Phase::Fresh, None),
+    (Phase::Running, None),
+    (Phase::ShutDown, None),
+    (Phase::Exited, Some(Ending::Exited)),
+    (Phase::Left, Some(Ending::Left)),
+];
+
+fn has_ended(alloc: Global, row: &EndRow) -> Result<(), Fail> {
+    let (phase, ending) = row;
+    same(alloc, "an ending", &phase.ending(), ending)
+}
+
 #[test]
-fn phases(rt: HostRuntime) {
-    for (phase, method, refusal, requested, notified) in PHASES {
-        assert_eq!(rt; phase.refusal(method), refusal);
-        assert_eq!(rt; phase.after_request(method), requested);
-        assert_eq!(rt; phase.after_notification(method), notified);
+fn phases(rt: HostRuntime) -> Result<(), Fail> {
+    for row in &PHASES {
+        goes_on(rt.alloc(), row)?;
     }
-    for (phase, ending) in [
-        (Phase::Fresh, None),
-        (Phase::Running, None),
-        (Phase::ShutDown, None),
-        (Phase::Exited, Some(Ending::Exited)),
-        (Phase::Left, Some(Ending::Left)),
-    ] {
-        assert_eq!(rt; phase.ending(), ending);
+    for row in &ENDS {
+        has_ended(rt.alloc(), row)?;
     }
+    Ok(())
 }
 
 /// A text with one error, the error's kind, and where it begins and ends.
-const ERRORS: [(&str, &str, (usize, usize), (usize, usize)); 4] = [
+type ErrorRow = (&'static str, &'static str, (usize, usize), (usize, usize));
+
+const ERRORS: [ErrorRow; 4] = [
     ("bro ken\n", "ExpectedToken", (0, 4), (0, 5)),
     ("ok = 1\r\nbro ken\r\n", "ExpectedToken", (1, 4), (1, 5)),
     (
@@ -360,74 +419,110 @@ const ERRORS: [(&str, &str, (usize, usize), (usize, usize)); 4] = [
     ("a", "ExpectedToken", (0, 1), (0, 1)),
 ];
 
+/// Whether the diagnostic has the code and these lines and columns.
+fn is_diagnostic(
+    found: &Diagnostic,
+    code: &str,
+    start: (usize, usize),
+    end: (usize, usize),
+) -> bool {
+    found.code == code
+        && (found.start.line, found.start.character) == start
+        && (found.end.line, found.end.character) == end
+}
+
+fn has_one(alloc: Global, row: &ErrorRow) -> Result<(), Fail> {
+    let (text, code, start, end) = row;
+    let found = diagnostics_in(alloc, *text)?;
+    let is_so = match found.as_slice() {
+        [one] => is_diagnostic(one, *code, *start, *end),
+        _ => false,
+    };
+    holds(alloc, *text, is_so)
+}
+
+fn has_so_many(alloc: Global, text: &str, count: usize) -> Result<(), Fail> {
+    let found = diagnostics_in(alloc, text)?;
+    same(alloc, text, &found.len(), &count)
+}
+
 #[test]
 fn diagnostics_of_texts(rt: HostRuntime) -> Result<(), Fail> {
-    for (text, code, start, end) in ERRORS {
-        let found = diagnostics_in(rt.alloc(), text)?;
-        assert_eq!(rt; found.len(), 1, "{text:?}");
-        assert_eq!(rt; found[0].code, code);
-        assert_eq!(rt;
-            found[0].start,
-            Place {
-                line: start.0,
-                character: start.1
-            },
-            "{text:?}"
-        );
-        assert_eq!(rt;
-            found[0].end,
-            Place {
-                line: end.0,
-                character: end.1
-            },
-            "{text:?}"
-        );
+    for row in &ERRORS {
+        has_one(rt.alloc(), row)?;
     }
-    assert_eq!(rt; diagnostics_in(rt.alloc(), "a = b\n# c\n")?.len(), 0);
-    assert_eq!(rt;
-        diagnostics_in(rt.alloc(), "bro ken\na = b\nx y\n")?.len(),
-        2
-    );
-    Ok(())
+    has_so_many(rt.alloc(), "a = b\n# c\n", 0)?;
+    has_so_many(rt.alloc(), "bro ken\na = b\nx y\n", 2)
+}
+
+/// A text, and the text that it is formatted to.
+type FormattedRow = (&'static str, Option<&'static str>);
+
+const FORMATTED: [FormattedRow; 4] = [
+    ("a=b\n", Some("a = b\n")),
+    ("a = b\n", Some("a = b\n")),
+    ("", Some("")),
+    ("a=b\nbro ken\n", None),
+];
+
+fn is_formatted(alloc: Global, row: &FormattedRow) -> Result<(), Fail> {
+    let (text, written) = row;
+    let found = formatted(alloc, *text)?;
+    let found = found.as_ref().map(|found| found.as_str());
+    same(alloc, *text, &found, written)
 }
 
 #[test]
 fn formatted_texts(rt: HostRuntime) -> Result<(), Fail> {
-    for (text, written) in [
-        ("a=b\n", Some("a = b\n")),
-        ("a = b\n", Some("a = b\n")),
-        ("", Some("")),
-        ("a=b\nbro ken\n", None),
-    ] {
-        let found = formatted(rt.alloc(), text)?;
-        assert_eq!(rt; found.as_ref().map(|found| found.as_str()), written);
+    for row in &FORMATTED {
+        is_formatted(rt.alloc(), row)?;
     }
     Ok(())
+}
+
+/// A message of so many placeables in one another.
+fn nested(alloc: Global, depth: usize) -> Result<String, Fail> {
+    let mut text = String::from_str(alloc, "a = ")?;
+    for _ in 0..depth {
+        text.push('{')?;
+    }
+    text.push('b')?;
+    for _ in 0..depth {
+        text.push('}')?;
+    }
+    Ok(text)
+}
+
+/// Whether the text nests too deeply, and is told so.
+fn is_too_deep(alloc: Global, text: &str) -> Result<bool, Fail> {
+    let found = diagnostics_in(alloc, text)?;
+    match found.as_slice() {
+        [one] => Ok(one.code == "TooDeep"),
+        _ => Ok(false),
+    }
+}
+
+fn is_flawless(alloc: Global, text: &str) -> Result<bool, Fail> {
+    let found = diagnostics_in(alloc, text)?;
+    Ok(found.is_empty())
 }
 
 #[test]
 fn a_text_that_nests_too_deeply(rt: HostRuntime) -> Result<(), Fail> {
-    for (depth, count) in [(500usize, 0), (501usize, 1)] {
-        let mut text = String::from_str(rt.alloc(), "a = ")?;
-        for _ in 0..depth {
-            text.push('{')?;
-        }
-        text.push('b')?;
-        for _ in 0..depth {
-            text.push('}')?;
-        }
-        let found = diagnostics_in(rt.alloc(), text.as_str())?;
-        assert_eq!(rt; found.len(), count);
-        assert_eq!(rt; formatted(rt.alloc(), text.as_str())?.is_some(), count == 0);
-        for diagnostic in &found {
-            assert_eq!(rt; diagnostic.code, "TooDeep");
-        }
-    }
-    Ok(())
+    let alloc = rt.alloc();
+    let shallow = nested(alloc, 500)?;
+    let is_so = is_flawless(alloc, shallow.as_str())?
+        && formatted(alloc, shallow.as_str())?.is_some();
+    holds(alloc, "500 in one another", is_so)?;
+    let deep = nested(alloc, 501)?;
+    let is_so = is_too_deep(alloc, deep.as_str())? && formatted(alloc, deep.as_str())?.is_none();
+    holds(alloc, "501 in one another", is_so)
 }
 
 /// Bodies of messages, and the bodies of those that are sent for them; then how the session ends.
-const SESSIONS: [(&[&str], &[&str], Ending); 9] = [
+type Session = (&'static [&'static str], &'static [&'static str], Ending);
+
+const SESSIONS: [Session; 9] = [
     (&[], &[], Ending::Closed),
     (&[EXIT], &[], Ending::Left),
     (
@@ -480,55 +575,66 @@ const NO_JSON: &str =
 const NO_MESSAGE: &str =
     "{\"error\":{\"code\":-32600,\"message\":\"the request has no place here\"},\"id\":null,\"jsonrpc\":\"2.0\"}";
 
+fn push_frame(alloc: Global, frames: &mut String, body: &str) -> Result<(), Fail> {
+    let header = format!(in alloc; "Content-Length: {}\r\n\r\n", body.len())?;
+    frames.push_str(header.as_str())?;
+    frames.push_str(body)?;
+    Ok(())
+}
+
 /// The frames of the bodies, behind one another.
-fn framed(rt: &impl AllocGlobal, bodies: &[&str]) -> Result<String, Fail> {
-    let mut frames = String::new(rt.alloc());
+fn framed(alloc: Global, bodies: &[&str]) -> Result<String, Fail> {
+    let mut frames = String::new(alloc);
     for body in bodies {
-        let header = format!(in rt.alloc(); "Content-Length: {}\r\n\r\n", body.len())?;
-        frames.push_str(header.as_str())?;
-        frames.push_str(*body)?;
+        push_frame(alloc, &mut frames, *body)?;
     }
     Ok(frames)
 }
 
+/// Whether a session over the reader ends so, with these bytes written.
+fn serves<R: Read + Drop>(alloc: Global, reader: R, ending: Ending, output: &[u8]) -> bool {
+    let mut writer = Vec::new(alloc);
+    let ended = serve(alloc, &mut Watched::new(reader), &mut writer);
+    ended == ending && writer.as_slice() == output
+}
+
+fn is_served(alloc: Global, row: &Session) -> Result<(), Fail> {
+    let (sent, answered, ending) = row;
+    let input = framed(alloc, *sent)?;
+    let output = framed(alloc, *answered)?;
+    let joined = serves(alloc, input.as_bytes(), *ending, output.as_bytes());
+    let drip = Drip::whole(input.as_bytes());
+    let by_byte = serves(alloc, drip, *ending, output.as_bytes());
+    holds(alloc, "a session", joined && by_byte)
+}
+
 #[test]
 fn sessions_joined_and_byte_by_byte(rt: HostRuntime) -> Result<(), Fail> {
-    for (sent, answered, ending) in SESSIONS {
-        let input = framed(&rt, sent)?;
-        let output = framed(&rt, answered)?;
-        let mut writer = Vec::new(rt.alloc());
-        let ended = serve(rt.alloc(), &mut Watched::new(input.as_bytes()), &mut writer);
-        assert_eq!(rt; ended, ending);
-        assert_eq!(rt; writer.as_slice(), output.as_bytes());
-        let mut writer = Vec::new(rt.alloc());
-        let drip = Drip::whole(input.as_bytes());
-        let ended = serve(rt.alloc(), &mut Watched::new(drip), &mut writer);
-        assert_eq!(rt; ended, ending);
-        assert_eq!(rt; writer.as_slice(), output.as_bytes());
+    for row in &SESSIONS {
+        is_served(rt.alloc(), row)?;
+    }
+    Ok(())
+}
+
+fn beginnings_are_cut(alloc: Global, input: &[u8]) -> Result<(), Fail> {
+    for size in 1..input.len() {
+        let is_so = serves(alloc, &input[..size], Ending::Cut, &[]);
+        holds(alloc, "a beginning", is_so)?;
     }
     Ok(())
 }
 
 #[test]
 fn an_input_that_ends_inside_a_frame(rt: HostRuntime) -> Result<(), Fail> {
-    let input = framed(&rt, &[SHUTDOWN])?;
-    for size in 1..input.len() {
-        let mut writer = Vec::new(rt.alloc());
-        let bytes = &input.as_bytes()[..size];
-        assert_eq!(rt;
-            serve(rt.alloc(), &mut Watched::new(bytes), &mut writer),
-            Ending::Cut
-        );
-        assert_eq!(rt; writer.len(), 0);
-    }
-    Ok(())
+    let input = framed(rt.alloc(), &[SHUTDOWN])?;
+    beginnings_are_cut(rt.alloc(), input.as_bytes())
 }
 
 #[test]
 fn a_writer_that_fails(rt: HostRuntime) -> Result<(), Fail> {
-    let input = framed(&rt, &[SHUTDOWN])?;
+    let input = framed(rt.alloc(), &[SHUTDOWN])?;
     let mut reader = Watched::new(input.as_bytes());
-    let ended = serve(rt.alloc(), &mut reader, &mut Narrow::closed(rt.alloc()));
-    assert_eq!(rt; ended, Ending::Output);
-    Ok(())
+    let mut writer = Narrow::closed(rt.alloc());
+    let ended = serve(rt.alloc(), &mut reader, &mut writer);
+    same(rt.alloc(), "a closed writer", &ended, &Ending::Output)
 }

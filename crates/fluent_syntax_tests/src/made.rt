@@ -1,7 +1,9 @@
-//! Parts of trees that are made by hand.
+//! Parts of trees that are made by hand, and trees of texts.
 
 use fluent_syntax::ast::*;
+use fluent_syntax::parser::{ParseFault, Slice, parse};
 use std::alloc::{AllocError, Global};
+use std::test::Fail;
 
 pub type Text = &'static str;
 
@@ -103,4 +105,32 @@ pub(crate) fn one(alloc: Global, entry: Entry<Text>) -> Made<Resource<Text>> {
     let mut body = Vec::new(alloc);
     body.push(entry)?;
     Ok(Resource { body })
+}
+
+/// The tree of a text, whether it has errors or not.
+pub(crate) fn tree_of<'s, S: Slice<'s>>(alloc: Global, text: S) -> Made<Resource<S>> {
+    match parse(alloc, text) {
+        Ok(tree) => Ok(tree),
+        Err(ParseFault::Syntax(tree, _errors)) => Ok(tree),
+        Err(ParseFault::Memory) => Err(AllocError),
+    }
+}
+
+/// The tree of a text without errors.
+pub(crate) fn tree_without_errors<'s, S: Slice<'s>>(
+    alloc: Global,
+    text: S,
+) -> Result<Resource<S>, Fail> {
+    match parse(alloc, text) {
+        Ok(tree) => Ok(tree),
+        Err(_) => Err("a text without errors was refused".into()),
+    }
+}
+
+/// The same, over texts of its own.
+pub(crate) fn owned_tree_without_errors(
+    alloc: Global,
+    text: &str,
+) -> Result<Resource<String>, Fail> {
+    tree_without_errors(alloc, String::from_str(alloc, text)?)
 }

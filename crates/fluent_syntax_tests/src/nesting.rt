@@ -1,5 +1,6 @@
 //! Texts, and how deeply they nest.
 
+use crate::alike::holds;
 use fluent_syntax_parser::entries::Entries;
 use fluent_syntax_parser::options::{Comments, Halt, Options};
 use fluent_syntax_tree::edition::Edition;
@@ -7,7 +8,9 @@ use std::alloc::{AllocError, Global};
 use std::test::Fail;
 
 /// What it shows, the text, and the least bound under which it is read to its end.
-const ROWS: [(&str, &str, usize); 21] = [
+type Row = (&'static str, &'static str, usize);
+
+const ROWS: [Row; 21] = [
     ("nothing", "", 0),
     ("a mark in a run", "a = b (c\n", 0),
     ("marks in a comment", "# {{(\na = b\n", 0),
@@ -54,15 +57,20 @@ fn is_deeper(alloc: Global, text: &str, nesting: usize) -> Result<bool, AllocErr
     Ok(false)
 }
 
+fn nests_by_its_depth(alloc: Global, row: &Row) -> Result<(), Fail> {
+    let (shows, text, depth) = row;
+    holds(alloc, *shows, !is_deeper(alloc, *text, *depth)?)?;
+    holds(
+        alloc,
+        *shows,
+        *depth == 0 || is_deeper(alloc, *text, *depth - 1)?,
+    )
+}
+
 #[test]
 fn nests_as_deeply(rt: HostRuntime) -> Result<(), Fail> {
-    for (name, text, depth) in ROWS {
-        let within = is_deeper(rt.alloc(), text, depth)?;
-        assert_eq!(rt; within, false, "{name}");
-        if depth > 0 {
-            let beyond = is_deeper(rt.alloc(), text, depth - 1)?;
-            assert_eq!(rt; beyond, true, "{name}");
-        }
+    for row in &ROWS {
+        nests_by_its_depth(rt.alloc(), row)?;
     }
     Ok(())
 }

@@ -4,11 +4,13 @@
 //! is a message with two elements, an attribute and a comment; `-t = ..` a term; `# "a"`, `## "a"` and
 //! `### "a"` comments; `Junk "a"` junk. An error is `P..Q J..K Kind`, with its payload in brackets.
 
+use crate::alike::same_text;
 use fluent_syntax::ast::*;
 use fluent_syntax::parser::{ErrorKind, ParseFault, ParserError};
 use fluent_syntax::spans::Span;
-use std::alloc::AllocError;
+use std::alloc::{AllocError, Global};
 use std::fmt::Write;
+use std::test::Fail;
 
 type Written = Result<(), AllocError>;
 
@@ -54,11 +56,27 @@ impl Shown for Span {
     }
 }
 
-/// The outline of what a parser answered.
-pub(crate) fn outline<S: Shown>(
-    out: &mut String,
+/// Fails where the outline of the answer is not the expected one.
+pub(crate) fn has_outline<S: Shown>(
+    alloc: Global,
+    shows: &str,
     answer: &Result<Resource<S>, ParseFault<S>>,
-) -> Written {
+    expected: &str,
+) -> Result<(), Fail> {
+    same_text(alloc, shows, outlined(alloc, answer)?.as_str(), expected)
+}
+
+/// The outline of what a parser answered.
+pub(crate) fn outlined<S: Shown>(
+    alloc: Global,
+    answer: &Result<Resource<S>, ParseFault<S>>,
+) -> Result<String, AllocError> {
+    let mut out = String::new(alloc);
+    outline(&mut out, answer)?;
+    Ok(out)
+}
+
+fn outline<S: Shown>(out: &mut String, answer: &Result<Resource<S>, ParseFault<S>>) -> Written {
     match answer {
         Ok(resource) => body(out, resource),
         Err(ParseFault::Syntax(resource, errors)) => {

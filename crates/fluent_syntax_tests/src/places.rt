@@ -1,5 +1,6 @@
 //! Lines and columns of errors, as a caller asks for them: nothing has to be shown of a place.
 
+use crate::alike::{holds, same};
 use fluent_syntax::parser::{ParseFault, parse, parse_runtime, recovered};
 use fluent_syntax::spans::{Lines, line_column, parse_spans};
 use std::alloc::{AllocError, Global};
@@ -40,12 +41,22 @@ fn first_place_of_spans(alloc: Global, text: &str) -> (usize, usize) {
 
 #[test]
 fn places_by_line_and_column(rt: HostRuntime) -> Result<(), Fail> {
+    let alloc = rt.alloc();
     let text = "key = { \"a\nb\" }";
-    assert_eq!(rt; last_place(rt.alloc(), text), (2, 2));
-    assert_eq!(rt; first_runtime_place(rt.alloc(), text), (1, 11));
-    assert_eq!(rt; first_place_of_spans(rt.alloc(), text), (1, 11));
-    assert_eq!(rt; last_place(rt.alloc(), "key = a\n"), (0, 0));
-    Ok(())
+    same(alloc, "the last", &last_place(alloc, text), &(2, 2))?;
+    same(
+        alloc,
+        "the first",
+        &first_runtime_place(alloc, text),
+        &(1, 11),
+    )?;
+    same(
+        alloc,
+        "of spans",
+        &first_place_of_spans(alloc, text),
+        &(1, 11),
+    )?;
+    same(alloc, "none", &last_place(alloc, "key = a\n"), &(0, 0))
 }
 
 /// How many entries the recovered tree has, and the lines of the errors beside it.
@@ -58,24 +69,34 @@ fn entries_and_lines(alloc: Global, text: &str) -> Result<(usize, Vec<usize>), A
     Ok((tree.body.len(), lines))
 }
 
+/// Whether the recovered tree has so many entries, and the errors beside it stand on these lines.
+fn is_recovered(alloc: Global, text: &str, entries: usize, lines: &[usize]) -> Result<bool, Fail> {
+    let (found, found_lines) = entries_and_lines(alloc, text)?;
+    Ok(found == entries && found_lines.as_slice() == lines)
+}
+
 #[test]
 fn a_tree_and_its_errors(rt: HostRuntime) -> Result<(), Fail> {
-    let (entries, lines) = entries_and_lines(rt.alloc(), "key = a\nbro ken = b\n")?;
-    assert_eq!(rt; entries, 2);
-    assert_eq!(rt; lines.as_slice(), [2].as_slice());
-    let (entries, lines) = entries_and_lines(rt.alloc(), "key = a\n")?;
-    assert_eq!(rt; entries, 1);
-    assert!(rt; lines.is_empty());
-    Ok(())
+    let alloc = rt.alloc();
+    let broken = is_recovered(alloc, "key = a\nbro ken = b\n", 2, &[2])?;
+    holds(alloc, "one error", broken)?;
+    holds(alloc, "none", is_recovered(alloc, "key = a\n", 1, &[])?)
 }
+
+/// Bytes of a text in any order, with their lines and columns.
+const ANY_ORDER: [(usize, (usize, usize)); 5] = [
+    (0, (1, 1)),
+    (4, (2, 2)),
+    (6, (3, 1)),
+    (2, (1, 3)),
+    (3, (2, 1)),
+];
 
 #[test]
 fn places_in_any_order(rt: HostRuntime) -> Result<(), Fail> {
     let mut lines = Lines::new("ab\ncd\n");
-    assert_eq!(rt; lines.line_column(0), (1, 1));
-    assert_eq!(rt; lines.line_column(4), (2, 2));
-    assert_eq!(rt; lines.line_column(6), (3, 1));
-    assert_eq!(rt; lines.line_column(2), (1, 3));
-    assert_eq!(rt; lines.line_column(3), (2, 1));
+    for (byte, place) in &ANY_ORDER {
+        same(rt.alloc(), "a place", &lines.line_column(*byte), place)?;
+    }
     Ok(())
 }

@@ -1,15 +1,20 @@
 //! Trees that are written and read again.
 
-use crate::made::{Made, Text, attributed, comment, one, valued};
-use crate::outline::outline;
-use fluent_syntax::ast::{Entry, Resource};
+use crate::alike::{holds, same_text};
+use crate::entries::Row;
+use crate::made::{
+    Made, Text, attributed, comment, one, owned_tree_without_errors, tree_of, valued,
+};
+use crate::outline::{has_outline, outlined};
+use fluent_syntax::ast::Entry;
 use fluent_syntax::laws::{joined, reads_back, reads_readable, reparse, same_texts};
-use fluent_syntax::parser::{ParseFault, parse};
 use std::alloc::Global;
 use std::test::Fail;
 
 /// Texts without errors, whose trees are read back as they are.
-const SAME: [(&str, Text); 9] = [
+type Same = (&'static str, Text);
+
+const SAME: [Same; 9] = [
     (
         "blank lines around a message",
         "\n\nhello-world = Hello World!\n\n",
@@ -43,7 +48,7 @@ const SAME: [(&str, Text); 9] = [
 ];
 
 /// What it shows, the text, and the outline of what its written tree is read as.
-const OTHER: [(&str, Text, &str); 8] = [
+const OTHER: [Row; 8] = [
     (
         "spaces that no line of the pattern lacks are lost",
         "key =\n{x}\n    b\n",
@@ -79,7 +84,7 @@ const OTHER: [(&str, Text, &str); 8] = [
 ];
 
 /// What it shows, the text, and the outline of its joined tree.
-const JOINED: [(&str, Text, &str); 4] = [
+const JOINED: [Row; 4] = [
     (
         "in a value, and only to a text that does not end in LF",
         "key = a\r\n\r\n    b",
@@ -102,52 +107,50 @@ const JOINED: [(&str, Text, &str); 4] = [
     ),
 ];
 
-/// The tree of the text, which may have errors.
-fn tree(alloc: Global, text: Text) -> Result<Resource<String>, Fail> {
-    match parse(alloc, String::from_str(alloc, text)?) {
-        Ok(tree) => Ok(tree),
-        Err(fault) => match fault {
-            ParseFault::Syntax(tree, _errors) => Ok(tree),
-            ParseFault::Memory => Err("no memory".into()),
-        },
-    }
+fn reads_the_same(alloc: Global, row: &Same) -> Result<(), Fail> {
+    let (what, text) = row;
+    let tree = owned_tree_without_errors(alloc, *text)?;
+    reads_back(&tree);
+    reads_readable(*text);
+    let is_same = match reparse(alloc, &tree) {
+        Ok(back) => same_texts(&tree, &back),
+        Err(_) => false,
+    };
+    holds(alloc, *what, is_same)
 }
 
 #[test]
 fn reads_the_same_tree(rt: HostRuntime) -> Result<(), Fail> {
-    let alloc = rt.alloc();
-    for (what, text) in SAME {
-        let Ok(tree) = parse(alloc, String::from_str(alloc, text)?) else {
-            return Err(what.into());
-        };
-        let Ok(back) = reparse(alloc, &tree) else {
-            return Err(what.into());
-        };
-        assert!(rt; same_texts(&tree, &back), "{what}");
-        reads_back(&tree);
-        reads_readable(text);
+    for row in &SAME {
+        reads_the_same(rt.alloc(), row)?;
     }
     Ok(())
+}
+
+fn reads_another(alloc: Global, row: &Row) -> Result<(), Fail> {
+    let (what, text, expected) = row;
+    let tree = tree_of(alloc, String::from_str(alloc, *text)?)?;
+    has_outline(alloc, *what, &reparse(alloc, &tree), *expected)
 }
 
 #[test]
 fn reads_another_tree(rt: HostRuntime) -> Result<(), Fail> {
-    let alloc = rt.alloc();
-    for (what, text, expected) in OTHER {
-        let mut found = String::new(alloc);
-        outline(&mut found, &reparse(alloc, &tree(alloc, text)?))?;
-        assert_eq!(rt; found.as_str(), expected, "{what}");
+    for row in &OTHER {
+        reads_another(rt.alloc(), row)?;
     }
     Ok(())
 }
 
+fn is_joined(alloc: Global, row: &Row) -> Result<(), Fail> {
+    let (what, text, expected) = row;
+    let tree = tree_of(alloc, String::from_str(alloc, *text)?)?;
+    has_outline(alloc, *what, &Ok(joined(alloc, &tree)?), *expected)
+}
+
 #[test]
 fn joins_texts(rt: HostRuntime) -> Result<(), Fail> {
-    let alloc = rt.alloc();
-    for (what, text, expected) in JOINED {
-        let mut found = String::new(alloc);
-        outline(&mut found, &Ok(joined(alloc, &tree(alloc, text)?)?))?;
-        assert_eq!(rt; found.as_str(), expected, "{what}");
+    for row in &JOINED {
+        is_joined(rt.alloc(), row)?;
     }
     Ok(())
 }
@@ -155,35 +158,40 @@ fn joins_texts(rt: HostRuntime) -> Result<(), Fail> {
 /// The outline of what the entry is read as once it is written.
 fn reparsed(alloc: Global, entry: Made<Entry<Text>>) -> Made<String> {
     let tree = one(alloc, entry?)?;
-    let mut found = String::new(alloc);
-    outline(&mut found, &reparse(alloc, &tree))?;
-    Ok(found)
+    outlined(alloc, &reparse(alloc, &tree))
+}
+
+/// Fails where the entry is read otherwise once it is written.
+fn is_reparsed(alloc: Global, entry: Made<Entry<Text>>, expected: &str) -> Result<(), Fail> {
+    let found = reparsed(alloc, entry)?;
+    same_text(alloc, "written and read", found.as_str(), expected)
 }
 
 /// Elements of which the first begins with a mark, and the outline of what a message of them is read as.
-const MARKED: [(&[Text], &str); 3] = [
+type Marked = (&'static [Text], &'static str);
+
+const MARKED: [Marked; 3] = [
     (&["[a\n", "b"], "key = \"[a\\n\" \"b\"\n"),
     (&[".a\n", "b"], "key = \".a\\n\" \"b\"\n"),
     (&["[a\n", "\n", "$x"], "key = \"[a\\n\" \"\\n\" {$x}\n"),
 ];
 
+fn reads_the_mark(alloc: Global, row: &Marked) -> Result<(), Fail> {
+    let (elements, expected) = row;
+    is_reparsed(alloc, valued(alloc, "key", *elements), *expected)
+}
+
 #[test]
 fn reads_marks_that_begin_a_pattern(rt: HostRuntime) -> Result<(), Fail> {
-    let alloc = rt.alloc();
-    for (elements, expected) in MARKED {
-        let found = reparsed(alloc, valued(alloc, "key", elements))?;
-        assert_eq!(rt; found.as_str(), expected);
+    for row in &MARKED {
+        reads_the_mark(rt.alloc(), row)?;
     }
-    let found = reparsed(alloc, attributed(alloc, "t", &[".a\n", "b"]))?;
-    assert_eq!(rt; found.as_str(), "k = | .t = \".a\\n\" \"b\"\n");
-    Ok(())
+    let attribute = attributed(rt.alloc(), "t", &[".a\n", "b"]);
+    is_reparsed(rt.alloc(), attribute, "k = | .t = \".a\\n\" \"b\"\n")
 }
 
 #[test]
 fn reads_a_cr_that_ends_a_comment(rt: HostRuntime) -> Result<(), Fail> {
-    let alloc = rt.alloc();
-    let comment = comment(alloc, &["a\r"])?;
-    let found = reparsed(alloc, Ok(Entry::Comment(comment)))?;
-    assert_eq!(rt; found.as_str(), "# \"a\\r\"\n");
-    Ok(())
+    let comment = comment(rt.alloc(), &["a\r"])?;
+    is_reparsed(rt.alloc(), Ok(Entry::Comment(comment)), "# \"a\\r\"\n")
 }

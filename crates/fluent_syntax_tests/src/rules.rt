@@ -1,5 +1,6 @@
 //! The smallest trees that break each rule of readable and canonical trees, and trees beside them that keep it.
 
+use crate::alike::same;
 use crate::made::{
     Made, Text, attributed, comment, id, message, number, one, pattern, placed, valued, variable,
 };
@@ -20,7 +21,9 @@ enum Found {
 use Found::{Canonical, Neither, Readable};
 
 /// Elements, where `$x` is a placeable of a variable, and what a message of them is in edition one and in edition two.
-const PATTERNS: [(&[Text], Found, Found); 31] = [
+type PatternRow = (&'static [Text], Found, Found);
+
+const PATTERNS: [PatternRow; 31] = [
     (&["a"], Canonical, Canonical),
     (&["a\n", "b"], Canonical, Canonical),
     (&["a\n", " b"], Canonical, Canonical),
@@ -55,7 +58,9 @@ const PATTERNS: [(&[Text], Found, Found); 31] = [
 ];
 
 /// Texts between the quotes of a string, and whether they are spelled as such.
-const STRINGS: [(Text, bool); 13] = [
+type Spelling = (Text, bool);
+
+const STRINGS: [Spelling; 13] = [
     ("", true),
     ("{a}", true),
     ("\\\\ \\\" \\{", true),
@@ -71,7 +76,7 @@ const STRINGS: [(Text, bool); 13] = [
     ("\\u00e9\"", false),
 ];
 
-const NUMBERS: [(Text, bool); 11] = [
+const NUMBERS: [Spelling; 11] = [
     ("0", true),
     ("-1", true),
     ("10.50", true),
@@ -85,7 +90,7 @@ const NUMBERS: [(Text, bool); 11] = [
     ("1.2.3", false),
 ];
 
-const NAMES: [(Text, bool); 7] = [
+const NAMES: [Spelling; 7] = [
     ("a", true),
     ("Z", true),
     ("a-b_9", true),
@@ -112,20 +117,36 @@ fn judged_inline(alloc: Global, inline: InlineExpression<Text>, edition: Edition
     judged(alloc, placed(alloc, Expression::Inline(inline)), edition)
 }
 
+fn pattern_is_judged(alloc: Global, row: &PatternRow) -> Result<(), Fail> {
+    let (elements, one, two) = row;
+    let by_one = judged(alloc, valued(alloc, "k", *elements), Edition::One)?;
+    same(
+        alloc,
+        "edition one",
+        &(*elements, by_one),
+        &(*elements, *one),
+    )?;
+    let by_two = judged(alloc, valued(alloc, "k", *elements), Edition::Two)?;
+    same(
+        alloc,
+        "edition two",
+        &(*elements, by_two),
+        &(*elements, *two),
+    )
+}
+
 #[test]
 fn patterns(rt: HostRuntime) -> Result<(), Fail> {
-    let alloc = rt.alloc();
-    for (elements, one, two) in PATTERNS {
-        let by_one = judged(alloc, valued(alloc, "k", elements), Edition::One)?;
-        assert_eq!(rt; by_one, one, "{elements:?}");
-        let by_two = judged(alloc, valued(alloc, "k", elements), Edition::Two)?;
-        assert_eq!(rt; by_two, two, "{elements:?}");
+    for row in &PATTERNS {
+        pattern_is_judged(rt.alloc(), row)?;
     }
     Ok(())
 }
 
 /// The lines of a comment, and what a tree with it is.
-const COMMENTS: [(&[Text], Found); 5] = [
+type CommentRow = (&'static [Text], Found);
+
+const COMMENTS: [CommentRow; 5] = [
     (&["a", "", " b\r"], Canonical),
     (&[""], Canonical),
     (&["a\nb"], Neither),
@@ -150,18 +171,30 @@ fn commented(alloc: Global, lines: &[Text]) -> Made<Entry<Text>> {
     }))
 }
 
+fn comment_is_judged(alloc: Global, row: &CommentRow) -> Result<(), Fail> {
+    let (lines, expected) = row;
+    let alone = judged(alloc, free(alloc, *lines), Edition::One)?;
+    same(alloc, "alone", &(*lines, alone), &(*lines, *expected))?;
+    let hung = judged(alloc, commented(alloc, *lines), Edition::One)?;
+    same(alloc, "hung", &(*lines, hung), &(*lines, *expected))
+}
+
+fn is_neither(alloc: Global, shows: &str, entry: Entry<Text>) -> Result<(), Fail> {
+    same(
+        alloc,
+        shows,
+        &judged(alloc, Ok(entry), Edition::One)?,
+        &Neither,
+    )
+}
+
 #[test]
 fn entries(rt: HostRuntime) -> Result<(), Fail> {
     let alloc = rt.alloc();
-    let junk = Ok(Entry::Junk { content: "x" });
-    assert_eq!(rt; judged(alloc, junk, Edition::One)?, Neither);
-    let empty = Ok(Entry::Message(message(alloc, "k", None)));
-    assert_eq!(rt; judged(alloc, empty, Edition::One)?, Neither);
-    for (lines, expected) in COMMENTS {
-        let alone = judged(alloc, free(alloc, lines), Edition::One)?;
-        assert_eq!(rt; alone, expected, "{lines:?}");
-        let hung = judged(alloc, commented(alloc, lines), Edition::One)?;
-        assert_eq!(rt; hung, expected, "{lines:?}");
+    is_neither(alloc, "junk", Entry::Junk { content: "x" })?;
+    is_neither(alloc, "no field", Entry::Message(message(alloc, "k", None)))?;
+    for row in &COMMENTS {
+        comment_is_judged(alloc, row)?;
     }
     Ok(())
 }
@@ -171,23 +204,31 @@ fn spelled(well: bool) -> Found {
     if well { Canonical } else { Neither }
 }
 
+/// Fails where the inline expression is not canonical just where it is spelled well.
+fn is_spelled(alloc: Global, inline: InlineExpression<Text>, row: &Spelling) -> Result<(), Fail> {
+    let (text, well) = row;
+    let found = judged_inline(alloc, inline, Edition::One)?;
+    same(alloc, *text, &found, &spelled(*well))
+}
+
+fn attribute_is_spelled(alloc: Global, row: &Spelling) -> Result<(), Fail> {
+    let (name, well) = row;
+    let found = judged(alloc, attributed(alloc, *name, &["a"]), Edition::One)?;
+    same(alloc, *name, &found, &spelled(*well))
+}
+
 #[test]
 fn spellings(rt: HostRuntime) -> Result<(), Fail> {
-    let alloc = rt.alloc();
-    for (value, well) in STRINGS {
-        let string = InlineExpression::StringLiteral { value };
-        let found = judged_inline(alloc, string, Edition::One)?;
-        assert_eq!(rt; found, spelled(well), "{value:?}");
+    for row in &STRINGS {
+        let string = InlineExpression::StringLiteral { value: row.0 };
+        is_spelled(rt.alloc(), string, row)?;
     }
-    for (value, well) in NUMBERS {
-        let found = judged_inline(alloc, number(value), Edition::One)?;
-        assert_eq!(rt; found, spelled(well), "{value:?}");
+    for row in &NUMBERS {
+        is_spelled(rt.alloc(), number(row.0), row)?;
     }
-    for (name, well) in NAMES {
-        let found = judged_inline(alloc, variable(name), Edition::One)?;
-        assert_eq!(rt; found, spelled(well), "{name:?}");
-        let found = judged(alloc, attributed(alloc, name, &["a"]), Edition::One)?;
-        assert_eq!(rt; found, spelled(well), "{name:?}");
+    for row in &NAMES {
+        is_spelled(rt.alloc(), variable(row.0), row)?;
+        attribute_is_spelled(rt.alloc(), row)?;
     }
     Ok(())
 }
@@ -229,7 +270,9 @@ fn judged_select(
 }
 
 /// Which variants of a select are defaults, and what it is.
-const DEFAULTS: [(&[bool], Found); 4] = [
+type DefaultsRow = (&'static [bool], Found);
+
+const DEFAULTS: [DefaultsRow; 4] = [
     (&[false, true], Canonical),
     (&[false], Readable),
     (&[], Readable),
@@ -237,29 +280,44 @@ const DEFAULTS: [(&[bool], Found); 4] = [
 ];
 
 /// The attribute of a term reference, and what it is as a selector and in braces.
-const TERMS: [(Option<Text>, Found, Found); 2] = [
-    (Some("a"), Canonical, Neither),
-    (None, Neither, Canonical),
-];
+type TermRow = (Option<Text>, Found, Found);
+
+const TERMS: [TermRow; 2] = [(Some("a"), Canonical, Neither), (None, Neither, Canonical)];
+
+fn select_is_judged(alloc: Global, row: &DefaultsRow) -> Result<(), Fail> {
+    let (defaults, expected) = row;
+    let found = judged_select(alloc, variable("x"), *defaults)?;
+    same(
+        alloc,
+        "defaults",
+        &(*defaults, found),
+        &(*defaults, *expected),
+    )
+}
+
+fn term_is_judged(alloc: Global, row: &TermRow) -> Result<(), Fail> {
+    let (attribute, as_selector, in_braces) = row;
+    let found = judged_select(alloc, term(*attribute), &[true])?;
+    same(alloc, "a selector", &found, as_selector)?;
+    let found = judged_inline(alloc, term(*attribute), Edition::Two)?;
+    same(alloc, "in braces", &found, in_braces)
+}
 
 #[test]
 fn selects(rt: HostRuntime) -> Result<(), Fail> {
-    let alloc = rt.alloc();
-    for (defaults, expected) in DEFAULTS {
-        let found = judged_select(alloc, variable("x"), defaults)?;
-        assert_eq!(rt; found, expected, "{defaults:?}");
+    for row in &DEFAULTS {
+        select_is_judged(rt.alloc(), row)?;
     }
-    for (attribute, as_selector, in_braces) in TERMS {
-        let found = judged_select(alloc, term(attribute), &[true])?;
-        assert_eq!(rt; found, as_selector, "{attribute:?}");
-        let found = judged_inline(alloc, term(attribute), Edition::Two)?;
-        assert_eq!(rt; found, in_braces, "{attribute:?}");
+    for row in &TERMS {
+        term_is_judged(rt.alloc(), row)?;
     }
     Ok(())
 }
 
 /// The name of a function, the names and values of its named arguments, where `$` is a variable, and what the call is.
-const CALLS: [(Text, &[(Text, Text)], Found); 6] = [
+type Call = (Text, &'static [(Text, Text)], Found);
+
+const CALLS: [Call; 6] = [
     ("F-1_", &[], Canonical),
     ("f", &[], Neither),
     ("F", &[("a", "1"), ("b", "1")], Canonical),
@@ -268,35 +326,49 @@ const CALLS: [(Text, &[(Text, Text)], Found); 6] = [
     ("F", &[("a", "$")], Neither),
 ];
 
+fn argument(row: &(Text, Text)) -> NamedArgument<Text> {
+    let (name, value) = row;
+    let value = if *value == "$" {
+        variable("x")
+    } else {
+        number(*value)
+    };
+    NamedArgument {
+        name: id(*name),
+        value,
+    }
+}
+
+fn named_arguments(alloc: Global, rows: &[(Text, Text)]) -> Made<Vec<NamedArgument<Text>>> {
+    let mut named = Vec::new(alloc);
+    for row in rows {
+        named.push(argument(row))?;
+    }
+    Ok(named)
+}
+
 /// The arguments of a call, with a variable before those that have names.
 fn arguments(alloc: Global, rows: &[(Text, Text)]) -> Made<CallArguments<Text>> {
-    let mut named = Vec::new(alloc);
-    for (name, value) in rows {
-        let value = if *value == "$" {
-            variable("x")
-        } else {
-            number(*value)
-        };
-        named.push(NamedArgument {
-            name: id(*name),
-            value,
-        })?;
-    }
     let mut positional = Vec::new(alloc);
     positional.push(variable("x"))?;
+    let named = named_arguments(alloc, rows)?;
     Ok(CallArguments { positional, named })
+}
+
+fn call_is_judged(alloc: Global, row: &Call) -> Result<(), Fail> {
+    let (name, rows, expected) = row;
+    let call = InlineExpression::FunctionReference {
+        id: id(*name),
+        arguments: arguments(alloc, *rows)?,
+    };
+    let found = judged_inline(alloc, call, Edition::One)?;
+    same(alloc, *name, &(*rows, found), &(*rows, *expected))
 }
 
 #[test]
 fn calls(rt: HostRuntime) -> Result<(), Fail> {
-    let alloc = rt.alloc();
-    for (name, rows, expected) in CALLS {
-        let call = InlineExpression::FunctionReference {
-            id: id(name),
-            arguments: arguments(alloc, rows)?,
-        };
-        let found = judged_inline(alloc, call, Edition::One)?;
-        assert_eq!(rt; found, expected, "{name} {rows:?}");
+    for row in &CALLS {
+        call_is_judged(rt.alloc(), row)?;
     }
     Ok(())
 }

@@ -1,12 +1,16 @@
 //! What each command writes of a text, as an answer and over a reader and a writer.
 
-use crate::ends::{Drip, Narrow, ran};
+use crate::alike::{holds, same, same_text};
+use crate::ends::{Drip, Narrow, ends_so};
 use ftl::{Command, Outcome, answer, answer_within};
 use serde_json::Value;
+use std::alloc::Global;
 use std::test::Fail;
 
 /// The command, what it shows, the input, the text, and how it ends.
-const ROWS: [(Command, &str, &str, &str, Outcome); 12] = [
+type Row = (Command, &'static str, &'static str, &'static str, Outcome);
+
+const ROWS: [Row; 12] = [
     (
         Command::Check,
         "errors by line and column",
@@ -93,14 +97,19 @@ const ROWS: [(Command, &str, &str, &str, Outcome); 12] = [
     ),
 ];
 
+fn is_answered(alloc: Global, row: &Row) -> Result<(), Fail> {
+    let (command, shows, input, expected, end) = row;
+    let Ok((text, outcome)) = answer(alloc, *command, input.as_bytes()) else {
+        return Err("no answer".into());
+    };
+    same(alloc, *shows, &outcome, end)?;
+    same_text(alloc, *shows, text.as_str(), *expected)
+}
+
 #[test]
 fn answers(rt: HostRuntime) -> Result<(), Fail> {
-    for (command, shows, input, expected, ended) in &ROWS {
-        let Ok((text, outcome)) = answer(rt.alloc(), *command, input.as_bytes()) else {
-            return Err("no answer".into());
-        };
-        assert_eq!(rt; text.as_str(), *expected, "{shows}");
-        assert_eq!(rt; outcome, *ended, "{shows}");
+    for row in &ROWS {
+        is_answered(rt.alloc(), row)?;
     }
     Ok(())
 }
@@ -108,7 +117,9 @@ fn answers(rt: HostRuntime) -> Result<(), Fail> {
 /// A text with an argument list in a placeable, and what each command writes for it.
 const NESTED: &str = "key = { F($x) }\n";
 
-const OF_NESTED: [(Command, &str); 5] = [
+type OfNested = (Command, &'static str);
+
+const OF_NESTED: [OfNested; 5] = [
     (Command::Check, ""),
     (Command::CheckTwo, ""),
     (Command::Format, NESTED),
@@ -116,29 +127,49 @@ const OF_NESTED: [(Command, &str); 5] = [
     (Command::Runtime, NESTED),
 ];
 
-#[test]
-fn answers_within_a_bound(rt: HostRuntime) -> Result<(), Fail> {
-    let alloc = rt.alloc();
-    for (command, expected) in &OF_NESTED {
-        let Ok(Ok((text, Outcome::Clean))) = answer_within(alloc, *command, NESTED.as_bytes(), 2)
-        else {
-            return Err("no answer within 2".into());
-        };
-        assert_eq!(rt; text.as_str(), *expected);
-        assert!(rt; answer_within(alloc, *command, NESTED.as_bytes(), 1).is_err());
-    }
-    assert!(rt; answer_within(alloc, Command::Json, NESTED.as_bytes(), 1).is_err());
-    Ok(())
+fn is_answered_within_2(alloc: Global, row: &OfNested) -> Result<(), Fail> {
+    let (command, expected) = row;
+    let Ok(Ok((text, Outcome::Clean))) = answer_within(alloc, *command, NESTED.as_bytes(), 2) else {
+        return Err("no answer within 2".into());
+    };
+    same_text(alloc, "within 2", text.as_str(), *expected)
+}
+
+fn is_too_deep_for_1(alloc: Global, command: Command) -> Result<(), Fail> {
+    let is_refused = answer_within(alloc, command, NESTED.as_bytes(), 1).is_err();
+    holds(alloc, "within 1", is_refused)
 }
 
 #[test]
-fn runs(rt: HostRuntime) {
-    for (command, shows, input, expected, ended) in &ROWS {
-        let reader = Drip::whole(input.as_bytes());
-        let (result, written) = ran(rt.alloc(), *command, reader, Narrow::wide(rt.alloc()));
-        assert_eq!(rt; written.as_slice(), expected.as_bytes(), "{shows}");
-        assert_eq!(rt; result, Ok(*ended), "{shows}");
+fn answers_within_a_bound(rt: HostRuntime) -> Result<(), Fail> {
+    for row in &OF_NESTED {
+        is_answered_within_2(rt.alloc(), row)?;
+        is_too_deep_for_1(rt.alloc(), row.0)?;
     }
+    is_too_deep_for_1(rt.alloc(), Command::Json)
+}
+
+fn is_run(alloc: Global, row: &Row) -> Result<(), Fail> {
+    let (command, shows, input, expected, end) = row;
+    let reader = Drip::whole(input.as_bytes());
+    let writer = Narrow::wide(alloc);
+    let is_so = ends_so(
+        alloc,
+        *command,
+        reader,
+        writer,
+        Ok(*end),
+        expected.as_bytes(),
+    );
+    holds(alloc, *shows, is_so)
+}
+
+#[test]
+fn runs(rt: HostRuntime) -> Result<(), Fail> {
+    for row in &ROWS {
+        is_run(rt.alloc(), row)?;
+    }
+    Ok(())
 }
 
 /// A text, and the value of its tree.
@@ -147,20 +178,28 @@ const TEXT: &str = "key = { $x }";
 const VALUE: &str =
     "{\"body\":[{\"type\":\"Message\",\"id\":{\"name\":\"key\"},\"value\":{\"elements\":[{\"type\":\"Placeable\",\"expression\":{\"type\":\"VariableReference\",\"id\":{\"name\":\"x\"}}}]},\"attributes\":[],\"comment\":null}]}";
 
+/// Whether the text is one line of the value.
+fn is_line_of_value(alloc: Global, text: &str) -> Result<bool, Fail> {
+    let Some((_, rest)) = text.split_once('\n') else {
+        return Ok(false);
+    };
+    Ok(rest.is_empty() && Value::from_str(alloc, text)? == Value::from_str(alloc, VALUE)?)
+}
+
+/// Whether a run writes the text.
+fn is_written(alloc: Global, text: &str) -> bool {
+    let reader = Drip::whole(TEXT.as_bytes());
+    let writer = Narrow::wide(alloc);
+    let end = Ok(Outcome::Clean);
+    ends_so(alloc, Command::Json, reader, writer, end, text.as_bytes())
+}
+
 #[test]
 fn a_value_on_one_line(rt: HostRuntime) -> Result<(), Fail> {
     let alloc = rt.alloc();
     let Ok((text, Outcome::Clean)) = answer(alloc, Command::Json, TEXT.as_bytes()) else {
         return Err("no answer".into());
     };
-    assert_eq!(rt;
-        text.as_str().split_once('\n').map(|(_, rest)| rest),
-        Some("")
-    );
-    assert!(rt; Value::from_str(alloc, text.as_str())? == Value::from_str(alloc, VALUE)?);
-    let reader = Drip::whole(TEXT.as_bytes());
-    let (result, written) = ran(alloc, Command::Json, reader, Narrow::wide(alloc));
-    assert_eq!(rt; written.as_slice(), text.as_bytes());
-    assert_eq!(rt; result, Ok(Outcome::Clean));
-    Ok(())
+    let is_so = is_line_of_value(alloc, text.as_str())? && is_written(alloc, text.as_str());
+    holds(alloc, "one line", is_so)
 }

@@ -1,11 +1,15 @@
 //! Texts, and the texts that their trees are written as.
 
-use fluent_syntax::parser::{ParseFault, parse};
+use crate::alike::same_text;
+use crate::made::tree_of;
 use fluent_syntax::serializer::serialize;
+use std::alloc::Global;
 use std::test::Fail;
 
 /// What it shows, the text, and what the tree of it is written as.
-const ROWS: [(&str, &str, &str); 14] = [
+type Row = (&'static str, &'static str, &'static str);
+
+const ROWS: [Row; 14] = [
     (
         "blank lines are dropped",
         "\n\nhello-world = Hello World!\n\n",
@@ -74,15 +78,16 @@ const ROWS: [(&str, &str, &str); 14] = [
     ),
 ];
 
+fn is_written(alloc: Global, row: &Row) -> Result<(), Fail> {
+    let (shows, text, expected) = row;
+    let written = serialize(alloc, &tree_of(alloc, *text)?)?;
+    same_text(alloc, *shows, written.as_str(), *expected)
+}
+
 #[test]
 fn written(rt: HostRuntime) -> Result<(), Fail> {
-    for (shows, text, expected) in &ROWS {
-        let got = match parse(rt.alloc(), *text) {
-            Ok(tree) => serialize(rt.alloc(), &tree)?,
-            Err(ParseFault::Syntax(tree, _errors)) => serialize(rt.alloc(), &tree)?,
-            Err(ParseFault::Memory) => return Err(Fail::new("no memory")),
-        };
-        assert_eq!(rt; got.as_str(), *expected, "{shows}");
+    for row in &ROWS {
+        is_written(rt.alloc(), row)?;
     }
     Ok(())
 }

@@ -1,8 +1,10 @@
 //! Sinks that refuse a piece: they hold a beginning of the text.
 ghost use Rattle.std.specs.Prelude.{◌≡◌, ◌+◌, ◌≤◌, string_bytes, string_capacity, string_len};
 
+use crate::alike::holds;
+use crate::json_text::json_text;
+use crate::made::{Text, tree_of};
 use fluent_syntax::ast::Resource;
-use fluent_syntax::parser::{ParseFault, parse};
 use fluent_syntax::serializer::{Options, serialize_to, serialize_with_options};
 use fluent_syntax::unicode::{SinkError, TextSink, unescape_unicode, unescape_unicode_to_string};
 use fluent_syntax_json::write_to;
@@ -113,19 +115,35 @@ impl TextSink for Small {
     }
 }
 
+impl Small {
+    /// Whether this is the answer, and the sink holds the whole text just where that is `Ok`, else a beginning.
+    fn holds_its_part(
+        &self,
+        whole: &str,
+        written: Result<(), SinkError>,
+        answer: Result<(), SinkError>,
+    ) -> bool {
+        written == answer
+            && whole.starts_with(self.text.as_str())
+            && (self.text.as_str() == whole) == answer.is_ok()
+    }
+}
+
+fn is_unescaped_within_4(
+    alloc: Global,
+    text: &str,
+    whole: &str,
+    answer: Result<(), SinkError>,
+) -> Result<(), Fail> {
+    let mut sink = Small::new(alloc, 4)?;
+    let written = unescape_unicode(&mut sink, text);
+    holds(alloc, text, sink.holds_its_part(whole, written, answer))
+}
+
 #[test]
 fn an_escaped_text_to_a_sink_of_four_bytes(rt: HostRuntime) -> Result<(), Fail> {
-    for (text, whole, answer) in [
-        ("ab\\u00e9", "abé", Ok(())),
-        ("abc\\u00e9", "abcé", Err(SinkError)),
-    ] {
-        let mut sink = Small::new(rt.alloc(), 4)?;
-        let written = unescape_unicode(&mut sink, text);
-        assert_eq!(rt; sink.text.as_str() == whole, written.is_ok());
-        assert!(rt; whole.starts_with(sink.text.as_str()));
-        assert_eq!(rt; written, answer);
-    }
-    Ok(())
+    is_unescaped_within_4(rt.alloc(), "ab\\u00e9", "abé", Ok(()))?;
+    is_unescaped_within_4(rt.alloc(), "abc\\u00e9", "abcé", Err(SinkError))
 }
 
 const TEXTS: [&str; 6] = [
@@ -147,90 +165,131 @@ const ESCAPED: [&str; 7] = [
     "\\u00é1\\u+041z\\U11",
 ];
 
-fn tree(alloc: Global, text: &'static str) -> Result<Resource<&'static str>, Fail> {
-    match parse(alloc, text) {
-        Ok(tree) => Ok(tree),
-        Err(ParseFault::Syntax(tree, _errors)) => Ok(tree),
-        Err(ParseFault::Memory) => Err(Fail::new("no memory")),
+/// What serializing tells where the sink refuses its piece of that number: whether it has refused one.
+fn tree_is_refused(
+    alloc: Global,
+    tree: &Resource<Text>,
+    whole: &str,
+    before: usize,
+) -> Result<bool, Fail> {
+    let mut sink = Refusing::new(alloc, before);
+    let written = serialize_to(&mut sink, tree, Options { with_junk: true });
+    holds(alloc, whole, sink.holds_its_part(whole, written))?;
+    Ok(sink.has_refused)
+}
+
+/// Whether a sink has refused the tree, of all that refuse one of its pieces.
+fn tree_is_refused_at_a_piece(
+    alloc: Global,
+    tree: &Resource<Text>,
+    whole: &str,
+) -> Result<bool, Fail> {
+    let mut has_refused = false;
+    for before in 0..whole.len() {
+        has_refused |= tree_is_refused(alloc, tree, whole, before)?;
     }
+    Ok(has_refused)
+}
+
+fn is_written_to_sinks_that_refuse(alloc: Global, text: Text) -> Result<(), Fail> {
+    let tree = tree_of(alloc, text)?;
+    let whole = serialize_with_options(alloc, &tree, Options { with_junk: true })?;
+    let has_refused = tree_is_refused_at_a_piece(alloc, &tree, whole.as_str())?;
+    holds(alloc, text, has_refused != whole.is_empty())
 }
 
 #[test]
 fn a_tree_to_a_sink_that_refuses(rt: HostRuntime) -> Result<(), Fail> {
-    let alloc = rt.alloc();
-    let options = Options { with_junk: true };
-    for text in TEXTS {
-        let tree = tree(alloc, text)?;
-        let whole = serialize_with_options(alloc, &tree, options)?;
-        let mut has_refused = false;
-        for before in 0..whole.len() {
-            let mut sink = Refusing::new(alloc, before);
-            let written = serialize_to(&mut sink, &tree, options);
-            assert!(rt;
-                sink.holds_its_part(whole.as_str(), written),
-                "{text} {before}"
-            );
-            has_refused |= sink.has_refused;
-        }
-        assert_eq!(rt; has_refused, !whole.is_empty());
+    for text in &TEXTS {
+        is_written_to_sinks_that_refuse(rt.alloc(), *text)?;
     }
     Ok(())
+}
+
+fn json_text_leaves_a_beginning(
+    alloc: Global,
+    tree: &Resource<Text>,
+    whole: &str,
+    before: usize,
+) -> Result<(), Fail> {
+    let mut sink = Refusing::new(alloc, before);
+    let written = write_to(&mut sink, tree);
+    holds(alloc, whole, sink.holds_its_part(whole, written))
+}
+
+fn json_text_leaves_beginnings(
+    alloc: Global,
+    tree: &Resource<Text>,
+    whole: &str,
+) -> Result<(), Fail> {
+    for before in 0..whole.len() {
+        json_text_leaves_a_beginning(alloc, tree, whole, before)?;
+    }
+    Ok(())
+}
+
+fn is_json_to_sinks_that_refuse(alloc: Global, text: Text) -> Result<(), Fail> {
+    let tree = tree_of(alloc, text)?;
+    let whole = json_text(alloc, &tree)?;
+    json_text_leaves_beginnings(alloc, &tree, whole.as_str())
 }
 
 #[test]
 fn a_json_text_to_a_sink_that_refuses(rt: HostRuntime) -> Result<(), Fail> {
-    let alloc = rt.alloc();
-    for text in TEXTS {
-        let tree = tree(alloc, text)?;
-        let mut whole = String::new(alloc);
-        assert_eq!(rt; write_to(&mut whole, &tree), Ok(()));
-        for before in 0..whole.len() {
-            let mut sink = Refusing::new(alloc, before);
-            let written = write_to(&mut sink, &tree);
-            assert!(rt;
-                sink.holds_its_part(whole.as_str(), written),
-                "{text} {before}"
-            );
-        }
+    for text in &TEXTS {
+        is_json_to_sinks_that_refuse(rt.alloc(), *text)?;
     }
     Ok(())
+}
+
+/// A text, and the JSON text of its tree.
+const QUOTE: (Text, &str) = (
+    "\"",
+    "{\"body\":[{\"content\":\"\\\"\",\"type\":\"Junk\"}]}",
+);
+
+fn is_json_within(alloc: Global, room: usize, answer: Result<(), SinkError>) -> Result<(), Fail> {
+    let tree = tree_of(alloc, QUOTE.0)?;
+    let mut sink = Small::new(alloc, room)?;
+    let written = write_to(&mut sink, &tree);
+    holds(alloc, "room", sink.holds_its_part(QUOTE.1, written, answer))
 }
 
 #[test]
 fn a_json_text_to_a_sink_of_a_few_bytes(rt: HostRuntime) -> Result<(), Fail> {
-    let alloc = rt.alloc();
-    let tree = tree(alloc, "\"")?;
-    let whole = "{\"body\":[{\"content\":\"\\\"\",\"type\":\"Junk\"}]}";
-    for (room, answer) in [
-        (4, Err(SinkError)),
-        (whole.len() - 1, Err(SinkError)),
-        (whole.len(), Ok(())),
-    ] {
-        let mut sink = Small::new(alloc, room)?;
-        let written = write_to(&mut sink, &tree);
-        assert_eq!(rt; sink.text.as_str() == whole, written.is_ok());
-        assert!(rt; whole.starts_with(sink.text.as_str()));
-        assert_eq!(rt; written, answer);
+    let size = QUOTE.1.len();
+    is_json_within(rt.alloc(), 4, Err(SinkError))?;
+    is_json_within(rt.alloc(), size - 1, Err(SinkError))?;
+    is_json_within(rt.alloc(), size, Ok(()))
+}
+
+/// What unescaping tells where the sink refuses its piece of that number: whether it has refused one.
+fn text_is_refused(alloc: Global, text: &str, whole: &str, before: usize) -> Result<bool, Fail> {
+    let mut sink = Refusing::new(alloc, before);
+    let written = unescape_unicode(&mut sink, text);
+    holds(alloc, text, sink.holds_its_part(whole, written))?;
+    Ok(sink.has_refused)
+}
+
+/// Whether a sink has refused the text, of all that refuse one of its pieces.
+fn text_is_refused_at_a_piece(alloc: Global, text: &str, whole: &str) -> Result<bool, Fail> {
+    let mut has_refused = false;
+    for before in 0..whole.len() {
+        has_refused |= text_is_refused(alloc, text, whole, before)?;
     }
-    Ok(())
+    Ok(has_refused)
+}
+
+fn is_unescaped_to_sinks_that_refuse(alloc: Global, text: &str) -> Result<(), Fail> {
+    let whole = unescape_unicode_to_string(alloc, text)?.into_owned(alloc)?;
+    let has_refused = text_is_refused_at_a_piece(alloc, text, whole.as_str())?;
+    holds(alloc, text, has_refused != whole.is_empty())
 }
 
 #[test]
 fn an_escaped_text_to_a_sink_that_refuses(rt: HostRuntime) -> Result<(), Fail> {
-    let alloc = rt.alloc();
-    for text in ESCAPED {
-        let whole = unescape_unicode_to_string(alloc, text)?.into_owned(alloc)?;
-        let mut has_refused = false;
-        for before in 0..whole.len() {
-            let mut sink = Refusing::new(alloc, before);
-            let written = unescape_unicode(&mut sink, text);
-            assert!(rt;
-                sink.holds_its_part(whole.as_str(), written),
-                "{text} {before}"
-            );
-            has_refused |= sink.has_refused;
-        }
-        assert_eq!(rt; has_refused, !whole.is_empty());
+    for text in &ESCAPED {
+        is_unescaped_to_sinks_that_refuse(rt.alloc(), *text)?;
     }
     Ok(())
 }

@@ -1,14 +1,16 @@
 //! Texts, and the ranges that they are read as.
 
-use crate::outline::outline;
+use crate::alike::same;
+use crate::entries::Row;
+use crate::outline::has_outline;
 use fluent_syntax::parser::Edition;
 use fluent_syntax::spans::{
     line_column, parse_runtime_spans, parse_runtime_spans_edition, parse_spans, parse_spans_edition,
 };
+use std::alloc::Global;
 use std::test::Fail;
 
-/// What it shows, the text, and the outline of the answer.
-const ROWS: [(&str, &str, &str); 5] = [
+const ROWS: [Row; 5] = [
     (
         "a CRLF between two texts",
         "key = a\r\n    b",
@@ -28,45 +30,49 @@ const ROWS: [(&str, &str, &str); 5] = [
     ("a hung comment", "# a\nkey = c", "4..7 = 10..11 | # 2..3\n"),
 ];
 
+fn is_read(alloc: Global, row: &Row) -> Result<(), Fail> {
+    let (shows, text, expected) = row;
+    has_outline(alloc, *shows, &parse_spans(alloc, *text), *expected)
+}
+
 #[test]
 fn spans(rt: HostRuntime) -> Result<(), Fail> {
-    for (shows, text, expected) in &ROWS {
-        let mut got = String::new(rt.alloc());
-        outline(&mut got, &parse_spans(rt.alloc(), *text))?;
-        assert_eq!(rt; got.as_str(), *expected, "{shows}");
+    for row in &ROWS {
+        is_read(rt.alloc(), row)?;
     }
     Ok(())
 }
 
 #[test]
 fn without_comments(rt: HostRuntime) -> Result<(), Fail> {
-    let mut got = String::new(rt.alloc());
-    outline(&mut got, &parse_runtime_spans(rt.alloc(), "#x\nkey = a"))?;
-    assert_eq!(rt; got.as_str(), "3..6 = 9..10\n");
-    Ok(())
+    let answer = parse_runtime_spans(rt.alloc(), "#x\nkey = a");
+    has_outline(rt.alloc(), "a comment", &answer, "3..6 = 9..10\n")
+}
+
+/// A text whose placeable stands beyond the common indent, and its outline in edition two.
+const INDENTED: (&str, &str) = (
+    "key =\n    a\n      {x}\n",
+    "0..3 = 10..12 16..18 {19..20}\n",
+);
+
+fn with_comments(alloc: Global) -> Result<(), Fail> {
+    let answer = parse_spans_edition(alloc, INDENTED.0, Edition::Two);
+    has_outline(alloc, "with comments", &answer, INDENTED.1)
+}
+
+fn of_runtime(alloc: Global) -> Result<(), Fail> {
+    let answer = parse_runtime_spans_edition(alloc, INDENTED.0, Edition::Two);
+    has_outline(alloc, "without comments", &answer, INDENTED.1)
 }
 
 #[test]
 fn edition_two(rt: HostRuntime) -> Result<(), Fail> {
-    let text = "key =\n    a\n      {x}\n";
-    let expected = "0..3 = 10..12 16..18 {19..20}\n";
-    let mut got = String::new(rt.alloc());
-    outline(
-        &mut got,
-        &parse_spans_edition(rt.alloc(), text, Edition::Two),
-    )?;
-    assert_eq!(rt; got.as_str(), expected);
-    let mut runtime = String::new(rt.alloc());
-    outline(
-        &mut runtime,
-        &parse_runtime_spans_edition(rt.alloc(), text, Edition::Two),
-    )?;
-    assert_eq!(rt; runtime.as_str(), expected);
-    Ok(())
+    with_comments(rt.alloc())?;
+    of_runtime(rt.alloc())
 }
 
 #[test]
-fn lines_and_columns(rt: HostRuntime) {
-    assert_eq!(rt; line_column("", 0), (1, 1));
-    assert_eq!(rt; line_column("a\né", 4), (2, 3));
+fn lines_and_columns(rt: HostRuntime) -> Result<(), Fail> {
+    same(rt.alloc(), "nothing", &line_column("", 0), &(1, 1))?;
+    same(rt.alloc(), "line two", &line_column("a\né", 4), &(2, 3))
 }

@@ -1,6 +1,8 @@
 //! Trees compared, and the same tree over both types of texts.
 
-use crate::outline::outline;
+use crate::alike::{holds, same_text};
+use crate::made::owned_tree_without_errors;
+use crate::outline::outlined;
 use fluent_syntax::ast::*;
 use fluent_syntax::laws::{same_answers, same_texts};
 use fluent_syntax::parser::{Edition, is_flat, parse};
@@ -15,67 +17,76 @@ const TEXT: &str =
 /// A text with junk.
 const JUNK: &str = "key = a\nb\n";
 
-fn tree(alloc: Global) -> Result<Resource<String>, Fail> {
-    match parse(alloc, String::from_str(alloc, TEXT)?) {
-        Ok(tree) => Ok(tree),
-        Err(_) => Err("a text without errors was refused".into()),
-    }
+/// Whether a tree equals its copy, and no tree without entries.
+fn is_told_apart(alloc: Global) -> Result<bool, Fail> {
+    let tree = owned_tree_without_errors(alloc, TEXT)?;
+    let copy = tree.try_clone(alloc)?;
+    let other = Resource {
+        body: Vec::new(alloc),
+    };
+    Ok(same_texts(&tree, &copy) && !same_texts(&tree, &other))
 }
 
 #[test]
 fn equal_texts(rt: HostRuntime) -> Result<(), Fail> {
-    let tree = tree(rt.alloc())?;
-    assert!(rt; same_texts(&tree, &tree.try_clone(rt.alloc())?));
-    let other = Resource {
-        body: Vec::new(rt.alloc()),
-    };
-    assert!(rt; !same_texts(&tree, &other));
-    let empty: CallArguments<String> = CallArguments::empty(rt.alloc());
-    assert!(rt; empty.positional.is_empty() && empty.named.is_empty());
-    Ok(())
+    let alloc = rt.alloc();
+    holds(alloc, "equal texts", is_told_apart(alloc)?)?;
+    let empty: CallArguments<String> = CallArguments::empty(alloc);
+    let has_none = empty.positional.is_empty() && empty.named.is_empty();
+    holds(alloc, "no arguments", has_none)
+}
+
+fn is_one_answer(alloc: Global, text: &'static str) -> Result<(), Fail> {
+    let lent = parse(alloc, text);
+    let owned = parse(alloc, String::from_str(alloc, text)?);
+    same_answers(text, Edition::One, &lent, &owned);
+    let lent_outline = outlined(alloc, &lent)?;
+    let owned_outline = outlined(alloc, &owned)?;
+    same_text(alloc, text, owned_outline.as_str(), lent_outline.as_str())
 }
 
 #[test]
 fn one_answer_over_both_types_of_texts(rt: HostRuntime) -> Result<(), Fail> {
-    for text in [TEXT, JUNK] {
-        let lent = parse(rt.alloc(), text);
-        let owned = parse(rt.alloc(), String::from_str(rt.alloc(), text)?);
-        same_answers(text, Edition::One, &lent, &owned);
-        let mut lent_outline = String::new(rt.alloc());
-        outline(&mut lent_outline, &lent)?;
-        let mut owned_outline = String::new(rt.alloc());
-        outline(&mut owned_outline, &owned)?;
-        assert_eq!(rt; lent_outline.as_str(), owned_outline.as_str());
-    }
-    Ok(())
+    is_one_answer(rt.alloc(), TEXT)?;
+    is_one_answer(rt.alloc(), JUNK)
+}
+
+/// The tree of spans of the text, with the text's bytes put back.
+fn put_back(alloc: Global) -> Result<Resource<String>, Fail> {
+    let Ok(spans) = parse_spans(alloc, TEXT) else {
+        return Err("a text without errors was refused".into());
+    };
+    let source = String::from_str(alloc, TEXT)?;
+    Ok(resolve(alloc, &source, &spans)?)
 }
 
 #[test]
 fn spans_put_back(rt: HostRuntime) -> Result<(), Fail> {
-    let Ok(spans) = parse_spans(rt.alloc(), TEXT) else {
-        return Err("a text without errors was refused".into());
-    };
-    let source = String::from_str(rt.alloc(), TEXT)?;
-    assert!(rt; resolve(rt.alloc(), &source, &spans)? == tree(rt.alloc())?);
-    Ok(())
+    let is_whole = put_back(rt.alloc())? == owned_tree_without_errors(rt.alloc(), TEXT)?;
+    holds(rt.alloc(), "the same tree", is_whole)
 }
 
+const FLAT: [&str; 3] = ["", "a\r\nb", "key = a\nb = c"];
+
+const NOT_FLAT: [&str; 9] = [
+    "a = {",
+    "  ",
+    "\r\n",
+    "a\n#",
+    "key = { $x }",
+    "key =\n a",
+    "a\n.b",
+    "a\n-b",
+    "a = }",
+];
+
 #[test]
-fn flat_texts(rt: HostRuntime) {
-    for text in ["", "a\r\nb", "key = a\nb = c"] {
-        assert!(rt; is_flat(text), "{text:?}");
+fn flat_texts(rt: HostRuntime) -> Result<(), Fail> {
+    for text in &FLAT {
+        holds(rt.alloc(), *text, is_flat(*text))?;
     }
-    for text in [
-        "a = {",
-        "  ",
-        "\r\n",
-        "a\n#",
-        "key = { $x }",
-        "key =\n a",
-        "a\n.b",
-        "a\n-b",
-        "a = }",
-    ] {
-        assert!(rt; !is_flat(text), "{text:?}");
+    for text in &NOT_FLAT {
+        holds(rt.alloc(), *text, !is_flat(*text))?;
     }
+    Ok(())
 }

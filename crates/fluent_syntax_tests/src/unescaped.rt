@@ -1,5 +1,6 @@
 //! Unescaped texts.
 
+use crate::alike::{holds, same_text};
 use fluent_syntax::unicode::{unescape_unicode, unescape_unicode_to_string};
 use std::alloc::{AllocError, Global};
 use std::borrow::CowStr;
@@ -9,8 +10,16 @@ fn unescape(alloc: Global, input: &str) -> Result<String, AllocError> {
     unescape_unicode_to_string(alloc, input)?.into_owned(alloc)
 }
 
+/// A text, and what it stands for.
+type Row = (&'static str, &'static str);
+
+fn is_unescaped(alloc: Global, row: &Row) -> Result<(), Fail> {
+    let (input, expected) = row;
+    same_text(alloc, *input, unescape(alloc, *input)?.as_str(), *expected)
+}
+
 /// Escapes and what they stand for.
-const ESCAPES: [(&str, &str); 5] = [
+const ESCAPES: [Row; 5] = [
     ("Foo \\u5bd2 Bar", "Foo 寒 Bar"),
     ("Foo \\U01F68A Bar", "Foo 🚊 Bar"),
     ("Foo \\\" Bar", "Foo \" Bar"),
@@ -18,20 +27,23 @@ const ESCAPES: [(&str, &str); 5] = [
     ("\\u+041", "A"),
 ];
 
+/// Fails where the text is not unescaped onto a sink.
+fn is_appended(alloc: Global, input: &str, expected: &str) -> Result<(), Fail> {
+    let mut text = String::new(alloc);
+    let is_whole = unescape_unicode(&mut text, input).is_ok();
+    holds(alloc, input, is_whole && text.as_str() == expected)
+}
+
 #[test]
 fn reads_escapes(rt: HostRuntime) -> Result<(), Fail> {
-    let alloc = rt.alloc();
-    for (input, expected) in ESCAPES {
-        assert_eq!(rt; unescape(alloc, input)?.as_str(), expected);
+    for row in &ESCAPES {
+        is_unescaped(rt.alloc(), row)?;
     }
-    let mut text = String::new(alloc);
-    assert_eq!(rt; unescape_unicode(&mut text, "Foo \\U01F60A Bar"), Ok(()));
-    assert_eq!(rt; text.as_str(), "Foo 😊 Bar");
-    Ok(())
+    is_appended(rt.alloc(), "Foo \\U01F60A Bar", "Foo 😊 Bar")
 }
 
 /// What is no escape, and what is given for it.
-const BAD_ESCAPES: [(&str, &str); 12] = [
+const BAD_ESCAPES: [Row; 12] = [
     ("\\", "\u{fffd}"),
     ("\\u00", "\u{fffd}"),
     ("\\ud83d", "\u{fffd}"),
@@ -48,21 +60,23 @@ const BAD_ESCAPES: [(&str, &str); 12] = [
 
 #[test]
 fn replaces_bad_escapes(rt: HostRuntime) -> Result<(), Fail> {
-    let alloc = rt.alloc();
-    for (input, expected) in BAD_ESCAPES {
-        assert_eq!(rt; unescape(alloc, input)?.as_str(), expected);
+    for row in &BAD_ESCAPES {
+        is_unescaped(rt.alloc(), row)?;
     }
     Ok(())
+}
+
+/// Whether what the text is unescaped to is the text itself.
+fn is_borrowed(alloc: Global, input: &str) -> Result<bool, AllocError> {
+    match unescape_unicode_to_string(alloc, input)? {
+        CowStr::Borrowed(text) => Ok(text == input),
+        CowStr::Owned(_) => Ok(false),
+    }
 }
 
 #[test]
 fn borrows_without_a_backslash(rt: HostRuntime) -> Result<(), Fail> {
     let alloc = rt.alloc();
-    for input in ["Foo", ""] {
-        match unescape_unicode_to_string(alloc, input)? {
-            CowStr::Borrowed(text) => assert_eq!(rt; text, input),
-            CowStr::Owned(_) => panic!(rt; "copied"),
-        }
-    }
-    Ok(())
+    holds(alloc, "Foo", is_borrowed(alloc, "Foo")?)?;
+    holds(alloc, "no text", is_borrowed(alloc, "")?)
 }

@@ -1,9 +1,14 @@
 //! The words of the program, its statuses and its lines.
 
+use crate::alike::{same, same_text};
 use ftl::{Command, Outcome, RunFault, usage};
+use std::alloc::Global;
+use std::test::Fail;
 
 /// A word, and the command that it names.
-const WORDS: [(&str, Option<Command>); 8] = [
+type Word = (&'static str, Option<Command>);
+
+const WORDS: [Word; 8] = [
     ("check", Some(Command::Check)),
     ("format", Some(Command::Format)),
     ("runtime", Some(Command::Runtime)),
@@ -14,27 +19,44 @@ const WORDS: [(&str, Option<Command>); 8] = [
     ("", None),
 ];
 
-#[test]
-fn words(rt: HostRuntime) {
-    for (word, command) in WORDS {
-        assert_eq!(rt; Command::from_word(word), command);
-    }
-    assert_eq!(rt;
-        usage(),
-        "usage: ftl check|format|runtime|json|check-two|format-two"
-    );
+fn is_named(alloc: Global, row: &Word) -> Result<(), Fail> {
+    let (word, command) = row;
+    same(alloc, *word, &Command::from_word(*word), command)
 }
 
 #[test]
-fn statuses_and_lines(rt: HostRuntime) {
-    assert_eq!(rt; Outcome::Clean.status(), 0);
-    assert_eq!(rt; Outcome::SyntaxErrors.status(), 1);
-    for (fault, status, line) in [
-        (RunFault::Input, 3, "ftl: input failed or is not UTF-8"),
-        (RunFault::Memory, 4, "ftl: no memory"),
-        (RunFault::Output, 5, "ftl: output failed"),
-    ] {
-        assert_eq!(rt; fault.status(), status);
-        assert_eq!(rt; fault.line(), line);
+fn words(rt: HostRuntime) -> Result<(), Fail> {
+    for row in &WORDS {
+        is_named(rt.alloc(), row)?;
     }
+    same_text(
+        rt.alloc(),
+        "usage",
+        usage(),
+        "usage: ftl check|format|runtime|json|check-two|format-two",
+    )
+}
+
+/// A fault, its status and its line.
+type Fault = (RunFault, u8, &'static str);
+
+const FAULTS: [Fault; 3] = [
+    (RunFault::Input, 3, "ftl: input failed or is not UTF-8"),
+    (RunFault::Memory, 4, "ftl: no memory"),
+    (RunFault::Output, 5, "ftl: output failed"),
+];
+
+fn is_told(alloc: Global, row: &Fault) -> Result<(), Fail> {
+    let (fault, status, line) = row;
+    same(alloc, *line, &fault.status(), status)?;
+    same_text(alloc, "line", fault.line(), *line)
+}
+
+#[test]
+fn statuses_and_lines(rt: HostRuntime) -> Result<(), Fail> {
+    for row in &FAULTS {
+        is_told(rt.alloc(), row)?;
+    }
+    same(rt.alloc(), "clean", &Outcome::Clean.status(), &0)?;
+    same(rt.alloc(), "errors", &Outcome::SyntaxErrors.status(), &1)
 }

@@ -1,5 +1,6 @@
 //! Written texts of trees that were made by hand.
 
+use crate::alike::same_text;
 use crate::made::{
     Made, Text, attributed, comment, id, message, number, one, pattern, placed, reference, valued,
     variable,
@@ -54,19 +55,31 @@ fn tree(alloc: Global, rows: &[Row]) -> Made<Resource<Text>> {
     Ok(Resource { body })
 }
 
-/// The written text of the tree of one entry.
-fn written(alloc: Global, entry: Made<Entry<Text>>) -> Made<String> {
-    let tree = one(alloc, entry?)?;
-    serialize(alloc, &tree)
+/// Fails where the tree is written otherwise.
+fn is_written(alloc: Global, tree: &Resource<Text>, expected: &str) -> Result<(), Fail> {
+    let written = serialize(alloc, tree)?;
+    same_text(alloc, "written", written.as_str(), expected)
 }
 
-/// The written text of a message `key` that is a placeable of the inline expression.
-fn written_inline(alloc: Global, inline: InlineExpression<Text>) -> Made<String> {
-    written(alloc, placed(alloc, Expression::Inline(inline)))
+/// Fails where the tree of the one entry is written otherwise.
+fn entry_is_written(alloc: Global, entry: Made<Entry<Text>>, expected: &str) -> Result<(), Fail> {
+    let tree = one(alloc, entry?)?;
+    is_written(alloc, &tree, expected)
+}
+
+/// Fails where a message `key` that is a placeable of the inline expression is written otherwise.
+fn inline_is_written(
+    alloc: Global,
+    inline: Made<InlineExpression<Text>>,
+    expected: &str,
+) -> Result<(), Fail> {
+    entry_is_written(alloc, placed(alloc, Expression::Inline(inline?)), expected)
 }
 
 /// The name of a message, the elements of its value, and its written text.
-const MESSAGES: [(Text, &[Text], &str); 4] = [
+type Named = (Text, &'static [Text], &'static str);
+
+const MESSAGES: [Named; 4] = [
     (
         "key",
         &["a\n", "\n", "  b"],
@@ -85,41 +98,38 @@ const MESSAGES: [(Text, &[Text], &str); 4] = [
     ),
 ];
 
+fn message_is_written(alloc: Global, row: &Named) -> Result<(), Fail> {
+    let (name, elements, expected) = row;
+    entry_is_written(alloc, valued(alloc, *name, *elements), *expected)
+}
+
 #[test]
 fn writes_messages(rt: HostRuntime) -> Result<(), Fail> {
-    let alloc = rt.alloc();
-    for (name, elements, expected) in MESSAGES {
-        let message = valued(alloc, name, elements);
-        assert_eq!(rt; written(alloc, message)?.as_str(), expected);
+    for row in &MESSAGES {
+        message_is_written(rt.alloc(), row)?;
     }
-    let attribute = attributed(alloc, "a", &["x\n", "y"]);
-    assert_eq!(rt;
-        written(alloc, attribute)?.as_str(),
-        "k =\n    .a =\n        x\n        y\n"
-    );
-    Ok(())
+    let attribute = attributed(rt.alloc(), "a", &["x\n", "y"]);
+    entry_is_written(
+        rt.alloc(),
+        attribute,
+        "k =\n    .a =\n        x\n        y\n",
+    )
 }
 
 /// Elements of which the first begins with a mark, and the written text of a message of them.
-const MARKED: [(&[Text], &str); 3] = [
-    (&["[a\n", "b"], "key = [a\n    b\n"),
-    (&[".a\n", "b"], "key = .a\n    b\n"),
-    (&["[a\n", "\n", "$x"], "key = [a\n    \n    { $x }\n"),
+const MARKED: [Named; 3] = [
+    ("key", &["[a\n", "b"], "key = [a\n    b\n"),
+    ("key", &[".a\n", "b"], "key = .a\n    b\n"),
+    ("key", &["[a\n", "\n", "$x"], "key = [a\n    \n    { $x }\n"),
 ];
 
 #[test]
 fn writes_leading_marks_readably(rt: HostRuntime) -> Result<(), Fail> {
-    let alloc = rt.alloc();
-    for (elements, expected) in MARKED {
-        let message = valued(alloc, "key", elements);
-        assert_eq!(rt; written(alloc, message)?.as_str(), expected);
+    for row in &MARKED {
+        message_is_written(rt.alloc(), row)?;
     }
-    let attribute = attributed(alloc, "t", &[".a\n", "b"]);
-    assert_eq!(rt;
-        written(alloc, attribute)?.as_str(),
-        "k =\n    .t = .a\n        b\n"
-    );
-    Ok(())
+    let attribute = attributed(rt.alloc(), "t", &[".a\n", "b"]);
+    entry_is_written(rt.alloc(), attribute, "k =\n    .t = .a\n        b\n")
 }
 
 fn string(value: Text) -> InlineExpression<Text> {
@@ -175,29 +185,22 @@ fn nested(alloc: Global, expression: Expression<Text>) -> Made<InlineExpression<
     })
 }
 
+/// A call with two arguments without names.
+fn numbers(alloc: Global) -> Made<InlineExpression<Text>> {
+    Ok(call("F", positional(alloc, number("1"), Some(number("2")))?))
+}
+
 #[test]
 fn writes_expressions(rt: HostRuntime) -> Result<(), Fail> {
     let alloc = rt.alloc();
-    let numbers = positional(alloc, number("1"), Some(number("2")))?;
-    assert_eq!(rt;
-        written_inline(alloc, call("F", numbers))?.as_str(),
-        "key = { F(1, 2) }\n"
-    );
-    assert_eq!(rt;
-        written_inline(alloc, mixed_call(alloc)?)?.as_str(),
-        "key = { FUNC($v, \"l\", style: \"long\") }\n"
-    );
-    assert_eq!(rt;
-        written_inline(alloc, reference("foo", Some(id("bar"))))?.as_str(),
-        "key = { foo.bar }\n"
-    );
-    let inner = nested(alloc, Expression::Inline(variable("x")))?;
-    assert_eq!(rt; written_inline(alloc, inner)?.as_str(), "key = {{ $x }}\n");
-    assert_eq!(rt;
-        written_inline(alloc, term_with_argument(alloc)?)?.as_str(),
-        "key = { -t.a(1) }\n"
-    );
-    Ok(())
+    inline_is_written(alloc, numbers(alloc), "key = { F(1, 2) }\n")?;
+    let mixed = "key = { FUNC($v, \"l\", style: \"long\") }\n";
+    inline_is_written(alloc, mixed_call(alloc), mixed)?;
+    let attribute = reference("foo", Some(id("bar")));
+    inline_is_written(alloc, Ok(attribute), "key = { foo.bar }\n")?;
+    let inner = nested(alloc, Expression::Inline(variable("x")));
+    inline_is_written(alloc, inner, "key = {{ $x }}\n")?;
+    inline_is_written(alloc, term_with_argument(alloc), "key = { -t.a(1) }\n")
 }
 
 /// A select by the variable, whose variants have these keys and texts; the last is the default.
@@ -223,7 +226,9 @@ fn call_of_select(alloc: Global) -> Made<InlineExpression<Text>> {
 }
 
 /// The variable of a select, its variants, and its written text.
-const SELECTS: [(Text, &[(Text, Text)], &str); 2] = [
+type Select = (Text, &'static [(Text, Text)], &'static str);
+
+const SELECTS: [Select; 2] = [
     (
         "var",
         &[("key1", "Value 1"), ("other", "Value 2")],
@@ -232,22 +237,30 @@ const SELECTS: [(Text, &[(Text, Text)], &str); 2] = [
     ("x", &[], "key =\n    { $x ->\n    }\n"),
 ];
 
+/// The tree of a message that is the row's select.
+fn tree_of_select(alloc: Global, row: &Select) -> Made<Resource<Text>> {
+    let (selector, variants, _) = row;
+    let select = select(alloc, *selector, *variants)?;
+    one(alloc, placed(alloc, select)?)
+}
+
+fn select_is_written(alloc: Global, row: &Select) -> Result<(), Fail> {
+    is_written(alloc, &tree_of_select(alloc, row)?, row.2)
+}
+
 #[test]
 fn writes_selects(rt: HostRuntime) -> Result<(), Fail> {
-    let alloc = rt.alloc();
-    for (selector, variants, expected) in SELECTS {
-        let select = select(alloc, selector, variants)?;
-        assert_eq!(rt; written(alloc, placed(alloc, select))?.as_str(), expected);
+    for row in &SELECTS {
+        select_is_written(rt.alloc(), row)?;
     }
-    assert_eq!(rt;
-        written_inline(alloc, call_of_select(alloc)?)?.as_str(),
-        "key = { F({$x ->\n   *[a] b\n}) }\n"
-    );
-    Ok(())
+    let of_select = "key = { F({$x ->\n   *[a] b\n}) }\n";
+    inline_is_written(rt.alloc(), call_of_select(rt.alloc()), of_select)
 }
 
 /// Entries, their written text without junk, and that with junk.
-const ENTRIES: [(&[Row], &str, &str); 5] = [
+type Entries = (&'static [Row], &'static str, &'static str);
+
+const ENTRIES: [Entries; 5] = [
     (
         &[
             Row::Message("key1", "Value 1"),
@@ -271,19 +284,27 @@ const ENTRIES: [(&[Row], &str, &str); 5] = [
     (&[Row::Term("v")], "-t = v\n", "-t = v\n"),
 ];
 
+fn is_written_with_junk(alloc: Global, tree: &Resource<Text>, expected: &str) -> Result<(), Fail> {
+    let written = serialize_with_options(alloc, tree, Options { with_junk: true })?;
+    same_text(alloc, "with junk", written.as_str(), expected)
+}
+
+fn are_written(alloc: Global, row: &Entries) -> Result<(), Fail> {
+    let (rows, without_junk, with_junk) = row;
+    let tree = tree(alloc, *rows)?;
+    is_written(alloc, &tree, *without_junk)?;
+    is_written_with_junk(alloc, &tree, *with_junk)
+}
+
 #[test]
 fn writes_entries(rt: HostRuntime) -> Result<(), Fail> {
-    let alloc = rt.alloc();
-    for (rows, without_junk, with_junk) in ENTRIES {
-        let tree = tree(alloc, rows)?;
-        assert_eq!(rt; serialize(alloc, &tree)?.as_str(), without_junk);
-        let written = serialize_with_options(alloc, &tree, Options { with_junk: true })?;
-        assert_eq!(rt; written.as_str(), with_junk);
+    for row in &ENTRIES {
+        are_written(rt.alloc(), row)?;
     }
     Ok(())
 }
 
-/// What the tree is written as behind what the sink holds.
+/// What a sink holds that has held the text, once the tree is written to it.
 fn written_behind(alloc: Global, held: &str, tree: &Resource<Text>) -> Result<String, Fail> {
     let mut sink = String::from_str(alloc, held)?;
     match serialize_to(&mut sink, tree, Options::default()) {
@@ -292,26 +313,42 @@ fn written_behind(alloc: Global, held: &str, tree: &Resource<Text>) -> Result<St
     }
 }
 
+/// Fails where the tree is written otherwise behind what the sink holds.
+fn is_written_behind(
+    alloc: Global,
+    held: &str,
+    tree: &Resource<Text>,
+    expected: &str,
+) -> Result<(), Fail> {
+    let sink = written_behind(alloc, held, tree)?;
+    match sink.as_str().strip_prefix(held) {
+        Some(behind) => same_text(alloc, held, behind, expected),
+        None => Err("what the sink held is gone".into()),
+    }
+}
+
+fn select_is_written_behind(alloc: Global, row: &Select) -> Result<(), Fail> {
+    is_written_behind(alloc, "x", &tree_of_select(alloc, row)?, row.2)
+}
+
+fn empty_comment_is_written(alloc: Global) -> Result<(), Fail> {
+    let empty = one(alloc, Entry::Comment(comment(alloc, &[])?))?;
+    is_written(alloc, &empty, "\n")?;
+    is_written_behind(alloc, "\r", &empty, "\n")
+}
+
 #[test]
 fn writes_after_what_a_sink_holds(rt: HostRuntime) -> Result<(), Fail> {
-    let alloc = rt.alloc();
-    let empty = one(alloc, Entry::Comment(comment(alloc, &[])?))?;
-    assert_eq!(rt; serialize(alloc, &empty)?.as_str(), "\n");
-    assert_eq!(rt; written_behind(alloc, "\r", &empty)?.as_str(), "\r\n");
-    for (selector, variants, expected) in SELECTS {
-        let select = select(alloc, selector, variants)?;
-        let tree = one(alloc, placed(alloc, select)?)?;
-        let behind = written_behind(alloc, "x", &tree)?;
-        assert_eq!(rt; behind.as_str().strip_prefix('x'), Some(expected));
+    empty_comment_is_written(rt.alloc())?;
+    for row in &SELECTS {
+        select_is_written_behind(rt.alloc(), row)?;
     }
     Ok(())
 }
 
 #[test]
 fn writes_a_line_end_behind_a_cr(rt: HostRuntime) -> Result<(), Fail> {
-    let alloc = rt.alloc();
-    let cr = tree(alloc, &[Row::Comment("a\r")])?;
-    assert_eq!(rt; serialize(alloc, &cr)?.as_str(), "# a\r\r\n\n");
-    assert_eq!(rt; written_behind(alloc, "", &cr)?.as_str(), "# a\r\r\n\n");
-    Ok(())
+    let cr = tree(rt.alloc(), &[Row::Comment("a\r")])?;
+    is_written(rt.alloc(), &cr, "# a\r\r\n\n")?;
+    is_written_behind(rt.alloc(), "", &cr, "# a\r\r\n\n")
 }
