@@ -10,6 +10,7 @@ use Rattle.fluent_syntax_tree.specs.declared.edition.Edition.TheVariants.{One, T
 use Rattle.fluent_syntax_tree.specs.declared.errors.ParserError.{ParserError}
 use Rattle.fluent_syntax_tree.specs.declared.spans.Span.{Span}
 use Rattle.fluent_syntax_grammar.specs.Body.{faults, body}
+use Rattle.fluent_syntax_grammar.specs.Nesting.{NestsDeeper, RuntimeNestsDeeper}
 use Rattle.fluent_syntax_grammar.specs.Tiling.{Fault, Tile, Tiling, RuntimeTiling}
 use Rattle.fluent_syntax_grammar.specs.Written.{written}
 use Rattle.fluent_syntax_json.specs.Form.{body_form}
@@ -78,6 +79,15 @@ HasTiles Runtime t tiles = RuntimeTiling One t tiles
 HasTiles Json t tiles = Tiling One t tiles
 HasTiles CheckTwo t tiles = Tiling Two t tiles
 HasTiles FormatTwo t tiles = Tiling Two t tiles
+
+-- The source nests deeper than n, read as the command reads it.
+abbrev pub ReadsDeeper : Command → List ℕ → (n : ℕ) → Type 0
+ReadsDeeper Check t n = NestsDeeper One t n
+ReadsDeeper Format t n = NestsDeeper One t n
+ReadsDeeper Runtime t n = RuntimeNestsDeeper One t n
+ReadsDeeper Json t n = NestsDeeper One t n
+ReadsDeeper CheckTwo t n = NestsDeeper Two t n
+ReadsDeeper FormatTwo t n = NestsDeeper Two t n
 
 -- the command's text of a source with these tiles
 abbrev pub text_of : Command → List ℕ → List Tile → List ℕ

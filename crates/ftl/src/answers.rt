@@ -4,13 +4,15 @@ ghost use Rattle.std.specs.Str.{IsUtf8};
 ghost use Rattle.fluent_syntax_tree.specs.Entry.{body_map};
 ghost use Rattle.fluent_syntax_tree.specs.Spans.{bytes_at};
 ghost use Rattle.fluent_syntax_tree.specs.View.{resource_view};
+ghost use Rattle.fluent_syntax_grammar.specs.Nesting.{NestsDeeper};
 ghost use Rattle.fluent_syntax_grammar.specs.Tiling.{Tile, Tiling};
 ghost use Rattle.fluent_syntax_grammar.specs.Written.{written};
 ghost use Rattle.fluent_syntax_json.specs.Form.{body_form};
 ghost use Rattle.serde_json.specs.Written.{compact_text};
 ghost use Rattle.fluent_syntax_parser.specs.Answers.{Answers};
-ghost use Rattle.fluent_syntax_parser.specs.Halts.{HaltsWithin};
-ghost use Rattle.ftl.specs.Answer.{IsAnswer, error_lines, error_text, line_of_error, range_text, json_text, normal_text, outcome_of, told};
+ghost use Rattle.fluent_syntax_parser.specs.Halts.{HaltsWithin, OnHalt};
+ghost use Rattle.fluent_syntax_parser.specs.declared.fault.ParseFault.TheVariants.{Memory};
+ghost use Rattle.ftl.specs.Answer.{IsAnswer, ReadsDeeper, error_lines, error_text, line_of_error, range_text, json_text, normal_text, outcome_of, told};
 
 use crate::command::Command;
 use crate::outcome::{Outcome, RunFault};
@@ -56,6 +58,8 @@ pub fn answer_within(
     ensures input { (result ≡ Ok (Err RunFault.Input)) ↔ ¬ (IsUtf8 input.now) }
     ensures output { result ≢ Ok (Err RunFault.Output) }
     ensures deep { OnErr result (nesting < length input.now) }
+    ensures deeper { OnErr result (ReadsDeeper command input.now nesting) }
+    ensures shallow { IfOk result (λ answer. IfOk answer (λ given. ReadsDeeper command input.now nesting → ⊥)) }
 {
     let Ok(text) = str::from_utf8(input) else {
         return Ok(Err(RunFault::Input));
@@ -89,6 +93,8 @@ fn check(
         × (string_bytes given.0 ≡ error_lines text.now tiles) × (given.1 ≡ outcome_of tiles))) }
     ensures err { IfOk result (λ answer. IfErr answer (λ fault. fault ≡ RunFault.Memory)) }
     ensures deep { OnErr result (nesting < length text.now) }
+    ensures deeper { OnErr result (NestsDeeper edition text.now nesting) }
+    ensures shallow { IfOk result (λ answer. IfOk answer (λ given. NestsDeeper edition text.now nesting → ⊥)) }
 {
     match lines(alloc, text, edition, nesting) {
         Ok(lines) => {
@@ -110,6 +116,8 @@ fn lines(alloc: Global, text: &str, edition: Edition, nesting: usize) -> Result<
     ensures text { IfOk result (λ lines. (tiles : List Tile) × Tiling edition text.now tiles
         × (string_bytes lines ≡ error_lines text.now tiles)) }
     ensures nests { IfErr result (HaltsWithin nesting (length text.now)) }
+    ensures deeper { IfErr result (OnHalt (NestsDeeper edition text.now nesting)) }
+    ensures shallow { IfOk result (λ lines. NestsDeeper edition text.now nesting → ⊥) }
 {
     let options = Options {
         edition,
@@ -193,6 +201,7 @@ fn junk_of(error: &ParserError) -> Span
 fn format<'s>(alloc: Global, parsed: parser::Result<&'s str>) -> Result<(String, Outcome), RunFault>
     ensures text { IfOk result (λ answer. (t : List ℕ) (tiles : List Tile) → Answers (λ s. s.now) (body_map (bytes_at t)) tiles parsed.entry
         → (string_bytes answer.0 ≡ normal_text t tiles) × (answer.1 ≡ outcome_of tiles)) }
+    ensures read { IfOk result (λ answer. parsed.entry ≢ Err Memory) }
     ensures err { IfErr result (λ fault. fault ≡ RunFault.Memory) }
 {
     match parsed {
@@ -220,6 +229,7 @@ fn written<'s>(
 fn json<'s>(alloc: Global, parsed: parser::Result<&'s str>) -> Result<(String, Outcome), RunFault>
     ensures text { IfOk result (λ answer. (t : List ℕ) (tiles : List Tile) → Answers (λ s. s.now) (body_map (bytes_at t)) tiles parsed.entry
         → (string_bytes answer.0 ≡ json_text t tiles) × (answer.1 ≡ outcome_of tiles)) }
+    ensures read { IfOk result (λ answer. parsed.entry ≢ Err Memory) }
     ensures err { IfErr result (λ fault. fault ≡ RunFault.Memory) }
 {
     match parsed {

@@ -10,6 +10,7 @@ loop-out-init c = record {
   nesting = ap (λ options. options.nesting) c.new-entries.ensures.options;
   places = c.new-places.ensures;
   checked = rw (c.new-entries.ensures.start, c.new-out.ensures.bytes) (nothing_checked c.args.edition c.args.text.now);
+  deeper = rw c.new-entries.ensures.start (λ d. d, λ d. d);
 }
 
 pub write_error_of-requires : goal.write_error_of-requires
@@ -38,6 +39,9 @@ loop-out-preserved c =
       nesting = ap (λ options. options.nesting) here.options ∙ inv.nesting;
       places = c.in_ok-write_error_of.ensures.source ∙ inv.places;
       checked = checked_on c.args.edition t _ _ inv.checked _ read.0 read.1 next _ line;
+      deeper =
+          let here = rw (inv.text, inv.edition, inv.comments, inv.nesting, c.in-Some.is) at here.shallow in
+          (λ d. inv.deeper.0 (here.1 d), λ d. here.0 (inv.deeper.1 d));
     }
 
 pub returns-clause-text : goal.returns-clause-text
