@@ -29,8 +29,9 @@ impl<'a, 's, S: Slice<'s>> CopyTexts<Span, S> for Parts<'a, 's, S> {
     }
 }
 
-/// The entry with the source's text at each span in its place, or `AllocError` where there is no memory for it.
-pub(crate) fn resolve_entry<'s, S: Slice<'s>>(
+/// The entry with the source's text at each span in its place, or `AllocError` where there is no memory for it. Each
+/// span has to be an ordered range within the source, at character boundaries.
+pub fn resolve_entry<'s, S: Slice<'s>>(
     alloc: Global,
     source: &S,
     entry: &Entry<Span>,

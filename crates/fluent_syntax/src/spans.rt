@@ -1,7 +1,7 @@
 //! Trees of ranges of their source.
 
 pub use crate::lines::{Lines, line_column};
-pub use crate::resolved::resolve;
+pub use crate::resolved::{resolve, resolve_entry};
 pub use fluent_syntax_parser::entries::Entries;
 pub use fluent_syntax_parser::options::{Comments, Halt, Options};
 pub use fluent_syntax_parser::{

@@ -61,3 +61,5 @@ mod unescaped;
 mod words;
 #[cfg(test)]
 mod written;
+#[cfg(test)]
+mod written_one_by_one;

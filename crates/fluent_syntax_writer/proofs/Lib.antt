@@ -1,5 +1,6 @@
 pub mod Arguments
 pub mod Bytes
+pub mod EntrySteps
 pub mod Escapes
 pub mod Indents
 pub mod Leaves

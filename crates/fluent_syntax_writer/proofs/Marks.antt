@@ -14,7 +14,7 @@ literal-top last bs = top (is_last 10 last)
     top true = refl
     top false = refl
 
-text_after-append : (last : Option ℕ) (ms ns : List Mark)
+pub text_after-append : (last : Option ℕ) (ms ns : List Mark)
     → text_after last (ms ++ ns) ≡ text_after last ms ++ text_after (last_of last (text_after last ms)) ns
 text_after-append last [] ns = refl
 text_after-append last (m ∷ ms) ns =

@@ -40,6 +40,21 @@ impl<'w, T, W: TextSink> TextWriter<'w, T, W> {
         }
     }
 
+    /// A writer that goes on after another to the same sink, where that one left off.
+    pub(crate) fn resumed(sink: &'w mut W, last: Option<u8>, refused: bool) -> Self
+        ensures same_sink { result.sink.ghost_name ≡ sink.entry.ghost_name }
+        ensures sink { result.sink.now ≡ sink.old }
+        ensures last { result.last ≡ last }
+        ensures refused { result.refused ≡ refused }
+    {
+        TextWriter {
+            sink,
+            last,
+            refused,
+            texts: PhantomData,
+        }
+    }
+
     /// Whether the sink has refused a piece.
     pub fn has_refused(&self) -> bool
         ensures { result ≡ self.now.refused }

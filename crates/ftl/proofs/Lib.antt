@@ -2,3 +2,4 @@ pub mod Bytes
 pub mod Checked
 pub mod Errors
 pub mod FormattedAgain
+pub mod FormattedTo

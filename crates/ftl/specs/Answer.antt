@@ -67,6 +67,11 @@ abbrev pub outcome_with : List Fault → Outcome
 outcome_with [] = Clean
 outcome_with (f ∷ fs) = SyntaxErrors
 
+-- the outcome of what was found so far and of an entry behind it, with the entry's error if there is one
+abbrev pub outcome_behind : Outcome → Option ParserError → Outcome
+outcome_behind outcome None = outcome
+outcome_behind outcome (Some error) = SyntaxErrors
+
 -- the outcome of a source with these tiles
 abbrev pub outcome_of : List Tile → Outcome
 outcome_of tiles = outcome_with (faults tiles)

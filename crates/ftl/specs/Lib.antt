@@ -4,3 +4,4 @@ pub mod Watched
 pub mod Answer
 pub mod Run
 pub mod Formatted
+pub mod Formatting

@@ -1,29 +1,29 @@
 //! The text that a command writes.
 ghost use Rattle.std.specs.Prelude.{◌≡◌, ◌≢◌, ◌↔◌, ◌+◌, ◌++◌, ◌^◌, ◌<◌, ◌≤◌, ℕ, List, length, string_bytes, codes, Err, Ok, IfErr, IfOk, IfSome, OnErr, OnOk, false};
 ghost use Rattle.std.specs.Str.{IsUtf8};
-ghost use Rattle.fluent_syntax_tree.specs.Entry.{body_map};
-ghost use Rattle.fluent_syntax_tree.specs.Spans.{bytes_at};
+ghost use Rattle.fluent_syntax_tree.specs.Entry.{body_map, entry_map};
+ghost use Rattle.fluent_syntax_tree.specs.Every.{entry_every};
+ghost use Rattle.fluent_syntax_tree.specs.Spans.{IsPart, bytes_at};
 ghost use Rattle.fluent_syntax_tree.specs.View.{resource_view};
-ghost use Rattle.fluent_syntax_grammar.specs.Nesting.{NestsDeeper};
-ghost use Rattle.fluent_syntax_grammar.specs.Tiling.{Tile, Tiling};
-ghost use Rattle.fluent_syntax_grammar.specs.Written.{written};
+ghost use Rattle.fluent_syntax_grammar.specs.Nesting.{NestsDeeper, TextDeeper};
+ghost use Rattle.fluent_syntax_grammar.specs.Tiling.{Tile, Tiled, Tiling};
 ghost use Rattle.fluent_syntax_json.specs.Form.{body_form};
 ghost use Rattle.serde_json.specs.Written.{compact_text};
 ghost use Rattle.fluent_syntax_parser.specs.Answers.{Answers};
 ghost use Rattle.fluent_syntax_parser.specs.Halts.{HaltsWithin, OnHalt};
+ghost use Rattle.fluent_syntax_parser.specs.Rest.{TileIn, tree_of};
 ghost use Rattle.fluent_syntax_parser.specs.declared.fault.ParseFault.TheVariants.{Memory};
-ghost use Rattle.ftl.specs.Answer.{IsAnswer, ReadsDeeper, error_lines, error_text, line_of_error, range_text, json_text, normal_text, outcome_of, told};
+ghost use Rattle.ftl.specs.Formatting.{AddsTree};
+ghost use Rattle.ftl.specs.Answer.{IsAnswer, ReadsDeeper, error_lines, error_text, line_of_error, range_text, json_text, normal_text, outcome_behind, outcome_of, told};
 
 use crate::command::Command;
 use crate::outcome::{Outcome, RunFault};
 use fluent_syntax::ast::{Entry, Resource};
-use fluent_syntax::parser;
-use fluent_syntax::parser::{
-    Edition, ParseFault, ParserError, TooDeep, parse_runtime_within, parse_within,
-};
-use fluent_syntax::serializer::serialize;
-use fluent_syntax::spans::{Comments, Entries, Halt, Lines, Options, Span};
+use fluent_syntax::parser::{Edition, ParseFault, ParserError, TooDeep, parse_within};
+use fluent_syntax::serializer::EntryWriter;
+use fluent_syntax::spans::{Comments, Entries, Halt, Lines, Options, Span, resolve_entry};
 use fluent_syntax::unicode::SinkError;
+use fluent_syntax::{parser, serializer};
 use fluent_syntax_json::write_to;
 use std::alloc::{AllocError, Global};
 use std::fmt::Write;
@@ -70,12 +70,9 @@ pub fn answer_within(
     let answer = match command {
         Command::Check => check(alloc, text, Edition::One, nesting)?,
         Command::CheckTwo => check(alloc, text, Edition::Two, nesting)?,
-        Command::Format => format(alloc, parse_within(alloc, text, Edition::One, nesting)?),
-        Command::FormatTwo => format(alloc, parse_within(alloc, text, Edition::Two, nesting)?),
-        Command::Runtime => format(
-            alloc,
-            parse_runtime_within(alloc, text, Edition::One, nesting)?,
-        ),
+        Command::Format => format(alloc, text, Edition::One, Comments::Kept, nesting)?,
+        Command::FormatTwo => format(alloc, text, Edition::Two, Comments::Kept, nesting)?,
+        Command::Runtime => format(alloc, text, Edition::One, Comments::Dropped, nesting)?,
         Command::Json => json(alloc, parse_within(alloc, text, Edition::One, nesting)?),
     };
     Ok(answer)
@@ -197,31 +194,99 @@ fn junk_of(error: &ParserError) -> Span
     }
 }
 
-/// The text of the tree that was read, without its junk.
-fn format<'s>(alloc: Global, parsed: parser::Result<&'s str>) -> Result<(String, Outcome), RunFault>
-    ensures text { IfOk result (λ answer. (t : List ℕ) (tiles : List Tile) → Answers (λ s. s.now) (body_map (bytes_at t)) tiles parsed.entry
-        → (string_bytes answer.0 ≡ normal_text t tiles) × (answer.1 ≡ outcome_of tiles)) }
-    ensures read { IfOk result (λ answer. parsed.entry ≢ Err Memory) }
-    ensures err { IfErr result (λ fault. fault ≡ RunFault.Memory) }
+/// The text of the tree of the text, without its junk.
+fn format(
+    alloc: Global,
+    text: &str,
+    edition: Edition,
+    comments: Comments,
+    nesting: usize,
+) -> Result<Result<(String, Outcome), RunFault>, TooDeep>
+    ensures text { IfOk result (λ answer. IfOk answer (λ given. (tiles : List Tile)
+        × Tiled text.now (TileIn comments edition text.now) 0 tiles
+        × (string_bytes given.0 ≡ normal_text text.now tiles) × (given.1 ≡ outcome_of tiles))) }
+    ensures err { IfOk result (λ answer. IfErr answer (λ fault. fault ≡ RunFault.Memory)) }
+    ensures deep { OnErr result (nesting < length text.now) }
+    ensures deeper { OnErr result (TextDeeper edition text.now (TileIn comments edition text.now) nesting 0) }
+    ensures shallow { IfOk result (λ answer. IfOk answer (λ given.
+        TextDeeper edition text.now (TileIn comments edition text.now) nesting 0 → ⊥)) }
 {
-    match parsed {
-        Ok(tree) => written(alloc, &tree, Outcome::Clean),
-        Err(ParseFault::Syntax(tree, _errors)) => written(alloc, &tree, Outcome::SyntaxErrors),
-        Err(ParseFault::Memory) => Err(RunFault::Memory),
+    let options = Options {
+        edition,
+        comments,
+        nesting,
+    };
+    match normal(alloc, text, options) {
+        Ok(given) => Ok(Ok(given)),
+        Err(Halt::Memory) => Ok(Err(RunFault::Memory)),
+        Err(Halt::TooDeep) => Err(TooDeep),
     }
 }
 
-fn written<'s>(
-    alloc: Global,
-    tree: &Resource<&'s str>,
-    outcome: Outcome,
-) -> Result<(String, Outcome), RunFault>
-    ensures text { IfOk result (λ answer. (string_bytes answer.0 ≡ written false (resource_view (λ s. s.now) tree.now)) × (answer.1 ≡ outcome)) }
-    ensures err { IfErr result (λ fault. fault ≡ RunFault.Memory) }
+/// The same, written as the entries come: none of them is kept.
+fn normal(alloc: Global, text: &str, options: Options) -> Result<(String, Outcome), Halt>
+    ensures text { let t = text.now in IfOk result (λ given. (tiles : List Tile)
+        × Tiled t (TileIn options.comments options.edition t) 0 tiles
+        × (string_bytes given.0 ≡ normal_text t tiles) × (given.1 ≡ outcome_of tiles)) }
+    ensures nests { IfErr result (HaltsWithin options.nesting (length text.now)) }
+    ensures deeper { let t = text.now in let at = TileIn options.comments options.edition t in
+        IfErr result (OnHalt (TextDeeper options.edition t at options.nesting 0)) }
+    ensures shallow { let t = text.now in let at = TileIn options.comments options.edition t in
+        IfOk result (λ given. TextDeeper options.edition t at options.nesting 0 → ⊥) }
 {
-    match serialize(alloc, tree) {
-        Ok(text) => Ok((text, outcome)),
-        Err(_) => Err(RunFault::Memory),
+    let mut entries = Entries::new(text, options);
+    let mut writer = EntryWriter::new(String::new(alloc), serializer::Options::default());
+    let mut outcome = Outcome::Clean;
+    while let Some(read) = entries.next_entry(alloc)? {
+        outcome = write_read(alloc, &mut writer, text, outcome, read)?;
+    }
+    match writer.finish() {
+        (written, Ok(())) => Ok((written, outcome)),
+        (_, Err(SinkError)) => Err(Halt::Memory),
+    }
+}
+
+/// Writes the entry that was read next, and gives the outcome so far.
+fn write_read(
+    alloc: Global,
+    writer: &mut EntryWriter<String>,
+    text: &str,
+    outcome: Outcome,
+    read: (Entry<Span>, Option<ParserError>),
+) -> Result<Outcome, AllocError>
+    requires parts { entry_every (IsPart text.now) (tree_of read.0) }
+    ensures options { writer.new.options ≡ writer.old.options }
+    ensures written { OnOk result (AddsTree writer.old writer.new (entry_map (bytes_at text.now) (tree_of read.0))) }
+    ensures outcome { IfOk result (λ found. found ≡ outcome_behind outcome read.1) }
+{
+    let (entry, error) = read;
+    write_resolved(alloc, writer, text, &entry)?;
+    Ok(outcome_behind(outcome, &error))
+}
+
+/// Writes the entry with the text's bytes at each span.
+fn write_resolved(
+    alloc: Global,
+    writer: &mut EntryWriter<String>,
+    text: &str,
+    entry: &Entry<Span>,
+) -> Result<(), AllocError>
+    requires parts { entry_every (IsPart text.now) (tree_of entry.now) }
+    ensures options { writer.new.options ≡ writer.old.options }
+    ensures written { OnOk result (AddsTree writer.old writer.new (entry_map (bytes_at text.now) (tree_of entry.now))) }
+{
+    let entry = resolve_entry(alloc, &text, entry)?;
+    writer.write_entry(&entry);
+    Ok(())
+}
+
+/// The outcome of what was read so far and of an entry behind it, which has an error where it is junk.
+fn outcome_behind(outcome: Outcome, error: &Option<ParserError>) -> Outcome
+    ensures { result ≡ outcome_behind outcome error.now }
+{
+    match error {
+        Some(_) => Outcome::SyntaxErrors,
+        None => outcome,
     }
 }
 

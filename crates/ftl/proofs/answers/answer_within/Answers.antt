@@ -9,9 +9,9 @@ use Rattle.ftl.specs.declared.outcome.Outcome.{Outcome}
 use Rattle.ftl.proofs.answers.answer_within.Goals as goal
 use Rattle.ftl.proofs.answers.answer_within.Goals.{in-Check+in_ok-answer-in-Check}
 use Rattle.ftl.proofs.answers.answer_within.Goals.{in-CheckTwo+in_ok-answer-in-CheckTwo}
-use Rattle.ftl.proofs.answers.answer_within.Goals.{in-Format+in_ok-parse_within-in-Format}
-use Rattle.ftl.proofs.answers.answer_within.Goals.{in-FormatTwo+in_ok-parse_within-in-FormatTwo}
-use Rattle.ftl.proofs.answers.answer_within.Goals.{in-Runtime+in_ok-parse_runtime_within-in-Runtime}
+use Rattle.ftl.proofs.answers.answer_within.Goals.{in-Format+in_ok-answer-in-Format}
+use Rattle.ftl.proofs.answers.answer_within.Goals.{in-FormatTwo+in_ok-answer-in-FormatTwo}
+use Rattle.ftl.proofs.answers.answer_within.Goals.{in-Runtime+in_ok-answer-in-Runtime}
 use Rattle.ftl.proofs.answers.answer_within.Goals.{in-Json+in_ok-parse_within-in-Json}
 
 -- the answer of the text that the input is, by the command that was given
@@ -41,7 +41,7 @@ of_arm bytes_of found_of given command input t tiles utf8 is has result answer s
     (IfOk-weaker result _ _ (λ a h.
     answered given command input t (bytes_of a) (found_of a) tiles is utf8.0 utf8.1 has h.0 h.1) told)
 
--- the answer of a check, which tells of its tiles itself
+-- the answer of an arm that tells of its tiles itself
 of_check : {X E : Type 0} (bytes_of : X → List ℕ) (found_of : X → Outcome) (given command : Command)
     (input t : List ℕ) (utf8 : (t ≡ input) × IsUtf8 input) → given ≡ command → (result answer : Result X E) →
     answer ≡ result →
@@ -64,24 +64,18 @@ returns-clause-text c =
           of_check (λ a. string_bytes a.0) (λ a. a.1) c.args.command CheckTwo c.args.input.now c.in-Ok.text.now
           c.in-Ok.ensures.cases w.in-CheckTwo.is w.in_ok-answer-in-CheckTwo.answer _ w.answer-is
           w.in_ok-answer-in-CheckTwo.ensures.text
-      | in-Format+in_ok-parse_within-in-Format w ↦
-          let parsed = w.in_ok-parse_within-in-Format.ensures.tiling in
-          of_arm (λ a. string_bytes a.0) (λ a. a.1) c.args.command Format c.args.input.now c.in-Ok.text.now parsed.0
-          c.in-Ok.ensures.cases w.in-Format.is parsed.1 w.format-answer.result _ w.answer-is
-          (IfOk-weaker w.format-answer.result _ _ (λ a h. h c.in-Ok.text.now parsed.0 parsed.2)
-          w.format-answer.ensures.text)
-      | in-FormatTwo+in_ok-parse_within-in-FormatTwo w ↦
-          let parsed = w.in_ok-parse_within-in-FormatTwo.ensures.tiling in
-          of_arm (λ a. string_bytes a.0) (λ a. a.1) c.args.command FormatTwo c.args.input.now c.in-Ok.text.now parsed.0
-          c.in-Ok.ensures.cases w.in-FormatTwo.is parsed.1 w.format-answer-in-FormatTwo.result _ w.answer-is
-          (IfOk-weaker w.format-answer-in-FormatTwo.result _ _ (λ a h. h c.in-Ok.text.now parsed.0 parsed.2)
-          w.format-answer-in-FormatTwo.ensures.text)
-      | in-Runtime+in_ok-parse_runtime_within-in-Runtime w ↦
-          let parsed = w.in_ok-parse_runtime_within-in-Runtime.ensures.tiling in
-          of_arm (λ a. string_bytes a.0) (λ a. a.1) c.args.command Runtime c.args.input.now c.in-Ok.text.now parsed.0
-          c.in-Ok.ensures.cases w.in-Runtime.is parsed.1 w.format-answer-in-Runtime.result _ w.answer-is
-          (IfOk-weaker w.format-answer-in-Runtime.result _ _ (λ a h. h c.in-Ok.text.now parsed.0 parsed.2)
-          w.format-answer-in-Runtime.ensures.text)
+      | in-Format+in_ok-answer-in-Format w ↦
+          of_check (λ a. string_bytes a.0) (λ a. a.1) c.args.command Format c.args.input.now c.in-Ok.text.now
+          c.in-Ok.ensures.cases w.in-Format.is w.in_ok-answer-in-Format.answer _ w.answer-is
+          w.in_ok-answer-in-Format.ensures.text
+      | in-FormatTwo+in_ok-answer-in-FormatTwo w ↦
+          of_check (λ a. string_bytes a.0) (λ a. a.1) c.args.command FormatTwo c.args.input.now c.in-Ok.text.now
+          c.in-Ok.ensures.cases w.in-FormatTwo.is w.in_ok-answer-in-FormatTwo.answer _ w.answer-is
+          w.in_ok-answer-in-FormatTwo.ensures.text
+      | in-Runtime+in_ok-answer-in-Runtime w ↦
+          of_check (λ a. string_bytes a.0) (λ a. a.1) c.args.command Runtime c.args.input.now c.in-Ok.text.now
+          c.in-Ok.ensures.cases w.in-Runtime.is w.in_ok-answer-in-Runtime.answer _ w.answer-is
+          w.in_ok-answer-in-Runtime.ensures.text
       | in-Json+in_ok-parse_within-in-Json w ↦
           let parsed = w.in_ok-parse_within-in-Json.ensures.tiling in
           of_arm (λ a. string_bytes a.0) (λ a. a.1) c.args.command Json c.args.input.now c.in-Ok.text.now parsed.0

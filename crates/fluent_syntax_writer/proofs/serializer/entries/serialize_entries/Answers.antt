@@ -5,8 +5,8 @@ use Rattle.fluent_syntax_writer.proofs.serializer.entries.serialize_entries.Goal
 pub loop-entry-preserved : goal.loop-entry-preserved
 loop-entry-preserved g c =
     let next = drop_at c.args.entries.now _ _ c.loop-entry-test.true c.entry-item.is in
-    let after = Leaves-more (rw next at c.loop-entry.invariant.rest) c.serialize_entry.ensures.written in
-    record { rest = rw c.is_junk-follows.ensures after }
+    let after = Leaves-more (rw next at c.loop-entry.invariant.rest) c.serialize_next-follows.ensures.written in
+    record { rest = rw c.serialize_next-follows.ensures.follows after }
 
 pub returns-clause-written : goal.returns-clause-written
 returns-clause-written g c =

@@ -1,0 +1,140 @@
+//! Entries that are written one by one.
+ghost use Rattle.std.specs.Prelude.{string_bytes};
+
+use crate::made::{Text, comment, valued};
+use fluent_syntax::ast::Entry;
+use fluent_syntax::parser::{parse, recovered};
+use fluent_syntax::serializer::{EntryWriter, Options, serialize_with_options};
+use fluent_syntax::unicode::{SinkError, TextSink};
+use std::alloc::Global;
+use std::test::Fail;
+
+/// What the entries are written as.
+fn written(alloc: Global, entries: &[Entry<&str>], with_junk: bool) -> Result<String, Fail> {
+    let mut writer = EntryWriter::new(String::new(alloc), Options { with_junk });
+    for entry in entries {
+        writer.write_entry(entry);
+    }
+    match writer.finish() {
+        (text, Ok(())) => Ok(text),
+        (_, Err(SinkError)) => Err(Fail::new("no memory")),
+    }
+}
+
+/// A text, what its entries are written as without junk, and that with junk.
+const ROWS: [(&str, &str, &str); 6] = [
+    ("", "", ""),
+    (
+        "\nkey1 = Value 1\n\ng@Rb@ge = #2y ds\n\nkey2 = Value 2\n\n",
+        "key1 = Value 1\nkey2 = Value 2\n",
+        "key1 = Value 1\ng@Rb@ge = #2y ds\n\nkey2 = Value 2\n",
+    ),
+    (
+        "## g\n\n# f\n\n# m\nkey = v\n",
+        "## g\n\n\n# f\n\n# m\nkey = v\n",
+        "## g\n\n\n# f\n\n# m\nkey = v\n",
+    ),
+    ("x\n# a\n", "# a\n\n", "x\n# a\n\n"),
+    ("k = v\nx\n# a\n", "k = v\n# a\n\n", "k = v\nx\n# a\n\n"),
+    ("k = v\n# a\n", "k = v\n\n# a\n\n", "k = v\n\n# a\n\n"),
+];
+
+#[test]
+fn entries_of_texts(rt: HostRuntime) -> Result<(), Fail> {
+    let alloc = rt.alloc();
+    for (text, without_junk, with_junk) in ROWS {
+        let (tree, _errors) = recovered(alloc, parse(alloc, text))?;
+        assert_eq!(rt; written(alloc, &tree.body, false)?.as_str(), without_junk);
+        assert_eq!(rt; written(alloc, &tree.body, true)?.as_str(), with_junk);
+    }
+    Ok(())
+}
+
+/// A comment without lines is a line end, before which a CR is doubled.
+#[test]
+fn a_line_end_behind_a_cr(rt: HostRuntime) -> Result<(), Fail> {
+    let alloc = rt.alloc();
+    let mut entries: Vec<Entry<Text>> = Vec::new(alloc);
+    entries.push(Entry::Junk { content: "a\r" })?;
+    entries.push(Entry::Comment(comment(alloc, &[])?))?;
+    entries.push(valued(alloc, "k", &["v"])?)?;
+    assert_eq!(rt; written(alloc, &entries, true)?.as_str(), "a\r\r\nk = v\n");
+    assert_eq!(rt; written(alloc, &entries, false)?.as_str(), "\nk = v\n");
+    Ok(())
+}
+
+/// A sink that refuses what would make its text longer than so many bytes, and counts the pieces that come then.
+#[derive(Drop)]
+struct Brief {
+    text: String,
+    most: usize,
+    has_refused: bool,
+    later_pieces: usize,
+}
+
+impl Brief {
+    fn new(alloc: Global, most: usize) -> Brief {
+        Brief {
+            text: String::new(alloc),
+            most,
+            has_refused: false,
+            later_pieces: 0,
+        }
+    }
+}
+
+impl TextSink for Brief {
+    ghost text = { λ s. string_bytes s.text };
+
+    ghost room = { λ _. 0 };
+
+    fn write_str(&mut self, s: &str) -> Result<(), SinkError> {
+        if self.has_refused {
+            self.later_pieces = self.later_pieces.saturating_add(1);
+        }
+        if s.len() > self.most.saturating_sub(self.text.len()) {
+            self.has_refused = true;
+            return Err(SinkError);
+        }
+        self.text.write_str(s)
+    }
+
+    fn write_char(&mut self, c: char) -> Result<(), SinkError> {
+        let mut bytes = [0; 4];
+        self.write_str(c.encode_utf8(&mut bytes))
+    }
+}
+
+/// Whether the entries, written to a sink of so many bytes, come to their whole text, or to a beginning of it and
+/// then nothing more.
+fn ends_at(alloc: Global, entries: &[Entry<&str>], most: usize, whole: &str) -> bool {
+    let mut writer = EntryWriter::new(Brief::new(alloc, most), Options { with_junk: true });
+    let mut has_refused = false;
+    for entry in entries {
+        writer.write_entry(entry);
+        has_refused = writer.has_refused();
+    }
+    let (sink, taken) = writer.finish();
+    has_refused == taken.is_err()
+        && sink.later_pieces == 0
+        && whole.starts_with(sink.text.as_str())
+        && taken.is_ok() == (sink.text.len() == whole.len())
+        && taken.is_ok() == (whole.len() <= most)
+}
+
+#[test]
+fn entries_to_a_sink_that_refuses(rt: HostRuntime) -> Result<(), Fail> {
+    let alloc = rt.alloc();
+    let options = Options { with_junk: true };
+    for (text, _, _) in ROWS {
+        let (tree, _errors) = recovered(alloc, parse(alloc, text))?;
+        let whole = serialize_with_options(alloc, &tree, options)?;
+        for most in 0..=whole.len() {
+            assert!(rt;
+                ends_at(alloc, &tree.body, most, whole.as_str()),
+                "{text} {most}"
+            );
+        }
+    }
+    Ok(())
+}
