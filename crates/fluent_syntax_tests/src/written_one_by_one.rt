@@ -1,7 +1,7 @@
 //! Entries that are written one by one.
 ghost use Rattle.std.specs.Prelude.{string_bytes};
 
-use crate::made::{Text, comment, valued};
+use crate::made::{Made, Text, comment, valued};
 use fluent_syntax::ast::Entry;
 use fluent_syntax::parser::{parse, recovered};
 use fluent_syntax::serializer::{EntryWriter, Options, serialize_with_options};
@@ -50,14 +50,28 @@ fn entries_of_texts(rt: HostRuntime) -> Result<(), Fail> {
     Ok(())
 }
 
+fn junk(content: Text) -> Entry<Text> {
+    Entry::Junk { content }
+}
+
+fn empty_comment(alloc: Global) -> Made<Entry<Text>> {
+    Ok(Entry::Comment(comment(alloc, &[])?))
+}
+
+/// The junk, a comment without lines, and a message.
+fn entries_behind(alloc: Global, content: Text) -> Made<Vec<Entry<Text>>> {
+    let mut entries = Vec::new(alloc);
+    entries.push(junk(content))?;
+    entries.push(empty_comment(alloc)?)?;
+    entries.push(valued(alloc, "k", &["v"])?)?;
+    Ok(entries)
+}
+
 /// A comment without lines is a line end, before which a CR is doubled.
 #[test]
 fn a_line_end_behind_a_cr(rt: HostRuntime) -> Result<(), Fail> {
     let alloc = rt.alloc();
-    let mut entries: Vec<Entry<Text>> = Vec::new(alloc);
-    entries.push(Entry::Junk { content: "a\r" })?;
-    entries.push(Entry::Comment(comment(alloc, &[])?))?;
-    entries.push(valued(alloc, "k", &["v"])?)?;
+    let entries = entries_behind(alloc, "a\r")?;
     assert_eq!(rt; written(alloc, &entries, true)?.as_str(), "a\r\r\nk = v\n");
     assert_eq!(rt; written(alloc, &entries, false)?.as_str(), "\nk = v\n");
     Ok(())
