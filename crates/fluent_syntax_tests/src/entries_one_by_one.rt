@@ -203,11 +203,7 @@ fn show_read(
     }
 }
 
-fn show_next(
-    alloc: Global,
-    out: &mut String,
-    entries: &mut Entries<'_>,
-) -> Result<(), AllocError> {
+fn show_next(alloc: Global, out: &mut String, entries: &mut Entries<'_>) -> Result<(), AllocError> {
     match entries.next_entry(alloc) {
         Ok(Some((entry, error))) => show_read(out, &entry, &error),
         Ok(None) => out.push_str("."),
