@@ -2,7 +2,7 @@
 
 use crate::alike::{holds, same_text};
 use crate::kinds::{KINDS, Kind, kind};
-use crate::made::{owned_tree_without_errors, tree_without_errors};
+use crate::made::{lent_tree_without_errors, owned_tree_without_errors};
 use fluent_syntax::ast::*;
 use fluent_syntax::parser::{ParserError, Slice};
 use std::alloc::{AllocError, Global};
@@ -130,7 +130,7 @@ fn copies_of_tree<'s, S: Slice<'s>>(alloc: Global, tree: &Resource<S>) -> Result
 
 #[test]
 fn trees_over_lent_texts(rt: HostRuntime) -> Result<(), Fail> {
-    let tree = tree_without_errors(rt.alloc(), TEXT)?;
+    let tree = lent_tree_without_errors(rt.alloc(), TEXT)?;
     holds(
         rt.alloc(),
         "equal copies",

@@ -1,7 +1,7 @@
 //! Values, the trees that they spell, and the JSON forms of trees.
 
 use crate::alike::holds;
-use crate::made::tree_of;
+use crate::made::owned_tree;
 use fluent_syntax::ast::Resource;
 use fluent_syntax_json::{ValueFault, form_reads, from_value, to_value};
 use serde_json::Value;
@@ -144,7 +144,7 @@ const REFUSED: [Refused; 12] = [
 
 /// The tree of a text, whether it has errors or not.
 pub(crate) fn tree(alloc: Global, text: &str) -> Result<Resource<String>, Fail> {
-    Ok(tree_of(alloc, String::from_str(alloc, text)?)?)
+    Ok(owned_tree(alloc, text)?)
 }
 
 /// Whether the tree has the form.

@@ -2,7 +2,7 @@
 
 use crate::alike::same_text;
 use crate::json::{FORMS, Row, tree};
-use crate::made::{Made, tree_of};
+use crate::made::{Made, lent_tree};
 use fluent_syntax::ast::{Entry, Resource};
 use fluent_syntax::parser::Slice;
 use fluent_syntax_json::{to_value, write_to};
@@ -62,7 +62,7 @@ fn sorted(alloc: Global, form: &str) -> Result<String, Fail> {
 fn is_text(alloc: Global, row: &Row) -> Result<(), Fail> {
     let (what, text, form) = row;
     let expected = sorted(alloc, *form)?;
-    is_written(alloc, *what, &tree_of(alloc, *text)?, expected.as_str())?;
+    is_written(alloc, *what, &lent_tree(alloc, *text)?, expected.as_str())?;
     is_written(alloc, *what, &tree(alloc, *text)?, expected.as_str())
 }
 

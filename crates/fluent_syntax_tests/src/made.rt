@@ -1,7 +1,7 @@
 //! Parts of trees that are made by hand, and trees of texts.
 
 use fluent_syntax::ast::*;
-use fluent_syntax::parser::{ParseFault, Slice, parse};
+use fluent_syntax::parser::{ParseFault, parse};
 use std::alloc::{AllocError, Global};
 use std::test::Fail;
 
@@ -108,7 +108,7 @@ pub(crate) fn one(alloc: Global, entry: Entry<Text>) -> Made<Resource<Text>> {
 }
 
 /// The tree of a text, whether it has errors or not.
-pub(crate) fn tree_of<'s, S: Slice<'s>>(alloc: Global, text: S) -> Made<Resource<S>> {
+pub(crate) fn lent_tree(alloc: Global, text: Text) -> Made<Resource<Text>> {
     match parse(alloc, text) {
         Ok(tree) => Ok(tree),
         Err(ParseFault::Syntax(tree, _errors)) => Ok(tree),
@@ -116,11 +116,17 @@ pub(crate) fn tree_of<'s, S: Slice<'s>>(alloc: Global, text: S) -> Made<Resource
     }
 }
 
+/// The same, over texts of its own.
+pub(crate) fn owned_tree(alloc: Global, text: &str) -> Made<Resource<String>> {
+    match parse(alloc, String::from_str(alloc, text)?) {
+        Ok(tree) => Ok(tree),
+        Err(ParseFault::Syntax(tree, _errors)) => Ok(tree),
+        Err(ParseFault::Memory) => Err(AllocError),
+    }
+}
+
 /// The tree of a text without errors.
-pub(crate) fn tree_without_errors<'s, S: Slice<'s>>(
-    alloc: Global,
-    text: S,
-) -> Result<Resource<S>, Fail> {
+pub(crate) fn lent_tree_without_errors(alloc: Global, text: Text) -> Result<Resource<Text>, Fail> {
     match parse(alloc, text) {
         Ok(tree) => Ok(tree),
         Err(_) => Err("a text without errors was refused".into()),
@@ -132,5 +138,8 @@ pub(crate) fn owned_tree_without_errors(
     alloc: Global,
     text: &str,
 ) -> Result<Resource<String>, Fail> {
-    tree_without_errors(alloc, String::from_str(alloc, text)?)
+    match parse(alloc, String::from_str(alloc, text)?) {
+        Ok(tree) => Ok(tree),
+        Err(_) => Err("a text without errors was refused".into()),
+    }
 }

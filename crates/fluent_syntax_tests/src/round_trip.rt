@@ -3,7 +3,7 @@
 use crate::alike::{holds, same_text};
 use crate::entries::Row;
 use crate::made::{
-    Made, Text, attributed, comment, one, owned_tree_without_errors, tree_of, valued,
+    Made, Text, attributed, comment, one, owned_tree, owned_tree_without_errors, valued,
 };
 use crate::outline::{has_outline, outlined};
 use fluent_syntax::ast::Entry;
@@ -129,7 +129,7 @@ fn reads_the_same_tree(rt: HostRuntime) -> Result<(), Fail> {
 
 fn reads_another(alloc: Global, row: &Row) -> Result<(), Fail> {
     let (what, text, expected) = row;
-    let tree = tree_of(alloc, String::from_str(alloc, *text)?)?;
+    let tree = owned_tree(alloc, *text)?;
     has_outline(alloc, *what, &reparse(alloc, &tree), *expected)
 }
 
@@ -143,7 +143,7 @@ fn reads_another_tree(rt: HostRuntime) -> Result<(), Fail> {
 
 fn is_joined(alloc: Global, row: &Row) -> Result<(), Fail> {
     let (what, text, expected) = row;
-    let tree = tree_of(alloc, String::from_str(alloc, *text)?)?;
+    let tree = owned_tree(alloc, *text)?;
     has_outline(alloc, *what, &Ok(joined(alloc, &tree)?), *expected)
 }
 

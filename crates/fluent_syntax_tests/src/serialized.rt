@@ -1,7 +1,7 @@
 //! Texts, and the texts that their trees are written as.
 
 use crate::alike::same_text;
-use crate::made::tree_of;
+use crate::made::lent_tree;
 use fluent_syntax::serializer::serialize;
 use std::alloc::Global;
 use std::test::Fail;
@@ -80,7 +80,7 @@ const ROWS: [Row; 14] = [
 
 fn is_written(alloc: Global, row: &Row) -> Result<(), Fail> {
     let (shows, text, expected) = row;
-    let written = serialize(alloc, &tree_of(alloc, *text)?)?;
+    let written = serialize(alloc, &lent_tree(alloc, *text)?)?;
     same_text(alloc, *shows, written.as_str(), *expected)
 }
 

@@ -3,7 +3,7 @@ ghost use Rattle.std.specs.Prelude.{◌≡◌, ◌+◌, ◌≤◌, string_bytes,
 
 use crate::alike::holds;
 use crate::json_text::json_text;
-use crate::made::{Text, tree_of};
+use crate::made::{Text, lent_tree};
 use fluent_syntax::ast::Resource;
 use fluent_syntax::serializer::{Options, serialize_to, serialize_with_options};
 use fluent_syntax::unicode::{SinkError, TextSink, unescape_unicode, unescape_unicode_to_string};
@@ -192,7 +192,7 @@ fn tree_is_refused_at_a_piece(
 }
 
 fn is_written_to_sinks_that_refuse(alloc: Global, text: Text) -> Result<(), Fail> {
-    let tree = tree_of(alloc, text)?;
+    let tree = lent_tree(alloc, text)?;
     let whole = serialize_with_options(alloc, &tree, Options { with_junk: true })?;
     let has_refused = tree_is_refused_at_a_piece(alloc, &tree, whole.as_str())?;
     holds(alloc, text, has_refused != whole.is_empty())
@@ -229,7 +229,7 @@ fn json_text_leaves_beginnings(
 }
 
 fn is_json_to_sinks_that_refuse(alloc: Global, text: Text) -> Result<(), Fail> {
-    let tree = tree_of(alloc, text)?;
+    let tree = lent_tree(alloc, text)?;
     let whole = json_text(alloc, &tree)?;
     json_text_leaves_beginnings(alloc, &tree, whole.as_str())
 }
@@ -249,7 +249,7 @@ const QUOTE: (Text, &str) = (
 );
 
 fn is_json_within(alloc: Global, room: usize, answer: Result<(), SinkError>) -> Result<(), Fail> {
-    let tree = tree_of(alloc, QUOTE.0)?;
+    let tree = lent_tree(alloc, QUOTE.0)?;
     let mut sink = Small::new(alloc, room)?;
     let written = write_to(&mut sink, &tree);
     holds(alloc, "room", sink.holds_its_part(QUOTE.1, written, answer))
