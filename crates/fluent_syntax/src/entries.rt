@@ -15,6 +15,7 @@ ghost use Rattle.fluent_syntax_tree.specs.View.{entry_view};
 
 use crate::parser;
 use crate::resolved::resolve_entry;
+use crate::short::add_message;
 use fluent_syntax_parser::entries::Entries;
 use fluent_syntax_parser::fault::{ParseFault, TooDeep, add_error, answer_of};
 use fluent_syntax_parser::options::{Comments, Halt, Options};
@@ -59,11 +60,18 @@ fn read_entries<'s, S: Slice<'s>>(
     let mut entries = Entries::new(input.as_str(), options);
     let mut body = Vec::new(alloc);
     let mut errors = Vec::new(alloc);
-    while let Some((entry, error)) = entries.next_entry(alloc)? {
-        add_entry(alloc, input, &mut body, entry)?;
-        add_error(&mut errors, error)?;
+    let mut attributes = Vec::new(alloc);
+    loop {
+        if let Some(message) = entries.next_short(&mut attributes)? {
+            add_message(alloc, input, &mut body, message, &attributes)?;
+        } else {
+            let Some((entry, error)) = entries.next_entry(alloc)? else {
+                return Ok((body, errors));
+            };
+            add_entry(alloc, input, &mut body, entry)?;
+            add_error(&mut errors, error)?;
+        }
     }
-    Ok((body, errors))
 }
 
 /// Reads a text as the options say. `TooDeep` where it nests more deeply than they allow.

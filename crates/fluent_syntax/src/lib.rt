@@ -11,6 +11,7 @@ mod lines;
 pub mod parser;
 mod recovered;
 mod resolved;
+mod short;
 pub mod spans;
 pub mod unicode;
 

@@ -1,6 +1,6 @@
 -- Texts that nest deeper, from tile to tile.
 use Rattle.std.proofs.Common.{◌≡◌, ℕ, ◌<◌, List, length, Option, true, false, subst, refl}
-use Rattle.fluent_syntax_tree.specs.Entry.{comment, regular}
+use Rattle.fluent_syntax_tree.specs.Entry.{EntryTree, comment, regular}
 use Rattle.fluent_syntax_tree.specs.declared.ast.Entry.{Entry}
 use Rattle.fluent_syntax_tree.specs.declared.edition.Edition.{Edition}
 use Rattle.fluent_syntax_tree.specs.declared.errors.ParserError.{ParserError}
@@ -9,7 +9,7 @@ use Rattle.fluent_syntax_grammar.specs.Bytes.{hash}
 use Rattle.fluent_syntax_grammar.specs.Construct.{Read}
 use Rattle.fluent_syntax_grammar.specs.Nesting.{Deeper, TextDeeper, TileDeeper, behind_tile, in_entry}
 use Rattle.fluent_syntax_grammar.specs.Places.{has_byte}
-use Rattle.fluent_syntax_grammar.specs.Tiling.{Tile, TileAt, drops, whole_line}
+use Rattle.fluent_syntax_grammar.specs.Tiling.{Tile, TileAt, drops, entry_at, reads, whole_line}
 use Rattle.fluent_syntax_grammar.proofs.BareEntries.{bare_tile_at}
 use Rattle.fluent_syntax_grammar.proofs.OneTiling.{IsOneTile, one_runtime_tile, one_tile}
 use Rattle.fluent_syntax_grammar.proofs.Runtime.{IsBareTile}
@@ -33,14 +33,19 @@ module _ (edition : Edition) (t : List ℕ) (i j n : ℕ) (inside : i < length t
   behind_dropped Dropped drop there line h =
       behind_one edition t (TileIn Dropped edition t) i j n inside _ (drops there line) h
 
-  module _ (comments : Comments) (none : are_dropped comments ≡ true → has_byte t hash i ≡ false) (e : Entry Span)
-      (error : Option ParserError) (tile : GivesTile edition t i j e error) where
+  module _ (comments : Comments) (none : are_dropped comments ≡ true → has_byte t hash i ≡ false) where
     -- behind an entry or junk
-    pub behind_given : TextDeeper edition t (TileIn comments edition t) n j →
-        TileDeeper edition t (TileIn comments edition t) n i
-    behind_given h =
+    pub behind_given : (e : Entry Span) (error : Option ParserError) (tile : GivesTile edition t i j e error) →
+        TextDeeper edition t (TileIn comments edition t) n j → TileDeeper edition t (TileIn comments edition t) n i
+    behind_given e error tile h =
         behind_one edition t (TileIn comments edition t) i j n inside tile.tile
         (in_mode comments edition t i j tile.tile none tile.stands) h
+
+    pub behind_entry : (e : EntryTree Span) → entry_at edition t i (Read e j) →
+        TextDeeper edition t (TileIn comments edition t) n j → TileDeeper edition t (TileIn comments edition t) n i
+    behind_entry e read h =
+        behind_one edition t (TileIn comments edition t) i j n inside _
+        (in_mode comments edition t i j _ none (reads read)) h
 
   module _ (e : Entry Span) (error : Option ParserError) (tile : GivesTile edition t i j e error)
       (content : List Span) (same : tree_of e ≡ comment regular content) where
@@ -92,3 +97,10 @@ module _ (edition : Edition) (t : List ℕ) (i j n : ℕ) where
     hung_led inside content same Dropped other k through h =
         absurd (subst IsBareTile (is_comment edition t i j inside e error tile content same)
         (bare_tile_at edition t i j tile.tile (other refl) tile.stands))
+
+  pub entry_led : (comments : Comments) → (are_dropped comments ≡ true → has_byte t hash i ≡ false) →
+      (e : EntryTree Span) → entry_at edition t i (Read e j) → (Deeper edition t in_entry n i → ⊥) →
+      TileDeeper edition t (TileIn comments edition t) n i → TextDeeper edition t (TileIn comments edition t) n j
+  entry_led comments other e read none h =
+      tile_led edition t (TileIn comments edition t) (one_in comments edition t) j _
+      (in_mode comments edition t i j _ other (reads read)) none h

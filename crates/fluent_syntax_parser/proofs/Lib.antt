@@ -28,6 +28,7 @@ pub mod Runs
 pub mod Scans
 pub mod Selects
 pub mod Shallows
+pub mod ShortMessages
 pub mod ShortPatterns
 pub mod Spelled
 pub mod Stars

@@ -10,7 +10,7 @@ use Rattle.fluent_syntax_grammar.specs.Body.{alone, body, faults, hangs}
 use Rattle.fluent_syntax_grammar.specs.Bytes.{hash}
 use Rattle.fluent_syntax_grammar.specs.Construct.{Read}
 use Rattle.fluent_syntax_grammar.specs.Places.{BlankBlock, has_byte}
-use Rattle.fluent_syntax_grammar.specs.Tiling.{Fault, Tile, entry, refused, dropped, Tiled, done, next, TileAt, reads}
+use Rattle.fluent_syntax_grammar.specs.Tiling.{Fault, Tile, entry, refused, dropped, Tiled, done, next, TileAt, entry_at, reads}
 use Rattle.fluent_syntax_grammar.specs.Tiling.{refuses, drops, stands, whole_line}
 use Rattle.fluent_syntax_grammar.proofs.BareEntries.{bare_tile_at}
 use Rattle.fluent_syntax_grammar.proofs.Runtime.{IsBareTile}
@@ -98,6 +98,20 @@ module _ (edition : Edition) (t : List ℕ) (i j : ℕ) (inside : i < length t) 
       gives = body_then tile.tile rest.tiles (tree_of e) tile.entry other ∙ ap (λ b. tree_of e ∷ b) rest.gives;
       tells = rw (faults_then tile.tile rest.tiles, tile.errors, rest.tells) refl;
     }
+
+  module _ (comments : Comments) (none : are_dropped comments ≡ true → has_byte t hash i ≡ false) (e : EntryTree Span)
+      (read : entry_at edition t i (Read e j)) where
+    -- an entry that is no comment
+    pub rest_entry : may_hang e ≡ false → (entries : BodyTree Span) (errors : List (Option Fault)) →
+        Rest comments edition t j entries errors → RestAt comments edition t i (e ∷ entries) errors
+    rest_entry other entries errors rest =
+        let tile = entry (record { start = i; end = j }) e in
+        record {
+          tiles = tile ∷ rest.tiles;
+          standing = at_tile inside (in_mode comments edition t i j tile none (reads read)) rest.tiled;
+          gives = body_then tile rest.tiles e refl other ∙ ap (λ b. e ∷ b) rest.gives;
+          tells = rest.tells;
+        }
 
 -- ---- a comment that may hang
 

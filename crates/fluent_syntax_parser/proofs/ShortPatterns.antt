@@ -1,4 +1,4 @@
--- Patterns of one line without placeable.
+-- Patterns of one line without placeable, and patterns that hold nothing.
 use Rattle.std.proofs.Common.{◌≡◌, ℕ, suc, ◌+◌, ◌-◌, ◌<◌, ◌≤◌, List, [], ◌∷◌, length, take, drop, get_or, Option, Some}
 use Rattle.std.proofs.Common.{None, Bool, true, false, not, refl, sym, subst, arith, inl, inr}
 use Rattle.std.specs.Prelude.{slice_get, slice_range, ◌==◌, ◌||◌, ◌&&◌, if◌then◌else◌}
@@ -12,14 +12,14 @@ use Rattle.fluent_syntax_grammar.specs.Construct.{Read, gives, goes_on, given, p
 use Rattle.fluent_syntax_grammar.specs.Elements.{is_nonblank, trimmed_end, pattern_of}
 use Rattle.fluent_syntax_grammar.specs.Family.{Family}
 use Rattle.fluent_syntax_grammar.specs.Grammar.{family, pattern}
-use Rattle.fluent_syntax_grammar.specs.Layout.{Piece, run as run', Ending, lf_at, crlf_at, text_end as text_end'}
+use Rattle.fluent_syntax_grammar.specs.Layout.{Layout, Piece, run as run', Ending, lf_at, crlf_at, text_end as text_end'}
 use Rattle.fluent_syntax_grammar.specs.Lines.{is_run_place, ending_of, ending}
 use Rattle.fluent_syntax_grammar.specs.Nesting.{Deeper, in_layout, in_pieces}
 use Rattle.fluent_syntax_grammar.specs.Patterns.{layout_at, layout}
-use Rattle.fluent_syntax_grammar.specs.Places.{Stretch, has_byte, has_eol, InlineBlank}
+use Rattle.fluent_syntax_grammar.specs.Places.{BlankBlock, Stretch, after_eol, has_byte, has_eol, InlineBlank}
 use Rattle.fluent_syntax_grammar.proofs.Facts.{left_true, byte_found, equal}
 use Rattle.fluent_syntax_grammar.proofs.Nesting.{into_more_pieces}
-use Rattle.fluent_syntax_grammar.proofs.Shallow.{no_lines_led, opening_led, pieces_end, pieces_eol, run_led}
+use Rattle.fluent_syntax_grammar.proofs.Shallow.{block_led, no_lines_led, opening_led, pieces_end, pieces_eol, run_led}
 use Rattle.fluent_syntax_parser.proofs.LineEndings.{ends_line, ends_text}
 use Rattle.fluent_syntax_parser.specs.ShortPatterns.{EndsLine, with_lf, with_crlf, with_text}
 
@@ -232,3 +232,20 @@ module _ (edition : Edition) (t : List ℕ) where
         let none : slice_get t to ≡ None = slice_get_past t to (omega arith) in
         flat_with n text_end' to end (into_more_pieces edition t to _ (chosen (rw none given))) (ends_text t to eol)
         lines (pieces_end edition t none)
+
+  -- ---- a pattern that holds nothing: a line ends where it would begin, and no line of a pattern follows
+
+  module _ (start next first end : ℕ) (eol : after_eol t start ≡ Some next) (block : BlankBlock t next first)
+      (lines : R.more_lines first (Read [] end)) where
+    pub empty_read : (ptr : ℕ) → InlineBlank t ptr start → pattern edition t ptr (Read None end)
+    empty_read ptr blank =
+        let empty : Layout = record { opening = None; lines = [] } in
+        let laid : layout_at t R (Some next) start (Read empty end) = goes_on (passed (record { there = refl }))
+        (goes_on (passed block)
+        (goes_on lines given)) in
+        let whole : layout t R ptr (Read empty end) = goes_on (passed blank)
+        (chosen (subst (λ o. layout_at t R o start (Read empty end)) (sym eol) laid)) in
+        goes_on whole given
+
+    pub empty_shallow : (n : ℕ) → Deeper edition t in_layout n start → ⊥
+    empty_shallow n h = no_lines_led edition t end lines (block_led edition t next first eol block h)

@@ -75,17 +75,19 @@ Hangs edition t content ptr e j =
     (body (entry (record { start = i; end = ptr }) (comment regular content) ∷ tiles) ≡ tree_of e ∷ entries) ×
     (map Some (faults tiles) ≡ errors)
 
+-- From the one place to the other stand that entry and those errors, before whatever the rest is.
+abbrev pub EntryTo : Comments → Edition → List ℕ → (i j : ℕ) → EntryTree Span → List (Option Fault) → Type 0
+EntryTo comments edition t i j e faults =
+    (entries : BodyTree Span) (errors : List (Option Fault)) → Rest comments edition t j entries errors →
+    Rest comments edition t i (e ∷ entries) (faults ++ errors)
+
 -- What comes next from the place on: that entry, with its error if there is one, before whatever the rest is from the
 -- other place on; or nothing, and nothing is left.
 abbrev pub Next : Comments → Edition → List ℕ → ℕ → Option (Entry Span × Option ParserError × ℕ) → Type 0
 Next comments edition t i None = Rest comments edition t i [] []
-Next comments edition t i (Some read) =
-    (entries : BodyTree Span) (errors : List (Option Fault)) → Rest comments edition t read.2 entries errors →
-    Rest comments edition t i (tree_of read.0 ∷ entries) (faults_of read.1 ++ errors)
+Next comments edition t i (Some read) = EntryTo comments edition t i read.2 (tree_of read.0) (faults_of read.1)
 
 -- The same of what is read from the one place to the other.
 abbrev pub NextTo : Comments → Edition → List ℕ → (i j : ℕ) → Option (Entry Span × Option ParserError) → Type 0
 NextTo comments edition t i j None = Rest comments edition t i [] []
-NextTo comments edition t i j (Some read) =
-    (entries : BodyTree Span) (errors : List (Option Fault)) → Rest comments edition t j entries errors →
-    Rest comments edition t i (tree_of read.0 ∷ entries) (faults_of read.1 ++ errors)
+NextTo comments edition t i j (Some read) = EntryTo comments edition t i j (tree_of read.0) (faults_of read.1)

@@ -1,5 +1,5 @@
 -- Patterns of one line without placeable.
-use Rattle.std.specs.Prelude.{◌≡◌, ℕ, ◌+◌, List, length, Some, None}
+use Rattle.std.specs.Prelude.{◌≡◌, ℕ, ◌+◌, List, length, Option, Some, None}
 use Rattle.fluent_syntax_tree.specs.Tree.{PatternTree}
 use Rattle.fluent_syntax_tree.specs.declared.edition.Edition.{Edition}
 use Rattle.fluent_syntax_tree.specs.declared.spans.Span.{Span}
@@ -14,7 +14,6 @@ pub data EndsLine (t : List ℕ) (to : ℕ) : ℕ → ℕ → Type 0 where
   with_crlf : {next : ℕ} → after_eol t to ≡ Some next → (next ≡ to + 1 → ⊥) → EndsLine t to to next
   with_text : after_eol t to ≡ None → to ≡ length t → EndsLine t to to to
 
--- The pattern that opens with an inline blank up to the place is that one, and ends there.
-abbrev pub OpensAs : Edition → List ℕ → ℕ → PatternTree Span → ℕ → Type 0
-OpensAs edition t start value end =
-    (i : ℕ) → InlineBlank t i start → pattern edition t i (Read (Some value) end)
+-- The pattern that opens with an inline blank up to the place is that one or none, and ends there.
+abbrev pub OpensAs : Edition → List ℕ → ℕ → Option (PatternTree Span) → ℕ → Type 0
+OpensAs edition t start value end = (i : ℕ) → InlineBlank t i start → pattern edition t i (Read value end)

@@ -1,16 +1,18 @@
 //! Entries one by one.
-ghost use Rattle.std.specs.Prelude.{◌≡◌, ◌-◌, ◌<◌, ◌≤◌, length, IfErr, IfOk, IfSome, None, Ok, OnErr};
+ghost use Rattle.std.specs.Prelude.{◌≡◌, ◌-◌, ◌<◌, ◌≤◌, [], length, IfErr, IfNone, IfOk, IfSome, None, Ok, OnErr};
 ghost use Rattle.fluent_syntax_grammar.specs.Nesting.{TextDeeper};
 ghost use Rattle.fluent_syntax_grammar.specs.Places.{BlankBlock};
 ghost use Rattle.fluent_syntax_parser.specs.Halts.{ComesTo, HaltsWithin, OnHalt};
-ghost use Rattle.fluent_syntax_parser.specs.Rest.{NextTo, TileIn};
+ghost use Rattle.fluent_syntax_parser.specs.Rest.{EntryTo, NextTo, TileIn};
+ghost use Rattle.fluent_syntax_parser.specs.ShortMessages.{short_message};
 
 use crate::options::{Halt, Options};
+use crate::short::{ShortAttribute, ShortMessage};
 use crate::source::Source;
 use fluent_syntax_tree::ast::Entry;
 use fluent_syntax_tree::errors::ParserError;
 use fluent_syntax_tree::spans::Span;
-use std::alloc::Global;
+use std::alloc::{AllocError, Global};
 
 /// The entries of a text from a place on, read one by one, with a span of the text in place of each text.
 #[derive(Clone, Copy)]
@@ -66,6 +68,37 @@ impl<'s> Entries<'s> {
             Some((entry, error, end)) => {
                 self.ptr = end;
                 Ok(Some((entry, error)))
+            }
+            None => Ok(None),
+        }
+    }
+
+    /// Reads the next entry, if it is a message that no comment hangs on and whose value and attributes are each one
+    /// text, and puts its attributes into the list. `None` where it is another entry or none is left: then it stands where
+    /// it stood. `AllocError` where there is no memory for the list.
+    pub fn next_short(
+        &mut self,
+        attributes: &mut Vec<ShortAttribute>,
+    ) -> Result<Option<ShortMessage>, AllocError>
+        ensures text { self.new.source ≡ self.old.source }
+        ensures options { self.new.options ≡ self.old.options }
+        ensures next { let t = self.old.source.bytes.now in let options = self.old.options in
+            IfOk result (λ found. IfSome found (λ message. EntryTo options.comments options.edition t self.old.ptr
+            self.new.ptr (short_message (λ s. s) message attributes.new.items) [])) }
+        ensures onward { IfOk result (λ found. IfSome found (λ message. self.old.ptr < self.new.ptr)) }
+        ensures blank { let t = self.old.source.bytes.now in
+            BlankBlock t self.old.ptr (length t) → result ≡ Ok None }
+        ensures none { IfOk result (λ found. IfNone found (self.new.ptr ≡ self.old.ptr)) }
+        ensures stays { OnErr result (self.new.ptr ≡ self.old.ptr) }
+        ensures deeper { let t = self.old.source.bytes.now in let options = self.old.options in
+            let at = TileIn options.comments options.edition t in
+            let deeper = TextDeeper options.edition t at options.nesting in
+            (deeper self.old.ptr → deeper self.new.ptr) × (deeper self.new.ptr → deeper self.old.ptr) }
+    {
+        match self.source.next_short(self.options, attributes, self.ptr)? {
+            Some((message, place)) => {
+                self.ptr = place;
+                Ok(Some(message))
             }
             None => Ok(None),
         }

@@ -25,6 +25,7 @@ mod next;
 pub mod options;
 mod pattern;
 mod references;
+pub mod short;
 mod source;
 mod spans;
 mod starts;

@@ -1,5 +1,5 @@
 //! The next entry of a text.
-ghost use Rattle.std.specs.Prelude.{◌≡◌, ◌-◌, ◌<◌, ◌≤◌, length, IfErr, IfOk, IfSome, None, Ok, false, true, ℕ, List, Option};
+ghost use Rattle.std.specs.Prelude.{◌≡◌, ◌-◌, ◌<◌, ◌≤◌, [], length, IfErr, IfOk, IfSome, None, Ok, false, true, ℕ, List, Option};
 ghost use Rattle.fluent_syntax_tree.specs.Entry.{BodyTree};
 ghost use Rattle.fluent_syntax_tree.specs.declared.edition.Edition.{Edition};
 ghost use Rattle.fluent_syntax_grammar.specs.Bytes.{hash};
@@ -7,15 +7,17 @@ ghost use Rattle.fluent_syntax_grammar.specs.Nesting.{TextDeeper, TileDeeper};
 ghost use Rattle.fluent_syntax_grammar.specs.Places.{BlankBlock, has_byte};
 ghost use Rattle.fluent_syntax_grammar.specs.Tiling.{Fault};
 ghost use Rattle.fluent_syntax_parser.specs.Halts.{ComesNext, HaltsWithin, OnHalt};
-ghost use Rattle.fluent_syntax_parser.specs.Rest.{Next, Rest, RestAt, TileIn, are_dropped};
+ghost use Rattle.fluent_syntax_parser.specs.Rest.{EntryTo, Next, Rest, RestAt, TileIn, are_dropped};
+ghost use Rattle.fluent_syntax_parser.specs.ShortMessages.{short_message};
 
 use crate::options::{Comments, Halt, Options};
+use crate::short::{ShortAttribute, ShortMessage};
 use crate::source::Source;
 use crate::tile::as_comment;
 use fluent_syntax_tree::ast::Entry;
 use fluent_syntax_tree::errors::ParserError;
 use fluent_syntax_tree::spans::Span;
-use std::alloc::Global;
+use std::alloc::{AllocError, Global};
 
 impl Comments {
     fn are_dropped(self) -> bool
@@ -50,6 +52,37 @@ impl<'s> Source<'s> {
             start = self.skip_blank_block(self.skip_comment(start));
         }
         start
+    }
+
+    /// Reads the next entry from a place on, if it is a message that no comment hangs on and whose value and attributes
+    /// are each one text, with its attributes in the list; and where it ends.
+    pub(crate) fn next_short(
+        &self,
+        options: Options,
+        list: &mut Vec<ShortAttribute>,
+        ptr: usize,
+    ) -> Result<Option<(ShortMessage, usize)>, AllocError>
+        requires { ptr ≤ length self.now.bytes.now }
+        ensures next { let t = self.now.bytes.now in IfOk result (λ found. IfSome found (λ read.
+            EntryTo options.comments options.edition t ptr read.1 (short_message (λ s. s) read.0 list.new.items) [])) }
+        ensures blank { let t = self.now.bytes.now in BlankBlock t ptr (length t) → result ≡ Ok None }
+        ensures within { IfOk result (λ found. IfSome found
+            (λ read. (ptr < read.1) × (read.1 ≤ length self.now.bytes.now))) }
+        ensures behind { let t = self.now.bytes.now in let at = TileIn options.comments options.edition t in
+            let deeper = TextDeeper options.edition t at options.nesting in
+            IfOk result (λ found. IfSome found (λ read. deeper read.1 → deeper ptr)) }
+        ensures shallow { let t = self.now.bytes.now in let at = TileIn options.comments options.edition t in
+            let deeper = TextDeeper options.edition t at options.nesting in
+            IfOk result (λ found. IfSome found (λ read. deeper ptr → deeper read.1)) }
+    {
+        let start = self.tile_start(options.comments, ptr);
+        if !self.is_letter_at(start) {
+            return Ok(None);
+        }
+        let Some((message, end)) = self.get_short_message(options.edition, list, start)? else {
+            return Ok(None);
+        };
+        Ok(Some((message, end)))
     }
 
     /// Reads the next entry from a place on, with its error where it is junk; and where it ends.

@@ -1,5 +1,5 @@
 //! Patterns.
-ghost use Rattle.std.specs.Prelude.{◌-◌, ◌≤◌, ℕ, length, option_map, IfErr, IfOk, IfSome, []};
+ghost use Rattle.std.specs.Prelude.{◌≡◌, ◌-◌, ◌≤◌, ℕ, length, option_map, IfErr, IfOk, IfSome, None, Some, []};
 ghost use Rattle.fluent_syntax_tree.specs.View.{pattern_view};
 ghost use Rattle.fluent_syntax_grammar.specs.Construct.{Read, at_each};
 ghost use Rattle.fluent_syntax_grammar.specs.Grammar.{family, pattern};
@@ -8,6 +8,7 @@ ghost use Rattle.fluent_syntax_grammar.specs.Patterns.{layout_at};
 ghost use Rattle.fluent_syntax_grammar.specs.Places.{after_eol};
 ghost use Rattle.fluent_syntax_parser.specs.Elements.{layout_view};
 ghost use Rattle.fluent_syntax_parser.specs.Meets.{Meets, NestsWithin, OnTooDeep, Shallow};
+ghost use Rattle.fluent_syntax_parser.specs.ShortMessages.{short_pattern};
 ghost use Rattle.fluent_syntax_parser.specs.ShortPatterns.{EndsLine, OpensAs};
 
 use crate::elements::Layout;
@@ -65,20 +66,15 @@ impl<'s> Source<'s> {
         }
     }
 
-    /// Reads a pattern of one line without placeable, after the inline blank that opens it, if that stands there.
-    fn get_short_pattern(
-        &self,
-        alloc: Global,
-        edition: Edition,
-        start: usize,
-    ) -> Result<Option<(Pattern<Span>, usize)>, AllocError>
+    /// Reads a pattern of one line without placeable, after the inline blank that opens it, if that stands there: its
+    /// text.
+    pub(crate) fn short_text(&self, edition: Edition, start: usize) -> Option<(Span, usize)>
         requires { start ≤ length self.now.bytes.now }
-        ensures opens { IfOk result (λ short. IfSome short
-            (λ read. OpensAs edition self.now.bytes.now start (pattern_view (λ s. s) read.0) read.1)) }
-        ensures within { IfOk result (λ short. IfSome short
-            (λ read. (start ≤ read.1) × (read.1 ≤ length self.now.bytes.now))) }
-        ensures shallow { let t = self.now.bytes.now in IfOk result (λ short. IfSome short
-            (λ _. (n : ℕ) → Deeper edition t in_layout n start → ⊥)) }
+        ensures opens { IfSome result
+            (λ read. OpensAs edition self.now.bytes.now start (Some (short_pattern (λ s. s) read.0)) read.1) }
+        ensures within { IfSome result (λ read. (start ≤ read.1) × (read.1 ≤ length self.now.bytes.now)) }
+        ensures shallow { IfSome result
+            (λ _. (n : ℕ) → Deeper edition self.now.bytes.now in_layout n start → ⊥) }
     {
         let to = self.run_end(start);
         if start < to {
@@ -88,13 +84,47 @@ impl<'s> Source<'s> {
                         start,
                         end: self.trimmed_end(start, text_end),
                     };
-                    let mut elements = Vec::with_capacity(alloc, 1)?;
-                    elements.push(PatternElement::TextElement { value })?;
-                    return Ok(Some((Pattern { elements }, end)));
+                    return Some((value, end));
                 }
             }
         }
-        Ok(None)
+        None
+    }
+
+    /// The pattern that `short_text` reads.
+    fn get_short_pattern(
+        &self,
+        alloc: Global,
+        edition: Edition,
+        start: usize,
+    ) -> Result<Option<(Pattern<Span>, usize)>, AllocError>
+        requires { start ≤ length self.now.bytes.now }
+        ensures opens { IfOk result (λ short. IfSome short
+            (λ read. OpensAs edition self.now.bytes.now start (Some (pattern_view (λ s. s) read.0)) read.1)) }
+        ensures within { IfOk result (λ short. IfSome short
+            (λ read. (start ≤ read.1) × (read.1 ≤ length self.now.bytes.now))) }
+        ensures shallow { let t = self.now.bytes.now in IfOk result (λ short. IfSome short
+            (λ _. (n : ℕ) → Deeper edition t in_layout n start → ⊥)) }
+    {
+        let Some((value, end)) = self.short_text(edition, start) else {
+            return Ok(None);
+        };
+        let mut elements = Vec::with_capacity(alloc, 1)?;
+        elements.push(PatternElement::TextElement { value })?;
+        Ok(Some((Pattern { elements }, end)))
+    }
+
+    /// Where a pattern ends that holds nothing, after the inline blank that opens it, if a line ends there.
+    pub(crate) fn end_without_text(&self, edition: Edition, start: usize) -> Option<usize>
+        requires { start ≤ length self.now.bytes.now }
+        ensures opens { IfSome result (OpensAs edition self.now.bytes.now start None) }
+        ensures within { IfSome result (λ end. (start ≤ end) × (end ≤ length self.now.bytes.now)) }
+        ensures shallow { IfSome result
+            (λ _. (n : ℕ) → Deeper edition self.now.bytes.now in_layout n start → ⊥) }
+    {
+        let next = self.eol_end(start)?;
+        let end = self.end_without_lines(edition, self.skip_blank_block(next))?;
+        Some(end)
     }
 
     /// Reads the layout of a pattern, after the inline blank that opens it.
