@@ -53,8 +53,8 @@ fn attributes_at<'s, S: Slice<'s>>(
         ≡ map (short_attribute (bytes_at (S.text source.now))) list.now.items) }
 {
     let mut attributes = Vec::with_capacity(alloc, list.len())?;
-    for attribute in list {
-        attributes.push(attribute_at(alloc, source, attribute)?)?;
+    for item in list {
+        attributes.push(attribute_at(alloc, source, item)?)?;
     }
     Ok(attributes)
 }
@@ -63,15 +63,15 @@ fn attributes_at<'s, S: Slice<'s>>(
 fn message_at<'s, S: Slice<'s>>(
     alloc: Global,
     source: &S,
-    message: ShortMessage,
+    short: ShortMessage,
     list: &Vec<ShortAttribute>,
 ) -> Result<Message<S>, AllocError>
-    requires parts { entry_every (IsPart (S.text source.now)) (short_message (λ s. s) message list.now.items) }
+    requires parts { entry_every (IsPart (S.text source.now)) (short_message (λ s. s) short list.now.items) }
     ensures { IfOk result (λ made. message (message_view S.text made)
-        ≡ short_message (bytes_at (S.text source.now)) message list.now.items) }
+        ≡ short_message (bytes_at (S.text source.now)) short list.now.items) }
 {
-    let name = source.slice(alloc, message.name.start..message.name.end)?;
-    let value = match message.value {
+    let name = source.slice(alloc, short.name.start..short.name.end)?;
+    let value = match short.value {
         Some(span) => Some(pattern_at(alloc, source, span)?),
         None => None,
     };
@@ -88,13 +88,13 @@ pub(crate) fn add_message<'s, S: Slice<'s>>(
     alloc: Global,
     input: &S,
     body: &mut Vec<Entry<S>>,
-    message: ShortMessage,
+    short: ShortMessage,
     list: &Vec<ShortAttribute>,
 ) -> Result<(), AllocError>
-    requires parts { entry_every (IsPart (S.text input.now)) (short_message (λ s. s) message list.now.items) }
+    requires parts { entry_every (IsPart (S.text input.now)) (short_message (λ s. s) short list.now.items) }
     ensures { OnOk result (map (entry_view S.text) body.new.items ≡ map (entry_view S.text) body.old.items
-        ++ entry_map (bytes_at (S.text input.now)) (short_message (λ s. s) message list.now.items) ∷ []) }
+        ++ entry_map (bytes_at (S.text input.now)) (short_message (λ s. s) short list.now.items) ∷ []) }
 {
-    body.push(Entry::Message(message_at(alloc, input, message, list)?))?;
+    body.push(Entry::Message(message_at(alloc, input, short, list)?))?;
     Ok(())
 }

@@ -2,7 +2,10 @@
 use Rattle.std.proofs.Common.{◌≡◌, ℕ, true, false, List, [], ◌∷◌, Option, Some, None, map, refl, arith}
 use Rattle.std.specs.Prelude.{◌==◌, is_some, option_map, slice_get}
 use Rattle.std.proofs.lemmas.Bool.Decides.{nat_tests}
+use Rattle.fluent_syntax_tree.specs.Entry.{attribute_map, entry_map}
+use Rattle.fluent_syntax_tree.specs.Tree.{pattern_map}
 use Rattle.fluent_syntax_tree.specs.declared.spans.Span.{Span}
+use Rattle.fluent_syntax_tree.proofs.Natural.{map_twice, option_twice}
 use Rattle.fluent_syntax_grammar.specs.Bytes.{hash, hyphen, is_letter}
 use Rattle.fluent_syntax_grammar.specs.Construct.{Read, given}
 use Rattle.fluent_syntax_grammar.specs.Entries.{message_with}
@@ -10,6 +13,7 @@ use Rattle.fluent_syntax_grammar.specs.Places.{has, has_byte}
 use Rattle.fluent_syntax_grammar.proofs.Facts.{excludes}
 use Rattle.fluent_syntax_parser.specs.ShortMessages.{short_attribute, short_message, short_pattern}
 use Rattle.fluent_syntax_parser.specs.declared.short.ShortAttribute.{ShortAttribute}
+use Rattle.fluent_syntax_parser.specs.declared.short.ShortMessage.{ShortMessage}
 
 -- ---- the last part of such a message
 
@@ -42,3 +46,15 @@ module _ (t : List ℕ) (i : ℕ) (letter : has t is_letter i ≡ true) where
 
   pub no_hyphen : has_byte t hyphen i ≡ false
   no_hyphen = excludes is_letter (λ b. b == hyphen) (slice_get t i) letter_no_hyphen letter
+
+-- ---- its texts
+
+module _ {A : Type 0} (g : Span → A) where
+  pub short_map : (m : ShortMessage) (list : List ShortAttribute) →
+      entry_map g (short_message (λ s. s) m list) ≡ short_message g m list
+  short_map m list =
+      rw (
+        option_twice (short_pattern g) (short_pattern (λ s. s)) (pattern_map g) m.value (λ s. refl),
+        map_twice (short_attribute g) (short_attribute (λ s. s)) (attribute_map g) list (λ a. refl),
+      )
+      refl
