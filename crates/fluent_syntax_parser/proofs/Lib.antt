@@ -1,5 +1,6 @@
 pub mod AnswerOf
 pub mod ArgumentLists
+pub mod BlankLines
 pub mod Carried
 pub mod CommentEntries
 pub mod Cut

@@ -1,33 +1,29 @@
 -- Patterns of one line without placeable, and patterns that hold nothing.
-use Rattle.std.proofs.Common.{◌≡◌, ℕ, suc, ◌+◌, ◌-◌, ◌<◌, ◌≤◌, List, [], ◌∷◌, length, take, drop, get_or, Option, Some}
-use Rattle.std.proofs.Common.{None, Bool, true, false, not, refl, sym, subst, arith, inl, inr}
+use Rattle.std.proofs.Common.{◌≡◌, ℕ, ◌+◌, ◌-◌, ◌<◌, ◌≤◌, List, [], ◌∷◌, length, get_or, Some}
+use Rattle.std.proofs.Common.{None, Bool, true, false, not, refl, sym, subst, arith, inl, inr, ap, ◌++◌, ◌∙◌}
+use Rattle.std.specs.List.{flat_map}
 use Rattle.std.specs.Prelude.{slice_get, slice_range, ◌==◌, ◌||◌, ◌&&◌, if◌then◌else◌}
-use Rattle.std.proofs.Math.Seq.{drop-cons}
 use Rattle.std.proofs.lemmas.Bool.Decides.{nat_tests}
-use Rattle.std.proofs.lemmas.Option.{slice_get-get_or, slice_get_within, slice_get_past}
+use Rattle.std.proofs.lemmas.Option.{slice_get-get_or, slice_get_past}
 use Rattle.fluent_syntax_tree.specs.Tree.{text_element, elements_of}
 use Rattle.fluent_syntax_tree.specs.declared.edition.Edition.{Edition}
 use Rattle.fluent_syntax_grammar.specs.Bytes.{lf, cr, space, left_brace, right_brace}
-use Rattle.fluent_syntax_grammar.specs.Construct.{Read, gives, goes_on, given, passed, chosen, first, second, at_place}
-use Rattle.fluent_syntax_grammar.specs.Elements.{is_nonblank, trimmed_end, pattern_of}
+use Rattle.fluent_syntax_grammar.specs.Construct.{Read, gives, goes_on, given, passed, chosen, second, at_place}
+use Rattle.fluent_syntax_grammar.specs.Elements.{Item, cut, cut_before, if_any, is_nonblank, line_items, pattern_of, spelled}
+use Rattle.fluent_syntax_grammar.specs.Elements.{trimmed_end, with_ending}
 use Rattle.fluent_syntax_grammar.specs.Family.{Family}
 use Rattle.fluent_syntax_grammar.specs.Grammar.{family, pattern}
-use Rattle.fluent_syntax_grammar.specs.Layout.{Layout, Piece, run as run', Ending, lf_at, crlf_at, text_end as text_end'}
+use Rattle.fluent_syntax_grammar.specs.Layout.{Layout, Line, Piece, common_indent, run as run', Ending, lf_at, crlf_at, text_end as text_end'}
 use Rattle.fluent_syntax_grammar.specs.Lines.{is_run_place, ending_of, ending}
-use Rattle.fluent_syntax_grammar.specs.Nesting.{Deeper, in_layout, in_pieces}
+use Rattle.fluent_syntax_grammar.specs.Nesting.{Deeper, in_layout, in_lines, in_pieces}
 use Rattle.fluent_syntax_grammar.specs.Patterns.{layout_at, layout}
 use Rattle.fluent_syntax_grammar.specs.Places.{BlankBlock, Stretch, after_eol, has_byte, has_eol, InlineBlank}
-use Rattle.fluent_syntax_grammar.proofs.Facts.{left_true, byte_found, equal}
+use Rattle.fluent_syntax_grammar.proofs.Facts.{left_true, byte_found}
 use Rattle.fluent_syntax_grammar.proofs.Nesting.{into_more_pieces}
 use Rattle.fluent_syntax_grammar.proofs.Shallow.{block_led, no_lines_led, opening_led, pieces_end, pieces_eol, run_led}
 use Rattle.fluent_syntax_parser.proofs.LineEndings.{ends_line, ends_text}
-use Rattle.fluent_syntax_parser.specs.ShortPatterns.{EndsLine, with_lf, with_crlf, with_text}
-
-eol_there : (a b : Bool) (i k : ℕ) → (if a then Some (i + 1) else if b then Some (i + 2) else None) ≡ Some k →
-    (a || b) ≡ true
-eol_there true b i k e = refl
-eol_there false true i k e = refl
-eol_there false false i k e = cc
+use Rattle.fluent_syntax_parser.proofs.BlankLines.{crlf_byte, eol_there, lf_blank, no_piece, range_cons}
+use Rattle.fluent_syntax_parser.specs.ShortPatterns.{EndsBlank, EndsLine, with_lf, with_crlf, with_text}
 
 no_eol : (a b : Bool) (i : ℕ) → (a || b) ≡ false → (if a then Some (i + 1) else if b then Some (i + 2) else None) ≡ None
 no_eol true b i e = cc
@@ -39,42 +35,25 @@ right_not true true e = cc
 right_not true false e = refl
 right_not false b e = cc
 
-crlf_byte : (a b c : Bool) (i k : ℕ) → (if a then Some (i + 1) else if b && c then Some (i + 2) else None) ≡ Some k →
-    (k ≡ i + 1 → ⊥) → c ≡ true
-crlf_byte true b c i k e other = let same : i + 1 ≡ k = cc in absurd (other (sym same))
-crlf_byte false true true i k e other = refl
-crlf_byte false true false i k e other = cc
-crlf_byte false false c i k e other = cc
-
 starts_nonblank : (b : ℕ) (bs : List ℕ) → (b == space) ≡ false → (b == lf) ≡ false → is_nonblank (b ∷ bs) ≡ true
 starts_nonblank b [] space other = rw (other, space) refl
 starts_nonblank b (c ∷ bs) space other = rw space refl
 
 module _ (t : List ℕ) (i j : ℕ) (l : i < j) (within : j ≤ length t) where
-  range_cons : (n : ℕ) → j - i ≡ suc n → slice_range t i j ≡ get_or t i 0 ∷ take n (drop (suc i) t)
-  range_cons n e = rw (drop-cons t i 0 (omega arith), e) refl
-
   range_nonblank : (b : ℕ) → slice_get t i ≡ Some b → (b == space) ≡ false → (b == lf) ≡ false →
       is_nonblank (slice_range t i j) ≡ true
   range_nonblank b at space other =
       let same : get_or t i 0 ≡ b = let h = slice_get-get_or t i 0 (omega arith) in cc in
-      rw (range_cons (j - i - 1) (omega arith), same) (starts_nonblank b _ space other)
+      rw (range_cons t i j l within (j - i - 1) (omega arith), same) (starts_nonblank b _ space other)
 
-lf_blank : (t : List ℕ) (i j : ℕ) → j ≡ i + 1 → has_byte t lf i ≡ true → is_nonblank (slice_range t i j) ≡ false
-lf_blank t i j l e =
-    let f = byte_found (λ c. c == lf) (slice_get t i) e in
-    let within = slice_get_within t i f.0 f.1 in
-    let same : get_or t i 0 ≡ lf = let h = slice_get-get_or t i 0 within in let b : f.0 ≡ lf = equal f.0 lf f.2 in cc in
-    let n : j - i ≡ suc 0 = omega arith in
-    rw (range_cons t i j (omega arith) (omega arith) 0 n, same) refl
+-- items none of which stays are cut off where they end the list
+cut_behind : (t : List ℕ) (xs ys : List Item) → cut t ys ≡ [] → cut t (xs ++ ys) ≡ cut t xs
+cut_behind t [] ys none = none
+cut_behind t (x ∷ xs) ys none = ap (cut_before t x) (cut_behind t xs ys none)
 
 module _ (edition : Edition) (t : List ℕ) where
   abbrev R : Family
   R = family edition t
-
-  no_piece : (i : ℕ) (o : Option ℕ) → slice_get t i ≡ o → has_eol t i ≡ true → R.more_pieces i (Read [] i)
-  no_piece i None e eol = into_more_pieces edition t i _ (chosen (rw e given))
-  no_piece i (Some b) e eol = into_more_pieces edition t i _ (chosen (rw e (chosen (first eol given))))
 
   run_piece : (i j b : ℕ) (ps : List Piece) (end : ℕ) → slice_get t i ≡ Some b →
       not (b == lf || b == left_brace || b == right_brace) ≡ true → has_eol t i ≡ false → Stretch (is_run_place t) i j →
@@ -117,40 +96,32 @@ module _ (edition : Edition) (t : List ℕ) where
         let f = first_byte start to w some in
         range_nonblank t start j (omega arith) r f.0 f.1 (no_space f.0 f.1) (no_lf f.0 f.2)
 
+    -- the layout of the line that ends so, with the lines behind it
+    abbrev opened : Ending → List Line → Layout
+    opened e ls =
+        record { opening = Some (record { start = start; spaces = 0; pieces = run' start to ∷ []; ending = e }); lines = ls }
+
     layout_is : (e : Ending) (next end : ℕ) → R.more_pieces to (Read [] to) → ending t to (Read e next) →
-        R.more_lines next (Read [] end) →
-        pattern edition t ptr (Read (pattern_of edition t (record {
-          opening =
-              Some (record { start = start; spaces = 0; pieces = run' start to ∷ []; ending = e });
-          lines = [];
-        })) end)
-    layout_is e next end pieces ends lines =
+        EndsBlank edition t next end → pattern edition t ptr (Read (pattern_of edition t (opened e [])) end)
+    layout_is e next end pieces ends behind =
         let f = first_byte start to w some in
         let run = run_piece start to f.0 [] to f.1 f.2 (start_eol start to w some) w pieces in
         let none = no_eol (has_byte t lf start) _ start (start_eol start to w some) in
-        let laid : layout_at t R None start
-        (Read (record {
-          opening = Some (record { start = start; spaces = 0; pieces = run' start to ∷ []; ending = e });
-          lines = [];
-        }) end) = goes_on at_place
+        let laid : layout_at t R None start (Read (opened e behind.lines) end) = goes_on at_place
         (goes_on run
         (goes_on ends
-        (goes_on lines given))) in
-        let whole : layout t R ptr (Read
-        (record {
-          opening = Some (record { start = start; spaces = 0; pieces = run' start to ∷ []; ending = e });
-          lines = [];
-        }) end) = goes_on (passed blank)
-        (chosen
-        (subst (λ o. layout_at t R o start
-        (Read (record {
-          opening = Some (record { start = start; spaces = 0; pieces = run' start to ∷ []; ending = e });
-          lines = [];
-        }) end)) (sym none) laid)) in
-        goes_on whole given
+        (goes_on behind.read given))) in
+        let whole : layout t R ptr (Read (opened e behind.lines) end) = goes_on (passed blank)
+        (chosen (subst (λ o. layout_at t R o start (Read (opened e behind.lines) end)) (sym none) laid)) in
+        let line = with_ending (run' start to ∷ []) e in
+        let cut_off = cut_behind t line (flat_map (line_items edition (common_indent edition (opened e behind.lines)))
+        behind.lines) (behind.blank _) in
+        let same : pattern_of edition t (opened e behind.lines) ≡ pattern_of edition t (opened e []) =
+        ap (λ is. if_any (spelled t is)) (cut_off ∙ sym (cut_behind t line [] refl)) in
+        rw (← same) (goes_on whole given)
 
     pub short_read : (text_end next end : ℕ) → EndsLine t to text_end next → next ≤ length t →
-        R.more_lines next (Read [] end) →
+        EndsBlank edition t next end →
         pattern edition t ptr (Read (Some (elements_of (text_element (record {
           start =
               start;
@@ -166,13 +137,9 @@ module _ (edition : Edition) (t : List ℕ) where
         (subst (λ o. ending_of t to o to (Read (lf_at to) text_end)) (sym eol)
         (goes_on (passed (record { there = refl })) mark))) in
         let stays : is_nonblank (slice_range t start (to + 1)) ≡ true = nonblank (to + 1) (omega arith) (omega arith) in
-        let value : pattern_of edition t
-        (record {
-          opening = Some (record { start = start; spaces = 0; pieces = run' start to ∷ []; ending = lf_at to });
-          lines = [];
-        }) ≡ Some (elements_of
+        let value : pattern_of edition t (opened (lf_at to) []) ≡ Some (elements_of
         (text_element (record { start = start; end = trimmed_end t start text_end }) ∷ [])) = rw (stays, e) refl in
-        rw (← value) (layout_is (lf_at to) text_end end (no_piece to (slice_get t to) refl there) ends lines)
+        rw (← value) (layout_is (lf_at to) text_end end (no_piece edition t to (slice_get t to) refl there) ends lines)
     short_read text_end next end (with_crlf eol e) l lines =
         let test : (next == to + 1) ≡ false = grind (arith, nat_tests) in
         let there = eol_there (has_byte t lf to) _ to next eol in
@@ -185,52 +152,44 @@ module _ (edition : Edition) (t : List ℕ) where
         let stays : is_nonblank (slice_range t start to) ≡ true = nonblank to (omega arith) within in
         let after : is_nonblank (slice_range t (to + 1) (to + 2)) ≡ false = lf_blank t (to + 1) (to + 2) (omega arith)
         (crlf_byte (has_byte t lf to) (has_byte t cr to) _ to next eol e) in
-        let value : pattern_of edition t
-        (record {
-          opening = Some (record { start = start; spaces = 0; pieces = run' start to ∷ []; ending = crlf_at to });
-          lines = [];
-        }) ≡ Some (elements_of
+        let value : pattern_of edition t (opened (crlf_at to) []) ≡ Some (elements_of
         (text_element (record { start = start; end = trimmed_end t start to }) ∷ [])) = rw (after, stays) refl in
-        rw (← value) (layout_is (crlf_at to) next end (no_piece to (slice_get t to) refl there) ends lines)
+        rw (← value) (layout_is (crlf_at to) next end (no_piece edition t to (slice_get t to) refl there) ends lines)
     short_read text_end next end (with_text eol e) l lines =
         let ends : ending t to (Read text_end' to) = goes_on at_place (chosen (rw eol given)) in
         let stays : is_nonblank (slice_range t start to) ≡ true = nonblank to (omega arith) within in
         let none : slice_get t to ≡ None = slice_get_past t to (omega arith) in
-        let value : pattern_of edition t
-        (record {
-          opening = Some (record { start = start; spaces = 0; pieces = run' start to ∷ []; ending = text_end' });
-          lines = [];
-        }) ≡ Some (elements_of
+        let value : pattern_of edition t (opened text_end' []) ≡ Some (elements_of
         (text_element (record { start = start; end = trimmed_end t start to }) ∷ [])) = rw stays refl in
         rw (← value) (layout_is text_end' to end (into_more_pieces edition t to _ (chosen (rw none given))) ends lines)
 
   module _ (start to : ℕ) (w : Stretch (is_run_place t) start to) (some : start < to) (within : to ≤ length t) where
-    flat_with : (n : ℕ) (e : Ending) (next end : ℕ) → R.more_pieces to (Read [] to) → ending t to (Read e next) →
-        R.more_lines next (Read [] end) → (Deeper edition t in_pieces n to → ⊥) →
+    flat_with : (n : ℕ) (e : Ending) (next : ℕ) → R.more_pieces to (Read [] to) → ending t to (Read e next) →
+        (Deeper edition t in_lines n next → ⊥) → (Deeper edition t in_pieces n to → ⊥) →
         Deeper edition t in_layout n start → ⊥
-    flat_with n e next end pieces ends lines none deeper =
+    flat_with n e next pieces ends lines none deeper =
         let f = first_byte start to w some in
         let run = run_piece start to f.0 [] to f.1 f.2 (start_eol start to w some) w pieces in
         let no_line = no_eol (has_byte t lf start) _ start (start_eol start to w some) in
         elim (opening_led edition t _ to e next no_line run ends deeper) [
           | inl d ↦ none (run_led edition t to (w.each start (omega arith) some) w d)
-          | inr d ↦ no_lines_led edition t end lines d
+          | inr d ↦ lines d
         ]
 
     -- it holds no opening
-    pub short_shallow : (n text_end next end : ℕ) → EndsLine t to text_end next → R.more_lines next (Read [] end) →
-        Deeper edition t in_layout n start → ⊥
-    short_shallow n text_end next end (with_lf eol e) lines =
+    pub short_shallow : (n text_end next : ℕ) → EndsLine t to text_end next →
+        (Deeper edition t in_lines n next → ⊥) → Deeper edition t in_layout n start → ⊥
+    short_shallow n text_end next (with_lf eol e) lines =
         let there = eol_there (has_byte t lf to) _ to text_end eol in
-        flat_with n _ text_end end (no_piece to (slice_get t to) refl there) (ends_line t to text_end eol) lines
+        flat_with n _ text_end (no_piece edition t to (slice_get t to) refl there) (ends_line t to text_end eol) lines
         (pieces_eol edition t there)
-    short_shallow n text_end next end (with_crlf eol e) lines =
+    short_shallow n text_end next (with_crlf eol e) lines =
         let there = eol_there (has_byte t lf to) _ to next eol in
-        flat_with n _ next end (no_piece to (slice_get t to) refl there) (ends_line t to next eol) lines
+        flat_with n _ next (no_piece edition t to (slice_get t to) refl there) (ends_line t to next eol) lines
         (pieces_eol edition t there)
-    short_shallow n text_end next end (with_text eol e) lines =
+    short_shallow n text_end next (with_text eol e) lines =
         let none : slice_get t to ≡ None = slice_get_past t to (omega arith) in
-        flat_with n text_end' to end (into_more_pieces edition t to _ (chosen (rw none given))) (ends_text t to eol)
+        flat_with n text_end' to (into_more_pieces edition t to _ (chosen (rw none given))) (ends_text t to eol)
         lines (pieces_end edition t none)
 
   -- ---- a pattern that holds nothing: a line ends where it would begin, and no line of a pattern follows

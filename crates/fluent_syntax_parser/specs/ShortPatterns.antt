@@ -1,10 +1,13 @@
 -- Patterns of one line without placeable.
-use Rattle.std.specs.Prelude.{◌≡◌, ℕ, ◌+◌, List, length, Option, Some, None}
+use Rattle.std.specs.Prelude.{◌≡◌, ℕ, ◌+◌, List, [], length, Option, Some, None}
+use Rattle.std.specs.List.{flat_map}
 use Rattle.fluent_syntax_tree.specs.Tree.{PatternTree}
 use Rattle.fluent_syntax_tree.specs.declared.edition.Edition.{Edition}
 use Rattle.fluent_syntax_tree.specs.declared.spans.Span.{Span}
 use Rattle.fluent_syntax_grammar.specs.Construct.{Read}
-use Rattle.fluent_syntax_grammar.specs.Grammar.{pattern}
+use Rattle.fluent_syntax_grammar.specs.Elements.{cut, line_items}
+use Rattle.fluent_syntax_grammar.specs.Grammar.{family, pattern}
+use Rattle.fluent_syntax_grammar.specs.Layout.{Line}
 use Rattle.fluent_syntax_grammar.specs.Places.{after_eol, InlineBlank}
 
 -- A line whose run ends at `to` ends there, and `next` is the next line's start: with LF, which the text takes in, with
@@ -17,3 +20,13 @@ pub data EndsLine (t : List ℕ) (to : ℕ) : ℕ → ℕ → Type 0 where
 -- The pattern that opens with an inline blank up to the place is that one or none, and ends there.
 abbrev pub OpensAs : Edition → List ℕ → ℕ → Option (PatternTree Span) → ℕ → Type 0
 OpensAs edition t start value end = (i : ℕ) → InlineBlank t i start → pattern edition t i (Read value end)
+
+-- None of the items of the lines stays under any common indent, where nothing follows them.
+abbrev pub AreBlank : Edition → List ℕ → List Line → Type 0
+AreBlank edition t ls = (common : Option ℕ) → cut t (flat_map (line_items edition common) ls) ≡ []
+
+-- All lines of the pattern that are left from the place on are blank, and it ends there.
+pub record EndsBlank (edition : Edition) (t : List ℕ) (i end : ℕ) : Type 0 where
+  pub lines : List Line
+  pub read : (family edition t).more_lines i (Read lines end)
+  pub blank : AreBlank edition t lines

@@ -3,13 +3,13 @@ ghost use Rattle.std.specs.Prelude.{◌≡◌, ◌-◌, ◌≤◌, ℕ, length, 
 ghost use Rattle.fluent_syntax_tree.specs.View.{pattern_view};
 ghost use Rattle.fluent_syntax_grammar.specs.Construct.{Read, at_each};
 ghost use Rattle.fluent_syntax_grammar.specs.Grammar.{family, pattern};
-ghost use Rattle.fluent_syntax_grammar.specs.Nesting.{Deeper, in_layout, in_pattern};
+ghost use Rattle.fluent_syntax_grammar.specs.Nesting.{Deeper, in_layout, in_lines, in_pattern};
 ghost use Rattle.fluent_syntax_grammar.specs.Patterns.{layout_at};
 ghost use Rattle.fluent_syntax_grammar.specs.Places.{after_eol};
 ghost use Rattle.fluent_syntax_parser.specs.Elements.{layout_view};
 ghost use Rattle.fluent_syntax_parser.specs.Meets.{Meets, NestsWithin, OnTooDeep, Shallow};
 ghost use Rattle.fluent_syntax_parser.specs.ShortMessages.{short_pattern};
-ghost use Rattle.fluent_syntax_parser.specs.ShortPatterns.{EndsLine, OpensAs};
+ghost use Rattle.fluent_syntax_parser.specs.ShortPatterns.{EndsBlank, EndsLine, OpensAs};
 
 use crate::elements::Layout;
 use crate::fault::ReadFault;
@@ -66,6 +66,18 @@ impl<'s> Source<'s> {
         }
     }
 
+    /// Where a pattern ends whose lines from a line's start on are all blank.
+    fn end_behind_blank_lines(&self, edition: Edition, ptr: usize) -> Option<usize>
+        requires { ptr ≤ length self.now.bytes.now }
+        ensures lines { IfSome result (EndsBlank edition self.now.bytes.now ptr) }
+        ensures within { IfSome result (λ end. (ptr ≤ end) × (end ≤ length self.now.bytes.now)) }
+        ensures shallow { IfSome result
+            (λ _. (n : ℕ) → Deeper edition self.now.bytes.now in_lines n ptr → ⊥) }
+    {
+        let end = self.end_without_lines(edition, self.skip_blank_block(ptr))?;
+        Some(end)
+    }
+
     /// Reads a pattern of one line without placeable, after the inline blank that opens it, if that stands there: its
     /// text.
     pub(crate) fn short_text(&self, edition: Edition, start: usize) -> Option<(Span, usize)>
@@ -79,7 +91,7 @@ impl<'s> Source<'s> {
         let to = self.run_end(start);
         if start < to {
             if let Some((text_end, next)) = self.line_ending(to) {
-                if let Some(end) = self.end_without_lines(edition, next) {
+                if let Some(end) = self.end_behind_blank_lines(edition, next) {
                     let value = Span {
                         start,
                         end: self.trimmed_end(start, text_end),

@@ -110,7 +110,7 @@ returns-in_default-2-clause-read g c =
     let short = c.in_ok-message.ensures in
     let there = rw c.in_default.is at short.none in
     let none = rw (short.text, inv.text, short.options, inv.options, there, c.in_default-2.is)
-        at c.in_ok-entry.ensures.next in
+    at c.in_ok-entry.ensures.next in
     all_read g.S.Slice.text c.args.options.comments c.args.options.edition t _ _ _ inv.read none
 
 pub returns-in_default-2-clause-blank : goal.returns-in_default-2-clause-blank
@@ -122,7 +122,7 @@ returns-in_default-2-clause-shallow g c =
     let short = c.in_ok-message.ensures in
     let there = rw c.in_default.is at short.none in
     let none = rw (short.text, inv.text, short.options, inv.options, there, c.in_default-2.is)
-        at c.in_ok-entry.ensures.shallow in
+    at c.in_ok-entry.ensures.shallow in
     λ h. none (inv.deeper.1 h)
 
 pub returns-in_err-entry-clause-nests : goal.returns-in_err-entry-clause-nests

@@ -11,6 +11,6 @@ returns g c =
     let view = entry_view g.S.Slice.text in
     let before = c.args.body.now.items in
     let made = c.in_ok-message_at.ensures
-        ∙ sym (short_map (bytes_at (g.S.Slice.text c.args.input.now)) c.args.short c.args.list.now.items) in
+    ∙ sym (short_map (bytes_at (g.S.Slice.text c.args.input.now)) c.args.short c.args.list.now.items) in
     ap (map view) c.in_ok-push.ensures.items
     ∙ (map-append view before (Message c.in_ok-message_at.field-0 ∷ []) ∙ ap (λ e. map view before ++ e ∷ []) made)

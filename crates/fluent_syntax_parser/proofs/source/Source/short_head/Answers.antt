@@ -1,4 +1,3 @@
-use Rattle.std.proofs.Common.{refl}
 use Rattle.fluent_syntax_grammar.specs.Construct.{at_place, goes_on, passed}
 use Rattle.fluent_syntax_grammar.proofs.Shallow.{fields_led, message_led}
 use Rattle.fluent_syntax_parser.proofs.Shallows.{not_first}

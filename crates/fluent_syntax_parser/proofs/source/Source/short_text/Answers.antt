@@ -1,17 +1,17 @@
 use Rattle.fluent_syntax_parser.proofs.ShortPatterns.{short_read, short_shallow}
 use Rattle.fluent_syntax_parser.proofs.source.Source.short_text.Goals as goal
 
-pub returns-in-Some-end_without_lines-clause-opens : goal.returns-in-Some-end_without_lines-clause-opens
-returns-in-Some-end_without_lines-clause-opens c = λ i blank.
+pub returns-in-Some-end_behind_blank_lines-clause-opens : goal.returns-in-Some-end_behind_blank_lines-clause-opens
+returns-in-Some-end_behind_blank_lines-clause-opens c = λ i blank.
     let a = c.in-Some in
     rw c.trimmed_end.ensures
     (short_read c.args.edition c.args.self.now.bytes.now i _ _ blank c.run_end-to.ensures.run c.if-start-to.true
-    c.run_end-to.ensures.within a.text_end a.next c.in-Some-end_without_lines.end a.ensures.ending a.ensures.within.2
-    c.in-Some-end_without_lines.ensures.lines)
+    c.run_end-to.ensures.within a.text_end a.next c.in-Some-end_behind_blank_lines.end a.ensures.ending a.ensures.within.2
+    c.in-Some-end_behind_blank_lines.ensures.lines)
 
-pub returns-in-Some-end_without_lines-clause-shallow : goal.returns-in-Some-end_without_lines-clause-shallow
-returns-in-Some-end_without_lines-clause-shallow c = λ n.
+pub returns-in-Some-end_behind_blank_lines-clause-shallow : goal.returns-in-Some-end_behind_blank_lines-clause-shallow
+returns-in-Some-end_behind_blank_lines-clause-shallow c = λ n.
     let a = c.in-Some in
     short_shallow c.args.edition c.args.self.now.bytes.now _ _ c.run_end-to.ensures.run c.if-start-to.true
-    c.run_end-to.ensures.within n a.text_end a.next c.in-Some-end_without_lines.end a.ensures.ending
-    c.in-Some-end_without_lines.ensures.lines
+    c.run_end-to.ensures.within n a.text_end a.next a.ensures.ending
+    (c.in-Some-end_behind_blank_lines.ensures.shallow n)

@@ -1,0 +1,13 @@
+use Rattle.fluent_syntax_parser.proofs.BlankLines.{blank_lines, blank_shallow}
+use Rattle.fluent_syntax_parser.proofs.source.Source.end_behind_blank_lines.Goals as goal
+
+pub returns-clause-lines : goal.returns-clause-lines
+returns-clause-lines c =
+    let found = blank_lines c.args.edition c.args.self.now.bytes.now _ _ c.in_ok-end.ensures.lines _
+    c.skip_blank_block.ensures.blank in
+    record { lines = found.0; read = found.1; blank = found.2 }
+
+pub returns-clause-shallow : goal.returns-clause-shallow
+returns-clause-shallow c = λ n.
+    blank_shallow c.args.edition c.args.self.now.bytes.now _ _ c.in_ok-end.ensures.lines n _
+    c.skip_blank_block.ensures.blank
