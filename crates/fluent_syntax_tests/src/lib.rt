@@ -48,6 +48,8 @@ mod runtime;
 #[cfg(test)]
 mod serialized;
 #[cfg(test)]
+mod short_messages;
+#[cfg(test)]
 mod sinks;
 #[cfg(test)]
 mod spans;
