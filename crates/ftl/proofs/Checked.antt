@@ -1,18 +1,18 @@
 -- Texts that are checked entry by entry.
 use Rattle.std.proofs.Common.{◌≡◌, ℕ, ◌≤◌, List, [], ◌∷◌, ◌++◌, length, map, Option, Some, None, refl, sym, ◌∙◌, ap}
-use Rattle.std.specs.Prelude.{IfSome}
+use Rattle.std.proofs.Common.{true, false}
+use Rattle.std.specs.Prelude.{IfNone, IfSome, is_some}
 use Rattle.std.specs.List.{flat_map}
 use Rattle.std.proofs.lemmas.Grind.{flat_map-append}
 use Rattle.std.proofs.lemmas.List.{append-nil, append_assoc, map-append}
-use Rattle.fluent_syntax_tree.specs.Entry.{BodyTree}
-use Rattle.fluent_syntax_tree.specs.declared.ast.Entry.{Entry}
+use Rattle.fluent_syntax_tree.specs.Entry.{BodyTree, EntryTree}
 use Rattle.fluent_syntax_tree.specs.declared.edition.Edition.{Edition}
 use Rattle.fluent_syntax_tree.specs.declared.errors.ParserError.{ParserError}
 use Rattle.fluent_syntax_tree.specs.declared.spans.Span.{Span}
 use Rattle.fluent_syntax_grammar.specs.Body.{faults}
 use Rattle.fluent_syntax_grammar.specs.Tiling.{Fault, Tile, Tiling}
 use Rattle.fluent_syntax_parser.specs.Faults.{fault_of}
-use Rattle.fluent_syntax_parser.specs.Rest.{NextTo, Rest, faults_of, tree_of}
+use Rattle.fluent_syntax_parser.specs.Rest.{EntryTo, Rest, faults_of}
 use Rattle.fluent_syntax_parser.specs.declared.options.Comments.TheVariants.{Kept}
 use Rattle.fluent_syntax_parser.proofs.ErrorPlaces.{error_in_text}
 use Rattle.fluent_syntax_parser.proofs.PartsOfEntries.{some_rest}
@@ -46,6 +46,16 @@ pub if_some : {X : Type 0} {P : X → Type 0} (o : Option X) → ((x : X) → o 
 if_some None h = tt
 if_some (Some x) h = h x refl
 
+-- what holds of the value of what has one
+pub of_value : {X : Type 0} {P : X → Type 0} (o : Option X) → is_some o ≡ true → IfSome o P → (x : X) × P x
+of_value None some h = cc
+of_value (Some x) some h = (x, h)
+
+-- what holds if there is no value
+pub of_none : {X P : Type 0} (o : Option X) → is_some o ≡ false → IfNone o P → P
+of_none None none h = h
+of_none (Some x) none h = cc
+
 module _ (edition : Edition) (t : List ℕ) where
   pub nothing_checked : CheckedTo edition t 0 []
   nothing_checked = record { spans = []; errors = []; lines_are = refl; rest = λ entries others rest. rest }
@@ -62,8 +72,8 @@ module _ (edition : Edition) (t : List ℕ) where
           checked.lines_are ∙ lines_of_faults t checked.errors (faults whole.tiles) (sym tells),
         )
 
-    module _ (j : ℕ) (e : Entry Span) (error : Option ParserError)
-        (next : NextTo Kept edition t i j (Some (e, error))) where
+    module _ (j : ℕ) (e : EntryTree Span) (error : Option ParserError)
+        (next : EntryTo Kept edition t i j e (faults_of error)) where
       -- the next error begins within the text
       pub next_in_text : j ≤ length t → (one : ParserError) → error ≡ Some one → one.pos.start ≤ length t
       next_in_text inside one is =
@@ -75,17 +85,21 @@ module _ (edition : Edition) (t : List ℕ) where
       -- with the line of the next error, the text is checked up to where that entry ends
       pub checked_on : (longer : List ℕ) → longer ≡ lines ++ line_of_error t error → CheckedTo edition t j longer
       checked_on longer more = record {
-        spans = checked.spans ++ tree_of e ∷ [];
+        spans = checked.spans ++ e ∷ [];
         errors = checked.errors ++ errors_of error;
         lines_are = more
             ∙ (ap (λ ls. ls ++ line_of_error t error) checked.lines_are
             ∙ (ap (λ ls. lines_of t checked.errors ++ ls) (sym (one_line t error))
             ∙ sym (flat_map-append (λ e. error_line t (told e)) checked.errors (errors_of error))));
         rest = λ entries others rest. rw (
-          append_assoc checked.spans (tree_of e ∷ []) entries,
+          append_assoc checked.spans (e ∷ []) entries,
           map-append fault_of checked.errors (errors_of error),
           faults_told error,
           append_assoc (map fault_of checked.errors) (faults_of error) others,
         )
             (checked.rest _ _ (next entries others rest));
       }
+
+    -- an entry without error adds no line
+    pub checked_past : (j : ℕ) (e : EntryTree Span) → EntryTo Kept edition t i j e [] → CheckedTo edition t j lines
+    checked_past j e next = checked_on j e None next lines (sym (append-nil lines))

@@ -124,10 +124,16 @@ fn lines(alloc: Global, text: &str, edition: Edition, nesting: usize) -> Result<
     let mut entries = Entries::new(text, options);
     let mut places = Lines::new(text);
     let mut out = String::new(alloc);
-    while let Some(read) = entries.next_entry(alloc)? {
-        write_error_of(&mut out, &mut places, read)?;
+    let mut attributes = Vec::new(alloc);
+    loop {
+        // a message that is read without a tree has no error
+        if entries.next_short(&mut attributes)?.is_none() {
+            let Some(read) = entries.next_entry(alloc)? else {
+                return Ok(out);
+            };
+            write_error_of(&mut out, &mut places, read)?;
+        }
     }
-    Ok(out)
 }
 
 /// Writes the line of the error of what was read, if it is junk.

@@ -5,16 +5,17 @@ use Rattle.fluent_syntax_parser.specs.declared.options.Comments.TheVariants.{Kep
 use Rattle.ftl.proofs.Checked.{CheckedTo}
 use Rattle.ftl.proofs.answers.lines.Given as goal
 
-abbrev pub invariant-loop-out : goal.invariant-loop-out
-invariant-loop-out l = let deeper = TextDeeper l.fn.edition l.text (TileAt l.fn.edition l.text) l.fn.nesting in record {
-  text : l.entries.source.bytes.now ≡ l.text;
-  edition : l.entries.options.edition ≡ l.fn.edition;
-  comments : l.entries.options.comments ≡ Kept;
-  nesting : l.entries.options.nesting ≡ l.fn.nesting;
-  places : l.places ≡ l.text;
-  checked : CheckedTo l.fn.edition l.text l.entries.ptr (string_bytes l.out);
-  deeper : (deeper l.entries.ptr → deeper 0) × (deeper 0 → deeper l.entries.ptr);
-}
+abbrev pub invariant-loop-attributes : goal.invariant-loop-attributes
+invariant-loop-attributes l = let t = l.text in
+    let deeper = TextDeeper l.fn.edition t (TileAt l.fn.edition t) l.fn.nesting in record {
+      text : l.entries.source.bytes.now ≡ t;
+      edition : l.entries.options.edition ≡ l.fn.edition;
+      comments : l.entries.options.comments ≡ Kept;
+      nesting : l.entries.options.nesting ≡ l.fn.nesting;
+      places : l.places ≡ t;
+      checked : CheckedTo l.fn.edition t l.entries.ptr (string_bytes l.out);
+      deeper : (deeper l.entries.ptr → deeper 0) × (deeper 0 → deeper l.entries.ptr);
+    }
 
-abbrev pub decreases-loop-out : goal.decreases-loop-out
-decreases-loop-out l = length l.text - l.entries.ptr
+abbrev pub decreases-loop-attributes : goal.decreases-loop-attributes
+decreases-loop-attributes l = length l.text - l.entries.ptr
