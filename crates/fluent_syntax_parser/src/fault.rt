@@ -11,6 +11,7 @@ use fluent_syntax_tree::ast::{Entry, Resource};
 use fluent_syntax_tree::errors::ParserError;
 use fluent_syntax_tree::spans::Span;
 use std::alloc::{AllocError, AllocFailed};
+use thiserror::Error;
 
 /// What was wanted, or is wrong.
 #[derive(Clone, Copy, Debug)]
@@ -106,7 +107,8 @@ pub enum ParseFault<S> {
 }
 
 /// The text nests more deeply than was allowed.
-#[derive(Clone, Copy, PartialEq, Eq, Debug)]
+#[derive(Clone, Copy, PartialEq, Eq, Debug, Drop, Error)]
+#[error("the text nests too deeply")]
 pub struct TooDeep;
 
 /// What parsing answers for the entries and the errors that were read of a text.

@@ -2,6 +2,7 @@
 
 use fluent_syntax_tree::edition::Edition;
 use std::alloc::{AllocError, AllocFailed};
+use thiserror::Error;
 
 /// Whether comments are read.
 #[derive(Clone, Copy, Debug)]
@@ -22,11 +23,13 @@ pub struct Options {
 }
 
 /// Why reading stops before the text's end.
-#[derive(Clone, Copy, Debug)]
+#[derive(Clone, Copy, Debug, Drop, Error)]
 pub enum Halt {
     /// It nests more deeply than was allowed.
+    #[error("the text nests too deeply")]
     TooDeep,
     /// A growth was refused.
+    #[error("no memory")]
     Memory,
 }
 
