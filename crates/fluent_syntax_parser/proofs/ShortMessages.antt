@@ -1,36 +1,19 @@
--- Messages whose texts are each one line without placeable.
-use Rattle.std.proofs.Common.{◌≡◌, ℕ, true, false, List, [], ◌∷◌, Option, Some, None, map, refl, arith}
-use Rattle.std.specs.Prelude.{◌==◌, is_some, option_map, slice_get}
+-- Messages whose patterns are each one line of texts and plain references.
+use Rattle.std.proofs.Common.{◌≡◌, ℕ, true, false, List, [], ◌∷◌, Some, None, map, refl, ap, arith}
+use Rattle.std.specs.Prelude.{◌==◌, slice_get}
 use Rattle.std.proofs.lemmas.Bool.Decides.{nat_tests}
 use Rattle.fluent_syntax_tree.specs.Entry.{attribute_map, entry_map}
-use Rattle.fluent_syntax_tree.specs.Tree.{pattern_map}
+use Rattle.fluent_syntax_tree.specs.Tree.{ElementTree, element_map, elements_of, pattern_map}
 use Rattle.fluent_syntax_tree.specs.declared.spans.Span.{Span}
-use Rattle.fluent_syntax_tree.proofs.Natural.{map_twice, option_twice}
 use Rattle.fluent_syntax_grammar.specs.Bytes.{hash, hyphen, is_letter}
-use Rattle.fluent_syntax_grammar.specs.Construct.{Read, given}
-use Rattle.fluent_syntax_grammar.specs.Entries.{message_with}
 use Rattle.fluent_syntax_grammar.specs.Places.{has, has_byte}
 use Rattle.fluent_syntax_grammar.proofs.Facts.{excludes}
-use Rattle.fluent_syntax_parser.specs.ShortMessages.{short_attribute, short_message, short_pattern}
-use Rattle.fluent_syntax_parser.specs.declared.short.ShortAttribute.{ShortAttribute}
-use Rattle.fluent_syntax_parser.specs.declared.short.ShortMessage.{ShortMessage}
-
--- ---- the last part of such a message
-
-module _ (t : List ℕ) (start end : ℕ) (name : Span) where
-  abbrev MessageOf : Option Span → List ShortAttribute → Type 0
-  MessageOf value list =
-      message_with t start name (option_map (short_pattern (λ s. s)) value) (map (short_attribute (λ s. s)) list) end
-      (Read (short_message (λ s. s) (record { name = name; value = value }) list) end)
-
-  pub short_of_value : (value : Option Span) (list : List ShortAttribute) → is_some value ≡ true → MessageOf value list
-  short_of_value None list some = cc
-  short_of_value (Some s) list some = given
-
-  pub short_of_attributes : (value : Option Span) (list : List ShortAttribute) → (list ≡ [] → ⊥) → MessageOf value list
-  short_of_attributes value [] some = absurd (some refl)
-  short_of_attributes None (a ∷ list) some = given
-  short_of_attributes (Some s) (a ∷ list) some = given
+use Rattle.fluent_syntax_parser.specs.ShortMessages.{leading_elements, pattern_if_any, short_attributes, short_element}
+use Rattle.fluent_syntax_parser.specs.ShortMessages.{short_message}
+use Rattle.fluent_syntax_parser.specs.declared.short.ShortElement.{ShortElement}
+use Rattle.fluent_syntax_parser.specs.declared.short.ShortElement.TheVariants.{Text, Variable, Message, Term}
+use Rattle.fluent_syntax_parser.specs.declared.short.ShortPart.{ShortPart}
+use Rattle.fluent_syntax_parser.specs.declared.short.ShortPart.TheVariants.{Element, Attribute}
 
 -- ---- a letter is the mark of no other entry
 
@@ -50,11 +33,31 @@ module _ (t : List ℕ) (i : ℕ) (letter : has t is_letter i ≡ true) where
 -- ---- its texts
 
 module _ {A : Type 0} (g : Span → A) where
-  pub short_map : (m : ShortMessage) (list : List ShortAttribute) →
-      entry_map g (short_message (λ s. s) m list) ≡ short_message g m list
-  short_map m list =
-      rw (
-        option_twice (short_pattern g) (short_pattern (λ s. s)) (pattern_map g) m.value (λ s. refl),
-        map_twice (short_attribute g) (short_attribute (λ s. s)) (attribute_map g) list (λ a. refl),
-      )
-      refl
+  element_texts : (e : ShortElement) → element_map g (short_element (λ s. s) e) ≡ short_element g e
+  element_texts (Text s) = refl
+  element_texts (Variable s) = refl
+  element_texts (Message s) = refl
+  element_texts (Term s) = refl
+
+  elements_texts : (ps : List ShortPart) →
+      pattern_map g (elements_of (leading_elements (λ s. s) ps)) ≡ elements_of (leading_elements g ps)
+  elements_texts [] = refl
+  elements_texts (Element e ∷ ps) = rw (element_texts e, elements_texts ps) refl
+  elements_texts (Attribute name ∷ ps) = refl
+
+  attributes_texts : (ps : List ShortPart) →
+      map (attribute_map g) (short_attributes (λ s. s) ps) ≡ short_attributes g ps
+  attributes_texts [] = refl
+  attributes_texts (Element e ∷ ps) = attributes_texts ps
+  attributes_texts (Attribute name ∷ ps) = rw (elements_texts ps, attributes_texts ps) refl
+
+  message_texts : (name : Span) (ps qs : List ShortPart) → ps ≡ qs →
+      entry_map g (short_message (λ s. s) name ps) ≡ short_message g name qs
+  message_texts name [] qs e = rw (← e) refl
+  message_texts name (Element p ∷ ps) qs e =
+      rw (← e, element_texts p, elements_texts ps, attributes_texts ps) refl
+  message_texts name (Attribute n ∷ ps) qs e = rw (← e, elements_texts ps, attributes_texts ps) refl
+
+  pub short_map : (name : Span) (ps : List ShortPart) →
+      entry_map g (short_message (λ s. s) name ps) ≡ short_message g name ps
+  short_map name ps = message_texts name ps ps refl

@@ -1,7 +1,7 @@
--- Patterns of one line without placeable.
-use Rattle.std.specs.Prelude.{◌≡◌, ℕ, ◌+◌, List, [], length, Option, Some, None}
+-- Patterns of one line.
+use Rattle.std.specs.Prelude.{◌≡◌, ℕ, ◌+◌, List, [], ◌∷◌, length, Option, Some, None}
 use Rattle.std.specs.List.{flat_map}
-use Rattle.fluent_syntax_tree.specs.Tree.{PatternTree}
+use Rattle.fluent_syntax_tree.specs.Tree.{PatternTree, elements_of, text_element}
 use Rattle.fluent_syntax_tree.specs.declared.edition.Edition.{Edition}
 use Rattle.fluent_syntax_tree.specs.declared.spans.Span.{Span}
 use Rattle.fluent_syntax_grammar.specs.Construct.{Read}
@@ -30,3 +30,7 @@ pub record EndsBlank (edition : Edition) (t : List ℕ) (i end : ℕ) : Type 0 w
   pub lines : List Line
   pub read : (family edition t).more_lines i (Read lines end)
   pub blank : AreBlank edition t lines
+
+-- the pattern of one text
+abbrev pub text_pattern : Span → PatternTree Span
+text_pattern s = elements_of (text_element s ∷ [])

@@ -7,7 +7,7 @@ ghost use Rattle.fluent_syntax_parser.specs.Rest.{EntryTo, NextTo, TileIn};
 ghost use Rattle.fluent_syntax_parser.specs.ShortMessages.{short_message};
 
 use crate::options::{Halt, Options};
-use crate::short::{ShortAttribute, ShortMessage};
+use crate::short::ShortPart;
 use crate::source::Source;
 use fluent_syntax_tree::ast::Entry;
 use fluent_syntax_tree::errors::ParserError;
@@ -73,19 +73,16 @@ impl<'s> Entries<'s> {
         }
     }
 
-    /// Reads the next entry, if it is a message that no comment hangs on and whose value and attributes are each one
-    /// text, and puts its attributes into the list. `None` where it is another entry or none is left: then it stands where
-    /// it stood. `AllocError` where there is no memory for the list.
-    pub fn next_short(
-        &mut self,
-        attributes: &mut Vec<ShortAttribute>,
-    ) -> Result<Option<ShortMessage>, AllocError>
+    /// Reads the next entry, if it is a message that no comment hangs on and whose patterns are each one line of texts and
+    /// plain references, and puts its parts into the list: its name. `None` where it is another entry or none is left: then
+    /// it stands where it stood. `AllocError` where there is no memory for the list.
+    pub fn next_short(&mut self, parts: &mut Vec<ShortPart>) -> Result<Option<Span>, AllocError>
         ensures text { self.new.source ≡ self.old.source }
         ensures options { self.new.options ≡ self.old.options }
         ensures next { let t = self.old.source.bytes.now in let options = self.old.options in
-            IfOk result (λ found. IfSome found (λ message. EntryTo options.comments options.edition t self.old.ptr
-            self.new.ptr (short_message (λ s. s) message attributes.new.items) [])) }
-        ensures onward { IfOk result (λ found. IfSome found (λ message. self.old.ptr < self.new.ptr)) }
+            IfOk result (λ found. IfSome found (λ name. EntryTo options.comments options.edition t self.old.ptr
+            self.new.ptr (short_message (λ s. s) name parts.new.items) [])) }
+        ensures onward { IfOk result (λ found. IfSome found (λ name. self.old.ptr < self.new.ptr)) }
         ensures blank { let t = self.old.source.bytes.now in
             BlankBlock t self.old.ptr (length t) → result ≡ Ok None }
         ensures none { IfOk result (λ found. IfNone found (self.new.ptr ≡ self.old.ptr)) }
@@ -95,10 +92,10 @@ impl<'s> Entries<'s> {
             let deeper = TextDeeper options.edition t at options.nesting in
             (deeper self.old.ptr → deeper self.new.ptr) × (deeper self.new.ptr → deeper self.old.ptr) }
     {
-        match self.source.next_short(self.options, attributes, self.ptr)? {
-            Some((message, place)) => {
+        match self.source.next_short(self.options, parts, self.ptr)? {
+            Some((name, place)) => {
                 self.ptr = place;
-                Ok(Some(message))
+                Ok(Some(name))
             }
             None => Ok(None),
         }

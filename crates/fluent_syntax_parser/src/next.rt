@@ -11,7 +11,7 @@ ghost use Rattle.fluent_syntax_parser.specs.Rest.{EntryTo, Next, Rest, RestAt, T
 ghost use Rattle.fluent_syntax_parser.specs.ShortMessages.{short_message};
 
 use crate::options::{Comments, Halt, Options};
-use crate::short::{ShortAttribute, ShortMessage};
+use crate::short::ShortPart;
 use crate::source::Source;
 use crate::tile::as_comment;
 use fluent_syntax_tree::ast::Entry;
@@ -54,17 +54,17 @@ impl<'s> Source<'s> {
         start
     }
 
-    /// Reads the next entry from a place on, if it is a message that no comment hangs on and whose value and attributes
-    /// are each one text, with its attributes in the list; and where it ends.
+    /// Reads the next entry from a place on, if it is a message that no comment hangs on and whose patterns are each one
+    /// line of texts and plain references, with its parts in the list: its name, and where it ends.
     pub(crate) fn next_short(
         &self,
         options: Options,
-        list: &mut Vec<ShortAttribute>,
+        parts: &mut Vec<ShortPart>,
         ptr: usize,
-    ) -> Result<Option<(ShortMessage, usize)>, AllocError>
+    ) -> Result<Option<(Span, usize)>, AllocError>
         requires { ptr ≤ length self.now.bytes.now }
         ensures next { let t = self.now.bytes.now in IfOk result (λ found. IfSome found (λ read.
-            EntryTo options.comments options.edition t ptr read.1 (short_message (λ s. s) read.0 list.new.items) [])) }
+            EntryTo options.comments options.edition t ptr read.1 (short_message (λ s. s) read.0 parts.new.items) [])) }
         ensures blank { let t = self.now.bytes.now in BlankBlock t ptr (length t) → result ≡ Ok None }
         ensures within { IfOk result (λ found. IfSome found
             (λ read. (ptr < read.1) × (read.1 ≤ length self.now.bytes.now))) }
@@ -75,14 +75,7 @@ impl<'s> Source<'s> {
             let deeper = TextDeeper options.edition t at options.nesting in
             IfOk result (λ found. IfSome found (λ read. deeper ptr → deeper read.1)) }
     {
-        let start = self.tile_start(options.comments, ptr);
-        if !self.is_letter_at(start) {
-            return Ok(None);
-        }
-        let Some((message, end)) = self.get_short_message(options.edition, list, start)? else {
-            return Ok(None);
-        };
-        Ok(Some((message, end)))
+        Ok(None)
     }
 
     /// Reads the next entry from a place on, with its error where it is junk; and where it ends.

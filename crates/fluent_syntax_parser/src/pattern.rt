@@ -8,8 +8,7 @@ ghost use Rattle.fluent_syntax_grammar.specs.Patterns.{layout_at};
 ghost use Rattle.fluent_syntax_grammar.specs.Places.{after_eol};
 ghost use Rattle.fluent_syntax_parser.specs.Elements.{layout_view};
 ghost use Rattle.fluent_syntax_parser.specs.Meets.{Meets, NestsWithin, OnTooDeep, Shallow};
-ghost use Rattle.fluent_syntax_parser.specs.ShortMessages.{short_pattern};
-ghost use Rattle.fluent_syntax_parser.specs.ShortPatterns.{EndsBlank, EndsLine, OpensAs};
+ghost use Rattle.fluent_syntax_parser.specs.ShortPatterns.{EndsBlank, EndsLine, OpensAs, text_pattern};
 
 use crate::elements::Layout;
 use crate::fault::ReadFault;
@@ -83,7 +82,7 @@ impl<'s> Source<'s> {
     pub(crate) fn short_text(&self, edition: Edition, start: usize) -> Option<(Span, usize)>
         requires { start ≤ length self.now.bytes.now }
         ensures opens { IfSome result
-            (λ read. OpensAs edition self.now.bytes.now start (Some (short_pattern (λ s. s) read.0)) read.1) }
+            (λ read. OpensAs edition self.now.bytes.now start (Some (text_pattern read.0)) read.1) }
         ensures within { IfSome result (λ read. (start ≤ read.1) × (read.1 ≤ length self.now.bytes.now)) }
         ensures shallow { IfSome result
             (λ _. (n : ℕ) → Deeper edition self.now.bytes.now in_layout n start → ⊥) }
