@@ -31,6 +31,8 @@ pub mod Selects
 pub mod Shallows
 pub mod ShortMessages
 pub mod ShortPatterns
+pub mod ShortPieces
+pub mod ShortReferences
 pub mod Spelled
 pub mod Stars
 pub mod StringBytes

@@ -83,6 +83,11 @@ module _ (edition : Edition) (t : List ℕ) where
     start_eol : has_eol t start ≡ false
     start_eol = right_not _ _ (w.each start (omega arith) some)
 
+    pub run_before : (ps : List Piece) (end : ℕ) → R.more_pieces to (Read ps end) →
+        R.more_pieces start (Read (run' start to ∷ ps) end)
+    run_before ps end pieces =
+        let f = first_byte in run_piece start to f.0 ps end f.1 f.2 start_eol w pieces
+
   module _ (ptr start to : ℕ) (blank : InlineBlank t ptr start) (w : Stretch (is_run_place t) start to)
       (some : start < to) (within : to ≤ length t) where
     no_space : (b : ℕ) → slice_get t start ≡ Some b → (b == space) ≡ false

@@ -13,5 +13,6 @@ pub mod Parts
 pub mod Rest
 pub mod ShortMessages
 pub mod ShortPatterns
+pub mod ShortPieces
 pub mod Starts
 pub mod Strings

@@ -26,6 +26,8 @@ pub mod options;
 mod pattern;
 mod references;
 pub mod short;
+mod short_lines;
+mod short_references;
 mod source;
 mod spans;
 mod starts;

@@ -1,0 +1,112 @@
+-- Pieces of a line, gathered without a tree.
+use Rattle.std.proofs.Common.{◌≡◌, ℕ, suc, ◌<◌, List, [], ◌∷◌, ◌++◌, map, Some, true, false, refl, sym, ◌∙◌, ap, subst}
+use Rattle.std.proofs.Common.{append_assoc, arith, inl, inr}
+use Rattle.std.specs.Prelude.{slice_get, ◌==◌}
+use Rattle.std.proofs.lemmas.List.{append-nil, map-append}
+use Rattle.fluent_syntax_tree.specs.Tree.{ExpressionTree}
+use Rattle.fluent_syntax_tree.specs.declared.edition.Edition.{Edition}
+use Rattle.fluent_syntax_tree.specs.declared.spans.Span.{Span}
+use Rattle.fluent_syntax_grammar.specs.Bytes.{cr, left_brace, lf}
+use Rattle.fluent_syntax_grammar.specs.Construct.{Read, given, goes_on}
+use Rattle.fluent_syntax_grammar.specs.Grammar.{family, placeable}
+use Rattle.fluent_syntax_grammar.specs.Layout.{Piece, placed}
+use Rattle.fluent_syntax_grammar.specs.Lines.{is_run_place}
+use Rattle.fluent_syntax_grammar.specs.Nesting.{Deeper, in_pieces}
+use Rattle.fluent_syntax_grammar.specs.Places.{Stretch, has_byte, has_eol}
+use Rattle.fluent_syntax_grammar.proofs.Facts.{byte_found, equal}
+use Rattle.fluent_syntax_grammar.proofs.Shallow.{placed_led, run_led}
+use Rattle.fluent_syntax_parser.proofs.Gathers.{map_more}
+use Rattle.fluent_syntax_parser.proofs.Pieces.{placed_piece}
+use Rattle.fluent_syntax_parser.proofs.ShortPatterns.{run_before}
+use Rattle.fluent_syntax_parser.proofs.ShortReferences.{is_no}
+use Rattle.fluent_syntax_parser.specs.ShortPieces.{GathersPieces, ReadsPlaced, short_piece}
+use Rattle.fluent_syntax_parser.specs.declared.short.ShortElement.{ShortElement}
+use Rattle.fluent_syntax_parser.specs.declared.short.ShortElement.TheVariants.{Text}
+use Rattle.fluent_syntax_parser.specs.declared.short.ShortPart.{ShortPart}
+use Rattle.fluent_syntax_parser.specs.declared.short.ShortPart.TheVariants.{Element}
+
+more_items : (old mid new : List ShortPart) (es : List ShortElement) (x : ShortElement) → mid ≡ old ++ map Element es →
+    new ≡ mid ++ Element x ∷ [] → new ≡ old ++ map Element (es ++ x ∷ [])
+more_items old mid new es x same longer =
+    longer
+    ∙ (ap (λ ps. ps ++ Element x ∷ []) same
+    ∙ (append_assoc old (map Element es) (Element x ∷ [])
+    ∙ ap (λ ps. old ++ ps) (sym (map-append Element es (x ∷ [])))))
+
+-- ---- a placeable
+
+module _ (t : List ℕ) (m : ℕ) (brace : has_byte t left_brace m ≡ true) where
+  brace_byte : slice_get t m ≡ Some left_brace
+  brace_byte =
+      let f = byte_found (λ b. b == left_brace) (slice_get t m) brace in
+      f.1 ∙ ap Some (equal f.0 left_brace f.2)
+
+  no_line_end : has_eol t m ≡ false
+  no_line_end = rw (is_no t m left_brace lf refl brace, is_no t m left_brace cr refl brace) refl
+
+  placed_before : (edition : Edition) (e : ExpressionTree Span) (k : ℕ) → placeable edition t m (Read e k) →
+      (more : List Piece) (end : ℕ) → (family edition t).more_pieces k (Read more end) →
+      (family edition t).more_pieces m (Read (placed e ∷ more) end)
+  placed_before edition e k read more end h =
+      placed_piece edition t m left_brace brace_byte no_line_end refl _ (goes_on read (goes_on h given))
+
+-- ---- one more
+
+module _ (t : List ℕ) (old : List ShortPart) (i : ℕ) where
+  pub no_pieces : GathersPieces t old i old i
+  no_pieces = record {
+    elements = [];
+    items = sym (append-nil old);
+    read = λ edition more end h. h;
+    ends = inl refl;
+    flat = λ edition n d. d;
+  }
+
+  module _ (mid new : List ShortPart) (j m k : ℕ) (g : GathersPieces t old i mid j)
+      (brace : has_byte t left_brace m ≡ true) (x : ShortElement) (p : ReadsPlaced t m x k) where
+    -- a placeable
+    pub and_placed : j ≡ m → new ≡ mid ++ Element x ∷ [] → GathersPieces t old i new k
+    and_placed same longer = record {
+      elements = g.elements ++ x ∷ [];
+      items = more_items old mid new g.elements x g.items longer;
+      read = λ edition more end h. rw (map_more short_piece g.elements x more, p.is)
+          (g.read edition _ _
+          (subst (λ a. (family edition t).more_pieces a (Read (placed p.expression ∷ more) end)) (sym same)
+          (placed_before t m brace edition p.expression k (p.read edition) more end h)));
+      ends = inr (g.elements, x, p.expression, refl, p.is);
+      flat = λ edition n d.
+          elim (placed_led edition t p.expression k (p.read edition)
+          (subst (λ a. Deeper edition t in_pieces (suc n) a) same (g.flat edition n d))) [
+            | inl f ↦ absurd (p.flat edition n f)
+            | inr f ↦ f
+          ];
+    }
+
+    module _ (run : Stretch (is_run_place t) j m) (some : j < m) where
+      abbrev text : ShortElement
+      text = Text (record { start = j; end = m })
+
+      -- a text and a placeable
+      pub and_text_and_placed : new ≡ (mid ++ Element text ∷ []) ++ Element x ∷ [] → GathersPieces t old i new k
+      and_text_and_placed longer = record {
+        elements = (g.elements ++ text ∷ []) ++ x ∷ [];
+        items = more_items old (mid ++ Element text ∷ []) new (g.elements ++ text ∷ []) x
+            (more_items old mid (mid ++ Element text ∷ []) g.elements text g.items refl) longer;
+        read = λ edition more end h.
+            rw (
+              map_more short_piece (g.elements ++ text ∷ []) x more,
+              map_more short_piece g.elements text (short_piece x ∷ more),
+              p.is,
+            )
+            (g.read edition _ _
+            (run_before edition t j m run some _ _
+            (placed_before t m brace edition p.expression k (p.read edition) more end h)));
+        ends = inr (g.elements ++ text ∷ [], x, p.expression, refl, p.is);
+        flat = λ edition n d.
+            let first = run.each j (omega arith) some in
+            elim (placed_led edition t p.expression k (p.read edition)
+            (run_led edition t m first run (g.flat edition n d))) [
+              | inl f ↦ absurd (p.flat edition n f)
+              | inr f ↦ f
+            ];
+      }

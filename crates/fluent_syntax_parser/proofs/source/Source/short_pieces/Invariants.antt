@@ -1,0 +1,13 @@
+use Rattle.std.proofs.Common.{◌≤◌, ◌-◌, length}
+use Rattle.fluent_syntax_parser.specs.ShortPieces.{GathersPieces}
+use Rattle.fluent_syntax_parser.proofs.source.Source.short_pieces.Given as goal
+
+abbrev pub invariant-loop-ptr : goal.invariant-loop-ptr
+invariant-loop-ptr l = record {
+  forward : l.ptr ≤ l.start;
+  within : l.start ≤ length l.self.bytes.now;
+  pieces : GathersPieces l.self.bytes.now l.fn.parts.items l.ptr l.parts.items l.start;
+}
+
+abbrev pub decreases-loop-ptr : goal.decreases-loop-ptr
+decreases-loop-ptr l = length l.self.bytes.now - l.start

@@ -1,0 +1,53 @@
+-- Pieces of a line that are read without a tree: texts and plain references.
+use Rattle.std.specs.Prelude.{◌≡◌, ℕ, ◌+◌, suc, ◌⊎◌, List, [], ◌∷◌, ◌++◌, None, true, map}
+use Rattle.fluent_syntax_tree.specs.Tree.{ExpressionTree, inline, message_reference, no_arguments, term_reference}
+use Rattle.fluent_syntax_tree.specs.Tree.{variable_reference}
+use Rattle.fluent_syntax_tree.specs.declared.edition.Edition.{Edition}
+use Rattle.fluent_syntax_tree.specs.declared.spans.Span.{Span}
+use Rattle.fluent_syntax_grammar.specs.Bytes.{right_brace}
+use Rattle.fluent_syntax_grammar.specs.Construct.{Read}
+use Rattle.fluent_syntax_grammar.specs.Grammar.{family, placeable}
+use Rattle.fluent_syntax_grammar.specs.Layout.{Piece, run, placed}
+use Rattle.fluent_syntax_grammar.specs.Nesting.{Deeper, in_pieces, in_placeable}
+use Rattle.fluent_syntax_grammar.specs.Places.{Blank, has_byte}
+use Rattle.fluent_syntax_parser.specs.declared.short.ShortElement.{ShortElement}
+use Rattle.fluent_syntax_parser.specs.declared.short.ShortElement.TheVariants.{Text, Variable, Message, Term}
+use Rattle.fluent_syntax_parser.specs.declared.short.ShortPart.{ShortPart}
+use Rattle.fluent_syntax_parser.specs.declared.short.ShortPart.TheVariants.{Element}
+
+abbrev pub short_piece : ShortElement → Piece
+short_piece (Text s) = run s.start s.end
+short_piece (Variable s) = placed (inline (variable_reference s))
+short_piece (Message s) = placed (inline (message_reference s None))
+short_piece (Term s) = placed (inline (term_reference s None no_arguments))
+
+-- From the place on, a blank and the `}` of a placeable that ends at the other place.
+pub record Closes (t : List ℕ) (i j : ℕ) : Type 0 where
+  pub close : ℕ
+  pub blank : Blank t i close
+  pub there : has_byte t right_brace close ≡ true
+  pub behind : j ≡ close + 1
+
+-- The element is a placeable that is read from the one place to the other, in which nothing else opens.
+pub record ReadsPlaced (t : List ℕ) (i : ℕ) (x : ShortElement) (j : ℕ) : Type 0 where
+  pub expression : ExpressionTree Span
+  pub is : short_piece x ≡ placed expression
+  pub read : (edition : Edition) → placeable edition t i (Read expression j)
+  pub flat : (edition : Edition) (n : ℕ) → Deeper edition t in_placeable (suc n) i → ⊥
+
+-- No text ends the elements.
+abbrev pub EndsPlaced : List ShortElement → Type 0
+EndsPlaced es =
+    (es ≡ []) ⊎ ((before : List ShortElement) × (x : ShortElement) × (e : ExpressionTree Span) ×
+    (es ≡ before ++ x ∷ []) × (short_piece x ≡ placed e))
+
+-- Behind the parts that were there the list holds the elements of a line from the one place up to the other, which no
+-- text ends, and in which no placeable holds another.
+pub record GathersPieces (t : List ℕ) (old : List ShortPart) (i : ℕ) (new : List ShortPart) (j : ℕ) : Type 0 where
+  pub elements : List ShortElement
+  pub items : new ≡ old ++ map Element elements
+  pub read : (edition : Edition) (more : List Piece) (end : ℕ) →
+      (family edition t).more_pieces j (Read more end) →
+      (family edition t).more_pieces i (Read (map short_piece elements ++ more) end)
+  pub ends : EndsPlaced elements
+  pub flat : (edition : Edition) (n : ℕ) → Deeper edition t in_pieces (suc n) i → Deeper edition t in_pieces (suc n) j
