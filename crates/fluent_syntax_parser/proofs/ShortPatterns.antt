@@ -1,15 +1,14 @@
--- Patterns of one line without placeable, and patterns that hold nothing.
+-- Patterns whose later lines are blank, and patterns that hold nothing.
 use Rattle.std.proofs.Common.{◌≡◌, ℕ, ◌+◌, ◌-◌, ◌<◌, ◌≤◌, List, [], ◌∷◌, length, get_or, Some}
 use Rattle.std.proofs.Common.{None, Bool, true, false, not, refl, sym, subst, arith, inl, inr, ap, ◌++◌, ◌∙◌}
 use Rattle.std.specs.List.{flat_map}
 use Rattle.std.specs.Prelude.{slice_get, slice_range, ◌==◌, ◌||◌, ◌&&◌, if◌then◌else◌}
 use Rattle.std.proofs.lemmas.Bool.Decides.{nat_tests}
 use Rattle.std.proofs.lemmas.Option.{slice_get-get_or, slice_get_past}
-use Rattle.fluent_syntax_tree.specs.Tree.{text_element, elements_of}
 use Rattle.fluent_syntax_tree.specs.declared.edition.Edition.{Edition}
 use Rattle.fluent_syntax_grammar.specs.Bytes.{lf, cr, space, left_brace, right_brace}
 use Rattle.fluent_syntax_grammar.specs.Construct.{Read, gives, goes_on, given, passed, chosen, second, at_place}
-use Rattle.fluent_syntax_grammar.specs.Elements.{Item, cut, cut_before, if_any, is_nonblank, line_items, pattern_of, spelled}
+use Rattle.fluent_syntax_grammar.specs.Elements.{Item, text, cut, cut_before, if_any, is_nonblank, line_items, pattern_of, spelled}
 use Rattle.fluent_syntax_grammar.specs.Elements.{trimmed_end, with_ending}
 use Rattle.fluent_syntax_grammar.specs.Family.{Family}
 use Rattle.fluent_syntax_grammar.specs.Grammar.{family, pattern}
@@ -22,8 +21,8 @@ use Rattle.fluent_syntax_grammar.proofs.Facts.{left_true, byte_found}
 use Rattle.fluent_syntax_grammar.proofs.Nesting.{into_more_pieces}
 use Rattle.fluent_syntax_grammar.proofs.Shallow.{block_led, no_lines_led, opening_led, pieces_end, pieces_eol, run_led}
 use Rattle.fluent_syntax_parser.proofs.LineEndings.{ends_line, ends_text}
-use Rattle.fluent_syntax_parser.proofs.BlankLines.{crlf_byte, eol_there, lf_blank, no_piece, range_cons}
-use Rattle.fluent_syntax_parser.specs.ShortPatterns.{EndsBlank, EndsLine, with_lf, with_crlf, with_text}
+use Rattle.fluent_syntax_parser.proofs.BlankLines.{crlf_byte, eol_there, lf_blank, lf_byte, no_piece, range_cons}
+use Rattle.fluent_syntax_parser.specs.ShortPatterns.{EndsBlank, EndsLine, text_pattern, with_lf, with_crlf, with_text}
 
 no_eol : (a b : Bool) (i : ℕ) → (a || b) ≡ false → (if a then Some (i + 1) else if b then Some (i + 2) else None) ≡ None
 no_eol true b i e = cc
@@ -88,114 +87,115 @@ module _ (edition : Edition) (t : List ℕ) where
     run_before ps end pieces =
         let f = first_byte in run_piece start to f.0 ps end f.1 f.2 start_eol w pieces
 
-  module _ (ptr start to : ℕ) (blank : InlineBlank t ptr start) (w : Stretch (is_run_place t) start to)
-      (some : start < to) (within : to ≤ length t) where
-    no_space : (b : ℕ) → slice_get t start ≡ Some b → (b == space) ≡ false
-    no_space b e = let f = rw e at blank.longest in f
+  -- ---- a line that ends
 
-    no_lf : (b : ℕ) → not (b == lf || b == left_brace || b == right_brace) ≡ true → (b == lf) ≡ false
-    no_lf b e = grind (arith, nat_tests)
+  -- It ends so, nothing but that follows there, and of its last items a text from some place stays, if it is nonblank.
+  pub record EndedLine (to stop next : ℕ) : Type 0 where
+    pub ends_by : Ending
+    pub ends : ending t to (Read ends_by next)
+    pub pieces : R.more_pieces to (Read [] to)
+    pub text_stays : (from : ℕ) → is_nonblank (slice_range t from stop) ≡ true →
+        cut t (with_ending (run' from to ∷ []) ends_by) ≡ text from stop ∷ []
+    pub none_stays : cut t (with_ending [] ends_by) ≡ []
+    pub flat : (n : ℕ) → Deeper edition t in_pieces n to → ⊥
 
-    nonblank : (j : ℕ) → to ≤ j → j ≤ length t → is_nonblank (slice_range t start j) ≡ true
-    nonblank j l r =
-        let f = first_byte start to w some in
-        range_nonblank t start j (omega arith) r f.0 f.1 (no_space f.0 f.1) (no_lf f.0 f.2)
+  pub line_ended : (to stop next : ℕ) → EndsLine t to stop next → EndedLine to stop next
+  line_ended to stop next (with_lf eol e) =
+      let there = eol_there (has_byte t lf to) _ to stop eol in
+      let test : (stop == to + 1) ≡ true = grind (arith, nat_tests) in
+      let blank = lf_blank t to (to + 1) refl (lf_byte (has_byte t lf to) _ to stop eol e) in
+      record {
+        ends_by = lf_at to;
+        ends = subst (λ b. ending t to (Read (if b then lf_at to else crlf_at to) stop)) test (ends_line t to stop eol);
+        pieces = no_piece edition t to (slice_get t to) refl there;
+        text_stays = λ from stays.
+            let same = subst (λ k. is_nonblank (slice_range t from k) ≡ true) e stays in rw (same, e) refl;
+        none_stays = rw blank refl;
+        flat = λ n. pieces_eol edition t there;
+      }
+  line_ended to stop next (with_crlf eol e) =
+      let there = eol_there (has_byte t lf to) _ to next eol in
+      let test : (next == to + 1) ≡ false = grind (arith, nat_tests) in
+      let blank = lf_blank t (to + 1) (to + 2) (omega arith)
+      (crlf_byte (has_byte t lf to) (has_byte t cr to) _ to next eol e) in
+      record {
+        ends_by = crlf_at to;
+        ends = subst (λ b. ending t to (Read (if b then lf_at to else crlf_at to) next)) test (ends_line t to next eol);
+        pieces = no_piece edition t to (slice_get t to) refl there;
+        text_stays = λ from stays. rw (blank, stays) refl;
+        none_stays = rw blank refl;
+        flat = λ n. pieces_eol edition t there;
+      }
+  line_ended to stop next (with_text eol e) =
+      let none : slice_get t to ≡ None = slice_get_past t to (omega (arith, e)) in
+      record {
+        ends_by = text_end';
+        ends = ends_text t to eol;
+        pieces = into_more_pieces edition t to _ (chosen (rw none given));
+        text_stays = λ from stays. rw stays refl;
+        none_stays = refl;
+        flat = λ n. pieces_end edition t none;
+      }
 
-    -- the layout of the line that ends so, with the lines behind it
-    abbrev opened : Ending → List Line → Layout
-    opened e ls =
-        record { opening = Some (record { start = start; spaces = 0; pieces = run' start to ∷ []; ending = e }); lines = ls }
+  -- ---- a pattern whose later lines are blank
 
-    layout_is : (e : Ending) (next end : ℕ) → R.more_pieces to (Read [] to) → ending t to (Read e next) →
-        EndsBlank edition t next end → pattern edition t ptr (Read (pattern_of edition t (opened e [])) end)
-    layout_is e next end pieces ends behind =
-        let f = first_byte start to w some in
-        let run = run_piece start to f.0 [] to f.1 f.2 (start_eol start to w some) w pieces in
-        let none = no_eol (has_byte t lf start) _ start (start_eol start to w some) in
-        let laid : layout_at t R None start (Read (opened e behind.lines) end) = goes_on at_place
-        (goes_on run
+  module _ (start : ℕ) (opens : after_eol t start ≡ None) (ps : List Piece) (to : ℕ)
+      (pieces : R.more_pieces start (Read ps to)) (e : Ending) (next : ℕ) (ends : ending t to (Read e next)) where
+    abbrev opened : List Line → Layout
+    opened ls = record { opening = Some (record { start = start; spaces = 0; pieces = ps; ending = e }); lines = ls }
+
+    -- it spells the items of its opening line
+    pub opening_read : (ptr end : ℕ) → InlineBlank t ptr start → EndsBlank edition t next end →
+        pattern edition t ptr (Read (if_any (spelled t (cut t (with_ending ps e)))) end)
+    opening_read ptr end blank behind =
+        let laid : layout_at t R None start (Read (opened behind.lines) end) = goes_on at_place
+        (goes_on pieces
         (goes_on ends
         (goes_on behind.read given))) in
-        let whole : layout t R ptr (Read (opened e behind.lines) end) = goes_on (passed blank)
-        (chosen (subst (λ o. layout_at t R o start (Read (opened e behind.lines) end)) (sym none) laid)) in
-        let line = with_ending (run' start to ∷ []) e in
-        let cut_off = cut_behind t line (flat_map (line_items edition (common_indent edition (opened e behind.lines)))
-        behind.lines) (behind.blank _) in
-        let same : pattern_of edition t (opened e behind.lines) ≡ pattern_of edition t (opened e []) =
-        ap (λ is. if_any (spelled t is)) (cut_off ∙ sym (cut_behind t line [] refl)) in
+        let whole : layout t R ptr (Read (opened behind.lines) end) = goes_on (passed blank)
+        (chosen (subst (λ o. layout_at t R o start (Read (opened behind.lines) end)) (sym opens) laid)) in
+        let cut_off = cut_behind t (with_ending ps e)
+        (flat_map (line_items edition (common_indent edition (opened behind.lines))) behind.lines) (behind.blank _) in
+        let same : pattern_of edition t (opened behind.lines) ≡ if_any (spelled t (cut t (with_ending ps e))) =
+        ap (λ is. if_any (spelled t is)) cut_off in
         rw (← same) (goes_on whole given)
 
-    pub short_read : (text_end next end : ℕ) → EndsLine t to text_end next → next ≤ length t →
-        EndsBlank edition t next end →
-        pattern edition t ptr (Read (Some (elements_of (text_element (record {
-          start =
-              start;
-          end = trimmed_end t start text_end;
-        }) ∷ []))) end)
-    short_read text_end next end (with_lf eol e) l lines =
-        let test : (text_end == to + 1) ≡ true = grind (arith, nat_tests) in
-        let there = eol_there (has_byte t lf to) _ to text_end eol in
-        let mark : gives (if text_end == to + 1 then lf_at to else crlf_at to) text_end (Read (lf_at to) text_end) = rw
-        test given in
-        let ends : ending t to (Read (lf_at to) text_end) = goes_on at_place
-        (chosen
-        (subst (λ o. ending_of t to o to (Read (lf_at to) text_end)) (sym eol)
-        (goes_on (passed (record { there = refl })) mark))) in
-        let stays : is_nonblank (slice_range t start (to + 1)) ≡ true = nonblank (to + 1) (omega arith) (omega arith) in
-        let value : pattern_of edition t (opened (lf_at to) []) ≡ Some (elements_of
-        (text_element (record { start = start; end = trimmed_end t start text_end }) ∷ [])) = rw (stays, e) refl in
-        rw (← value) (layout_is (lf_at to) text_end end (no_piece edition t to (slice_get t to) refl there) ends lines)
-    short_read text_end next end (with_crlf eol e) l lines =
-        let test : (next == to + 1) ≡ false = grind (arith, nat_tests) in
-        let there = eol_there (has_byte t lf to) _ to next eol in
-        let mark : gives (if next == to + 1 then lf_at to else crlf_at to) next (Read (crlf_at to) next) = rw test given
-        in
-        let ends : ending t to (Read (crlf_at to) next) = goes_on at_place
-        (chosen
-        (subst (λ o. ending_of t to o to (Read (crlf_at to) next)) (sym eol)
-        (goes_on (passed (record { there = refl })) mark))) in
-        let stays : is_nonblank (slice_range t start to) ≡ true = nonblank to (omega arith) within in
-        let after : is_nonblank (slice_range t (to + 1) (to + 2)) ≡ false = lf_blank t (to + 1) (to + 2) (omega arith)
-        (crlf_byte (has_byte t lf to) (has_byte t cr to) _ to next eol e) in
-        let value : pattern_of edition t (opened (crlf_at to) []) ≡ Some (elements_of
-        (text_element (record { start = start; end = trimmed_end t start to }) ∷ [])) = rw (after, stays) refl in
-        rw (← value) (layout_is (crlf_at to) next end (no_piece edition t to (slice_get t to) refl there) ends lines)
-    short_read text_end next end (with_text eol e) l lines =
-        let ends : ending t to (Read text_end' to) = goes_on at_place (chosen (rw eol given)) in
-        let stays : is_nonblank (slice_range t start to) ≡ true = nonblank to (omega arith) within in
-        let none : slice_get t to ≡ None = slice_get_past t to (omega arith) in
-        let value : pattern_of edition t (opened text_end' []) ≡ Some (elements_of
-        (text_element (record { start = start; end = trimmed_end t start to }) ∷ [])) = rw stays refl in
-        rw (← value) (layout_is text_end' to end (into_more_pieces edition t to _ (chosen (rw none given))) ends lines)
-
-  module _ (start to : ℕ) (w : Stretch (is_run_place t) start to) (some : start < to) (within : to ≤ length t) where
-    flat_with : (n : ℕ) (e : Ending) (next : ℕ) → R.more_pieces to (Read [] to) → ending t to (Read e next) →
-        (Deeper edition t in_lines n next → ⊥) → (Deeper edition t in_pieces n to → ⊥) →
+    -- it nests no deeper than its opening line
+    pub opening_flat : (n : ℕ) → (Deeper edition t in_pieces n start → ⊥) → (Deeper edition t in_lines n next → ⊥) →
         Deeper edition t in_layout n start → ⊥
-    flat_with n e next pieces ends lines none deeper =
-        let f = first_byte start to w some in
-        let run = run_piece start to f.0 [] to f.1 f.2 (start_eol start to w some) w pieces in
-        let no_line = no_eol (has_byte t lf start) _ start (start_eol start to w some) in
-        elim (opening_led edition t _ to e next no_line run ends deeper) [
-          | inl d ↦ none (run_led edition t to (w.each start (omega arith) some) w d)
+    opening_flat n none lines deeper =
+        elim (opening_led edition t ps to e next opens pieces ends deeper) [
+          | inl d ↦ none d
           | inr d ↦ lines d
         ]
 
+  -- ---- a pattern of one text
+
+  module _ (start to : ℕ) (w : Stretch (is_run_place t) start to) (some : start < to) where
+    opens_there : after_eol t start ≡ None
+    opens_there = no_eol (has_byte t lf start) _ start (start_eol start to w some)
+
+    pub short_read : (ptr stop next end : ℕ) → InlineBlank t ptr start → EndsLine t to stop next → to ≤ stop →
+        stop ≤ length t → EndsBlank edition t next end →
+        pattern edition t ptr (Read (Some (text_pattern (record { start = start; end = trimmed_end t start stop }))) end)
+    short_read ptr stop next end blank line l within lines =
+        let f = first_byte start to w some in
+        let space : (f.0 == space) ≡ false = let g = rw f.1 at blank.longest in g in
+        let other : (f.0 == lf) ≡ false = grind (arith, nat_tests) in
+        let stays = range_nonblank t start stop (omega arith) within f.0 f.1 space other in
+        let ended = line_ended to stop next line in
+        let read = opening_read start opens_there (run' start to ∷ []) to (run_before start to w some [] to ended.pieces)
+        ended.ends_by next ended.ends ptr end blank lines in
+        let f = rw (ended.text_stays start stays) at read in f
+
     -- it holds no opening
-    pub short_shallow : (n text_end next : ℕ) → EndsLine t to text_end next →
+    pub short_shallow : (n stop next : ℕ) → EndsLine t to stop next →
         (Deeper edition t in_lines n next → ⊥) → Deeper edition t in_layout n start → ⊥
-    short_shallow n text_end next (with_lf eol e) lines =
-        let there = eol_there (has_byte t lf to) _ to text_end eol in
-        flat_with n _ text_end (no_piece edition t to (slice_get t to) refl there) (ends_line t to text_end eol) lines
-        (pieces_eol edition t there)
-    short_shallow n text_end next (with_crlf eol e) lines =
-        let there = eol_there (has_byte t lf to) _ to next eol in
-        flat_with n _ next (no_piece edition t to (slice_get t to) refl there) (ends_line t to next eol) lines
-        (pieces_eol edition t there)
-    short_shallow n text_end next (with_text eol e) lines =
-        let none : slice_get t to ≡ None = slice_get_past t to (omega arith) in
-        flat_with n text_end' to (into_more_pieces edition t to _ (chosen (rw none given))) (ends_text t to eol)
-        lines (pieces_end edition t none)
+    short_shallow n stop next line lines =
+        let ended = line_ended to stop next line in
+        opening_flat start opens_there (run' start to ∷ []) to (run_before start to w some [] to ended.pieces)
+        ended.ends_by next ended.ends n
+        (λ d. ended.flat n (run_led edition t to (w.each start (omega arith) some) w d)) lines
 
   -- ---- a pattern that holds nothing: a line ends where it would begin, and no line of a pattern follows
 

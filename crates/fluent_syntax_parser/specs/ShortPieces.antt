@@ -6,6 +6,7 @@ use Rattle.fluent_syntax_tree.specs.declared.edition.Edition.{Edition}
 use Rattle.fluent_syntax_tree.specs.declared.spans.Span.{Span}
 use Rattle.fluent_syntax_grammar.specs.Bytes.{right_brace}
 use Rattle.fluent_syntax_grammar.specs.Construct.{Read}
+use Rattle.fluent_syntax_grammar.specs.Elements.{Item, filled, text}
 use Rattle.fluent_syntax_grammar.specs.Grammar.{family, placeable}
 use Rattle.fluent_syntax_grammar.specs.Layout.{Piece, run, placed}
 use Rattle.fluent_syntax_grammar.specs.Nesting.{Deeper, in_pieces, in_placeable}
@@ -20,6 +21,13 @@ short_piece (Text s) = run s.start s.end
 short_piece (Variable s) = placed (inline (variable_reference s))
 short_piece (Message s) = placed (inline (message_reference s None))
 short_piece (Term s) = placed (inline (term_reference s None no_arguments))
+
+-- the item of it, where something follows it on its line
+abbrev pub short_item : ShortElement → Item
+short_item (Text s) = text s.start s.end
+short_item (Variable s) = filled (inline (variable_reference s))
+short_item (Message s) = filled (inline (message_reference s None))
+short_item (Term s) = filled (inline (term_reference s None no_arguments))
 
 -- From the place on, a blank and the `}` of a placeable that ends at the other place.
 pub record Closes (t : List ℕ) (i j : ℕ) : Type 0 where
