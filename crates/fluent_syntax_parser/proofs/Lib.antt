@@ -29,6 +29,7 @@ pub mod Runs
 pub mod Scans
 pub mod Selects
 pub mod Shallows
+pub mod ShortLines
 pub mod ShortMessages
 pub mod ShortPatterns
 pub mod ShortPieces

@@ -25,7 +25,7 @@ use Rattle.fluent_syntax_parser.specs.declared.short.ShortElement.TheVariants.{T
 use Rattle.fluent_syntax_parser.specs.declared.short.ShortPart.{ShortPart}
 use Rattle.fluent_syntax_parser.specs.declared.short.ShortPart.TheVariants.{Element}
 
-more_items : (old mid new : List ShortPart) (es : List ShortElement) (x : ShortElement) → mid ≡ old ++ map Element es →
+pub more_items : (old mid new : List ShortPart) (es : List ShortElement) (x : ShortElement) → mid ≡ old ++ map Element es →
     new ≡ mid ++ Element x ∷ [] → new ≡ old ++ map Element (es ++ x ∷ [])
 more_items old mid new es x same longer =
     longer

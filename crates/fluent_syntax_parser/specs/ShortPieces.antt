@@ -7,10 +7,11 @@ use Rattle.fluent_syntax_tree.specs.declared.spans.Span.{Span}
 use Rattle.fluent_syntax_grammar.specs.Bytes.{right_brace}
 use Rattle.fluent_syntax_grammar.specs.Construct.{Read}
 use Rattle.fluent_syntax_grammar.specs.Elements.{Item, filled, text}
-use Rattle.fluent_syntax_grammar.specs.Grammar.{family, placeable}
+use Rattle.fluent_syntax_grammar.specs.Grammar.{family, pattern, placeable}
 use Rattle.fluent_syntax_grammar.specs.Layout.{Piece, run, placed}
-use Rattle.fluent_syntax_grammar.specs.Nesting.{Deeper, in_pieces, in_placeable}
+use Rattle.fluent_syntax_grammar.specs.Nesting.{Deeper, in_pattern, in_pieces, in_placeable}
 use Rattle.fluent_syntax_grammar.specs.Places.{Blank, has_byte}
+use Rattle.fluent_syntax_parser.specs.ShortMessages.{pattern_if_any, short_element}
 use Rattle.fluent_syntax_parser.specs.declared.short.ShortElement.{ShortElement}
 use Rattle.fluent_syntax_parser.specs.declared.short.ShortElement.TheVariants.{Text, Variable, Message, Term}
 use Rattle.fluent_syntax_parser.specs.declared.short.ShortPart.{ShortPart}
@@ -59,3 +60,12 @@ pub record GathersPieces (t : List ℕ) (old : List ShortPart) (i : ℕ) (new : 
       (family edition t).more_pieces i (Read (map short_piece elements ++ more) end)
   pub ends : EndsPlaced elements
   pub flat : (edition : Edition) (n : ℕ) → Deeper edition t in_pieces (suc n) i → Deeper edition t in_pieces (suc n) j
+
+-- A pattern from the one place to the other has the elements that the list holds behind the parts that were there, and no
+-- placeable in it holds another.
+pub record ReadsShort (edition : Edition) (t : List ℕ) (old : List ShortPart) (i : ℕ) (new : List ShortPart) (j : ℕ) :
+    Type 0 where
+  pub elements : List ShortElement
+  pub items : new ≡ old ++ map Element elements
+  pub read : pattern edition t i (Read (pattern_if_any (map (short_element (λ s. s)) elements)) j)
+  pub flat : (n : ℕ) → Deeper edition t in_pattern (suc n) i → ⊥

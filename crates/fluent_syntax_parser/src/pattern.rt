@@ -41,7 +41,7 @@ impl<'s> Source<'s> {
 
     /// Where a text ends whose line ends at a place, with the LF there, and where the next line begins. `None`,
     /// where no line ends there.
-    fn line_ending(&self, to: usize) -> Option<(usize, usize)>
+    pub(crate) fn line_ending(&self, to: usize) -> Option<(usize, usize)>
         requires { to ≤ length self.now.bytes.now }
         ensures ending { IfSome result (λ read. EndsLine self.now.bytes.now to read.0 read.1) }
         ensures within { IfSome result
@@ -66,7 +66,7 @@ impl<'s> Source<'s> {
     }
 
     /// Where a pattern ends whose lines from a line's start on are all blank.
-    fn end_behind_blank_lines(&self, edition: Edition, ptr: usize) -> Option<usize>
+    pub(crate) fn end_behind_blank_lines(&self, edition: Edition, ptr: usize) -> Option<usize>
         requires { ptr ≤ length self.now.bytes.now }
         ensures lines { IfSome result (EndsBlank edition self.now.bytes.now ptr) }
         ensures within { IfSome result (λ end. (ptr ≤ end) × (end ≤ length self.now.bytes.now)) }

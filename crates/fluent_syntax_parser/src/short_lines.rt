@@ -1,11 +1,12 @@
 //! Lines of texts and plain references, read without a tree.
-ghost use Rattle.std.specs.Prelude.{◌≤◌, length, IfOk, IfSome};
+ghost use Rattle.std.specs.Prelude.{◌≡◌, ◌≤◌, ℕ, None, length, IfOk, IfSome};
 ghost use Rattle.fluent_syntax_grammar.specs.Lines.{is_run_place};
-ghost use Rattle.fluent_syntax_grammar.specs.Places.{Stretch};
-ghost use Rattle.fluent_syntax_parser.specs.ShortPieces.{GathersPieces};
+ghost use Rattle.fluent_syntax_grammar.specs.Places.{InlineBlank, Stretch, after_eol};
+ghost use Rattle.fluent_syntax_parser.specs.ShortPieces.{GathersPieces, ReadsShort};
 
 use crate::short::{ShortElement, ShortPart};
 use crate::source::Source;
+use fluent_syntax_tree::edition::Edition;
 use fluent_syntax_tree::spans::Span;
 use std::alloc::AllocError;
 
@@ -39,6 +40,75 @@ impl<'s> Source<'s> {
             };
             parts.push(ShortPart::Element(element))?;
             start = next;
+        }
+    }
+
+    /// Reads a pattern that opens at a place, where no line ends, and whose later lines are blank: its elements, behind
+    /// what is in the list, and where it ends.
+    fn short_line(
+        &self,
+        edition: Edition,
+        parts: &mut Vec<ShortPart>,
+        start: usize,
+    ) -> Result<Option<usize>, AllocError>
+        requires within { start ≤ length self.now.bytes.now }
+        requires opens { after_eol self.now.bytes.now start ≡ None }
+        ensures reads { let t = self.now.bytes.now in IfOk result (λ found. IfSome found (λ end. (ptr : ℕ) →
+            InlineBlank t ptr start → ReadsShort edition t parts.old.items ptr parts.new.items end)) }
+        ensures within { IfOk result (λ found. IfSome found
+            (λ end. (start ≤ end) × (end ≤ length self.now.bytes.now))) }
+    {
+        let Some((place, to)) = self.short_pieces(parts, start)? else {
+            return Ok(None);
+        };
+        let Some((stop, next)) = self.line_ending(to) else {
+            return Ok(None);
+        };
+        let Some(end) = self.end_behind_blank_lines(edition, next) else {
+            return Ok(None);
+        };
+        if place < to {
+            let trimmed = self.trimmed_end(place, stop);
+            if trimmed == place {
+                return Ok(None);
+            }
+            let text = Span {
+                start: place,
+                end: trimmed,
+            };
+            parts.push(ShortPart::Element(ShortElement::Text(text)))?;
+        }
+        Ok(Some(end))
+    }
+
+    /// Reads a pattern whose first line holds texts and plain references and whose later lines are blank: its elements,
+    /// behind what is in the list, and where it ends.
+    pub(crate) fn short_pattern(
+        &self,
+        edition: Edition,
+        parts: &mut Vec<ShortPart>,
+        ptr: usize,
+    ) -> Result<Option<usize>, AllocError>
+        requires { ptr ≤ length self.now.bytes.now }
+        ensures reads { let t = self.now.bytes.now in IfOk result (λ found. IfSome found
+            (λ end. ReadsShort edition t parts.old.items ptr parts.new.items end)) }
+        ensures within { IfOk result (λ found. IfSome found
+            (λ end. (ptr ≤ end) × (end ≤ length self.now.bytes.now))) }
+    {
+        let start = self.skip_blank_inline(ptr);
+        match self.eol_end(start) {
+            Some(_) => {
+                let Some(end) = self.end_without_text(edition, start) else {
+                    return Ok(None);
+                };
+                Ok(Some(end))
+            }
+            None => {
+                let Some(end) = self.short_line(edition, parts, start)? else {
+                    return Ok(None);
+                };
+                Ok(Some(end))
+            }
         }
     }
 }
