@@ -1,9 +1,9 @@
 -- Patterns of one line of texts and plain references.
-use Rattle.std.proofs.Common.{◌≡◌, ℕ, zero, suc, ◌+◌, ◌<◌, ◌≤◌, List, [], ◌∷◌, ◌++◌, length, map, get_or, None, Bool, true}
-use Rattle.std.proofs.Common.{false, refl, sym, ◌∙◌, ap, append_assoc, arith, inl, inr, subst}
+use Rattle.std.proofs.Common.{◌≡◌, ℕ, zero, suc, ◌<◌, List, [], ◌∷◌, ◌++◌, length, map, get_or, None, Bool, true}
+use Rattle.std.proofs.Common.{false, refl, sym, ap, append_assoc, arith, inl, inr, subst}
 use Rattle.std.specs.Prelude.{slice_range, ◌==◌, ◌||◌, not, if◌then◌else◌}
 use Rattle.std.proofs.lemmas.Bool.Decides.{nat_tests}
-use Rattle.std.proofs.lemmas.List.{append-nil, map-append}
+use Rattle.std.proofs.lemmas.List.{map-append}
 use Rattle.fluent_syntax_tree.specs.Text.{is_trimmed, trimmed_len_below}
 use Rattle.fluent_syntax_tree.specs.Tree.{ElementTree, ExpressionTree, placeable, text_element}
 use Rattle.fluent_syntax_tree.specs.declared.edition.Edition.{Edition}

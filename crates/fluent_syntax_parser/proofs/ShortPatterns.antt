@@ -1,19 +1,19 @@
 -- Patterns whose later lines are blank, and patterns that hold nothing.
 use Rattle.std.proofs.Common.{◌≡◌, ℕ, ◌+◌, ◌-◌, ◌<◌, ◌≤◌, List, [], ◌∷◌, length, get_or, Some}
-use Rattle.std.proofs.Common.{None, Bool, true, false, not, refl, sym, subst, arith, inl, inr, ap, ◌++◌, ◌∙◌}
+use Rattle.std.proofs.Common.{None, Bool, true, false, not, refl, sym, subst, arith, inl, inr, ap, ◌++◌}
 use Rattle.std.specs.List.{flat_map}
 use Rattle.std.specs.Prelude.{slice_get, slice_range, ◌==◌, ◌||◌, ◌&&◌, if◌then◌else◌}
 use Rattle.std.proofs.lemmas.Bool.Decides.{nat_tests}
 use Rattle.std.proofs.lemmas.Option.{slice_get-get_or, slice_get_past}
 use Rattle.fluent_syntax_tree.specs.declared.edition.Edition.{Edition}
 use Rattle.fluent_syntax_grammar.specs.Bytes.{lf, cr, space, left_brace, right_brace}
-use Rattle.fluent_syntax_grammar.specs.Construct.{Read, gives, goes_on, given, passed, chosen, second, at_place}
+use Rattle.fluent_syntax_grammar.specs.Construct.{Read, goes_on, given, passed, chosen, second, at_place}
 use Rattle.fluent_syntax_grammar.specs.Elements.{Item, text, cut, cut_before, if_any, is_nonblank, line_items, pattern_of, spelled}
 use Rattle.fluent_syntax_grammar.specs.Elements.{trimmed_end, with_ending}
 use Rattle.fluent_syntax_grammar.specs.Family.{Family}
 use Rattle.fluent_syntax_grammar.specs.Grammar.{family, pattern}
 use Rattle.fluent_syntax_grammar.specs.Layout.{Layout, Line, Piece, common_indent, run as run', Ending, lf_at, crlf_at, text_end as text_end'}
-use Rattle.fluent_syntax_grammar.specs.Lines.{is_run_place, ending_of, ending}
+use Rattle.fluent_syntax_grammar.specs.Lines.{is_run_place, ending}
 use Rattle.fluent_syntax_grammar.specs.Nesting.{Deeper, in_layout, in_lines, in_pieces}
 use Rattle.fluent_syntax_grammar.specs.Patterns.{layout_at, layout}
 use Rattle.fluent_syntax_grammar.specs.Places.{BlankBlock, Stretch, after_eol, has_byte, has_eol, InlineBlank}

@@ -1,5 +1,5 @@
 -- Placeables of a plain reference.
-use Rattle.std.proofs.Common.{◌≡◌, ℕ, suc, ◌+◌, ◌<◌, ◌≤◌, List, Option, Some, None, Bool, true, false, refl, sym, subst, arith, inl, inr}
+use Rattle.std.proofs.Common.{◌≡◌, ℕ, suc, ◌+◌, List, Option, Some, None, Bool, true, false, refl, sym, subst, arith, inl, inr}
 use Rattle.std.specs.Prelude.{slice_get, ◌==◌, ◌||◌, ◌&&◌}
 use Rattle.std.proofs.lemmas.Bool.Decides.{nat_tests}
 use Rattle.fluent_syntax_tree.specs.Tree.{InlineTree, inline, message_reference, no_arguments, term_reference}
@@ -9,10 +9,9 @@ use Rattle.fluent_syntax_tree.specs.declared.spans.Span.{Span}
 use Rattle.fluent_syntax_grammar.specs.Arguments.{accessor, call_arguments}
 use Rattle.fluent_syntax_grammar.specs.Bytes.{cr, dollar_sign, full_stop, hyphen, left_brace, left_parenthesis, lf}
 use Rattle.fluent_syntax_grammar.specs.Bytes.{right_brace, space}
-use Rattle.fluent_syntax_grammar.specs.Construct.{Read, chosen, given, goes_on, passed, first, second, stops, failed}
-use Rattle.fluent_syntax_grammar.specs.Grammar.{expression, family, placeable}
-use Rattle.fluent_syntax_grammar.specs.Nesting.{Deeper, in_call, in_expression, in_inline_expression, in_placeable}
-use Rattle.fluent_syntax_grammar.specs.Nesting.{placeable_head}
+use Rattle.fluent_syntax_grammar.specs.Construct.{Read, chosen, given, goes_on, passed, first, second, failed}
+use Rattle.fluent_syntax_grammar.specs.Grammar.{family, placeable}
+use Rattle.fluent_syntax_grammar.specs.Nesting.{Deeper, in_call, in_inline_expression, in_placeable}
 use Rattle.fluent_syntax_grammar.specs.Placeables.{has_arrow, is_term_attribute}
 use Rattle.fluent_syntax_grammar.specs.Places.{Blank, InlineBlank, has_byte, has_eol, holds, is_blank_place}
 use Rattle.fluent_syntax_grammar.specs.Starts.{dollar, letter, start, term}

@@ -1,9 +1,13 @@
 -- Messages whose patterns are each one line of texts and plain references.
-use Rattle.std.specs.Prelude.{[], ◌∷◌, List, Option, Some, None}
+use Rattle.std.specs.Prelude.{◌≡◌, ℕ, suc, [], ◌∷◌, ◌++◌, List, Option, Some, None, map}
 use Rattle.fluent_syntax_tree.specs.Entry.{AttributeTree, EntryTree, message}
 use Rattle.fluent_syntax_tree.specs.Tree.{ElementTree, PatternTree, elements_of, inline, message_reference, no_arguments}
 use Rattle.fluent_syntax_tree.specs.Tree.{placeable, term_reference, text_element, variable_reference}
+use Rattle.fluent_syntax_tree.specs.declared.edition.Edition.{Edition}
 use Rattle.fluent_syntax_tree.specs.declared.spans.Span.{Span}
+use Rattle.fluent_syntax_grammar.specs.Construct.{Read}
+use Rattle.fluent_syntax_grammar.specs.Entries.{attribute, attributes}
+use Rattle.fluent_syntax_grammar.specs.Nesting.{Deeper, in_attribute, in_attributes}
 use Rattle.fluent_syntax_parser.specs.declared.short.ShortElement.{ShortElement}
 use Rattle.fluent_syntax_parser.specs.declared.short.ShortElement.TheVariants.{Text, Variable, Message, Term}
 use Rattle.fluent_syntax_parser.specs.declared.short.ShortPart.{ShortPart}
@@ -42,3 +46,35 @@ module _ {A : Type 0} (f : Span → A) where
     attributes = short_attributes ps;
     comment = None;
   })
+
+-- An attribute from the one place to the other has the name and the elements that the list holds behind the parts that
+-- were there, and no placeable in it holds another.
+pub record ReadsAttribute (edition : Edition) (t : List ℕ) (old : List ShortPart) (i : ℕ) (new : List ShortPart) (j : ℕ) :
+    Type 0 where
+  pub name : Span
+  pub elements : List ShortElement
+  pub items : new ≡ old ++ Attribute name ∷ map Element elements
+  pub read :
+      attribute edition t i
+      (Read (record { id = name; value = elements_of (map (short_element (λ s. s)) elements) }) j)
+  pub flat : (n : ℕ) → Deeper edition t in_attribute (suc n) i → ⊥
+
+-- From the one place to the other stand the attributes that the list holds behind the parts that were there, before
+-- those that follow; likewise.
+pub record GathersAttributes (edition : Edition) (t : List ℕ) (old : List ShortPart) (i : ℕ) (new : List ShortPart)
+    (j : ℕ) : Type 0 where
+  pub added : List ShortPart
+  pub items : new ≡ old ++ added
+  pub named : leading_elements (λ s. s) added ≡ []
+  pub read : (rest : List (AttributeTree Span)) (end : ℕ) → attributes edition t j (Read rest end) →
+      attributes edition t i (Read (short_attributes (λ s. s) added ++ rest) end)
+  pub flat : (n : ℕ) → Deeper edition t in_attributes (suc n) i → Deeper edition t in_attributes (suc n) j
+
+-- The same where none follows.
+pub record ReadsAttributes (edition : Edition) (t : List ℕ) (old : List ShortPart) (i : ℕ) (new : List ShortPart)
+    (j : ℕ) : Type 0 where
+  pub added : List ShortPart
+  pub items : new ≡ old ++ added
+  pub named : leading_elements (λ s. s) added ≡ []
+  pub read : attributes edition t i (Read (short_attributes (λ s. s) added) j)
+  pub flat : (n : ℕ) → Deeper edition t in_attributes (suc n) i → ⊥

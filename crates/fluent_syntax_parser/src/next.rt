@@ -55,7 +55,8 @@ impl<'s> Source<'s> {
     }
 
     /// Reads the next entry from a place on, if it is a message that no comment hangs on and whose patterns are each one
-    /// line of texts and plain references, with its parts in the list: its name, and where it ends.
+    /// line of texts and plain references, with its parts in the list: its name, and where it ends. `None` too where no
+    /// placeable may stand.
     pub(crate) fn next_short(
         &self,
         options: Options,
@@ -75,7 +76,17 @@ impl<'s> Source<'s> {
             let deeper = TextDeeper options.edition t at options.nesting in
             IfOk result (λ found. IfSome found (λ read. deeper ptr → deeper read.1)) }
     {
-        Ok(None)
+        if options.nesting == 0 {
+            return Ok(None);
+        }
+        let start = self.tile_start(options.comments, ptr);
+        if !self.is_letter_at(start) {
+            return Ok(None);
+        }
+        let Some((name, end)) = self.get_short_message(options.edition, parts, start)? else {
+            return Ok(None);
+        };
+        Ok(Some((name, end)))
     }
 
     /// Reads the next entry from a place on, with its error where it is junk; and where it ends.

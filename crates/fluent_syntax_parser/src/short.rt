@@ -1,7 +1,18 @@
 //! Messages whose patterns are each one line of texts and plain references, as most are: their parts are read without a
 //! tree.
+ghost use Rattle.std.specs.Prelude.{◌<◌, ◌≤◌, ℕ, suc, length, IfOk, IfSome};
+ghost use Rattle.fluent_syntax_grammar.specs.Bytes.{full_stop};
+ghost use Rattle.fluent_syntax_grammar.specs.Construct.{Read};
+ghost use Rattle.fluent_syntax_grammar.specs.Entries.{message_entry};
+ghost use Rattle.fluent_syntax_grammar.specs.Nesting.{Deeper, in_message};
+ghost use Rattle.fluent_syntax_grammar.specs.Places.{InlineBlank};
+ghost use Rattle.fluent_syntax_grammar.specs.Words.{token};
+ghost use Rattle.fluent_syntax_parser.specs.ShortMessages.{ReadsAttribute, ReadsAttributes, short_message};
 
+use crate::source::Source;
+use fluent_syntax_tree::edition::Edition;
 use fluent_syntax_tree::spans::Span;
+use std::alloc::AllocError;
 
 /// An element of such a pattern: a text, or a placeable of a reference without attribute and arguments, by its name.
 #[derive(Clone, Copy)]
@@ -18,4 +29,99 @@ pub enum ShortElement {
 pub enum ShortPart {
     Element(ShortElement),
     Attribute(Span),
+}
+
+impl<'s> Source<'s> {
+    /// Reads an attribute behind its `.`: its name and its elements, behind what is in the list, and where it ends.
+    fn short_attribute(
+        &self,
+        edition: Edition,
+        parts: &mut Vec<ShortPart>,
+        start: usize,
+    ) -> Result<Option<usize>, AllocError>
+        requires { start ≤ length self.now.bytes.now }
+        ensures reads { let t = self.now.bytes.now in IfOk result (λ found. IfSome found (λ end. (i dot : ℕ) →
+            InlineBlank t i dot → token t full_stop dot (Read tt start) →
+            ReadsAttribute edition t parts.old.items i parts.new.items end)) }
+        ensures within { IfOk result (λ found. IfSome found
+            (λ end. (start < end) × (end ≤ length self.now.bytes.now))) }
+    {
+        let Ok(end) = self.identifier_end(start) else {
+            return Ok(None);
+        };
+        let Ok(behind) = self.expect_byte(b'=', self.skip_blank_inline(end)) else {
+            return Ok(None);
+        };
+        parts.push(ShortPart::Attribute(Span { start, end }))?;
+        let count = parts.len();
+        let Some(place) = self.short_pattern(edition, parts, behind)? else {
+            return Ok(None);
+        };
+        if parts.len() == count {
+            return Ok(None);
+        }
+        Ok(Some(place))
+    }
+
+    /// Reads the longest list of attributes, behind what is in the list, and where it ends. `None` where one holds more
+    /// than a line of texts and plain references.
+    fn short_attributes(
+        &self,
+        edition: Edition,
+        parts: &mut Vec<ShortPart>,
+        ptr: usize,
+    ) -> Result<Option<usize>, AllocError>
+        requires { ptr ≤ length self.now.bytes.now }
+        ensures reads { let t = self.now.bytes.now in IfOk result (λ found. IfSome found
+            (λ end. ReadsAttributes edition t parts.old.items ptr parts.new.items end)) }
+        ensures within { IfOk result (λ found. IfSome found
+            (λ end. (ptr ≤ end) × (end ≤ length self.now.bytes.now))) }
+    {
+        let mut place = ptr;
+        loop {
+            let Ok(start) = self.expect_byte(b'.', self.skip_blank_inline(place)) else {
+                return Ok(Some(place));
+            };
+            let Some(next) = self.short_attribute(edition, parts, start)? else {
+                return Ok(None);
+            };
+            place = next;
+        }
+    }
+
+    /// Reads a message whose patterns are each one line of texts and plain references: its name, its parts into the list,
+    /// and where it ends. `None` where none such stands there.
+    pub(crate) fn get_short_message(
+        &self,
+        edition: Edition,
+        parts: &mut Vec<ShortPart>,
+        start: usize,
+    ) -> Result<Option<(Span, usize)>, AllocError>
+        requires { start ≤ length self.now.bytes.now }
+        ensures meets { IfOk result (λ found. IfSome found (λ read.
+            message_entry edition self.now.bytes.now start
+            (Read (short_message (λ s. s) read.0 parts.new.items) read.1))) }
+        ensures within { IfOk result (λ found. IfSome found
+            (λ read. (start < read.1) × (read.1 ≤ length self.now.bytes.now))) }
+        ensures flat { IfOk result (λ found. IfSome found
+            (λ _. (n : ℕ) → Deeper edition self.now.bytes.now in_message (suc n) start → ⊥)) }
+    {
+        let Ok(end) = self.identifier_end(start) else {
+            return Ok(None);
+        };
+        let Ok(behind) = self.expect_byte(b'=', self.skip_blank_inline(end)) else {
+            return Ok(None);
+        };
+        parts.clear();
+        let Some(line) = self.short_pattern(edition, parts, behind)? else {
+            return Ok(None);
+        };
+        let Some(place) = self.short_attributes(edition, parts, self.skip_blank_block(line))? else {
+            return Ok(None);
+        };
+        if parts.is_empty() {
+            return Ok(None);
+        }
+        Ok(Some((Span { start, end }, place)))
+    }
 }

@@ -1,5 +1,5 @@
 use Rattle.std.proofs.Common.{◌≡◌, arith, sym}
-use Rattle.fluent_syntax_parser.proofs.ShortPieces.{and_placed, and_text_and_placed, no_pieces}
+use Rattle.fluent_syntax_parser.proofs.ShortPieces.{and_placed, and_text_and_placed}
 use Rattle.fluent_syntax_parser.proofs.source.Source.short_pieces.Goals.{then-start-end+in_ok-push, else-start-end}
 use Rattle.fluent_syntax_parser.proofs.source.Source.short_pieces.Goals as goal
 

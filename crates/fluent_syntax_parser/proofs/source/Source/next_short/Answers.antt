@@ -1,0 +1,47 @@
+use Rattle.std.proofs.Common.{◌<◌, arith, length, refl, sym}
+use Rattle.fluent_syntax_grammar.specs.Nesting.{Deeper, in_message}
+use Rattle.fluent_syntax_grammar.proofs.Shallow.{entry_message}
+use Rattle.fluent_syntax_parser.specs.ShortMessages.{short_message}
+use Rattle.fluent_syntax_parser.proofs.DeeperTiles.{behind_entry, entry_led}
+use Rattle.fluent_syntax_parser.proofs.EntryForms.{message_there}
+use Rattle.fluent_syntax_parser.proofs.Rests.{rest_entry}
+use Rattle.fluent_syntax_parser.proofs.ShortMessages.{but_zero, no_hash, no_hyphen}
+use Rattle.fluent_syntax_parser.proofs.source.Source.next_short.Goals as goal
+
+pub returns-clause-next : goal.returns-clause-next
+returns-clause-next c =
+    let t = c.args.self.now.bytes.now in
+    let options = c.args.options in
+    let start = c.tile_start-start in
+    let letter = sym c.if-not-is_letter_at.ensures in
+    let found = rw c.in-Some.is at c.in_ok-name.ensures in
+    let inside : start.result < length t = omega (arith, found.within.0, found.within.1) in
+    let read = message_there options.edition t _ _ (no_hash t _ letter) (no_hyphen t _ letter) found.meets in
+    λ entries errors rest. start.ensures.rest options.edition _ _
+    (rest_entry options.edition t _ _ inside options.comments start.ensures.dropped
+    (short_message (λ s. s) c.in-Some.name c.get_short_message.new.parts.items) read refl entries errors rest)
+
+pub returns-clause-behind : goal.returns-clause-behind
+returns-clause-behind c =
+    let t = c.args.self.now.bytes.now in
+    let options = c.args.options in
+    let start = c.tile_start-start in
+    let letter = sym c.if-not-is_letter_at.ensures in
+    let found = rw c.in-Some.is at c.in_ok-name.ensures in
+    let inside : start.result < length t = omega (arith, found.within.0, found.within.1) in
+    let read = message_there options.edition t _ _ (no_hash t _ letter) (no_hyphen t _ letter) found.meets in
+    λ h. start.ensures.deeper options.edition options.nesting
+    (behind_entry options.edition t _ _ options.nesting inside options.comments start.ensures.dropped _ read h)
+
+pub returns-clause-shallow : goal.returns-clause-shallow
+returns-clause-shallow c =
+    let t = c.args.self.now.bytes.now in
+    let options = c.args.options in
+    let start = c.tile_start-start in
+    let letter = sym c.if-not-is_letter_at.ensures in
+    let found = rw c.in-Some.is at c.in_ok-name.ensures in
+    let read = message_there options.edition t _ _ (no_hash t _ letter) (no_hyphen t _ letter) found.meets in
+    λ h. entry_led options.edition t _ _ options.nesting options.comments start.ensures.dropped _ read
+    (λ d. but_zero (λ n. Deeper options.edition t in_message n start.result → ⊥) found.flat options.nesting
+    c.if-options-eq0.false (entry_message options.edition t (no_hyphen t _ letter) d))
+    (start.ensures.shallow options.edition options.nesting h)
