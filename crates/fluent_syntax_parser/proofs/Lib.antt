@@ -31,6 +31,7 @@ pub mod Selects
 pub mod Shallows
 pub mod ShortMessages
 pub mod ShortPatterns
+pub mod ShortTrees
 pub mod Spelled
 pub mod Stars
 pub mod StringBytes

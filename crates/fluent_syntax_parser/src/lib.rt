@@ -26,6 +26,7 @@ pub mod options;
 mod pattern;
 mod references;
 pub mod short;
+mod short_trees;
 mod source;
 mod spans;
 mod starts;

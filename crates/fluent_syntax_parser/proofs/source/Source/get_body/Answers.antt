@@ -4,9 +4,9 @@ use Rattle.fluent_syntax_parser.specs.Rest.{faults_of, tree_of}
 use Rattle.fluent_syntax_parser.proofs.Gathers.{map_more}
 use Rattle.fluent_syntax_parser.proofs.source.Source.get_body.Goals as goal
 
-pub loop-errors-preserved : goal.loop-errors-preserved
-loop-errors-preserved c =
-    let old = c.loop-errors in
+pub loop-parts-preserved : goal.loop-parts-preserved
+loop-parts-preserved c =
+    let old = c.loop-parts in
     let next = rw c.in-Some.is at c.in_ok-entry.ensures.next in
     let behind = rw c.in-Some.is at c.in_ok-entry.ensures.behind in
     let shallow = rw c.in-Some.is at c.in_ok-entry.ensures.shallow in

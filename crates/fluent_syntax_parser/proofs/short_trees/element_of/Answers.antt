@@ -1,0 +1,31 @@
+use Rattle.std.proofs.Common.{None, ◌∙◌, ap}
+use Rattle.fluent_syntax_tree.specs.Tree.{inline, placeable}
+use Rattle.fluent_syntax_tree.proofs.Views.{view-MessageReference, view-TermReference, view-TextElement}
+use Rattle.fluent_syntax_tree.proofs.Views.{view-VariableReference}
+use Rattle.fluent_syntax_parser.proofs.ShortTrees.{placeable_tree}
+use Rattle.fluent_syntax_parser.proofs.short_trees.element_of.Goals.{in-Variable, in-Message, in-Term}
+use Rattle.fluent_syntax_parser.proofs.short_trees.element_of.Goals as goal
+
+pub returns-in-Text : goal.returns-in-Text
+returns-in-Text c = rw (c.in-Text.is) (view-TextElement (λ s. s) c.in-Text.value)
+
+pub returns : goal.returns
+returns c =
+    let made = placeable_tree (λ s. s) c.match-element.reference in
+    elim c.match-element.branch [
+      | in-Variable w ↦
+          rw (w.in-Variable.is)
+          (made
+          ∙ ap (λ e. placeable (inline e)) (rw (w.reference-is)
+          (view-VariableReference (λ s. s) (record { name = w.in-Variable.name }))))
+      | in-Message w ↦
+          rw (w.in-Message.is)
+          (made
+          ∙ ap (λ e. placeable (inline e)) (rw (w.reference-is)
+          (view-MessageReference (λ s. s) (record { name = w.in-Message.name }) None)))
+      | in-Term w ↦
+          rw (w.in-Term.is)
+          (made
+          ∙ ap (λ e. placeable (inline e)) (rw (w.reference-is)
+          (view-TermReference (λ s. s) (record { name = w.in-Term.name }) None None)))
+    ]
