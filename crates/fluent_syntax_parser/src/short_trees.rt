@@ -4,8 +4,8 @@ ghost use Rattle.fluent_syntax_tree.specs.Entry.{message};
 ghost use Rattle.fluent_syntax_tree.specs.Tree.{elements_of};
 ghost use Rattle.fluent_syntax_tree.specs.View.{attribute_view, element_view, message_view, pattern_view};
 ghost use Rattle.fluent_syntax_parser.specs.Rest.{tree_of};
-ghost use Rattle.fluent_syntax_parser.specs.ShortMessages.{leading_elements, pattern_if_any, short_attributes, short_element};
-ghost use Rattle.fluent_syntax_parser.specs.ShortMessages.{short_message};
+ghost use Rattle.fluent_syntax_parser.specs.ShortMessages.{leading_elements, pattern_if_any, short_attributes};
+ghost use Rattle.fluent_syntax_parser.specs.ShortMessages.{short_element, short_message};
 
 use crate::short::{ShortElement, ShortPart};
 use fluent_syntax_tree::ast::{
@@ -122,11 +122,7 @@ fn attributes_of(alloc: Global, parts: &[ShortPart]) -> Result<Vec<Attribute<Spa
     Ok(attributes)
 }
 
-fn message_of(
-    alloc: Global,
-    name: Span,
-    parts: &[ShortPart],
-) -> Result<Message<Span>, AllocError>
+fn message_of(alloc: Global, name: Span, parts: &[ShortPart]) -> Result<Message<Span>, AllocError>
     ensures { IfOk result (λ made. message (message_view (λ s. s) made) ≡ short_message (λ s. s) name parts.now) }
 {
     let (value, rest) = leading_value(alloc, parts)?;
