@@ -14,11 +14,19 @@ use fluent_syntax_tree::ast::{
 use fluent_syntax_tree::spans::Span;
 use std::alloc::{AllocError, Global};
 
-fn element_of(element: ShortElement) -> PatternElement<Span>
-    ensures { element_view (λ s. s) result ≡ short_element (λ s. s) element }
+/// Adds an element. A text has a `push` of its own, since one for all would first build each element beside the list.
+fn add_element(
+    elements: &mut Vec<PatternElement<Span>>,
+    element: ShortElement,
+) -> Result<(), AllocError>
+    ensures { OnOk result (map (element_view (λ s. s)) elements.new.items
+        ≡ map (element_view (λ s. s)) elements.old.items ++ short_element (λ s. s) element ∷ []) }
 {
     let reference = match element {
-        ShortElement::Text(value) => return PatternElement::TextElement { value },
+        ShortElement::Text(value) => {
+            elements.push(PatternElement::TextElement { value })?;
+            return Ok(());
+        }
         ShortElement::Variable(name) => InlineExpression::VariableReference {
             id: Identifier { name },
         },
@@ -32,9 +40,10 @@ fn element_of(element: ShortElement) -> PatternElement<Span>
             arguments: None,
         },
     };
-    PatternElement::Placeable {
+    elements.push(PatternElement::Placeable {
         expression: Expression::Inline(reference),
-    }
+    })?;
+    Ok(())
 }
 
 /// How many elements lead.
@@ -79,7 +88,7 @@ fn leading_pattern<'p>(
     let mut elements = Vec::with_capacity(alloc, leading_count(parts))?;
     let mut rest = parts;
     while let Some((ShortPart::Element(element), behind)) = rest.split_first() {
-        elements.push(element_of(*element))?;
+        add_element(&mut elements, *element)?;
         rest = behind;
     }
     Ok((Pattern { elements }, rest))
