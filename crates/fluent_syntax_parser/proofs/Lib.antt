@@ -34,6 +34,7 @@ pub mod ShortMessages
 pub mod ShortPatterns
 pub mod ShortPieces
 pub mod ShortReferences
+pub mod ShortTrees
 pub mod Spelled
 pub mod Stars
 pub mod StringBytes

@@ -147,13 +147,13 @@ module _ (t : List ℕ) (i inside mark : ℕ) (brace : token t left_brace i (Rea
     read = λ edition.
         let word = subst (λ k. identifier t k (Read span end)) same name in
         let read = by_start edition t mark letter _ is
-            (goes_on word (goes_on (no_call edition t end j c) (goes_on (no_accessor_behind edition t end j c) given))) in
+        (goes_on word (goes_on (no_call edition t end j c) (goes_on (no_accessor_behind edition t end j c) given))) in
         rw c.behind (placed_read edition t i inside mark brace blank _ refl c.close c.close read
         (blank_at_close t c.close c.there) c.there);
     flat = λ edition n.
         let word = subst (λ k. identifier t k (Read span end)) same name in
         let read = by_start edition t mark letter _ is
-            (goes_on word (goes_on (no_call edition t end j c) (goes_on (no_accessor_behind edition t end j c) given))) in
+        (goes_on word (goes_on (no_call edition t end j c) (goes_on (no_accessor_behind edition t end j c) given))) in
         placed_flat edition t i inside mark brace blank _ refl c.close c.close read (blank_at_close t c.close c.there) c.there n
         (λ d. call_flat edition t end j c n (letter_led edition t is word d));
   }
@@ -164,16 +164,16 @@ module _ (t : List ℕ) (i inside mark : ℕ) (brace : token t left_brace i (Rea
     is = refl;
     read = λ edition.
         let read = by_start edition t mark term _ is
-            (goes_on sign
-            (goes_on name
-            (goes_on (no_accessor_before edition t end j c) (goes_on (no_call edition t end j c) given)))) in
+        (goes_on sign
+        (goes_on name
+        (goes_on (no_accessor_before edition t end j c) (goes_on (no_call edition t end j c) given)))) in
         rw c.behind (placed_read edition t i inside mark brace blank _ refl c.close c.close read
         (blank_at_close t c.close c.there) c.there);
     flat = λ edition n.
         let read = by_start edition t mark term _ is
-            (goes_on sign
-            (goes_on name
-            (goes_on (no_accessor_before edition t end j c) (goes_on (no_call edition t end j c) given)))) in
+        (goes_on sign
+        (goes_on name
+        (goes_on (no_accessor_before edition t end j c) (goes_on (no_call edition t end j c) given)))) in
         placed_flat edition t i inside mark brace blank _ refl c.close c.close read (blank_at_close t c.close c.there) c.there n
         (λ d. call_flat edition t end j c n
         (term_led edition t is (goes_on sign (goes_on name (no_accessor_before edition t end j c))) d));

@@ -28,6 +28,7 @@ mod references;
 pub mod short;
 mod short_lines;
 mod short_references;
+mod short_trees;
 mod source;
 mod spans;
 mod starts;

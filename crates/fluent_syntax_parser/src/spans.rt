@@ -11,6 +11,7 @@ ghost use Rattle.fluent_syntax_parser.specs.Rest.{Rest, TileIn, tree_of};
 
 use crate::fault::{ParseFault, TooDeep, add_error, answer_of};
 use crate::options::{Comments, Halt, Options};
+use crate::short_trees::add_message;
 use crate::source::Source;
 use fluent_syntax_tree::ast::{Entry, Resource};
 use fluent_syntax_tree::edition::Edition;
@@ -37,13 +38,21 @@ impl<'s> Source<'s> {
     {
         let mut body = Vec::new(alloc);
         let mut errors = Vec::new(alloc);
+        let mut parts = Vec::new(alloc);
         let mut ptr = 0;
-        while let Some((entry, error, end)) = self.next_entry(alloc, options, ptr)? {
-            body.push(entry)?;
-            add_error(&mut errors, error)?;
-            ptr = end;
+        loop {
+            if let Some((name, end)) = self.next_short(options, &mut parts, ptr)? {
+                add_message(alloc, &mut body, name, &parts)?;
+                ptr = end;
+            } else {
+                let Some((entry, error, end)) = self.next_entry(alloc, options, ptr)? else {
+                    return Ok((body, errors));
+                };
+                body.push(entry)?;
+                add_error(&mut errors, error)?;
+                ptr = end;
+            }
         }
-        Ok((body, errors))
     }
 }
 

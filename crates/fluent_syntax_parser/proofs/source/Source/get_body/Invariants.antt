@@ -9,8 +9,8 @@ use Rattle.fluent_syntax_parser.specs.Rest.{Rest, TileIn, tree_of}
 use Rattle.fluent_syntax_parser.proofs.source.Source.get_body.Given as goal
 
 -- Whatever the rest is, the text has it behind what was read. In a text that is one blank block nothing is read.
-abbrev pub invariant-loop-errors : goal.invariant-loop-errors
-invariant-loop-errors l = record {
+abbrev pub invariant-loop-parts : goal.invariant-loop-parts
+invariant-loop-parts l = record {
   within : l.ptr ≤ length l.self.bytes.now;
   rest : (entries : BodyTree Span) (errors : List (Option Fault)) →
       Rest l.options.comments l.options.edition l.self.bytes.now l.ptr entries errors →
@@ -27,5 +27,5 @@ invariant-loop-errors l = record {
   blank : BlankBlock l.self.bytes.now 0 (length l.self.bytes.now) → (l.ptr ≡ 0) × (l.errors.items ≡ []);
 }
 
-abbrev pub decreases-loop-errors : goal.decreases-loop-errors
-decreases-loop-errors l = length l.self.bytes.now - l.ptr
+abbrev pub decreases-loop-parts : goal.decreases-loop-parts
+decreases-loop-parts l = length l.self.bytes.now - l.ptr

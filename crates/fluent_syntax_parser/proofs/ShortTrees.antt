@@ -1,0 +1,42 @@
+-- The trees that the parts of a short message make.
+use Rattle.std.proofs.Common.{◌≡◌, List, [], ◌∷◌, ◌++◌, ◌∙◌, length, map, refl, sym, ap, append-nil, arith}
+use Rattle.std.proofs.lemmas.List.{map-append}
+use Rattle.fluent_syntax_tree.specs.Tree.{ElementTree, elements_of, inline, placeable}
+use Rattle.fluent_syntax_tree.specs.View.{element_view, inline_view, pattern_view}
+use Rattle.fluent_syntax_tree.specs.declared.ast.Expression as expression
+use Rattle.fluent_syntax_tree.specs.declared.ast.InlineExpression.{InlineExpression}
+use Rattle.fluent_syntax_tree.specs.declared.ast.Pattern.{Pattern}
+use Rattle.fluent_syntax_tree.specs.declared.ast.PatternElement as element
+use Rattle.fluent_syntax_tree.specs.declared.ast.PatternElement.{PatternElement}
+use Rattle.fluent_syntax_tree.specs.declared.spans.Span.{Span}
+use Rattle.fluent_syntax_tree.proofs.Views.{view-Inline, view-Pattern, view-Placeable}
+use Rattle.fluent_syntax_parser.specs.ShortMessages.{leading_elements}
+use Rattle.fluent_syntax_parser.specs.declared.short.ShortPart.{ShortPart}
+
+module _ {S X : Type 0} (text : S → X) where
+  pub placeable_tree : (e : InlineExpression S) →
+      element_view text (element.Placeable (expression.Inline e)) ≡ placeable (inline (inline_view text e))
+  placeable_tree e = view-Placeable text (expression.Inline e) ∙ ap placeable (view-Inline text e)
+
+  -- with one more element
+  pub one_more : (before after : List (PatternElement S)) (e : PatternElement S) (tree : ElementTree X) →
+      after ≡ before ++ e ∷ [] → element_view text e ≡ tree →
+      map (element_view text) after ≡ map (element_view text) before ++ tree ∷ []
+  one_more before after e tree made same =
+      ap (map (element_view text)) made
+      ∙ (map-append (element_view text) before (e ∷ [])
+      ∙ ap (λ x. map (element_view text) before ++ x ∷ []) same)
+
+  -- when no element is left
+  pub pattern_tree : (p : Pattern S) (rest all : List (ElementTree X)) →
+      map (element_view text) p.elements.items ++ rest ≡ all → rest ≡ [] → pattern_view text p ≡ elements_of all
+  pattern_tree p rest all gathered ended =
+      view-Pattern text p
+      ∙ ap elements_of
+      (sym (append-nil (map (element_view text) p.elements.items))
+      ∙ ap (λ more. map (element_view text) p.elements.items ++ more) (sym ended) ∙ gathered)
+
+module _ {A : Type 0} (f : Span → A) where
+  pub none_leads : (ps : List ShortPart) → length ps ≡ 0 → leading_elements f ps ≡ []
+  none_leads [] empty = refl
+  none_leads (p ∷ ps) empty = absurd (omega (arith, empty))
