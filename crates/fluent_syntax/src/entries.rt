@@ -60,10 +60,10 @@ fn read_entries<'s, S: Slice<'s>>(
     let mut entries = Entries::new(input.as_str(), options);
     let mut body = Vec::new(alloc);
     let mut errors = Vec::new(alloc);
-    let mut attributes = Vec::new(alloc);
+    let mut parts = Vec::new(alloc);
     loop {
-        if let Some(message) = entries.next_short(&mut attributes)? {
-            add_message(alloc, input, &mut body, message, &attributes)?;
+        if let Some(name) = entries.next_short(&mut parts)? {
+            add_message(alloc, input, &mut body, name, &parts)?;
         } else {
             let Some((entry, error)) = entries.next_entry(alloc)? else {
                 return Ok((body, errors));

@@ -1,100 +1,202 @@
-//! Messages whose texts are each one line without placeable, made of their spans.
-ghost use Rattle.std.specs.Prelude.{◌≡◌, ◌++◌, ◌∷◌, [], map, IfOk, OnOk};
-ghost use Rattle.fluent_syntax_parser.specs.ShortMessages.{short_attribute, short_message, short_pattern};
+//! Messages whose patterns are each one line of texts and plain references, made of their spans.
+ghost use Rattle.std.specs.Prelude.{◌≡◌, ◌++◌, ◌∷◌, [], length, map, IfOk, OnOk};
+ghost use Rattle.fluent_syntax_parser.specs.ShortMessages.{leading_elements, short_attributes, short_element, short_message};
 ghost use Rattle.fluent_syntax_tree.specs.Entry.{entry_map, message};
-ghost use Rattle.fluent_syntax_tree.specs.Every.{attribute_every, entry_every, list_every};
+ghost use Rattle.fluent_syntax_tree.specs.Every.{attribute_every, element_every, entry_every, list_every, pattern_every};
 ghost use Rattle.fluent_syntax_tree.specs.Spans.{IsPart, bytes_at};
-ghost use Rattle.fluent_syntax_tree.specs.View.{attribute_view, entry_view, message_view, pattern_view};
+ghost use Rattle.fluent_syntax_tree.specs.Tree.{elements_of, inline, placeable};
+ghost use Rattle.fluent_syntax_tree.specs.View.{attribute_view, element_view, entry_view, inline_view, message_view, pattern_view};
 
-use fluent_syntax_parser::short::{ShortAttribute, ShortMessage};
-use fluent_syntax_tree::ast::{Attribute, Entry, Identifier, Message, Pattern, PatternElement};
+use fluent_syntax_parser::short::{ShortElement, ShortPart};
+use fluent_syntax_tree::ast::{
+    Attribute, Entry, Expression, Identifier, InlineExpression, Message, Pattern, PatternElement,
+};
 use fluent_syntax_tree::slice::Slice;
 use fluent_syntax_tree::spans::Span;
 use std::alloc::{AllocError, Global};
 
-/// The pattern of the source's text at a span.
-fn pattern_at<'s, S: Slice<'s>>(
+/// The name of the source's text at a span.
+fn name_at<'s, S: Slice<'s>>(
     alloc: Global,
     source: &S,
     span: Span,
-) -> Result<Pattern<S>, AllocError>
+) -> Result<Identifier<S>, AllocError>
     requires { IsPart (S.text source.now) span }
-    ensures { IfOk result (λ made. pattern_view S.text made ≡ short_pattern (bytes_at (S.text source.now)) span) }
+    ensures { IfOk result (λ made. S.text made.name ≡ bytes_at (S.text source.now) span) }
 {
-    let value = source.slice(alloc, span.start..span.end)?;
-    let mut elements = Vec::with_capacity(alloc, 1)?;
-    elements.push(PatternElement::TextElement { value })?;
+    let name = source.slice(alloc, span.start..span.end)?;
+    Ok(Identifier { name })
+}
+
+/// The placeable of a reference.
+fn placeable_of<'s, S: Slice<'s>>(reference: InlineExpression<S>) -> PatternElement<S>
+    ensures { element_view S.text result ≡ placeable (inline (inline_view S.text reference)) }
+{
+    let expression = Expression::Inline(reference);
+    PatternElement::Placeable { expression }
+}
+
+/// The element, with its text.
+fn element_at<'s, S: Slice<'s>>(
+    alloc: Global,
+    source: &S,
+    element: ShortElement,
+) -> Result<PatternElement<S>, AllocError>
+    requires { element_every (IsPart (S.text source.now)) (short_element (λ s. s) element) }
+    ensures { IfOk result
+        (λ made. element_view S.text made ≡ short_element (bytes_at (S.text source.now)) element) }
+{
+    match element {
+        ShortElement::Text(span) => {
+            let value = source.slice(alloc, span.start..span.end)?;
+            Ok(PatternElement::TextElement { value })
+        }
+        ShortElement::Variable(span) => {
+            let id = name_at(alloc, source, span)?;
+            Ok(placeable_of(InlineExpression::VariableReference { id }))
+        }
+        ShortElement::Message(span) => {
+            let id = name_at(alloc, source, span)?;
+            let attribute = None;
+            Ok(placeable_of(InlineExpression::MessageReference { id, attribute }))
+        }
+        ShortElement::Term(span) => {
+            let id = name_at(alloc, source, span)?;
+            Ok(placeable_of(InlineExpression::TermReference {
+                id,
+                attribute: None,
+                arguments: None,
+            }))
+        }
+    }
+}
+
+/// The number of elements before the first name of an attribute.
+fn leading(parts: &[ShortPart]) -> usize
+    ensures { result ≡ length (leading_elements (λ s. s) parts.now) }
+{
+    let mut count = 0;
+    let mut rest = parts;
+    while let Some((ShortPart::Element(_), behind)) = rest.split_first() {
+        count += 1;
+        rest = behind;
+    }
+    count
+}
+
+/// The number of attributes.
+fn names(parts: &[ShortPart]) -> usize
+    ensures { result ≡ length (short_attributes (λ s. s) parts.now) }
+{
+    let mut count = 0;
+    let mut rest = parts;
+    while let Some((part, behind)) = rest.split_first() {
+        if let ShortPart::Attribute(_) = part {
+            count += 1;
+        }
+        rest = behind;
+    }
+    count
+}
+
+/// The pattern of the elements before the first name of an attribute.
+fn pattern_of<'s, S: Slice<'s>>(
+    alloc: Global,
+    source: &S,
+    parts: &[ShortPart],
+) -> Result<Pattern<S>, AllocError>
+    requires { pattern_every (IsPart (S.text source.now)) (elements_of (leading_elements (λ s. s) parts.now)) }
+    ensures { IfOk result (λ made. pattern_view S.text made
+        ≡ elements_of (leading_elements (bytes_at (S.text source.now)) parts.now)) }
+{
+    let mut elements = Vec::with_capacity(alloc, leading(parts))?;
+    let mut rest = parts;
+    while let Some((part, behind)) = rest.split_first() {
+        let ShortPart::Element(element) = part else {
+            break;
+        };
+        elements.push(element_at(alloc, source, *element)?)?;
+        rest = behind;
+    }
     Ok(Pattern { elements })
 }
 
-fn attribute_at<'s, S: Slice<'s>>(
+/// The attribute of that name whose value leads the parts.
+fn attribute_of<'s, S: Slice<'s>>(
     alloc: Global,
     source: &S,
-    attribute: &ShortAttribute,
+    name: Span,
+    parts: &[ShortPart],
 ) -> Result<Attribute<S>, AllocError>
-    requires { attribute_every (IsPart (S.text source.now)) (short_attribute (λ s. s) attribute.now) }
-    ensures { IfOk result
-        (λ made. attribute_view S.text made ≡ short_attribute (bytes_at (S.text source.now)) attribute.now) }
+    requires name { IsPart (S.text source.now) name }
+    requires value { pattern_every (IsPart (S.text source.now)) (elements_of (leading_elements (λ s. s) parts.now)) }
+    ensures { IfOk result (λ made. attribute_view S.text made ≡ record {
+      id = bytes_at (S.text source.now) name;
+      value = elements_of (leading_elements (bytes_at (S.text source.now)) parts.now);
+    }) }
 {
-    let name = source.slice(alloc, attribute.name.start..attribute.name.end)?;
-    Ok(Attribute {
-        id: Identifier { name },
-        value: pattern_at(alloc, source, attribute.value)?,
-    })
+    let id = name_at(alloc, source, name)?;
+    let value = pattern_of(alloc, source, parts)?;
+    Ok(Attribute { id, value })
 }
 
-fn attributes_at<'s, S: Slice<'s>>(
+/// All attributes of the parts.
+fn attributes_of<'s, S: Slice<'s>>(
     alloc: Global,
     source: &S,
-    list: &Vec<ShortAttribute>,
+    parts: &[ShortPart],
 ) -> Result<Vec<Attribute<S>>, AllocError>
-    requires { list_every (attribute_every (IsPart (S.text source.now))) (map (short_attribute (λ s. s)) list.now.items) }
+    requires { list_every (attribute_every (IsPart (S.text source.now))) (short_attributes (λ s. s) parts.now) }
     ensures { IfOk result (λ made. map (attribute_view S.text) made.items
-        ≡ map (short_attribute (bytes_at (S.text source.now))) list.now.items) }
+        ≡ short_attributes (bytes_at (S.text source.now)) parts.now) }
 {
-    let mut attributes = Vec::with_capacity(alloc, list.len())?;
-    for item in list {
-        attributes.push(attribute_at(alloc, source, item)?)?;
+    let mut attributes = Vec::with_capacity(alloc, names(parts))?;
+    let mut rest = parts;
+    while let Some((part, behind)) = rest.split_first() {
+        if let ShortPart::Attribute(name) = part {
+            attributes.push(attribute_of(alloc, source, *name, behind)?)?;
+        }
+        rest = behind;
     }
     Ok(attributes)
 }
 
-/// The message with those attributes.
-fn message_at<'s, S: Slice<'s>>(
+/// The message of that name with those parts.
+fn message_of<'s, S: Slice<'s>>(
     alloc: Global,
     source: &S,
-    short: ShortMessage,
-    list: &Vec<ShortAttribute>,
+    name: Span,
+    parts: &[ShortPart],
 ) -> Result<Message<S>, AllocError>
-    requires parts { entry_every (IsPart (S.text source.now)) (short_message (λ s. s) short list.now.items) }
+    requires parts { entry_every (IsPart (S.text source.now)) (short_message (λ s. s) name parts.now) }
     ensures { IfOk result (λ made. message (message_view S.text made)
-        ≡ short_message (bytes_at (S.text source.now)) short list.now.items) }
+        ≡ short_message (bytes_at (S.text source.now)) name parts.now) }
 {
-    let name = source.slice(alloc, short.name.start..short.name.end)?;
-    let value = match short.value {
-        Some(span) => Some(pattern_at(alloc, source, span)?),
-        None => None,
+    let id = name_at(alloc, source, name)?;
+    let value = match parts {
+        [ShortPart::Element(_), ..] => Some(pattern_of(alloc, source, parts)?),
+        _ => None,
     };
     Ok(Message {
-        id: Identifier { name },
+        id,
         value,
-        attributes: attributes_at(alloc, source, list)?,
+        attributes: attributes_of(alloc, source, parts)?,
         comment: None,
     })
 }
 
-/// Adds the message with those attributes, with its texts.
+/// Adds the message of that name with those parts, with its texts.
 pub(crate) fn add_message<'s, S: Slice<'s>>(
     alloc: Global,
     input: &S,
     body: &mut Vec<Entry<S>>,
-    short: ShortMessage,
-    list: &Vec<ShortAttribute>,
+    name: Span,
+    parts: &Vec<ShortPart>,
 ) -> Result<(), AllocError>
-    requires parts { entry_every (IsPart (S.text input.now)) (short_message (λ s. s) short list.now.items) }
+    requires parts { entry_every (IsPart (S.text input.now)) (short_message (λ s. s) name parts.now.items) }
     ensures { OnOk result (map (entry_view S.text) body.new.items ≡ map (entry_view S.text) body.old.items
-        ++ entry_map (bytes_at (S.text input.now)) (short_message (λ s. s) short list.now.items) ∷ []) }
+        ++ entry_map (bytes_at (S.text input.now)) (short_message (λ s. s) name parts.now.items) ∷ []) }
 {
-    body.push(Entry::Message(message_at(alloc, input, short, list)?))?;
+    body.push(Entry::Message(message_of(alloc, input, name, parts)?))?;
     Ok(())
 }

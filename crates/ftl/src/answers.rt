@@ -124,10 +124,10 @@ fn lines(alloc: Global, text: &str, edition: Edition, nesting: usize) -> Result<
     let mut entries = Entries::new(text, options);
     let mut places = Lines::new(text);
     let mut out = String::new(alloc);
-    let mut attributes = Vec::new(alloc);
+    let mut parts = Vec::new(alloc);
     loop {
         // a message that is read without a tree has no error
-        if entries.next_short(&mut attributes)?.is_none() {
+        if entries.next_short(&mut parts)?.is_none() {
             let Some(read) = entries.next_entry(alloc)? else {
                 return Ok(out);
             };

@@ -12,36 +12,36 @@ use Rattle.fluent_syntax.proofs.entries.read_entries.Goals as goal
 pub add_message-requires : goal.add_message-requires
 add_message-requires g c κs =
     let t = g.S.Slice.text c.args.input.now in
-    let inv = c.loop-attributes.invariant in
-    let here = c.in_ok-message.ensures in
+    let inv = c.loop-parts.invariant in
+    let here = c.in_ok-name.ensures in
     let next = rw (inv.text, inv.options, c.in-Some.is) at here.next in
     let inside = rw (here.text, inv.text) at c.next_short.new.self.within in
     let utf8 = rw c.as_str.ensures at c.as_str.utf8 in (
       (refl, tt),
       next_parts g.S.Slice.text c.args.options.comments c.args.options.edition t _ _ _ inv.read _
-          (short_message (λ s. s) c.in-Some.message c.next_short.new.attributes.items) [] next utf8 inside,
+          (short_message (λ s. s) c.in-Some.name c.next_short.new.parts.items) [] next utf8 inside,
     )
 
-pub loop-attributes-smaller-in-Continue-branch-3 : goal.loop-attributes-smaller-in-Continue-branch-3
-loop-attributes-smaller-in-Continue-branch-3 g c =
-    let inv = c.loop-attributes.invariant in
-    let here = c.in_ok-message.ensures in
+pub loop-parts-smaller-in-Continue-branch-3 : goal.loop-parts-smaller-in-Continue-branch-3
+loop-parts-smaller-in-Continue-branch-3 g c =
+    let inv = c.loop-parts.invariant in
+    let here = c.in_ok-name.ensures in
     let onward = rw c.in-Some.is at here.onward in
     let inside = rw (here.text, inv.text) at c.next_short.new.self.within in
     omega (arith, onward, inside)
 
-pub loop-attributes-preserved-in-Continue-branch-3 : goal.loop-attributes-preserved-in-Continue-branch-3
-loop-attributes-preserved-in-Continue-branch-3 g c =
+pub loop-parts-preserved-in-Continue-branch-3 : goal.loop-parts-preserved-in-Continue-branch-3
+loop-parts-preserved-in-Continue-branch-3 g c =
     let t = g.S.Slice.text c.args.input.now in
-    let inv = c.loop-attributes.invariant in
-    let here = c.in_ok-message.ensures in
+    let inv = c.loop-parts.invariant in
+    let here = c.in_ok-name.ensures in
     let next = rw (inv.text, inv.options, c.in-Some.is) at here.next in
     record {
       text = ap (λ source. source.bytes.now) here.text ∙ inv.text;
       options = here.options ∙ inv.options;
       read = read_on g.S.Slice.text c.args.options.comments c.args.options.edition t _ _ _ inv.read _
-          (short_message (λ s. s) c.in-Some.message c.next_short.new.attributes.items) [] next _ _
-          c.in_ok-add_message.ensures (sym (append-nil (map fault_of c.loop-attributes.errors.items)));
+          (short_message (λ s. s) c.in-Some.name c.next_short.new.parts.items) [] next _ _
+          c.in_ok-add_message.ensures (sym (append-nil (map fault_of c.loop-parts.errors.items)));
       deeper =
           let here = rw (inv.text, inv.options) at here.deeper in
           (λ d. inv.deeper.0 (here.1 d), λ d. here.0 (inv.deeper.1 d));
@@ -56,8 +56,8 @@ loop-attributes-preserved-in-Continue-branch-3 g c =
 pub add_entry-requires : goal.add_entry-requires
 add_entry-requires g c κs =
     let t = g.S.Slice.text c.args.input.now in
-    let inv = c.loop-attributes.invariant in
-    let short = c.in_ok-message.ensures in
+    let inv = c.loop-parts.invariant in
+    let short = c.in_ok-name.ensures in
     let there = rw c.in_default.is at short.none in
     let here = c.in_ok-entry.ensures in
     let next = rw (short.text, inv.text, short.options, inv.options, there, c.in-Some-2.is) at here.next in
@@ -68,21 +68,21 @@ add_entry-requires g c κs =
           (tree_of c.in-Some-2.entry) (faults_of c.in-Some-2.error) next utf8 inside,
     )
 
-pub loop-attributes-smaller : goal.loop-attributes-smaller
-loop-attributes-smaller g c =
-    let inv = c.loop-attributes.invariant in
-    let short = c.in_ok-message.ensures in
+pub loop-parts-smaller : goal.loop-parts-smaller
+loop-parts-smaller g c =
+    let inv = c.loop-parts.invariant in
+    let short = c.in_ok-name.ensures in
     let there = rw c.in_default.is at short.none in
     let here = c.in_ok-entry.ensures in
     let onward = rw (c.in-Some-2.is, there) at here.onward in
     let inside = rw (here.text, short.text, inv.text) at c.next_entry.new.self.within in
     omega (arith, onward, inside)
 
-pub loop-attributes-preserved : goal.loop-attributes-preserved
-loop-attributes-preserved g c =
+pub loop-parts-preserved : goal.loop-parts-preserved
+loop-parts-preserved g c =
     let t = g.S.Slice.text c.args.input.now in
-    let inv = c.loop-attributes.invariant in
-    let short = c.in_ok-message.ensures in
+    let inv = c.loop-parts.invariant in
+    let short = c.in_ok-name.ensures in
     let there = rw c.in_default.is at short.none in
     let here = c.in_ok-entry.ensures in
     let next = rw (short.text, inv.text, short.options, inv.options, there, c.in-Some-2.is) at here.next in
@@ -106,20 +106,20 @@ loop-attributes-preserved g c =
 pub returns-in_default-2-clause-read : goal.returns-in_default-2-clause-read
 returns-in_default-2-clause-read g c =
     let t = g.S.Slice.text c.args.input.now in
-    let inv = c.loop-attributes.invariant in
-    let short = c.in_ok-message.ensures in
+    let inv = c.loop-parts.invariant in
+    let short = c.in_ok-name.ensures in
     let there = rw c.in_default.is at short.none in
     let none = rw (short.text, inv.text, short.options, inv.options, there, c.in_default-2.is)
     at c.in_ok-entry.ensures.next in
     all_read g.S.Slice.text c.args.options.comments c.args.options.edition t _ _ _ inv.read none
 
 pub returns-in_default-2-clause-blank : goal.returns-in_default-2-clause-blank
-returns-in_default-2-clause-blank g c = λ block. (c.loop-attributes.invariant.blank block).1
+returns-in_default-2-clause-blank g c = λ block. (c.loop-parts.invariant.blank block).1
 
 pub returns-in_default-2-clause-shallow : goal.returns-in_default-2-clause-shallow
 returns-in_default-2-clause-shallow g c =
-    let inv = c.loop-attributes.invariant in
-    let short = c.in_ok-message.ensures in
+    let inv = c.loop-parts.invariant in
+    let short = c.in_ok-name.ensures in
     let there = rw c.in_default.is at short.none in
     let none = rw (short.text, inv.text, short.options, inv.options, there, c.in_default-2.is)
     at c.in_ok-entry.ensures.shallow in
@@ -127,16 +127,16 @@ returns-in_default-2-clause-shallow g c =
 
 pub returns-in_err-entry-clause-nests : goal.returns-in_err-entry-clause-nests
 returns-in_err-entry-clause-nests g c =
-    let inv = c.loop-attributes.invariant in
-    let short = c.in_ok-message.ensures in
+    let inv = c.loop-parts.invariant in
+    let short = c.in_ok-name.ensures in
     let within = rw (short.text, inv.text, short.options, inv.options) at c.in_err-entry.ensures.nests in
     let halt = err_from_is_err_and c.from_residual-in_err-entry.result c.from_residual-in_err-entry.ensures.1 in
     rw (halt.1, halt.2) (λ deep. let room = within deep in omega (arith, room))
 
 pub returns-in_err-entry-clause-deeper : goal.returns-in_err-entry-clause-deeper
 returns-in_err-entry-clause-deeper g c =
-    let inv = c.loop-attributes.invariant in
-    let short = c.in_ok-message.ensures in
+    let inv = c.loop-parts.invariant in
+    let short = c.in_ok-name.ensures in
     let there = rw c.in_default.is at short.none in
     let deeper = rw (short.text, inv.text, short.options, inv.options, there) at c.in_err-entry.ensures.deeper in
     let halt = err_from_is_err_and c.from_residual-in_err-entry.result c.from_residual-in_err-entry.ensures.1 in

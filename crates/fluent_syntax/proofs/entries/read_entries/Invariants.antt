@@ -6,8 +6,8 @@ use Rattle.fluent_syntax.specs.ReadEntries.{IsReadTo}
 use Rattle.fluent_syntax.proofs.entries.read_entries.Given as goal
 
 -- In a text that is one blank block nothing is read.
-abbrev pub invariant-loop-attributes : goal.invariant-loop-attributes
-invariant-loop-attributes g l = let t = g.S.Slice.text l.input in let options = l.fn.options in
+abbrev pub invariant-loop-parts : goal.invariant-loop-parts
+invariant-loop-parts g l = let t = g.S.Slice.text l.input in let options = l.fn.options in
     let deeper = TextDeeper options.edition t (TileIn options.comments options.edition t) options.nesting in record {
       text : l.entries.source.bytes.now ≡ t;
       options : l.entries.options ≡ l.fn.options;
@@ -16,5 +16,5 @@ invariant-loop-attributes g l = let t = g.S.Slice.text l.input in let options = 
       blank : BlankBlock t 0 (length t) → (l.entries.ptr ≡ 0) × (l.errors.items ≡ []);
     }
 
-abbrev pub decreases-loop-attributes : goal.decreases-loop-attributes
-decreases-loop-attributes g l = length (g.S.Slice.text l.input) - l.entries.ptr
+abbrev pub decreases-loop-parts : goal.decreases-loop-parts
+decreases-loop-parts g l = length (g.S.Slice.text l.input) - l.entries.ptr

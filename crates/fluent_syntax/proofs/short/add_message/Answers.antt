@@ -10,7 +10,7 @@ pub returns : goal.returns
 returns g c =
     let view = entry_view g.S.Slice.text in
     let before = c.args.body.now.items in
-    let made = c.in_ok-message_at.ensures
-    ∙ sym (short_map (bytes_at (g.S.Slice.text c.args.input.now)) c.args.short c.args.list.now.items) in
+    let made = rw c.deref.ensures.value at c.in_ok-message_of.ensures
+    ∙ sym (short_map (bytes_at (g.S.Slice.text c.args.input.now)) c.args.name c.args.parts.now.items) in
     ap (map view) c.in_ok-push.ensures.items
-    ∙ (map-append view before (Message c.in_ok-message_at.field-0 ∷ []) ∙ ap (λ e. map view before ++ e ∷ []) made)
+    ∙ (map-append view before (Message c.in_ok-message_of.field-0 ∷ []) ∙ ap (λ e. map view before ++ e ∷ []) made)

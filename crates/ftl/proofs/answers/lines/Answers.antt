@@ -4,8 +4,8 @@ use Rattle.ftl.proofs.Checked.{all_checked, checked_on, checked_past, if_some, n
 use Rattle.ftl.proofs.Checked.{of_none, of_value}
 use Rattle.ftl.proofs.answers.lines.Goals as goal
 
-pub loop-attributes-init : goal.loop-attributes-init
-loop-attributes-init c = record {
+pub loop-parts-init : goal.loop-parts-init
+loop-parts-init c = record {
   text = c.new-entries.ensures.text;
   edition = ap (λ options. options.edition) c.new-entries.ensures.options;
   comments = ap (λ options. options.comments) c.new-entries.ensures.options;
@@ -17,9 +17,9 @@ loop-attributes-init c = record {
 
 -- ---- a message that is read without a tree
 
-pub loop-attributes-preserved : goal.loop-attributes-preserved
-loop-attributes-preserved c =
-    let inv = c.loop-attributes.invariant in
+pub loop-parts-preserved : goal.loop-parts-preserved
+loop-parts-preserved c =
+    let inv = c.loop-parts.invariant in
     let here = c.in_ok-next_short.ensures in
     let next = rw (inv.text, inv.edition, inv.comments) at here.next in
     let message = of_value c.in_ok-next_short.field-0 c.if-is_none.ensures next in
@@ -40,7 +40,7 @@ loop-attributes-preserved c =
 pub write_error_of-requires : goal.write_error_of-requires
 write_error_of-requires c =
     let t = c.args.text.now in
-    let inv = c.loop-attributes.invariant in
+    let inv = c.loop-parts.invariant in
     let short = c.in_ok-next_short.ensures in
     let there = of_none c.in_ok-next_short.field-0 c.if-is_none.ensures short.none in
     let here = c.in_ok-read.ensures in
@@ -50,10 +50,10 @@ write_error_of-requires c =
     rw inv.places
     (if_some read.1 (next_in_text c.args.edition t _ _ inv.checked _ (tree_of read.0) read.1 next inside))
 
-pub loop-attributes-preserved-in_ok-write_error_of : goal.loop-attributes-preserved-in_ok-write_error_of
-loop-attributes-preserved-in_ok-write_error_of c =
+pub loop-parts-preserved-in_ok-write_error_of : goal.loop-parts-preserved-in_ok-write_error_of
+loop-parts-preserved-in_ok-write_error_of c =
     let t = c.args.text.now in
-    let inv = c.loop-attributes.invariant in
+    let inv = c.loop-parts.invariant in
     let short = c.in_ok-next_short.ensures in
     let there = of_none c.in_ok-next_short.field-0 c.if-is_none.ensures short.none in
     let here = c.in_ok-read.ensures in
@@ -87,7 +87,7 @@ loop-attributes-preserved-in_ok-write_error_of c =
 pub returns-in_default-clause-text : goal.returns-in_default-clause-text
 returns-in_default-clause-text c =
     let t = c.args.text.now in
-    let inv = c.loop-attributes.invariant in
+    let inv = c.loop-parts.invariant in
     let short = c.in_ok-next_short.ensures in
     let there = of_none c.in_ok-next_short.field-0 c.if-is_none.ensures short.none in
     let none = rw (short.text, inv.text, short.options, inv.edition, inv.comments, there, c.in_default.is)
