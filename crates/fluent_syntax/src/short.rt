@@ -1,5 +1,5 @@
 //! Messages whose patterns are each one line of texts and plain references, made of their spans.
-ghost use Rattle.std.specs.Prelude.{◌≡◌, ◌++◌, ◌∷◌, [], length, map, IfOk, OnOk};
+ghost use Rattle.std.specs.Prelude.{◌≡◌, ◌++◌, ◌∷◌, [], map, IfOk, OnOk};
 ghost use Rattle.fluent_syntax_parser.specs.ShortMessages.{leading_elements, short_attributes, short_element, short_message};
 ghost use Rattle.fluent_syntax_tree.specs.Entry.{entry_map, message};
 ghost use Rattle.fluent_syntax_tree.specs.Every.{attribute_every, element_every, entry_every, list_every, pattern_every};
@@ -7,7 +7,7 @@ ghost use Rattle.fluent_syntax_tree.specs.Spans.{IsPart, bytes_at};
 ghost use Rattle.fluent_syntax_tree.specs.Tree.{elements_of, inline, placeable};
 ghost use Rattle.fluent_syntax_tree.specs.View.{attribute_view, element_view, entry_view, inline_view, message_view, pattern_view};
 
-use fluent_syntax_parser::short::{ShortElement, ShortPart};
+use fluent_syntax_parser::short::{ShortElement, ShortPart, attribute_count, leading_count};
 use fluent_syntax_tree::ast::{
     Attribute, Entry, Expression, Identifier, InlineExpression, Message, Pattern, PatternElement,
 };
@@ -71,34 +71,6 @@ fn element_at<'s, S: Slice<'s>>(
     }
 }
 
-/// The number of elements before the first name of an attribute.
-fn leading(parts: &[ShortPart]) -> usize
-    ensures { result ≡ length (leading_elements (λ s. s) parts.now) }
-{
-    let mut count = 0;
-    let mut rest = parts;
-    while let Some((ShortPart::Element(_), behind)) = rest.split_first() {
-        count += 1;
-        rest = behind;
-    }
-    count
-}
-
-/// The number of attributes.
-fn names(parts: &[ShortPart]) -> usize
-    ensures { result ≡ length (short_attributes (λ s. s) parts.now) }
-{
-    let mut count = 0;
-    let mut rest = parts;
-    while let Some((part, behind)) = rest.split_first() {
-        if let ShortPart::Attribute(_) = part {
-            count += 1;
-        }
-        rest = behind;
-    }
-    count
-}
-
 /// The pattern of the elements before the first name of an attribute.
 fn pattern_of<'s, S: Slice<'s>>(
     alloc: Global,
@@ -109,7 +81,7 @@ fn pattern_of<'s, S: Slice<'s>>(
     ensures { IfOk result (λ made. pattern_view S.text made
         ≡ elements_of (leading_elements (bytes_at (S.text source.now)) parts.now)) }
 {
-    let mut elements = Vec::with_capacity(alloc, leading(parts))?;
+    let mut elements = Vec::with_capacity(alloc, leading_count(parts))?;
     let mut rest = parts;
     while let Some((part, behind)) = rest.split_first() {
         let ShortPart::Element(element) = part else {
@@ -150,7 +122,7 @@ fn attributes_of<'s, S: Slice<'s>>(
     ensures { IfOk result (λ made. map (attribute_view S.text) made.items
         ≡ short_attributes (bytes_at (S.text source.now)) parts.now) }
 {
-    let mut attributes = Vec::with_capacity(alloc, names(parts))?;
+    let mut attributes = Vec::with_capacity(alloc, attribute_count(parts))?;
     let mut rest = parts;
     while let Some((part, behind)) = rest.split_first() {
         if let ShortPart::Attribute(name) = part {

@@ -1,13 +1,14 @@
 //! Messages whose patterns are each one line of texts and plain references, as most are: their parts are read without a
 //! tree.
-ghost use Rattle.std.specs.Prelude.{◌<◌, ◌≤◌, ℕ, suc, length, IfOk, IfSome};
+ghost use Rattle.std.specs.Prelude.{◌≡◌, ◌<◌, ◌≤◌, ℕ, suc, length, IfOk, IfSome};
 ghost use Rattle.fluent_syntax_grammar.specs.Bytes.{full_stop};
 ghost use Rattle.fluent_syntax_grammar.specs.Construct.{Read};
 ghost use Rattle.fluent_syntax_grammar.specs.Entries.{message_entry};
 ghost use Rattle.fluent_syntax_grammar.specs.Nesting.{Deeper, in_message};
 ghost use Rattle.fluent_syntax_grammar.specs.Places.{InlineBlank};
 ghost use Rattle.fluent_syntax_grammar.specs.Words.{token};
-ghost use Rattle.fluent_syntax_parser.specs.ShortMessages.{ReadsAttribute, ReadsAttributes, short_message};
+ghost use Rattle.fluent_syntax_parser.specs.ShortMessages.{ReadsAttribute, ReadsAttributes, leading_elements};
+ghost use Rattle.fluent_syntax_parser.specs.ShortMessages.{short_attributes, short_message};
 
 use crate::source::Source;
 use fluent_syntax_tree::edition::Edition;
@@ -29,6 +30,34 @@ pub enum ShortElement {
 pub enum ShortPart {
     Element(ShortElement),
     Attribute(Span),
+}
+
+/// How many elements lead the parts, before the name of an attribute or the end.
+pub fn leading_count(parts: &[ShortPart]) -> usize
+    ensures { result ≡ length (leading_elements (λ s. s) parts.now) }
+{
+    let mut count = 0;
+    let mut rest = parts;
+    while let Some((ShortPart::Element(_), behind)) = rest.split_first() {
+        count += 1;
+        rest = behind;
+    }
+    count
+}
+
+/// How many attributes the parts hold.
+pub fn attribute_count(parts: &[ShortPart]) -> usize
+    ensures { result ≡ length (short_attributes (λ s. s) parts.now) }
+{
+    let mut count = 0;
+    let mut rest = parts;
+    while let Some((part, behind)) = rest.split_first() {
+        if let ShortPart::Attribute(_) = part {
+            count += 1;
+        }
+        rest = behind;
+    }
+    count
 }
 
 impl<'s> Source<'s> {

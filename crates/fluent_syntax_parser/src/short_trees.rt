@@ -7,7 +7,7 @@ ghost use Rattle.fluent_syntax_parser.specs.Rest.{tree_of};
 ghost use Rattle.fluent_syntax_parser.specs.ShortMessages.{leading_elements, pattern_if_any, short_attributes};
 ghost use Rattle.fluent_syntax_parser.specs.ShortMessages.{short_element, short_message};
 
-use crate::short::{ShortElement, ShortPart};
+use crate::short::{ShortElement, ShortPart, attribute_count, leading_count};
 use fluent_syntax_tree::ast::{
     Attribute, Entry, Expression, Identifier, InlineExpression, Message, Pattern, PatternElement,
 };
@@ -44,33 +44,6 @@ fn add_element(
         expression: Expression::Inline(reference),
     })?;
     Ok(())
-}
-
-/// How many elements lead.
-fn leading_count(parts: &[ShortPart]) -> usize
-    ensures { result ≡ length (leading_elements (λ s. s) parts.now) }
-{
-    let mut count = 0;
-    let mut rest = parts;
-    while let Some((ShortPart::Element(_), behind)) = rest.split_first() {
-        count += 1;
-        rest = behind;
-    }
-    count
-}
-
-fn attribute_count(parts: &[ShortPart]) -> usize
-    ensures { result ≡ length (short_attributes (λ s. s) parts.now) }
-{
-    let mut count = 0;
-    let mut rest = parts;
-    while let Some((part, behind)) = rest.split_first() {
-        if let ShortPart::Attribute(_) = part {
-            count += 1;
-        }
-        rest = behind;
-    }
-    count
 }
 
 /// The pattern of the elements that lead, and the parts behind them.

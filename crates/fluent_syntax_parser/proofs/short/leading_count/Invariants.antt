@@ -1,6 +1,6 @@
 use Rattle.std.proofs.Common.{◌≡◌, ◌+◌, ◌≤◌, length}
 use Rattle.fluent_syntax_parser.specs.ShortMessages.{leading_elements}
-use Rattle.fluent_syntax_parser.proofs.short_trees.leading_count.Given as goal
+use Rattle.fluent_syntax_parser.proofs.short.leading_count.Given as goal
 
 abbrev pub invariant-loop-behind : goal.invariant-loop-behind
 invariant-loop-behind l = record {

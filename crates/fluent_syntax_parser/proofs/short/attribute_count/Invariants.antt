@@ -1,6 +1,6 @@
 use Rattle.std.proofs.Common.{◌≡◌, ◌+◌, ◌≤◌, length}
 use Rattle.fluent_syntax_parser.specs.ShortMessages.{short_attributes}
-use Rattle.fluent_syntax_parser.proofs.short_trees.attribute_count.Given as goal
+use Rattle.fluent_syntax_parser.proofs.short.attribute_count.Given as goal
 
 abbrev pub invariant-loop-part : goal.invariant-loop-part
 invariant-loop-part l = record {
