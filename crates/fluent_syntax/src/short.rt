@@ -3,7 +3,8 @@ ghost use Rattle.std.specs.Prelude.{◌≡◌, ◌++◌, ◌∷◌, [], length, 
 ghost use Rattle.fluent_syntax_parser.specs.ShortMessages.{leading_elements, short_attributes, short_element};
 ghost use Rattle.fluent_syntax_parser.specs.ShortMessages.{short_message};
 ghost use Rattle.fluent_syntax_tree.specs.Entry.{entry_map, message};
-ghost use Rattle.fluent_syntax_tree.specs.Every.{attribute_every, element_every, entry_every, list_every, pattern_every};
+ghost use Rattle.fluent_syntax_tree.specs.Every.{attribute_every, element_every, entry_every, list_every};
+ghost use Rattle.fluent_syntax_tree.specs.Every.{pattern_every};
 ghost use Rattle.fluent_syntax_tree.specs.Spans.{IsPart, bytes_at};
 ghost use Rattle.fluent_syntax_tree.specs.Tree.{elements_of, inline, placeable};
 ghost use Rattle.fluent_syntax_tree.specs.View.{attribute_view, element_view, entry_view, inline_view};

@@ -17,7 +17,7 @@ use std::test::Fail;
 /// A text, the parts of its first entry, which is read without a tree, and the outline of the text.
 type Short = (&'static str, &'static str, &'static str);
 
-/// The parts of texts alone: the range of the name, those of the texts, and those of the attributes' names behind a `.`.
+/// Parts of texts alone: the range of the name, those of the texts, and those of the attributes' names behind a `.`.
 const TEXTS: [Short; 7] = [
     ("a = b\n", "0..1 4..5", "a = \"b\"\n"),
     ("  \n\na = b", "4..5 8..9", "a = \"b\"\n"),
