@@ -4,3 +4,4 @@ pub mod ReadEntriesLemmas
 pub mod ErrorLemmas
 pub mod SameAnswersLemmas
 pub mod RoundTripLemmas
+pub mod ShortTexts

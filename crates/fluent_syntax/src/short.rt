@@ -1,11 +1,14 @@
 //! Messages whose patterns are each one line of texts and plain references, made of their spans.
 ghost use Rattle.std.specs.Prelude.{◌≡◌, ◌++◌, ◌∷◌, [], map, IfOk, OnOk};
-ghost use Rattle.fluent_syntax_parser.specs.ShortMessages.{leading_elements, short_attributes, short_element, short_message};
+ghost use Rattle.fluent_syntax_parser.specs.ShortMessages.{leading_elements, short_attributes, short_element};
+ghost use Rattle.fluent_syntax_parser.specs.ShortMessages.{short_message};
 ghost use Rattle.fluent_syntax_tree.specs.Entry.{entry_map, message};
-ghost use Rattle.fluent_syntax_tree.specs.Every.{attribute_every, element_every, entry_every, list_every, pattern_every};
+ghost use Rattle.fluent_syntax_tree.specs.Every.{attribute_every, element_every, entry_every, list_every};
+ghost use Rattle.fluent_syntax_tree.specs.Every.{pattern_every};
 ghost use Rattle.fluent_syntax_tree.specs.Spans.{IsPart, bytes_at};
 ghost use Rattle.fluent_syntax_tree.specs.Tree.{elements_of, inline, placeable};
-ghost use Rattle.fluent_syntax_tree.specs.View.{attribute_view, element_view, entry_view, inline_view, message_view, pattern_view};
+ghost use Rattle.fluent_syntax_tree.specs.View.{attribute_view, element_view, entry_view, inline_view};
+ghost use Rattle.fluent_syntax_tree.specs.View.{message_view, pattern_view};
 
 use fluent_syntax_parser::short::{ShortElement, ShortPart, attribute_count, leading_count};
 use fluent_syntax_tree::ast::{
@@ -28,45 +31,61 @@ fn name_at<'s, S: Slice<'s>>(
     Ok(Identifier { name })
 }
 
-/// The placeable of a reference.
-fn placeable_of<'s, S: Slice<'s>>(reference: InlineExpression<S>) -> PatternElement<S>
-    ensures { element_view S.text result ≡ placeable (inline (inline_view S.text reference)) }
+/// Adds the placeable of a reference.
+fn add_reference<'s, S: Slice<'s>>(
+    elements: &mut Vec<PatternElement<S>>,
+    reference: InlineExpression<S>,
+) -> Result<(), AllocError>
+    ensures { OnOk result (map (element_view S.text) elements.new.items
+        ≡ map (element_view S.text) elements.old.items ++ placeable (inline (inline_view S.text reference)) ∷ []) }
 {
     let expression = Expression::Inline(reference);
-    PatternElement::Placeable { expression }
+    elements.push(PatternElement::Placeable { expression })?;
+    Ok(())
 }
 
-/// The element, with its text.
-fn element_at<'s, S: Slice<'s>>(
+/// Adds the element, with its text.
+fn add_element<'s, S: Slice<'s>>(
     alloc: Global,
     source: &S,
+    elements: &mut Vec<PatternElement<S>>,
     element: ShortElement,
-) -> Result<PatternElement<S>, AllocError>
+) -> Result<(), AllocError>
     requires { element_every (IsPart (S.text source.now)) (short_element (λ s. s) element) }
-    ensures { IfOk result
-        (λ made. element_view S.text made ≡ short_element (bytes_at (S.text source.now)) element) }
+    ensures { OnOk result (map (element_view S.text) elements.new.items
+        ≡ map (element_view S.text) elements.old.items ++ short_element (bytes_at (S.text source.now)) element ∷ []) }
 {
     match element {
         ShortElement::Text(span) => {
             let value = source.slice(alloc, span.start..span.end)?;
-            Ok(PatternElement::TextElement { value })
+            // made where it is added: an element is much larger than its text
+            elements.push(PatternElement::TextElement { value })?;
+            Ok(())
         }
         ShortElement::Variable(span) => {
             let id = name_at(alloc, source, span)?;
-            Ok(placeable_of(InlineExpression::VariableReference { id }))
+            add_reference(elements, InlineExpression::VariableReference { id })
         }
         ShortElement::Message(span) => {
             let id = name_at(alloc, source, span)?;
             let attribute = None;
-            Ok(placeable_of(InlineExpression::MessageReference { id, attribute }))
+            add_reference(
+                elements,
+                InlineExpression::MessageReference { id, attribute },
+            )
         }
         ShortElement::Term(span) => {
             let id = name_at(alloc, source, span)?;
-            Ok(placeable_of(InlineExpression::TermReference {
-                id,
-                attribute: None,
-                arguments: None,
-            }))
+            let attribute = None;
+            let arguments = None;
+            add_reference(
+                elements,
+                InlineExpression::TermReference {
+                    id,
+                    attribute,
+                    arguments,
+                },
+            )
         }
     }
 }
@@ -87,7 +106,7 @@ fn pattern_of<'s, S: Slice<'s>>(
         let ShortPart::Element(element) = part else {
             break;
         };
-        elements.push(element_at(alloc, source, *element)?)?;
+        add_element(alloc, source, &mut elements, *element)?;
         rest = behind;
     }
     Ok(Pattern { elements })

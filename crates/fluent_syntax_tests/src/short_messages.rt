@@ -1,79 +1,341 @@
-//! Messages that are read without a tree: which are, and with how many attributes.
+//! Messages that are read without a tree: which are, and with which parts; and the trees of all.
 
-use crate::alike::same;
+use crate::alike::{holds, same_text};
+use crate::outline::{has_outline, outlined};
+use fluent_syntax::ast::Resource;
+use fluent_syntax::parser::{TooDeep, parse, parse_within};
+use fluent_syntax::spans::{parse_spans, resolve};
 use fluent_syntax_parser::entries::Entries;
 use fluent_syntax_parser::options::{Comments, Options};
-use fluent_syntax_parser::short::ShortMessage;
+use fluent_syntax_parser::short::{ShortElement, ShortPart};
 use fluent_syntax_tree::edition::Edition;
-use std::alloc::Global;
+use fluent_syntax_tree::spans::Span;
+use std::alloc::{AllocError, Global};
+use std::fmt::Write;
 use std::test::Fail;
 
-/// A text, and how many attributes its first entry has, if it is read so.
-type Row = (&'static str, Option<usize>);
+/// A text, the parts of its first entry, which is read without a tree, and the outline of the text.
+type Short = (&'static str, &'static str, &'static str);
 
-const ROWS: [Row; 18] = [
-    ("a = b\n", Some(0)),
-    ("  \n\na = b", Some(0)),
-    ("a = b\n\n  \nc = d\n", Some(0)),
-    ("a = b\r\n\r\n", Some(0)),
-    ("a = b\r\n    .c = d\r\n", Some(1)),
-    ("a =\n    .b = c\n    .d = e\nf = g\n", Some(2)),
-    ("a = b\n\n    .c = d\n\n# e\n", Some(1)),
-    ("", None),
-    ("a =\n", None),
-    ("a b\n", None),
-    ("-a = b\n", None),
-    ("# a\nb = c\n", None),
-    ("a = {b}\n", None),
-    ("a = b\n c\n", None),
-    ("a = b\n\n c\n", None),
-    ("a = }\n", None),
-    ("a = b\n    .c = {d}\n", None),
-    ("a = b\n    .c\n", None),
+/// Parts of texts alone: the range of the name, those of the texts, and those of the attributes' names behind a `.`.
+const TEXTS: [Short; 7] = [
+    ("a = b\n", "0..1 4..5", "a = \"b\"\n"),
+    ("  \n\na = b", "4..5 8..9", "a = \"b\"\n"),
+    (
+        "a = b\n\n  \nc = d\n",
+        "0..1 4..5",
+        "a = \"b\"\nc = \"d\"\n",
+    ),
+    ("a = b\r\n\r\n", "0..1 4..5", "a = \"b\"\n"),
+    (
+        "a = b\r\n    .c = d\r\n",
+        "0..1 4..5 .12..13 16..17",
+        "a = \"b\" | .c = \"d\"\n",
+    ),
+    (
+        "a =\n    .b = c\n    .d = e\nf = g\n",
+        "0..1 .9..10 13..14 .20..21 24..25",
+        "a = | .b = \"c\" | .d = \"e\"\nf = \"g\"\n",
+    ),
+    (
+        "a = b\n\n    .c = d\n\n# e\n",
+        "0..1 4..5 .12..13 16..17",
+        "a = \"b\" | .c = \"d\"\n# \"e\"\n",
+    ),
 ];
 
-fn kept() -> Options {
+/// The same with references, by their names behind a `$`, a `-`, or an `@` for a message.
+const REFERENCES: [Short; 21] = [
+    ("a = {b}\n", "0..1 @5..6", "a = {b}\n"),
+    ("a = {$b}\n", "0..1 $6..7", "a = {$b}\n"),
+    ("a = {-b}", "0..1 -6..7", "a = {-b}\n"),
+    (
+        "a = b {$c} d\n",
+        "0..1 4..6 $8..9 10..12",
+        "a = \"b \" {$c} \" d\"\n",
+    ),
+    (
+        "a = b{-c}d{e}f\n",
+        "0..1 4..5 -7..8 9..10 @11..12 13..14",
+        "a = \"b\" {-c} \"d\" {e} \"f\"\n",
+    ),
+    ("a = {$b} c\r\n", "0..1 $6..7 8..10", "a = {$b} \" c\"\n"),
+    ("a = b {c}\n", "0..1 4..6 @7..8", "a = \"b \" {c}\n"),
+    ("a = {$b}{-c}\n", "0..1 $6..7 -10..11", "a = {$b} {-c}\n"),
+    (
+        "a = {b} {$c}\n",
+        "0..1 @5..6 7..8 $10..11",
+        "a = {b} \" \" {$c}\n",
+    ),
+    ("a ={B-1_c}\n", "0..1 @4..9", "a = {B-1_c}\n"),
+    // what stands behind the last placeable is blank
+    (
+        "a = {$b}   \nc = d\n",
+        "0..1 $6..7",
+        "a = {$b}\nc = \"d\"\n",
+    ),
+    ("a = { $b } \r\n", "0..1 $7..8", "a = {$b}\n"),
+    ("a = { -b }  ", "0..1 -7..8", "a = {-b}\n"),
+    ("a = {b}\n\n  \n", "0..1 @5..6", "a = {b}\n"),
+    // blanks and line ends in the braces
+    (
+        "a = {\n  $b\r\n\n}c\n",
+        "0..1 $9..10 14..15",
+        "a = {$b} \"c\"\n",
+    ),
+    ("a = {  b\n  }\n", "0..1 @7..8", "a = {b}\n"),
+    (
+        "a = b { \n -c\n} d\n",
+        "0..1 4..6 -11..12 14..16",
+        "a = \"b \" {-c} \" d\"\n",
+    ),
+    // in attributes
+    (
+        "a = b\n    .c = {d}\n",
+        "0..1 4..5 .11..12 @16..17",
+        "a = \"b\" | .c = {d}\n",
+    ),
+    (
+        "a = {$b}\n    .c = {$d}\n",
+        "0..1 $6..7 .14..15 $20..21",
+        "a = {$b} | .c = {$d}\n",
+    ),
+    (
+        "a =\n    .b = c {$d}\n    .e = {-f} {g}\n",
+        "0..1 .9..10 13..15 $17..18 .25..26 -31..32 33..34 @35..36",
+        "a = | .b = \"c \" {$d} | .e = {-f} \" \" {g}\n",
+    ),
+    (
+        "a = {b}\n    .c = { $d }  \n    .e = f { g }h \n",
+        "0..1 @5..6 .13..14 $20..21 .31..32 35..37 @39..40 42..43",
+        "a = {b} | .c = {$d} | .e = \"f \" {g} \"h\"\n",
+    ),
+];
+
+/// A text whose first entry is read with a tree, and the outline of the text.
+type Other = (&'static str, &'static str);
+
+const OTHERS: [Other; 21] = [
+    ("", ""),
+    ("-a = b\n", "-a = \"b\"\n"),
+    ("# a\nb = c\n", "b = \"c\" | # \"a\"\n"),
+    ("a = b\n c\n", "a = \"b\\n\" \"c\"\n"),
+    ("a = b\n\n c\n", "a = \"b\\n\" \"\\n\" \"c\"\n"),
+    ("a = {$b}\n c\n", "a = {$b} \"\\n\" \"c\"\n"),
+    ("a = b\n {$c}\n", "a = \"b\\n\" {$c}\n"),
+    ("a =\n    {b}\n", "a = {b}\n"),
+    ("a = { $b ->\n   *[c] d\n}\n", "a = {$b -> *[c] \"d\"}\n"),
+    ("a = {F()}\n", "a = {F()}\n"),
+    ("a = {F ($b)}\n", "a = {F($b;)}\n"),
+    ("a = {-b()}\n", "a = {-b()}\n"),
+    ("a = {-b(c: 1)}\n", "a = {-b(c: number 1;)}\n"),
+    ("a = {b.c}\n", "a = {b.c}\n"),
+    ("a = {\"b\"}\n", "a = {string \"b\"}\n"),
+    ("a = {1}\n", "a = {number 1}\n"),
+    ("a = {-1}\n", "a = {number -1}\n"),
+    ("a = {{b}}\n", "a = {{b}}\n"),
+    ("a = {$b} {{ $c }}\n", "a = {$b} \" \" {{$c}}\n"),
+    ("a = b\n    .c = {d.e}\n", "a = \"b\" | .c = {d.e}\n"),
+    (
+        "a = {$b}\n    .c = d\n e\n",
+        "a = {$b} | .c = \"d\\n\" \"e\"\n",
+    ),
+];
+
+/// Texts whose first entry is refused.
+const REFUSED: [&'static str; 11] = [
+    "a =\n",
+    "a b\n",
+    "a = }\n",
+    "a = b }\n",
+    "a = {$b} }\n",
+    "a = {\n",
+    "a = {}\n",
+    "a = {$}\n",
+    "a = {$b\n",
+    "a = {-b.c}\n",
+    "a = b\n    .c\n",
+];
+
+fn within(nesting: usize) -> Options {
     Options {
         edition: Edition::One,
         comments: Comments::Kept,
-        nesting: 0,
+        nesting,
     }
 }
 
-fn is_read(alloc: Global, row: &Row) -> Result<(), Fail> {
-    let (text, expected) = row;
-    let mut attributes = Vec::new(alloc);
-    let found = Entries::new(*text, kept()).next_short(&mut attributes)?;
-    let count = found.map(|_| attributes.len());
-    same(alloc, *text, &count, expected)
+fn show_range(out: &mut String, mark: &str, range: Span) -> Result<(), AllocError> {
+    let Span { start, end } = range;
+    write!(out, " {mark}{start}..{end}")
+}
+
+fn show_part(out: &mut String, part: &ShortPart) -> Result<(), AllocError> {
+    match part {
+        ShortPart::Element(ShortElement::Text(range)) => show_range(out, "", *range),
+        ShortPart::Element(ShortElement::Variable(range)) => show_range(out, "$", *range),
+        ShortPart::Element(ShortElement::Message(range)) => show_range(out, "@", *range),
+        ShortPart::Element(ShortElement::Term(range)) => show_range(out, "-", *range),
+        ShortPart::Attribute(range) => show_range(out, ".", *range),
+    }
+}
+
+fn shown(alloc: Global, name: Span, parts: &Vec<ShortPart>) -> Result<String, AllocError> {
+    let Span { start, end } = name;
+    let mut out = format!(in alloc; "{start}..{end}")?;
+    for part in parts {
+        show_part(&mut out, part)?;
+    }
+    Ok(out)
+}
+
+/// What is read next without a tree; `none` where nothing is.
+fn next_shown(
+    alloc: Global,
+    entries: &mut Entries<'_>,
+    parts: &mut Vec<ShortPart>,
+) -> Result<String, AllocError> {
+    match entries.next_short(parts)? {
+        Some(name) => shown(alloc, name, parts),
+        None => String::from_str(alloc, "none"),
+    }
+}
+
+/// Fails where what is read first by the bound is another.
+fn is_first(alloc: Global, text: &str, nesting: usize, expected: &str) -> Result<(), Fail> {
+    let mut parts = Vec::new(alloc);
+    let found = next_shown(alloc, &mut Entries::new(text, within(nesting)), &mut parts)?;
+    same_text(alloc, text, found.as_str(), expected)
+}
+
+fn has_parts(alloc: Global, row: &Short) -> Result<(), Fail> {
+    is_first(alloc, row.0, 1, row.1)
 }
 
 #[test]
-fn read_without_a_tree(rt: HostRuntime) -> Result<(), Fail> {
-    for row in &ROWS {
-        is_read(rt.alloc(), row)?;
+fn texts(rt: HostRuntime) -> Result<(), Fail> {
+    for row in &TEXTS {
+        has_parts(rt.alloc(), row)?;
     }
     Ok(())
 }
 
-/// The place of the name and that of the value.
-fn places(message: ShortMessage) -> (usize, usize, Option<usize>) {
-    let value = message.value.map(|span| span.end);
-    (message.name.start, message.name.end, value)
+#[test]
+fn references(rt: HostRuntime) -> Result<(), Fail> {
+    for row in &REFERENCES {
+        has_parts(rt.alloc(), row)?;
+    }
+    Ok(())
+}
+
+#[test]
+fn with_a_tree(rt: HostRuntime) -> Result<(), Fail> {
+    for row in &OTHERS {
+        is_first(rt.alloc(), row.0, 3, "none")?;
+    }
+    Ok(())
+}
+
+#[test]
+fn refused(rt: HostRuntime) -> Result<(), Fail> {
+    for text in &REFUSED {
+        is_first(rt.alloc(), *text, 3, "none")?;
+    }
+    Ok(())
+}
+
+/// The tree of the text by its spans, of which each is read with a tree.
+fn put_back(alloc: Global, text: &'static str) -> Result<Resource<&'static str>, Fail> {
+    let Ok(spans) = parse_spans(alloc, text) else {
+        return Err("a text without errors was refused".into());
+    };
+    Ok(resolve(alloc, &text, &spans)?)
+}
+
+fn has_tree(alloc: Global, text: &'static str, outline: &str) -> Result<(), Fail> {
+    has_outline(alloc, text, &parse(alloc, text), outline)?;
+    let owned = String::from_str(alloc, text)?;
+    has_outline(alloc, text, &parse(alloc, owned), outline)?;
+    has_outline(alloc, text, &Ok(put_back(alloc, text)?), outline)
+}
+
+#[test]
+fn trees(rt: HostRuntime) -> Result<(), Fail> {
+    for row in &TEXTS {
+        has_tree(rt.alloc(), row.0, row.2)?;
+    }
+    for row in &REFERENCES {
+        has_tree(rt.alloc(), row.0, row.2)?;
+    }
+    for row in &OTHERS {
+        has_tree(rt.alloc(), row.0, row.1)?;
+    }
+    Ok(())
+}
+
+/// Fails where a bound of 1 changes what is read.
+fn nests_once(alloc: Global, text: &'static str) -> Result<(), Fail> {
+    let Ok(answer) = parse_within(alloc, text, Edition::One, 1) else {
+        return Err("a placeable was too deep".into());
+    };
+    let unbounded = outlined(alloc, &parse(alloc, text))?;
+    has_outline(alloc, text, &answer, unbounded.as_str())
+}
+
+/// A reference nests once: without a tree it is read by the same bounds as with one.
+fn is_bounded(alloc: Global, row: &Short) -> Result<(), Fail> {
+    let text = row.0;
+    is_first(alloc, text, 0, "none")?;
+    let is_refused = parse_within(alloc, text, Edition::One, 0) == Err(TooDeep);
+    holds(alloc, text, is_refused)?;
+    nests_once(alloc, text)
+}
+
+#[test]
+fn bounds(rt: HostRuntime) -> Result<(), Fail> {
+    for row in &TEXTS {
+        is_first(rt.alloc(), row.0, 0, row.1)?;
+    }
+    for row in &REFERENCES {
+        is_bounded(rt.alloc(), row)?;
+    }
+    Ok(())
 }
 
 #[test]
 fn one_behind_another(rt: HostRuntime) -> Result<(), Fail> {
     let alloc = rt.alloc();
-    let mut attributes = Vec::new(alloc);
-    let mut entries = Entries::new("a = b \n    .c = d\n-e = f\ng = h\n", kept());
-    let first = entries.next_short(&mut attributes)?.map(places);
-    same(alloc, "the first", &first, &Some((0, 1, Some(5))))?;
-    let none = entries.next_short(&mut attributes)?.map(places);
-    same(alloc, "a term", &none, &None)?;
-    let term = entries.next_entry(alloc);
-    same(alloc, "the term", &term.is_ok(), &true)?;
-    let last = entries.next_short(&mut attributes)?.map(places);
-    same(alloc, "the last", &last, &Some((25, 26, Some(30))))?;
-    same(alloc, "its attributes", &attributes.len(), &0)
+    let mut parts = Vec::new(alloc);
+    let mut entries = Entries::new("a = b \n    .c = d\n-e = f\ng = h\n", within(0));
+    let first = next_shown(alloc, &mut entries, &mut parts)?;
+    same_text(
+        alloc,
+        "the first",
+        first.as_str(),
+        "0..1 4..5 .12..13 16..17",
+    )?;
+    let none = next_shown(alloc, &mut entries, &mut parts)?;
+    same_text(alloc, "a term", none.as_str(), "none")?;
+    holds(alloc, "the term", entries.next_entry(alloc).is_ok())?;
+    let last = next_shown(alloc, &mut entries, &mut parts)?;
+    same_text(alloc, "the last", last.as_str(), "25..26 29..30")
+}
+
+#[test]
+fn placeables_behind_another(rt: HostRuntime) -> Result<(), Fail> {
+    let alloc = rt.alloc();
+    let mut parts = Vec::new(alloc);
+    let mut entries = Entries::new("a = {b} c {F()}\nd = {$e}f\ng = h\n", within(2));
+    let call = next_shown(alloc, &mut entries, &mut parts)?;
+    same_text(alloc, "a call", call.as_str(), "none")?;
+    holds(alloc, "the call", entries.next_entry(alloc).is_ok())?;
+    let second = next_shown(alloc, &mut entries, &mut parts)?;
+    same_text(
+        alloc,
+        "the second",
+        second.as_str(),
+        "16..17 $22..23 24..25",
+    )?;
+    let last = next_shown(alloc, &mut entries, &mut parts)?;
+    same_text(alloc, "the last", last.as_str(), "26..27 30..31")
 }
