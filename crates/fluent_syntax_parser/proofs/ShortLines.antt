@@ -1,14 +1,11 @@
 -- Patterns of one line of texts and plain references.
-use Rattle.std.proofs.Common.{◌≡◌, ℕ, zero, suc, ◌<◌, List, [], ◌∷◌, ◌++◌, length, map, get_or, None, Bool, true}
+use Rattle.std.proofs.Common.{◌≡◌, ℕ, suc, ◌<◌, List, [], ◌∷◌, ◌++◌, map, None, true}
 use Rattle.std.proofs.Common.{false, refl, sym, ap, append_assoc, arith, inl, inr, subst}
-use Rattle.std.specs.Prelude.{slice_range, ◌==◌, ◌||◌, not, if◌then◌else◌}
-use Rattle.std.proofs.lemmas.Bool.Decides.{nat_tests}
+use Rattle.std.specs.Prelude.{slice_range}
 use Rattle.std.proofs.lemmas.List.{map-append}
-use Rattle.fluent_syntax_tree.specs.Text.{is_trimmed, trimmed_len_below}
 use Rattle.fluent_syntax_tree.specs.Tree.{ElementTree, ExpressionTree, placeable, text_element}
 use Rattle.fluent_syntax_tree.specs.declared.edition.Edition.{Edition}
 use Rattle.fluent_syntax_tree.specs.declared.spans.Span.{Span}
-use Rattle.fluent_syntax_grammar.specs.Bytes.{lf, is_space}
 use Rattle.fluent_syntax_grammar.specs.Construct.{Read}
 use Rattle.fluent_syntax_grammar.specs.Elements.{Item, filled, text, cut, if_any, is_nonblank, spelled, trimmed_end}
 use Rattle.fluent_syntax_grammar.specs.Elements.{with_ending}
@@ -19,7 +16,6 @@ use Rattle.fluent_syntax_grammar.specs.Lines.{is_run_place}
 use Rattle.fluent_syntax_grammar.specs.Nesting.{Deeper, in_layout, in_lines, in_pieces}
 use Rattle.fluent_syntax_grammar.specs.Places.{InlineBlank, Stretch, after_eol}
 use Rattle.fluent_syntax_grammar.proofs.Shallow.{pattern_led, run_led}
-use Rattle.fluent_syntax_grammar.proofs.Facts.{lt_or_same}
 use Rattle.fluent_syntax_parser.proofs.ShortPieces.{more_items}
 use Rattle.fluent_syntax_parser.proofs.ShortPatterns.{line_ended, opening_flat, opening_read, run_before}
 use Rattle.fluent_syntax_parser.specs.ShortMessages.{pattern_if_any, short_element}
@@ -29,45 +25,6 @@ use Rattle.fluent_syntax_parser.specs.declared.short.ShortElement.{ShortElement}
 use Rattle.fluent_syntax_parser.specs.declared.short.ShortElement.TheVariants.{Text, Variable, Message, Term}
 use Rattle.fluent_syntax_parser.specs.declared.short.ShortPart.{ShortPart}
 use Rattle.fluent_syntax_parser.specs.declared.short.ShortPart.TheVariants.{Element}
-
--- ---- a text with a byte that is not trimmed is nonblank
-
-abbrev Untrimmed : List ℕ → ℕ → Type 0
-Untrimmed bs n = (k : ℕ) × (k < n) × (is_trimmed (get_or bs k 0) ≡ false)
-
-untrimmed_last : (bs : List ℕ) (n : ℕ) (b : Bool) → is_trimmed (get_or bs n 0) ≡ b →
-    (0 < trimmed_len_below bs n → Untrimmed bs n) → 0 < (if b then trimmed_len_below bs n else suc n) →
-    Untrimmed bs (suc n)
-untrimmed_last bs n true e before some =
-    let found = before some in (found.0, (let l = found.1 in omega (arith, l)), found.2)
-untrimmed_last bs n false e before some = (n, omega arith, e)
-
-untrimmed : (bs : List ℕ) (n : ℕ) → 0 < trimmed_len_below bs n → Untrimmed bs n
-untrimmed bs zero some = absurd (omega (arith, some))
-untrimmed bs (suc n) some = untrimmed_last bs n (is_trimmed (get_or bs n 0)) refl (untrimmed bs n) some
-
-no_space_untrimmed : (b : ℕ) → is_trimmed b ≡ false → not (is_space b) ≡ true
-no_space_untrimmed b e = grind (arith, nat_tests)
-
-no_lf_untrimmed : (b : ℕ) → is_trimmed b ≡ false → (b == lf) ≡ false
-no_lf_untrimmed b e = grind (arith, nat_tests)
-
-or_true : (a b : Bool) → b ≡ true → (a || b) ≡ true
-or_true true b e = refl
-or_true false b e = e
-
-nonblank_at : (bs : List ℕ) (k : ℕ) → k < length bs → is_trimmed (get_or bs k 0) ≡ false → is_nonblank bs ≡ true
-nonblank_at [] k l e = absurd (omega (arith, l))
-nonblank_at (b ∷ []) zero l e = rw (no_lf_untrimmed b e, no_space_untrimmed b e) refl
-nonblank_at (b ∷ []) (suc k) l e = absurd (omega (arith, l))
-nonblank_at (b ∷ c ∷ bs) zero l e = rw (no_space_untrimmed b e) refl
-nonblank_at (b ∷ c ∷ bs) (suc k) l e = or_true _ _ (nonblank_at (c ∷ bs) k (omega (arith, l)) e)
-
-pub trimmed_nonblank : (t : List ℕ) (i j : ℕ) → i < trimmed_end t i j → is_nonblank (slice_range t i j) ≡ true
-trimmed_nonblank t i j some =
-    let bs = slice_range t i j in
-    let found = untrimmed bs (length bs) (omega (arith, some)) in
-    nonblank_at bs found.0 found.1 found.2
 
 -- ---- elements before the last of a line
 
@@ -110,6 +67,24 @@ placed_element (Variable s) e same = cc
 placed_element (Message s) e same = cc
 placed_element (Term s) e same = cc
 
+-- where nothing stays behind a placeable
+spelled_placed : (t : List ℕ) (es : List ShortElement) → EndsPlaced es → (ps : List Piece) (e : Ending) →
+    cut t (with_ending ps e) ≡ [] →
+    spelled t (cut t (with_ending (map short_piece es ++ ps) e)) ≡ map (short_element (λ s. s)) es
+spelled_placed t es (inl none) ps e nothing = rw (none, nothing) refl
+spelled_placed t es (inr (before, x, expression, is, is_placed)) ps e nothing =
+    let stays : cut t (with_ending (placed expression ∷ ps) e) ≡ filled expression ∷ [] = rw nothing refl in
+    rw (
+      is,
+      map-append short_piece before (x ∷ []),
+      is_placed,
+      append_assoc (map short_piece before) (placed expression ∷ []) ps,
+      spelled_line t before (placed expression) ps e (filled expression) [] stays,
+      map-append (short_element (λ s. s)) before (x ∷ []),
+      placed_element x expression is_placed,
+    )
+    refl
+
 same_if_any : (es : List (ElementTree Span)) → if_any es ≡ pattern_if_any es
 same_if_any [] = refl
 same_if_any (e ∷ es) = refl
@@ -131,12 +106,12 @@ module _ (edition : Edition) (t : List ℕ) (start : ℕ) (opens : after_eol t s
 
     -- with a text behind them
     text_read : (ptr : ℕ) → InlineBlank t ptr start → EndsBlank edition t next end →
-        place < trimmed_end t place stop →
+        is_nonblank (slice_range t place stop) ≡ true →
         pattern edition t ptr (Read (pattern_if_any (elements ++
         text_element (record { start = place; end = trimmed_end t place stop }) ∷ [])) end)
-    text_read ptr blank lines untrimmed =
+    text_read ptr blank lines nonblank =
         let ended = line_ended edition t to stop next line in
-        let stays = ended.text_stays place (trimmed_nonblank t place stop untrimmed) in
+        let stays = ended.text_stays place nonblank in
         let read = opening_read edition t start opens _ to text_pieces ended.ends_by next ended.ends ptr end blank lines in
         let same = spelled_line t g.elements (run' place to) [] ended.ends_by _ [] stays in
         let f = rw (same, same_if_any (elements ++ spelled t (text place stop ∷ []))) at read in f
@@ -149,23 +124,39 @@ module _ (edition : Edition) (t : List ℕ) (start : ℕ) (opens : after_eol t s
 
     pub text_reads : (ptr trimmed : ℕ) (longer : List ShortPart) → InlineBlank t ptr start →
         EndsBlank edition t next end → ((n : ℕ) → Deeper edition t in_lines n next → ⊥) →
-        trimmed ≡ trimmed_end t place stop → (trimmed ≡ place → ⊥) →
+        trimmed ≡ trimmed_end t place stop → is_nonblank (slice_range t place stop) ≡ true →
         longer ≡ new ++ Element (Text (record { start = place; end = trimmed })) ∷ [] →
         ReadsShort edition t old ptr longer end
-    text_reads ptr trimmed longer blank lines shallow is some_text items =
+    text_reads ptr trimmed longer blank lines shallow is nonblank items =
         let last : ShortElement = Text (record { start = place; end = trimmed }) in
-        let untrimmed : place < trimmed_end t place stop = elim (lt_or_same place trimmed (omega (arith, is))) [
-          | inl l ↦ omega (arith, l, is)
-          | inr e ↦ absurd (some_text (sym e))
-        ] in
         record {
           elements = g.elements ++ last ∷ [];
           items = more_items old new longer g.elements last g.items items;
           read =
               rw (map-append (short_element (λ s. s)) g.elements (last ∷ []), is)
-              (text_read ptr blank lines untrimmed);
+              (text_read ptr blank lines nonblank);
           flat = λ n d. text_flat n (shallow (suc n)) (pattern_led edition t start blank d);
         }
+
+    -- with spaces behind them
+    blank_read : (ptr : ℕ) → InlineBlank t ptr start → EndsBlank edition t next end →
+        is_nonblank (slice_range t place stop) ≡ false →
+        pattern edition t ptr (Read (pattern_if_any elements) end)
+    blank_read ptr blank lines falls =
+        let ended = line_ended edition t to stop next line in
+        let read = opening_read edition t start opens _ to text_pieces ended.ends_by next ended.ends ptr end blank lines in
+        let same = spelled_placed t g.elements g.ends (run' place to ∷ []) ended.ends_by (ended.text_falls place falls) in
+        let f = rw (same, same_if_any elements) at read in f
+
+    pub blank_reads : (ptr : ℕ) → InlineBlank t ptr start → EndsBlank edition t next end →
+        ((n : ℕ) → Deeper edition t in_lines n next → ⊥) → is_nonblank (slice_range t place stop) ≡ false →
+        ReadsShort edition t old ptr new end
+    blank_reads ptr blank lines shallow falls = record {
+      elements = g.elements;
+      items = g.items;
+      read = blank_read ptr blank lines falls;
+      flat = λ n d. text_flat n (shallow (suc n)) (pattern_led edition t start blank d);
+    }
 
   module _ (same : place ≡ to) where
     placed_pieces : R.more_pieces start (Read (map short_piece g.elements ++ []) to)
@@ -173,29 +164,13 @@ module _ (edition : Edition) (t : List ℕ) (start : ℕ) (opens : after_eol t s
         g.read edition [] to
         (subst (λ k. R.more_pieces k (Read [] to)) (sym same) (line_ended edition t to stop next line).pieces)
 
-    spelled_placed : (es : List ShortElement) → EndsPlaced es → (e : Ending) → cut t (with_ending [] e) ≡ [] →
-        spelled t (cut t (with_ending (map short_piece es ++ []) e)) ≡ map (short_element (λ s. s)) es
-    spelled_placed es (inl none) e nothing = rw (none, nothing) refl
-    spelled_placed es (inr (before, x, expression, is, is_placed)) e nothing =
-        let stays : cut t (with_ending (placed expression ∷ []) e) ≡ filled expression ∷ [] = rw nothing refl in
-        rw (
-          is,
-          map-append short_piece before (x ∷ []),
-          is_placed,
-          append_assoc (map short_piece before) (placed expression ∷ []) [],
-          spelled_line t before (placed expression) [] e (filled expression) [] stays,
-          map-append (short_element (λ s. s)) before (x ∷ []),
-          placed_element x expression is_placed,
-        )
-        refl
-
     -- with nothing behind them
     placed_read : (ptr : ℕ) → InlineBlank t ptr start → EndsBlank edition t next end →
         pattern edition t ptr (Read (pattern_if_any elements) end)
     placed_read ptr blank lines =
         let ended = line_ended edition t to stop next line in
         let read = opening_read edition t start opens _ to placed_pieces ended.ends_by next ended.ends ptr end blank lines in
-        let f = rw (spelled_placed g.elements g.ends ended.ends_by ended.none_stays, same_if_any elements) at read in f
+        let f = rw (spelled_placed t g.elements g.ends [] ended.ends_by ended.none_stays, same_if_any elements) at read in f
 
     placed_flat : (n : ℕ) → (Deeper edition t in_lines (suc n) next → ⊥) →
         Deeper edition t in_layout (suc n) start → ⊥

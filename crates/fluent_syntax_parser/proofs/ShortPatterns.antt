@@ -89,13 +89,15 @@ module _ (edition : Edition) (t : List ℕ) where
 
   -- ---- a line that ends
 
-  -- It ends so, nothing but that follows there, and of its last items a text from some place stays, if it is nonblank.
+  -- It ends so, nothing but that follows there, and of its last items a text from some place stays just if it is nonblank.
   pub record EndedLine (to stop next : ℕ) : Type 0 where
     pub ends_by : Ending
     pub ends : ending t to (Read ends_by next)
     pub pieces : R.more_pieces to (Read [] to)
     pub text_stays : (from : ℕ) → is_nonblank (slice_range t from stop) ≡ true →
         cut t (with_ending (run' from to ∷ []) ends_by) ≡ text from stop ∷ []
+    pub text_falls : (from : ℕ) → is_nonblank (slice_range t from stop) ≡ false →
+        cut t (with_ending (run' from to ∷ []) ends_by) ≡ []
     pub none_stays : cut t (with_ending [] ends_by) ≡ []
     pub flat : (n : ℕ) → Deeper edition t in_pieces n to → ⊥
 
@@ -110,6 +112,8 @@ module _ (edition : Edition) (t : List ℕ) where
         pieces = no_piece edition t to (slice_get t to) refl there;
         text_stays = λ from stays.
             let same = subst (λ k. is_nonblank (slice_range t from k) ≡ true) e stays in rw (same, e) refl;
+        text_falls = λ from falls.
+            let same = subst (λ k. is_nonblank (slice_range t from k) ≡ false) e falls in rw same refl;
         none_stays = rw blank refl;
         flat = λ n. pieces_eol edition t there;
       }
@@ -123,6 +127,7 @@ module _ (edition : Edition) (t : List ℕ) where
         ends = subst (λ b. ending t to (Read (if b then lf_at to else crlf_at to) next)) test (ends_line t to next eol);
         pieces = no_piece edition t to (slice_get t to) refl there;
         text_stays = λ from stays. rw (blank, stays) refl;
+        text_falls = λ from falls. rw (blank, falls) refl;
         none_stays = rw blank refl;
         flat = λ n. pieces_eol edition t there;
       }
@@ -133,6 +138,7 @@ module _ (edition : Edition) (t : List ℕ) where
         ends = ends_text t to eol;
         pieces = into_more_pieces edition t to _ (chosen (rw none given));
         text_stays = λ from stays. rw stays refl;
+        text_falls = λ from falls. rw falls refl;
         none_stays = refl;
         flat = λ n. pieces_end edition t none;
       }

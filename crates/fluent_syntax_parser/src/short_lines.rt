@@ -68,15 +68,17 @@ impl<'s> Source<'s> {
             return Ok(None);
         };
         if place < to {
-            let trimmed = self.trimmed_end(place, stop);
-            if trimmed == place {
-                return Ok(None);
-            }
-            let text = Span {
+            let last = Span {
                 start: place,
-                end: trimmed,
+                end: stop,
             };
-            parts.push(ShortPart::Element(ShortElement::Text(text)))?;
+            if self.is_nonblank(last) {
+                let text = Span {
+                    start: place,
+                    end: self.trimmed_end(place, stop),
+                };
+                parts.push(ShortPart::Element(ShortElement::Text(text)))?;
+            }
         }
         Ok(Some(end))
     }

@@ -74,7 +74,7 @@ fn followed_elements(
 
 impl<'s> Source<'s> {
     /// Whether a text holds a byte other than space apart from an ending LF.
-    fn is_nonblank(&self, text: Span) -> bool
+    pub(crate) fn is_nonblank(&self, text: Span) -> bool
         ensures { result ≡ is_nonblank (bytes_at self.now.bytes.now text) }
     {
         without_last_lf(self.bytes_of(text))

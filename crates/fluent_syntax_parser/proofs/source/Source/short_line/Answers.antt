@@ -1,5 +1,5 @@
-use Rattle.std.proofs.Common.{◌≡◌, arith}
-use Rattle.fluent_syntax_parser.proofs.ShortLines.{placed_reads, text_reads}
+use Rattle.std.proofs.Common.{◌≡◌, arith, sym}
+use Rattle.fluent_syntax_parser.proofs.ShortLines.{blank_reads, placed_reads, text_reads}
 use Rattle.fluent_syntax_parser.proofs.source.Source.short_line.Goals as goal
 
 pub returns-in_ok-push-clause-reads : goal.returns-in_ok-push-clause-reads
@@ -11,8 +11,19 @@ returns-in_ok-push-clause-reads c =
     text_reads c.args.edition t c.args.start c.requires.opens c.args.parts.now.items c.short_pieces.new.parts.items
     c.in-Some.place c.in-Some.to c.in-Some-line_ending.stop c.in-Some-line_ending.next
     c.in-Some-end_behind_blank_lines.end found.pieces c.in-Some-line_ending.ensures.ending found.last c.if-place-to.true ptr
-    _ _ blank behind.lines behind.shallow c.trimmed_end-trimmed.ensures c.if-trimmed-place.false
+    _ _ blank behind.lines behind.shallow c.trimmed_end.ensures (sym c.if-is_nonblank.ensures)
     c.in_ok-push.ensures.items
+
+pub returns-else-is_nonblank-clause-reads : goal.returns-else-is_nonblank-clause-reads
+returns-else-is_nonblank-clause-reads c =
+    let t = c.args.self.now.bytes.now in
+    let found = rw c.in-Some.is at c.in_ok-place.ensures in
+    let behind = c.in-Some-end_behind_blank_lines.ensures in
+    λ ptr blank.
+    blank_reads c.args.edition t c.args.start c.requires.opens c.args.parts.now.items c.short_pieces.new.parts.items
+    c.in-Some.place c.in-Some.to c.in-Some-line_ending.stop c.in-Some-line_ending.next
+    c.in-Some-end_behind_blank_lines.end found.pieces c.in-Some-line_ending.ensures.ending found.last c.if-place-to.true ptr
+    blank behind.lines behind.shallow (sym c.if-is_nonblank.ensures)
 
 pub returns-else-place-to-clause-reads : goal.returns-else-place-to-clause-reads
 returns-else-place-to-clause-reads c =
