@@ -1,7 +1,7 @@
 //! What a row of a table asks at its end: whether what was got is what was expected.
 //!
-//! Where it isn't, the test fails with both. A loop over a table calls a function of its row, and asserts nothing itself:
-//! an assertion in a loop is proved with all that lives there, which takes several times as long.
+//! Where it isn't, the test fails with both. A loop over a table calls a function of its row, and asserts nothing
+//! itself: an assertion in a loop is proved with all that lives there, which takes several times as long.
 
 use std::alloc::Global;
 use std::fmt::Debug;

@@ -207,7 +207,8 @@ const ROWS: [Row; 47] = [
     (
         "a broken string ends at its line",
         "key = { \"a\nb\" }",
-        "Junk \"key = { \\\"a\\n\"\nJunk \"b\\\" }\"\n10..11 0..11 UnterminatedStringLiteral\n12..13 11..15 ExpectedToken('=')\n",
+        "Junk \"key = { \\\"a\\n\"\nJunk \"b\\\" }\"\n10..11 0..11 UnterminatedStringLiteral\n12..13 11..15 ExpectedT\
+        oken('=')\n",
     ),
     (
         "a message without a field, before another",

@@ -16,22 +16,29 @@ pub const FORMS: [Row; 11] = [
     (
         "a variable",
         "key = { $x }",
-        "{\"body\":[{\"type\":\"Message\",\"id\":{\"name\":\"key\"},\"value\":{\"elements\":[{\"type\":\"Placeable\",\"expression\":{\"type\":\"VariableReference\",\"id\":{\"name\":\"x\"}}}]},\"attributes\":[],\"comment\":null}]}",
+        "{\"body\":[{\"type\":\"Message\",\"id\":{\"name\":\"key\"},\"value\":{\"elements\":[{\"type\":\"Placeable\",\
+        \"expression\":{\"type\":\"VariableReference\",\"id\":{\"name\":\"x\"}}}]},\"attributes\":[],\
+        \"comment\":null}]}",
     ),
     (
         "a message without a value",
         "key =\n    .a = b",
-        "{\"body\":[{\"type\":\"Message\",\"id\":{\"name\":\"key\"},\"value\":null,\"attributes\":[{\"id\":{\"name\":\"a\"},\"value\":{\"elements\":[{\"type\":\"TextElement\",\"value\":\"b\"}]}}],\"comment\":null}]}",
+        "{\"body\":[{\"type\":\"Message\",\"id\":{\"name\":\"key\"},\"value\":null,\
+        \"attributes\":[{\"id\":{\"name\":\"a\"},\"value\":{\"elements\":[{\"type\":\"TextElement\",\
+        \"value\":\"b\"}]}}],\"comment\":null}]}",
     ),
     (
         "a term with a comment",
         "# a\n# b\n-t = { \"s\" }",
-        "{\"body\":[{\"type\":\"Term\",\"id\":{\"name\":\"t\"},\"value\":{\"elements\":[{\"type\":\"Placeable\",\"expression\":{\"type\":\"StringLiteral\",\"value\":\"s\"}}]},\"attributes\":[],\"comment\":{\"content\":[\"a\",\"b\"]}}]}",
+        "{\"body\":[{\"type\":\"Term\",\"id\":{\"name\":\"t\"},\"value\":{\"elements\":[{\"type\":\"Placeable\",\
+        \"expression\":{\"type\":\"StringLiteral\",\"value\":\"s\"}}]},\"attributes\":[],\
+        \"comment\":{\"content\":[\"a\",\"b\"]}}]}",
     ),
     (
         "comments of each level",
         "# a\n\n## b\n\n### c\n",
-        "{\"body\":[{\"type\":\"Comment\",\"content\":[\"a\"]},{\"type\":\"GroupComment\",\"content\":[\"b\"]},{\"type\":\"ResourceComment\",\"content\":[\"c\"]}]}",
+        "{\"body\":[{\"type\":\"Comment\",\"content\":[\"a\"]},{\"type\":\"GroupComment\",\"content\":[\"b\"]},\
+        {\"type\":\"ResourceComment\",\"content\":[\"c\"]}]}",
     ),
     (
         "junk",
@@ -41,27 +48,48 @@ pub const FORMS: [Row; 11] = [
     (
         "a message and its attribute",
         "key = { foo }{ foo.bar }",
-        "{\"body\":[{\"type\":\"Message\",\"id\":{\"name\":\"key\"},\"value\":{\"elements\":[{\"type\":\"Placeable\",\"expression\":{\"type\":\"MessageReference\",\"id\":{\"name\":\"foo\"},\"attribute\":null}},{\"type\":\"Placeable\",\"expression\":{\"type\":\"MessageReference\",\"id\":{\"name\":\"foo\"},\"attribute\":{\"name\":\"bar\"}}}]},\"attributes\":[],\"comment\":null}]}",
+        "{\"body\":[{\"type\":\"Message\",\"id\":{\"name\":\"key\"},\"value\":{\"elements\":[{\"type\":\"Placeable\",\
+        \"expression\":{\"type\":\"MessageReference\",\"id\":{\"name\":\"foo\"},\"attribute\":null}},\
+        {\"type\":\"Placeable\",\"expression\":{\"type\":\"MessageReference\",\"id\":{\"name\":\"foo\"},\
+        \"attribute\":{\"name\":\"bar\"}}}]},\"attributes\":[],\"comment\":null}]}",
     ),
     (
         "a term and its arguments",
         "key = { -t }{ -t(a: 1) }",
-        "{\"body\":[{\"type\":\"Message\",\"id\":{\"name\":\"key\"},\"value\":{\"elements\":[{\"type\":\"Placeable\",\"expression\":{\"type\":\"TermReference\",\"id\":{\"name\":\"t\"},\"attribute\":null,\"arguments\":null}},{\"type\":\"Placeable\",\"expression\":{\"type\":\"TermReference\",\"id\":{\"name\":\"t\"},\"attribute\":null,\"arguments\":{\"type\":\"CallArguments\",\"positional\":[],\"named\":[{\"type\":\"NamedArgument\",\"name\":{\"name\":\"a\"},\"value\":{\"type\":\"NumberLiteral\",\"value\":\"1\"}}]}}}]},\"attributes\":[],\"comment\":null}]}",
+        "{\"body\":[{\"type\":\"Message\",\"id\":{\"name\":\"key\"},\"value\":{\"elements\":[{\"type\":\"Placeable\",\
+        \"expression\":{\"type\":\"TermReference\",\"id\":{\"name\":\"t\"},\"attribute\":null,\"arguments\":null}},\
+        {\"type\":\"Placeable\",\"expression\":{\"type\":\"TermReference\",\"id\":{\"name\":\"t\"},\
+        \"attribute\":null,\"arguments\":{\"type\":\"CallArguments\",\"positional\":[],\
+        \"named\":[{\"type\":\"NamedArgument\",\"name\":{\"name\":\"a\"},\"value\":{\"type\":\"NumberLiteral\",\
+        \"value\":\"1\"}}]}}}]},\"attributes\":[],\"comment\":null}]}",
     ),
     (
         "a function",
         "key = { F(-0.5, b: \"c\") }",
-        "{\"body\":[{\"type\":\"Message\",\"id\":{\"name\":\"key\"},\"value\":{\"elements\":[{\"type\":\"Placeable\",\"expression\":{\"type\":\"FunctionReference\",\"id\":{\"name\":\"F\"},\"arguments\":{\"type\":\"CallArguments\",\"positional\":[{\"type\":\"NumberLiteral\",\"value\":\"-0.5\"}],\"named\":[{\"type\":\"NamedArgument\",\"name\":{\"name\":\"b\"},\"value\":{\"type\":\"StringLiteral\",\"value\":\"c\"}}]}}}]},\"attributes\":[],\"comment\":null}]}",
+        "{\"body\":[{\"type\":\"Message\",\"id\":{\"name\":\"key\"},\"value\":{\"elements\":[{\"type\":\"Placeable\",\
+        \"expression\":{\"type\":\"FunctionReference\",\"id\":{\"name\":\"F\"},\
+        \"arguments\":{\"type\":\"CallArguments\",\"positional\":[{\"type\":\"NumberLiteral\",\"value\":\"-0.5\"}],\
+        \"named\":[{\"type\":\"NamedArgument\",\"name\":{\"name\":\"b\"},\"value\":{\"type\":\"StringLiteral\",\
+        \"value\":\"c\"}}]}}}]},\"attributes\":[],\"comment\":null}]}",
     ),
     (
         "a select",
         "key = { -t.a ->\n    [one] b\n   *[2] c\n }",
-        "{\"body\":[{\"type\":\"Message\",\"id\":{\"name\":\"key\"},\"value\":{\"elements\":[{\"type\":\"Placeable\",\"expression\":{\"selector\":{\"type\":\"TermReference\",\"id\":{\"name\":\"t\"},\"attribute\":{\"name\":\"a\"},\"arguments\":null},\"variants\":[{\"type\":\"Variant\",\"key\":{\"type\":\"Identifier\",\"name\":\"one\"},\"value\":{\"elements\":[{\"type\":\"TextElement\",\"value\":\"b\"}]},\"default\":false},{\"type\":\"Variant\",\"key\":{\"type\":\"NumberLiteral\",\"value\":\"2\"},\"value\":{\"elements\":[{\"type\":\"TextElement\",\"value\":\"c\"}]},\"default\":true}]}}]},\"attributes\":[],\"comment\":null}]}",
+        "{\"body\":[{\"type\":\"Message\",\"id\":{\"name\":\"key\"},\"value\":{\"elements\":[{\"type\":\"Placeable\",\
+        \"expression\":{\"selector\":{\"type\":\"TermReference\",\"id\":{\"name\":\"t\"},\
+        \"attribute\":{\"name\":\"a\"},\"arguments\":null},\"variants\":[{\"type\":\"Variant\",\
+        \"key\":{\"type\":\"Identifier\",\"name\":\"one\"},\"value\":{\"elements\":[{\"type\":\"TextElement\",\
+        \"value\":\"b\"}]},\"default\":false},{\"type\":\"Variant\",\"key\":{\"type\":\"NumberLiteral\",\
+        \"value\":\"2\"},\"value\":{\"elements\":[{\"type\":\"TextElement\",\"value\":\"c\"}]},\
+        \"default\":true}]}}]},\"attributes\":[],\"comment\":null}]}",
     ),
     (
         "a placeable in a placeable",
         "key = a{ { $x } }",
-        "{\"body\":[{\"type\":\"Message\",\"id\":{\"name\":\"key\"},\"value\":{\"elements\":[{\"type\":\"TextElement\",\"value\":\"a\"},{\"type\":\"Placeable\",\"expression\":{\"type\":\"Placeable\",\"expression\":{\"type\":\"VariableReference\",\"id\":{\"name\":\"x\"}}}}]},\"attributes\":[],\"comment\":null}]}",
+        "{\"body\":[{\"type\":\"Message\",\"id\":{\"name\":\"key\"},\
+        \"value\":{\"elements\":[{\"type\":\"TextElement\",\"value\":\"a\"},{\"type\":\"Placeable\",\
+        \"expression\":{\"type\":\"Placeable\",\"expression\":{\"type\":\"VariableReference\",\
+        \"id\":{\"name\":\"x\"}}}}]},\"attributes\":[],\"comment\":null}]}",
     ),
 ];
 
@@ -81,22 +109,38 @@ const SPELLED: [Row; 7] = [
     (
         "the content of a message's comment as one text",
         "{\"body\":[{\"type\":\"Message\",\"id\":{\"name\":\"a\"},\"attributes\":[],\"comment\":{\"content\":\"b\"}}]}",
-        "{\"body\":[{\"type\":\"Message\",\"id\":{\"name\":\"a\"},\"value\":null,\"attributes\":[],\"comment\":{\"content\":[\"b\"]}}]}",
+        "{\"body\":[{\"type\":\"Message\",\"id\":{\"name\":\"a\"},\"value\":null,\"attributes\":[],\
+        \"comment\":{\"content\":[\"b\"]}}]}",
     ),
     (
         "a select without variants",
-        "{\"body\":[{\"type\":\"Message\",\"id\":{\"name\":\"key\"},\"value\":{\"elements\":[{\"type\":\"Placeable\",\"expression\":{\"selector\":{\"type\":\"VariableReference\",\"id\":{\"name\":\"x\"}},\"variants\":[]}}]},\"attributes\":[],\"comment\":null}]}",
-        "{\"body\":[{\"type\":\"Message\",\"id\":{\"name\":\"key\"},\"value\":{\"elements\":[{\"type\":\"Placeable\",\"expression\":{\"selector\":{\"type\":\"VariableReference\",\"id\":{\"name\":\"x\"}},\"variants\":[]}}]},\"attributes\":[],\"comment\":null}]}",
+        "{\"body\":[{\"type\":\"Message\",\"id\":{\"name\":\"key\"},\"value\":{\"elements\":[{\"type\":\"Placeable\",\
+        \"expression\":{\"selector\":{\"type\":\"VariableReference\",\"id\":{\"name\":\"x\"}},\"variants\":[]}}]},\
+        \"attributes\":[],\"comment\":null}]}",
+        "{\"body\":[{\"type\":\"Message\",\"id\":{\"name\":\"key\"},\"value\":{\"elements\":[{\"type\":\"Placeable\",\
+        \"expression\":{\"selector\":{\"type\":\"VariableReference\",\"id\":{\"name\":\"x\"}},\"variants\":[]}}]},\
+        \"attributes\":[],\"comment\":null}]}",
     ),
     (
         "a select that has a type too",
-        "{\"body\":[{\"type\":\"Message\",\"id\":{\"name\":\"key\"},\"value\":{\"elements\":[{\"type\":\"Placeable\",\"expression\":{\"selector\":{\"type\":\"VariableReference\",\"id\":{\"name\":\"x\"}},\"variants\":[],\"type\":\"VariableReference\",\"id\":{\"name\":\"y\"}}}]},\"attributes\":[],\"comment\":null}]}",
-        "{\"body\":[{\"type\":\"Message\",\"id\":{\"name\":\"key\"},\"value\":{\"elements\":[{\"type\":\"Placeable\",\"expression\":{\"selector\":{\"type\":\"VariableReference\",\"id\":{\"name\":\"x\"}},\"variants\":[]}}]},\"attributes\":[],\"comment\":null}]}",
+        "{\"body\":[{\"type\":\"Message\",\"id\":{\"name\":\"key\"},\"value\":{\"elements\":[{\"type\":\"Placeable\",\
+        \"expression\":{\"selector\":{\"type\":\"VariableReference\",\"id\":{\"name\":\"x\"}},\"variants\":[],\
+        \"type\":\"VariableReference\",\"id\":{\"name\":\"y\"}}}]},\"attributes\":[],\"comment\":null}]}",
+        "{\"body\":[{\"type\":\"Message\",\"id\":{\"name\":\"key\"},\"value\":{\"elements\":[{\"type\":\"Placeable\",\
+        \"expression\":{\"selector\":{\"type\":\"VariableReference\",\"id\":{\"name\":\"x\"}},\"variants\":[]}}]},\
+        \"attributes\":[],\"comment\":null}]}",
     ),
     (
         "types that are not looked at",
-        "{\"body\":[{\"type\":\"Term\",\"id\":{\"name\":\"a\"},\"value\":{\"elements\":[{\"type\":\"Placeable\",\"expression\":{\"type\":\"TermReference\",\"id\":{\"name\":\"b\"},\"arguments\":{\"type\":5,\"positional\":[],\"named\":[{\"name\":{\"name\":\"c\"},\"value\":{\"type\":\"NumberLiteral\",\"value\":\"1\"}}]}}}]},\"attributes\":[]}]}",
-        "{\"body\":[{\"type\":\"Term\",\"id\":{\"name\":\"a\"},\"value\":{\"elements\":[{\"type\":\"Placeable\",\"expression\":{\"type\":\"TermReference\",\"id\":{\"name\":\"b\"},\"attribute\":null,\"arguments\":{\"type\":\"CallArguments\",\"positional\":[],\"named\":[{\"type\":\"NamedArgument\",\"name\":{\"name\":\"c\"},\"value\":{\"type\":\"NumberLiteral\",\"value\":\"1\"}}]}}}]},\"attributes\":[],\"comment\":null}]}",
+        "{\"body\":[{\"type\":\"Term\",\"id\":{\"name\":\"a\"},\"value\":{\"elements\":[{\"type\":\"Placeable\",\
+        \"expression\":{\"type\":\"TermReference\",\"id\":{\"name\":\"b\"},\"arguments\":{\"type\":5,\
+        \"positional\":[],\"named\":[{\"name\":{\"name\":\"c\"},\"value\":{\"type\":\"NumberLiteral\",\
+        \"value\":\"1\"}}]}}}]},\"attributes\":[]}]}",
+        "{\"body\":[{\"type\":\"Term\",\"id\":{\"name\":\"a\"},\"value\":{\"elements\":[{\"type\":\"Placeable\",\
+        \"expression\":{\"type\":\"TermReference\",\"id\":{\"name\":\"b\"},\"attribute\":null,\
+        \"arguments\":{\"type\":\"CallArguments\",\"positional\":[],\"named\":[{\"type\":\"NamedArgument\",\
+        \"name\":{\"name\":\"c\"},\"value\":{\"type\":\"NumberLiteral\",\"value\":\"1\"}}]}}}]},\"attributes\":[],\
+        \"comment\":null}]}",
     ),
 ];
 
@@ -130,15 +174,21 @@ const REFUSED: [Refused; 12] = [
     ),
     (
         "a select without the key for variants",
-        "{\"body\":[{\"type\":\"Message\",\"id\":{\"name\":\"key\"},\"value\":{\"elements\":[{\"type\":\"Placeable\",\"expression\":{\"selector\":{\"type\":\"VariableReference\",\"id\":{\"name\":\"x\"}}}}]},\"attributes\":[],\"comment\":null}]}",
+        "{\"body\":[{\"type\":\"Message\",\"id\":{\"name\":\"key\"},\"value\":{\"elements\":[{\"type\":\"Placeable\",\
+        \"expression\":{\"selector\":{\"type\":\"VariableReference\",\"id\":{\"name\":\"x\"}}}}]},\"attributes\":[],\
+        \"comment\":null}]}",
     ),
     (
         "the same beside an inline expression",
-        "{\"body\":[{\"type\":\"Message\",\"id\":{\"name\":\"key\"},\"value\":{\"elements\":[{\"type\":\"Placeable\",\"expression\":{\"selector\":{\"type\":\"VariableReference\",\"id\":{\"name\":\"x\"}},\"type\":\"VariableReference\",\"id\":{\"name\":\"x\"}}}]},\"attributes\":[],\"comment\":null}]}",
+        "{\"body\":[{\"type\":\"Message\",\"id\":{\"name\":\"key\"},\"value\":{\"elements\":[{\"type\":\"Placeable\",\
+        \"expression\":{\"selector\":{\"type\":\"VariableReference\",\"id\":{\"name\":\"x\"}},\
+        \"type\":\"VariableReference\",\"id\":{\"name\":\"x\"}}}]},\"attributes\":[],\"comment\":null}]}",
     ),
     (
         "a selector that is null",
-        "{\"body\":[{\"type\":\"Message\",\"id\":{\"name\":\"key\"},\"value\":{\"elements\":[{\"type\":\"Placeable\",\"expression\":{\"selector\":null,\"type\":\"VariableReference\",\"id\":{\"name\":\"x\"}}}]},\"attributes\":[],\"comment\":null}]}",
+        "{\"body\":[{\"type\":\"Message\",\"id\":{\"name\":\"key\"},\"value\":{\"elements\":[{\"type\":\"Placeable\",\
+        \"expression\":{\"selector\":null,\"type\":\"VariableReference\",\"id\":{\"name\":\"x\"}}}]},\
+        \"attributes\":[],\"comment\":null}]}",
     ),
 ];
 

@@ -556,7 +556,9 @@ const SHUTDOWN: &str = "{\"jsonrpc\":\"2.0\",\"id\":1,\"method\":\"shutdown\"}";
 const EXIT: &str = "{\"jsonrpc\":\"2.0\",\"method\":\"exit\"}";
 
 const INITIALIZED: &str =
-    "{\"id\":1,\"jsonrpc\":\"2.0\",\"result\":{\"capabilities\":{\"documentFormattingProvider\":true,\"documentSymbolProvider\":true,\"foldingRangeProvider\":true,\"positionEncoding\":\"utf-16\",\"textDocumentSync\":{\"change\":1,\"openClose\":true,\"save\":true}},\"serverInfo\":{\"name\":\"ftl_lsp\"}}}";
+    "{\"id\":1,\"jsonrpc\":\"2.0\",\"result\":{\"capabilities\":{\"documentFormattingProvider\":true,\
+    \"documentSymbolProvider\":true,\"foldingRangeProvider\":true,\"positionEncoding\":\"utf-16\",\
+    \"textDocumentSync\":{\"change\":1,\"openClose\":true,\"save\":true}},\"serverInfo\":{\"name\":\"ftl_lsp\"}}}";
 
 const STOPPED: &str = "{\"id\":1,\"jsonrpc\":\"2.0\",\"result\":null}";
 

@@ -176,7 +176,8 @@ fn runs(rt: HostRuntime) -> Result<(), Fail> {
 const TEXT: &str = "key = { $x }";
 
 const VALUE: &str =
-    "{\"body\":[{\"type\":\"Message\",\"id\":{\"name\":\"key\"},\"value\":{\"elements\":[{\"type\":\"Placeable\",\"expression\":{\"type\":\"VariableReference\",\"id\":{\"name\":\"x\"}}}]},\"attributes\":[],\"comment\":null}]}";
+    "{\"body\":[{\"type\":\"Message\",\"id\":{\"name\":\"key\"},\"value\":{\"elements\":[{\"type\":\"Placeable\",\
+    \"expression\":{\"type\":\"VariableReference\",\"id\":{\"name\":\"x\"}}}]},\"attributes\":[],\"comment\":null}]}";
 
 /// Whether the text is one line of the value.
 fn is_line_of_value(alloc: Global, text: &str) -> Result<bool, Fail> {
