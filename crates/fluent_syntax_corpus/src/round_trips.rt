@@ -83,24 +83,24 @@ fn formats(alloc: Global, text: &str) -> Result<bool, Fail> {
     Ok(reads_as(alloc, &tree, &whole) && once_clean && twice_clean && kept)
 }
 
-/// The first beginning of the text for which one of these does not hold.
-fn beginning_that_fails<'t>(alloc: Global, text: &'t str) -> Result<Option<&'t str>, Fail> {
+/// Fails, with the beginning, where one of these does not hold for a beginning of the text.
+fn holds_of_each_beginning(alloc: Global, text: &str) -> Result<(), Fail> {
     for end in 0..=text.len() {
         let Some(cut) = text.get(..end) else {
             continue;
         };
         if !joins(alloc, cut)? || !reads_back(alloc, cut)? || !formats(alloc, cut)? {
-            return Ok(Some(cut));
+            return Err(format!(in alloc; "not so: {cut}")?.into());
         }
     }
-    Ok(None)
+    Ok(())
 }
 
 #[test]
 fn each_beginning_joined_and_formatted(rt: HostRuntime) -> Result<(), Fail> {
     for text in TEXTS {
         formats_again(text.as_bytes());
-        assert_eq!(rt; beginning_that_fails(rt.alloc(), text)?, None);
+        holds_of_each_beginning(rt.alloc(), text)?;
     }
     Ok(())
 }

@@ -1,6 +1,7 @@
 //! Entries that are written one by one.
 ghost use Rattle.std.specs.Prelude.{string_bytes};
 
+use crate::alike::same_text;
 use crate::made::{Made, Text, comment, valued};
 use fluent_syntax::ast::Entry;
 use fluent_syntax::parser::{parse, recovered};
@@ -39,13 +40,32 @@ const ROWS: [(&str, &str, &str); 6] = [
     ("k = v\n# a\n", "k = v\n\n# a\n\n", "k = v\n\n# a\n\n"),
 ];
 
+/// Fails where the entries are written as another text.
+fn is_written(
+    alloc: Global,
+    entries: &[Entry<&str>],
+    with_junk: bool,
+    expected: &str,
+) -> Result<(), Fail> {
+    let text = written(alloc, entries, with_junk)?;
+    same_text(alloc, expected, text.as_str(), expected)
+}
+
+fn are_entries_of(
+    alloc: Global,
+    text: &str,
+    without_junk: &str,
+    with_junk: &str,
+) -> Result<(), Fail> {
+    let (tree, _errors) = recovered(alloc, parse(alloc, text))?;
+    is_written(alloc, &tree.body, false, without_junk)?;
+    is_written(alloc, &tree.body, true, with_junk)
+}
+
 #[test]
 fn entries_of_texts(rt: HostRuntime) -> Result<(), Fail> {
-    let alloc = rt.alloc();
     for (text, without_junk, with_junk) in ROWS {
-        let (tree, _errors) = recovered(alloc, parse(alloc, text))?;
-        assert_eq!(rt; written(alloc, &tree.body, false)?.as_str(), without_junk);
-        assert_eq!(rt; written(alloc, &tree.body, true)?.as_str(), with_junk);
+        are_entries_of(rt.alloc(), text, without_junk, with_junk)?;
     }
     Ok(())
 }
@@ -72,9 +92,8 @@ fn entries_behind(alloc: Global, content: Text) -> Made<Vec<Entry<Text>>> {
 fn a_line_end_behind_a_cr(rt: HostRuntime) -> Result<(), Fail> {
     let alloc = rt.alloc();
     let entries = entries_behind(alloc, "a\r")?;
-    assert_eq!(rt; written(alloc, &entries, true)?.as_str(), "a\r\r\nk = v\n");
-    assert_eq!(rt; written(alloc, &entries, false)?.as_str(), "\nk = v\n");
-    Ok(())
+    is_written(alloc, &entries, true, "a\r\r\nk = v\n")?;
+    is_written(alloc, &entries, false, "\nk = v\n")
 }
 
 /// A sink that refuses what would make its text longer than so many bytes, and counts the pieces that come then.
@@ -136,19 +155,21 @@ fn ends_at(alloc: Global, entries: &[Entry<&str>], most: usize, whole: &str) -> 
         && taken.is_ok() == (whole.len() <= most)
 }
 
+fn are_refused_in_order(alloc: Global, text: &str) -> Result<(), Fail> {
+    let (tree, _errors) = recovered(alloc, parse(alloc, text))?;
+    let whole = serialize_with_options(alloc, &tree, Options { with_junk: true })?;
+    for most in 0..=whole.len() {
+        if !ends_at(alloc, &tree.body, most, whole.as_str()) {
+            return Err(format!(in alloc; "not so: {text} {most}")?.into());
+        }
+    }
+    Ok(())
+}
+
 #[test]
 fn entries_to_a_sink_that_refuses(rt: HostRuntime) -> Result<(), Fail> {
-    let alloc = rt.alloc();
-    let options = Options { with_junk: true };
     for (text, _, _) in ROWS {
-        let (tree, _errors) = recovered(alloc, parse(alloc, text))?;
-        let whole = serialize_with_options(alloc, &tree, options)?;
-        for most in 0..=whole.len() {
-            assert!(rt;
-                ends_at(alloc, &tree.body, most, whole.as_str()),
-                "{text} {most}"
-            );
-        }
+        are_refused_in_order(rt.alloc(), text)?;
     }
     Ok(())
 }
