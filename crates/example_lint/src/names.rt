@@ -21,7 +21,8 @@ impl<'s> Name<'s> {
     pub(crate) fn of(entry: &Entry<&'s str>) -> Option<Name<'s>>
         ensures message { (message : Message (Bor (List ℕ))) → entry.now ≡ Entry.Message message
             → result ≡ Some (Name.Message message.id.name) }
-        ensures term { (term : Term (Bor (List ℕ))) → entry.now ≡ Entry.Term term → result ≡ Some (Name.Term term.id.name) }
+        ensures term { (term : Term (Bor (List ℕ))) → entry.now ≡ Entry.Term term →
+            result ≡ Some (Name.Term term.id.name) }
     {
         match entry {
             Entry::Message(message) => Some(Name::Message(message.id.name)),

@@ -14,7 +14,8 @@ use Rattle.fluent_syntax_grammar.specs.Tiling.{Fault, Tile}
 use Rattle.fluent_syntax_grammar.specs.Body.{body, faults}
 use Rattle.fluent_syntax_grammar.specs.Laws.{junk_slice, fault_slice}
 use Rattle.fluent_syntax_grammar.specs.Laws as laws
-use Rattle.fluent_syntax_grammar.proofs.JunkAndSpans.{junk_of_errors, runtime_junk_of_errors, errors_ascend, runtime_errors_ascend}
+use Rattle.fluent_syntax_grammar.proofs.JunkAndSpans.{junk_of_errors, runtime_junk_of_errors, errors_ascend}
+use Rattle.fluent_syntax_grammar.proofs.JunkAndSpans.{runtime_errors_ascend}
 use Rattle.fluent_syntax_parser.specs.Faults.{fault_of}
 use Rattle.fluent_syntax_parser.specs.Answers.{Answers, AnswersIn}
 use Rattle.fluent_syntax_parser.specs.declared.options.Comments.{Comments}
@@ -97,12 +98,14 @@ module _ {S : Type 0} (text : S → List ℕ) (edition : Edition) (t : List ℕ)
   where
     pub junk_answered : (comments : Comments) → AnswersIn text (body_map (bytes_at t)) comments edition t result →
         JunkIsRefused t text result
-    junk_answered Kept (tiles, tiled, given) = junk_given text t tiles result (junk_of_errors edition t tiles tiled) given
+    junk_answered Kept (tiles, tiled, given) =
+        junk_given text t tiles result (junk_of_errors edition t tiles tiled) given
     junk_answered Dropped (tiles, tiled, given) =
         junk_given text t tiles result (runtime_junk_of_errors edition t tiles tiled) given
 
     pub errors_answered : (comments : Comments) → AnswersIn text (body_map (bytes_at t)) comments edition t result →
         ErrorsAscend t result
-    errors_answered Kept (tiles, tiled, given) = errors_given text t tiles result (errors_ascend edition t tiles tiled) given
+    errors_answered Kept (tiles, tiled, given) =
+        errors_given text t tiles result (errors_ascend edition t tiles tiled) given
     errors_answered Dropped (tiles, tiled, given) =
         errors_given text t tiles result (runtime_errors_ascend edition t tiles tiled) given

@@ -1,5 +1,6 @@
 //! Texts read entry by entry: the texts of each are made while its spans are warm.
-ghost use Rattle.std.specs.Prelude.{◌≡◌, ◌+◌, ◌<◌, ◌^◌, ◌≢◌, [], ◌∷◌, ◌++◌, length, map, Err, IfErr, IfOk, IsOk, IsOkAnd, OnErr, OnOk};
+ghost use Rattle.std.specs.Prelude.{◌≡◌, ◌+◌, ◌<◌, ◌^◌, ◌≢◌, [], ◌∷◌, ◌++◌, length, map, Err, IfErr, IfOk, IsOk};
+ghost use Rattle.std.specs.Prelude.{IsOkAnd, OnErr, OnOk};
 ghost use Rattle.fluent_syntax.specs.Errors.{ErrorsAscend, JunkIsRefused};
 ghost use Rattle.fluent_syntax.specs.ReadEntries.{IsRead};
 ghost use Rattle.fluent_syntax_grammar.specs.Nesting.{TextDeeper};

@@ -27,8 +27,9 @@ pub type Result<S> = std::result::Result<Resource<S>, ParseFault<S>>;
 /// Reads a text by edition one of the grammar, with its comments.
 ///
 /// `Syntax` where at least one error was found: the tree and the errors, one for each junk, in
-/// order; the place of each begins within the text, as `line_column` asks. `Memory` where a growth was refused, whatever was found before. The text has to have fewer
-/// bytes than the greatest `usize`, as every text that can be made has.
+/// order; the place of each begins within the text, as `line_column` asks. `Memory` where a growth was refused,
+/// whatever was found before. The text has to have fewer bytes than the greatest `usize`, as every text that can be
+/// made has.
 pub fn parse<'s, S: Slice<'s>>(alloc: Global, input: S) -> Result<S>
     requires { length (S.text input) + 1 < 2 ^ 64 }
     ensures tiling { AnswersTiling S.text (body_map (bytes_at (S.text input))) Edition.One (S.text input) result }
@@ -59,7 +60,8 @@ pub fn parse_edition<'s, S: Slice<'s>>(alloc: Global, input: S, edition: Edition
 /// Otherwise as `parse`.
 pub fn parse_runtime<'s, S: Slice<'s>>(alloc: Global, input: S) -> Result<S>
     requires { length (S.text input) + 1 < 2 ^ 64 }
-    ensures tiling { AnswersRuntimeTiling S.text (body_map (bytes_at (S.text input))) Edition.One (S.text input) result }
+    ensures tiling { AnswersRuntimeTiling S.text (body_map (bytes_at (S.text input))) Edition.One
+        (S.text input) result }
     ensures blank { BlankBlock (S.text input) 0 (length (S.text input)) → IsOk result }
     ensures junk { JunkIsRefused (S.text input) S.text result }
     ensures errors { ErrorsAscend (S.text input) result }

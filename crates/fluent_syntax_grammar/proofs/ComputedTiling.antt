@@ -363,7 +363,11 @@ module _ (edition : Edition) (t : List ℕ) (n : ℕ) where
   junk_tile i k from to (Some j) =
       Some (record {
         tile =
-            refused (record { kind = k; pos = record { start = from; end = to }; slice = record { start = i; end = j } });
+            refused (record {
+              kind = k;
+              pos = record { start = from; end = to };
+              slice = record { start = i; end = j };
+            });
         end = j;
       })
 

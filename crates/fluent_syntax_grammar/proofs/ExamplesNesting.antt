@@ -3,9 +3,14 @@ use Rattle.std.proofs.Common.{◌≡◌, ℕ, zero, suc, ◌+◌, List, [], ◌�
 use Rattle.std.specs.Prelude.{codes, ◌||◌, ◌==◌}
 use Rattle.std.specs.List.{list_any}
 use Rattle.fluent_syntax_tree.specs.declared.edition.Edition.TheVariants.{One}
-use Rattle.fluent_syntax_grammar.specs.Bytes.{equals_sign, hyphen, is_letter, is_name_byte, is_space, left_brace, left_parenthesis}
+use Rattle.fluent_syntax_grammar.specs.Bytes.{equals_sign, hyphen, is_letter, is_name_byte, is_space, left_brace}
+use Rattle.fluent_syntax_grammar.specs.Bytes.{left_parenthesis}
 use Rattle.fluent_syntax_grammar.specs.Construct.{Read, goes_on, given, passed, chosen, first, second, failed, at_place}
-use Rattle.fluent_syntax_grammar.specs.Nesting.{Deeper, TextDeeper, list_head, placeable_head, in_expression, in_inline_expression, in_placeable, opens_placeable, in_braces, opens_list, in_list, its_arguments, its_placeable, its_selector, its_variants, its_argument, its_piece, its_opening, its_layout, its_field, its_message_fields, its_message, its_entry}
+use Rattle.fluent_syntax_grammar.specs.Nesting.{Deeper, TextDeeper, list_head, placeable_head, in_expression}
+use Rattle.fluent_syntax_grammar.specs.Nesting.{in_inline_expression, in_placeable, opens_placeable, in_braces}
+use Rattle.fluent_syntax_grammar.specs.Nesting.{opens_list, in_list, its_arguments, its_placeable, its_selector}
+use Rattle.fluent_syntax_grammar.specs.Nesting.{its_variants, its_argument, its_piece, its_opening, its_layout}
+use Rattle.fluent_syntax_grammar.specs.Nesting.{its_field, its_message_fields, its_message, its_entry}
 use Rattle.fluent_syntax_grammar.specs.Places.{Stretch, has, has_byte, is_blank_place, no_line}
 use Rattle.fluent_syntax_grammar.specs.Tiling.{TileAt}
 use Rattle.fluent_syntax_grammar.specs.Words.{identifier, token}

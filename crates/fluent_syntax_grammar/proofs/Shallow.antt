@@ -1,5 +1,6 @@
 -- How deeply a construct nests, by what was read of it: it nests no deeper than its parts.
-use Rattle.std.proofs.Common.{◌≡◌, ℕ, ◌+◌, List, [], ◌∷◌, length, Option, Some, None, Bool, true, false, refl, sym, ◌∙◌, subst, arith, inl, inr}
+use Rattle.std.proofs.Common.{◌≡◌, ℕ, ◌+◌, List, [], ◌∷◌, length, Option, Some, None, Bool, true, false, refl, sym, ◌∙◌}
+use Rattle.std.proofs.Common.{subst, arith, inl, inr}
 use Rattle.std.specs.Prelude.{slice_get, ◌⊎◌, ◌==◌, ◌||◌, ◌&&◌, not, nat_lt}
 use Rattle.std.proofs.lemmas.Option.{slice_get_past}
 use Rattle.fluent_syntax_tree.specs.Entry.{AttributeTree}
@@ -10,16 +11,31 @@ use Rattle.fluent_syntax_tree.specs.declared.edition.Edition.{Edition}
 use Rattle.fluent_syntax_tree.specs.declared.spans.Span.{Span}
 use Rattle.fluent_syntax_grammar.specs.Arguments.{argument_name, argument_value, is_used, separator}
 use Rattle.fluent_syntax_grammar.specs.Bytes.{colon, cr, hash, hyphen, left_brace, lf, right_brace, right_parenthesis}
-use Rattle.fluent_syntax_grammar.specs.Construct.{Construct, Outcome, Read, Refused, at_each, goes_on, given, chosen, first, second, failed, at_place}
+use Rattle.fluent_syntax_grammar.specs.Construct.{Construct, Outcome, Read, Refused, at_each, goes_on, given, chosen}
+use Rattle.fluent_syntax_grammar.specs.Construct.{first, second, failed, at_place}
 use Rattle.fluent_syntax_grammar.specs.Entries.{attribute}
 use Rattle.fluent_syntax_grammar.specs.Family.{Family}
 use Rattle.fluent_syntax_grammar.specs.Grammar.{family, pattern, placeable}
 use Rattle.fluent_syntax_grammar.specs.Laws.{IsFunctional}
 use Rattle.fluent_syntax_grammar.specs.Layout.{Piece, Ending}
 use Rattle.fluent_syntax_grammar.specs.Lines.{belongs, ending, is_run_place, more_lines, no_byte, other_line, own_line}
-use Rattle.fluent_syntax_grammar.specs.Nesting.{Deeper, IsArgument, IsNamed, Selects, attribute_head, begins_value, fields_head, list_head, placeable_head, select_head, term_head, variant_head, in_inline_expression, in_value, in_call, in_expression, in_placeable, in_arguments, in_variants, in_pieces, in_lines, in_layout, in_pattern, in_attribute, in_attributes, in_fields, in_message, in_term, in_entry, opens_placeable, in_braces, opens_list, in_list, its_term_arguments, its_arguments, its_placeable, its_selector, its_variants, its_value, its_argument, its_named_value, behind_named, behind_positional, its_pattern, behind_variant, its_piece, behind_placeable, behind_run, its_line, behind_line, its_lines, its_opening, behind_opening, its_layout, its_text, its_attribute, behind_attribute, its_field, behind_field, its_message_fields, its_term_fields, its_message, its_term, TextDeeper, TileDeeper, its_entry, behind_tile}
+use Rattle.fluent_syntax_grammar.specs.Nesting.{Deeper, IsArgument, IsNamed, Selects, attribute_head, begins_value}
+use Rattle.fluent_syntax_grammar.specs.Nesting.{fields_head, list_head, placeable_head, select_head, term_head}
+use Rattle.fluent_syntax_grammar.specs.Nesting.{variant_head, in_inline_expression, in_value, in_call, in_expression}
+use Rattle.fluent_syntax_grammar.specs.Nesting.{in_placeable, in_arguments, in_variants, in_pieces, in_lines, in_layout}
+use Rattle.fluent_syntax_grammar.specs.Nesting.{in_pattern, in_attribute, in_attributes, in_fields, in_message, in_term}
+use Rattle.fluent_syntax_grammar.specs.Nesting.{in_entry, opens_placeable, in_braces, opens_list, in_list}
+use Rattle.fluent_syntax_grammar.specs.Nesting.{its_term_arguments, its_arguments, its_placeable, its_selector}
+use Rattle.fluent_syntax_grammar.specs.Nesting.{its_variants, its_value, its_argument, its_named_value, behind_named}
+use Rattle.fluent_syntax_grammar.specs.Nesting.{behind_positional, its_pattern, behind_variant, its_piece}
+use Rattle.fluent_syntax_grammar.specs.Nesting.{behind_placeable, behind_run, its_line, behind_line, its_lines}
+use Rattle.fluent_syntax_grammar.specs.Nesting.{its_opening, behind_opening, its_layout, its_text, its_attribute}
+use Rattle.fluent_syntax_grammar.specs.Nesting.{behind_attribute, its_field, behind_field, its_message_fields}
+use Rattle.fluent_syntax_grammar.specs.Nesting.{its_term_fields, its_message, its_term, TextDeeper, TileDeeper}
+use Rattle.fluent_syntax_grammar.specs.Nesting.{its_entry, behind_tile}
 use Rattle.fluent_syntax_grammar.specs.Placeables.{has_arrow, selector_fault}
-use Rattle.fluent_syntax_grammar.specs.Places.{Blank, BlankBlock, InlineBlank, Stretch, after_eol, has_byte, has_eol, holds}
+use Rattle.fluent_syntax_grammar.specs.Places.{Blank, BlankBlock, InlineBlank, Stretch, after_eol, has_byte, has_eol}
+use Rattle.fluent_syntax_grammar.specs.Places.{holds}
 use Rattle.fluent_syntax_grammar.specs.Starts.{Start, term, letter, brace, start}
 use Rattle.fluent_syntax_grammar.specs.Tiling.{Tile}
 use Rattle.fluent_syntax_grammar.specs.Words.{identifier, token}
@@ -27,7 +43,8 @@ use Rattle.fluent_syntax_grammar.proofs.Facts.{differs, equal, some_same}
 use Rattle.fluent_syntax_grammar.proofs.Functional.{functional, single_block, single_stretch}
 use Rattle.fluent_syntax_grammar.proofs.FunctionalEntries.{functional_attribute, functional_pattern}
 use Rattle.fluent_syntax_grammar.proofs.FunctionalRules as rules
-use Rattle.fluent_syntax_grammar.proofs.FunctionalWords.{functional_identifier, functional_optional, functional_token, functional_number}
+use Rattle.fluent_syntax_grammar.proofs.FunctionalWords.{functional_identifier, functional_optional, functional_token}
+use Rattle.fluent_syntax_grammar.proofs.FunctionalWords.{functional_number}
 use Rattle.fluent_syntax_grammar.proofs.Nesting.{from_family, functional_family}
 use Rattle.fluent_syntax_grammar.proofs.OneTiling.{IsOneTile}
 

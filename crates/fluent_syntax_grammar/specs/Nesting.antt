@@ -1,12 +1,14 @@
 -- How deeply a text nests: how many placeables and argument lists are open at once.
-use Rattle.std.specs.Prelude.{◌≡◌, ℕ, ◌+◌, ◌<◌, ◌⊎◌, List, [], ◌∷◌, length, slice_get, Option, Some, None, Bool, true, false, ◌||◌, nat_lt}
+use Rattle.std.specs.Prelude.{◌≡◌, ℕ, ◌+◌, ◌<◌, ◌⊎◌, List, [], ◌∷◌, length, slice_get, Option, Some, None, Bool, true}
+use Rattle.std.specs.Prelude.{false, ◌||◌, nat_lt}
 use Rattle.fluent_syntax_tree.specs.Entry.{AttributeTree}
 use Rattle.fluent_syntax_tree.specs.Spans.{bytes_at}
 use Rattle.fluent_syntax_tree.specs.Tree.{ExpressionTree, InlineTree, PatternTree}
 use Rattle.fluent_syntax_tree.specs.declared.edition.Edition.{Edition}
 use Rattle.fluent_syntax_tree.specs.declared.spans.Span.{Span}
 use Rattle.fluent_syntax_grammar.specs.Arguments.{accessor, argument_name, argument_value, is_used, separator}
-use Rattle.fluent_syntax_grammar.specs.Bytes.{asterisk, colon, equals_sign, full_stop, hash, hyphen, left_brace, left_bracket, left_parenthesis, right_bracket, right_parenthesis}
+use Rattle.fluent_syntax_grammar.specs.Bytes.{asterisk, colon, equals_sign, full_stop, hash, hyphen, left_brace}
+use Rattle.fluent_syntax_grammar.specs.Bytes.{left_bracket, left_parenthesis, right_bracket, right_parenthesis}
 use Rattle.fluent_syntax_grammar.specs.Construct.{Construct, Read, ◌>>=◌, ◌>>◌, gives, over, at_each}
 use Rattle.fluent_syntax_grammar.specs.Entries.{attribute}
 use Rattle.fluent_syntax_grammar.specs.Grammar.{family, pattern, placeable}

@@ -53,8 +53,8 @@ escape_len (b ∷ bs) =
     else if b == capital_u then 1 + whole_len 6 bs
     else whole_len 1 (b ∷ bs)
 
--- What a text gives once so many of its bytes are passed over, which an escape has swallowed: each escape its character,
--- and any other byte itself.
+-- What a text gives once so many of its bytes are passed over, which an escape has swallowed: each escape its
+-- character, and any other byte itself.
 abbrev pub unescaped_after : (swallowed : ℕ) → List ℕ → List ℕ
 unescaped_after k [] = []
 unescaped_after (suc k) (b ∷ bs) = unescaped_after k bs

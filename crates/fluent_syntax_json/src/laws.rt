@@ -11,7 +11,8 @@ use fluent_syntax_tree::ast::Resource;
 /// A JSON form of `r` spells `r` and no other tree; and no value spells two trees. So `from_value` of
 /// what `to_value` gives of `r` is `r`, text by text.
 pub fn form_reads(r: &Resource<String>)
-    ensures spelled { (v : Data) → JsonForm (resource_view string_bytes r.now) v → JsonReads v (resource_view string_bytes r.now) }
+    ensures spelled { (v : Data) → JsonForm (resource_view string_bytes r.now) v →
+        JsonReads v (resource_view string_bytes r.now) }
     ensures alone { (v : Data) (other : BodyTree Text) → JsonForm (resource_view string_bytes r.now) v
         → JsonReads v other → other ≡ resource_view string_bytes r.now }
     ensures unique { (v : Data) (one other : BodyTree Text) → JsonReads v one

@@ -1,7 +1,7 @@
 //! JSON values of trees.
 //!
-//! `to_value` gives the JSON form of a resource, and `from_value` the resource that a value spells. `write_to` writes the text of the form
-//! with no value made.
+//! `to_value` gives the JSON form of a resource, and `from_value` the resource that a value spells. `write_to` writes
+//! the text of the form with no value made.
 #![tactic(auto)]
 
 mod fault;

@@ -23,20 +23,20 @@ ghost use Rattle.fluent_syntax_tree.specs.declared.edition.Edition.{Edition};
 
 /// The laws of unique reading, of a text and both editions of the grammar.
 ///
-/// - `one_reading`: at each place each construct, from entries down to blanks, is read in at most one way, with one end and
-///   one tree, and never both read and refused; a refusal has one kind and one place.
+/// - `one_reading`: at each place each construct, from entries down to blanks, is read in at most one way, with one end
+///   and one tree, and never both read and refused; a refusal has one kind and one place.
 /// - `some_tiling`, `some_runtime_tiling`: the text has a tiling, and one without comments.
 /// - `one_tiling`, `one_runtime_tiling`: it has at most one of each.
-/// - `kinds`, `runtime_kinds`: `ExpectedToken(c)` means that the byte where the error's place begins isn't `c` or the text
-///   ends there; `UnbalancedClosingBrace` means a `}` there, and `UnterminatedStringLiteral` an LF.
+/// - `kinds`, `runtime_kinds`: `ExpectedToken(c)` means that the byte where the error's place begins isn't `c` or the
+///   text ends there; `UnbalancedClosingBrace` means a `}` there, and `UnterminatedStringLiteral` an LF.
 /// - `junk`, `runtime_junk`: there are as many errors as junk entries, in the same order, with the same stretches.
-/// - `errors`, `runtime_errors`: these stretches are nonempty and ascend, disjoint, within the text; each error's place begins
-///   within its stretch, both ends included.
+/// - `errors`, `runtime_errors`: these stretches are nonempty and ascend, disjoint, within the text; each error's place
+///   begins within its stretch, both ends included.
 /// - `body`, `runtime_body`: each text of the tree is an ordered range of the source between character boundaries.
 /// - `no_comments`: the tiling without comments gives no comment and hangs none, with errors or without.
 /// - `same_entries`: the messages and terms without comments are those of the tiling, in order, with no comment hung.
-/// - `no_new_errors`, `same_body`: where the tiling has no error, the one without comments has none, and its body is that of
-///   the tiling without comment entries and with no comment hung.
+/// - `no_new_errors`, `same_body`: where the tiling has no error, the one without comments has none, and its body is
+///   that of the tiling without comment entries and with no comment hung.
 pub fn unique_reading(text: &str)
     ensures one_reading { (edition : Edition) → OneReading edition text.now }
     ensures some_tiling { (edition : Edition) → SomeTiling edition text.now }

@@ -18,7 +18,8 @@ use Rattle.fluent_syntax_grammar.specs.Construct.{Outcome, Read, Refused, ◌>>=
 use Rattle.fluent_syntax_grammar.specs.Construct.{failed, passed, chosen, first, second}
 use Rattle.fluent_syntax_grammar.specs.Family.{Family}
 use Rattle.fluent_syntax_grammar.specs.Grammar.{family}
-use Rattle.fluent_syntax_grammar.specs.Nesting.{Deeper, IsArgument, behind_positional, in_arguments, in_inline_expression}
+use Rattle.fluent_syntax_grammar.specs.Nesting.{Deeper, IsArgument, behind_positional, in_arguments}
+use Rattle.fluent_syntax_grammar.specs.Nesting.{in_inline_expression}
 use Rattle.fluent_syntax_grammar.specs.Places.{Blank, has_byte}
 use Rattle.fluent_syntax_grammar.specs.Starts.{other, start}
 use Rattle.fluent_syntax_grammar.specs.Words.{token}

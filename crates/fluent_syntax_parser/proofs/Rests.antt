@@ -10,7 +10,8 @@ use Rattle.fluent_syntax_grammar.specs.Body.{alone, body, faults, hangs}
 use Rattle.fluent_syntax_grammar.specs.Bytes.{hash}
 use Rattle.fluent_syntax_grammar.specs.Construct.{Read}
 use Rattle.fluent_syntax_grammar.specs.Places.{BlankBlock, has_byte}
-use Rattle.fluent_syntax_grammar.specs.Tiling.{Fault, Tile, entry, refused, dropped, Tiled, done, next, TileAt, entry_at, reads}
+use Rattle.fluent_syntax_grammar.specs.Tiling.{Fault, Tile, entry, refused, dropped, Tiled, done, next, TileAt}
+use Rattle.fluent_syntax_grammar.specs.Tiling.{entry_at, reads}
 use Rattle.fluent_syntax_grammar.specs.Tiling.{refuses, drops, stands, whole_line}
 use Rattle.fluent_syntax_grammar.proofs.BareEntries.{bare_tile_at}
 use Rattle.fluent_syntax_grammar.proofs.Runtime.{IsBareTile}

@@ -189,7 +189,8 @@ pub fn parse_spans_within(
     parse_by(alloc, source, options)
 }
 
-/// Reads a text as `parse_runtime_spans_edition` does, if its placeables and argument lists nest at most `nesting` deep.
+/// Reads a text as `parse_runtime_spans_edition` does, if its placeables and argument lists nest at most `nesting`
+/// deep.
 ///
 /// `TooDeep` where they nest deeper, and nothing comes back. The stack that reading takes is bounded by `nesting`.
 pub fn parse_runtime_spans_within(

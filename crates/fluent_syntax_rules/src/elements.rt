@@ -2,7 +2,9 @@
 ghost use Rattle.std.specs.Prelude.{◌≡◌, map};
 ghost use Rattle.fluent_syntax_tree.specs.Tree.{text_element, elements_of};
 ghost use Rattle.fluent_syntax_tree.specs.View.{element_view, pattern_view};
-ghost use Rattle.fluent_syntax_grammar.specs.Readable.{opening, is_line_start, stand_after, begins_with_placeable, indents, opens_well, stands_well, ends_well, are_elements, is_pattern};
+ghost use Rattle.fluent_syntax_grammar.specs.Readable.{opening, is_line_start, stand_after, begins_with_placeable};
+ghost use Rattle.fluent_syntax_grammar.specs.Readable.{indents, opens_well, stands_well, ends_well, are_elements};
+ghost use Rattle.fluent_syntax_grammar.specs.Readable.{is_pattern};
 ghost use Rattle.fluent_syntax_rules.specs.Places.{stand_of, stand_past, is_element, is_placeable};
 
 use crate::patterns::is_multiline;

@@ -2,10 +2,12 @@
 ghost use Rattle.std.specs.Prelude.{◌≡◌, map, option_to_list};
 ghost use Rattle.fluent_syntax_tree.specs.Tree.{text_element, elements_of};
 ghost use Rattle.fluent_syntax_tree.specs.View.{element_view, pattern_view};
-ghost use Rattle.fluent_syntax_grammar.specs.Canonical.{hides_mark, text_numbers, placeable_numbers, line_numbers, are_lone, are_flush, first_stand, is_flush};
+ghost use Rattle.fluent_syntax_grammar.specs.Canonical.{hides_mark, text_numbers, placeable_numbers, line_numbers};
+ghost use Rattle.fluent_syntax_grammar.specs.Canonical.{are_lone, are_flush, first_stand, is_flush};
 ghost use Rattle.fluent_syntax_grammar.specs.Layout.{least};
 ghost use Rattle.fluent_syntax_grammar.specs.PatternTexts.{is_lone_lf};
-ghost use Rattle.fluent_syntax_rules.specs.Places.{stand_of, numbers_at, element_numbers, element_hides_mark, is_lone, stands_lone, lesser};
+ghost use Rattle.fluent_syntax_rules.specs.Places.{stand_of, numbers_at, element_numbers, element_hides_mark, is_lone};
+ghost use Rattle.fluent_syntax_rules.specs.Places.{stands_lone, lesser};
 
 use crate::elements::{Stand, is_line_start, stand_past};
 use crate::patterns::{has_leading_mark, is_multiline};

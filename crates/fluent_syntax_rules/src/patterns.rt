@@ -1,7 +1,8 @@
 //! How a pattern is laid out: which patterns span lines.
 ghost use Rattle.std.specs.Prelude.{◌≡◌};
 ghost use Rattle.fluent_syntax_tree.specs.View.{expression_view, inline_view, element_view, pattern_view};
-ghost use Rattle.fluent_syntax_grammar.specs.Written.{is_select, holds_select, spans_lines, is_multiline, element_begins_with_mark, has_leading_mark};
+ghost use Rattle.fluent_syntax_grammar.specs.Written.{is_select, holds_select, spans_lines, is_multiline};
+ghost use Rattle.fluent_syntax_grammar.specs.Written.{element_begins_with_mark, has_leading_mark};
 
 use crate::texts::{begins_with_mark, has_lf};
 use fluent_syntax_tree::ast::*;

@@ -3,7 +3,8 @@ ghost use Rattle.std.specs.Prelude.{◌≡◌, ◌∷◌, List, ℕ, Bool, false
 ghost use Rattle.std.specs.List.{list_all};
 ghost use Rattle.fluent_syntax_grammar.specs.Bytes.{is_name_byte, is_digit};
 ghost use Rattle.fluent_syntax_grammar.specs.Inline.{is_callee_byte};
-ghost use Rattle.fluent_syntax_grammar.specs.Spellings.{is_name, is_digits, is_number_rest, is_unsigned, is_number, is_units, is_escape, is_string};
+ghost use Rattle.fluent_syntax_grammar.specs.Spellings.{is_name, is_digits, is_number_rest, is_unsigned, is_number};
+ghost use Rattle.fluent_syntax_grammar.specs.Spellings.{is_units, is_escape, is_string};
 ghost use Rattle.fluent_syntax_grammar.specs.Readable.{is_callee};
 ghost use Rattle.fluent_syntax_rules.specs.Strings.{may_follow};
 

@@ -2,10 +2,16 @@
 ghost use Rattle.std.specs.Prelude.{◌≡◌, ◌&&◌, map, option_map};
 ghost use Rattle.std.specs.List.{list_all};
 ghost use Rattle.fluent_syntax_tree.specs.Tree.{arguments_of, elements_of, inlines_of, nameds_of, variants_of};
-ghost use Rattle.fluent_syntax_tree.specs.View.{identifier_view, key_view, expression_view, inline_view, arguments_view, named_view, element_view, pattern_view, variant_view, comment_view, attribute_view, message_view, term_view, entry_view};
+ghost use Rattle.fluent_syntax_tree.specs.View.{identifier_view, key_view, expression_view, inline_view};
+ghost use Rattle.fluent_syntax_tree.specs.View.{arguments_view, named_view, element_view, pattern_view, variant_view};
+ghost use Rattle.fluent_syntax_tree.specs.View.{comment_view, attribute_view, message_view, term_view, entry_view};
 ghost use Rattle.fluent_syntax_grammar.specs.Readable.{is_message, is_callee};
 ghost use Rattle.fluent_syntax_grammar.specs.Spellings.{is_name};
-ghost use Rattle.fluent_syntax_grammar.specs.Rules.{option_obeys, key_obeys, expression_obeys, inline_obeys, maybe_obeys, arguments_obey, inlines_obey, nameds_obey, named_obeys, pattern_obeys, elements_obey, element_obeys, variants_obey, variant_obeys, attribute_obeys, message_obeys, term_obeys, entry_obeys, body_obeys};
+ghost use Rattle.fluent_syntax_grammar.specs.Rules.{option_obeys, key_obeys, expression_obeys, inline_obeys};
+ghost use Rattle.fluent_syntax_grammar.specs.Rules.{maybe_obeys, arguments_obey, inlines_obey, nameds_obey};
+ghost use Rattle.fluent_syntax_grammar.specs.Rules.{named_obeys, pattern_obeys, elements_obey, element_obeys};
+ghost use Rattle.fluent_syntax_grammar.specs.Rules.{variants_obey, variant_obeys, attribute_obeys, message_obeys};
+ghost use Rattle.fluent_syntax_grammar.specs.Rules.{term_obeys, entry_obeys, body_obeys};
 ghost use Rattle.fluent_syntax_rules.specs.Standards.{comment_rule, pattern_rule, rules_of, parts_obey};
 
 use crate::arguments::are_arguments;

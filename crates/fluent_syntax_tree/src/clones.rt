@@ -1,6 +1,8 @@
 //! Equal copies of trees, in place of `Clone`: a copy takes memory.
 ghost use Rattle.std.specs.Prelude.{◌≡◌, IfOk};
-ghost use Rattle.fluent_syntax_tree.specs.View.{resource_view, entry_view, message_view, term_view, pattern_view, element_view, attribute_view, identifier_view, variant_view, key_view, comment_view, arguments_view, named_view, inline_view, expression_view};
+ghost use Rattle.fluent_syntax_tree.specs.View.{resource_view, entry_view, message_view, term_view, pattern_view};
+ghost use Rattle.fluent_syntax_tree.specs.View.{element_view, attribute_view, identifier_view, variant_view, key_view};
+ghost use Rattle.fluent_syntax_tree.specs.View.{comment_view, arguments_view, named_view, inline_view, expression_view};
 
 use crate::ast::*;
 use crate::copied::{entries, names, patterns};

@@ -7,7 +7,8 @@ pub mod patterns;
 
 use std::alloc::Global;
 
-/// An empty list, with room for a copy of each item where there is memory for it. Where there is none, the first push says so.
+/// An empty list, with room for a copy of each item where there is memory for it. Where there is none, the first push
+/// says so.
 fn list_for<X, Y>(alloc: Global, items: &Vec<X>) -> Vec<Y>
     ensures { result.items ≡ [] }
 {

@@ -1,5 +1,6 @@
 //! Texts that a tree may hold.
-ghost use Rattle.std.specs.Prelude.{◌≡◌, ℕ, ◌≤◌, ◌↔◌, List, length, string_bytes, slice_range, IsTrue, IsOk, IfOk, slice_index, ◌<◌};
+ghost use Rattle.std.specs.Prelude.{◌≡◌, ℕ, ◌≤◌, ◌↔◌, List, length, string_bytes, slice_range, IsTrue, IsOk, IfOk};
+ghost use Rattle.std.specs.Prelude.{slice_index, ◌<◌};
 ghost use Rattle.std.specs.Str.{IsCharBoundary};
 ghost use Rattle.fluent_syntax_tree.specs.Text.{trimmed, trimmed_len};
 ghost use Rattle.std.specs.Bool.{Decides};

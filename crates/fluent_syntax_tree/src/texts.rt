@@ -1,7 +1,7 @@
 //! The texts of a tree, as recursions over trees take them.
 //!
-//! No recursion under a bound that names a lifetime is proved, as `Slice<'s>` does. So a recursion is over a way to read or to copy texts,
-//! and the call that begins it names the way: `BySlice<'s>`, or one of its own.
+//! No recursion under a bound that names a lifetime is proved, as `Slice<'s>` does. So a recursion is over a way to
+//! read or to copy texts, and the call that begins it names the way: `BySlice<'s>`, or one of its own.
 ghost use Rattle.std.specs.Prelude.{◌≡◌, ℕ, List, IfOk};
 
 use crate::slice::Slice;

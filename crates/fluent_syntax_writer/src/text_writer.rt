@@ -14,7 +14,8 @@ fn last_byte(before: Option<u8>, piece: &str) -> Option<u8>
     piece.as_bytes().last().copied().or(before)
 }
 
-/// Writes to the sink the texts that `T` reads. What the sink has accepted is the text so far, or a beginning of it once it has refused.
+/// Writes to the sink the texts that `T` reads. What the sink has accepted is the text so far, or a beginning of it
+/// once it has refused.
 #[derive(Drop)]
 pub struct TextWriter<'w, T, W> {
     sink: &'w mut W,

@@ -1,5 +1,6 @@
 //! The text that a command writes.
-ghost use Rattle.std.specs.Prelude.{◌≡◌, ◌≢◌, ◌↔◌, ◌+◌, ◌++◌, ◌^◌, ◌<◌, ◌≤◌, ℕ, List, length, string_bytes, codes, Err, Ok, IfErr, IfOk, IfSome, OnErr, OnOk, false};
+ghost use Rattle.std.specs.Prelude.{◌≡◌, ◌≢◌, ◌↔◌, ◌+◌, ◌++◌, ◌^◌, ◌<◌, ◌≤◌, ℕ, List, length, string_bytes, codes, Err};
+ghost use Rattle.std.specs.Prelude.{Ok, IfErr, IfOk, IfSome, OnErr, OnOk, false};
 ghost use Rattle.std.specs.Str.{IsUtf8};
 ghost use Rattle.fluent_syntax_tree.specs.Entry.{body_map, entry_map};
 ghost use Rattle.fluent_syntax_tree.specs.Every.{entry_every};
@@ -14,7 +15,8 @@ ghost use Rattle.fluent_syntax_parser.specs.Halts.{HaltsWithin, OnHalt};
 ghost use Rattle.fluent_syntax_parser.specs.Rest.{TileIn, tree_of};
 ghost use Rattle.fluent_syntax_parser.specs.declared.fault.ParseFault.TheVariants.{Memory};
 ghost use Rattle.ftl.specs.Formatting.{AddsTree};
-ghost use Rattle.ftl.specs.Answer.{IsAnswer, ReadsDeeper, error_lines, error_text, line_of_error, range_text, json_text, normal_text, outcome_behind, outcome_of, told};
+ghost use Rattle.ftl.specs.Answer.{IsAnswer, ReadsDeeper, error_lines, error_text, line_of_error, range_text};
+ghost use Rattle.ftl.specs.Answer.{json_text, normal_text, outcome_behind, outcome_of, told};
 
 use crate::command::Command;
 use crate::outcome::{Outcome, RunFault};
@@ -298,7 +300,8 @@ fn outcome_behind(outcome: Outcome, error: &Option<ParserError>) -> Outcome
 
 /// The JSON form of the tree that was read, as compact text, and LF.
 fn json<'s>(alloc: Global, parsed: parser::Result<&'s str>) -> Result<(String, Outcome), RunFault>
-    ensures text { IfOk result (λ answer. (t : List ℕ) (tiles : List Tile) → Answers (λ s. s.now) (body_map (bytes_at t)) tiles parsed.entry
+    ensures text { IfOk result (λ answer. (t : List ℕ) (tiles : List Tile)
+        → Answers (λ s. s.now) (body_map (bytes_at t)) tiles parsed.entry
         → (string_bytes answer.0 ≡ json_text t tiles) × (answer.1 ≡ outcome_of tiles)) }
     ensures read { IfOk result (λ answer. parsed.entry ≢ Err Memory) }
     ensures err { IfErr result (λ fault. fault ≡ RunFault.Memory) }
@@ -315,7 +318,9 @@ fn json_text<'s>(
     tree: &Resource<&'s str>,
     outcome: Outcome,
 ) -> Result<(String, Outcome), RunFault>
-    ensures text { IfOk result (λ answer. (string_bytes answer.0 ≡ compact_text (body_form (resource_view (λ s. s.now) tree.now)) ++ codes "\n") × (answer.1 ≡ outcome)) }
+    ensures text { IfOk result (λ answer.
+        (string_bytes answer.0 ≡ compact_text (body_form (resource_view (λ s. s.now) tree.now)) ++ codes "\n")
+        × (answer.1 ≡ outcome)) }
     ensures err { IfErr result (λ fault. fault ≡ RunFault.Memory) }
 {
     match json_line(alloc, tree) {
@@ -325,7 +330,8 @@ fn json_text<'s>(
 }
 
 fn json_line<'s>(alloc: Global, tree: &Resource<&'s str>) -> Result<String, AllocError>
-    ensures { IfOk result (λ text. string_bytes text ≡ compact_text (body_form (resource_view (λ s. s.now) tree.now)) ++ codes "\n") }
+    ensures { IfOk result
+        (λ text. string_bytes text ≡ compact_text (body_form (resource_view (λ s. s.now) tree.now)) ++ codes "\n") }
 {
     let mut text = String::new(alloc);
     match write_to(&mut text, tree) {

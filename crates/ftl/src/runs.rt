@@ -1,5 +1,6 @@
 //! A whole run: reads all, answers, writes.
-ghost use Rattle.std.specs.Prelude.{◌≡◌, ◌⊎◌, ◌++◌, ℕ, List, true, false, IfOk, IfErr, OnOk, OnErr, IfSome, Err, ◌≢◌, ◌<◌, length, vec_len};
+ghost use Rattle.std.specs.Prelude.{◌≡◌, ◌⊎◌, ◌++◌, ℕ, List, true, false, IfOk, IfErr, OnOk, OnErr, IfSome, Err, ◌≢◌};
+ghost use Rattle.std.specs.Prelude.{◌<◌, length, vec_len};
 ghost use Rattle.std.specs.Io.KnownBytes.{Appends};
 ghost use Rattle.ftl.specs.Watched.{inner_of, has_failed};
 ghost use Rattle.ftl.specs.Run.{FailsAs, AppendsBeginning, WritesAnswer};
@@ -27,8 +28,10 @@ pub fn run<R: Read, W: Write>(
 ) -> Result<Outcome, RunFault>
     requires reader { has_failed reader.old ≡ false }
     requires writer { has_failed writer.old ≡ false }
-    ensures text { WritesAnswer command (R.remaining (inner_of reader.old)) (W.contents (inner_of writer.old)) (W.contents (inner_of writer.new)) result }
-    ensures faults { FailsAs (R.remaining (inner_of reader.old)) (has_failed reader.new) (has_failed writer.new) result }
+    ensures text { WritesAnswer command (R.remaining (inner_of reader.old)) (W.contents (inner_of writer.old))
+        (W.contents (inner_of writer.new)) result }
+    ensures faults { FailsAs (R.remaining (inner_of reader.old)) (has_failed reader.new)
+        (has_failed writer.new) result }
     ensures unwritten { (result ≡ Err RunFault.Input) ⊎ (result ≡ Err RunFault.Memory) → writer.new ≡ writer.old }
 {
     let input = read_all(alloc, reader)?;
@@ -71,7 +74,8 @@ fn read_blocks<R: Read>(
 /// Writes the text, piece by piece as the writer takes it.
 fn write_all<W: Write>(writer: &mut Watched<W>, text: &[u8]) -> Result<(), RunFault>
     ensures all { OnOk result (Appends (W.contents (inner_of writer.old)) (W.contents (inner_of writer.new)) text.now) }
-    ensures beginning { OnErr result (AppendsBeginning (W.contents (inner_of writer.old)) (W.contents (inner_of writer.new)) text.now) }
+    ensures beginning { OnErr result
+        (AppendsBeginning (W.contents (inner_of writer.old)) (W.contents (inner_of writer.new)) text.now) }
     ensures failed { IfErr result (λ fault. (fault ≡ RunFault.Output) × (has_failed writer.new ≡ true)) }
 {
     let mut rest = text;

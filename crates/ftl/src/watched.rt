@@ -54,7 +54,8 @@ impl<R: Read> Watched<R> {
             Consumes (R.remaining (inner_of self.old)) (R.remaining (inner_of self.new)) (take n buf.new)) }
         ensures end { IfSome result (λ n. n ≡ 0 → 0 < length buf.old → IsAtEnd (R.remaining (inner_of self.new))) }
         ensures none { IfNone result (Keeps (R.remaining (inner_of self.old)) (R.remaining (inner_of self.new))) }
-        ensures failed { MatchOption result (has_failed self.new ≡ true) (λ _. has_failed self.new ≡ has_failed self.old) }
+        ensures failed { MatchOption result (has_failed self.new ≡ true)
+            (λ _. has_failed self.new ≡ has_failed self.old) }
     {
         match self.inner.read(buf) {
             Ok(count) => Some(count),
@@ -77,7 +78,8 @@ impl<W: Write> Watched<W> {
         ensures bytes { IfSome result (λ n.
             Appends (W.contents (inner_of self.old)) (W.contents (inner_of self.new)) (take n piece.now)) }
         ensures none { IfNone result (Keeps (W.contents (inner_of self.old)) (W.contents (inner_of self.new))) }
-        ensures failed { MatchOption result (has_failed self.new ≡ true) (λ _. has_failed self.new ≡ has_failed self.old) }
+        ensures failed { MatchOption result (has_failed self.new ≡ true)
+            (λ _. has_failed self.new ≡ has_failed self.old) }
     {
         match self.inner.write(piece) {
             Ok(count) if count > 0 || piece.is_empty() => Some(count),

@@ -1,9 +1,11 @@
 //! Entries and resources.
 ghost use Rattle.std.specs.Prelude.{◌≡◌, [], ◌∷◌, IfOk, codes, map, option_map, string_bytes};
 ghost use Rattle.serde_json.specs.View.{view};
-ghost use Rattle.fluent_syntax_tree.specs.View.{comment_view, pattern_view, attribute_view, message_view, term_view, entry_view, resource_view};
+ghost use Rattle.fluent_syntax_tree.specs.View.{comment_view, pattern_view, attribute_view, message_view, term_view};
+ghost use Rattle.fluent_syntax_tree.specs.View.{entry_view, resource_view};
 ghost use Rattle.fluent_syntax_json.specs.Object.{object_of};
-ghost use Rattle.fluent_syntax_json.specs.Form.{or_null, list_form, lines_form, comment_form, pattern_form, attribute_form, message_form, term_form, entry_form};
+ghost use Rattle.fluent_syntax_json.specs.Form.{or_null, list_form, lines_form, comment_form, pattern_form};
+ghost use Rattle.fluent_syntax_json.specs.Form.{attribute_form, message_form, term_form, entry_form};
 ghost use Rattle.fluent_syntax_json.specs.Json.{JsonForm};
 
 use super::names::{identifier, lines, text};
@@ -73,7 +75,8 @@ fn term(alloc: Global, term: &Term<String>) -> Result<Value, AllocError>
 
 /// A comment that is an entry of its own, under the name of its level.
 fn comment(alloc: Global, name: &str, comment: &Comment<String>) -> Result<Value, AllocError>
-    ensures { IfOk result (λ v. view v ≡ object_of name.now ((codes "content", lines_form (comment_view string_bytes comment.now)) ∷ [])) }
+    ensures { IfOk result (λ v. view v
+        ≡ object_of name.now ((codes "content", lines_form (comment_view string_bytes comment.now)) ∷ [])) }
 {
     Ok(
         Object::of_type(alloc, name)?
@@ -92,7 +95,8 @@ fn value(alloc: Global, value: &Option<Pattern<String>>) -> Result<Value, AllocE
 }
 
 fn attributes(alloc: Global, attributes: &Vec<Attribute<String>>) -> Result<Value, AllocError>
-    ensures { IfOk result (λ v. view v ≡ list_form attribute_form (map (attribute_view string_bytes) attributes.now.items)) }
+    ensures { IfOk result
+        (λ v. view v ≡ list_form attribute_form (map (attribute_view string_bytes) attributes.now.items)) }
 {
     let mut list = Vec::new(alloc);
     for item in attributes {

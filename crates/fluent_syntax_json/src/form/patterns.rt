@@ -1,8 +1,10 @@
 //! Patterns, and all that nests in them.
 ghost use Rattle.std.specs.Prelude.{◌≡◌, IfOk, string_bytes};
 ghost use Rattle.serde_json.specs.View.{view};
-ghost use Rattle.fluent_syntax_tree.specs.View.{expression_view, inline_view, element_view, arguments_view, named_view, pattern_view, variant_view};
-ghost use Rattle.fluent_syntax_json.specs.Form.{expression_form, inline_form, element_form, arguments_form, named_form, pattern_form, variant_form};
+ghost use Rattle.fluent_syntax_tree.specs.View.{expression_view, inline_view, element_view, arguments_view, named_view};
+ghost use Rattle.fluent_syntax_tree.specs.View.{pattern_view, variant_view};
+ghost use Rattle.fluent_syntax_json.specs.Form.{expression_form, inline_form, element_form, arguments_form, named_form};
+ghost use Rattle.fluent_syntax_json.specs.Form.{pattern_form, variant_form};
 
 use super::names::{attribute_name, identifier, key, text};
 use crate::object::Object;

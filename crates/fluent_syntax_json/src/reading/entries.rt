@@ -1,12 +1,14 @@
 //! Entries and resources.
 ghost use Rattle.std.specs.Prelude.{◌≡◌, ◌⊎◌, IfOk, Err, map, option_map, string_bytes};
 ghost use Rattle.serde_json.specs.View.{view};
-ghost use Rattle.fluent_syntax_tree.specs.View.{comment_view, pattern_view, attribute_view, message_view, term_view, entry_view, resource_view};
+ghost use Rattle.fluent_syntax_tree.specs.View.{comment_view, pattern_view, attribute_view, message_view, term_view};
+ghost use Rattle.fluent_syntax_tree.specs.View.{entry_view, resource_view};
 ghost use Rattle.fluent_syntax_tree.specs.Entry.{BodyTree};
 ghost use Rattle.fluent_syntax_json.specs.Object.{Text};
 ghost use Rattle.fluent_syntax_json.specs.Json.{JsonReads};
 ghost use Rattle.fluent_syntax_json.specs.Answer.{Answers};
-ghost use Rattle.fluent_syntax_json.specs.Reading.{list_by, value_in, hung_in, attribute_in, message_in, term_in, entry_in, body_in};
+ghost use Rattle.fluent_syntax_json.specs.Reading.{list_by, value_in, hung_in, attribute_in, message_in, term_in};
+ghost use Rattle.fluent_syntax_json.specs.Reading.{entry_in, body_in};
 
 use super::fields::{field, list, optional, text, type_name};
 use super::names::{comment, identifier};

@@ -1,9 +1,11 @@
 //! Patterns, and all that nests in them.
 ghost use Rattle.std.specs.Prelude.{string_bytes};
 ghost use Rattle.serde_json.specs.View.{view};
-ghost use Rattle.fluent_syntax_tree.specs.View.{expression_view, inline_view, element_view, arguments_view, named_view, pattern_view, variant_view};
+ghost use Rattle.fluent_syntax_tree.specs.View.{expression_view, inline_view, element_view, arguments_view, named_view};
+ghost use Rattle.fluent_syntax_tree.specs.View.{pattern_view, variant_view};
 ghost use Rattle.fluent_syntax_json.specs.Answer.{Answers};
-ghost use Rattle.fluent_syntax_json.specs.Reading.{expression_in, inline_in, element_in, arguments_in, named_in, pattern_in, variant_in};
+ghost use Rattle.fluent_syntax_json.specs.Reading.{expression_in, inline_in, element_in, arguments_in, named_in};
+ghost use Rattle.fluent_syntax_json.specs.Reading.{pattern_in, variant_in};
 
 use super::fields::{field, list, optional, text, truth, type_name};
 use super::names::{attribute_name, identifier, key};

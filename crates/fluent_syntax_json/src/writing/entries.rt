@@ -2,9 +2,11 @@
 ghost use Rattle.std.specs.Prelude.{◌≡◌, [], ◌∷◌, OnOk, OnErr, codes, map, option_map, false};
 ghost use Rattle.serde_json.specs.View.{items_of};
 ghost use Rattle.serde_json.specs.Written.{compact_text, items_text};
-ghost use Rattle.fluent_syntax_tree.specs.View.{comment_view, pattern_view, attribute_view, message_view, term_view, entry_view, resource_view};
+ghost use Rattle.fluent_syntax_tree.specs.View.{comment_view, pattern_view, attribute_view, message_view, term_view};
+ghost use Rattle.fluent_syntax_tree.specs.View.{entry_view, resource_view};
 ghost use Rattle.fluent_syntax_writer.specs.Sink.{Takes, TakesBeginning};
-ghost use Rattle.fluent_syntax_json.specs.Form.{or_null, list_form, comment_form, pattern_form, attribute_form, message_form, term_form, entry_form, body_form};
+ghost use Rattle.fluent_syntax_json.specs.Form.{or_null, list_form, comment_form, pattern_form, attribute_form};
+ghost use Rattle.fluent_syntax_json.specs.Form.{message_form, term_form, entry_form, body_form};
 ghost use Rattle.fluent_syntax_json.specs.Writing.{WritesData};
 ghost use Rattle.fluent_syntax_writer.specs.Writing.{Appends};
 
@@ -17,7 +19,8 @@ use fluent_syntax_tree::texts::{BySlice, ReadTexts};
 use fluent_syntax_writer::sink::{SinkError, TextSink};
 use fluent_syntax_writer::text_writer::TextWriter;
 
-/// Writes the text that `serde_json` writes of the tree's JSON form to the sink. Takes no memory of its own, since no value is made.
+/// Writes the text that `serde_json` writes of the tree's JSON form to the sink. Takes no memory of its own, since no
+/// value is made.
 ///
 /// # Errors
 ///
@@ -26,8 +29,10 @@ pub fn write_to<'s, S: Slice<'s>, W: TextSink>(
     w: &mut W,
     tree: &Resource<S>,
 ) -> Result<(), SinkError>
-    ensures taken { OnOk result (Takes W.text W.room w.old w.new (compact_text (body_form (resource_view S.text tree.now)))) }
-    ensures refused { OnErr result (TakesBeginning W.text W.room w.old w.new (compact_text (body_form (resource_view S.text tree.now)))) }
+    ensures taken { OnOk result (Takes W.text W.room w.old w.new
+        (compact_text (body_form (resource_view S.text tree.now)))) }
+    ensures refused { OnErr result (TakesBeginning W.text W.room w.old w.new
+        (compact_text (body_form (resource_view S.text tree.now)))) }
 {
     write_body::<S, BySlice<'s>, W>(w, &tree.body)
 }
@@ -37,8 +42,10 @@ fn write_body<X, T: ReadTexts<X>, W: TextSink>(
     w: &mut W,
     entries: &[Entry<X>],
 ) -> Result<(), SinkError>
-    ensures taken { OnOk result (Takes W.text W.room w.old w.new (compact_text (body_form (map (entry_view T.text) entries.now)))) }
-    ensures refused { OnErr result (TakesBeginning W.text W.room w.old w.new (compact_text (body_form (map (entry_view T.text) entries.now)))) }
+    ensures taken { OnOk result (Takes W.text W.room w.old w.new
+        (compact_text (body_form (map (entry_view T.text) entries.now)))) }
+    ensures refused { OnErr result (TakesBeginning W.text W.room w.old w.new
+        (compact_text (body_form (map (entry_view T.text) entries.now)))) }
 {
     let mut writer: TextWriter<'_, T, W> = TextWriter::new(w);
     write_resource(&mut writer, entries);
@@ -66,7 +73,8 @@ fn write_entries<X, T: ReadTexts<X>, W: TextSink>(
     writer: &mut TextWriter<'_, T, W>,
     entries: &[Entry<X>],
 )
-    ensures written { Appends W.text W.room writer.old writer.new (items_text false (items_of (map entry_form (map (entry_view T.text) entries.now)))) }
+    ensures written { Appends W.text W.room writer.old writer.new
+        (items_text false (items_of (map entry_form (map (entry_view T.text) entries.now)))) }
 {
     let mut later = false;
     for entry in entries {
@@ -141,7 +149,8 @@ fn write_value<X, T: ReadTexts<X>, W: TextSink>(
     writer: &mut TextWriter<'_, T, W>,
     value: &Option<Pattern<X>>,
 )
-    ensures written { WritesData W.text W.room writer.old writer.new (or_null pattern_form (option_map (pattern_view T.text) value.now)) }
+    ensures written { WritesData W.text W.room writer.old writer.new
+        (or_null pattern_form (option_map (pattern_view T.text) value.now)) }
 {
     match value {
         None => writer.write_piece("null"),
@@ -154,7 +163,8 @@ fn write_attributes<X, T: ReadTexts<X>, W: TextSink>(
     writer: &mut TextWriter<'_, T, W>,
     attributes: &[Attribute<X>],
 )
-    ensures written { Appends W.text W.room writer.old writer.new (items_text false (items_of (map attribute_form (map (attribute_view T.text) attributes.now)))) }
+    ensures written { Appends W.text W.room writer.old writer.new
+        (items_text false (items_of (map attribute_form (map (attribute_view T.text) attributes.now)))) }
 {
     let mut later = false;
     for attribute in attributes {
@@ -169,7 +179,8 @@ fn write_attribute<X, T: ReadTexts<X>, W: TextSink>(
     writer: &mut TextWriter<'_, T, W>,
     attribute: &Attribute<X>,
 )
-    ensures written { WritesData W.text W.room writer.old writer.new (attribute_form (attribute_view T.text attribute.now)) }
+    ensures written { WritesData W.text W.room writer.old writer.new
+        (attribute_form (attribute_view T.text attribute.now)) }
 {
     writer.write_piece("{\"id\":");
     write_name(writer, &attribute.id);
@@ -183,7 +194,8 @@ fn write_hung<X, T: ReadTexts<X>, W: TextSink>(
     writer: &mut TextWriter<'_, T, W>,
     comment: &Option<Comment<X>>,
 )
-    ensures written { WritesData W.text W.room writer.old writer.new (or_null comment_form (option_map (comment_view T.text) comment.now)) }
+    ensures written { WritesData W.text W.room writer.old writer.new
+        (or_null comment_form (option_map (comment_view T.text) comment.now)) }
 {
     match comment {
         None => writer.write_piece("null"),

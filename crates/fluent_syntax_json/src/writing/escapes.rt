@@ -46,9 +46,11 @@ fn is_plain(byte: u8) -> bool
     !(byte == b'"' || byte == b'\\' || byte < b' ')
 }
 
-/// The text before the first byte that is escaped, that byte, and the text after it; or `None` where every byte stands for itself.
+/// The text before the first byte that is escaped, that byte, and the text after it; or `None` where every byte stands
+/// for itself.
 pub fn split_at_escape(text: &str) -> Option<(&str, u8, &str)>
-    ensures parts { MatchOption result (escape text.now ≡ text.now) (λ parts. escape text.now ≡ parts.0.now ++ (escape_byte parts.1 ++ escape parts.2.now)) }
+    ensures parts { MatchOption result (escape text.now ≡ text.now)
+        (λ parts. escape text.now ≡ parts.0.now ++ (escape_byte parts.1 ++ escape parts.2.now)) }
     ensures escaped { IfSome result (λ parts. is_plain parts.1 ≡ false) }
     ensures shorter { IfSome result (λ parts. length parts.2.now < length text.now) }
 {

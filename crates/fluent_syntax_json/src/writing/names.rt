@@ -29,7 +29,8 @@ pub fn write_attribute_name<X, T: ReadTexts<X>, W: TextSink>(
     writer: &mut TextWriter<'_, T, W>,
     attribute: &Option<Identifier<X>>,
 )
-    ensures written { WritesData W.text W.room writer.old writer.new (or_null name_form (option_map (identifier_view T.text) attribute.now)) }
+    ensures written { WritesData W.text W.room writer.old writer.new
+        (or_null name_form (option_map (identifier_view T.text) attribute.now)) }
 {
     match attribute {
         None => writer.write_piece("null"),
@@ -62,7 +63,8 @@ pub fn write_lines<X, T: ReadTexts<X>, W: TextSink>(
     writer: &mut TextWriter<'_, T, W>,
     comment: &Comment<X>,
 )
-    ensures written { Appends W.text W.room writer.old writer.new (items_text false (items_of (map string (comment_view T.text comment.now)))) }
+    ensures written { Appends W.text W.room writer.old writer.new
+        (items_text false (items_of (map string (comment_view T.text comment.now)))) }
 {
     let mut later = false;
     for line in &comment.content {

@@ -2,8 +2,11 @@
 ghost use Rattle.std.specs.Prelude.{map, option_map, false};
 ghost use Rattle.serde_json.specs.Written.{items_text};
 ghost use Rattle.fluent_syntax_tree.specs.Tree.{arguments_of, elements_of, variants_of, inlines_of, nameds_of};
-ghost use Rattle.fluent_syntax_tree.specs.View.{expression_view, inline_view, element_view, arguments_view, named_view, pattern_view, variant_view};
-ghost use Rattle.fluent_syntax_json.specs.Form.{expression_form, inline_form, inline_forms, element_form, element_forms, maybe_form, arguments_form, named_form, named_forms, pattern_form, variant_form, variant_forms};
+ghost use Rattle.fluent_syntax_tree.specs.View.{expression_view, inline_view, element_view, arguments_view, named_view};
+ghost use Rattle.fluent_syntax_tree.specs.View.{pattern_view, variant_view};
+ghost use Rattle.fluent_syntax_json.specs.Form.{expression_form, inline_form, inline_forms, element_form};
+ghost use Rattle.fluent_syntax_json.specs.Form.{element_forms, maybe_form, arguments_form, named_form, named_forms};
+ghost use Rattle.fluent_syntax_json.specs.Form.{pattern_form, variant_form, variant_forms};
 ghost use Rattle.fluent_syntax_json.specs.Writing.{WritesData};
 ghost use Rattle.fluent_syntax_writer.specs.Writing.{Appends};
 
@@ -32,7 +35,8 @@ fn write_elements<X, T: ReadTexts<X>, W: TextSink>(
     writer: &mut TextWriter<'_, T, W>,
     elements: &[PatternElement<X>],
 )
-    ensures written { Appends W.text W.room writer.old writer.new (items_text false (element_forms (elements_of (map (element_view T.text) elements.now)))) }
+    ensures written { Appends W.text W.room writer.old writer.new
+        (items_text false (element_forms (elements_of (map (element_view T.text) elements.now)))) }
 {
     let mut later = false;
     for element in elements {
@@ -69,7 +73,8 @@ fn write_expression<X, T: ReadTexts<X>, W: TextSink>(
     writer: &mut TextWriter<'_, T, W>,
     expression: &Expression<X>,
 )
-    ensures written { WritesData W.text W.room writer.old writer.new (expression_form (expression_view T.text expression.now)) }
+    ensures written { WritesData W.text W.room writer.old writer.new
+        (expression_form (expression_view T.text expression.now)) }
 {
     match expression {
         Expression::Select { selector, variants } => {
@@ -89,7 +94,8 @@ fn write_variants<X, T: ReadTexts<X>, W: TextSink>(
     writer: &mut TextWriter<'_, T, W>,
     variants: &[Variant<X>],
 )
-    ensures written { Appends W.text W.room writer.old writer.new (items_text false (variant_forms (variants_of (map (variant_view T.text) variants.now)))) }
+    ensures written { Appends W.text W.room writer.old writer.new
+        (items_text false (variant_forms (variants_of (map (variant_view T.text) variants.now)))) }
 {
     let mut later = false;
     for variant in variants {
@@ -180,7 +186,8 @@ fn write_own_arguments<X, T: ReadTexts<X>, W: TextSink>(
     writer: &mut TextWriter<'_, T, W>,
     arguments: &Option<CallArguments<X>>,
 )
-    ensures written { WritesData W.text W.room writer.old writer.new (maybe_form (arguments_of (option_map (arguments_view T.text) arguments.now))) }
+    ensures written { WritesData W.text W.room writer.old writer.new
+        (maybe_form (arguments_of (option_map (arguments_view T.text) arguments.now))) }
 {
     match arguments {
         None => writer.write_piece("null"),
@@ -193,7 +200,8 @@ fn write_arguments<X, T: ReadTexts<X>, W: TextSink>(
     writer: &mut TextWriter<'_, T, W>,
     arguments: &CallArguments<X>,
 )
-    ensures written { WritesData W.text W.room writer.old writer.new (arguments_form (arguments_view T.text arguments.now)) }
+    ensures written { WritesData W.text W.room writer.old writer.new
+        (arguments_form (arguments_view T.text arguments.now)) }
 {
     writer.write_piece("{\"named\":[");
     write_nameds(writer, &arguments.named);
@@ -208,7 +216,8 @@ fn write_positional<X, T: ReadTexts<X>, W: TextSink>(
     writer: &mut TextWriter<'_, T, W>,
     inlines: &[InlineExpression<X>],
 )
-    ensures written { Appends W.text W.room writer.old writer.new (items_text false (inline_forms (inlines_of (map (inline_view T.text) inlines.now)))) }
+    ensures written { Appends W.text W.room writer.old writer.new
+        (items_text false (inline_forms (inlines_of (map (inline_view T.text) inlines.now)))) }
 {
     let mut later = false;
     for inline in inlines {
@@ -225,7 +234,8 @@ fn write_nameds<X, T: ReadTexts<X>, W: TextSink>(
     writer: &mut TextWriter<'_, T, W>,
     nameds: &[NamedArgument<X>],
 )
-    ensures written { Appends W.text W.room writer.old writer.new (items_text false (named_forms (nameds_of (map (named_view T.text) nameds.now)))) }
+    ensures written { Appends W.text W.room writer.old writer.new
+        (items_text false (named_forms (nameds_of (map (named_view T.text) nameds.now)))) }
 {
     let mut later = false;
     for named in nameds {

@@ -67,7 +67,8 @@ fn write_escape<T, W: TextSink>(writer: &mut TextWriter<'_, T, W>, byte: u8)
 /// Writes the escape of a control character by its number.
 fn write_control<T, W: TextSink>(writer: &mut TextWriter<'_, T, W>, byte: u8)
     requires { byte < 32 }
-    ensures written { Appends W.text W.room writer.old writer.new (92 ∷ 117 ∷ 48 ∷ 48 ∷ digit_char (byte / 16) ∷ digit_char (byte % 16) ∷ []) }
+    ensures written { Appends W.text W.room writer.old writer.new
+        (92 ∷ 117 ∷ 48 ∷ 48 ∷ digit_char (byte / 16) ∷ digit_char (byte % 16) ∷ []) }
 {
     writer.write_piece("\\u00");
     writer.write_piece(hexadecimal_digit(byte / 16));

@@ -1,7 +1,9 @@
 //! Entries and resources.
 ghost use Rattle.std.specs.Prelude.{◌≡◌, [], IsOk, IfOk, map, option_map};
-ghost use Rattle.fluent_syntax_tree.specs.Every.{pattern_every, attribute_every, message_every, term_every, entry_every, body_every, option_every, list_every};
-ghost use Rattle.fluent_syntax_tree.specs.View.{comment_view, pattern_view, attribute_view, message_view, term_view, entry_view, resource_view};
+ghost use Rattle.fluent_syntax_tree.specs.Every.{pattern_every, attribute_every, message_every, term_every};
+ghost use Rattle.fluent_syntax_tree.specs.Every.{entry_every, body_every, option_every, list_every};
+ghost use Rattle.fluent_syntax_tree.specs.View.{comment_view, pattern_view, attribute_view, message_view, term_view};
+ghost use Rattle.fluent_syntax_tree.specs.View.{entry_view, resource_view};
 
 use super::list_for;
 use super::names::{comment, identifier};

@@ -1,7 +1,9 @@
 //! Patterns, and all that nests in them.
 ghost use Rattle.std.specs.Prelude.{◌≡◌, IfOk, map, option_map};
-ghost use Rattle.fluent_syntax_tree.specs.Every.{expression_every, inline_every, element_every, arguments_every, named_every, pattern_every, variant_every};
-ghost use Rattle.fluent_syntax_tree.specs.View.{expression_view, inline_view, element_view, arguments_view, named_view, pattern_view, variant_view};
+ghost use Rattle.fluent_syntax_tree.specs.Every.{expression_every, inline_every, element_every, arguments_every};
+ghost use Rattle.fluent_syntax_tree.specs.Every.{named_every, pattern_every, variant_every};
+ghost use Rattle.fluent_syntax_tree.specs.View.{expression_view, inline_view, element_view, arguments_view, named_view};
+ghost use Rattle.fluent_syntax_tree.specs.View.{pattern_view, variant_view};
 
 use super::list_for;
 use super::names::{attribute_name, identifier, key};

@@ -42,7 +42,8 @@ impl<W: TextSink> EntryWriter<W> {
         }
     }
 
-    /// Writes the entry after those that came before, unless the sink has refused a piece. It takes no memory of its own.
+    /// Writes the entry after those that came before, unless the sink has refused a piece. It takes no memory of its
+    /// own.
     pub fn write_entry<'s, S: Slice<'s>>(&mut self, entry: &Entry<S>)
         ensures options { self.new.options ≡ self.old.options }
         ensures written { (start : _) (body : BodyTree Text) → HasWritten W.text W.room start body self.old

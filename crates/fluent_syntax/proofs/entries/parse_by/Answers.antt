@@ -20,8 +20,8 @@ returns-in-Ok-clause-tiling g c =
     let answer = c.answer_of.ensures in (
       read.rest.tiles,
       read.rest.tiled,
-      answers_of g.S.Slice.text (body_map (bytes_at t)) read.rest.tiles _ _ c.answer_of.result answer.clean answer.syntax
-          (rw (read.rest.gives) read.texts) read.rest.tells,
+      answers_of g.S.Slice.text (body_map (bytes_at t)) read.rest.tiles _ _ c.answer_of.result answer.clean
+          answer.syntax (rw (read.rest.gives) read.texts) read.rest.tells,
     )
 
 pub returns-in-Ok-clause-junk : goal.returns-in-Ok-clause-junk

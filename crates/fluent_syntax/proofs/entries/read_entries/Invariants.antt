@@ -11,7 +11,8 @@ invariant-loop-parts g l = let t = g.S.Slice.text l.input in let options = l.fn.
     let deeper = TextDeeper options.edition t (TileIn options.comments options.edition t) options.nesting in record {
       text : l.entries.source.bytes.now ≡ t;
       options : l.entries.options ≡ l.fn.options;
-      read : IsReadTo g.S.Slice.text l.fn.options.comments l.fn.options.edition t l.entries.ptr l.body.items l.errors.items;
+      read : IsReadTo g.S.Slice.text l.fn.options.comments l.fn.options.edition t l.entries.ptr l.body.items
+          l.errors.items;
       deeper : (deeper l.entries.ptr → deeper 0) × (deeper 0 → deeper l.entries.ptr);
       blank : BlankBlock t 0 (length t) → (l.entries.ptr ≡ 0) × (l.errors.items ≡ []);
     }

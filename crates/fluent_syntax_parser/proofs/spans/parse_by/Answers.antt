@@ -16,7 +16,8 @@ returns-in-Ok-clause-tiling c =
     let answer = c.answer_of.ensures in (
       rest.tiles,
       rest.tiled,
-      answers_of (λ s. s) (λ b. b) rest.tiles _ _ c.answer_of.result answer.clean answer.syntax (sym rest.gives) rest.tells,
+      answers_of (λ s. s) (λ b. b) rest.tiles _ _ c.answer_of.result answer.clean answer.syntax (sym rest.gives)
+          rest.tells,
     )
 
 pub returns-in-Ok-clause-spans : goal.returns-in-Ok-clause-spans

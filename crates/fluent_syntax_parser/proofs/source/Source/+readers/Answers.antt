@@ -24,8 +24,20 @@ use Rattle.fluent_syntax_grammar.specs.Starts as starts
 use Rattle.fluent_syntax_grammar.specs.Starts.{start}
 use Rattle.fluent_syntax_grammar.proofs.Facts.{byte_inside, right_true}
 use Rattle.fluent_syntax_grammar.proofs.Nesting.{into_more_lines, into_more_variants}
-use Rattle.fluent_syntax_grammar.proofs.Shallow.{arguments_closed, arguments_stuck, block_led, brace_led, call_led, call_stuck, duplicate_led, expression_stuck, late_led, letter_led, letter_stuck, lines_led, lines_none, lines_other, lines_stuck, named_led, named_stuck, no_arrow, no_lines_led, no_pattern_led, no_selector_there, opening_led, opening_stuck, pattern_led, pattern_stuck, pieces_close, pieces_end, pieces_eol, placeable_led, placeable_stuck, placed_led, placed_stuck, plain_start, run_led, select_led, select_stuck, term_led, term_stuck, value_led, value_stuck, variants_led, variants_stuck}
-use Rattle.fluent_syntax_grammar.specs.Nesting.{behind_line, behind_named, behind_opening, behind_placeable, behind_run, behind_variant, in_braces, in_list, its_argument, its_arguments, its_layout, its_line, its_lines, its_named_value, its_opening, its_pattern, its_piece, its_placeable, its_selector, its_term_arguments, its_value, its_variants, opens_list, opens_placeable}
+use Rattle.fluent_syntax_grammar.proofs.Shallow.{arguments_closed, arguments_stuck, block_led, brace_led, call_led}
+use Rattle.fluent_syntax_grammar.proofs.Shallow.{call_stuck, duplicate_led, expression_stuck, late_led, letter_led}
+use Rattle.fluent_syntax_grammar.proofs.Shallow.{letter_stuck, lines_led, lines_none, lines_other, lines_stuck}
+use Rattle.fluent_syntax_grammar.proofs.Shallow.{named_led, named_stuck, no_arrow, no_lines_led, no_pattern_led}
+use Rattle.fluent_syntax_grammar.proofs.Shallow.{no_selector_there, opening_led, opening_stuck, pattern_led}
+use Rattle.fluent_syntax_grammar.proofs.Shallow.{pattern_stuck, pieces_close, pieces_end, pieces_eol, placeable_led}
+use Rattle.fluent_syntax_grammar.proofs.Shallow.{placeable_stuck, placed_led, placed_stuck, plain_start, run_led}
+use Rattle.fluent_syntax_grammar.proofs.Shallow.{select_led, select_stuck, term_led, term_stuck, value_led, value_stuck}
+use Rattle.fluent_syntax_grammar.proofs.Shallow.{variants_led, variants_stuck}
+use Rattle.fluent_syntax_grammar.specs.Nesting.{behind_line, behind_named, behind_opening, behind_placeable, behind_run}
+use Rattle.fluent_syntax_grammar.specs.Nesting.{behind_variant, in_braces, in_list, its_argument, its_arguments}
+use Rattle.fluent_syntax_grammar.specs.Nesting.{its_layout, its_line, its_lines, its_named_value, its_opening}
+use Rattle.fluent_syntax_grammar.specs.Nesting.{its_pattern, its_piece, its_placeable, its_selector, its_term_arguments}
+use Rattle.fluent_syntax_grammar.specs.Nesting.{its_value, its_variants, opens_list, opens_placeable}
 use Rattle.fluent_syntax_parser.specs.Gathered.{names_in}
 use Rattle.fluent_syntax_parser.specs.Lines.{line_view, piece_view}
 use Rattle.fluent_syntax_parser.proofs.ArgumentLists.{inline_fails, late, list_closed, list_open, named, one_named}
@@ -34,7 +46,8 @@ use Rattle.fluent_syntax_parser.proofs.ArgumentLists.{end_flat, one_name_more, o
 use Rattle.fluent_syntax_parser.proofs.GatheredArguments.{put_whole}
 use Rattle.fluent_syntax_parser.proofs.GatheredVariants.{put_added, put_all, put_variants}
 use Rattle.fluent_syntax_parser.proofs.Gathers as gathers
-use Rattle.fluent_syntax_parser.proofs.InlineStarts.{by_number, by_start, by_value, no_value, number_flat, value_begins, value_begins_not}
+use Rattle.fluent_syntax_parser.proofs.InlineStarts.{by_number, by_start, by_value, no_value, number_flat, value_begins}
+use Rattle.fluent_syntax_parser.proofs.InlineStarts.{value_begins_not}
 use Rattle.fluent_syntax_parser.proofs.LineEndings.{by_eol, ends_line, ends_text, eol_none}
 use Rattle.fluent_syntax_parser.proofs.Names.{none_named, some_named, some_names, used_in_order}
 use Rattle.fluent_syntax_parser.proofs.Pieces.{bare_brace, end_pieces, line_read, no_lines, no_pieces, own_lines}
@@ -44,7 +57,9 @@ use Rattle.fluent_syntax_parser.proofs.Selects.{is_selector, no_selector}
 use Rattle.fluent_syntax_parser.proofs.Shallows.{falls, not_first}
 use Rattle.fluent_syntax_parser.proofs.Stars.{both_true, one_false}
 use Rattle.fluent_syntax_parser.proofs.source.Source.+readers.Goals as goal
-use Rattle.fluent_syntax_parser.proofs.source.Source.+readers.Goals.{get_arguments-in_default-via-in-Some+else-is_byte_at}
+use Rattle.fluent_syntax_parser.proofs.source.Source.+readers.Goals.{
+  get_arguments-in_default-via-in-Some+else-is_byte_at,
+}
 use Rattle.fluent_syntax_parser.proofs.source.Source.+readers.Goals.{get_arguments-in_default-via-in_default}
 
 -- ---- inline expressions

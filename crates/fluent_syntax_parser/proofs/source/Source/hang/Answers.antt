@@ -10,7 +10,9 @@ use Rattle.fluent_syntax_parser.proofs.EntryForms.{hash_hangs_not}
 use Rattle.fluent_syntax_parser.proofs.HangsOn.{behind_blank, hangs_not, hangs_on, no_entry, other_entry}
 use Rattle.fluent_syntax_parser.proofs.source.Source.hang.Goals as goal
 use Rattle.fluent_syntax_parser.proofs.source.Source.hang.Goals.{then-is_byte_at-via-then-is_byte_at}
-use Rattle.fluent_syntax_parser.proofs.source.Source.hang.Goals.{then-is_byte_at-via-else-is_byte_at+then-skip_blank_block-ptr}
+use Rattle.fluent_syntax_parser.proofs.source.Source.hang.Goals.{
+  then-is_byte_at-via-else-is_byte_at+then-skip_blank_block-ptr,
+}
 
 pub returns-then-is_byte_at-clause-hangs : goal.returns-then-is_byte_at-clause-hangs
 returns-then-is_byte_at-clause-hangs c =

@@ -4,7 +4,11 @@ use Rattle.fluent_syntax_grammar.specs.Bytes.{lf, cr}
 use Rattle.fluent_syntax_grammar.specs.Places.{has_byte}
 use Rattle.fluent_syntax_parser.proofs.Runs.{run_to, run_before_crlf, and_first, and_false}
 use Rattle.fluent_syntax_parser.proofs.source.Source.run_end.Goals as goal
-use Rattle.fluent_syntax_parser.proofs.source.Source.run_end.Goals.{else-end-ptr-via-then-end-ptr+then-is_byte_at+else-is_byte_at-2, else-end-ptr-via-then-end-ptr+else-is_byte_at, else-end-ptr-via-else-end-ptr}
+use Rattle.fluent_syntax_parser.proofs.source.Source.run_end.Goals.{
+  else-end-ptr-via-then-end-ptr+then-is_byte_at+else-is_byte_at-2,
+}
+use Rattle.fluent_syntax_parser.proofs.source.Source.run_end.Goals.{else-end-ptr-via-then-end-ptr+else-is_byte_at}
+use Rattle.fluent_syntax_parser.proofs.source.Source.run_end.Goals.{else-end-ptr-via-else-end-ptr}
 
 pub returns-then-is_byte_at-2-clause-run : goal.returns-then-is_byte_at-2-clause-run
 returns-then-is_byte_at-2-clause-run c =
