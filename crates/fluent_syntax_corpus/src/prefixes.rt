@@ -2,28 +2,18 @@
 
 use crate::junk::junk_matches;
 use crate::texts::TEXTS;
-use fluent_syntax::ast::Resource;
-use fluent_syntax::parser::{ParseFault, ParserError, Result as Parsed, parse, parse_runtime};
+use fluent_syntax::parser::{parse, parse_runtime, recovered};
 use fluent_syntax::spans::{parse_runtime_spans, parse_spans, resolve};
 use ftl::{Command, Outcome, Watched, run};
 use std::alloc::Global;
 use std::test::Fail;
 
-/// The tree of an answer, and its errors.
-fn parts<S>(alloc: Global, answer: Parsed<S>) -> Result<(Resource<S>, Vec<ParserError>), Fail> {
-    match answer {
-        Ok(tree) => Ok((tree, Vec::new(alloc))),
-        Err(ParseFault::Syntax(tree, errors)) => Ok((tree, errors)),
-        Err(ParseFault::Memory) => Err("no memory".into()),
-    }
-}
-
 /// Whether errors and junk match, with comments and without, in texts and in spans.
 fn errors_match(alloc: Global, text: &str) -> Result<bool, Fail> {
-    let (tree, errors) = parts(alloc, parse(alloc, text))?;
-    let (runtime, faults) = parts(alloc, parse_runtime(alloc, text))?;
-    let (spans, same_errors) = parts(alloc, parse_spans(alloc, text))?;
-    let (runtime_spans, same_faults) = parts(alloc, parse_runtime_spans(alloc, text))?;
+    let (tree, errors) = recovered(alloc, parse(alloc, text))?;
+    let (runtime, faults) = recovered(alloc, parse_runtime(alloc, text))?;
+    let (spans, same_errors) = recovered(alloc, parse_spans(alloc, text))?;
+    let (runtime_spans, same_faults) = recovered(alloc, parse_runtime_spans(alloc, text))?;
     Ok(
         junk_matches(text, &tree, &errors)
             && junk_matches(text, &runtime, &faults)
@@ -34,31 +24,21 @@ fn errors_match(alloc: Global, text: &str) -> Result<bool, Fail> {
 
 /// Whether the tree of spans with the texts put back, and its errors, are what `parse` answers.
 fn spans_agree(alloc: Global, text: &str) -> Result<bool, Fail> {
-    let answer = match parse_spans(alloc, text) {
-        Ok(tree) => Ok(resolve(alloc, &text, &tree)?),
-        Err(ParseFault::Syntax(tree, errors)) => {
-            Err(ParseFault::Syntax(resolve(alloc, &text, &tree)?, errors))
-        }
-        Err(ParseFault::Memory) => return Err("no memory".into()),
-    };
-    Ok(answer == parse(alloc, text))
+    let (tree, errors) = recovered(alloc, parse(alloc, text))?;
+    let (spans, same_errors) = recovered(alloc, parse_spans(alloc, text))?;
+    Ok(resolve(alloc, &text, &spans)? == tree && same_errors == errors)
 }
 
 /// The same without comments.
 fn runtime_spans_agree(alloc: Global, text: &str) -> Result<bool, Fail> {
-    let answer = match parse_runtime_spans(alloc, text) {
-        Ok(tree) => Ok(resolve(alloc, &text, &tree)?),
-        Err(ParseFault::Syntax(tree, errors)) => {
-            Err(ParseFault::Syntax(resolve(alloc, &text, &tree)?, errors))
-        }
-        Err(ParseFault::Memory) => return Err("no memory".into()),
-    };
-    Ok(answer == parse_runtime(alloc, text))
+    let (tree, errors) = recovered(alloc, parse_runtime(alloc, text))?;
+    let (spans, same_errors) = recovered(alloc, parse_runtime_spans(alloc, text))?;
+    Ok(resolve(alloc, &text, &spans)? == tree && same_errors == errors)
 }
 
 /// Whether a check of the text writes one line for each error.
 fn check_tells_all(alloc: Global, text: &str) -> Result<bool, Fail> {
-    let (_, errors) = parts(alloc, parse(alloc, text))?;
+    let (_, errors) = recovered(alloc, parse(alloc, text))?;
     let mut reader = Watched::new(text.as_bytes());
     let mut writer = Watched::new(Vec::new(alloc));
     let expected = if errors.is_empty() {

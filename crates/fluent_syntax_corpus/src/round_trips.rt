@@ -3,7 +3,7 @@
 use crate::texts::TEXTS;
 use fluent_syntax::ast::Resource;
 use fluent_syntax::laws::{is_canonical, is_readable, joined, reparse, same_texts};
-use fluent_syntax::parser::{Edition, ParseFault, parse};
+use fluent_syntax::parser::{Edition, parse, recovered};
 use fluent_syntax::serializer::serialize;
 use ftl::laws::formats_again;
 use ftl::{Command, Outcome, answer};
@@ -12,13 +12,8 @@ use std::test::Fail;
 
 /// The tree of the text, and whether the text has no error.
 fn tree(alloc: Global, text: &str) -> Result<(Resource<String>, bool), Fail> {
-    match parse(alloc, String::from_str(alloc, text)?) {
-        Ok(tree) => Ok((tree, true)),
-        Err(fault) => match fault {
-            ParseFault::Syntax(tree, _errors) => Ok((tree, false)),
-            ParseFault::Memory => Err("no memory".into()),
-        },
-    }
+    let (tree, errors) = recovered(alloc, parse(alloc, String::from_str(alloc, text)?))?;
+    Ok((tree, errors.is_empty()))
 }
 
 /// Whether the tree is read as the other, once it is written.
