@@ -1,6 +1,7 @@
 -- Headers, and the length that they name.
-use Rattle.std.proofs.Common.{◌≡◌, ◌≢◌, ℕ, ◌+◌, ◌-◌, ◌<◌, ◌≤◌, List, length, take, drop, get_or, slice_index, Option, Some, None, refl, sym, ap, ◌∙◌, subst, arith}
-use Rattle.fluent_syntax_lsp.specs.Breaks.{Breaks, IsLineEnd, IsHeaderEnd, HeaderOf, NoHeader}
+use Rattle.std.proofs.Common.{◌≡◌, ℕ, ◌+◌, ◌<◌, ◌≤◌, List, length, take, drop, Option}
+use Rattle.std.proofs.Common.{None, sym, ap, ◌∙◌, subst}
+use Rattle.fluent_syntax_lsp.specs.Breaks.{IsLineEnd}
 use Rattle.fluent_syntax_lsp.specs.Fields.{HasLength, NamesLength, number_of}
 use Rattle.fluent_syntax_lsp.specs.Fields.HasLength.{in_line, behind_line, nowhere}
 

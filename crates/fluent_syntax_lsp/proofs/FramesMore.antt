@@ -1,15 +1,17 @@
 -- More bytes behind a frame change nothing of it.
-use Rattle.std.proofs.Common.{◌≡◌, ◌≢◌, ℕ, ◌+◌, ◌-◌, ◌<◌, ◌≤◌, List, [], ◌∷◌, ◌++◌, length, take, drop, get_or, Option, Some, None, IfSome, refl, sym, ap, ◌∙◌, subst, arith, append_assoc, codes}
-use Rattle.std.proofs.lemmas.List.{take-append-drop, length-append, length-drop, length-take-le, drop_more, drop-drop, take-append-le, drop-append-le}
+use Rattle.std.proofs.Common.{◌≡◌, ◌≢◌, ℕ, ◌+◌, ◌-◌, ◌<◌, ◌≤◌, List, ◌∷◌, ◌++◌, length, take, drop, get_or, Option}
+use Rattle.std.proofs.Common.{Some, None, refl, sym, ap, ◌∙◌, subst, arith, append_assoc, codes}
+use Rattle.std.proofs.lemmas.List.{take-append-drop, length-append, length-drop, length-take-le, drop_more, drop-drop}
+use Rattle.std.proofs.lemmas.List.{take-append-le}
 use Rattle.std.proofs.Math.ListN.{get_or-append}
-use Rattle.std.specs.Io.KnownBytes.{Keeps, prepend_known}
 use Rattle.std.specs.List.{slice_range}
 use Rattle.fluent_syntax_lsp.specs.Breaks.{Breaks, IsHeaderEnd, HeaderOf, NoHeader}
 use Rattle.fluent_syntax_lsp.specs.Fields.{HasLength}
 use Rattle.fluent_syntax_lsp.specs.Frames.{IsFrame, IsFraming}
-use Rattle.fluent_syntax_lsp.specs.Frames.IsFraming.{frame, partial_header, partial_body, long_header, no_length, long_body}
+use Rattle.fluent_syntax_lsp.specs.Frames.IsFraming.{frame, partial_header, partial_body, long_header, no_length}
+use Rattle.fluent_syntax_lsp.specs.Frames.IsFraming.{long_body}
 use Rattle.fluent_syntax_lsp.specs.declared.frames.Framing.{Framing}
-use Rattle.fluent_syntax_lsp.specs.declared.frames.Framing.TheVariants.{Frame, Partial, Refused}
+use Rattle.fluent_syntax_lsp.specs.declared.frames.Framing.TheVariants.{Frame, Partial}
 
 module _ (t more : List ℕ) where
   -- a line end within the text is one of the longer text

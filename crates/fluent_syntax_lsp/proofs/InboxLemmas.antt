@@ -1,5 +1,6 @@
 -- Frames at the front of the bytes that are left.
-use Rattle.std.proofs.Common.{◌≡◌, ◌≢◌, ℕ, ◌+◌, ◌≤◌, List, ◌++◌, length, drop, Option, Some, None, IfSome, sym, ap, ◌∙◌, subst, arith, append_assoc, codes}
+use Rattle.std.proofs.Common.{◌≡◌, ℕ, List, ◌++◌, length, drop, Option, Some, None, IfSome, sym, ap, ◌∙◌}
+use Rattle.std.proofs.Common.{subst, arith, append_assoc, codes}
 use Rattle.std.proofs.lemmas.List.{length-append}
 use Rattle.std.specs.Io.KnownBytes.{Keeps, prepend_known}
 use Rattle.std.specs.List.{slice_range}
@@ -7,7 +8,7 @@ use Rattle.fluent_syntax_lsp.specs.Breaks.{HeaderOf}
 use Rattle.fluent_syntax_lsp.specs.Frames.{IsFrame, IsFraming}
 use Rattle.fluent_syntax_lsp.specs.Inbox.{TakesFrame}
 use Rattle.fluent_syntax_lsp.specs.declared.frames.FrameFault.{FrameFault}
-use Rattle.fluent_syntax_lsp.specs.declared.frames.Framing.TheVariants.{Frame, Partial, Refused}
+use Rattle.fluent_syntax_lsp.specs.declared.frames.Framing.TheVariants.{Frame, Refused}
 use Rattle.fluent_syntax_lsp.proofs.FramesMore.{framing_more, frame_there, header_more}
 
 -- a frame with more bytes behind it

@@ -1,9 +1,11 @@
 -- Lines and columns: how large they are, and what they mean.
-use Rattle.std.proofs.Common.{◌≡◌, ℕ, zero, suc, ◌+◌, ◌-◌, ◌*◌, ◌<◌, ◌≤◌, List, length, take, drop, get_or, slice_index, Bool, true, false, cond, refl, sym, ap, ◌∙◌, subst, arith, below_more}
+use Rattle.std.proofs.Common.{◌≡◌, ℕ, zero, suc, ◌+◌, ◌-◌, ◌*◌, ◌<◌, ◌≤◌, List, length, take, drop, get_or, slice_index}
+use Rattle.std.proofs.Common.{Bool, true, false, cond, refl, sym, ap, ◌∙◌, subst, arith, below_more}
 use Rattle.std.specs.List.{sum_by, slice_range}
 use Rattle.std.proofs.lemmas.List.{get_or-drop, length-drop}
 use Rattle.std.proofs.lemmas.List.Sums.{sum_by_more}
-use Rattle.fluent_syntax_lsp.specs.Places.{ends_line, utf16_units, next_line, next_character, line_at, character_at, place_at, IsPlace}
+use Rattle.fluent_syntax_lsp.specs.Places.{ends_line, utf16_units, next_line, next_character, line_at, character_at}
+use Rattle.fluent_syntax_lsp.specs.Places.{place_at, IsPlace}
 
 next_line-le : (ends : Bool) (line n : ℕ) → line ≤ n → next_line ends line ≤ suc n
 next_line-le true line n h = omega arith

@@ -1,9 +1,8 @@
 -- What is shown of the errors of a text.
-use Rattle.std.specs.Prelude.{◌≡◌, ◌⊎◌, ◌<◌, ◌≤◌, ℕ, min, max, List, [], ◌∷◌, length, map, codes}
+use Rattle.std.specs.Prelude.{◌≡◌, ◌⊎◌, ◌<◌, ℕ, min, max, List, [], ◌∷◌, length, map, codes}
 use Rattle.fluent_syntax_tree.specs.Kind.{kind_name, kind_of}
 use Rattle.fluent_syntax_tree.specs.declared.edition.Edition.TheVariants.{One}
 use Rattle.fluent_syntax_tree.specs.declared.errors.ParserError.{ParserError}
-use Rattle.fluent_syntax_tree.specs.declared.spans.Span.{Span}
 use Rattle.fluent_syntax_grammar.specs.Body.{faults}
 use Rattle.fluent_syntax_grammar.specs.Nesting.{NestsDeeper}
 use Rattle.fluent_syntax_grammar.specs.Tiling.{Fault, Tile, Tiling}

@@ -1,7 +1,8 @@
 -- Exit statuses, and the lines for standard error.
 use Rattle.std.specs.Prelude.{ℕ, List, codes}
 use Rattle.fluent_syntax_lsp.specs.declared.endings.Ending.{Ending}
-use Rattle.fluent_syntax_lsp.specs.declared.endings.Ending.TheVariants.{Exited, Left, Input, Memory, Output, Closed, Cut, Refused}
+use Rattle.fluent_syntax_lsp.specs.declared.endings.Ending.TheVariants.{Exited, Left, Input, Memory, Output, Closed}
+use Rattle.fluent_syntax_lsp.specs.declared.endings.Ending.TheVariants.{Cut, Refused}
 use Rattle.fluent_syntax_lsp.specs.declared.frames.FrameFault.TheVariants.{LongHeader, NoLength, LongBody}
 
 abbrev pub status_of : Ending → ℕ

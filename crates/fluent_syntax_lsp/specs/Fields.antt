@@ -1,5 +1,6 @@
 -- The fields of a header, and the length that one of them names.
-use Rattle.std.specs.Prelude.{◌≡◌, ℕ, ◌+◌, ◌-◌, ◌*◌, ◌<◌, ◌≤◌, ◌==◌, ◌&&◌, ◌||◌, min, nat_le, List, [], ◌∷◌, map, take, drop, length, codes, Bool, Option, Some, None, if◌then◌else◌}
+use Rattle.std.specs.Prelude.{◌≡◌, ℕ, ◌+◌, ◌-◌, ◌*◌, ◌<◌, ◌≤◌, ◌==◌, ◌&&◌, ◌||◌, min, nat_le, List, [], ◌∷◌, map, take}
+use Rattle.std.specs.Prelude.{drop, length, codes, Bool, Option, Some, None, if◌then◌else◌}
 use Rattle.std.specs.List.{list_all}
 use Rattle.std.specs.Char.{to_ascii_lowercase}
 use Rattle.fluent_syntax_lsp.specs.Breaks.{IsLineEnd}

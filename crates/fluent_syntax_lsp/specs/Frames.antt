@@ -1,5 +1,5 @@
 -- Frames of the protocol.
-use Rattle.std.specs.Prelude.{◌≡◌, ◌⊎◌, ℕ, ◌+◌, ◌-◌, ◌<◌, ◌≤◌, List, ◌++◌, take, length, codes, Some, None, slice_range}
+use Rattle.std.specs.Prelude.{◌≡◌, ℕ, ◌+◌, ◌<◌, ◌≤◌, List, ◌++◌, take, length, codes, Some, None}
 use Rattle.fluent_syntax_lsp.specs.Breaks.{IsHeaderEnd, HeaderOf, NoHeader}
 use Rattle.fluent_syntax_lsp.specs.Fields.{HasLength}
 use Rattle.fluent_syntax_lsp.specs.declared.limits.TheConstants.{BODY_LIMIT, HEADER_LIMIT}

@@ -2,7 +2,8 @@
 use Rattle.std.specs.Prelude.{◌≡◌, ◌≢◌, ℕ, List, [], Option, Some, None, IfSome}
 use Rattle.fluent_syntax_lsp.specs.Frames.{IsFrame, IsFraming}
 use Rattle.fluent_syntax_lsp.specs.declared.endings.Ending.{Ending}
-use Rattle.fluent_syntax_lsp.specs.declared.endings.Ending.TheVariants.{Exited, Left, Input, Memory, Output, Closed, Cut, Refused}
+use Rattle.fluent_syntax_lsp.specs.declared.endings.Ending.TheVariants.{Exited, Left, Input, Memory, Output, Closed}
+use Rattle.fluent_syntax_lsp.specs.declared.endings.Ending.TheVariants.{Cut, Refused}
 use Rattle.fluent_syntax_lsp.specs.declared.frames.Framing.TheVariants.{Partial}
 use Rattle.fluent_syntax_lsp.specs.declared.frames.Framing.TheVariants as framing
 

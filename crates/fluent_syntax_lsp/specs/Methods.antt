@@ -1,7 +1,9 @@
 -- The names of the methods.
 use Rattle.std.specs.Prelude.{ℕ, List, codes}
 use Rattle.fluent_syntax_lsp.specs.declared.methods.Method.{Method}
-use Rattle.fluent_syntax_lsp.specs.declared.methods.Method.TheVariants.{Initialize, Shutdown, DocumentSymbol, Formatting, FoldingRange, DidOpen, DidChange, DidClose, DidSave, Exit}
+use Rattle.fluent_syntax_lsp.specs.declared.methods.Method.TheVariants.{Initialize, Shutdown, DocumentSymbol}
+use Rattle.fluent_syntax_lsp.specs.declared.methods.Method.TheVariants.{Formatting, FoldingRange, DidOpen, DidChange}
+use Rattle.fluent_syntax_lsp.specs.declared.methods.Method.TheVariants.{DidClose, DidSave, Exit}
 
 abbrev pub name_of : Method → List ℕ
 name_of Initialize = codes "initialize"

@@ -3,11 +3,14 @@ use Rattle.std.specs.Prelude.{ℤ, negsuc, Option, Some, None}
 use Rattle.fluent_syntax_lsp.specs.declared.endings.Ending.{Ending}
 use Rattle.fluent_syntax_lsp.specs.declared.endings.Ending.TheVariants as endings
 use Rattle.fluent_syntax_lsp.specs.declared.methods.Method.{Method}
-use Rattle.fluent_syntax_lsp.specs.declared.methods.Method.TheVariants.{Initialize, Shutdown, DocumentSymbol, Formatting, FoldingRange, DidOpen, DidChange, DidClose, DidSave, Exit}
+use Rattle.fluent_syntax_lsp.specs.declared.methods.Method.TheVariants.{Initialize, Shutdown, DocumentSymbol}
+use Rattle.fluent_syntax_lsp.specs.declared.methods.Method.TheVariants.{Formatting, FoldingRange, DidOpen, DidChange}
+use Rattle.fluent_syntax_lsp.specs.declared.methods.Method.TheVariants.{DidClose, DidSave, Exit}
 use Rattle.fluent_syntax_lsp.specs.declared.phases.Phase.{Phase}
 use Rattle.fluent_syntax_lsp.specs.declared.phases.Phase.TheVariants.{Fresh, Running, ShutDown, Exited, Left}
 use Rattle.fluent_syntax_lsp.specs.declared.phases.ErrorCode.{ErrorCode}
-use Rattle.fluent_syntax_lsp.specs.declared.phases.ErrorCode.TheVariants.{ParseError, InvalidRequest, MethodNotFound, InvalidParams, NotInitialized}
+use Rattle.fluent_syntax_lsp.specs.declared.phases.ErrorCode.TheVariants.{ParseError, InvalidRequest, MethodNotFound}
+use Rattle.fluent_syntax_lsp.specs.declared.phases.ErrorCode.TheVariants.{InvalidParams, NotInitialized}
 
 -- the numbers of the protocol: `negsuc n` is the negative of n and one
 abbrev pub number_of : ErrorCode → ℤ

@@ -1,5 +1,6 @@
 -- Places of a text as the protocol counts them.
-use Rattle.std.specs.Prelude.{◌≡◌, ℕ, zero, suc, ◌+◌, ◌-◌, ◌<◌, ◌≤◌, ◌==◌, ◌&&◌, ◌||◌, nat_le, List, length, slice_index, slice_range, Bool, true, false, not, if◌then◌else◌}
+use Rattle.std.specs.Prelude.{◌≡◌, ℕ, zero, suc, ◌+◌, ◌-◌, ◌<◌, ◌≤◌, ◌==◌, ◌&&◌, ◌||◌, nat_le, List}
+use Rattle.std.specs.Prelude.{slice_index, slice_range, Bool, true, false, not, if◌then◌else◌}
 use Rattle.std.specs.List.{sum_by}
 use Rattle.fluent_syntax_grammar.specs.Bytes.{lf, cr}
 use Rattle.fluent_syntax_lsp.specs.declared.places.Place.{Place}

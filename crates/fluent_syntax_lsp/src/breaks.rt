@@ -24,8 +24,8 @@ pub fn line_end(bytes: &[u8]) -> usize
     bytes.len()
 }
 
-/// Where the header ends that the bytes begin with: before the first CRLF that another follows. None where there is none
-/// within the limit of a header.
+/// Where the header ends that the bytes begin with: before the first CRLF that another follows. None where there is
+/// none within the limit of a header.
 pub fn header_end(bytes: &[u8]) -> Option<usize>
     ensures { MatchOption result (NoHeader bytes.now) (HeaderOf bytes.now) }
 {

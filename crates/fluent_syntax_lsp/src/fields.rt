@@ -1,13 +1,15 @@
 //! The fields of a header, and the length that one of them names.
 ghost use Rattle.std.specs.Prelude.{◌≡◌, ◌↔◌, ◌+◌, ◌≤◌, IsTrue, drop, length};
 ghost use Rattle.std.specs.List.{list_all};
-ghost use Rattle.fluent_syntax_lsp.specs.Fields.{HasLength, NamesLength, digits_after, digits_of, is_blank, is_digit, number_of};
+ghost use Rattle.fluent_syntax_lsp.specs.Fields.{HasLength, NamesLength, digits_after, digits_of, is_blank, is_digit};
+ghost use Rattle.fluent_syntax_lsp.specs.Fields.{number_of};
 
 use crate::breaks::line_end;
 use crate::limits::BODY_LIMIT;
 
-/// The number of the first field `Content-Length` of a header, whose fields are lines that end in CRLF. None where there
-/// is no such field, or where its value is not a decimal number. A number beyond `BODY_LIMIT` counts as `BODY_LIMIT + 1`.
+/// The number of the first field `Content-Length` of a header, whose fields are lines that end in CRLF. None where
+/// there is no such field, or where its value is not a decimal number. A number beyond `BODY_LIMIT` counts as
+/// `BODY_LIMIT + 1`.
 pub fn content_length(header: &[u8]) -> Option<usize>
     ensures { HasLength header.now result }
 {

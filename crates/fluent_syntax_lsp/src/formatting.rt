@@ -7,10 +7,11 @@ use fluent_syntax::parser::{Edition, ParseFault, TooDeep, parse_within};
 use fluent_syntax::serializer::serialize;
 use std::alloc::{AllocError, Global};
 
-/// The text formatted. None of a text that has an error, since its junk would be lost, and of one that nests deeper than
-/// `NESTING_LIMIT`.
+/// The text formatted. None of a text that has an error, since its junk would be lost, and of one that nests deeper
+/// than `NESTING_LIMIT`.
 pub fn formatted(alloc: Global, text: &str) -> Result<Option<String>, AllocError>
-    ensures { IfOk result (λ found. MatchOption found (IsLeft text.now) (λ written. IsFormatted text.now (string_bytes written))) }
+    ensures { IfOk result
+        (λ found. MatchOption found (IsLeft text.now) (λ written. IsFormatted text.now (string_bytes written))) }
 {
     match parse_within(alloc, text, Edition::One, NESTING_LIMIT) {
         Ok(Ok(tree)) => {

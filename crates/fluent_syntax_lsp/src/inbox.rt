@@ -1,5 +1,6 @@
 //! The bodies of the frames that a reader gives.
-ghost use Rattle.std.specs.Prelude.{◌≡◌, ◌<◌, ◌≤◌, ◌++◌, length, true, drop, slice_range, vec_len, IfOk, IfErr, OnOk, Err};
+ghost use Rattle.std.specs.Prelude.{◌≡◌, ◌<◌, ◌≤◌, ◌++◌, length, true, drop, slice_range, vec_len, IfOk, IfErr, OnOk};
+ghost use Rattle.std.specs.Prelude.{Err};
 ghost use Rattle.std.specs.Io.KnownBytes.{Keeps, prepend_known};
 ghost use Rattle.ftl.specs.Watched.{inner_of, has_failed};
 ghost use Rattle.fluent_syntax_lsp.specs.Inbox.{EndsAs, Stops, TakesFrame};

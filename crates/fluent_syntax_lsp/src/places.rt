@@ -98,8 +98,8 @@ fn is_line_end(text: &[u8], at: usize) -> bool
     }
 }
 
-/// How many UTF-16 units begin with a byte of a text: two for a character of four bytes, one for any other, and none for
-/// the bytes that go on with a character.
+/// How many UTF-16 units begin with a byte of a text: two for a character of four bytes, one for any other, and none
+/// for the bytes that go on with a character.
 fn units(byte: u8) -> usize
     ensures { result ≡ utf16_units byte }
 {

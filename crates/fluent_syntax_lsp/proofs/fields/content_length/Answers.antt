@@ -19,4 +19,5 @@ pub loop-rest-preserved : goal.loop-rest-preserved
 loop-rest-preserved c = λ n has.
     c.loop-rest.invariant n
     (length_behind _ _ _ _ n c.line_end-end.ensures c.split_at.ensures.front
-    (λ names. false≢true (sym c.if-is_length_field.false ∙ c.is_length_field.ensures.1 names)) (omega arith) c.split_at-in-loop-rest.ensures.back has)
+    (λ names. false≢true (sym c.if-is_length_field.false ∙ c.is_length_field.ensures.1 names)) (omega arith)
+    c.split_at-in-loop-rest.ensures.back has)

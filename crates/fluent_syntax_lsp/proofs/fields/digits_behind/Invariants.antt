@@ -1,4 +1,4 @@
-use Rattle.std.proofs.Common.{◌≡◌, ◌+◌, ◌≤◌, length}
+use Rattle.std.proofs.Common.{◌≡◌, ◌≤◌, length}
 use Rattle.fluent_syntax_lsp.specs.Fields.{digits_after}
 use Rattle.fluent_syntax_lsp.proofs.fields.digits_behind.Given as goal
 

@@ -1,7 +1,8 @@
-use Rattle.std.proofs.Common.{◌+◌, ◌≤◌, ◌<◌, arith, length, subst, Some, None, List, ℕ}
+use Rattle.std.proofs.Common.{arith, subst, Some, None, List, ℕ}
 use Rattle.fluent_syntax_lsp.specs.Breaks.{HeaderOf}
 use Rattle.fluent_syntax_lsp.specs.Fields.{HasLength}
-use Rattle.fluent_syntax_lsp.specs.Frames.IsFraming.{frame, partial_header, partial_body, long_header, no_length, long_body}
+use Rattle.fluent_syntax_lsp.specs.Frames.IsFraming.{frame, partial_header, partial_body, long_header, no_length}
+use Rattle.fluent_syntax_lsp.specs.Frames.IsFraming.{long_body}
 use Rattle.fluent_syntax_lsp.proofs.frames.first_frame.Goals as goal
 
 pub returns-then-bytes-lt-HEADER_LIMIT : goal.returns-then-bytes-lt-HEADER_LIMIT

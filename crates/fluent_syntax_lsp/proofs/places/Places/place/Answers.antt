@@ -1,5 +1,4 @@
-use Rattle.std.proofs.Common.{◌≡◌, ◌≤◌, ◌*◌, ◌<◌, ◌^◌, List, ℕ, length, subst, sym, ap, arith}
-use Rattle.fluent_syntax_lsp.specs.Places.{IsPlace, line_at, character_at}
+use Rattle.std.proofs.Common.{◌≡◌, ◌≤◌, ◌<◌, ◌^◌, length, ap, arith}
 use Rattle.fluent_syntax_lsp.proofs.PlaceLemmas.{line_at-le, character_at-le, units-le, means}
 use Rattle.fluent_syntax_lsp.proofs.places.Places.place.Goals as goal
 use Rattle.fluent_syntax_lsp.proofs.places.Places.place.Goals.{then-byte-self, else-byte-self}
@@ -23,5 +22,5 @@ returns-clause-meaning c =
     ] in
     let end = c.loop-at.auto.at-end ahead in
     let there : c.loop-at.at ≡ c.args.byte = omega (arith, end) in
-    means c.self.inside.text.now c.args.self.now c.loop-at.at c.args.byte c.loop-at.line c.loop-at.character c.self.view_is
-    there c.requires c.loop-at.invariant.at_line c.loop-at.invariant.at_character
+    means c.self.inside.text.now c.args.self.now c.loop-at.at c.args.byte c.loop-at.line c.loop-at.character
+    c.self.view_is there c.requires c.loop-at.invariant.at_line c.loop-at.invariant.at_character

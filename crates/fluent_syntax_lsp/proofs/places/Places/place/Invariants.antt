@@ -1,4 +1,4 @@
-use Rattle.std.proofs.Common.{◌≡◌, ◌*◌, ◌≤◌, length}
+use Rattle.std.proofs.Common.{◌≡◌}
 use Rattle.fluent_syntax_lsp.specs.Places.{line_at, character_at}
 use Rattle.fluent_syntax_lsp.proofs.places.Places.place.Given as goal
 
