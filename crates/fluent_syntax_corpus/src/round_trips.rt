@@ -52,8 +52,8 @@ fn has_no_bare_cr(text: &str) -> bool {
     !follows_cr
 }
 
-/// Whether the joined tree is readable, where an LF follows each CR of the text, and is read back as it is exactly where
-/// it is canonical.
+/// Whether the joined tree is readable, where an LF follows each CR of the text, and is read back as it is exactly
+/// where it is canonical.
 fn reads_back(alloc: Global, text: &str) -> Result<bool, Fail> {
     let (tree, _) = tree(alloc, text)?;
     let whole = joined(alloc, &tree)?;

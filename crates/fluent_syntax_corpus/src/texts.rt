@@ -116,5 +116,6 @@ pub const TEXTS: [&str; 107] = [
     "k = {-t.a (1) ->\n*[a] b\n}",
     "k ={ 1 ->\n *[a] b\n *[c]\n}",
     // All nodes.
-    "# c\nkey = a { -t(\"p\", n: 1) }\n    .b = { F($x) }\n-t = { $x ->\n    [one] u\n   *[2] { { m } }\n }\n\n## g\n\n### r\nbro ken\n",
+    "# c\nkey = a { -t(\"p\", n: 1) }\n    .b = { F($x) }\n-t = { $x ->\n    [one] u\n   *[2] { { m } }\n }\n\
+     \n## g\n\n### r\nbro ken\n",
 ];

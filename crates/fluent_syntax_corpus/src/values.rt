@@ -10,8 +10,15 @@ pub const VALUES: [&str; 12] = [
     "{\"body\":[{\"type\":\"Junk\",\"content\":5}]}",
     "{}",
     "[[]]",
-    "{\"body\":[{\"type\":\"Message\",\"id\":{\"name\":\"key\"},\"value\":{\"elements\":[{\"type\":\"Placeable\",\"expression\":{\"type\":\"VariableReference\",\"id\":{\"name\":\"x\"}}}]},\"attributes\":[],\"comment\":null}]}",
-    "{\"body\":[{\"type\":\"Message\",\"id\":{\"name\":\"key\"},\"value\":{\"elements\":[{\"type\":\"Placeable\",\"expression\":{\"selector\":{\"type\":\"VariableReference\",\"id\":{\"name\":\"x\"}},\"variants\":[]}}]},\"attributes\":[],\"comment\":null}]}",
-    "{\"body\":[{\"type\":\"Message\",\"id\":{\"name\":\"key\"},\"value\":{\"elements\":[{\"type\":\"Placeable\",\"expression\":{\"selector\":{\"type\":\"VariableReference\",\"id\":{\"name\":\"x\"}}}}]},\"attributes\":[],\"comment\":null}]}",
-    "{\"body\":[{\"type\":\"Message\",\"id\":{\"name\":\"key\"},\"value\":{\"elements\":[{\"type\":\"Placeable\",\"expression\":{\"selector\":{\"type\":\"VariableReference\",\"id\":{\"name\":\"x\"}},\"type\":\"VariableReference\",\"id\":{\"name\":\"x\"}}}]},\"attributes\":[],\"comment\":null}]}",
+    "{\"body\":[{\"type\":\"Message\",\"id\":{\"name\":\"key\"},\"value\":{\"elements\":[{\"type\":\"Placeable\",\
+     \"expression\":{\"type\":\"VariableReference\",\"id\":{\"name\":\"x\"}}}]},\"attributes\":[],\"comment\":null}]}",
+    "{\"body\":[{\"type\":\"Message\",\"id\":{\"name\":\"key\"},\"value\":{\"elements\":[{\"type\":\"Placeable\",\
+     \"expression\":{\"selector\":{\"type\":\"VariableReference\",\"id\":{\"name\":\"x\"}},\"variants\":[]}}]},\
+     \"attributes\":[],\"comment\":null}]}",
+    "{\"body\":[{\"type\":\"Message\",\"id\":{\"name\":\"key\"},\"value\":{\"elements\":[{\"type\":\"Placeable\",\
+     \"expression\":{\"selector\":{\"type\":\"VariableReference\",\"id\":{\"name\":\"x\"}}}}]},\"attributes\":[],\
+     \"comment\":null}]}",
+    "{\"body\":[{\"type\":\"Message\",\"id\":{\"name\":\"key\"},\"value\":{\"elements\":[{\"type\":\"Placeable\",\
+     \"expression\":{\"selector\":{\"type\":\"VariableReference\",\"id\":{\"name\":\"x\"}},\
+     \"type\":\"VariableReference\",\"id\":{\"name\":\"x\"}}}]},\"attributes\":[],\"comment\":null}]}",
 ];
