@@ -1,5 +1,5 @@
-//! Replays the texts of `texts.tsv` through the engine of `ftl`, and counts the answers that differ; and reads back what
-//! is written of them, by both editions of the grammar.
+//! Replays the texts of `texts.tsv` through the engine of `ftl`, and counts the answers that differ; and reads back
+//! what is written of them, by both editions of the grammar.
 //!
 //! A line holds a text and its answers, separated by tabs and escaped: the text, then for `check`,
 //! `format`, `runtime`, `check-two`, `format-two` and `json` the exit status, a colon and the output.
