@@ -1,24 +1,26 @@
 //! Each text cut at each of its characters, through the parsers and through a check.
 
-use crate::junk::junk_matches;
+use crate::junk::{Part, junk_matches};
 use crate::texts::TEXTS;
-use fluent_syntax::parser::{parse, parse_runtime, recovered};
+use fluent_syntax::parser::{Result as Parsed, parse, parse_runtime, recovered};
 use fluent_syntax::spans::{parse_runtime_spans, parse_spans, resolve};
 use ftl::{Command, Outcome, Watched, run};
 use std::alloc::Global;
 use std::test::Fail;
 
+/// Whether errors and junk of the answer match.
+fn is_matched<S: Part + Drop>(alloc: Global, text: &str, answer: Parsed<S>) -> Result<bool, Fail> {
+    let (tree, errors) = recovered(alloc, answer)?;
+    Ok(junk_matches(text, &tree, &errors))
+}
+
 /// Whether errors and junk match, with comments and without, in texts and in spans.
 fn errors_match(alloc: Global, text: &str) -> Result<bool, Fail> {
-    let (tree, errors) = recovered(alloc, parse(alloc, text))?;
-    let (runtime, faults) = recovered(alloc, parse_runtime(alloc, text))?;
-    let (spans, same_errors) = recovered(alloc, parse_spans(alloc, text))?;
-    let (runtime_spans, same_faults) = recovered(alloc, parse_runtime_spans(alloc, text))?;
     Ok(
-        junk_matches(text, &tree, &errors)
-            && junk_matches(text, &runtime, &faults)
-            && junk_matches(text, &spans, &same_errors)
-            && junk_matches(text, &runtime_spans, &same_faults),
+        is_matched(alloc, text, parse(alloc, text))?
+            && is_matched(alloc, text, parse_runtime(alloc, text))?
+            && is_matched(alloc, text, parse_spans(alloc, text))?
+            && is_matched(alloc, text, parse_runtime_spans(alloc, text))?,
     )
 }
 
@@ -71,7 +73,7 @@ fn holds_of_each_beginning(alloc: Global, text: &str) -> Result<(), Fail> {
 
 #[test]
 fn each_beginning_of_each_text(rt: HostRuntime) -> Result<(), Fail> {
-    for text in TEXTS {
+    for text in TEXTS.as_slice() {
         holds_of_each_beginning(rt.alloc(), text)?;
     }
     Ok(())

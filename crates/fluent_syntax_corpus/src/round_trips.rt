@@ -93,7 +93,7 @@ fn holds_of_each_beginning(alloc: Global, text: &str) -> Result<(), Fail> {
 
 #[test]
 fn each_beginning_joined_and_formatted(rt: HostRuntime) -> Result<(), Fail> {
-    for text in TEXTS {
+    for text in TEXTS.as_slice() {
         formats_again(text.as_bytes());
         holds_of_each_beginning(rt.alloc(), text)?;
     }
