@@ -1,5 +1,6 @@
 //! The next entry of a text.
-ghost use Rattle.std.specs.Prelude.{◌≡◌, ◌-◌, ◌<◌, ◌≤◌, [], length, IfErr, IfOk, IfSome, None, Ok, false, true, ℕ, List, Option};
+ghost use Rattle.std.specs.Prelude.{◌≡◌, ◌-◌, ◌<◌, ◌≤◌, [], length, IfErr, IfOk, IfSome, None, Ok, false, true, ℕ};
+ghost use Rattle.std.specs.Prelude.{List, Option};
 ghost use Rattle.fluent_syntax_tree.specs.Entry.{BodyTree};
 ghost use Rattle.fluent_syntax_tree.specs.declared.edition.Edition.{Edition};
 ghost use Rattle.fluent_syntax_grammar.specs.Bytes.{hash};
@@ -55,8 +56,8 @@ impl<'s> Source<'s> {
     }
 
     /// Reads the next entry from a place on, if it is a message that no comment hangs on and whose patterns are each one
-    /// line of texts and plain references, with its parts in the list: its name, and where it ends. `None` too where no
-    /// placeable may stand.
+    /// line of texts and plain references, the line of the `=`, with its parts in the list: its name, and where it ends.
+    /// `None` too where no placeable may stand.
     pub(crate) fn next_short(
         &self,
         options: Options,
@@ -76,7 +77,8 @@ impl<'s> Source<'s> {
             let deeper = TextDeeper options.edition t at options.nesting in
             IfOk result (λ found. IfSome found (λ read. deeper ptr → deeper read.1)) }
     {
-        if options.nesting == 0 {
+        let may_nest = options.nesting > 0;
+        if !may_nest {
             return Ok(None);
         }
         let start = self.tile_start(options.comments, ptr);

@@ -15,7 +15,8 @@ use fluent_syntax_tree::edition::Edition;
 use fluent_syntax_tree::spans::Span;
 use std::alloc::AllocError;
 
-/// An element of such a pattern: a text, or a placeable of a reference without attribute and arguments, by its name.
+/// An element of a pattern that is one line of texts and plain references: a text, or a placeable of a reference without
+/// attribute and arguments, by its name.
 #[derive(Clone, Copy)]
 pub enum ShortElement {
     Text(Span),
@@ -24,8 +25,8 @@ pub enum ShortElement {
     Term(Span),
 }
 
-/// What such a message holds behind its name, part by part: the elements of its value, and for each attribute its name and
-/// the elements behind it.
+/// What a message of such patterns holds behind its name, part by part: the elements of its value, and for each attribute
+/// its name and the elements behind it.
 #[derive(Clone, Copy)]
 pub enum ShortPart {
     Element(ShortElement),
@@ -118,8 +119,8 @@ impl<'s> Source<'s> {
         }
     }
 
-    /// Reads a message whose patterns are each one line of texts and plain references: its name, its parts into the list,
-    /// and where it ends. `None` where none such stands there.
+    /// Reads a message whose patterns are each one line of texts and plain references: its name, its parts into the
+    /// list, and where it ends. `None` where none such stands there.
     pub(crate) fn get_short_message(
         &self,
         edition: Edition,

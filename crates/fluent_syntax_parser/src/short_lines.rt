@@ -99,18 +99,8 @@ impl<'s> Source<'s> {
     {
         let start = self.skip_blank_inline(ptr);
         match self.eol_end(start) {
-            Some(_) => {
-                let Some(end) = self.end_without_text(edition, start) else {
-                    return Ok(None);
-                };
-                Ok(Some(end))
-            }
-            None => {
-                let Some(end) = self.short_line(edition, parts, start)? else {
-                    return Ok(None);
-                };
-                Ok(Some(end))
-            }
+            Some(_) => Ok(self.end_without_text(edition, start)),
+            None => self.short_line(edition, parts, start),
         }
     }
 }

@@ -5,7 +5,7 @@ use Rattle.fluent_syntax_parser.specs.ShortMessages.{short_message}
 use Rattle.fluent_syntax_parser.proofs.DeeperTiles.{behind_entry, entry_led}
 use Rattle.fluent_syntax_parser.proofs.EntryForms.{message_there}
 use Rattle.fluent_syntax_parser.proofs.Rests.{rest_entry}
-use Rattle.fluent_syntax_parser.proofs.ShortMessages.{but_zero, no_hash, no_hyphen}
+use Rattle.fluent_syntax_parser.proofs.ShortMessages.{above_zero, no_hash, no_hyphen}
 use Rattle.fluent_syntax_parser.proofs.source.Source.next_short.Goals as goal
 
 pub returns-clause-next : goal.returns-clause-next
@@ -42,6 +42,6 @@ returns-clause-shallow c =
     let found = rw c.in-Some.is at c.in_ok-name.ensures in
     let read = message_there options.edition t _ _ (no_hash t _ letter) (no_hyphen t _ letter) found.meets in
     λ h. entry_led options.edition t _ _ options.nesting options.comments start.ensures.dropped _ read
-    (λ d. but_zero (λ n. Deeper options.edition t in_message n start.result → ⊥) found.flat options.nesting
-    c.if-options-eq0.false (entry_message options.edition t (no_hyphen t _ letter) d))
+    (λ d. above_zero (λ n. Deeper options.edition t in_message n start.result → ⊥) found.flat options.nesting
+    (omega (arith, c.if-not-may_nest)) (entry_message options.edition t (no_hyphen t _ letter) d))
     (start.ensures.shallow options.edition options.nesting h)

@@ -10,8 +10,8 @@ returns-in_ok-push-clause-reads c =
     λ ptr blank.
     text_reads c.args.edition t c.args.start c.requires.opens c.args.parts.now.items c.short_pieces.new.parts.items
     c.in-Some.place c.in-Some.to c.in-Some-line_ending.stop c.in-Some-line_ending.next
-    c.in-Some-end_behind_blank_lines.end found.pieces c.in-Some-line_ending.ensures.ending found.last c.if-place-to.true ptr
-    _ _ blank behind.lines behind.shallow c.trimmed_end.ensures (sym c.if-is_nonblank.ensures)
+    c.in-Some-end_behind_blank_lines.end found.pieces c.in-Some-line_ending.ensures.ending found.last
+    c.if-place-to.true ptr _ _ blank behind.lines behind.shallow c.trimmed_end.ensures (sym c.if-is_nonblank.ensures)
     c.in_ok-push.ensures.items
 
 pub returns-else-is_nonblank-clause-reads : goal.returns-else-is_nonblank-clause-reads
@@ -22,8 +22,8 @@ returns-else-is_nonblank-clause-reads c =
     λ ptr blank.
     blank_reads c.args.edition t c.args.start c.requires.opens c.args.parts.now.items c.short_pieces.new.parts.items
     c.in-Some.place c.in-Some.to c.in-Some-line_ending.stop c.in-Some-line_ending.next
-    c.in-Some-end_behind_blank_lines.end found.pieces c.in-Some-line_ending.ensures.ending found.last c.if-place-to.true ptr
-    blank behind.lines behind.shallow (sym c.if-is_nonblank.ensures)
+    c.in-Some-end_behind_blank_lines.end found.pieces c.in-Some-line_ending.ensures.ending found.last
+    c.if-place-to.true ptr blank behind.lines behind.shallow (sym c.if-is_nonblank.ensures)
 
 pub returns-else-place-to-clause-reads : goal.returns-else-place-to-clause-reads
 returns-else-place-to-clause-reads c =
