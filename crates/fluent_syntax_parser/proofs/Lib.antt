@@ -29,11 +29,13 @@ pub mod Runs
 pub mod Scans
 pub mod Selects
 pub mod Shallows
+pub mod ShortGrammar
 pub mod ShortLines
 pub mod ShortMessages
 pub mod ShortPatterns
 pub mod ShortPieces
 pub mod ShortReferences
+pub mod ShortStands
 pub mod ShortTrees
 pub mod Spelled
 pub mod Stars

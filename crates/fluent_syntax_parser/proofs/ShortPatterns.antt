@@ -180,6 +180,14 @@ module _ (edition : Edition) (t : List ℕ) where
   -- ---- a pattern of one text
 
   module _ (start to : ℕ) (w : Stretch (is_run_place t) start to) (some : start < to) where
+    pub run_nonblank : (ptr stop : ℕ) → InlineBlank t ptr start → to ≤ stop → stop ≤ length t →
+        is_nonblank (slice_range t start stop) ≡ true
+    run_nonblank ptr stop blank l within =
+        let f = first_byte start to w some in
+        let space : (f.0 == space) ≡ false = let g = rw f.1 at blank.longest in g in
+        let other : (f.0 == lf) ≡ false = grind (arith, nat_tests) in
+        range_nonblank t start stop (omega arith) within f.0 f.1 space other
+
     opens_there : after_eol t start ≡ None
     opens_there = no_eol (has_byte t lf start) _ start (start_eol start to w some)
 
@@ -188,10 +196,7 @@ module _ (edition : Edition) (t : List ℕ) where
         pattern edition t ptr
         (Read (Some (text_pattern (record { start = start; end = trimmed_end t start stop }))) end)
     short_read ptr stop next end blank line l within lines =
-        let f = first_byte start to w some in
-        let space : (f.0 == space) ≡ false = let g = rw f.1 at blank.longest in g in
-        let other : (f.0 == lf) ≡ false = grind (arith, nat_tests) in
-        let stays = range_nonblank t start stop (omega arith) within f.0 f.1 space other in
+        let stays = run_nonblank ptr stop blank l within in
         let ended = line_ended to stop next line in
         let pieces = run_before start to w some [] to ended.pieces in
         let read = opening_read start opens_there (run' start to ∷ []) to pieces ended.ends_by next ended.ends ptr end

@@ -1,8 +1,8 @@
 -- Pieces of a line, gathered without a tree.
-use Rattle.std.proofs.Common.{◌≡◌, ℕ, suc, ◌<◌, List, [], ◌∷◌, ◌++◌, map, Some, true, refl, sym, ◌∙◌, ap, subst}
+use Rattle.std.proofs.Common.{◌≡◌, ℕ, suc, ◌+◌, ◌<◌, List, [], ◌∷◌, ◌++◌, length, map, Some, true, refl, sym, ◌∙◌, ap, subst}
 use Rattle.std.proofs.Common.{append_assoc, arith, inl, inr}
 use Rattle.std.specs.Prelude.{slice_get, ◌==◌}
-use Rattle.std.proofs.lemmas.List.{append-nil, map-append}
+use Rattle.std.proofs.lemmas.List.{append-nil, length-append, map-append}
 use Rattle.fluent_syntax_tree.specs.Tree.{ExpressionTree}
 use Rattle.fluent_syntax_tree.specs.declared.edition.Edition.{Edition}
 use Rattle.fluent_syntax_tree.specs.declared.spans.Span.{Span}
@@ -32,6 +32,16 @@ more_items old mid new es x same longer =
     ∙ (ap (λ ps. ps ++ Element x ∷ []) same
     ∙ (append_assoc old (map Element es) (Element x ∷ [])
     ∙ ap (λ ps. old ++ ps) (sym (map-append Element es (x ∷ [])))))
+
+pub one_longer : (mid new : List ShortPart) (p : ShortPart) → new ≡ mid ++ p ∷ [] → length new ≡ length mid + 1
+one_longer mid new p longer = ap length longer ∙ length-append mid (p ∷ [])
+
+pub two_longer : (mid new : List ShortPart) (p q : ShortPart) → new ≡ (mid ++ p ∷ []) ++ q ∷ [] →
+    length new ≡ length mid + 2
+two_longer mid new p q longer =
+    let all = one_longer (mid ++ p ∷ []) new q longer in
+    let first = one_longer mid (mid ++ p ∷ []) p refl in
+    omega (arith, all, first)
 
 -- ---- a placeable
 

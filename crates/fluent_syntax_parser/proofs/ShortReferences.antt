@@ -38,7 +38,7 @@ module _ (t : List ℕ) (i : ℕ) where
   absent : (c : ℕ) → has_byte t c i ≡ false → optional t c i (Read false i)
   absent c none = chosen (second none given)
 
-  present : (c : ℕ) → has_byte t c i ≡ true → token t c i (Read tt (i + 1))
+  pub present : (c : ℕ) → has_byte t c i ≡ true → token t c i (Read tt (i + 1))
   present c there = goes_on (chosen (first there (goes_on (passed (record { by = refl })) given))) (first refl given)
 
 -- ---- where the brace closes
