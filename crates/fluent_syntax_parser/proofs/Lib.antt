@@ -19,6 +19,7 @@ pub mod LaneRuns
 pub mod LineEndings
 pub mod LineEnds
 pub mod Names
+pub mod NextStarts
 pub mod PartsOfEntries
 pub mod PartsOfTiling
 pub mod Pieces

@@ -3,7 +3,7 @@ use Rattle.std.proofs.Common.{◌≡◌, ℕ, ◌+◌, ◌<◌, List, length, Op
 use Rattle.std.specs.Prelude.{slice_get, ◌==◌, if◌then◌else◌}
 use Rattle.fluent_syntax_tree.specs.Kind.{Kind}
 use Rattle.fluent_syntax_grammar.specs.Bytes.{dollar_sign, double_quote, hyphen, is_digit, is_letter, left_brace}
-use Rattle.fluent_syntax_grammar.specs.Construct.{Read, Refused}
+use Rattle.fluent_syntax_grammar.specs.Construct.{Read, Refused, at_place, chosen, failed, given, goes_on, second}
 use Rattle.fluent_syntax_grammar.specs.Places.{Blank, has, has_byte, holds}
 use Rattle.fluent_syntax_grammar.specs.Starts as starts
 use Rattle.fluent_syntax_grammar.specs.Starts.{dollar, letter, other, start, start_of}
@@ -24,6 +24,10 @@ module _ (t : List ℕ) (i : ℕ) where
 
   pub no_name : (kind : Kind) (from to j : ℕ) → identifier t i (Refused kind from to) → Name t i j → ⊥
   no_name kind from to j a b = let same = (functional_identifier t).same i _ _ a b in cc
+
+  pub name_letter : (j : ℕ) → has t is_letter i ≡ false → Name t i j → ⊥
+  name_letter j none name =
+      no_name _ i (i + 1) j (goes_on at_place (goes_on (chosen given) (second none (failed refl)))) name
 
   pub token_end : (b j : ℕ) → has_byte t b i ≡ true → token t b i (Read tt j) → j ≡ i + 1
   token_end b j there a = let same = (functional_token t b).same i _ _ a (present t i b there) in cc

@@ -35,7 +35,7 @@ module _ (t : List ℕ) (i : ℕ) where
   pub begins_no_line_end : (b : ℕ) → (b == lf) ≡ false → (b == cr) ≡ false → has_byte t b i ≡ true → has_eol t i ≡ false
   begins_no_line_end b no_lf no_cr there = rw (no_other_byte b lf no_lf there, no_other_byte b cr no_cr there) refl
 
-  absent : (c : ℕ) → has_byte t c i ≡ false → optional t c i (Read false i)
+  pub absent : (c : ℕ) → has_byte t c i ≡ false → optional t c i (Read false i)
   absent c none = chosen (second none given)
 
   pub present : (c : ℕ) → has_byte t c i ≡ true → token t c i (Read tt (i + 1))

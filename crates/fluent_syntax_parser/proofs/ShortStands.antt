@@ -1,24 +1,30 @@
 -- The lines and patterns of short messages, where a reader looks.
-use Rattle.std.proofs.Common.{◌≡◌, ℕ, ◌<◌, ◌≤◌, List, [], length, Option, Some, None, Bool, true, false, refl, sym, subst}
+use Rattle.std.proofs.Common.{◌≡◌, ℕ, ◌+◌, ◌<◌, ◌≤◌, List, [], length, Option, Some, None, Bool, true, false, refl, sym, subst}
 use Rattle.std.proofs.Common.{arith, inl, inr, not}
 use Rattle.std.specs.Prelude.{slice_get, slice_range, nat_lt, is_some, ◌==◌, ◌&&◌, ◌⊎◌}
 use Rattle.std.proofs.lemmas.Option.{slice_get_within}
+use Rattle.fluent_syntax_tree.specs.Kind.{ExpectedToken, Kind}
 use Rattle.fluent_syntax_tree.specs.declared.edition.Edition.{Edition}
-use Rattle.fluent_syntax_grammar.specs.Bytes.{left_brace, lf}
-use Rattle.fluent_syntax_grammar.specs.Construct.{Read, goes_on}
+use Rattle.fluent_syntax_grammar.specs.Bytes.{equals_sign, full_stop, left_brace, lf}
+use Rattle.fluent_syntax_grammar.specs.Construct.{Read, Refused, failed, goes_on, second}
 use Rattle.fluent_syntax_grammar.specs.Grammar.{family}
 use Rattle.fluent_syntax_grammar.specs.Lines as lines
 use Rattle.fluent_syntax_grammar.specs.Lines.{belongs, is_run_place, no_byte, other_line, own_line}
 use Rattle.fluent_syntax_grammar.specs.Places.{BlankBlock, InlineBlank, Stretch, after_eol, has_byte, has_eol}
 use Rattle.fluent_syntax_grammar.specs.Places.{is_line_place}
 use Rattle.fluent_syntax_grammar.proofs.Facts.{byte_inside, differs, lt_or_same}
-use Rattle.fluent_syntax_grammar.proofs.Functional.{single_stretch}
+use Rattle.fluent_syntax_grammar.proofs.Functional.{single_block, single_stretch}
+use Rattle.fluent_syntax_grammar.specs.Words.{token}
+use Rattle.fluent_syntax_grammar.proofs.FunctionalWords.{functional_token}
 use Rattle.fluent_syntax_grammar.proofs.Nesting.{from_family}
 use Rattle.fluent_syntax_parser.proofs.BlankLines.{eol_there}
 use Rattle.fluent_syntax_grammar.specs.Elements.{is_nonblank}
+use Rattle.fluent_syntax_parser.proofs.ShortGrammar.{name_end}
 use Rattle.fluent_syntax_parser.proofs.ShortPatterns.{run_nonblank}
-use Rattle.fluent_syntax_parser.proofs.ShortReferences.{begins_no_line_end}
-use Rattle.fluent_syntax_parser.specs.ShortGrammar.{PlacedReference, ShortLine, ShortPattern, ended, placed}
+use Rattle.fluent_syntax_parser.proofs.ShortReferences.{absent, begins_no_line_end}
+use Rattle.fluent_syntax_parser.specs.ShortGrammar.{Name, PlacedReference, ShortAttributes, ShortField, ShortLine}
+use Rattle.fluent_syntax_parser.specs.ShortGrammar.{ShortMessage}
+use Rattle.fluent_syntax_parser.specs.ShortGrammar.{ShortPattern, ended, no_more, one_more, placed}
 use Rattle.fluent_syntax_parser.specs.ShortPatterns.{EndsLine, with_crlf, with_lf, with_text}
 
 -- ---- where a line ends
@@ -168,3 +174,70 @@ empty_line edition t filled ptr start next end blank eol p =
     let line = subst (λ k. ShortLine t k p.rest.next) same p.rest.line in
     let behind = line_at_eol t start next p.rest.next eol line in
     (p.rest.first, subst (λ k. BlankBlock t k p.rest.first) (sym behind) p.rest.block, p.rest.lines)
+
+-- ---- a field
+
+module _ (edition : Edition) (t : List ℕ) (filled : Bool) (i j end sign : ℕ) (name : Name t i end)
+    (blank : InlineBlank t end sign) (field : ShortField edition t filled i j) where
+  equals_there : token t equals_sign sign (Read tt field.behind)
+  equals_there =
+      let ends = name_end t i _ _ field.name name in
+      let here = subst (λ k. InlineBlank t k field.sign) ends field.blank in
+      let same = single_stretch.same end _ _ here blank in
+      subst (λ k. token t equals_sign k (Read tt field.behind)) same field.equals
+
+  pub no_equals : (kind : Kind) (from to : ℕ) → token t equals_sign sign (Refused kind from to) → ⊥
+  no_equals kind from to refused =
+      let same = (functional_token t equals_sign).same sign _ _ equals_there refused in cc
+
+  pub value_there : (behind : ℕ) → token t equals_sign sign (Read tt behind) → ShortPattern edition t filled behind j
+  value_there behind read =
+      let one = (functional_token t equals_sign).same sign _ _ equals_there read in
+      let same : field.behind ≡ behind = cc in
+      subst (λ k. ShortPattern edition t filled k j) same field.value
+
+-- ---- attributes
+
+no_dot : (t : List ℕ) (i start : ℕ) → has_byte t full_stop i ≡ false → token t full_stop i (Read tt start) → ⊥
+no_dot t i start none read =
+    let refused = goes_on (absent t i full_stop none) (second refl (failed refl)) in
+    let same = (functional_token t full_stop).same i _ (Refused (ExpectedToken full_stop) i (i + 1)) read refused in cc
+
+module _ (edition : Edition) (t : List ℕ) where
+  pub no_attribute_there : (i dot end : ℕ) (kind : Kind) (from to : ℕ) → InlineBlank t i dot →
+      token t full_stop dot (Refused kind from to) → ShortAttributes edition t i end → i ≡ end
+  no_attribute_there i dot end kind from to blank refused (no_more other none) = refl
+  no_attribute_there i dot end kind from to blank refused (one_more {dot = mark} {start = start} other read field more) =
+      let same = single_stretch.same i _ _ other blank in
+      let there = subst (λ k. token t full_stop k (Read tt start)) same read in
+      let one = (functional_token t full_stop).same dot _ _ there refused in cc
+
+  pub attribute_there : (i dot start end : ℕ) → InlineBlank t i dot → token t full_stop dot (Read tt start) →
+      ShortAttributes edition t i end → (j : ℕ) × ShortField edition t true start j × ShortAttributes edition t j end
+  attribute_there i dot start end blank read (no_more other none) =
+      let same = single_stretch.same i _ _ other blank in
+      absurd (no_dot t dot start (subst (λ k. has_byte t full_stop k ≡ false) same none) read)
+  attribute_there i dot start end blank read (one_more {start = begin} {j = j} other mark field more) =
+      let same = single_stretch.same i _ _ other blank in
+      let there = subst (λ k. token t full_stop k (Read tt begin)) same mark in
+      let one = (functional_token t full_stop).same dot _ _ there read in
+      let begins : begin ≡ start = cc in
+      (j, subst (λ k. ShortField edition t true k j) begins field, more)
+
+-- ---- a message
+
+module _ (edition : Edition) (t : List ℕ) (i j : ℕ) (m : ShortMessage edition t i j) where
+  pub message_value : (end sign behind : ℕ) → Name t i end → InlineBlank t end sign →
+      token t equals_sign sign (Read tt behind) → ShortPattern edition t m.filled behind m.line
+  message_value end sign behind name blank equals =
+      value_there edition t m.filled i m.line end sign name blank m.field behind equals
+
+  module _ (line place : ℕ) (same : line ≡ m.line) (block : BlankBlock t line place) where
+    same_place : m.place ≡ place
+    same_place = single_block.same line _ _ (subst (λ k. BlankBlock t k m.place) (sym same) m.block) block
+
+    pub message_attributes : ShortAttributes edition t place j
+    message_attributes = subst (λ k. ShortAttributes edition t k j) same_place m.attributes
+
+    pub message_holds : (m.filled ≡ true) ⊎ (place < j)
+    message_holds = subst (λ k. (m.filled ≡ true) ⊎ (k < j)) same_place m.some

@@ -1,4 +1,4 @@
-use Rattle.std.proofs.Common.{◌<◌, arith, length, refl, sym}
+use Rattle.std.proofs.Common.{◌<◌, arith, length, refl, subst, sym}
 use Rattle.fluent_syntax_grammar.specs.Nesting.{Deeper, in_message}
 use Rattle.fluent_syntax_grammar.proofs.Shallow.{entry_message}
 use Rattle.fluent_syntax_parser.specs.ShortMessages.{short_message}
@@ -6,6 +6,8 @@ use Rattle.fluent_syntax_parser.proofs.DeeperTiles.{behind_entry, entry_led}
 use Rattle.fluent_syntax_parser.proofs.EntryForms.{message_there}
 use Rattle.fluent_syntax_parser.proofs.Rests.{rest_entry}
 use Rattle.fluent_syntax_parser.proofs.ShortMessages.{above_zero, no_hash, no_hyphen}
+use Rattle.fluent_syntax_parser.proofs.ShortGrammar.{name_letter}
+use Rattle.fluent_syntax_parser.specs.ShortGrammar.{ShortMessage}
 use Rattle.fluent_syntax_parser.proofs.source.Source.next_short.Goals as goal
 
 pub returns-clause-next : goal.returns-clause-next
@@ -45,3 +47,24 @@ returns-clause-shallow c =
     (λ d. above_zero (λ n. Deeper options.edition t in_message n start.result → ⊥) found.flat options.nesting
     (omega (arith, c.if-not-may_nest)) (entry_message options.edition t (no_hyphen t _ letter) d))
     (start.ensures.shallow options.edition options.nesting h)
+
+pub returns-then-not-may_nest-clause-stands : goal.returns-then-not-may_nest-clause-stands
+returns-then-not-may_nest-clause-stands c = λ may start end next m. absurd (omega (arith, may, c.if-not-may_nest.true))
+
+pub returns-then-not-is_letter_at-clause-stands : goal.returns-then-not-is_letter_at-clause-stands
+returns-then-not-is_letter_at-clause-stands c = λ may start end next m.
+    let same = c.tile_start-start.ensures.starts start next in
+    let there = subst (λ k. ShortMessage c.args.options.edition c.args.self.now.bytes.now k end) (sym same) m in
+    name_letter c.args.self.now.bytes.now _ _ (sym c.if-not-is_letter_at.ensures) there.field.name
+
+pub returns-in_default-clause-stands : goal.returns-in_default-clause-stands
+returns-in_default-clause-stands c = λ may start end next m.
+    let same = c.tile_start-start.ensures.starts start next in
+    let none = rw c.in_default.is at c.in_ok-name.ensures.stands in
+    none end (subst (λ k. ShortMessage c.args.options.edition c.args.self.now.bytes.now k end) (sym same) m)
+
+pub returns-clause-stands : goal.returns-clause-stands
+returns-clause-stands c = λ may start end next m.
+    let same = c.tile_start-start.ensures.starts start next in
+    let read = rw c.in-Some.is at c.in_ok-name.ensures.stands in
+    read end (subst (λ k. ShortMessage c.args.options.edition c.args.self.now.bytes.now k end) (sym same) m)
