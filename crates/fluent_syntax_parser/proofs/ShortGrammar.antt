@@ -123,7 +123,8 @@ module _ (t : List ℕ) (i : ℕ) where
 
 -- ---- the reference in a placeable, by where a reader has found it
 
-module _ (t : List ℕ) (i inside mark : ℕ) (brace : token t left_brace i (Read tt inside)) (blank : Blank t inside mark) where
+module _ (t : List ℕ) (i inside mark : ℕ) (brace : token t left_brace i (Read tt inside))
+    (blank : Blank t inside mark) where
   pub reference_in : (j : ℕ) → PlacedReference t i j → (end : ℕ) × PlainReference t mark end × Closes t end j
   reference_in j p =
       let opens = token_end t i left_brace inside p.brace brace in

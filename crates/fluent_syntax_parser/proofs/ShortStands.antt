@@ -1,6 +1,6 @@
 -- The lines and patterns of short messages, where a reader looks.
-use Rattle.std.proofs.Common.{◌≡◌, ℕ, ◌+◌, ◌<◌, ◌≤◌, List, [], length, Option, Some, None, Bool, true, false, refl, sym, subst}
-use Rattle.std.proofs.Common.{arith, inl, inr, not}
+use Rattle.std.proofs.Common.{◌≡◌, ℕ, ◌+◌, ◌<◌, ◌≤◌, List, [], length, Option, Some, None, Bool, true, false, refl}
+use Rattle.std.proofs.Common.{arith, inl, inr, not, subst, sym}
 use Rattle.std.specs.Prelude.{slice_get, slice_range, nat_lt, is_some, ◌==◌, ◌&&◌, ◌⊎◌}
 use Rattle.std.proofs.lemmas.Option.{slice_get_within}
 use Rattle.fluent_syntax_tree.specs.Kind.{ExpectedToken, Kind}
@@ -135,8 +135,8 @@ module _ (edition : Edition) (t : List ℕ) where
 
 -- ---- a line that holds something
 
-line_place_inside : (t : List ℕ) (i : ℕ) (o : Option ℕ) (eol : Bool) → slice_get t i ≡ o → (is_some o && not eol) ≡ true →
-    i < length t
+line_place_inside : (t : List ℕ) (i : ℕ) (o : Option ℕ) (eol : Bool) → slice_get t i ≡ o →
+    (is_some o && not eol) ≡ true → i < length t
 line_place_inside t i None eol e holds = cc
 line_place_inside t i (Some b) eol e holds = slice_get_within t i b e
 
@@ -207,7 +207,7 @@ module _ (edition : Edition) (t : List ℕ) where
   pub no_attribute_there : (i dot end : ℕ) (kind : Kind) (from to : ℕ) → InlineBlank t i dot →
       token t full_stop dot (Refused kind from to) → ShortAttributes edition t i end → i ≡ end
   no_attribute_there i dot end kind from to blank refused (no_more other none) = refl
-  no_attribute_there i dot end kind from to blank refused (one_more {dot = mark} {start = start} other read field more) =
+  no_attribute_there i dot end kind from to blank refused (one_more {start = start} other read field more) =
       let same = single_stretch.same i _ _ other blank in
       let there = subst (λ k. token t full_stop k (Read tt start)) same read in
       let one = (functional_token t full_stop).same dot _ _ there refused in cc

@@ -33,8 +33,8 @@ pub record PlacedReference (t : List ℕ) (i j : ℕ) : Type 0 where
   pub reference : PlainReference t mark end
   pub closes : Closes t end j
 
--- The rest of a line of texts and plain references, up to the start of the next line: a run, perhaps empty, and then the
--- line's end, or the placeable of a plain reference and so on.
+-- The rest of a line of texts and plain references, up to the start of the next line: a run, perhaps empty, and then
+-- the line's end, or the placeable of a plain reference and so on.
 pub data ShortLine (t : List ℕ) : ℕ → ℕ → Type 0 where
   ended : {i to stop next : ℕ} → Stretch (is_run_place t) i to → EndsLine t to stop next → ShortLine t i next
   placed : {i brace j next : ℕ} → Stretch (is_run_place t) i brace → PlacedReference t brace j → ShortLine t j next →

@@ -57,9 +57,9 @@ impl<'s> Source<'s> {
         start
     }
 
-    /// Reads the next entry from a place on, if it is a message that no comment hangs on and whose patterns are each one
-    /// line of texts and plain references, the line of the `=`, with its parts in the list: its name, and where it ends.
-    /// `None` too where no placeable may stand.
+    /// Reads the next entry from a place on, if it is a message that no comment hangs on and whose patterns are each
+    /// one line of texts and plain references, the line of the `=`, with its parts in the list: its name, and where it
+    /// ends. `None` too where no placeable may stand.
     pub(crate) fn next_short(
         &self,
         options: Options,

@@ -16,8 +16,8 @@ use fluent_syntax_tree::edition::Edition;
 use fluent_syntax_tree::spans::Span;
 use std::alloc::AllocError;
 
-/// An element of a pattern that is one line of texts and plain references: a text, or a placeable of a reference without
-/// attribute and arguments, by its name.
+/// An element of a pattern that is one line of texts and plain references: a text, or a placeable of a reference
+/// without attribute and arguments, by its name.
 #[derive(Clone, Copy)]
 pub enum ShortElement {
     Text(Span),
@@ -26,8 +26,8 @@ pub enum ShortElement {
     Term(Span),
 }
 
-/// What a message of such patterns holds behind its name, part by part: the elements of its value, and for each attribute
-/// its name and the elements behind it.
+/// What a message of such patterns holds behind its name, part by part: the elements of its value, and for each
+/// attribute its name and the elements behind it.
 #[derive(Clone, Copy)]
 pub enum ShortPart {
     Element(ShortElement),

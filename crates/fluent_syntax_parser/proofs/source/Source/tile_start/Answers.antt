@@ -44,6 +44,7 @@ loop-comments-preserved c =
           (sym c.if-is_byte_at.ensures) line.line (inv.shallow edition n h));
       starts = λ start next. starts_behind c.args.comments t _ _ start block.blank
           (starts_behind_comment c.args.comments t _ start _
-          (both_true (sym c.loop-comments-test.ensures) (sym c.if-is_byte_at.ensures)) line.line (inv.starts start next));
+          (both_true (sym c.loop-comments-test.ensures) (sym c.if-is_byte_at.ensures)) line.line
+          (inv.starts start next));
       blank = λ all. let end = inv.blank all in absurd (omega (arith, end, inside));
     }
