@@ -30,6 +30,7 @@ pub mod Runs
 pub mod Scans
 pub mod Selects
 pub mod Shallows
+pub mod ShortExamples
 pub mod ShortGrammar
 pub mod ShortLines
 pub mod ShortMessages

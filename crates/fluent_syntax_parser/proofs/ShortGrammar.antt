@@ -25,8 +25,8 @@ module _ (t : List ℕ) (i : ℕ) where
   pub no_name : (kind : Kind) (from to j : ℕ) → identifier t i (Refused kind from to) → Name t i j → ⊥
   no_name kind from to j a b = let same = (functional_identifier t).same i _ _ a b in cc
 
-  pub name_letter : (j : ℕ) → has t is_letter i ≡ false → Name t i j → ⊥
-  name_letter j none name =
+  pub no_letter_no_name : (j : ℕ) → has t is_letter i ≡ false → Name t i j → ⊥
+  no_letter_no_name j none name =
       no_name _ i (i + 1) j (goes_on at_place (goes_on (chosen given) (second none (failed refl)))) name
 
   pub token_end : (b j : ℕ) → has_byte t b i ≡ true → token t b i (Read tt j) → j ≡ i + 1

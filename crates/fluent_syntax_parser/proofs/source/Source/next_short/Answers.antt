@@ -6,7 +6,7 @@ use Rattle.fluent_syntax_parser.proofs.DeeperTiles.{behind_entry, entry_led}
 use Rattle.fluent_syntax_parser.proofs.EntryForms.{message_there}
 use Rattle.fluent_syntax_parser.proofs.Rests.{rest_entry}
 use Rattle.fluent_syntax_parser.proofs.ShortMessages.{above_zero, no_hash, no_hyphen}
-use Rattle.fluent_syntax_parser.proofs.ShortGrammar.{name_letter}
+use Rattle.fluent_syntax_parser.proofs.ShortGrammar.{no_letter_no_name}
 use Rattle.fluent_syntax_parser.specs.ShortGrammar.{ShortMessage}
 use Rattle.fluent_syntax_parser.proofs.source.Source.next_short.Goals as goal
 
@@ -55,7 +55,7 @@ pub returns-then-not-is_letter_at-clause-stands : goal.returns-then-not-is_lette
 returns-then-not-is_letter_at-clause-stands c = λ may start end next m.
     let same = c.tile_start-start.ensures.starts start next in
     let there = subst (λ k. ShortMessage c.args.options.edition c.args.self.now.bytes.now k end) (sym same) m in
-    name_letter c.args.self.now.bytes.now _ _ (sym c.if-not-is_letter_at.ensures) there.field.name
+    no_letter_no_name c.args.self.now.bytes.now _ _ (sym c.if-not-is_letter_at.ensures) there.field.name
 
 pub returns-in_default-clause-stands : goal.returns-in_default-clause-stands
 returns-in_default-clause-stands c = λ may start end next m.
