@@ -30,8 +30,8 @@ eol_there true b i k e = refl
 eol_there false true i k e = refl
 eol_there false false i k e = cc
 
-pub crlf_byte : (a b c : Bool) (i k : ℕ) → (if a then Some (i + 1) else if b && c then Some (i + 2) else None) ≡ Some k →
-    (k ≡ i + 1 → ⊥) → c ≡ true
+pub crlf_byte : (a b c : Bool) (i k : ℕ) →
+    (if a then Some (i + 1) else if b && c then Some (i + 2) else None) ≡ Some k → (k ≡ i + 1 → ⊥) → c ≡ true
 crlf_byte true b c i k e other = let same : i + 1 ≡ k = cc in absurd (other (sym same))
 crlf_byte false true true i k e other = refl
 crlf_byte false true false i k e other = cc
@@ -144,7 +144,8 @@ module _ (edition : Edition) (t : List ℕ) where
 
   module _ (j end : ℕ) (last : R.more_lines j (Read [] end)) where
     -- the blank lines of a blank block, where no line of a pattern follows them
-    pub blank_lines : (i : ℕ) → BlankBlock t i j → (ls : List Line) × R.more_lines i (Read ls end) × AreBlank edition t ls
+    pub blank_lines : (i : ℕ) → BlankBlock t i j →
+        (ls : List Line) × R.more_lines i (Read ls end) × AreBlank edition t ls
     blank_lines i (no_line blank none) = ([], last, λ common. refl)
     blank_lines i (line {k = k} {m = m} blank eol more) =
         let found = blank_lines m more in

@@ -19,6 +19,7 @@ pub mod LaneRuns
 pub mod LineEndings
 pub mod LineEnds
 pub mod Names
+pub mod NextStarts
 pub mod PartsOfEntries
 pub mod PartsOfTiling
 pub mod Pieces
@@ -29,11 +30,14 @@ pub mod Runs
 pub mod Scans
 pub mod Selects
 pub mod Shallows
+pub mod ShortExamples
+pub mod ShortGrammar
 pub mod ShortLines
 pub mod ShortMessages
 pub mod ShortPatterns
 pub mod ShortPieces
 pub mod ShortReferences
+pub mod ShortStands
 pub mod ShortTrees
 pub mod Spelled
 pub mod Stars

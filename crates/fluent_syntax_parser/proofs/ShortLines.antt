@@ -1,8 +1,8 @@
 -- Patterns of one line of texts and plain references.
-use Rattle.std.proofs.Common.{◌≡◌, ℕ, suc, ◌<◌, List, [], ◌∷◌, ◌++◌, map, None, true}
+use Rattle.std.proofs.Common.{◌≡◌, ℕ, suc, ◌<◌, List, [], ◌∷◌, ◌++◌, map, Option, Some, None, true}
 use Rattle.std.proofs.Common.{false, refl, sym, ap, append_assoc, arith, inl, inr, subst}
-use Rattle.std.specs.Prelude.{slice_range}
-use Rattle.std.proofs.lemmas.List.{map-append}
+use Rattle.std.specs.Prelude.{IfSome, slice_range}
+use Rattle.std.proofs.lemmas.List.{append-nil, map-append}
 use Rattle.fluent_syntax_tree.specs.Tree.{ElementTree, ExpressionTree, placeable, text_element}
 use Rattle.fluent_syntax_tree.specs.declared.edition.Edition.{Edition}
 use Rattle.fluent_syntax_tree.specs.declared.spans.Span.{Span}
@@ -19,8 +19,8 @@ use Rattle.fluent_syntax_grammar.proofs.Shallow.{pattern_led, run_led}
 use Rattle.fluent_syntax_parser.proofs.ShortPieces.{more_items}
 use Rattle.fluent_syntax_parser.proofs.ShortPatterns.{line_ended, opening_flat, opening_read, run_before}
 use Rattle.fluent_syntax_parser.specs.ShortMessages.{pattern_if_any, short_element}
-use Rattle.fluent_syntax_parser.specs.ShortPatterns.{EndsBlank, EndsLine}
-use Rattle.fluent_syntax_parser.specs.ShortPieces.{EndsPlaced, GathersPieces, ReadsShort, short_item, short_piece}
+use Rattle.fluent_syntax_parser.specs.ShortPatterns.{EndsBlank, EndsLine, OpensAs}
+use Rattle.fluent_syntax_parser.specs.ShortPieces.{NoTextIsLast, GathersPieces, ReadsShort, short_item, short_piece}
 use Rattle.fluent_syntax_parser.specs.declared.short.ShortElement.{ShortElement}
 use Rattle.fluent_syntax_parser.specs.declared.short.ShortElement.TheVariants.{Text, Variable, Message, Term}
 use Rattle.fluent_syntax_parser.specs.declared.short.ShortPart.{ShortPart}
@@ -68,7 +68,7 @@ placed_element (Message s) e same = cc
 placed_element (Term s) e same = cc
 
 -- where nothing stays behind a placeable
-spelled_placed : (t : List ℕ) (es : List ShortElement) → EndsPlaced es → (ps : List Piece) (e : Ending) →
+spelled_placed : (t : List ℕ) (es : List ShortElement) → NoTextIsLast es → (ps : List Piece) (e : Ending) →
     cut t (with_ending ps e) ≡ [] →
     spelled t (cut t (with_ending (map short_piece es ++ ps) e)) ≡ map (short_element (λ s. s)) es
 spelled_placed t es (inl none) ps e nothing = rw (none, nothing) refl
@@ -112,7 +112,8 @@ module _ (edition : Edition) (t : List ℕ) (start : ℕ) (opens : after_eol t s
     text_read ptr blank lines nonblank =
         let ended = line_ended edition t to stop next line in
         let stays = ended.text_stays place nonblank in
-        let read = opening_read edition t start opens _ to text_pieces ended.ends_by next ended.ends ptr end blank lines in
+        let read =
+        opening_read edition t start opens _ to text_pieces ended.ends_by next ended.ends ptr end blank lines in
         let same = spelled_line t g.elements (run' place to) [] ended.ends_by _ [] stays in
         let f = rw (same, same_if_any (elements ++ spelled t (text place stop ∷ []))) at read in f
 
@@ -144,8 +145,10 @@ module _ (edition : Edition) (t : List ℕ) (start : ℕ) (opens : after_eol t s
         pattern edition t ptr (Read (pattern_if_any elements) end)
     blank_read ptr blank lines falls =
         let ended = line_ended edition t to stop next line in
-        let read = opening_read edition t start opens _ to text_pieces ended.ends_by next ended.ends ptr end blank lines in
-        let same = spelled_placed t g.elements g.ends (run' place to ∷ []) ended.ends_by (ended.text_falls place falls) in
+        let read =
+        opening_read edition t start opens _ to text_pieces ended.ends_by next ended.ends ptr end blank lines in
+        let falls = ended.text_falls place falls in
+        let same = spelled_placed t g.elements g.ends (run' place to ∷ []) ended.ends_by falls in
         let f = rw (same, same_if_any elements) at read in f
 
     pub blank_reads : (ptr : ℕ) → InlineBlank t ptr start → EndsBlank edition t next end →
@@ -169,8 +172,10 @@ module _ (edition : Edition) (t : List ℕ) (start : ℕ) (opens : after_eol t s
         pattern edition t ptr (Read (pattern_if_any elements) end)
     placed_read ptr blank lines =
         let ended = line_ended edition t to stop next line in
-        let read = opening_read edition t start opens _ to placed_pieces ended.ends_by next ended.ends ptr end blank lines in
-        let f = rw (spelled_placed t g.elements g.ends [] ended.ends_by ended.none_stays, same_if_any elements) at read in f
+        let read =
+        opening_read edition t start opens _ to placed_pieces ended.ends_by next ended.ends ptr end blank lines in
+        let same = spelled_placed t g.elements g.ends [] ended.ends_by ended.none_stays in
+        let f = rw (same, same_if_any elements) at read in f
 
     placed_flat : (n : ℕ) → (Deeper edition t in_lines (suc n) next → ⊥) →
         Deeper edition t in_layout (suc n) start → ⊥
@@ -186,4 +191,19 @@ module _ (edition : Edition) (t : List ℕ) (start : ℕ) (opens : after_eol t s
       items = g.items;
       read = placed_read ptr blank lines;
       flat = λ n d. placed_flat n (shallow (suc n)) (pattern_led edition t start blank d);
+    }
+
+-- ---- a pattern that holds nothing
+
+module _ (edition : Edition) (t : List ℕ) (parts : List ShortPart) (ptr start : ℕ) (blank : InlineBlank t ptr start)
+  where
+    pub empty_reads : (found : Option ℕ) → IfSome found (OpensAs edition t start None) →
+        IfSome found (λ _. (n : ℕ) → Deeper edition t in_layout n start → ⊥) →
+        IfSome found (λ end. ReadsShort edition t parts ptr parts end)
+    empty_reads None opens shallow = tt
+    empty_reads (Some end) opens shallow = record {
+      elements = [];
+      items = sym (append-nil parts);
+      read = opens ptr blank;
+      flat = λ n d. shallow (suc n) (pattern_led edition t start blank d);
     }

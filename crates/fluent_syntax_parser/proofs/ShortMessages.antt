@@ -1,6 +1,6 @@
 -- Messages whose patterns are each one line of texts and plain references.
-use Rattle.std.proofs.Common.{◌≡◌, ℕ, zero, suc, true, false, List, [], ◌∷◌, ◌++◌, Some, map, refl, sym, ◌∙◌, ap, arith}
-use Rattle.std.proofs.Common.{append_assoc}
+use Rattle.std.proofs.Common.{◌≡◌, ℕ, zero, suc, ◌<◌, true, false, List, [], ◌∷◌, ◌++◌, Some, map, refl, sym, ◌∙◌, ap}
+use Rattle.std.proofs.Common.{append_assoc, arith}
 use Rattle.std.specs.Prelude.{◌==◌, slice_get}
 use Rattle.std.proofs.lemmas.Bool.Decides.{nat_tests}
 use Rattle.std.proofs.lemmas.List.{append-nil}
@@ -147,10 +147,10 @@ module _ (t : List ℕ) (start end : ℕ) (name : Span) where
   message_of (e ∷ es) added named some =
       rw (elements_before (λ s. s) es added named, attributes_behind (λ s. s) es added) given
 
--- what holds of each number but 0
-pub but_zero : (P : ℕ → Type 0) → ((n : ℕ) → P (suc n)) → (n : ℕ) → (n ≡ 0 → ⊥) → P n
-but_zero P each zero some = absurd (some refl)
-but_zero P each (suc n) some = each n
+-- what holds of each number above 0
+pub above_zero : (P : ℕ → Type 0) → ((n : ℕ) → P (suc n)) → (n : ℕ) → 0 < n → P n
+above_zero P each zero above = absurd (omega (arith, above))
+above_zero P each (suc n) above = each n
 
 -- ---- a letter is the mark of no other entry
 

@@ -8,11 +8,12 @@ use Rattle.std.proofs.lemmas.Option.{slice_get-get_or, slice_get_past}
 use Rattle.fluent_syntax_tree.specs.declared.edition.Edition.{Edition}
 use Rattle.fluent_syntax_grammar.specs.Bytes.{lf, cr, space, left_brace, right_brace}
 use Rattle.fluent_syntax_grammar.specs.Construct.{Read, goes_on, given, passed, chosen, second, at_place}
-use Rattle.fluent_syntax_grammar.specs.Elements.{Item, text, cut, cut_before, if_any, is_nonblank, line_items, pattern_of, spelled}
-use Rattle.fluent_syntax_grammar.specs.Elements.{trimmed_end, with_ending}
+use Rattle.fluent_syntax_grammar.specs.Elements.{Item, text, cut, cut_before, if_any, is_nonblank, line_items}
+use Rattle.fluent_syntax_grammar.specs.Elements.{pattern_of, spelled, trimmed_end, with_ending}
 use Rattle.fluent_syntax_grammar.specs.Family.{Family}
 use Rattle.fluent_syntax_grammar.specs.Grammar.{family, pattern}
-use Rattle.fluent_syntax_grammar.specs.Layout.{Layout, Line, Piece, common_indent, run as run', Ending, lf_at, crlf_at, text_end as text_end'}
+use Rattle.fluent_syntax_grammar.specs.Layout.{Layout, Line, Piece, common_indent, run as run', Ending, lf_at}
+use Rattle.fluent_syntax_grammar.specs.Layout.{crlf_at, text_end as text_end'}
 use Rattle.fluent_syntax_grammar.specs.Lines.{is_run_place, ending}
 use Rattle.fluent_syntax_grammar.specs.Nesting.{Deeper, in_layout, in_lines, in_pieces}
 use Rattle.fluent_syntax_grammar.specs.Patterns.{layout_at, layout}
@@ -89,7 +90,8 @@ module _ (edition : Edition) (t : List ℕ) where
 
   -- ---- a line that ends
 
-  -- It ends so, nothing but that follows there, and of its last items a text from some place stays just if it is nonblank.
+  -- It ends so, nothing but that follows there, and of its last items a text from some place stays just if it is
+  -- nonblank.
   pub record EndedLine (to stop next : ℕ) : Type 0 where
     pub ends_by : Ending
     pub ends : ending t to (Read ends_by next)
@@ -178,20 +180,27 @@ module _ (edition : Edition) (t : List ℕ) where
   -- ---- a pattern of one text
 
   module _ (start to : ℕ) (w : Stretch (is_run_place t) start to) (some : start < to) where
+    pub run_nonblank : (ptr stop : ℕ) → InlineBlank t ptr start → to ≤ stop → stop ≤ length t →
+        is_nonblank (slice_range t start stop) ≡ true
+    run_nonblank ptr stop blank l within =
+        let f = first_byte start to w some in
+        let space : (f.0 == space) ≡ false = let g = rw f.1 at blank.longest in g in
+        let other : (f.0 == lf) ≡ false = grind (arith, nat_tests) in
+        range_nonblank t start stop (omega arith) within f.0 f.1 space other
+
     opens_there : after_eol t start ≡ None
     opens_there = no_eol (has_byte t lf start) _ start (start_eol start to w some)
 
     pub short_read : (ptr stop next end : ℕ) → InlineBlank t ptr start → EndsLine t to stop next → to ≤ stop →
         stop ≤ length t → EndsBlank edition t next end →
-        pattern edition t ptr (Read (Some (text_pattern (record { start = start; end = trimmed_end t start stop }))) end)
+        pattern edition t ptr
+        (Read (Some (text_pattern (record { start = start; end = trimmed_end t start stop }))) end)
     short_read ptr stop next end blank line l within lines =
-        let f = first_byte start to w some in
-        let space : (f.0 == space) ≡ false = let g = rw f.1 at blank.longest in g in
-        let other : (f.0 == lf) ≡ false = grind (arith, nat_tests) in
-        let stays = range_nonblank t start stop (omega arith) within f.0 f.1 space other in
+        let stays = run_nonblank ptr stop blank l within in
         let ended = line_ended to stop next line in
-        let read = opening_read start opens_there (run' start to ∷ []) to (run_before start to w some [] to ended.pieces)
-        ended.ends_by next ended.ends ptr end blank lines in
+        let pieces = run_before start to w some [] to ended.pieces in
+        let read = opening_read start opens_there (run' start to ∷ []) to pieces ended.ends_by next ended.ends ptr end
+        blank lines in
         let f = rw (ended.text_stays start stays) at read in f
 
     -- it holds no opening

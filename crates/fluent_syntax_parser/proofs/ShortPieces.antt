@@ -1,37 +1,48 @@
 -- Pieces of a line, gathered without a tree.
-use Rattle.std.proofs.Common.{◌≡◌, ℕ, suc, ◌<◌, List, [], ◌∷◌, ◌++◌, map, Some, true, false, refl, sym, ◌∙◌, ap, subst}
+use Rattle.std.proofs.Common.{◌≡◌, ℕ, suc, ◌+◌, ◌<◌, List, [], ◌∷◌, ◌++◌, length, map, Some, true, refl, sym, ◌∙◌}
+use Rattle.std.proofs.Common.{ap, subst}
 use Rattle.std.proofs.Common.{append_assoc, arith, inl, inr}
 use Rattle.std.specs.Prelude.{slice_get, ◌==◌}
-use Rattle.std.proofs.lemmas.List.{append-nil, map-append}
+use Rattle.std.proofs.lemmas.List.{append-nil, length-append, map-append}
 use Rattle.fluent_syntax_tree.specs.Tree.{ExpressionTree}
 use Rattle.fluent_syntax_tree.specs.declared.edition.Edition.{Edition}
 use Rattle.fluent_syntax_tree.specs.declared.spans.Span.{Span}
-use Rattle.fluent_syntax_grammar.specs.Bytes.{cr, left_brace, lf}
+use Rattle.fluent_syntax_grammar.specs.Bytes.{left_brace}
 use Rattle.fluent_syntax_grammar.specs.Construct.{Read, given, goes_on}
 use Rattle.fluent_syntax_grammar.specs.Grammar.{family, placeable}
 use Rattle.fluent_syntax_grammar.specs.Layout.{Piece, placed}
 use Rattle.fluent_syntax_grammar.specs.Lines.{is_run_place}
 use Rattle.fluent_syntax_grammar.specs.Nesting.{Deeper, in_pieces}
-use Rattle.fluent_syntax_grammar.specs.Places.{Stretch, has_byte, has_eol}
+use Rattle.fluent_syntax_grammar.specs.Places.{Stretch, has_byte}
 use Rattle.fluent_syntax_grammar.proofs.Facts.{byte_found, equal}
 use Rattle.fluent_syntax_grammar.proofs.Shallow.{placed_led, run_led}
 use Rattle.fluent_syntax_parser.proofs.Gathers.{map_more}
 use Rattle.fluent_syntax_parser.proofs.Pieces.{placed_piece}
 use Rattle.fluent_syntax_parser.proofs.ShortPatterns.{run_before}
-use Rattle.fluent_syntax_parser.proofs.ShortReferences.{is_no}
+use Rattle.fluent_syntax_parser.proofs.ShortReferences.{begins_no_line_end}
 use Rattle.fluent_syntax_parser.specs.ShortPieces.{GathersPieces, ReadsPlaced, short_piece}
 use Rattle.fluent_syntax_parser.specs.declared.short.ShortElement.{ShortElement}
 use Rattle.fluent_syntax_parser.specs.declared.short.ShortElement.TheVariants.{Text}
 use Rattle.fluent_syntax_parser.specs.declared.short.ShortPart.{ShortPart}
 use Rattle.fluent_syntax_parser.specs.declared.short.ShortPart.TheVariants.{Element}
 
-pub more_items : (old mid new : List ShortPart) (es : List ShortElement) (x : ShortElement) → mid ≡ old ++ map Element es →
-    new ≡ mid ++ Element x ∷ [] → new ≡ old ++ map Element (es ++ x ∷ [])
+pub more_items : (old mid new : List ShortPart) (es : List ShortElement) (x : ShortElement) →
+    mid ≡ old ++ map Element es → new ≡ mid ++ Element x ∷ [] → new ≡ old ++ map Element (es ++ x ∷ [])
 more_items old mid new es x same longer =
     longer
     ∙ (ap (λ ps. ps ++ Element x ∷ []) same
     ∙ (append_assoc old (map Element es) (Element x ∷ [])
     ∙ ap (λ ps. old ++ ps) (sym (map-append Element es (x ∷ [])))))
+
+pub one_longer : (mid new : List ShortPart) (p : ShortPart) → new ≡ mid ++ p ∷ [] → length new ≡ length mid + 1
+one_longer mid new p longer = ap length longer ∙ length-append mid (p ∷ [])
+
+pub two_longer : (mid new : List ShortPart) (p q : ShortPart) → new ≡ (mid ++ p ∷ []) ++ q ∷ [] →
+    length new ≡ length mid + 2
+two_longer mid new p q longer =
+    let all = one_longer (mid ++ p ∷ []) new q longer in
+    let first = one_longer mid (mid ++ p ∷ []) p refl in
+    omega (arith, all, first)
 
 -- ---- a placeable
 
@@ -41,14 +52,12 @@ module _ (t : List ℕ) (m : ℕ) (brace : has_byte t left_brace m ≡ true) whe
       let f = byte_found (λ b. b == left_brace) (slice_get t m) brace in
       f.1 ∙ ap Some (equal f.0 left_brace f.2)
 
-  no_line_end : has_eol t m ≡ false
-  no_line_end = rw (is_no t m left_brace lf refl brace, is_no t m left_brace cr refl brace) refl
-
   placed_before : (edition : Edition) (e : ExpressionTree Span) (k : ℕ) → placeable edition t m (Read e k) →
       (more : List Piece) (end : ℕ) → (family edition t).more_pieces k (Read more end) →
       (family edition t).more_pieces m (Read (placed e ∷ more) end)
   placed_before edition e k read more end h =
-      placed_piece edition t m left_brace brace_byte no_line_end refl _ (goes_on read (goes_on h given))
+      placed_piece edition t m left_brace brace_byte (begins_no_line_end t m left_brace refl refl brace) refl _
+      (goes_on read (goes_on h given))
 
 -- ---- one more
 

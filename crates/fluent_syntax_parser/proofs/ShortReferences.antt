@@ -1,5 +1,6 @@
 -- Placeables of a plain reference.
-use Rattle.std.proofs.Common.{◌≡◌, ℕ, suc, ◌+◌, List, Option, Some, None, Bool, true, false, refl, sym, subst, arith, inl, inr}
+use Rattle.std.proofs.Common.{◌≡◌, ℕ, suc, ◌+◌, List, Option, Some, None, Bool, true, false, refl, sym, subst, arith}
+use Rattle.std.proofs.Common.{inl, inr}
 use Rattle.std.specs.Prelude.{slice_get, ◌==◌, ◌||◌, ◌&&◌}
 use Rattle.std.proofs.lemmas.Bool.Decides.{nat_tests}
 use Rattle.fluent_syntax_tree.specs.Tree.{InlineTree, inline, message_reference, no_arguments, term_reference}
@@ -22,28 +23,34 @@ use Rattle.fluent_syntax_parser.proofs.InlineStarts.{by_start}
 use Rattle.fluent_syntax_parser.specs.ShortPieces.{Closes, ReadsPlaced}
 use Rattle.fluent_syntax_parser.specs.declared.short.ShortElement.TheVariants.{Variable, Message, Term}
 
-other_byte : (a c : ℕ) → (a == c) ≡ false → (b : ℕ) → (b == a) ≡ true → (b == c) ≡ false
-other_byte a c e b same = grind (arith, nat_tests)
+byte_differs : (a c : ℕ) → (a == c) ≡ false → (b : ℕ) → (b == a) ≡ true → (b == c) ≡ false
+byte_differs a c e b same = grind (arith, nat_tests)
 
 module _ (t : List ℕ) (i : ℕ) where
   -- where one byte stands, no other does
-  pub is_no : (a c : ℕ) → (a == c) ≡ false → has_byte t a i ≡ true → has_byte t c i ≡ false
-  is_no a c e = excludes (λ b. b == a) (λ b. b == c) _ (other_byte a c e)
+  pub no_other_byte : (a c : ℕ) → (a == c) ≡ false → has_byte t a i ≡ true → has_byte t c i ≡ false
+  no_other_byte a c e = excludes (λ b. b == a) (λ b. b == c) _ (byte_differs a c e)
 
-  absent : (c : ℕ) → has_byte t c i ≡ false → optional t c i (Read false i)
+  -- where a byte stands that begins no line end, none begins
+  pub begins_no_line_end : (b : ℕ) → (b == lf) ≡ false → (b == cr) ≡ false → has_byte t b i ≡ true → has_eol t i ≡ false
+  begins_no_line_end b no_lf no_cr there = rw (no_other_byte b lf no_lf there, no_other_byte b cr no_cr there) refl
+
+  pub absent : (c : ℕ) → has_byte t c i ≡ false → optional t c i (Read false i)
   absent c none = chosen (second none given)
 
-  present : (c : ℕ) → has_byte t c i ≡ true → token t c i (Read tt (i + 1))
+  pub present : (c : ℕ) → has_byte t c i ≡ true → token t c i (Read tt (i + 1))
   present c there = goes_on (chosen (first there (goes_on (passed (record { by = refl })) given))) (first refl given)
 
 -- ---- where the brace closes
 
 module _ (t : List ℕ) (k : ℕ) (there : has_byte t right_brace k ≡ true) where
-  no_line_end : has_eol t k ≡ false
-  no_line_end = rw (is_no t k right_brace lf refl there, is_no t k right_brace cr refl there) refl
-
   no_blank : is_blank_place t k ≡ false
-  no_blank = rw (is_no t k right_brace space refl there, no_line_end) refl
+  no_blank =
+      rw (
+        no_other_byte t k right_brace space refl there,
+        begins_no_line_end t k right_brace refl refl there,
+      )
+      refl
 
   blank_at_close : Blank t k k
   blank_at_close = record { forward = omega arith; each = λ m a b. absurd (omega (arith, a, b)); longest = no_blank }
@@ -52,11 +59,11 @@ module _ (t : List ℕ) (k : ℕ) (there : has_byte t right_brace k ≡ true) wh
   inline_blank_at_close = record {
     forward = omega arith;
     each = λ m a b. absurd (omega (arith, a, b));
-    longest = is_no t k right_brace space refl there;
+    longest = no_other_byte t k right_brace space refl there;
   }
 
   no_arrow_at_close : has_arrow t k ≡ false
-  no_arrow_at_close = rw (is_no t k right_brace hyphen refl there) refl
+  no_arrow_at_close = rw (no_other_byte t k right_brace hyphen refl there) refl
 
 byte_is_no_stop : (o : Option ℕ) (b : Bool) →
     (holds (λ c. c == space) o || (holds (λ c. c == lf) o || holds (λ c. c == cr) o && b)) ≡ true →
@@ -73,24 +80,26 @@ module _ (edition : Edition) (t : List ℕ) (i j : ℕ) (c : Closes t i j) where
   no_accessor_before =
       let none : has_byte t full_stop i ≡ false = elim (lt_or_same i c.close c.blank.forward) [
         | inl l ↦ blank_is_no_stop t i (c.blank.each i (omega arith) l)
-        | inr e ↦ subst (λ k. has_byte t full_stop k ≡ false) (sym e) (is_no t c.close right_brace full_stop refl c.there)
+        | inr e ↦ subst (λ k. has_byte t full_stop k ≡ false) (sym e)
+            (no_other_byte t c.close right_brace full_stop refl c.there)
       ] in
       goes_on (absent t i full_stop none) (second refl given)
 
   no_accessor_behind : accessor t c.close (Read None c.close)
   no_accessor_behind =
-      goes_on (absent t c.close full_stop (is_no t c.close right_brace full_stop refl c.there)) (second refl given)
+      goes_on (absent t c.close full_stop (no_other_byte t c.close right_brace full_stop refl c.there))
+      (second refl given)
 
   no_call : call_arguments t (family edition t) i (Read no_arguments c.close)
   no_call =
       goes_on (passed c.blank)
-      (goes_on (absent t c.close left_parenthesis (is_no t c.close right_brace left_parenthesis refl c.there))
+      (goes_on (absent t c.close left_parenthesis (no_other_byte t c.close right_brace left_parenthesis refl c.there))
       (second refl given))
 
   call_flat : (n : ℕ) → Deeper edition t in_call n i → ⊥
   call_flat n = call_stuck edition t _ _ _
       (goes_on (passed c.blank)
-      (goes_on (absent t c.close left_parenthesis (is_no t c.close right_brace left_parenthesis refl c.there))
+      (goes_on (absent t c.close left_parenthesis (no_other_byte t c.close right_brace left_parenthesis refl c.there))
       (second refl (failed refl))))
 
 -- ---- the placeable of an inline expression
@@ -127,7 +136,8 @@ module _ (t : List ℕ) (i inside mark : ℕ) (brace : token t left_brace i (Rea
   abbrev span : Span
   span = record { start = from; end = end }
 
-  pub reads_variable : dollar ≡ start t mark → token t dollar_sign mark (Read tt from) → ReadsPlaced t i (Variable span) j
+  pub reads_variable : dollar ≡ start t mark → token t dollar_sign mark (Read tt from) →
+      ReadsPlaced t i (Variable span) j
   reads_variable is sign = record {
     expression = inline (variable_reference span);
     is = refl;
@@ -154,7 +164,8 @@ module _ (t : List ℕ) (i inside mark : ℕ) (brace : token t left_brace i (Rea
         let word = subst (λ k. identifier t k (Read span end)) same name in
         let read = by_start edition t mark letter _ is
         (goes_on word (goes_on (no_call edition t end j c) (goes_on (no_accessor_behind edition t end j c) given))) in
-        placed_flat edition t i inside mark brace blank _ refl c.close c.close read (blank_at_close t c.close c.there) c.there n
+        placed_flat edition t i inside mark brace blank _ refl c.close c.close read
+        (blank_at_close t c.close c.there) c.there n
         (λ d. call_flat edition t end j c n (letter_led edition t is word d));
   }
 
@@ -174,7 +185,8 @@ module _ (t : List ℕ) (i inside mark : ℕ) (brace : token t left_brace i (Rea
         (goes_on sign
         (goes_on name
         (goes_on (no_accessor_before edition t end j c) (goes_on (no_call edition t end j c) given)))) in
-        placed_flat edition t i inside mark brace blank _ refl c.close c.close read (blank_at_close t c.close c.there) c.there n
+        placed_flat edition t i inside mark brace blank _ refl c.close c.close read
+        (blank_at_close t c.close c.there) c.there n
         (λ d. call_flat edition t end j c n
         (term_led edition t is (goes_on sign (goes_on name (no_accessor_before edition t end j c))) d));
   }

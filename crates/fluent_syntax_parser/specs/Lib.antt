@@ -11,6 +11,7 @@ pub mod Lines
 pub mod Meets
 pub mod Parts
 pub mod Rest
+pub mod ShortGrammar
 pub mod ShortMessages
 pub mod ShortPatterns
 pub mod ShortPieces

@@ -1,8 +1,8 @@
 -- Messages whose patterns are each one line of texts and plain references.
 use Rattle.std.specs.Prelude.{◌≡◌, ℕ, suc, [], ◌∷◌, ◌++◌, List, Option, Some, None, map}
 use Rattle.fluent_syntax_tree.specs.Entry.{AttributeTree, EntryTree, message}
-use Rattle.fluent_syntax_tree.specs.Tree.{ElementTree, PatternTree, elements_of, inline, message_reference, no_arguments}
-use Rattle.fluent_syntax_tree.specs.Tree.{placeable, term_reference, text_element, variable_reference}
+use Rattle.fluent_syntax_tree.specs.Tree.{ElementTree, PatternTree, elements_of, inline, message_reference}
+use Rattle.fluent_syntax_tree.specs.Tree.{no_arguments, placeable, term_reference, text_element, variable_reference}
 use Rattle.fluent_syntax_tree.specs.declared.edition.Edition.{Edition}
 use Rattle.fluent_syntax_tree.specs.declared.spans.Span.{Span}
 use Rattle.fluent_syntax_grammar.specs.Construct.{Read}
@@ -49,8 +49,8 @@ module _ {A : Type 0} (f : Span → A) where
 
 -- An attribute from the one place to the other has the name and the elements that the list holds behind the parts that
 -- were there, and no placeable in it holds another.
-pub record ReadsAttribute (edition : Edition) (t : List ℕ) (old : List ShortPart) (i : ℕ) (new : List ShortPart) (j : ℕ) :
-    Type 0 where
+pub record ReadsAttribute (edition : Edition) (t : List ℕ) (old : List ShortPart) (i : ℕ) (new : List ShortPart)
+    (j : ℕ) : Type 0 where
   pub name : Span
   pub elements : List ShortElement
   pub items : new ≡ old ++ Attribute name ∷ map Element elements

@@ -44,9 +44,9 @@ pub record ReadsPlaced (t : List ℕ) (i : ℕ) (x : ShortElement) (j : ℕ) : T
   pub read : (edition : Edition) → placeable edition t i (Read expression j)
   pub flat : (edition : Edition) (n : ℕ) → Deeper edition t in_placeable (suc n) i → ⊥
 
--- No text ends the elements.
-abbrev pub EndsPlaced : List ShortElement → Type 0
-EndsPlaced es =
+-- A text is not the last of the elements.
+abbrev pub NoTextIsLast : List ShortElement → Type 0
+NoTextIsLast es =
     (es ≡ []) ⊎ ((before : List ShortElement) × (x : ShortElement) × (e : ExpressionTree Span) ×
     (es ≡ before ++ x ∷ []) × (short_piece x ≡ placed e))
 
@@ -58,11 +58,11 @@ pub record GathersPieces (t : List ℕ) (old : List ShortPart) (i : ℕ) (new : 
   pub read : (edition : Edition) (more : List Piece) (end : ℕ) →
       (family edition t).more_pieces j (Read more end) →
       (family edition t).more_pieces i (Read (map short_piece elements ++ more) end)
-  pub ends : EndsPlaced elements
+  pub ends : NoTextIsLast elements
   pub flat : (edition : Edition) (n : ℕ) → Deeper edition t in_pieces (suc n) i → Deeper edition t in_pieces (suc n) j
 
--- A pattern from the one place to the other has the elements that the list holds behind the parts that were there, and no
--- placeable in it holds another.
+-- A pattern from the one place to the other has the elements that the list holds behind the parts that were there, and
+-- no placeable in it holds another.
 pub record ReadsShort (edition : Edition) (t : List ℕ) (old : List ShortPart) (i : ℕ) (new : List ShortPart) (j : ℕ) :
     Type 0 where
   pub elements : List ShortElement

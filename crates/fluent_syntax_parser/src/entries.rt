@@ -1,9 +1,11 @@
 //! Entries one by one.
-ghost use Rattle.std.specs.Prelude.{◌≡◌, ◌-◌, ◌<◌, ◌≤◌, [], length, IfErr, IfNone, IfOk, IfSome, None, Ok, OnErr};
+ghost use Rattle.std.specs.Prelude.{◌≡◌, ◌-◌, ◌<◌, ◌≤◌, [], ℕ, length, IfErr, IfNone, IfOk, IfSome, IsSomeAnd};
+ghost use Rattle.std.specs.Prelude.{None, Ok, OnErr};
 ghost use Rattle.fluent_syntax_grammar.specs.Nesting.{TextDeeper};
 ghost use Rattle.fluent_syntax_grammar.specs.Places.{BlankBlock};
 ghost use Rattle.fluent_syntax_parser.specs.Halts.{ComesTo, HaltsWithin, OnHalt};
 ghost use Rattle.fluent_syntax_parser.specs.Rest.{EntryTo, NextTo, TileIn};
+ghost use Rattle.fluent_syntax_parser.specs.ShortGrammar.{NextStart, ShortMessage};
 ghost use Rattle.fluent_syntax_parser.specs.ShortMessages.{short_message};
 
 use crate::options::{Halt, Options};
@@ -73,15 +75,20 @@ impl<'s> Entries<'s> {
         }
     }
 
-    /// Reads the next entry, if it is a message that no comment hangs on and whose patterns are each one line of texts and
-    /// plain references, and puts its parts into the list: its name. `None` where it is another entry or none is left, and
-    /// where the options allow no nesting: then it stands where it stood. `AllocError` where there is no memory for the list.
+    /// Reads the next entry, if it is a message that no comment hangs on and whose patterns are each one line of texts
+    /// and plain references, the line of the `=`, and puts its parts into the list: its name. So `a =` with its text on
+    /// the next line is none. `None` where it is another entry or none is left, and where the options allow no nesting:
+    /// then it stands where it stood. `AllocError` where there is no memory for the list.
     pub fn next_short(&mut self, parts: &mut Vec<ShortPart>) -> Result<Option<Span>, AllocError>
         ensures text { self.new.source ≡ self.old.source }
         ensures options { self.new.options ≡ self.old.options }
         ensures next { let t = self.old.source.bytes.now in let options = self.old.options in
             IfOk result (λ found. IfSome found (λ name. EntryTo options.comments options.edition t self.old.ptr
             self.new.ptr (short_message (λ s. s) name parts.new.items) [])) }
+        ensures stands { let t = self.old.source.bytes.now in let options = self.old.options in
+            IfOk result (λ found. 0 < options.nesting → (start end : ℕ) →
+            NextStart options.comments t self.old.ptr start → ShortMessage options.edition t start end →
+            IsSomeAnd found (λ name. self.new.ptr ≡ end)) }
         ensures onward { IfOk result (λ found. IfSome found (λ name. self.old.ptr < self.new.ptr)) }
         ensures blank { let t = self.old.source.bytes.now in
             BlankBlock t self.old.ptr (length t) → result ≡ Ok None }

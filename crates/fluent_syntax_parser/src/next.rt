@@ -1,5 +1,6 @@
 //! The next entry of a text.
-ghost use Rattle.std.specs.Prelude.{◌≡◌, ◌-◌, ◌<◌, ◌≤◌, [], length, IfErr, IfOk, IfSome, None, Ok, false, true, ℕ, List, Option};
+ghost use Rattle.std.specs.Prelude.{◌≡◌, ◌-◌, ◌<◌, ◌≤◌, [], length, IfErr, IfOk, IfSome, None, Ok, false, true, ℕ};
+ghost use Rattle.std.specs.Prelude.{List, Option, IsSomeAnd};
 ghost use Rattle.fluent_syntax_tree.specs.Entry.{BodyTree};
 ghost use Rattle.fluent_syntax_tree.specs.declared.edition.Edition.{Edition};
 ghost use Rattle.fluent_syntax_grammar.specs.Bytes.{hash};
@@ -8,6 +9,7 @@ ghost use Rattle.fluent_syntax_grammar.specs.Places.{BlankBlock, has_byte};
 ghost use Rattle.fluent_syntax_grammar.specs.Tiling.{Fault};
 ghost use Rattle.fluent_syntax_parser.specs.Halts.{ComesNext, HaltsWithin, OnHalt};
 ghost use Rattle.fluent_syntax_parser.specs.Rest.{EntryTo, Next, Rest, RestAt, TileIn, are_dropped};
+ghost use Rattle.fluent_syntax_parser.specs.ShortGrammar.{NextStart, ShortMessage};
 ghost use Rattle.fluent_syntax_parser.specs.ShortMessages.{short_message};
 
 use crate::options::{Comments, Halt, Options};
@@ -45,6 +47,7 @@ impl<'s> Source<'s> {
             TextDeeper edition t at n ptr → TileDeeper edition t at n result }
         ensures dropped { are_dropped comments ≡ true → has_byte self.now.bytes.now hash result ≡ false }
         ensures blank { let t = self.now.bytes.now in BlankBlock t ptr (length t) → result ≡ length t }
+        ensures starts { (start : ℕ) → NextStart comments self.now.bytes.now ptr start → result ≡ start }
         ensures within { (ptr ≤ result) × (result ≤ length self.now.bytes.now) }
     {
         let mut start = self.skip_blank_block(ptr);
@@ -54,9 +57,9 @@ impl<'s> Source<'s> {
         start
     }
 
-    /// Reads the next entry from a place on, if it is a message that no comment hangs on and whose patterns are each one
-    /// line of texts and plain references, with its parts in the list: its name, and where it ends. `None` too where no
-    /// placeable may stand.
+    /// Reads the next entry from a place on, if it is a message that no comment hangs on and whose patterns are each
+    /// one line of texts and plain references, the line of the `=`, with its parts in the list: its name, and where it
+    /// ends. `None` too where no placeable may stand.
     pub(crate) fn next_short(
         &self,
         options: Options,
@@ -75,8 +78,12 @@ impl<'s> Source<'s> {
         ensures shallow { let t = self.now.bytes.now in let at = TileIn options.comments options.edition t in
             let deeper = TextDeeper options.edition t at options.nesting in
             IfOk result (λ found. IfSome found (λ read. deeper ptr → deeper read.1)) }
+        ensures stands { let t = self.now.bytes.now in IfOk result (λ found. 0 < options.nesting → (start end : ℕ) →
+            NextStart options.comments t ptr start → ShortMessage options.edition t start end →
+            IsSomeAnd found (λ read. read.1 ≡ end)) }
     {
-        if options.nesting == 0 {
+        let may_nest = options.nesting > 0;
+        if !may_nest {
             return Ok(None);
         }
         let start = self.tile_start(options.comments, ptr);

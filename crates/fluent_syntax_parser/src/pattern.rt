@@ -1,11 +1,12 @@
 //! Patterns.
-ghost use Rattle.std.specs.Prelude.{◌≡◌, ◌-◌, ◌≤◌, ℕ, length, option_map, IfErr, IfOk, IfSome, None, Some, []};
+ghost use Rattle.std.specs.Prelude.{◌≡◌, ◌-◌, ◌≤◌, ℕ, length, option_map, IfErr, IfOk, IfSome, IsSomeAnd, None, Some};
+ghost use Rattle.std.specs.Prelude.{[]};
 ghost use Rattle.fluent_syntax_tree.specs.View.{pattern_view};
 ghost use Rattle.fluent_syntax_grammar.specs.Construct.{Read, at_each};
 ghost use Rattle.fluent_syntax_grammar.specs.Grammar.{family, pattern};
 ghost use Rattle.fluent_syntax_grammar.specs.Nesting.{Deeper, in_layout, in_lines, in_pattern};
 ghost use Rattle.fluent_syntax_grammar.specs.Patterns.{layout_at};
-ghost use Rattle.fluent_syntax_grammar.specs.Places.{after_eol};
+ghost use Rattle.fluent_syntax_grammar.specs.Places.{BlankBlock, after_eol};
 ghost use Rattle.fluent_syntax_parser.specs.Elements.{layout_view};
 ghost use Rattle.fluent_syntax_parser.specs.Meets.{Meets, NestsWithin, OnTooDeep, Shallow};
 ghost use Rattle.fluent_syntax_parser.specs.ShortPatterns.{EndsBlank, EndsLine, OpensAs, text_pattern};
@@ -24,6 +25,8 @@ impl<'s> Source<'s> {
     fn end_without_lines(&self, edition: Edition, ptr: usize) -> Option<usize>
         requires { ptr ≤ length self.now.bytes.now }
         ensures lines { IfSome result (λ end. (family edition self.now.bytes.now).more_lines ptr (Read [] end)) }
+        ensures stands { (end : ℕ) → (family edition self.now.bytes.now).more_lines ptr (Read [] end) →
+            IsSomeAnd result (λ found. found ≡ end) }
         ensures within { IfSome result (λ end. (ptr ≤ end) × (end ≤ length self.now.bytes.now)) }
     {
         let first = self.skip_blank_inline(ptr);
@@ -44,6 +47,8 @@ impl<'s> Source<'s> {
     pub(crate) fn line_ending(&self, to: usize) -> Option<(usize, usize)>
         requires { to ≤ length self.now.bytes.now }
         ensures ending { IfSome result (λ read. EndsLine self.now.bytes.now to read.0 read.1) }
+        ensures stands { (stop next : ℕ) → EndsLine self.now.bytes.now to stop next →
+            IsSomeAnd result (λ read. read.1 ≡ next) }
         ensures within { IfSome result
             (λ read. (to ≤ read.0) × (read.0 ≤ read.1) × (read.1 ≤ length self.now.bytes.now)) }
     {
@@ -69,6 +74,8 @@ impl<'s> Source<'s> {
     pub(crate) fn end_behind_blank_lines(&self, edition: Edition, ptr: usize) -> Option<usize>
         requires { ptr ≤ length self.now.bytes.now }
         ensures lines { IfSome result (EndsBlank edition self.now.bytes.now ptr) }
+        ensures stands { let t = self.now.bytes.now in (first end : ℕ) → BlankBlock t ptr first →
+            (family edition t).more_lines first (Read [] end) → IsSomeAnd result (λ found. found ≡ end) }
         ensures within { IfSome result (λ end. (ptr ≤ end) × (end ≤ length self.now.bytes.now)) }
         ensures shallow { IfSome result
             (λ _. (n : ℕ) → Deeper edition self.now.bytes.now in_lines n ptr → ⊥) }
@@ -129,6 +136,9 @@ impl<'s> Source<'s> {
     pub(crate) fn end_without_text(&self, edition: Edition, start: usize) -> Option<usize>
         requires { start ≤ length self.now.bytes.now }
         ensures opens { IfSome result (OpensAs edition self.now.bytes.now start None) }
+        ensures stands { let t = self.now.bytes.now in (next first end : ℕ) → after_eol t start ≡ Some next →
+            BlankBlock t next first → (family edition t).more_lines first (Read [] end) →
+            IsSomeAnd result (λ found. found ≡ end) }
         ensures within { IfSome result (λ end. (start ≤ end) × (end ≤ length self.now.bytes.now)) }
         ensures shallow { IfSome result
             (λ _. (n : ℕ) → Deeper edition self.now.bytes.now in_layout n start → ⊥) }

@@ -1,12 +1,13 @@
 //! Messages whose patterns are each one line of texts and plain references, as most are: their parts are read without a
 //! tree.
-ghost use Rattle.std.specs.Prelude.{◌≡◌, ◌<◌, ◌≤◌, ℕ, suc, length, IfOk, IfSome};
+ghost use Rattle.std.specs.Prelude.{◌≡◌, ◌<◌, ◌≤◌, ℕ, suc, length, true, IfOk, IfSome, IsSomeAnd};
 ghost use Rattle.fluent_syntax_grammar.specs.Bytes.{full_stop};
 ghost use Rattle.fluent_syntax_grammar.specs.Construct.{Read};
 ghost use Rattle.fluent_syntax_grammar.specs.Entries.{message_entry};
 ghost use Rattle.fluent_syntax_grammar.specs.Nesting.{Deeper, in_message};
 ghost use Rattle.fluent_syntax_grammar.specs.Places.{InlineBlank};
 ghost use Rattle.fluent_syntax_grammar.specs.Words.{token};
+ghost use Rattle.fluent_syntax_parser.specs.ShortGrammar.{ShortAttributes, ShortField, ShortMessage};
 ghost use Rattle.fluent_syntax_parser.specs.ShortMessages.{ReadsAttribute, ReadsAttributes, leading_elements};
 ghost use Rattle.fluent_syntax_parser.specs.ShortMessages.{short_attributes, short_message};
 
@@ -15,7 +16,8 @@ use fluent_syntax_tree::edition::Edition;
 use fluent_syntax_tree::spans::Span;
 use std::alloc::AllocError;
 
-/// An element of such a pattern: a text, or a placeable of a reference without attribute and arguments, by its name.
+/// An element of a pattern that is one line of texts and plain references: a text, or a placeable of a reference
+/// without attribute and arguments, by its name.
 #[derive(Clone, Copy)]
 pub enum ShortElement {
     Text(Span),
@@ -24,8 +26,8 @@ pub enum ShortElement {
     Term(Span),
 }
 
-/// What such a message holds behind its name, part by part: the elements of its value, and for each attribute its name and
-/// the elements behind it.
+/// What a message of such patterns holds behind its name, part by part: the elements of its value, and for each
+/// attribute its name and the elements behind it.
 #[derive(Clone, Copy)]
 pub enum ShortPart {
     Element(ShortElement),
@@ -74,6 +76,10 @@ impl<'s> Source<'s> {
             ReadsAttribute edition t parts.old.items i parts.new.items end)) }
         ensures within { IfOk result (λ found. IfSome found
             (λ end. (start < end) × (end ≤ length self.now.bytes.now))) }
+        ensures stands { IfOk result (λ found. (end : ℕ) → ShortField edition self.now.bytes.now true start end →
+            IsSomeAnd found (λ place. place ≡ end)) }
+        ensures grows { IfOk result (λ found. IfSome found
+            (λ end. length parts.old.items < length parts.new.items)) }
     {
         let Ok(end) = self.identifier_end(start) else {
             return Ok(None);
@@ -105,6 +111,11 @@ impl<'s> Source<'s> {
             (λ end. ReadsAttributes edition t parts.old.items ptr parts.new.items end)) }
         ensures within { IfOk result (λ found. IfSome found
             (λ end. (ptr ≤ end) × (end ≤ length self.now.bytes.now))) }
+        ensures stands { IfOk result (λ found. (end : ℕ) → ShortAttributes edition self.now.bytes.now ptr end →
+            IsSomeAnd found (λ place. place ≡ end)) }
+        ensures grows { IfOk result (λ found. IfSome found (λ end.
+            (length parts.old.items ≤ length parts.new.items) ×
+            (ptr < end → length parts.old.items < length parts.new.items))) }
     {
         let mut place = ptr;
         loop {
@@ -118,8 +129,8 @@ impl<'s> Source<'s> {
         }
     }
 
-    /// Reads a message whose patterns are each one line of texts and plain references: its name, its parts into the list,
-    /// and where it ends. `None` where none such stands there.
+    /// Reads a message whose patterns are each one line of texts and plain references: its name, its parts into the
+    /// list, and where it ends. `None` where none such stands there.
     pub(crate) fn get_short_message(
         &self,
         edition: Edition,
@@ -132,6 +143,8 @@ impl<'s> Source<'s> {
             (Read (short_message (λ s. s) read.0 parts.new.items) read.1))) }
         ensures within { IfOk result (λ found. IfSome found
             (λ read. (start < read.1) × (read.1 ≤ length self.now.bytes.now))) }
+        ensures stands { IfOk result (λ found. (end : ℕ) → ShortMessage edition self.now.bytes.now start end →
+            IsSomeAnd found (λ read. read.1 ≡ end)) }
         ensures flat { IfOk result (λ found. IfSome found
             (λ _. (n : ℕ) → Deeper edition self.now.bytes.now in_message (suc n) start → ⊥)) }
     {

@@ -1,7 +1,9 @@
 //! Lines of texts and plain references, read without a tree.
-ghost use Rattle.std.specs.Prelude.{◌≡◌, ◌≤◌, ℕ, None, length, IfOk, IfSome};
+ghost use Rattle.std.specs.Prelude.{◌≡◌, ◌<◌, ◌≤◌, ℕ, Bool, None, length, true, IfOk, IfSome, IsSomeAnd};
 ghost use Rattle.fluent_syntax_grammar.specs.Lines.{is_run_place};
-ghost use Rattle.fluent_syntax_grammar.specs.Places.{InlineBlank, Stretch, after_eol};
+ghost use Rattle.fluent_syntax_grammar.specs.Places.{InlineBlank, Stretch, after_eol, is_line_place};
+ghost use Rattle.fluent_syntax_parser.specs.ShortGrammar.{ShortLine, ShortPattern, ShortRest};
+ghost use Rattle.fluent_syntax_parser.specs.ShortPatterns.{EndsLine};
 ghost use Rattle.fluent_syntax_parser.specs.ShortPieces.{GathersPieces, ReadsShort};
 
 use crate::short::{ShortElement, ShortPart};
@@ -25,6 +27,11 @@ impl<'s> Source<'s> {
             (λ last. Stretch (is_run_place self.now.bytes.now) last.0 last.1)) }
         ensures within { IfOk result (λ found. IfSome found
             (λ last. (ptr ≤ last.0) × (last.0 ≤ last.1) × (last.1 ≤ length self.now.bytes.now))) }
+        ensures stands { let t = self.now.bytes.now in IfOk result (λ found. (next : ℕ) → ShortLine t ptr next →
+            IsSomeAnd found (λ last. (stop : ℕ) × EndsLine t last.1 stop next)) }
+        ensures grows { IfOk result (λ found. IfSome found (λ last.
+            (length parts.old.items ≤ length parts.new.items) ×
+            (ptr < last.0 → length parts.old.items < length parts.new.items))) }
     {
         let mut start = ptr;
         loop {
@@ -57,6 +64,11 @@ impl<'s> Source<'s> {
             InlineBlank t ptr start → ReadsShort edition t parts.old.items ptr parts.new.items end)) }
         ensures within { IfOk result (λ found. IfSome found
             (λ end. (start ≤ end) × (end ≤ length self.now.bytes.now))) }
+        ensures stands { IfOk result (λ found. (end : ℕ) → ShortRest edition self.now.bytes.now start end →
+            IsSomeAnd found (λ place. place ≡ end)) }
+        ensures filled { let t = self.now.bytes.now in IfOk result (λ found. IfSome found (λ end. (ptr : ℕ) →
+            InlineBlank t ptr start → is_line_place t start ≡ true →
+            length parts.old.items < length parts.new.items)) }
     {
         let Some((place, to)) = self.short_pieces(parts, start)? else {
             return Ok(None);
@@ -96,21 +108,16 @@ impl<'s> Source<'s> {
             (λ end. ReadsShort edition t parts.old.items ptr parts.new.items end)) }
         ensures within { IfOk result (λ found. IfSome found
             (λ end. (ptr ≤ end) × (end ≤ length self.now.bytes.now))) }
+        ensures stands { IfOk result (λ found. (filled : Bool) (end : ℕ) →
+            ShortPattern edition self.now.bytes.now filled ptr end → IsSomeAnd found (λ place. place ≡ end)) }
+        ensures filled { let t = self.now.bytes.now in IfOk result (λ found. IfSome found (λ end. (start : ℕ) →
+            InlineBlank t ptr start → is_line_place t start ≡ true →
+            length parts.old.items < length parts.new.items)) }
     {
         let start = self.skip_blank_inline(ptr);
         match self.eol_end(start) {
-            Some(_) => {
-                let Some(end) = self.end_without_text(edition, start) else {
-                    return Ok(None);
-                };
-                Ok(Some(end))
-            }
-            None => {
-                let Some(end) = self.short_line(edition, parts, start)? else {
-                    return Ok(None);
-                };
-                Ok(Some(end))
-            }
+            Some(_) => Ok(self.end_without_text(edition, start)),
+            None => self.short_line(edition, parts, start),
         }
     }
 }

@@ -1,3 +1,7 @@
+use Rattle.std.proofs.Common.{[], subst}
+use Rattle.fluent_syntax_grammar.specs.Construct.{Read}
+use Rattle.fluent_syntax_grammar.specs.Grammar.{family}
+use Rattle.fluent_syntax_grammar.proofs.Functional.{single_block}
 use Rattle.fluent_syntax_parser.proofs.BlankLines.{blank_lines, blank_shallow}
 use Rattle.fluent_syntax_parser.proofs.source.Source.end_behind_blank_lines.Goals as goal
 
@@ -11,3 +15,15 @@ pub returns-clause-shallow : goal.returns-clause-shallow
 returns-clause-shallow c = λ n.
     blank_shallow c.args.edition c.args.self.now.bytes.now _ _ c.in_ok-end.ensures.lines n _
     c.skip_blank_block.ensures.blank
+
+pub returns-in_err-end-clause-stands : goal.returns-in_err-end-clause-stands
+returns-in_err-end-clause-stands c = λ first end block lines.
+    let same = single_block.same c.args.ptr _ _ block c.skip_blank_block.ensures.blank in
+    absurd (c.in_err-end.ensures.stands end
+    (subst (λ k. (family c.args.edition c.args.self.now.bytes.now).more_lines k (Read [] end)) same lines))
+
+pub returns-clause-stands : goal.returns-clause-stands
+returns-clause-stands c = λ first end block lines.
+    let same = single_block.same c.args.ptr _ _ block c.skip_blank_block.ensures.blank in
+    c.in_ok-end.ensures.stands end
+    (subst (λ k. (family c.args.edition c.args.self.now.bytes.now).more_lines k (Read [] end)) same lines)

@@ -1,11 +1,14 @@
-use Rattle.std.proofs.Common.{◌≡◌, ◌++◌, ◌∙◌, ap, arith, length, map}
+use Rattle.std.proofs.Common.{◌≡◌, ◌++◌, ◌∙◌, ap, arith, inl, inr, length, map, refl, sym}
 use Rattle.std.specs.Vec.{vec_len}
 use Rattle.fluent_syntax_tree.specs.declared.spans.Span.{Span}
 use Rattle.fluent_syntax_grammar.specs.Construct.{at_place, goes_on, passed}
 use Rattle.fluent_syntax_grammar.proofs.Shallow.{fields_led, message_led}
 use Rattle.fluent_syntax_parser.proofs.FieldForms.{some_items}
 use Rattle.fluent_syntax_parser.proofs.Shallows.{not_first}
+use Rattle.fluent_syntax_grammar.proofs.Facts.{equal}
+use Rattle.fluent_syntax_parser.proofs.ShortGrammar.{no_name}
 use Rattle.fluent_syntax_parser.proofs.ShortMessages.{message_of}
+use Rattle.fluent_syntax_parser.proofs.ShortStands.{message_attributes, message_holds, message_value, no_equals}
 use Rattle.fluent_syntax_parser.specs.declared.short.ShortPart.TheVariants.{Element}
 use Rattle.fluent_syntax_parser.proofs.source.Source.get_short_message.Goals as goal
 
@@ -41,3 +44,66 @@ returns-clause-flat c =
     (not_first (value.flat n)
     (fields_led edition t _ (goes_on (passed c.skip_blank_inline.ensures.blank) c.in-Ok-expect_byte.ensures.meets)
     _ _ _ value.read c.skip_blank_block.ensures.blank (message_led edition t _ _ c.in-Ok.ensures.meets d)))
+
+pub returns-in_default-clause-stands : goal.returns-in_default-clause-stands
+returns-in_default-clause-stands c = λ end m.
+    no_name c.args.self.now.bytes.now c.args.start _ _ _ m.field.end
+    (c.in_default.ensures.meets _ _ _ (refl, refl, refl)) m.field.name
+
+pub returns-in_default-expect_byte-clause-stands : goal.returns-in_default-expect_byte-clause-stands
+returns-in_default-expect_byte-clause-stands c = λ end m.
+    no_equals c.args.edition c.args.self.now.bytes.now m.filled c.args.start m.line _ _ c.in-Ok.ensures.meets
+    c.skip_blank_inline.ensures.blank m.field _ _ _ (c.in_default-expect_byte.ensures.meets _ _ _ (refl, refl, refl))
+
+pub returns-in_default-2-clause-stands : goal.returns-in_default-2-clause-stands
+returns-in_default-2-clause-stands c = λ end m.
+    let t = c.args.self.now.bytes.now in
+    let value = message_value c.args.edition t c.args.start end m _ _ _ c.in-Ok.ensures.meets
+    c.skip_blank_inline.ensures.blank c.in-Ok-expect_byte.ensures.meets in
+    let none = rw c.in_default-2.is at c.in_ok-line.ensures.stands in
+    none m.filled m.line value
+
+pub returns-in_default-3-clause-stands : goal.returns-in_default-3-clause-stands
+returns-in_default-3-clause-stands c = λ end m.
+    let t = c.args.self.now.bytes.now in
+    let value = message_value c.args.edition t c.args.start end m _ _ _ c.in-Ok.ensures.meets
+    c.skip_blank_inline.ensures.blank c.in-Ok-expect_byte.ensures.meets in
+    let read = rw c.in-Some.is at c.in_ok-line.ensures.stands in
+    let same = read m.filled m.line value in
+    let attributes = message_attributes c.args.edition t c.args.start end m _ _ same c.skip_blank_block.ensures.blank in
+    let none = rw c.in_default-3.is at c.in_ok-place.ensures.stands in
+    none end attributes
+
+pub returns-then-is_empty-clause-stands : goal.returns-then-is_empty-clause-stands
+returns-then-is_empty-clause-stands c = λ end m.
+    let t = c.args.self.now.bytes.now in
+    let value = message_value c.args.edition t c.args.start end m _ _ _ c.in-Ok.ensures.meets
+    c.skip_blank_inline.ensures.blank c.in-Ok-expect_byte.ensures.meets in
+    let line = rw c.in-Some.is at c.in_ok-line.ensures in
+    let same = line.stands m.filled m.line value in
+    let attributes = message_attributes c.args.edition t c.args.start end m _ _ same c.skip_blank_block.ensures.blank in
+    let list = rw c.in-Some-2.is at c.in_ok-place.ensures in
+    let last = list.stands end attributes in
+    let grows = list.grows in
+    let parts = c.short_attributes.new.parts in
+    let size : length parts.items ≡ vec_len parts = omega (arith, parts.ok.0) in
+    let none = equal (vec_len parts) 0 (sym c.if-is_empty.ensures) in
+    elim (message_holds c.args.edition t c.args.start end m _ _ same c.skip_blank_block.ensures.blank) [
+      | inl filled ↦
+          let longer = line.filled value.start value.blank (value.holds ∙ filled) in
+          absurd (omega (arith, grows.0, longer, size, none))
+      | inr forward ↦
+          let longer = grows.1 (omega (arith, forward, last)) in
+          absurd (omega (arith, longer, size, none))
+    ]
+
+pub returns-clause-stands : goal.returns-clause-stands
+returns-clause-stands c = λ end m.
+    let t = c.args.self.now.bytes.now in
+    let value = message_value c.args.edition t c.args.start end m _ _ _ c.in-Ok.ensures.meets
+    c.skip_blank_inline.ensures.blank c.in-Ok-expect_byte.ensures.meets in
+    let line = rw c.in-Some.is at c.in_ok-line.ensures.stands in
+    let same = line m.filled m.line value in
+    let attributes = message_attributes c.args.edition t c.args.start end m _ _ same c.skip_blank_block.ensures.blank in
+    let list = rw c.in-Some-2.is at c.in_ok-place.ensures.stands in
+    list end attributes

@@ -1,11 +1,13 @@
-use Rattle.std.proofs.Common.{◌<◌, arith, length, refl, sym}
+use Rattle.std.proofs.Common.{◌<◌, arith, length, refl, subst, sym}
 use Rattle.fluent_syntax_grammar.specs.Nesting.{Deeper, in_message}
 use Rattle.fluent_syntax_grammar.proofs.Shallow.{entry_message}
 use Rattle.fluent_syntax_parser.specs.ShortMessages.{short_message}
 use Rattle.fluent_syntax_parser.proofs.DeeperTiles.{behind_entry, entry_led}
 use Rattle.fluent_syntax_parser.proofs.EntryForms.{message_there}
 use Rattle.fluent_syntax_parser.proofs.Rests.{rest_entry}
-use Rattle.fluent_syntax_parser.proofs.ShortMessages.{but_zero, no_hash, no_hyphen}
+use Rattle.fluent_syntax_parser.proofs.ShortMessages.{above_zero, no_hash, no_hyphen}
+use Rattle.fluent_syntax_parser.proofs.ShortGrammar.{no_letter_no_name}
+use Rattle.fluent_syntax_parser.specs.ShortGrammar.{ShortMessage}
 use Rattle.fluent_syntax_parser.proofs.source.Source.next_short.Goals as goal
 
 pub returns-clause-next : goal.returns-clause-next
@@ -42,6 +44,27 @@ returns-clause-shallow c =
     let found = rw c.in-Some.is at c.in_ok-name.ensures in
     let read = message_there options.edition t _ _ (no_hash t _ letter) (no_hyphen t _ letter) found.meets in
     λ h. entry_led options.edition t _ _ options.nesting options.comments start.ensures.dropped _ read
-    (λ d. but_zero (λ n. Deeper options.edition t in_message n start.result → ⊥) found.flat options.nesting
-    c.if-options-eq0.false (entry_message options.edition t (no_hyphen t _ letter) d))
+    (λ d. above_zero (λ n. Deeper options.edition t in_message n start.result → ⊥) found.flat options.nesting
+    (omega (arith, c.if-not-may_nest)) (entry_message options.edition t (no_hyphen t _ letter) d))
     (start.ensures.shallow options.edition options.nesting h)
+
+pub returns-then-not-may_nest-clause-stands : goal.returns-then-not-may_nest-clause-stands
+returns-then-not-may_nest-clause-stands c = λ may start end next m. absurd (omega (arith, may, c.if-not-may_nest.true))
+
+pub returns-then-not-is_letter_at-clause-stands : goal.returns-then-not-is_letter_at-clause-stands
+returns-then-not-is_letter_at-clause-stands c = λ may start end next m.
+    let same = c.tile_start-start.ensures.starts start next in
+    let there = subst (λ k. ShortMessage c.args.options.edition c.args.self.now.bytes.now k end) (sym same) m in
+    no_letter_no_name c.args.self.now.bytes.now _ _ (sym c.if-not-is_letter_at.ensures) there.field.name
+
+pub returns-in_default-clause-stands : goal.returns-in_default-clause-stands
+returns-in_default-clause-stands c = λ may start end next m.
+    let same = c.tile_start-start.ensures.starts start next in
+    let none = rw c.in_default.is at c.in_ok-name.ensures.stands in
+    none end (subst (λ k. ShortMessage c.args.options.edition c.args.self.now.bytes.now k end) (sym same) m)
+
+pub returns-clause-stands : goal.returns-clause-stands
+returns-clause-stands c = λ may start end next m.
+    let same = c.tile_start-start.ensures.starts start next in
+    let read = rw c.in-Some.is at c.in_ok-name.ensures.stands in
+    read end (subst (λ k. ShortMessage c.args.options.edition c.args.self.now.bytes.now k end) (sym same) m)

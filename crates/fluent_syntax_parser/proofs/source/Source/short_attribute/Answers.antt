@@ -1,7 +1,9 @@
-use Rattle.std.proofs.Common.{◌≡◌, ap, arith, length}
+use Rattle.std.proofs.Common.{◌≡◌, ap, arith, length, refl, true}
 use Rattle.std.specs.Vec.{vec_len}
 use Rattle.fluent_syntax_grammar.specs.Construct.{goes_on, passed}
 use Rattle.fluent_syntax_parser.proofs.ShortMessages.{attribute_of}
+use Rattle.fluent_syntax_parser.proofs.ShortGrammar.{no_name}
+use Rattle.fluent_syntax_parser.proofs.ShortStands.{no_equals, value_there}
 use Rattle.fluent_syntax_parser.proofs.source.Source.short_attribute.Goals as goal
 
 pub returns-clause-reads : goal.returns-clause-reads
@@ -29,3 +31,42 @@ returns-clause-reads c =
     let longer : length new ≡ vec_len c.short_pattern.new.parts = omega (arith, c.short_pattern.new.parts.ok.0) in
     let shorter : length mid ≡ vec_len c.push.new.self = omega (arith, c.push.new.self.ok.0) in
     c.if-len-count.false (omega (arith, c.len.ensures, c.len-count.ensures, size, longer, shorter)))
+
+pub returns-in_default-clause-stands : goal.returns-in_default-clause-stands
+returns-in_default-clause-stands c = λ end field.
+    no_name c.args.self.now.bytes.now c.args.start _ _ _ field.end
+    (c.in_default.ensures.meets _ _ _ (refl, refl, refl)) field.name
+
+pub returns-in_default-expect_byte-clause-stands : goal.returns-in_default-expect_byte-clause-stands
+returns-in_default-expect_byte-clause-stands c = λ end field.
+    no_equals c.args.edition c.args.self.now.bytes.now true c.args.start end _ _ c.in-Ok.ensures.meets
+    c.skip_blank_inline.ensures.blank field _ _ _ (c.in_default-expect_byte.ensures.meets _ _ _ (refl, refl, refl))
+
+pub returns-in_default-2-clause-stands : goal.returns-in_default-2-clause-stands
+returns-in_default-2-clause-stands c = λ end field.
+    let t = c.args.self.now.bytes.now in
+    let value = value_there c.args.edition t true c.args.start end _ _ c.in-Ok.ensures.meets
+    c.skip_blank_inline.ensures.blank field _ c.in-Ok-expect_byte.ensures.meets in
+    let none = rw c.in_default-2.is at c.in_ok-place.ensures.stands in
+    none true end value
+
+pub returns-then-len-count-clause-stands : goal.returns-then-len-count-clause-stands
+returns-then-len-count-clause-stands c = λ end field.
+    let t = c.args.self.now.bytes.now in
+    let mid = c.push.new.self in
+    let new = c.short_pattern.new.parts in
+    let value = value_there c.args.edition t true c.args.start end _ _ c.in-Ok.ensures.meets
+    c.skip_blank_inline.ensures.blank field _ c.in-Ok-expect_byte.ensures.meets in
+    let filled = rw c.in-Some.is at c.in_ok-place.ensures.filled in
+    let longer = filled value.start value.blank value.holds in
+    let all : length new.items ≡ vec_len new = omega (arith, new.ok.0) in
+    let before : length mid.items ≡ vec_len mid = omega (arith, mid.ok.0) in
+    absurd (omega (arith, c.len.ensures, c.len-count.ensures, c.if-len-count.true, all, before, longer))
+
+pub returns-clause-stands : goal.returns-clause-stands
+returns-clause-stands c = λ end field.
+    let t = c.args.self.now.bytes.now in
+    let value = value_there c.args.edition t true c.args.start end _ _ c.in-Ok.ensures.meets
+    c.skip_blank_inline.ensures.blank field _ c.in-Ok-expect_byte.ensures.meets in
+    let read = rw c.in-Some.is at c.in_ok-place.ensures.stands in
+    read true end value

@@ -1,5 +1,6 @@
 use Rattle.std.proofs.Common.{◌≡◌, arith, sym}
 use Rattle.fluent_syntax_parser.proofs.ShortLines.{blank_reads, placed_reads, text_reads}
+use Rattle.fluent_syntax_parser.proofs.ShortStands.{filled_before, filled_up_to}
 use Rattle.fluent_syntax_parser.proofs.source.Source.short_line.Goals as goal
 
 pub returns-in_ok-push-clause-reads : goal.returns-in_ok-push-clause-reads
@@ -10,8 +11,8 @@ returns-in_ok-push-clause-reads c =
     λ ptr blank.
     text_reads c.args.edition t c.args.start c.requires.opens c.args.parts.now.items c.short_pieces.new.parts.items
     c.in-Some.place c.in-Some.to c.in-Some-line_ending.stop c.in-Some-line_ending.next
-    c.in-Some-end_behind_blank_lines.end found.pieces c.in-Some-line_ending.ensures.ending found.last c.if-place-to.true ptr
-    _ _ blank behind.lines behind.shallow c.trimmed_end.ensures (sym c.if-is_nonblank.ensures)
+    c.in-Some-end_behind_blank_lines.end found.pieces c.in-Some-line_ending.ensures.ending found.last
+    c.if-place-to.true ptr _ _ blank behind.lines behind.shallow c.trimmed_end.ensures (sym c.if-is_nonblank.ensures)
     c.in_ok-push.ensures.items
 
 pub returns-else-is_nonblank-clause-reads : goal.returns-else-is_nonblank-clause-reads
@@ -22,8 +23,8 @@ returns-else-is_nonblank-clause-reads c =
     λ ptr blank.
     blank_reads c.args.edition t c.args.start c.requires.opens c.args.parts.now.items c.short_pieces.new.parts.items
     c.in-Some.place c.in-Some.to c.in-Some-line_ending.stop c.in-Some-line_ending.next
-    c.in-Some-end_behind_blank_lines.end found.pieces c.in-Some-line_ending.ensures.ending found.last c.if-place-to.true ptr
-    blank behind.lines behind.shallow (sym c.if-is_nonblank.ensures)
+    c.in-Some-end_behind_blank_lines.end found.pieces c.in-Some-line_ending.ensures.ending found.last
+    c.if-place-to.true ptr blank behind.lines behind.shallow (sym c.if-is_nonblank.ensures)
 
 pub returns-else-place-to-clause-reads : goal.returns-else-place-to-clause-reads
 returns-else-place-to-clause-reads c =
@@ -37,3 +38,23 @@ returns-else-place-to-clause-reads c =
     c.in-Some.place c.in-Some.to c.in-Some-line_ending.stop c.in-Some-line_ending.next
     c.in-Some-end_behind_blank_lines.end found.pieces c.in-Some-line_ending.ensures.ending same ptr blank behind.lines
     behind.shallow
+
+pub returns-else-is_nonblank-clause-filled : goal.returns-else-is_nonblank-clause-filled
+returns-else-is_nonblank-clause-filled c =
+    let t = c.args.self.now.bytes.now in
+    let found = rw c.in-Some.is at c.in_ok-place.ensures in
+    let ends = c.in-Some-line_ending.ensures in
+    λ ptr blank holds.
+    filled_before t c.args.start c.in-Some.place c.in-Some.to c.in-Some-line_ending.stop c.in-Some-line_ending.next _
+    found.within.0 found.grows.1 c.args.edition ptr blank found.last c.if-place-to.true ends.within.0
+    (omega (arith, ends.within.1, ends.within.2)) (sym c.if-is_nonblank.ensures)
+
+pub returns-else-place-to-clause-filled : goal.returns-else-place-to-clause-filled
+returns-else-place-to-clause-filled c =
+    let t = c.args.self.now.bytes.now in
+    let found = rw c.in-Some.is at c.in_ok-place.ensures in
+    let forward = found.within.1 in
+    let same : c.in-Some.place ≡ c.in-Some.to = omega (arith, forward, c.if-place-to.false) in
+    λ ptr blank holds.
+    filled_up_to t c.args.start c.in-Some.place c.in-Some.to c.in-Some-line_ending.stop c.in-Some-line_ending.next _
+    found.within.0 found.grows.1 c.requires.opens same c.in-Some-line_ending.ensures.ending holds

@@ -1,15 +1,16 @@
-use Rattle.std.proofs.Common.{[], suc, sym}
-use Rattle.std.proofs.lemmas.List.{append-nil}
-use Rattle.fluent_syntax_grammar.proofs.Shallow.{pattern_led}
+use Rattle.std.proofs.Common.{sym}
+use Rattle.fluent_syntax_parser.proofs.ShortLines.{empty_reads}
+use Rattle.fluent_syntax_parser.proofs.ShortStands.{empty_line}
 use Rattle.fluent_syntax_parser.proofs.source.Source.short_pattern.Goals as goal
 
-pub returns-in-Some-end_without_text-clause-reads : goal.returns-in-Some-end_without_text-clause-reads
-returns-in-Some-end_without_text-clause-reads c =
+pub returns-in-Some-clause-reads : goal.returns-in-Some-clause-reads
+returns-in-Some-clause-reads c =
+    empty_reads c.args.edition c.args.self.now.bytes.now c.args.parts.now.items _ _
+    c.skip_blank_inline-start.ensures.blank _ c.end_without_text.ensures.opens c.end_without_text.ensures.shallow
+
+pub returns-in-Some-clause-stands : goal.returns-in-Some-clause-stands
+returns-in-Some-clause-stands c = λ filled end pattern.
+    let t = c.args.self.now.bytes.now in
     let blank = c.skip_blank_inline-start.ensures.blank in
-    let end = c.in-Some-end_without_text.ensures in
-    record {
-      elements = [];
-      items = sym (append-nil c.args.parts.now.items);
-      read = end.opens _ blank;
-      flat = λ n d. end.shallow (suc n) (pattern_led c.args.edition c.args.self.now.bytes.now _ blank d);
-    }
+    let found = empty_line c.args.edition t filled c.args.ptr _ _ end blank c.in-Some.ensures.eol pattern in
+    c.end_without_text.ensures.stands _ found.0 end (sym c.in-Some.ensures.eol) found.1 found.2

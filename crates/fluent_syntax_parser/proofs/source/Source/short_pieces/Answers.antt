@@ -1,7 +1,20 @@
-use Rattle.std.proofs.Common.{◌≡◌, arith, sym}
-use Rattle.fluent_syntax_parser.proofs.ShortPieces.{and_placed, and_text_and_placed}
+use Rattle.std.proofs.Common.{◌≡◌, ℕ, arith, subst, sym}
+use Rattle.fluent_syntax_parser.proofs.ShortPieces.{and_placed, and_text_and_placed, one_longer, two_longer}
+use Rattle.fluent_syntax_parser.proofs.ShortStands.{line_ends, line_goes_on}
+use Rattle.fluent_syntax_parser.specs.ShortGrammar.{ShortLine}
 use Rattle.fluent_syntax_parser.proofs.source.Source.short_pieces.Goals.{then-start-end+in_ok-push, else-start-end}
 use Rattle.fluent_syntax_parser.proofs.source.Source.short_pieces.Goals as goal
+
+pub returns-then-not-is_byte_at-clause-stands : goal.returns-then-not-is_byte_at-clause-stands
+returns-then-not-is_byte_at-clause-stands c = λ next line.
+    line_ends c.args.self.now.bytes.now _ _ c.run_end-end.ensures.run next (sym c.if-not-is_byte_at.ensures)
+    (c.loop-ptr.invariant.stands next line)
+
+pub returns-in_default-clause-stands : goal.returns-in_default-clause-stands
+returns-in_default-clause-stands c = λ next line.
+    let found = line_goes_on c.args.self.now.bytes.now _ _ c.run_end-end.ensures.run next
+    (sym c.if-not-is_byte_at.ensures) (c.loop-ptr.invariant.stands next line) in
+    c.in_default.ensures.stands found.0 found.1
 
 pub loop-ptr-preserved : goal.loop-ptr-preserved
 loop-ptr-preserved c =
@@ -12,16 +25,31 @@ loop-ptr-preserved c =
     let run = c.run_end-end.ensures.run in
     let read = c.in-Some.ensures in
     let forward = run.forward in
-    record {
-      forward = omega (arith, inv.forward, forward, read.within.0);
-      within = read.within.1;
-      pieces = elim c.if-start-end.branch [
-        | then-start-end+in_ok-push w ↦
-            let items = rw (w.parts-is, w.in_ok-push.ensures.items) at c.in_ok-push-2.ensures.items in
-            and_text_and_placed t old _ _ _ _ _ _ inv.pieces brace _ read.reads run w.if-start-end.true items
-        | else-start-end w ↦
-            let same : c.loop-ptr.start ≡ c.run_end-end.result = omega (arith, forward, w.if-start-end.false) in
-            let items = rw w.parts-is at c.in_ok-push-2.ensures.items in
-            and_placed t old _ _ _ _ _ _ inv.pieces brace _ read.reads same items
-      ];
-    }
+    let stands : (next : ℕ) → ShortLine t c.args.ptr next → ShortLine t c.in-Some.next next = λ next line.
+    let found = line_goes_on t _ _ run next brace (inv.stands next line) in
+    subst (λ k. ShortLine t k next) (sym (read.stands found.0 found.1)) found.2 in
+    elim c.if-start-end.branch [
+      | then-start-end+in_ok-push w ↦
+          let items = rw (w.parts-is, w.in_ok-push.ensures.items) at c.in_ok-push-2.ensures.items in
+          let longer = two_longer _ _ _ _ items in
+          record {
+            forward = omega (arith, inv.forward, forward, read.within.0);
+            within = read.within.1;
+            pieces = and_text_and_placed t old _ _ _ _ _ _ inv.pieces brace _ read.reads run w.if-start-end.true items;
+            stands = stands;
+            grows = omega (arith, inv.grows, longer);
+            some = λ l. omega (arith, inv.grows, longer);
+          }
+      | else-start-end w ↦
+          let same : c.loop-ptr.start ≡ c.run_end-end.result = omega (arith, forward, w.if-start-end.false) in
+          let items = rw w.parts-is at c.in_ok-push-2.ensures.items in
+          let longer = one_longer _ _ _ items in
+          record {
+            forward = omega (arith, inv.forward, forward, read.within.0);
+            within = read.within.1;
+            pieces = and_placed t old _ _ _ _ _ _ inv.pieces brace _ read.reads same items;
+            stands = stands;
+            grows = omega (arith, inv.grows, longer);
+            some = λ l. omega (arith, inv.grows, longer);
+          }
+    ]
