@@ -12,20 +12,21 @@ use Rattle.fluent_syntax_grammar.proofs.Facts.{byte_inside}
 use Rattle.fluent_syntax_grammar.proofs.Functional.{single_stretch}
 use Rattle.fluent_syntax_grammar.proofs.FunctionalWords.{functional_identifier, functional_token}
 use Rattle.fluent_syntax_parser.proofs.ShortReferences.{present}
-use Rattle.fluent_syntax_parser.specs.ShortGrammar.{Name, PlacedReference, PlainReference, variable, message, term}
+use Rattle.fluent_syntax_parser.specs.ShortGrammar.{IdentifierAt, PlacedReference, PlainReference}
+use Rattle.fluent_syntax_parser.specs.ShortGrammar.{variable, message, term}
 use Rattle.fluent_syntax_parser.specs.ShortPieces.{Closes}
 use Rattle.fluent_syntax_parser.specs.Starts.{start_view}
 use Rattle.fluent_syntax_parser.specs.declared.starts.Start as found
 use Rattle.fluent_syntax_parser.specs.declared.starts.Start.TheVariants as starts'
 
 module _ (t : List ℕ) (i : ℕ) where
-  pub name_end : (j k : ℕ) → Name t i j → Name t i k → j ≡ k
+  pub name_end : (j k : ℕ) → IdentifierAt t i j → IdentifierAt t i k → j ≡ k
   name_end j k a b = let same = (functional_identifier t).same i _ _ a b in cc
 
-  pub no_name : (kind : Kind) (from to j : ℕ) → identifier t i (Refused kind from to) → Name t i j → ⊥
+  pub no_name : (kind : Kind) (from to j : ℕ) → identifier t i (Refused kind from to) → IdentifierAt t i j → ⊥
   no_name kind from to j a b = let same = (functional_identifier t).same i _ _ a b in cc
 
-  pub no_letter_no_name : (j : ℕ) → has t is_letter i ≡ false → Name t i j → ⊥
+  pub no_letter_no_name : (j : ℕ) → has t is_letter i ≡ false → IdentifierAt t i j → ⊥
   no_letter_no_name j none name =
       no_name _ i (i + 1) j (goes_on at_place (goes_on (chosen given) (second none (failed refl)))) name
 
@@ -94,17 +95,17 @@ module _ (t : List ℕ) (i : ℕ) where
   hyphen_inside e = byte_inside (λ b. b == hyphen) t i (slice_get t i) refl (hyphen_stands e)
 
   module _ (j : ℕ) where
-    pub variable_name : dollar ≡ start t i → PlainReference t i j → Name t (i + 1) j
+    pub variable_name : dollar ≡ start t i → PlainReference t i j → IdentifierAt t (i + 1) j
     variable_name is (variable e name) = name
     variable_name is (message e name) = cc
     variable_name is (term e name) = cc
 
-    pub message_name : letter ≡ start t i → PlainReference t i j → Name t i j
+    pub message_name : letter ≡ start t i → PlainReference t i j → IdentifierAt t i j
     message_name is (variable e name) = cc
     message_name is (message e name) = name
     message_name is (term e name) = cc
 
-    pub term_name : starts.term ≡ start t i → PlainReference t i j → Name t (i + 1) j
+    pub term_name : starts.term ≡ start t i → PlainReference t i j → IdentifierAt t (i + 1) j
     term_name is (variable e name) = cc
     term_name is (message e name) = cc
     term_name is (term e name) = name

@@ -22,8 +22,8 @@ use Rattle.fluent_syntax_grammar.specs.Elements.{is_nonblank}
 use Rattle.fluent_syntax_parser.proofs.ShortGrammar.{name_end}
 use Rattle.fluent_syntax_parser.proofs.ShortPatterns.{run_nonblank}
 use Rattle.fluent_syntax_parser.proofs.ShortReferences.{absent, begins_no_line_end}
-use Rattle.fluent_syntax_parser.specs.ShortGrammar.{Name, PlacedReference, ShortAttributes, ShortField, ShortLine}
-use Rattle.fluent_syntax_parser.specs.ShortGrammar.{ShortMessage}
+use Rattle.fluent_syntax_parser.specs.ShortGrammar.{IdentifierAt, PlacedReference, ShortAttributes, ShortField}
+use Rattle.fluent_syntax_parser.specs.ShortGrammar.{ShortLine, ShortMessage}
 use Rattle.fluent_syntax_parser.specs.ShortGrammar.{ShortPattern, ended, no_more, one_more, placed}
 use Rattle.fluent_syntax_parser.specs.ShortPatterns.{EndsLine, with_crlf, with_lf, with_text}
 
@@ -177,7 +177,7 @@ empty_line edition t filled ptr start next end blank eol p =
 
 -- ---- a field
 
-module _ (edition : Edition) (t : List ℕ) (filled : Bool) (i j end sign : ℕ) (name : Name t i end)
+module _ (edition : Edition) (t : List ℕ) (filled : Bool) (i j end sign : ℕ) (name : IdentifierAt t i end)
     (blank : InlineBlank t end sign) (field : ShortField edition t filled i j) where
   equals_there : token t equals_sign sign (Read tt field.behind)
   equals_there =
@@ -227,7 +227,7 @@ module _ (edition : Edition) (t : List ℕ) where
 -- ---- a message
 
 module _ (edition : Edition) (t : List ℕ) (i j : ℕ) (m : ShortMessage edition t i j) where
-  pub message_value : (end sign behind : ℕ) → Name t i end → InlineBlank t end sign →
+  pub message_value : (end sign behind : ℕ) → IdentifierAt t i end → InlineBlank t end sign →
       token t equals_sign sign (Read tt behind) → ShortPattern edition t m.filled behind m.line
   message_value end sign behind name blank equals =
       value_there edition t m.filled i m.line end sign name blank m.field behind equals

@@ -15,14 +15,14 @@ use Rattle.fluent_syntax_parser.specs.ShortPieces.{Closes}
 use Rattle.fluent_syntax_parser.specs.declared.options.Comments.{Comments}
 
 -- An identifier stands from the one place to the other.
-abbrev pub Name : List ℕ → ℕ → ℕ → Type 0
-Name t i j = identifier t i (Read (record { start = i; end = j }) j)
+abbrev pub IdentifierAt : List ℕ → ℕ → ℕ → Type 0
+IdentifierAt t i j = identifier t i (Read (record { start = i; end = j }) j)
 
 -- A plain reference: a name behind `$`, a name alone, or a name behind `-`.
 pub data PlainReference (t : List ℕ) : ℕ → ℕ → Type 0 where
-  variable : {i j : ℕ} → dollar ≡ start t i → Name t (i + 1) j → PlainReference t i j
-  message : {i j : ℕ} → letter ≡ start t i → Name t i j → PlainReference t i j
-  term : {i j : ℕ} → term_start ≡ start t i → Name t (i + 1) j → PlainReference t i j
+  variable : {i j : ℕ} → dollar ≡ start t i → IdentifierAt t (i + 1) j → PlainReference t i j
+  message : {i j : ℕ} → letter ≡ start t i → IdentifierAt t i j → PlainReference t i j
+  term : {i j : ℕ} → term_start ≡ start t i → IdentifierAt t (i + 1) j → PlainReference t i j
 
 -- The placeable of a plain reference: `{`, a blank, the reference, a blank, `}`.
 pub record PlacedReference (t : List ℕ) (i j : ℕ) : Type 0 where
@@ -60,7 +60,7 @@ pub record ShortField (edition : Edition) (t : List ℕ) (filled : Bool) (i j : 
   pub end : ℕ
   pub sign : ℕ
   pub behind : ℕ
-  pub name : Name t i end
+  pub name : IdentifierAt t i end
   pub blank : InlineBlank t end sign
   pub equals : token t equals_sign sign (Read tt behind)
   pub value : ShortPattern edition t filled behind j

@@ -1,6 +1,6 @@
 //! Placeables of a reference without attribute and arguments, read without a tree.
 ghost use Rattle.std.specs.Prelude.{◌≡◌, ◌<◌, ◌≤◌, ℕ, length, IfSome, IsSomeAnd};
-ghost use Rattle.fluent_syntax_parser.specs.ShortGrammar.{Name, PlacedReference};
+ghost use Rattle.fluent_syntax_parser.specs.ShortGrammar.{IdentifierAt, PlacedReference};
 ghost use Rattle.fluent_syntax_parser.specs.ShortPieces.{Closes, ReadsPlaced};
 
 use crate::short::ShortElement;
@@ -27,9 +27,9 @@ impl<'s> Source<'s> {
     /// Where a name in a placeable ends, and where the placeable does, if nothing else follows there.
     fn placed_name(&self, start: usize) -> Option<(usize, usize)>
         requires { start ≤ length self.now.bytes.now }
-        ensures name { IfSome result (λ read. Name self.now.bytes.now start read.0) }
+        ensures name { IfSome result (λ read. IdentifierAt self.now.bytes.now start read.0) }
         ensures closes { IfSome result (λ read. Closes self.now.bytes.now read.0 read.1) }
-        ensures stands { let t = self.now.bytes.now in (end next : ℕ) → Name t start end → Closes t end next →
+        ensures stands { let t = self.now.bytes.now in (end next : ℕ) → IdentifierAt t start end → Closes t end next →
             IsSomeAnd result (λ read. read.1 ≡ next) }
         ensures within { IfSome result (λ read. (start < read.1) × (read.1 ≤ length self.now.bytes.now)) }
     {
