@@ -4,4 +4,3 @@ pub mod ReadEntriesLemmas
 pub mod ErrorLemmas
 pub mod SameAnswersLemmas
 pub mod RoundTripLemmas
-pub mod ShortTexts

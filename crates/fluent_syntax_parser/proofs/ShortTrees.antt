@@ -1,13 +1,11 @@
 -- The trees that the parts of a short message make.
 use Rattle.std.proofs.Common.{◌≡◌, List, [], ◌∷◌, ◌++◌, ◌∙◌, length, map, refl, sym, ap, append-nil, arith}
-use Rattle.std.proofs.lemmas.List.{map-append}
 use Rattle.fluent_syntax_tree.specs.Tree.{ElementTree, elements_of, inline, placeable}
 use Rattle.fluent_syntax_tree.specs.View.{element_view, inline_view, pattern_view}
 use Rattle.fluent_syntax_tree.specs.declared.ast.Expression as expression
 use Rattle.fluent_syntax_tree.specs.declared.ast.InlineExpression.{InlineExpression}
 use Rattle.fluent_syntax_tree.specs.declared.ast.Pattern.{Pattern}
 use Rattle.fluent_syntax_tree.specs.declared.ast.PatternElement as element
-use Rattle.fluent_syntax_tree.specs.declared.ast.PatternElement.{PatternElement}
 use Rattle.fluent_syntax_tree.specs.declared.spans.Span.{Span}
 use Rattle.fluent_syntax_tree.proofs.Views.{view-Inline, view-Pattern, view-Placeable}
 use Rattle.fluent_syntax_parser.specs.ShortMessages.{leading_elements}
@@ -17,15 +15,6 @@ module _ {S X : Type 0} (text : S → X) where
   pub placeable_tree : (e : InlineExpression S) →
       element_view text (element.Placeable (expression.Inline e)) ≡ placeable (inline (inline_view text e))
   placeable_tree e = view-Placeable text (expression.Inline e) ∙ ap placeable (view-Inline text e)
-
-  -- with one more element
-  pub one_more : (before after : List (PatternElement S)) (e : PatternElement S) (tree : ElementTree X) →
-      after ≡ before ++ e ∷ [] → element_view text e ≡ tree →
-      map (element_view text) after ≡ map (element_view text) before ++ tree ∷ []
-  one_more before after e tree made same =
-      ap (map (element_view text)) made
-      ∙ (map-append (element_view text) before (e ∷ [])
-      ∙ ap (λ x. map (element_view text) before ++ x ∷ []) same)
 
   -- when no element is left
   pub pattern_tree : (p : Pattern S) (rest all : List (ElementTree X)) →

@@ -1,9 +1,9 @@
 use Rattle.std.proofs.Common.{◌∙◌, None, ap}
 use Rattle.fluent_syntax_tree.specs.Tree.{text_element}
 use Rattle.fluent_syntax_tree.specs.View.{element_view}
+use Rattle.fluent_syntax_tree.proofs.Lists.{map_added}
 use Rattle.fluent_syntax_tree.proofs.Views.{view-MessageReference, view-TermReference, view-TextElement}
 use Rattle.fluent_syntax_tree.proofs.Views.{view-VariableReference}
-use Rattle.fluent_syntax.proofs.ShortTexts.{one_added}
 use Rattle.fluent_syntax.proofs.short.add_element.Goals as goal
 
 pub returns-in_ok-push-in-Text : goal.returns-in_ok-push-in-Text
@@ -11,7 +11,7 @@ returns-in_ok-push-in-Text g c =
     let text = g.S.Slice.text in
     let value = c.in_ok-value-in-Text in
     rw (c.in-Text.is)
-    (one_added (element_view text) c.args.elements.now.items _ _ _ c.in_ok-push-in-Text.ensures.items
+    (map_added (element_view text) c.args.elements.now.items _ _ _ c.in_ok-push-in-Text.ensures.items
     (view-TextElement text value.value ∙ ap text_element value.ensures.part))
 
 pub returns-in_ok-id-in-Variable : goal.returns-in_ok-id-in-Variable
