@@ -106,7 +106,7 @@ module _ (t : List ℕ) where
   spelled (filled e ∷ xs) = placeable e ∷ spelled xs
 
 -- Without an element there is no pattern.
-abbrev pub if_any : List (ElementTree Span) → Option (PatternTree Span)
+abbrev pub if_any : {A : Type 0} → List (ElementTree A) → Option (PatternTree A)
 if_any [] = None
 if_any (e ∷ es) = Some (elements_of (e ∷ es))
 

@@ -18,7 +18,7 @@ use Rattle.fluent_syntax_grammar.specs.Places.{InlineBlank, Stretch, after_eol}
 use Rattle.fluent_syntax_grammar.proofs.Shallow.{pattern_led, run_led}
 use Rattle.fluent_syntax_parser.proofs.ShortPieces.{more_items}
 use Rattle.fluent_syntax_parser.proofs.ShortPatterns.{line_ended, opening_flat, opening_read, run_before}
-use Rattle.fluent_syntax_parser.specs.ShortMessages.{pattern_if_any, short_element}
+use Rattle.fluent_syntax_parser.specs.ShortMessages.{short_element}
 use Rattle.fluent_syntax_parser.specs.ShortPatterns.{EndsBlank, EndsLine, OpensAs}
 use Rattle.fluent_syntax_parser.specs.ShortPieces.{NoTextIsLast, GathersPieces, ReadsShort, short_item, short_piece}
 use Rattle.fluent_syntax_parser.specs.declared.short.ShortElement.{ShortElement}
@@ -85,10 +85,6 @@ spelled_placed t es (inr (before, x, expression, is, is_placed)) ps e nothing =
     )
     refl
 
-same_if_any : (es : List (ElementTree Span)) → if_any es ≡ pattern_if_any es
-same_if_any [] = refl
-same_if_any (e ∷ es) = refl
-
 -- ---- the whole line
 
 module _ (edition : Edition) (t : List ℕ) (start : ℕ) (opens : after_eol t start ≡ None) (old new : List ShortPart)
@@ -107,7 +103,7 @@ module _ (edition : Edition) (t : List ℕ) (start : ℕ) (opens : after_eol t s
     -- with a text behind them
     text_read : (ptr : ℕ) → InlineBlank t ptr start → EndsBlank edition t next end →
         is_nonblank (slice_range t place stop) ≡ true →
-        pattern edition t ptr (Read (pattern_if_any (elements ++
+        pattern edition t ptr (Read (if_any (elements ++
         text_element (record { start = place; end = trimmed_end t place stop }) ∷ [])) end)
     text_read ptr blank lines nonblank =
         let ended = line_ended edition t to stop next line in
@@ -115,7 +111,7 @@ module _ (edition : Edition) (t : List ℕ) (start : ℕ) (opens : after_eol t s
         let read =
         opening_read edition t start opens _ to text_pieces ended.ends_by next ended.ends ptr end blank lines in
         let same = spelled_line t g.elements (run' place to) [] ended.ends_by _ [] stays in
-        let f = rw (same, same_if_any (elements ++ spelled t (text place stop ∷ []))) at read in f
+        let f = rw same at read in f
 
     text_flat : (n : ℕ) → (Deeper edition t in_lines (suc n) next → ⊥) → Deeper edition t in_layout (suc n) start → ⊥
     text_flat n lines =
@@ -142,14 +138,14 @@ module _ (edition : Edition) (t : List ℕ) (start : ℕ) (opens : after_eol t s
     -- with spaces behind them
     blank_read : (ptr : ℕ) → InlineBlank t ptr start → EndsBlank edition t next end →
         is_nonblank (slice_range t place stop) ≡ false →
-        pattern edition t ptr (Read (pattern_if_any elements) end)
+        pattern edition t ptr (Read (if_any elements) end)
     blank_read ptr blank lines falls =
         let ended = line_ended edition t to stop next line in
         let read =
         opening_read edition t start opens _ to text_pieces ended.ends_by next ended.ends ptr end blank lines in
         let falls = ended.text_falls place falls in
         let same = spelled_placed t g.elements g.ends (run' place to ∷ []) ended.ends_by falls in
-        let f = rw (same, same_if_any elements) at read in f
+        let f = rw same at read in f
 
     pub blank_reads : (ptr : ℕ) → InlineBlank t ptr start → EndsBlank edition t next end →
         ((n : ℕ) → Deeper edition t in_lines n next → ⊥) → is_nonblank (slice_range t place stop) ≡ false →
@@ -169,13 +165,13 @@ module _ (edition : Edition) (t : List ℕ) (start : ℕ) (opens : after_eol t s
 
     -- with nothing behind them
     placed_read : (ptr : ℕ) → InlineBlank t ptr start → EndsBlank edition t next end →
-        pattern edition t ptr (Read (pattern_if_any elements) end)
+        pattern edition t ptr (Read (if_any elements) end)
     placed_read ptr blank lines =
         let ended = line_ended edition t to stop next line in
         let read =
         opening_read edition t start opens _ to placed_pieces ended.ends_by next ended.ends ptr end blank lines in
         let same = spelled_placed t g.elements g.ends [] ended.ends_by ended.none_stays in
-        let f = rw (same, same_if_any elements) at read in f
+        let f = rw same at read in f
 
     placed_flat : (n : ℕ) → (Deeper edition t in_lines (suc n) next → ⊥) →
         Deeper edition t in_layout (suc n) start → ⊥

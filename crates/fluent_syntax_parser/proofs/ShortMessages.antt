@@ -10,6 +10,7 @@ use Rattle.fluent_syntax_tree.specs.declared.spans.Span.{Span}
 use Rattle.fluent_syntax_tree.specs.declared.edition.Edition.{Edition}
 use Rattle.fluent_syntax_grammar.specs.Bytes.{hash, hyphen, is_letter}
 use Rattle.fluent_syntax_grammar.specs.Construct.{Outcome, Read, ◌>>=◌, given, goes_on}
+use Rattle.fluent_syntax_grammar.specs.Elements.{if_any}
 use Rattle.fluent_syntax_grammar.specs.Entries.{attribute, attribute_with, attributes, message_with, one_more}
 use Rattle.fluent_syntax_grammar.specs.Grammar.{pattern}
 use Rattle.fluent_syntax_grammar.specs.Nesting.{Deeper, attribute_head, in_attributes}
@@ -18,7 +19,7 @@ use Rattle.fluent_syntax_grammar.proofs.Facts.{excludes}
 use Rattle.fluent_syntax_grammar.proofs.Shallow.{attribute_led, attributes_led}
 use Rattle.fluent_syntax_parser.proofs.Shallows.{not_first}
 use Rattle.fluent_syntax_parser.specs.ShortMessages.{GathersAttributes, ReadsAttribute, ReadsAttributes}
-use Rattle.fluent_syntax_parser.specs.ShortMessages.{leading_elements, pattern_if_any, short_attributes}
+use Rattle.fluent_syntax_parser.specs.ShortMessages.{leading_elements, short_attributes}
 use Rattle.fluent_syntax_parser.specs.ShortMessages.{short_element, short_message}
 use Rattle.fluent_syntax_parser.specs.ShortPieces.{ReadsShort}
 use Rattle.fluent_syntax_parser.specs.declared.short.ShortElement.{ShortElement}
@@ -64,7 +65,7 @@ module _ {A : Type 0} (f : Span → A) where
 -- ---- an attribute
 
 some_pattern : (es : List ShortElement) → (es ≡ [] → ⊥) →
-    pattern_if_any (map (short_element (λ s. s)) es) ≡ Some (elements_of (map (short_element (λ s. s)) es))
+    if_any (map (short_element (λ s. s)) es) ≡ Some (elements_of (map (short_element (λ s. s)) es))
 some_pattern [] some = absurd (some refl)
 some_pattern (e ∷ es) some = refl
 
@@ -136,7 +137,7 @@ module _ (edition : Edition) (t : List ℕ) (old : List ShortPart) (i : ℕ) whe
 module _ (t : List ℕ) (start end : ℕ) (name : Span) where
   abbrev MessageOf : List ShortElement → List ShortPart → Type 0
   MessageOf es added =
-      message_with t start name (pattern_if_any (map (short_element (λ s. s)) es)) (short_attributes (λ s. s) added) end
+      message_with t start name (if_any (map (short_element (λ s. s)) es)) (short_attributes (λ s. s) added) end
       (Read (short_message (λ s. s) name (map Element es ++ added)) end)
 
   pub message_of : (es : List ShortElement) (added : List ShortPart) → leading_elements (λ s. s) added ≡ [] →

@@ -1,21 +1,14 @@
 -- The trees that the parts of a short message make.
 use Rattle.std.proofs.Common.{◌≡◌, List, [], ◌∷◌, ◌++◌, ◌∙◌, length, map, refl, sym, ap, append-nil, arith}
-use Rattle.fluent_syntax_tree.specs.Tree.{ElementTree, elements_of, inline, placeable}
-use Rattle.fluent_syntax_tree.specs.View.{element_view, inline_view, pattern_view}
-use Rattle.fluent_syntax_tree.specs.declared.ast.Expression as expression
-use Rattle.fluent_syntax_tree.specs.declared.ast.InlineExpression.{InlineExpression}
+use Rattle.fluent_syntax_tree.specs.Tree.{ElementTree, elements_of}
+use Rattle.fluent_syntax_tree.specs.View.{element_view, pattern_view}
 use Rattle.fluent_syntax_tree.specs.declared.ast.Pattern.{Pattern}
-use Rattle.fluent_syntax_tree.specs.declared.ast.PatternElement as element
 use Rattle.fluent_syntax_tree.specs.declared.spans.Span.{Span}
-use Rattle.fluent_syntax_tree.proofs.Views.{view-Inline, view-Pattern, view-Placeable}
+use Rattle.fluent_syntax_tree.proofs.Views.{view-Pattern}
 use Rattle.fluent_syntax_parser.specs.ShortMessages.{leading_elements}
 use Rattle.fluent_syntax_parser.specs.declared.short.ShortPart.{ShortPart}
 
 module _ {S X : Type 0} (text : S → X) where
-  pub placeable_tree : (e : InlineExpression S) →
-      element_view text (element.Placeable (expression.Inline e)) ≡ placeable (inline (inline_view text e))
-  placeable_tree e = view-Placeable text (expression.Inline e) ∙ ap placeable (view-Inline text e)
-
   -- when no element is left
   pub pattern_tree : (p : Pattern S) (rest all : List (ElementTree X)) →
       map (element_view text) p.elements.items ++ rest ≡ all → rest ≡ [] → pattern_view text p ≡ elements_of all

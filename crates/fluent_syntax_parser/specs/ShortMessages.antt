@@ -1,22 +1,18 @@
 -- Messages whose patterns are each one line of texts and plain references.
-use Rattle.std.specs.Prelude.{◌≡◌, ℕ, suc, [], ◌∷◌, ◌++◌, List, Option, Some, None, map}
+use Rattle.std.specs.Prelude.{◌≡◌, ℕ, suc, [], ◌∷◌, ◌++◌, List, None, map}
 use Rattle.fluent_syntax_tree.specs.Entry.{AttributeTree, EntryTree, message}
-use Rattle.fluent_syntax_tree.specs.Tree.{ElementTree, PatternTree, elements_of, inline, message_reference}
+use Rattle.fluent_syntax_tree.specs.Tree.{ElementTree, elements_of, inline, message_reference}
 use Rattle.fluent_syntax_tree.specs.Tree.{no_arguments, placeable, term_reference, text_element, variable_reference}
 use Rattle.fluent_syntax_tree.specs.declared.edition.Edition.{Edition}
 use Rattle.fluent_syntax_tree.specs.declared.spans.Span.{Span}
 use Rattle.fluent_syntax_grammar.specs.Construct.{Read}
+use Rattle.fluent_syntax_grammar.specs.Elements.{if_any}
 use Rattle.fluent_syntax_grammar.specs.Entries.{attribute, attributes}
 use Rattle.fluent_syntax_grammar.specs.Nesting.{Deeper, in_attribute, in_attributes}
 use Rattle.fluent_syntax_parser.specs.declared.short.ShortElement.{ShortElement}
 use Rattle.fluent_syntax_parser.specs.declared.short.ShortElement.TheVariants.{Text, Variable, Message, Term}
 use Rattle.fluent_syntax_parser.specs.declared.short.ShortPart.{ShortPart}
 use Rattle.fluent_syntax_parser.specs.declared.short.ShortPart.TheVariants.{Element, Attribute}
-
--- without an element there is no pattern
-abbrev pub pattern_if_any : {A : Type 0} → List (ElementTree A) → Option (PatternTree A)
-pattern_if_any [] = None
-pattern_if_any (e ∷ es) = Some (elements_of (e ∷ es))
 
 module _ {A : Type 0} (f : Span → A) where
   abbrev pub short_element : ShortElement → ElementTree A
@@ -42,7 +38,7 @@ module _ {A : Type 0} (f : Span → A) where
   abbrev pub short_message : Span → List ShortPart → EntryTree A
   short_message name ps = message (record {
     id = f name;
-    value = pattern_if_any (leading_elements ps);
+    value = if_any (leading_elements ps);
     attributes = short_attributes ps;
     comment = None;
   })

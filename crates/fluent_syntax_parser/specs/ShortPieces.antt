@@ -6,12 +6,12 @@ use Rattle.fluent_syntax_tree.specs.declared.edition.Edition.{Edition}
 use Rattle.fluent_syntax_tree.specs.declared.spans.Span.{Span}
 use Rattle.fluent_syntax_grammar.specs.Bytes.{right_brace}
 use Rattle.fluent_syntax_grammar.specs.Construct.{Read}
-use Rattle.fluent_syntax_grammar.specs.Elements.{Item, filled, text}
+use Rattle.fluent_syntax_grammar.specs.Elements.{Item, filled, if_any, text}
 use Rattle.fluent_syntax_grammar.specs.Grammar.{family, pattern, placeable}
 use Rattle.fluent_syntax_grammar.specs.Layout.{Piece, run, placed}
 use Rattle.fluent_syntax_grammar.specs.Nesting.{Deeper, in_pattern, in_pieces, in_placeable}
 use Rattle.fluent_syntax_grammar.specs.Places.{Blank, has_byte}
-use Rattle.fluent_syntax_parser.specs.ShortMessages.{pattern_if_any, short_element}
+use Rattle.fluent_syntax_parser.specs.ShortMessages.{short_element}
 use Rattle.fluent_syntax_parser.specs.declared.short.ShortElement.{ShortElement}
 use Rattle.fluent_syntax_parser.specs.declared.short.ShortElement.TheVariants.{Text, Variable, Message, Term}
 use Rattle.fluent_syntax_parser.specs.declared.short.ShortPart.{ShortPart}
@@ -67,5 +67,5 @@ pub record ReadsShort (edition : Edition) (t : List ℕ) (old : List ShortPart) 
     Type 0 where
   pub elements : List ShortElement
   pub items : new ≡ old ++ map Element elements
-  pub read : pattern edition t i (Read (pattern_if_any (map (short_element (λ s. s)) elements)) j)
+  pub read : pattern edition t i (Read (if_any (map (short_element (λ s. s)) elements)) j)
   pub flat : (n : ℕ) → Deeper edition t in_pattern (suc n) i → ⊥

@@ -3,8 +3,9 @@ ghost use Rattle.std.specs.Prelude.{◌≡◌, ◌≤◌, ◌++◌, ◌∷◌, [
 ghost use Rattle.fluent_syntax_tree.specs.Entry.{message};
 ghost use Rattle.fluent_syntax_tree.specs.Tree.{elements_of};
 ghost use Rattle.fluent_syntax_tree.specs.View.{attribute_view, element_view, message_view, pattern_view};
+ghost use Rattle.fluent_syntax_grammar.specs.Elements.{if_any};
 ghost use Rattle.fluent_syntax_parser.specs.Rest.{tree_of};
-ghost use Rattle.fluent_syntax_parser.specs.ShortMessages.{leading_elements, pattern_if_any, short_attributes};
+ghost use Rattle.fluent_syntax_parser.specs.ShortMessages.{leading_elements, short_attributes};
 ghost use Rattle.fluent_syntax_parser.specs.ShortMessages.{short_element, short_message};
 
 use crate::short::{ShortElement, ShortPart, attribute_count, leading_count};
@@ -73,7 +74,7 @@ fn leading_value<'p>(
     parts: &'p [ShortPart],
 ) -> Result<(Option<Pattern<Span>>, &'p [ShortPart]), AllocError>
     ensures value { IfOk result
-        (λ read. option_map (pattern_view (λ s. s)) read.0 ≡ pattern_if_any (leading_elements (λ s. s) parts.now)) }
+        (λ read. option_map (pattern_view (λ s. s)) read.0 ≡ if_any (leading_elements (λ s. s) parts.now)) }
     ensures attributes { IfOk result
         (λ read. short_attributes (λ s. s) read.1.now ≡ short_attributes (λ s. s) parts.now) }
     ensures all { IfOk result (λ read. leading_elements (λ s. s) read.1.now ≡ []) }

@@ -1,10 +1,10 @@
-use Rattle.fluent_syntax_parser.proofs.ShortTrees.{placeable_tree}
 use Rattle.fluent_syntax_tree.specs.View.{element_view}
 use Rattle.fluent_syntax_tree.proofs.Lists.{map_added}
+use Rattle.fluent_syntax_tree.proofs.Views.{view-placed}
 use Rattle.fluent_syntax.proofs.short.add_reference.Goals as goal
 
 pub returns : goal.returns
 returns g c =
     let text = g.S.Slice.text in
     map_added (element_view text) c.args.elements.now.items _ _ _ c.in_ok-push.ensures.items
-    (placeable_tree text c.args.reference)
+    (view-placed text c.args.reference)

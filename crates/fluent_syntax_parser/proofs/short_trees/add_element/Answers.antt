@@ -5,8 +5,7 @@ use Rattle.fluent_syntax_tree.specs.declared.ast.Expression as expression
 use Rattle.fluent_syntax_tree.specs.declared.ast.PatternElement as element
 use Rattle.fluent_syntax_tree.proofs.Lists.{map_added}
 use Rattle.fluent_syntax_tree.proofs.Views.{view-MessageReference, view-TermReference, view-TextElement}
-use Rattle.fluent_syntax_tree.proofs.Views.{view-VariableReference}
-use Rattle.fluent_syntax_parser.proofs.ShortTrees.{placeable_tree}
+use Rattle.fluent_syntax_tree.proofs.Views.{view-VariableReference, view-placed}
 use Rattle.fluent_syntax_parser.proofs.short_trees.add_element.Goals.{in-Variable, in-Message, in-Term}
 use Rattle.fluent_syntax_parser.proofs.short_trees.add_element.Goals as goal
 
@@ -18,7 +17,7 @@ returns-in-Text c =
 
 pub returns : goal.returns
 returns c =
-    let made = placeable_tree (λ s. s) c.match-element.reference in
+    let made = view-placed (λ s. s) c.match-element.reference in
     map_added (element_view (λ s. s)) c.args.elements.now.items _
     (element.Placeable (expression.Inline c.match-element.reference)) _ c.in_ok-push.ensures.items
     (elim c.match-element.branch [
