@@ -1,6 +1,6 @@
 //! A copy of each node of a tree, over lent and over owned texts, and of each kind of error.
 
-use crate::alike::{holds, same_text};
+use crate::alike::{assert_holds, assert_same_text};
 use crate::kinds::{KINDS, Kind, kind};
 use crate::made::{lent_tree_without_errors, owned_tree_without_errors};
 use fluent_syntax::ast::*;
@@ -131,7 +131,7 @@ fn copies_of_tree<'s, S: Slice<'s>>(alloc: Global, tree: &Resource<S>) -> Result
 #[test]
 fn trees_over_lent_texts(rt: HostRuntime) -> Result<(), Fail> {
     let tree = lent_tree_without_errors(rt.alloc(), TEXT)?;
-    holds(
+    assert_holds(
         rt.alloc(),
         "equal copies",
         copies_of_tree(rt.alloc(), &tree)?,
@@ -141,7 +141,7 @@ fn trees_over_lent_texts(rt: HostRuntime) -> Result<(), Fail> {
 #[test]
 fn trees_over_owned_texts(rt: HostRuntime) -> Result<(), Fail> {
     let tree = owned_tree_without_errors(rt.alloc(), TEXT)?;
-    holds(
+    assert_holds(
         rt.alloc(),
         "equal copies",
         copies_of_tree(rt.alloc(), &tree)?,
@@ -149,38 +149,38 @@ fn trees_over_owned_texts(rt: HostRuntime) -> Result<(), Fail> {
 }
 
 /// Fails where the copy of the text is another text.
-fn is_copied<'s, S: Slice<'s>>(alloc: Global, text: &S) -> Result<(), Fail> {
+fn assert_copied<'s, S: Slice<'s>>(alloc: Global, text: &S) -> Result<(), Fail> {
     let copy = text.try_clone(alloc)?;
-    same_text(alloc, "a copy", copy.as_str(), text.as_str())
+    assert_same_text(alloc, "a copy", copy.as_str(), text.as_str())
 }
 
 #[test]
 fn texts(rt: HostRuntime) -> Result<(), Fail> {
-    is_copied(rt.alloc(), &"key")?;
-    is_copied(rt.alloc(), &String::from_str(rt.alloc(), "key")?)
+    assert_copied(rt.alloc(), &"key")?;
+    assert_copied(rt.alloc(), &String::from_str(rt.alloc(), "key")?)
 }
 
-fn error_is_copied(alloc: Global, row: &Kind) -> Result<(), Fail> {
+fn assert_error_copied(alloc: Global, row: &Kind) -> Result<(), Fail> {
     let (name, _) = row;
     let error = ParserError {
         pos: 1..2,
         slice: Some(0..3),
         kind: kind(alloc, *name)?,
     };
-    holds(alloc, *name, is_copy(error.try_clone(alloc), &error))
+    assert_holds(alloc, *name, is_copy(error.try_clone(alloc), &error))
 }
 
-fn kind_is_copied(alloc: Global, row: &Kind) -> Result<(), Fail> {
+fn assert_kind_copied(alloc: Global, row: &Kind) -> Result<(), Fail> {
     let (name, _) = row;
     let kind = kind(alloc, *name)?;
-    holds(alloc, *name, is_copy(kind.try_clone(alloc), &kind))
+    assert_holds(alloc, *name, is_copy(kind.try_clone(alloc), &kind))
 }
 
 #[test]
 fn errors_of_each_kind(rt: HostRuntime) -> Result<(), Fail> {
     for row in &KINDS {
-        error_is_copied(rt.alloc(), row)?;
-        kind_is_copied(rt.alloc(), row)?;
+        assert_error_copied(rt.alloc(), row)?;
+        assert_kind_copied(rt.alloc(), row)?;
     }
     Ok(())
 }

@@ -1,6 +1,6 @@
 //! Texts, and how deeply they nest: by a bound one less they are not read, by that bound they are read as without one.
 
-use crate::alike::holds;
+use crate::alike::assert_holds;
 use fluent_syntax::parser::{
     Edition, TooDeep, parse_edition, parse_runtime_edition, parse_runtime_within, parse_within,
 };
@@ -44,19 +44,19 @@ fn has_no_tree_within(alloc: Global, text: &str, edition: Edition, depth: usize)
     parse_within(alloc, text, edition, depth) == Err(TooDeep)
 }
 
-fn tree_nests_by_its_depth(alloc: Global, row: &Row, edition: Edition) -> Result<(), Fail> {
+fn assert_tree_nests_by_its_depth(alloc: Global, row: &Row, edition: Edition) -> Result<(), Fail> {
     let (shows, text, depth) = row;
     let depth = *depth;
-    holds(alloc, *shows, has_tree_within(alloc, *text, edition, depth))?;
+    assert_holds(alloc, *shows, has_tree_within(alloc, *text, edition, depth))?;
     let is_refused = depth == 0 || has_no_tree_within(alloc, *text, edition, depth - 1);
-    holds(alloc, *shows, is_refused)
+    assert_holds(alloc, *shows, is_refused)
 }
 
 #[test]
 fn trees(rt: HostRuntime) -> Result<(), Fail> {
     for row in &ROWS {
-        tree_nests_by_its_depth(rt.alloc(), row, Edition::One)?;
-        tree_nests_by_its_depth(rt.alloc(), row, Edition::Two)?;
+        assert_tree_nests_by_its_depth(rt.alloc(), row, Edition::One)?;
+        assert_tree_nests_by_its_depth(rt.alloc(), row, Edition::Two)?;
     }
     Ok(())
 }
@@ -70,18 +70,18 @@ fn has_no_runtime_within(alloc: Global, text: &str, depth: usize) -> bool {
     parse_runtime_within(alloc, text, Edition::One, depth) == Err(TooDeep)
 }
 
-fn runtime_nests_by_its_depth(alloc: Global, row: &Row) -> Result<(), Fail> {
+fn assert_runtime_nests_by_its_depth(alloc: Global, row: &Row) -> Result<(), Fail> {
     let (shows, text, depth) = row;
     let depth = *depth;
-    holds(alloc, *shows, has_runtime_within(alloc, *text, depth))?;
+    assert_holds(alloc, *shows, has_runtime_within(alloc, *text, depth))?;
     let is_refused = depth == 0 || has_no_runtime_within(alloc, *text, depth - 1);
-    holds(alloc, *shows, is_refused)
+    assert_holds(alloc, *shows, is_refused)
 }
 
 #[test]
 fn without_comments(rt: HostRuntime) -> Result<(), Fail> {
     for row in &ROWS {
-        runtime_nests_by_its_depth(rt.alloc(), row)?;
+        assert_runtime_nests_by_its_depth(rt.alloc(), row)?;
     }
     Ok(())
 }
@@ -101,20 +101,20 @@ fn has_no_spans_within(alloc: Global, text: &str, depth: usize) -> bool {
         && parse_runtime_spans_within(alloc, text, Edition::One, depth) == Err(TooDeep)
 }
 
-fn spans_nest_by_their_depth(alloc: Global, row: &Row) -> Result<(), Fail> {
+fn assert_spans_nest_by_their_depth(alloc: Global, row: &Row) -> Result<(), Fail> {
     let (shows, text, depth) = row;
     let depth = *depth;
     let are_read = has_spans_within(alloc, *text, depth)
         && has_runtime_spans_within(alloc, *text, depth);
-    holds(alloc, *shows, are_read)?;
+    assert_holds(alloc, *shows, are_read)?;
     let are_refused = depth == 0 || has_no_spans_within(alloc, *text, depth - 1);
-    holds(alloc, *shows, are_refused)
+    assert_holds(alloc, *shows, are_refused)
 }
 
 #[test]
 fn spans(rt: HostRuntime) -> Result<(), Fail> {
     for row in &ROWS {
-        spans_nest_by_their_depth(rt.alloc(), row)?;
+        assert_spans_nest_by_their_depth(rt.alloc(), row)?;
     }
     Ok(())
 }

@@ -1,7 +1,7 @@
 //! Texts that both editions of the grammar read, each in its way.
 
-use crate::alike::holds;
-use crate::outline::has_outline;
+use crate::alike::assert_holds;
+use crate::outline::assert_outline;
 use fluent_syntax::parser::{Edition, parse_edition, parse_runtime_edition};
 use fluent_syntax::serializer::serialize;
 use std::alloc::Global;
@@ -44,28 +44,28 @@ const ROWS: [Row; 5] = [
 ];
 
 /// Fails where a call of the edition, with comments or without, does not answer as expected.
-fn is_read(
+fn assert_read(
     alloc: Global,
     shows: &str,
     text: &str,
     edition: Edition,
     expected: &str,
 ) -> Result<(), Fail> {
-    has_outline(alloc, shows, &parse_edition(alloc, text, edition), expected)?;
+    assert_outline(alloc, shows, &parse_edition(alloc, text, edition), expected)?;
     let runtime = parse_runtime_edition(alloc, text, edition);
-    has_outline(alloc, shows, &runtime, expected)
+    assert_outline(alloc, shows, &runtime, expected)
 }
 
-fn is_read_by_both(alloc: Global, row: &Row) -> Result<(), Fail> {
+fn assert_read_by_both(alloc: Global, row: &Row) -> Result<(), Fail> {
     let (shows, text, one, two) = row;
-    is_read(alloc, *shows, *text, Edition::One, *one)?;
-    is_read(alloc, *shows, *text, Edition::Two, *two)
+    assert_read(alloc, *shows, *text, Edition::One, *one)?;
+    assert_read(alloc, *shows, *text, Edition::Two, *two)
 }
 
 #[test]
 fn editions(rt: HostRuntime) -> Result<(), Fail> {
     for row in &ROWS {
-        is_read_by_both(rt.alloc(), row)?;
+        assert_read_by_both(rt.alloc(), row)?;
     }
     Ok(())
 }
@@ -80,7 +80,7 @@ const KEPT: [&str; 3] = [
 #[test]
 fn trees_of_edition_two_read_back(rt: HostRuntime) -> Result<(), Fail> {
     for text in &KEPT {
-        holds(rt.alloc(), *text, is_kept(rt.alloc(), *text)?)?;
+        assert_holds(rt.alloc(), *text, is_kept(rt.alloc(), *text)?)?;
     }
     Ok(())
 }

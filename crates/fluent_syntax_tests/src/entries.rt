@@ -1,6 +1,6 @@
 //! Texts, and the trees that they are read as.
 
-use crate::outline::has_outline;
+use crate::outline::assert_outline;
 use fluent_syntax::parser::parse;
 use std::alloc::Global;
 use std::test::Fail;
@@ -166,15 +166,15 @@ const ROWS: [Row; 34] = [
 ];
 
 /// Fails where the row's text is not answered as it says.
-pub(crate) fn is_read(alloc: Global, row: &Row) -> Result<(), Fail> {
+pub(crate) fn assert_read(alloc: Global, row: &Row) -> Result<(), Fail> {
     let (shows, text, expected) = row;
-    has_outline(alloc, *shows, &parse(alloc, *text), *expected)
+    assert_outline(alloc, *shows, &parse(alloc, *text), *expected)
 }
 
 #[test]
 fn entries(rt: HostRuntime) -> Result<(), Fail> {
     for row in &ROWS {
-        is_read(rt.alloc(), row)?;
+        assert_read(rt.alloc(), row)?;
     }
     Ok(())
 }

@@ -1,6 +1,6 @@
 //! Texts, what is read of them, and their errors.
 
-use crate::alike::same_text;
+use crate::alike::assert_same_text;
 use crate::entries::Row;
 use fluent_syntax_parser::entries::Entries;
 use fluent_syntax_parser::fault::ParseFault;
@@ -141,7 +141,7 @@ fn show(
 }
 
 /// Fails where the answer is not shown as expected.
-fn is_shown(
+fn assert_shown(
     alloc: Global,
     shows: &str,
     answer: &Result<Resource<Span>, ParseFault<Span>>,
@@ -149,18 +149,18 @@ fn is_shown(
 ) -> Result<(), Fail> {
     let mut got = String::new(alloc);
     show(&mut got, answer)?;
-    same_text(alloc, shows, got.as_str(), expected)
+    assert_same_text(alloc, shows, got.as_str(), expected)
 }
 
-fn is_read(alloc: Global, row: &Row) -> Result<(), Fail> {
+fn assert_read(alloc: Global, row: &Row) -> Result<(), Fail> {
     let (shows, text, expected) = row;
-    is_shown(alloc, *shows, &parse_spans(alloc, *text), *expected)
+    assert_shown(alloc, *shows, &parse_spans(alloc, *text), *expected)
 }
 
 #[test]
 fn whole_texts(rt: HostRuntime) -> Result<(), Fail> {
     for row in &ROWS {
-        is_read(rt.alloc(), row)?;
+        assert_read(rt.alloc(), row)?;
     }
     Ok(())
 }
@@ -168,27 +168,27 @@ fn whole_texts(rt: HostRuntime) -> Result<(), Fail> {
 #[test]
 fn without_comments(rt: HostRuntime) -> Result<(), Fail> {
     let answer = parse_runtime_spans(rt.alloc(), "#x\n# a\nb = c\n#");
-    is_shown(rt.alloc(), "comments", &answer, "m")
+    assert_shown(rt.alloc(), "comments", &answer, "m")
 }
 
 /// A select whose only default is a lone star.
 const LONE_STAR: &str = "a = {$b ->\n   [one] c\n   *}\n";
 
-fn lone_star_is_none(alloc: Global) -> Result<(), Fail> {
+fn assert_lone_star_none(alloc: Global) -> Result<(), Fail> {
     let answer = parse_spans_edition(alloc, LONE_STAR, Edition::Two);
     let missing = "j\n26..27 The select expression must have a default variant";
-    is_shown(alloc, "edition two", &answer, missing)
+    assert_shown(alloc, "edition two", &answer, missing)
 }
 
-fn lone_star_is_default(alloc: Global) -> Result<(), Fail> {
+fn assert_lone_star_default(alloc: Global) -> Result<(), Fail> {
     let answer = parse_runtime_spans_edition(alloc, LONE_STAR, Edition::One);
-    is_shown(alloc, "edition one", &answer, "m")
+    assert_shown(alloc, "edition one", &answer, "m")
 }
 
 #[test]
 fn edition_two(rt: HostRuntime) -> Result<(), Fail> {
-    lone_star_is_none(rt.alloc())?;
-    lone_star_is_default(rt.alloc())
+    assert_lone_star_none(rt.alloc())?;
+    assert_lone_star_default(rt.alloc())
 }
 
 fn show_read(
@@ -211,12 +211,12 @@ fn show_next(alloc: Global, out: &mut String, entries: &mut Entries<'_>) -> Resu
     }
 }
 
-fn are_shown(alloc: Global, mut entries: Entries<'_>, expected: &str) -> Result<(), Fail> {
+fn assert_all_shown(alloc: Global, mut entries: Entries<'_>, expected: &str) -> Result<(), Fail> {
     let mut got = String::new(alloc);
     for _ in 0..3 {
         show_next(alloc, &mut got, &mut entries)?;
     }
-    same_text(alloc, "three calls", got.as_str(), expected)
+    assert_same_text(alloc, "three calls", got.as_str(), expected)
 }
 
 #[test]
@@ -228,5 +228,5 @@ fn one_by_one(rt: HostRuntime) -> Result<(), Fail> {
     };
     let entries = Entries::new("# a\nb = {{c}}\nd\n", options);
     let expected = "m1j\n15..16 Expected a token starting with \"=\".";
-    are_shown(rt.alloc(), entries, expected)
+    assert_all_shown(rt.alloc(), entries, expected)
 }

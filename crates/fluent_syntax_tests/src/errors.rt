@@ -1,6 +1,6 @@
 //! Broken texts, and the errors at their places.
 
-use crate::entries::{Row, is_read};
+use crate::entries::{Row, assert_read};
 use std::test::Fail;
 
 const ROWS: [Row; 47] = [
@@ -245,7 +245,7 @@ const ROWS: [Row; 47] = [
 #[test]
 fn errors(rt: HostRuntime) -> Result<(), Fail> {
     for row in &ROWS {
-        is_read(rt.alloc(), row)?;
+        assert_read(rt.alloc(), row)?;
     }
     Ok(())
 }

@@ -1,6 +1,6 @@
 //! Values, the trees that they spell, and the JSON forms of trees.
 
-use crate::alike::holds;
+use crate::alike::assert_holds;
 use crate::made::owned_tree;
 use fluent_syntax::ast::Resource;
 use fluent_syntax_json::{ValueFault, form_reads, from_value, to_value};
@@ -212,17 +212,17 @@ fn is_read_back(alloc: Global, tree: &Resource<String>) -> Result<bool, Fail> {
     }
 }
 
-fn goes_there_and_back(alloc: Global, row: &Row) -> Result<(), Fail> {
+fn assert_goes_there_and_back(alloc: Global, row: &Row) -> Result<(), Fail> {
     let (what, text, form) = row;
     let tree = tree(alloc, *text)?;
     let is_so = has_form(alloc, &tree, *form)? && is_read_back(alloc, &tree)?;
-    holds(alloc, *what, is_so)
+    assert_holds(alloc, *what, is_so)
 }
 
 #[test]
 fn forms_there_and_back(rt: HostRuntime) -> Result<(), Fail> {
     for row in &FORMS {
-        goes_there_and_back(rt.alloc(), row)?;
+        assert_goes_there_and_back(rt.alloc(), row)?;
     }
     Ok(())
 }
@@ -233,33 +233,33 @@ fn read(alloc: Global, text: &str) -> Result<Result<Resource<String>, ValueFault
     Ok(from_value(alloc, &value))
 }
 
-fn is_spelled(alloc: Global, row: &Row) -> Result<(), Fail> {
+fn assert_spelled(alloc: Global, row: &Row) -> Result<(), Fail> {
     let (what, value, form) = row;
     let Ok(tree) = read(alloc, *value)? else {
-        return holds(alloc, *what, false);
+        return assert_holds(alloc, *what, false);
     };
     form_reads(&tree);
-    holds(alloc, *what, has_form(alloc, &tree, *form)?)
+    assert_holds(alloc, *what, has_form(alloc, &tree, *form)?)
 }
 
 #[test]
 fn values_that_are_no_forms(rt: HostRuntime) -> Result<(), Fail> {
     for row in &SPELLED {
-        is_spelled(rt.alloc(), row)?;
+        assert_spelled(rt.alloc(), row)?;
     }
     Ok(())
 }
 
-fn spells_nothing(alloc: Global, row: &Refused) -> Result<(), Fail> {
+fn assert_spells_nothing(alloc: Global, row: &Refused) -> Result<(), Fail> {
     let (what, value) = row;
     let read = read(alloc, *value)?;
-    holds(alloc, *what, read == Err(ValueFault::Shape))
+    assert_holds(alloc, *what, read == Err(ValueFault::Shape))
 }
 
 #[test]
 fn values_that_spell_nothing(rt: HostRuntime) -> Result<(), Fail> {
     for row in &REFUSED {
-        spells_nothing(rt.alloc(), row)?;
+        assert_spells_nothing(rt.alloc(), row)?;
     }
     Ok(())
 }
@@ -289,5 +289,5 @@ fn a_deep_value(rt: HostRuntime) -> Result<(), Fail> {
     let alloc = rt.alloc();
     let tree = tree(alloc, deep_text(alloc, 200)?.as_str())?;
     let is_so = is_refused(alloc, &tree, 200 * 20)? && is_read_back(alloc, &tree)?;
-    holds(alloc, "a deep value", is_so)
+    assert_holds(alloc, "a deep value", is_so)
 }

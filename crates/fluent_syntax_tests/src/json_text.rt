@@ -1,6 +1,6 @@
 //! JSON text that is written without a value.
 
-use crate::alike::same_text;
+use crate::alike::assert_same_text;
 use crate::json::{FORMS, Row, tree};
 use crate::made::{Made, lent_tree};
 use fluent_syntax::ast::{Entry, Resource};
@@ -35,13 +35,13 @@ pub(crate) fn json_text<'s, S: Slice<'s>>(alloc: Global, tree: &Resource<S>) -> 
 }
 
 /// Fails where the JSON text of the tree is another.
-fn is_written<'s, S: Slice<'s>>(
+fn assert_written<'s, S: Slice<'s>>(
     alloc: Global,
     shows: &str,
     tree: &Resource<S>,
     expected: &str,
 ) -> Result<(), Fail> {
-    same_text(alloc, shows, json_text(alloc, tree)?.as_str(), expected)
+    assert_same_text(alloc, shows, json_text(alloc, tree)?.as_str(), expected)
 }
 
 /// The text that `serde_json` writes of the tree's form.
@@ -50,8 +50,8 @@ fn form_text(alloc: Global, tree: &Resource<String>) -> Result<String, Fail> {
 }
 
 /// Fails where the JSON text of the tree is not what `serde_json` writes of its form.
-fn is_text_of_form(alloc: Global, shows: &str, tree: &Resource<String>) -> Result<(), Fail> {
-    is_written(alloc, shows, tree, form_text(alloc, tree)?.as_str())
+fn assert_text_of_form(alloc: Global, shows: &str, tree: &Resource<String>) -> Result<(), Fail> {
+    assert_written(alloc, shows, tree, form_text(alloc, tree)?.as_str())
 }
 
 /// The value's text, as `serde_json` writes it.
@@ -59,23 +59,23 @@ fn sorted(alloc: Global, form: &str) -> Result<String, Fail> {
     Ok(Value::from_str(alloc, form)?.to_string(alloc)?)
 }
 
-fn is_text(alloc: Global, row: &Row) -> Result<(), Fail> {
+fn assert_text(alloc: Global, row: &Row) -> Result<(), Fail> {
     let (what, text, form) = row;
     let expected = sorted(alloc, *form)?;
-    is_written(alloc, *what, &lent_tree(alloc, *text)?, expected.as_str())?;
-    is_written(alloc, *what, &tree(alloc, *text)?, expected.as_str())
+    assert_written(alloc, *what, &lent_tree(alloc, *text)?, expected.as_str())?;
+    assert_written(alloc, *what, &tree(alloc, *text)?, expected.as_str())
 }
 
-fn is_form(alloc: Global, row: &Row) -> Result<(), Fail> {
+fn assert_form(alloc: Global, row: &Row) -> Result<(), Fail> {
     let (what, text, _) = row;
-    is_text_of_form(alloc, *what, &tree(alloc, *text)?)
+    assert_text_of_form(alloc, *what, &tree(alloc, *text)?)
 }
 
 #[test]
 fn texts_of_forms(rt: HostRuntime) -> Result<(), Fail> {
     for row in &FORMS {
-        is_text(rt.alloc(), row)?;
-        is_form(rt.alloc(), row)?;
+        assert_text(rt.alloc(), row)?;
+        assert_form(rt.alloc(), row)?;
     }
     Ok(())
 }
@@ -92,35 +92,35 @@ fn junk_text(alloc: Global, quoted: &str) -> Made<String> {
     format!(in alloc; "{{\"body\":[{{\"content\":{quoted},\"type\":\"Junk\"}}]}}")
 }
 
-fn is_quoted(alloc: Global, row: &Quoted) -> Result<(), Fail> {
+fn assert_quoted(alloc: Global, row: &Quoted) -> Result<(), Fail> {
     let (text, quoted) = row;
     let expected = junk_text(alloc, *quoted)?;
-    is_written(alloc, *text, &junk(alloc, *text)?, expected.as_str())?;
+    assert_written(alloc, *text, &junk(alloc, *text)?, expected.as_str())?;
     let owned = junk(alloc, String::from_str(alloc, *text)?)?;
-    is_written(alloc, *text, &owned, expected.as_str())
+    assert_written(alloc, *text, &owned, expected.as_str())
 }
 
 #[test]
 fn quoted_texts(rt: HostRuntime) -> Result<(), Fail> {
     for row in &QUOTED {
-        is_quoted(rt.alloc(), row)?;
+        assert_quoted(rt.alloc(), row)?;
     }
     Ok(())
 }
 
 /// Fails where the text is not written as `serde_json` writes it.
-fn is_as_of_form(alloc: Global, text: &str) -> Result<(), Fail> {
+fn assert_as_of_form(alloc: Global, text: &str) -> Result<(), Fail> {
     let owned = junk(alloc, String::from_str(alloc, text)?)?;
-    is_text_of_form(alloc, text, &owned)
+    assert_text_of_form(alloc, text, &owned)
 }
 
 /// Appends the character, and fails where it, alone or after those before it, is not written as `serde_json` writes it.
-fn goes_on(alloc: Global, all: &mut String, character: char) -> Result<(), Fail> {
+fn assert_goes_on(alloc: Global, all: &mut String, character: char) -> Result<(), Fail> {
     let mut one = String::new(alloc);
     one.push(character)?;
     all.push(character)?;
-    is_as_of_form(alloc, one.as_str())?;
-    is_as_of_form(alloc, all.as_str())
+    assert_as_of_form(alloc, one.as_str())?;
+    assert_as_of_form(alloc, all.as_str())
 }
 
 /// Each character of ASCII, alone and after those before it.
@@ -128,7 +128,7 @@ fn goes_on(alloc: Global, all: &mut String, character: char) -> Result<(), Fail>
 fn characters_as_serde_json_writes_them(rt: HostRuntime) -> Result<(), Fail> {
     let mut all = String::new(rt.alloc());
     for byte in 0..128u8 {
-        goes_on(rt.alloc(), &mut all, char::from(byte))?;
+        assert_goes_on(rt.alloc(), &mut all, char::from(byte))?;
     }
     Ok(())
 }

@@ -1,6 +1,6 @@
 //! The kinds of errors: their names, and the texts that are shown of them.
 
-use crate::alike::same_text;
+use crate::alike::assert_same_text;
 use fluent_syntax::parser::{ErrorKind, ParserError};
 use std::alloc::Global;
 use std::test::Fail;
@@ -91,19 +91,19 @@ pub(crate) fn kind(alloc: Global, name: &str) -> Result<ErrorKind, Fail> {
     })
 }
 
-fn has_name(alloc: Global, row: &Kind) -> Result<(), Fail> {
+fn assert_name(alloc: Global, row: &Kind) -> Result<(), Fail> {
     let (name, _) = row;
-    same_text(alloc, *name, kind(alloc, *name)?.name(), *name)
+    assert_same_text(alloc, *name, kind(alloc, *name)?.name(), *name)
 }
 
-fn kind_is_shown(alloc: Global, row: &Kind) -> Result<(), Fail> {
+fn assert_kind_shown(alloc: Global, row: &Kind) -> Result<(), Fail> {
     let (name, shown) = row;
     let kind = kind(alloc, *name)?;
     let text = format!(in alloc; "{kind}")?;
-    same_text(alloc, *name, text.as_str(), *shown)
+    assert_same_text(alloc, *name, text.as_str(), *shown)
 }
 
-fn error_is_shown(alloc: Global, row: &Kind) -> Result<(), Fail> {
+fn assert_error_shown(alloc: Global, row: &Kind) -> Result<(), Fail> {
     let (name, shown) = row;
     let error = ParserError {
         pos: 0..1,
@@ -111,15 +111,15 @@ fn error_is_shown(alloc: Global, row: &Kind) -> Result<(), Fail> {
         kind: kind(alloc, *name)?,
     };
     let text = format!(in alloc; "{error}")?;
-    same_text(alloc, *name, text.as_str(), *shown)
+    assert_same_text(alloc, *name, text.as_str(), *shown)
 }
 
 #[test]
 fn names_and_shown_texts(rt: HostRuntime) -> Result<(), Fail> {
     for row in &KINDS {
-        has_name(rt.alloc(), row)?;
-        kind_is_shown(rt.alloc(), row)?;
-        error_is_shown(rt.alloc(), row)?;
+        assert_name(rt.alloc(), row)?;
+        assert_kind_shown(rt.alloc(), row)?;
+        assert_error_shown(rt.alloc(), row)?;
     }
     Ok(())
 }

@@ -1,16 +1,13 @@
-//! Tests over all crates: texts whose trees, errors and written texts are known.
+//! Tests of the parser, the serializer and the JSON of trees: texts whose trees, errors and written texts are known.
 #![tactic(auto)]
 
-#[cfg(test)]
-mod alike;
+pub mod alike;
 #[cfg(test)]
 mod copies;
 #[cfg(test)]
 mod depths;
 #[cfg(test)]
 mod editions;
-#[cfg(test)]
-mod ends;
 #[cfg(test)]
 mod entries;
 #[cfg(test)]
@@ -23,8 +20,6 @@ mod json;
 mod json_text;
 #[cfg(test)]
 mod kinds;
-#[cfg(test)]
-mod language_server;
 #[cfg(test)]
 mod made;
 #[cfg(test)]
@@ -42,8 +37,6 @@ mod round_trip_at_random;
 #[cfg(test)]
 mod rules;
 #[cfg(test)]
-mod runs;
-#[cfg(test)]
 mod runtime;
 #[cfg(test)]
 mod serialized;
@@ -59,8 +52,6 @@ mod surface;
 mod trees;
 #[cfg(test)]
 mod unescaped;
-#[cfg(test)]
-mod words;
 #[cfg(test)]
 mod written;
 #[cfg(test)]

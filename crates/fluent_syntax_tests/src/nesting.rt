@@ -1,6 +1,6 @@
 //! Texts, and how deeply they nest.
 
-use crate::alike::holds;
+use crate::alike::assert_holds;
 use fluent_syntax_parser::entries::Entries;
 use fluent_syntax_parser::options::{Comments, Halt, Options};
 use fluent_syntax_tree::edition::Edition;
@@ -57,10 +57,10 @@ fn is_deeper(alloc: Global, text: &str, nesting: usize) -> Result<bool, AllocErr
     Ok(false)
 }
 
-fn nests_by_its_depth(alloc: Global, row: &Row) -> Result<(), Fail> {
+fn assert_nests_by_its_depth(alloc: Global, row: &Row) -> Result<(), Fail> {
     let (shows, text, depth) = row;
-    holds(alloc, *shows, !is_deeper(alloc, *text, *depth)?)?;
-    holds(
+    assert_holds(alloc, *shows, !is_deeper(alloc, *text, *depth)?)?;
+    assert_holds(
         alloc,
         *shows,
         *depth == 0 || is_deeper(alloc, *text, *depth - 1)?,
@@ -70,7 +70,7 @@ fn nests_by_its_depth(alloc: Global, row: &Row) -> Result<(), Fail> {
 #[test]
 fn nests_as_deeply(rt: HostRuntime) -> Result<(), Fail> {
     for row in &ROWS {
-        nests_by_its_depth(rt.alloc(), row)?;
+        assert_nests_by_its_depth(rt.alloc(), row)?;
     }
     Ok(())
 }

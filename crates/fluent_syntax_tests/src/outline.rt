@@ -4,7 +4,7 @@
 //! is a message with two elements, an attribute and a comment; `-t = ..` a term; `# "a"`, `## "a"` and
 //! `### "a"` comments; `Junk "a"` junk. An error is `P..Q J..K Kind`, with its payload in brackets.
 
-use crate::alike::same_text;
+use crate::alike::assert_same_text;
 use fluent_syntax::ast::*;
 use fluent_syntax::parser::{ErrorKind, ParseFault, ParserError};
 use fluent_syntax::spans::Span;
@@ -57,13 +57,13 @@ impl Shown for Span {
 }
 
 /// Fails where the outline of the answer is not the expected one.
-pub(crate) fn has_outline<S: Shown>(
+pub(crate) fn assert_outline<S: Shown>(
     alloc: Global,
     shows: &str,
     answer: &Result<Resource<S>, ParseFault<S>>,
     expected: &str,
 ) -> Result<(), Fail> {
-    same_text(alloc, shows, outlined(alloc, answer)?.as_str(), expected)
+    assert_same_text(alloc, shows, outlined(alloc, answer)?.as_str(), expected)
 }
 
 /// The outline of what a parser answered.

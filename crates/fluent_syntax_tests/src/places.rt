@@ -1,6 +1,6 @@
 //! Lines and columns of errors, as a caller asks for them: nothing has to be shown of a place.
 
-use crate::alike::{holds, same};
+use crate::alike::{assert_holds, assert_same};
 use fluent_syntax::parser::{ParseFault, parse, parse_runtime, recovered};
 use fluent_syntax::spans::{Lines, line_column, parse_spans};
 use std::alloc::{AllocError, Global};
@@ -43,20 +43,20 @@ fn first_place_of_spans(alloc: Global, text: &str) -> (usize, usize) {
 fn places_by_line_and_column(rt: HostRuntime) -> Result<(), Fail> {
     let alloc = rt.alloc();
     let text = "key = { \"a\nb\" }";
-    same(alloc, "the last", &last_place(alloc, text), &(2, 2))?;
-    same(
+    assert_same(alloc, "the last", &last_place(alloc, text), &(2, 2))?;
+    assert_same(
         alloc,
         "the first",
         &first_runtime_place(alloc, text),
         &(1, 11),
     )?;
-    same(
+    assert_same(
         alloc,
         "of spans",
         &first_place_of_spans(alloc, text),
         &(1, 11),
     )?;
-    same(alloc, "none", &last_place(alloc, "key = a\n"), &(0, 0))
+    assert_same(alloc, "none", &last_place(alloc, "key = a\n"), &(0, 0))
 }
 
 /// How many entries the recovered tree has, and the lines of the errors beside it.
@@ -79,17 +79,17 @@ fn is_recovered(alloc: Global, text: &str, entries: usize, lines: &[usize]) -> R
 fn a_tree_and_its_errors(rt: HostRuntime) -> Result<(), Fail> {
     let alloc = rt.alloc();
     let broken = is_recovered(alloc, "key = a\nbro ken = b\n", 2, &[2])?;
-    holds(alloc, "one error", broken)?;
-    holds(alloc, "none", is_recovered(alloc, "key = a\n", 1, &[])?)
+    assert_holds(alloc, "one error", broken)?;
+    assert_holds(alloc, "none", is_recovered(alloc, "key = a\n", 1, &[])?)
 }
 
 #[test]
 fn places_in_any_order(rt: HostRuntime) -> Result<(), Fail> {
     let alloc = rt.alloc();
     let mut lines = Lines::new("ab\ncd\n");
-    same(alloc, "byte 0", &lines.line_column(0), &(1, 1))?;
-    same(alloc, "byte 4", &lines.line_column(4), &(2, 2))?;
-    same(alloc, "byte 6", &lines.line_column(6), &(3, 1))?;
-    same(alloc, "byte 2", &lines.line_column(2), &(1, 3))?;
-    same(alloc, "byte 3", &lines.line_column(3), &(2, 1))
+    assert_same(alloc, "byte 0", &lines.line_column(0), &(1, 1))?;
+    assert_same(alloc, "byte 4", &lines.line_column(4), &(2, 2))?;
+    assert_same(alloc, "byte 6", &lines.line_column(6), &(3, 1))?;
+    assert_same(alloc, "byte 2", &lines.line_column(2), &(1, 3))?;
+    assert_same(alloc, "byte 3", &lines.line_column(3), &(2, 1))
 }

@@ -1,11 +1,11 @@
 //! Trees that are written and read again.
 
-use crate::alike::{holds, same_text};
+use crate::alike::{assert_holds, assert_same_text};
 use crate::entries::Row;
 use crate::made::{
     Made, Text, attributed, comment, one, owned_tree, owned_tree_without_errors, valued,
 };
-use crate::outline::{has_outline, outlined};
+use crate::outline::{assert_outline, outlined};
 use fluent_syntax::ast::Entry;
 use fluent_syntax::laws::{joined, reads_back, reads_readable, reparse, same_texts};
 use std::alloc::Global;
@@ -107,7 +107,7 @@ const JOINED: [Row; 4] = [
     ),
 ];
 
-fn reads_the_same(alloc: Global, row: &Same) -> Result<(), Fail> {
+fn assert_reads_the_same(alloc: Global, row: &Same) -> Result<(), Fail> {
     let (what, text) = row;
     let tree = owned_tree_without_errors(alloc, *text)?;
     reads_back(&tree);
@@ -116,41 +116,41 @@ fn reads_the_same(alloc: Global, row: &Same) -> Result<(), Fail> {
         Ok(back) => same_texts(&tree, &back),
         Err(_) => false,
     };
-    holds(alloc, *what, is_same)
+    assert_holds(alloc, *what, is_same)
 }
 
 #[test]
 fn reads_the_same_tree(rt: HostRuntime) -> Result<(), Fail> {
     for row in &SAME {
-        reads_the_same(rt.alloc(), row)?;
+        assert_reads_the_same(rt.alloc(), row)?;
     }
     Ok(())
 }
 
-fn reads_another(alloc: Global, row: &Row) -> Result<(), Fail> {
+fn assert_reads_another(alloc: Global, row: &Row) -> Result<(), Fail> {
     let (what, text, expected) = row;
     let tree = owned_tree(alloc, *text)?;
-    has_outline(alloc, *what, &reparse(alloc, &tree), *expected)
+    assert_outline(alloc, *what, &reparse(alloc, &tree), *expected)
 }
 
 #[test]
 fn reads_another_tree(rt: HostRuntime) -> Result<(), Fail> {
     for row in &OTHER {
-        reads_another(rt.alloc(), row)?;
+        assert_reads_another(rt.alloc(), row)?;
     }
     Ok(())
 }
 
-fn is_joined(alloc: Global, row: &Row) -> Result<(), Fail> {
+fn assert_joined(alloc: Global, row: &Row) -> Result<(), Fail> {
     let (what, text, expected) = row;
     let tree = owned_tree(alloc, *text)?;
-    has_outline(alloc, *what, &Ok(joined(alloc, &tree)?), *expected)
+    assert_outline(alloc, *what, &Ok(joined(alloc, &tree)?), *expected)
 }
 
 #[test]
 fn joins_texts(rt: HostRuntime) -> Result<(), Fail> {
     for row in &JOINED {
-        is_joined(rt.alloc(), row)?;
+        assert_joined(rt.alloc(), row)?;
     }
     Ok(())
 }
@@ -162,9 +162,9 @@ fn reparsed(alloc: Global, entry: Made<Entry<Text>>) -> Made<String> {
 }
 
 /// Fails where the entry is read otherwise once it is written.
-fn is_reparsed(alloc: Global, entry: Made<Entry<Text>>, expected: &str) -> Result<(), Fail> {
+fn assert_reparsed(alloc: Global, entry: Made<Entry<Text>>, expected: &str) -> Result<(), Fail> {
     let found = reparsed(alloc, entry)?;
-    same_text(alloc, "written and read", found.as_str(), expected)
+    assert_same_text(alloc, "written and read", found.as_str(), expected)
 }
 
 /// Elements of which the first begins with a mark, and the outline of what a message of them is read as.
@@ -176,22 +176,22 @@ const MARKED: [Marked; 3] = [
     (&["[a\n", "\n", "$x"], "key = \"[a\\n\" \"\\n\" {$x}\n"),
 ];
 
-fn reads_the_mark(alloc: Global, row: &Marked) -> Result<(), Fail> {
+fn assert_reads_the_mark(alloc: Global, row: &Marked) -> Result<(), Fail> {
     let (elements, expected) = row;
-    is_reparsed(alloc, valued(alloc, "key", *elements), *expected)
+    assert_reparsed(alloc, valued(alloc, "key", *elements), *expected)
 }
 
 #[test]
 fn reads_marks_that_begin_a_pattern(rt: HostRuntime) -> Result<(), Fail> {
     for row in &MARKED {
-        reads_the_mark(rt.alloc(), row)?;
+        assert_reads_the_mark(rt.alloc(), row)?;
     }
     let attribute = attributed(rt.alloc(), "t", &[".a\n", "b"]);
-    is_reparsed(rt.alloc(), attribute, "k = | .t = \".a\\n\" \"b\"\n")
+    assert_reparsed(rt.alloc(), attribute, "k = | .t = \".a\\n\" \"b\"\n")
 }
 
 #[test]
 fn reads_a_cr_that_ends_a_comment(rt: HostRuntime) -> Result<(), Fail> {
     let comment = comment(rt.alloc(), &["a\r"])?;
-    is_reparsed(rt.alloc(), Ok(Entry::Comment(comment)), "# \"a\\r\"\n")
+    assert_reparsed(rt.alloc(), Ok(Entry::Comment(comment)), "# \"a\\r\"\n")
 }

@@ -57,7 +57,7 @@ fn canonical_trees(alloc: Global, edition: Edition) -> Result<usize, Fail> {
 }
 
 /// Fails where there are too few canonical trees, or too many, for the others to be seen as well.
-fn reads_back_at_random(alloc: Global, edition: Edition) -> Result<(), Fail> {
+fn assert_reads_back_at_random(alloc: Global, edition: Edition) -> Result<(), Fail> {
     let count = canonical_trees(alloc, edition)?;
     if count > TREES / 4 && count < TREES - TREES / 10 {
         return Ok(());
@@ -68,7 +68,7 @@ fn reads_back_at_random(alloc: Global, edition: Edition) -> Result<(), Fail> {
 #[test]
 fn reads_trees_back(rt: HostRuntime) -> Result<(), Fail> {
     for edition in [Edition::One, Edition::Two] {
-        reads_back_at_random(rt.alloc(), edition)?;
+        assert_reads_back_at_random(rt.alloc(), edition)?;
     }
     Ok(())
 }

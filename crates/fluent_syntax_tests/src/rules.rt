@@ -1,6 +1,6 @@
 //! The smallest trees that break each rule of readable and canonical trees, and trees beside them that keep it.
 
-use crate::alike::same;
+use crate::alike::assert_same;
 use crate::made::{
     Made, Text, attributed, comment, id, message, number, one, pattern, placed, valued, variable,
 };
@@ -117,17 +117,17 @@ fn judged_inline(alloc: Global, inline: InlineExpression<Text>, edition: Edition
     judged(alloc, placed(alloc, Expression::Inline(inline)), edition)
 }
 
-fn pattern_is_judged(alloc: Global, row: &PatternRow) -> Result<(), Fail> {
+fn assert_pattern_judged(alloc: Global, row: &PatternRow) -> Result<(), Fail> {
     let (elements, one, two) = row;
     let by_one = judged(alloc, valued(alloc, "k", *elements), Edition::One)?;
-    same(
+    assert_same(
         alloc,
         "edition one",
         &(*elements, by_one),
         &(*elements, *one),
     )?;
     let by_two = judged(alloc, valued(alloc, "k", *elements), Edition::Two)?;
-    same(
+    assert_same(
         alloc,
         "edition two",
         &(*elements, by_two),
@@ -138,7 +138,7 @@ fn pattern_is_judged(alloc: Global, row: &PatternRow) -> Result<(), Fail> {
 #[test]
 fn patterns(rt: HostRuntime) -> Result<(), Fail> {
     for row in &PATTERNS {
-        pattern_is_judged(rt.alloc(), row)?;
+        assert_pattern_judged(rt.alloc(), row)?;
     }
     Ok(())
 }
@@ -171,16 +171,16 @@ fn commented(alloc: Global, lines: &[Text]) -> Made<Entry<Text>> {
     }))
 }
 
-fn comment_is_judged(alloc: Global, row: &CommentRow) -> Result<(), Fail> {
+fn assert_comment_judged(alloc: Global, row: &CommentRow) -> Result<(), Fail> {
     let (lines, expected) = row;
     let alone = judged(alloc, free(alloc, *lines), Edition::One)?;
-    same(alloc, "alone", &(*lines, alone), &(*lines, *expected))?;
+    assert_same(alloc, "alone", &(*lines, alone), &(*lines, *expected))?;
     let hung = judged(alloc, commented(alloc, *lines), Edition::One)?;
-    same(alloc, "hung", &(*lines, hung), &(*lines, *expected))
+    assert_same(alloc, "hung", &(*lines, hung), &(*lines, *expected))
 }
 
-fn is_neither(alloc: Global, shows: &str, entry: Entry<Text>) -> Result<(), Fail> {
-    same(
+fn assert_neither(alloc: Global, shows: &str, entry: Entry<Text>) -> Result<(), Fail> {
+    assert_same(
         alloc,
         shows,
         &judged(alloc, Ok(entry), Edition::One)?,
@@ -191,10 +191,10 @@ fn is_neither(alloc: Global, shows: &str, entry: Entry<Text>) -> Result<(), Fail
 #[test]
 fn entries(rt: HostRuntime) -> Result<(), Fail> {
     let alloc = rt.alloc();
-    is_neither(alloc, "junk", Entry::Junk { content: "x" })?;
-    is_neither(alloc, "no field", Entry::Message(message(alloc, "k", None)))?;
+    assert_neither(alloc, "junk", Entry::Junk { content: "x" })?;
+    assert_neither(alloc, "no field", Entry::Message(message(alloc, "k", None)))?;
     for row in &COMMENTS {
-        comment_is_judged(alloc, row)?;
+        assert_comment_judged(alloc, row)?;
     }
     Ok(())
 }
@@ -205,30 +205,34 @@ fn spelled(well: bool) -> Found {
 }
 
 /// Fails where the inline expression is not canonical just where it is spelled well.
-fn is_spelled(alloc: Global, inline: InlineExpression<Text>, row: &Spelling) -> Result<(), Fail> {
+fn assert_spelled(
+    alloc: Global,
+    inline: InlineExpression<Text>,
+    row: &Spelling,
+) -> Result<(), Fail> {
     let (text, well) = row;
     let found = judged_inline(alloc, inline, Edition::One)?;
-    same(alloc, *text, &found, &spelled(*well))
+    assert_same(alloc, *text, &found, &spelled(*well))
 }
 
-fn attribute_is_spelled(alloc: Global, row: &Spelling) -> Result<(), Fail> {
+fn assert_attribute_spelled(alloc: Global, row: &Spelling) -> Result<(), Fail> {
     let (name, well) = row;
     let found = judged(alloc, attributed(alloc, *name, &["a"]), Edition::One)?;
-    same(alloc, *name, &found, &spelled(*well))
+    assert_same(alloc, *name, &found, &spelled(*well))
 }
 
 #[test]
 fn spellings(rt: HostRuntime) -> Result<(), Fail> {
     for row in &STRINGS {
         let string = InlineExpression::StringLiteral { value: row.0 };
-        is_spelled(rt.alloc(), string, row)?;
+        assert_spelled(rt.alloc(), string, row)?;
     }
     for row in &NUMBERS {
-        is_spelled(rt.alloc(), number(row.0), row)?;
+        assert_spelled(rt.alloc(), number(row.0), row)?;
     }
     for row in &NAMES {
-        is_spelled(rt.alloc(), variable(row.0), row)?;
-        attribute_is_spelled(rt.alloc(), row)?;
+        assert_spelled(rt.alloc(), variable(row.0), row)?;
+        assert_attribute_spelled(rt.alloc(), row)?;
     }
     Ok(())
 }
@@ -284,10 +288,10 @@ type TermRow = (Option<Text>, Found, Found);
 
 const TERMS: [TermRow; 2] = [(Some("a"), Canonical, Neither), (None, Neither, Canonical)];
 
-fn select_is_judged(alloc: Global, row: &DefaultsRow) -> Result<(), Fail> {
+fn assert_select_judged(alloc: Global, row: &DefaultsRow) -> Result<(), Fail> {
     let (defaults, expected) = row;
     let found = judged_select(alloc, variable("x"), *defaults)?;
-    same(
+    assert_same(
         alloc,
         "defaults",
         &(*defaults, found),
@@ -295,21 +299,21 @@ fn select_is_judged(alloc: Global, row: &DefaultsRow) -> Result<(), Fail> {
     )
 }
 
-fn term_is_judged(alloc: Global, row: &TermRow) -> Result<(), Fail> {
+fn assert_term_judged(alloc: Global, row: &TermRow) -> Result<(), Fail> {
     let (attribute, as_selector, in_braces) = row;
     let found = judged_select(alloc, term(*attribute), &[true])?;
-    same(alloc, "a selector", &found, as_selector)?;
+    assert_same(alloc, "a selector", &found, as_selector)?;
     let found = judged_inline(alloc, term(*attribute), Edition::Two)?;
-    same(alloc, "in braces", &found, in_braces)
+    assert_same(alloc, "in braces", &found, in_braces)
 }
 
 #[test]
 fn selects(rt: HostRuntime) -> Result<(), Fail> {
     for row in &DEFAULTS {
-        select_is_judged(rt.alloc(), row)?;
+        assert_select_judged(rt.alloc(), row)?;
     }
     for row in &TERMS {
-        term_is_judged(rt.alloc(), row)?;
+        assert_term_judged(rt.alloc(), row)?;
     }
     Ok(())
 }
@@ -355,20 +359,20 @@ fn arguments(alloc: Global, rows: &[(Text, Text)]) -> Made<CallArguments<Text>> 
     Ok(CallArguments { positional, named })
 }
 
-fn call_is_judged(alloc: Global, row: &Call) -> Result<(), Fail> {
+fn assert_call_judged(alloc: Global, row: &Call) -> Result<(), Fail> {
     let (name, rows, expected) = row;
     let call = InlineExpression::FunctionReference {
         id: id(*name),
         arguments: arguments(alloc, *rows)?,
     };
     let found = judged_inline(alloc, call, Edition::One)?;
-    same(alloc, *name, &(*rows, found), &(*rows, *expected))
+    assert_same(alloc, *name, &(*rows, found), &(*rows, *expected))
 }
 
 #[test]
 fn calls(rt: HostRuntime) -> Result<(), Fail> {
     for row in &CALLS {
-        call_is_judged(rt.alloc(), row)?;
+        assert_call_judged(rt.alloc(), row)?;
     }
     Ok(())
 }

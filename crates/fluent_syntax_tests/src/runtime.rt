@@ -1,7 +1,7 @@
 //! Texts that are read without comments.
 
 use crate::entries::Row;
-use crate::outline::has_outline;
+use crate::outline::assert_outline;
 use fluent_syntax::parser::parse_runtime;
 use std::alloc::Global;
 use std::test::Fail;
@@ -25,15 +25,15 @@ const ROWS: [Row; 4] = [
     ),
 ];
 
-fn is_read(alloc: Global, row: &Row) -> Result<(), Fail> {
+fn assert_read(alloc: Global, row: &Row) -> Result<(), Fail> {
     let (shows, text, expected) = row;
-    has_outline(alloc, *shows, &parse_runtime(alloc, *text), *expected)
+    assert_outline(alloc, *shows, &parse_runtime(alloc, *text), *expected)
 }
 
 #[test]
 fn without_comments(rt: HostRuntime) -> Result<(), Fail> {
     for row in &ROWS {
-        is_read(rt.alloc(), row)?;
+        assert_read(rt.alloc(), row)?;
     }
     Ok(())
 }

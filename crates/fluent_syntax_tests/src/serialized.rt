@@ -1,6 +1,6 @@
 //! Texts, and the texts that their trees are written as.
 
-use crate::alike::same_text;
+use crate::alike::assert_same_text;
 use crate::made::lent_tree;
 use fluent_syntax::serializer::serialize;
 use std::alloc::Global;
@@ -78,16 +78,16 @@ const ROWS: [Row; 14] = [
     ),
 ];
 
-fn is_written(alloc: Global, row: &Row) -> Result<(), Fail> {
+fn assert_written(alloc: Global, row: &Row) -> Result<(), Fail> {
     let (shows, text, expected) = row;
     let written = serialize(alloc, &lent_tree(alloc, *text)?)?;
-    same_text(alloc, *shows, written.as_str(), *expected)
+    assert_same_text(alloc, *shows, written.as_str(), *expected)
 }
 
 #[test]
 fn written(rt: HostRuntime) -> Result<(), Fail> {
     for row in &ROWS {
-        is_written(rt.alloc(), row)?;
+        assert_written(rt.alloc(), row)?;
     }
     Ok(())
 }

@@ -1,7 +1,7 @@
 //! Messages that are read without a tree: which are, and with which parts; and the trees of all.
 
-use crate::alike::{holds, same_text};
-use crate::outline::{has_outline, outlined};
+use crate::alike::{assert_holds, assert_same_text};
+use crate::outline::{assert_outline, outlined};
 use fluent_syntax::ast::Resource;
 use fluent_syntax::parser::{TooDeep, parse, parse_within};
 use fluent_syntax::spans::{parse_spans, resolve};
@@ -202,20 +202,20 @@ fn next_shown(
 }
 
 /// Fails where what is read first by the bound is another.
-fn is_first(alloc: Global, text: &str, nesting: usize, expected: &str) -> Result<(), Fail> {
+fn assert_first(alloc: Global, text: &str, nesting: usize, expected: &str) -> Result<(), Fail> {
     let mut parts = Vec::new(alloc);
     let found = next_shown(alloc, &mut Entries::new(text, within(nesting)), &mut parts)?;
-    same_text(alloc, text, found.as_str(), expected)
+    assert_same_text(alloc, text, found.as_str(), expected)
 }
 
-fn has_parts(alloc: Global, row: &Short) -> Result<(), Fail> {
-    is_first(alloc, row.0, 1, row.1)
+fn assert_parts(alloc: Global, row: &Short) -> Result<(), Fail> {
+    assert_first(alloc, row.0, 1, row.1)
 }
 
 #[test]
 fn texts(rt: HostRuntime) -> Result<(), Fail> {
     for row in &TEXTS {
-        has_parts(rt.alloc(), row)?;
+        assert_parts(rt.alloc(), row)?;
     }
     Ok(())
 }
@@ -223,7 +223,7 @@ fn texts(rt: HostRuntime) -> Result<(), Fail> {
 #[test]
 fn references(rt: HostRuntime) -> Result<(), Fail> {
     for row in &REFERENCES {
-        has_parts(rt.alloc(), row)?;
+        assert_parts(rt.alloc(), row)?;
     }
     Ok(())
 }
@@ -231,7 +231,7 @@ fn references(rt: HostRuntime) -> Result<(), Fail> {
 #[test]
 fn with_a_tree(rt: HostRuntime) -> Result<(), Fail> {
     for row in &OTHERS {
-        is_first(rt.alloc(), row.0, 3, "none")?;
+        assert_first(rt.alloc(), row.0, 3, "none")?;
     }
     Ok(())
 }
@@ -239,7 +239,7 @@ fn with_a_tree(rt: HostRuntime) -> Result<(), Fail> {
 #[test]
 fn refused(rt: HostRuntime) -> Result<(), Fail> {
     for text in &REFUSED {
-        is_first(rt.alloc(), *text, 3, "none")?;
+        assert_first(rt.alloc(), *text, 3, "none")?;
     }
     Ok(())
 }
@@ -252,52 +252,52 @@ fn put_back(alloc: Global, text: &'static str) -> Result<Resource<&'static str>,
     Ok(resolve(alloc, &text, &spans)?)
 }
 
-fn has_tree(alloc: Global, text: &'static str, outline: &str) -> Result<(), Fail> {
-    has_outline(alloc, text, &parse(alloc, text), outline)?;
+fn assert_tree(alloc: Global, text: &'static str, outline: &str) -> Result<(), Fail> {
+    assert_outline(alloc, text, &parse(alloc, text), outline)?;
     let owned = String::from_str(alloc, text)?;
-    has_outline(alloc, text, &parse(alloc, owned), outline)?;
-    has_outline(alloc, text, &Ok(put_back(alloc, text)?), outline)
+    assert_outline(alloc, text, &parse(alloc, owned), outline)?;
+    assert_outline(alloc, text, &Ok(put_back(alloc, text)?), outline)
 }
 
 #[test]
 fn trees(rt: HostRuntime) -> Result<(), Fail> {
     for row in &TEXTS {
-        has_tree(rt.alloc(), row.0, row.2)?;
+        assert_tree(rt.alloc(), row.0, row.2)?;
     }
     for row in &REFERENCES {
-        has_tree(rt.alloc(), row.0, row.2)?;
+        assert_tree(rt.alloc(), row.0, row.2)?;
     }
     for row in &OTHERS {
-        has_tree(rt.alloc(), row.0, row.1)?;
+        assert_tree(rt.alloc(), row.0, row.1)?;
     }
     Ok(())
 }
 
 /// Fails where a bound of 1 changes what is read.
-fn nests_once(alloc: Global, text: &'static str) -> Result<(), Fail> {
+fn assert_nests_once(alloc: Global, text: &'static str) -> Result<(), Fail> {
     let Ok(answer) = parse_within(alloc, text, Edition::One, 1) else {
         return Err("a placeable was too deep".into());
     };
     let unbounded = outlined(alloc, &parse(alloc, text))?;
-    has_outline(alloc, text, &answer, unbounded.as_str())
+    assert_outline(alloc, text, &answer, unbounded.as_str())
 }
 
 /// A reference nests once. Where nothing may nest, nothing is read without a tree.
-fn is_bounded(alloc: Global, row: &Short) -> Result<(), Fail> {
+fn assert_bounded(alloc: Global, row: &Short) -> Result<(), Fail> {
     let text = row.0;
-    is_first(alloc, text, 0, "none")?;
+    assert_first(alloc, text, 0, "none")?;
     let is_refused = parse_within(alloc, text, Edition::One, 0) == Err(TooDeep);
-    holds(alloc, text, is_refused)?;
-    nests_once(alloc, text)
+    assert_holds(alloc, text, is_refused)?;
+    assert_nests_once(alloc, text)
 }
 
 #[test]
 fn bounds(rt: HostRuntime) -> Result<(), Fail> {
     for row in &TEXTS {
-        is_first(rt.alloc(), row.0, 0, "none")?;
+        assert_first(rt.alloc(), row.0, 0, "none")?;
     }
     for row in &REFERENCES {
-        is_bounded(rt.alloc(), row)?;
+        assert_bounded(rt.alloc(), row)?;
     }
     Ok(())
 }
@@ -308,17 +308,17 @@ fn one_behind_another(rt: HostRuntime) -> Result<(), Fail> {
     let mut parts = Vec::new(alloc);
     let mut entries = Entries::new("a = b \n    .c = d\n-e = f\ng = h\n", within(1));
     let first = next_shown(alloc, &mut entries, &mut parts)?;
-    same_text(
+    assert_same_text(
         alloc,
         "the first",
         first.as_str(),
         "0..1 4..5 .12..13 16..17",
     )?;
     let none = next_shown(alloc, &mut entries, &mut parts)?;
-    same_text(alloc, "a term", none.as_str(), "none")?;
-    holds(alloc, "the term", entries.next_entry(alloc).is_ok())?;
+    assert_same_text(alloc, "a term", none.as_str(), "none")?;
+    assert_holds(alloc, "the term", entries.next_entry(alloc).is_ok())?;
     let last = next_shown(alloc, &mut entries, &mut parts)?;
-    same_text(alloc, "the last", last.as_str(), "25..26 29..30")
+    assert_same_text(alloc, "the last", last.as_str(), "25..26 29..30")
 }
 
 #[test]
@@ -327,15 +327,15 @@ fn placeables_behind_another(rt: HostRuntime) -> Result<(), Fail> {
     let mut parts = Vec::new(alloc);
     let mut entries = Entries::new("a = {b} c {F()}\nd = {$e}f\ng = h\n", within(2));
     let call = next_shown(alloc, &mut entries, &mut parts)?;
-    same_text(alloc, "a call", call.as_str(), "none")?;
-    holds(alloc, "the call", entries.next_entry(alloc).is_ok())?;
+    assert_same_text(alloc, "a call", call.as_str(), "none")?;
+    assert_holds(alloc, "the call", entries.next_entry(alloc).is_ok())?;
     let second = next_shown(alloc, &mut entries, &mut parts)?;
-    same_text(
+    assert_same_text(
         alloc,
         "the second",
         second.as_str(),
         "16..17 $22..23 24..25",
     )?;
     let last = next_shown(alloc, &mut entries, &mut parts)?;
-    same_text(alloc, "the last", last.as_str(), "26..27 30..31")
+    assert_same_text(alloc, "the last", last.as_str(), "26..27 30..31")
 }

@@ -1,7 +1,7 @@
 //! Sinks that refuse a piece: they hold a beginning of the text.
 ghost use Rattle.std.specs.Prelude.{◌≡◌, ◌+◌, ◌≤◌, string_bytes, string_capacity, string_len};
 
-use crate::alike::holds;
+use crate::alike::assert_holds;
 use crate::json_text::json_text;
 use crate::made::{Text, lent_tree};
 use fluent_syntax::ast::Resource;
@@ -129,7 +129,7 @@ impl Small {
     }
 }
 
-fn is_unescaped_within_4(
+fn assert_unescaped_within_4(
     alloc: Global,
     text: &str,
     whole: &str,
@@ -137,13 +137,13 @@ fn is_unescaped_within_4(
 ) -> Result<(), Fail> {
     let mut sink = Small::new(alloc, 4)?;
     let written = unescape_unicode(&mut sink, text);
-    holds(alloc, text, sink.holds_its_part(whole, written, answer))
+    assert_holds(alloc, text, sink.holds_its_part(whole, written, answer))
 }
 
 #[test]
 fn an_escaped_text_to_a_sink_of_four_bytes(rt: HostRuntime) -> Result<(), Fail> {
-    is_unescaped_within_4(rt.alloc(), "ab\\u00e9", "abé", Ok(()))?;
-    is_unescaped_within_4(rt.alloc(), "abc\\u00e9", "abcé", Err(SinkError))
+    assert_unescaped_within_4(rt.alloc(), "ab\\u00e9", "abé", Ok(()))?;
+    assert_unescaped_within_4(rt.alloc(), "abc\\u00e9", "abcé", Err(SinkError))
 }
 
 const TEXTS: [&str; 6] = [
@@ -174,7 +174,7 @@ fn tree_is_refused(
 ) -> Result<bool, Fail> {
     let mut sink = Refusing::new(alloc, before);
     let written = serialize_to(&mut sink, tree, Options { with_junk: true });
-    holds(alloc, whole, sink.holds_its_part(whole, written))?;
+    assert_holds(alloc, whole, sink.holds_its_part(whole, written))?;
     Ok(sink.has_refused)
 }
 
@@ -191,22 +191,22 @@ fn tree_is_refused_at_a_piece(
     Ok(has_refused)
 }
 
-fn is_written_to_sinks_that_refuse(alloc: Global, text: Text) -> Result<(), Fail> {
+fn assert_written_to_sinks_that_refuse(alloc: Global, text: Text) -> Result<(), Fail> {
     let tree = lent_tree(alloc, text)?;
     let whole = serialize_with_options(alloc, &tree, Options { with_junk: true })?;
     let has_refused = tree_is_refused_at_a_piece(alloc, &tree, whole.as_str())?;
-    holds(alloc, text, has_refused != whole.is_empty())
+    assert_holds(alloc, text, has_refused != whole.is_empty())
 }
 
 #[test]
 fn a_tree_to_a_sink_that_refuses(rt: HostRuntime) -> Result<(), Fail> {
     for text in &TEXTS {
-        is_written_to_sinks_that_refuse(rt.alloc(), *text)?;
+        assert_written_to_sinks_that_refuse(rt.alloc(), *text)?;
     }
     Ok(())
 }
 
-fn json_text_leaves_a_beginning(
+fn assert_json_text_leaves_a_beginning(
     alloc: Global,
     tree: &Resource<Text>,
     whole: &str,
@@ -214,30 +214,30 @@ fn json_text_leaves_a_beginning(
 ) -> Result<(), Fail> {
     let mut sink = Refusing::new(alloc, before);
     let written = write_to(&mut sink, tree);
-    holds(alloc, whole, sink.holds_its_part(whole, written))
+    assert_holds(alloc, whole, sink.holds_its_part(whole, written))
 }
 
-fn json_text_leaves_beginnings(
+fn assert_json_text_leaves_beginnings(
     alloc: Global,
     tree: &Resource<Text>,
     whole: &str,
 ) -> Result<(), Fail> {
     for before in 0..whole.len() {
-        json_text_leaves_a_beginning(alloc, tree, whole, before)?;
+        assert_json_text_leaves_a_beginning(alloc, tree, whole, before)?;
     }
     Ok(())
 }
 
-fn is_json_to_sinks_that_refuse(alloc: Global, text: Text) -> Result<(), Fail> {
+fn assert_json_to_sinks_that_refuse(alloc: Global, text: Text) -> Result<(), Fail> {
     let tree = lent_tree(alloc, text)?;
     let whole = json_text(alloc, &tree)?;
-    json_text_leaves_beginnings(alloc, &tree, whole.as_str())
+    assert_json_text_leaves_beginnings(alloc, &tree, whole.as_str())
 }
 
 #[test]
 fn a_json_text_to_a_sink_that_refuses(rt: HostRuntime) -> Result<(), Fail> {
     for text in &TEXTS {
-        is_json_to_sinks_that_refuse(rt.alloc(), *text)?;
+        assert_json_to_sinks_that_refuse(rt.alloc(), *text)?;
     }
     Ok(())
 }
@@ -248,26 +248,30 @@ const QUOTE: (Text, &str) = (
     "{\"body\":[{\"content\":\"\\\"\",\"type\":\"Junk\"}]}",
 );
 
-fn is_json_within(alloc: Global, room: usize, answer: Result<(), SinkError>) -> Result<(), Fail> {
+fn assert_json_within(
+    alloc: Global,
+    room: usize,
+    answer: Result<(), SinkError>,
+) -> Result<(), Fail> {
     let tree = lent_tree(alloc, QUOTE.0)?;
     let mut sink = Small::new(alloc, room)?;
     let written = write_to(&mut sink, &tree);
-    holds(alloc, "room", sink.holds_its_part(QUOTE.1, written, answer))
+    assert_holds(alloc, "room", sink.holds_its_part(QUOTE.1, written, answer))
 }
 
 #[test]
 fn a_json_text_to_a_sink_of_a_few_bytes(rt: HostRuntime) -> Result<(), Fail> {
     let size = QUOTE.1.len();
-    is_json_within(rt.alloc(), 4, Err(SinkError))?;
-    is_json_within(rt.alloc(), size - 1, Err(SinkError))?;
-    is_json_within(rt.alloc(), size, Ok(()))
+    assert_json_within(rt.alloc(), 4, Err(SinkError))?;
+    assert_json_within(rt.alloc(), size - 1, Err(SinkError))?;
+    assert_json_within(rt.alloc(), size, Ok(()))
 }
 
 /// What unescaping tells where the sink refuses its piece of that number: whether it has refused one.
 fn text_is_refused(alloc: Global, text: &str, whole: &str, before: usize) -> Result<bool, Fail> {
     let mut sink = Refusing::new(alloc, before);
     let written = unescape_unicode(&mut sink, text);
-    holds(alloc, text, sink.holds_its_part(whole, written))?;
+    assert_holds(alloc, text, sink.holds_its_part(whole, written))?;
     Ok(sink.has_refused)
 }
 
@@ -280,16 +284,16 @@ fn text_is_refused_at_a_piece(alloc: Global, text: &str, whole: &str) -> Result<
     Ok(has_refused)
 }
 
-fn is_unescaped_to_sinks_that_refuse(alloc: Global, text: &str) -> Result<(), Fail> {
+fn assert_unescaped_to_sinks_that_refuse(alloc: Global, text: &str) -> Result<(), Fail> {
     let whole = unescape_unicode_to_string(alloc, text)?.into_owned(alloc)?;
     let has_refused = text_is_refused_at_a_piece(alloc, text, whole.as_str())?;
-    holds(alloc, text, has_refused != whole.is_empty())
+    assert_holds(alloc, text, has_refused != whole.is_empty())
 }
 
 #[test]
 fn an_escaped_text_to_a_sink_that_refuses(rt: HostRuntime) -> Result<(), Fail> {
     for text in &ESCAPED {
-        is_unescaped_to_sinks_that_refuse(rt.alloc(), *text)?;
+        assert_unescaped_to_sinks_that_refuse(rt.alloc(), *text)?;
     }
     Ok(())
 }

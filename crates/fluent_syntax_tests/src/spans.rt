@@ -1,8 +1,8 @@
 //! Texts, and the ranges that they are read as.
 
-use crate::alike::same;
+use crate::alike::assert_same;
 use crate::entries::Row;
-use crate::outline::has_outline;
+use crate::outline::assert_outline;
 use fluent_syntax::parser::Edition;
 use fluent_syntax::spans::{
     line_column, parse_runtime_spans, parse_runtime_spans_edition, parse_spans, parse_spans_edition,
@@ -30,15 +30,15 @@ const ROWS: [Row; 5] = [
     ("a hung comment", "# a\nkey = c", "4..7 = 10..11 | # 2..3\n"),
 ];
 
-fn is_read(alloc: Global, row: &Row) -> Result<(), Fail> {
+fn assert_read(alloc: Global, row: &Row) -> Result<(), Fail> {
     let (shows, text, expected) = row;
-    has_outline(alloc, *shows, &parse_spans(alloc, *text), *expected)
+    assert_outline(alloc, *shows, &parse_spans(alloc, *text), *expected)
 }
 
 #[test]
 fn spans(rt: HostRuntime) -> Result<(), Fail> {
     for row in &ROWS {
-        is_read(rt.alloc(), row)?;
+        assert_read(rt.alloc(), row)?;
     }
     Ok(())
 }
@@ -46,7 +46,7 @@ fn spans(rt: HostRuntime) -> Result<(), Fail> {
 #[test]
 fn without_comments(rt: HostRuntime) -> Result<(), Fail> {
     let answer = parse_runtime_spans(rt.alloc(), "#x\nkey = a");
-    has_outline(rt.alloc(), "a comment", &answer, "3..6 = 9..10\n")
+    assert_outline(rt.alloc(), "a comment", &answer, "3..6 = 9..10\n")
 }
 
 /// A text whose placeable stands beyond the common indent, and its outline in edition two.
@@ -55,24 +55,24 @@ const INDENTED: (&str, &str) = (
     "0..3 = 10..12 16..18 {19..20}\n",
 );
 
-fn with_comments(alloc: Global) -> Result<(), Fail> {
+fn assert_with_comments(alloc: Global) -> Result<(), Fail> {
     let answer = parse_spans_edition(alloc, INDENTED.0, Edition::Two);
-    has_outline(alloc, "with comments", &answer, INDENTED.1)
+    assert_outline(alloc, "with comments", &answer, INDENTED.1)
 }
 
-fn of_runtime(alloc: Global) -> Result<(), Fail> {
+fn assert_of_runtime(alloc: Global) -> Result<(), Fail> {
     let answer = parse_runtime_spans_edition(alloc, INDENTED.0, Edition::Two);
-    has_outline(alloc, "without comments", &answer, INDENTED.1)
+    assert_outline(alloc, "without comments", &answer, INDENTED.1)
 }
 
 #[test]
 fn edition_two(rt: HostRuntime) -> Result<(), Fail> {
-    with_comments(rt.alloc())?;
-    of_runtime(rt.alloc())
+    assert_with_comments(rt.alloc())?;
+    assert_of_runtime(rt.alloc())
 }
 
 #[test]
 fn lines_and_columns(rt: HostRuntime) -> Result<(), Fail> {
-    same(rt.alloc(), "nothing", &line_column("", 0), &(1, 1))?;
-    same(rt.alloc(), "line two", &line_column("a\né", 4), &(2, 3))
+    assert_same(rt.alloc(), "nothing", &line_column("", 0), &(1, 1))?;
+    assert_same(rt.alloc(), "line two", &line_column("a\né", 4), &(2, 3))
 }

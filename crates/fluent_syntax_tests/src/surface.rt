@@ -6,7 +6,6 @@ use fluent_syntax::serializer::Options;
 use fluent_syntax::spans::Span;
 use fluent_syntax::unicode::{SinkError, TextSink};
 use fluent_syntax_json::ValueFault;
-use ftl::{Command, Outcome, RunFault};
 use std::error::Error;
 use std::fmt::{Debug, Display};
 
@@ -67,7 +66,4 @@ fn small_values() {
     has_default::<Options>();
     has_copy::<Span>();
     has_copy::<Edition>();
-    has_partial_eq::<Command>();
-    has_partial_eq::<Outcome>();
-    has_partial_eq::<RunFault>();
 }

@@ -1,6 +1,6 @@
 //! Trees compared, and the same tree over both types of texts.
 
-use crate::alike::{holds, same_text};
+use crate::alike::{assert_holds, assert_same_text};
 use crate::made::owned_tree_without_errors;
 use crate::outline::outlined;
 use fluent_syntax::ast::*;
@@ -30,25 +30,25 @@ fn is_told_apart(alloc: Global) -> Result<bool, Fail> {
 #[test]
 fn equal_texts(rt: HostRuntime) -> Result<(), Fail> {
     let alloc = rt.alloc();
-    holds(alloc, "equal texts", is_told_apart(alloc)?)?;
+    assert_holds(alloc, "equal texts", is_told_apart(alloc)?)?;
     let empty: CallArguments<String> = CallArguments::empty(alloc);
     let has_none = empty.positional.is_empty() && empty.named.is_empty();
-    holds(alloc, "no arguments", has_none)
+    assert_holds(alloc, "no arguments", has_none)
 }
 
-fn is_one_answer(alloc: Global, text: &'static str) -> Result<(), Fail> {
+fn assert_one_answer(alloc: Global, text: &'static str) -> Result<(), Fail> {
     let lent = parse(alloc, text);
     let owned = parse(alloc, String::from_str(alloc, text)?);
     same_answers(text, Edition::One, &lent, &owned);
     let lent_outline = outlined(alloc, &lent)?;
     let owned_outline = outlined(alloc, &owned)?;
-    same_text(alloc, text, owned_outline.as_str(), lent_outline.as_str())
+    assert_same_text(alloc, text, owned_outline.as_str(), lent_outline.as_str())
 }
 
 #[test]
 fn one_answer_over_both_types_of_texts(rt: HostRuntime) -> Result<(), Fail> {
-    is_one_answer(rt.alloc(), TEXT)?;
-    is_one_answer(rt.alloc(), JUNK)
+    assert_one_answer(rt.alloc(), TEXT)?;
+    assert_one_answer(rt.alloc(), JUNK)
 }
 
 /// The tree of spans of the text, with the text's bytes put back.
@@ -63,7 +63,7 @@ fn put_back(alloc: Global) -> Result<Resource<String>, Fail> {
 #[test]
 fn spans_put_back(rt: HostRuntime) -> Result<(), Fail> {
     let is_whole = put_back(rt.alloc())? == owned_tree_without_errors(rt.alloc(), TEXT)?;
-    holds(rt.alloc(), "the same tree", is_whole)
+    assert_holds(rt.alloc(), "the same tree", is_whole)
 }
 
 const FLAT: [&str; 3] = ["", "a\r\nb", "key = a\nb = c"];
@@ -83,10 +83,10 @@ const NOT_FLAT: [&str; 9] = [
 #[test]
 fn flat_texts(rt: HostRuntime) -> Result<(), Fail> {
     for text in &FLAT {
-        holds(rt.alloc(), *text, is_flat(*text))?;
+        assert_holds(rt.alloc(), *text, is_flat(*text))?;
     }
     for text in &NOT_FLAT {
-        holds(rt.alloc(), *text, !is_flat(*text))?;
+        assert_holds(rt.alloc(), *text, !is_flat(*text))?;
     }
     Ok(())
 }

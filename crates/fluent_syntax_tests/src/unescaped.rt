@@ -1,6 +1,6 @@
 //! Unescaped texts.
 
-use crate::alike::{holds, same_text};
+use crate::alike::{assert_holds, assert_same_text};
 use fluent_syntax::unicode::{unescape_unicode, unescape_unicode_to_string};
 use std::alloc::{AllocError, Global};
 use std::borrow::CowStr;
@@ -13,9 +13,9 @@ fn unescape(alloc: Global, input: &str) -> Result<String, AllocError> {
 /// A text, and what it stands for.
 type Row = (&'static str, &'static str);
 
-fn is_unescaped(alloc: Global, row: &Row) -> Result<(), Fail> {
+fn assert_unescaped(alloc: Global, row: &Row) -> Result<(), Fail> {
     let (input, expected) = row;
-    same_text(alloc, *input, unescape(alloc, *input)?.as_str(), *expected)
+    assert_same_text(alloc, *input, unescape(alloc, *input)?.as_str(), *expected)
 }
 
 /// Escapes and what they stand for.
@@ -28,18 +28,18 @@ const ESCAPES: [Row; 5] = [
 ];
 
 /// Fails where the text is not unescaped onto a sink.
-fn is_appended(alloc: Global, input: &str, expected: &str) -> Result<(), Fail> {
+fn assert_appended(alloc: Global, input: &str, expected: &str) -> Result<(), Fail> {
     let mut text = String::new(alloc);
     let is_whole = unescape_unicode(&mut text, input).is_ok();
-    holds(alloc, input, is_whole && text.as_str() == expected)
+    assert_holds(alloc, input, is_whole && text.as_str() == expected)
 }
 
 #[test]
 fn reads_escapes(rt: HostRuntime) -> Result<(), Fail> {
     for row in &ESCAPES {
-        is_unescaped(rt.alloc(), row)?;
+        assert_unescaped(rt.alloc(), row)?;
     }
-    is_appended(rt.alloc(), "Foo \\U01F60A Bar", "Foo 😊 Bar")
+    assert_appended(rt.alloc(), "Foo \\U01F60A Bar", "Foo 😊 Bar")
 }
 
 /// What is no escape, and what is given for it.
@@ -61,7 +61,7 @@ const BAD_ESCAPES: [Row; 12] = [
 #[test]
 fn replaces_bad_escapes(rt: HostRuntime) -> Result<(), Fail> {
     for row in &BAD_ESCAPES {
-        is_unescaped(rt.alloc(), row)?;
+        assert_unescaped(rt.alloc(), row)?;
     }
     Ok(())
 }
@@ -77,6 +77,6 @@ fn is_borrowed(alloc: Global, input: &str) -> Result<bool, AllocError> {
 #[test]
 fn borrows_without_a_backslash(rt: HostRuntime) -> Result<(), Fail> {
     let alloc = rt.alloc();
-    holds(alloc, "Foo", is_borrowed(alloc, "Foo")?)?;
-    holds(alloc, "no text", is_borrowed(alloc, "")?)
+    assert_holds(alloc, "Foo", is_borrowed(alloc, "Foo")?)?;
+    assert_holds(alloc, "no text", is_borrowed(alloc, "")?)
 }

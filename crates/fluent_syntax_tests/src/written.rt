@@ -1,6 +1,6 @@
 //! Written texts of trees that were made by hand.
 
-use crate::alike::same_text;
+use crate::alike::assert_same_text;
 use crate::made::{
     Made, Text, attributed, comment, id, message, number, one, pattern, placed, reference, valued,
     variable,
@@ -56,24 +56,28 @@ fn tree(alloc: Global, rows: &[Row]) -> Made<Resource<Text>> {
 }
 
 /// Fails where the tree is written otherwise.
-fn is_written(alloc: Global, tree: &Resource<Text>, expected: &str) -> Result<(), Fail> {
+fn assert_written(alloc: Global, tree: &Resource<Text>, expected: &str) -> Result<(), Fail> {
     let written = serialize(alloc, tree)?;
-    same_text(alloc, "written", written.as_str(), expected)
+    assert_same_text(alloc, "written", written.as_str(), expected)
 }
 
 /// Fails where the tree of the one entry is written otherwise.
-fn entry_is_written(alloc: Global, entry: Made<Entry<Text>>, expected: &str) -> Result<(), Fail> {
+fn assert_entry_written(
+    alloc: Global,
+    entry: Made<Entry<Text>>,
+    expected: &str,
+) -> Result<(), Fail> {
     let tree = one(alloc, entry?)?;
-    is_written(alloc, &tree, expected)
+    assert_written(alloc, &tree, expected)
 }
 
 /// Fails where a message `key` that is a placeable of the inline expression is written otherwise.
-fn inline_is_written(
+fn assert_inline_written(
     alloc: Global,
     inline: Made<InlineExpression<Text>>,
     expected: &str,
 ) -> Result<(), Fail> {
-    entry_is_written(alloc, placed(alloc, Expression::Inline(inline?)), expected)
+    assert_entry_written(alloc, placed(alloc, Expression::Inline(inline?)), expected)
 }
 
 /// The name of a message, the elements of its value, and its written text.
@@ -98,18 +102,18 @@ const MESSAGES: [Named; 4] = [
     ),
 ];
 
-fn message_is_written(alloc: Global, row: &Named) -> Result<(), Fail> {
+fn assert_message_written(alloc: Global, row: &Named) -> Result<(), Fail> {
     let (name, elements, expected) = row;
-    entry_is_written(alloc, valued(alloc, *name, *elements), *expected)
+    assert_entry_written(alloc, valued(alloc, *name, *elements), *expected)
 }
 
 #[test]
 fn writes_messages(rt: HostRuntime) -> Result<(), Fail> {
     for row in &MESSAGES {
-        message_is_written(rt.alloc(), row)?;
+        assert_message_written(rt.alloc(), row)?;
     }
     let attribute = attributed(rt.alloc(), "a", &["x\n", "y"]);
-    entry_is_written(
+    assert_entry_written(
         rt.alloc(),
         attribute,
         "k =\n    .a =\n        x\n        y\n",
@@ -126,10 +130,10 @@ const MARKED: [Named; 3] = [
 #[test]
 fn writes_leading_marks_readably(rt: HostRuntime) -> Result<(), Fail> {
     for row in &MARKED {
-        message_is_written(rt.alloc(), row)?;
+        assert_message_written(rt.alloc(), row)?;
     }
     let attribute = attributed(rt.alloc(), "t", &[".a\n", "b"]);
-    entry_is_written(rt.alloc(), attribute, "k =\n    .t = .a\n        b\n")
+    assert_entry_written(rt.alloc(), attribute, "k =\n    .t = .a\n        b\n")
 }
 
 fn string(value: Text) -> InlineExpression<Text> {
@@ -193,14 +197,14 @@ fn numbers(alloc: Global) -> Made<InlineExpression<Text>> {
 #[test]
 fn writes_expressions(rt: HostRuntime) -> Result<(), Fail> {
     let alloc = rt.alloc();
-    inline_is_written(alloc, numbers(alloc), "key = { F(1, 2) }\n")?;
+    assert_inline_written(alloc, numbers(alloc), "key = { F(1, 2) }\n")?;
     let mixed = "key = { FUNC($v, \"l\", style: \"long\") }\n";
-    inline_is_written(alloc, mixed_call(alloc), mixed)?;
+    assert_inline_written(alloc, mixed_call(alloc), mixed)?;
     let attribute = reference("foo", Some(id("bar")));
-    inline_is_written(alloc, Ok(attribute), "key = { foo.bar }\n")?;
+    assert_inline_written(alloc, Ok(attribute), "key = { foo.bar }\n")?;
     let inner = nested(alloc, Expression::Inline(variable("x")));
-    inline_is_written(alloc, inner, "key = {{ $x }}\n")?;
-    inline_is_written(alloc, term_with_argument(alloc), "key = { -t.a(1) }\n")
+    assert_inline_written(alloc, inner, "key = {{ $x }}\n")?;
+    assert_inline_written(alloc, term_with_argument(alloc), "key = { -t.a(1) }\n")
 }
 
 /// A select by the variable, whose variants have these keys and texts; the last is the default.
@@ -244,17 +248,17 @@ fn tree_of_select(alloc: Global, row: &Select) -> Made<Resource<Text>> {
     one(alloc, placed(alloc, select)?)
 }
 
-fn select_is_written(alloc: Global, row: &Select) -> Result<(), Fail> {
-    is_written(alloc, &tree_of_select(alloc, row)?, row.2)
+fn assert_select_written(alloc: Global, row: &Select) -> Result<(), Fail> {
+    assert_written(alloc, &tree_of_select(alloc, row)?, row.2)
 }
 
 #[test]
 fn writes_selects(rt: HostRuntime) -> Result<(), Fail> {
     for row in &SELECTS {
-        select_is_written(rt.alloc(), row)?;
+        assert_select_written(rt.alloc(), row)?;
     }
     let of_select = "key = { F({$x ->\n   *[a] b\n}) }\n";
-    inline_is_written(rt.alloc(), call_of_select(rt.alloc()), of_select)
+    assert_inline_written(rt.alloc(), call_of_select(rt.alloc()), of_select)
 }
 
 /// Entries, their written text without junk, and that with junk.
@@ -284,22 +288,26 @@ const ENTRIES: [Entries; 5] = [
     (&[Row::Term("v")], "-t = v\n", "-t = v\n"),
 ];
 
-fn is_written_with_junk(alloc: Global, tree: &Resource<Text>, expected: &str) -> Result<(), Fail> {
+fn assert_written_with_junk(
+    alloc: Global,
+    tree: &Resource<Text>,
+    expected: &str,
+) -> Result<(), Fail> {
     let written = serialize_with_options(alloc, tree, Options { with_junk: true })?;
-    same_text(alloc, "with junk", written.as_str(), expected)
+    assert_same_text(alloc, "with junk", written.as_str(), expected)
 }
 
-fn are_written(alloc: Global, row: &Entries) -> Result<(), Fail> {
+fn assert_all_written(alloc: Global, row: &Entries) -> Result<(), Fail> {
     let (rows, without_junk, with_junk) = row;
     let tree = tree(alloc, *rows)?;
-    is_written(alloc, &tree, *without_junk)?;
-    is_written_with_junk(alloc, &tree, *with_junk)
+    assert_written(alloc, &tree, *without_junk)?;
+    assert_written_with_junk(alloc, &tree, *with_junk)
 }
 
 #[test]
 fn writes_entries(rt: HostRuntime) -> Result<(), Fail> {
     for row in &ENTRIES {
-        are_written(rt.alloc(), row)?;
+        assert_all_written(rt.alloc(), row)?;
     }
     Ok(())
 }
@@ -314,7 +322,7 @@ fn written_behind(alloc: Global, held: &str, tree: &Resource<Text>) -> Result<St
 }
 
 /// Fails where the tree is written otherwise behind what the sink holds.
-fn is_written_behind(
+fn assert_written_behind(
     alloc: Global,
     held: &str,
     tree: &Resource<Text>,
@@ -322,26 +330,26 @@ fn is_written_behind(
 ) -> Result<(), Fail> {
     let sink = written_behind(alloc, held, tree)?;
     match sink.as_str().strip_prefix(held) {
-        Some(behind) => same_text(alloc, held, behind, expected),
+        Some(behind) => assert_same_text(alloc, held, behind, expected),
         None => Err("what the sink held is gone".into()),
     }
 }
 
-fn select_is_written_behind(alloc: Global, row: &Select) -> Result<(), Fail> {
-    is_written_behind(alloc, "x", &tree_of_select(alloc, row)?, row.2)
+fn assert_select_written_behind(alloc: Global, row: &Select) -> Result<(), Fail> {
+    assert_written_behind(alloc, "x", &tree_of_select(alloc, row)?, row.2)
 }
 
-fn empty_comment_is_written(alloc: Global) -> Result<(), Fail> {
+fn assert_empty_comment_written(alloc: Global) -> Result<(), Fail> {
     let empty = one(alloc, Entry::Comment(comment(alloc, &[])?))?;
-    is_written(alloc, &empty, "\n")?;
-    is_written_behind(alloc, "\r", &empty, "\n")
+    assert_written(alloc, &empty, "\n")?;
+    assert_written_behind(alloc, "\r", &empty, "\n")
 }
 
 #[test]
 fn writes_after_what_a_sink_holds(rt: HostRuntime) -> Result<(), Fail> {
-    empty_comment_is_written(rt.alloc())?;
+    assert_empty_comment_written(rt.alloc())?;
     for row in &SELECTS {
-        select_is_written_behind(rt.alloc(), row)?;
+        assert_select_written_behind(rt.alloc(), row)?;
     }
     Ok(())
 }
@@ -349,6 +357,6 @@ fn writes_after_what_a_sink_holds(rt: HostRuntime) -> Result<(), Fail> {
 #[test]
 fn writes_a_line_end_behind_a_cr(rt: HostRuntime) -> Result<(), Fail> {
     let cr = tree(rt.alloc(), &[Row::Comment("a\r")])?;
-    is_written(rt.alloc(), &cr, "# a\r\r\n\n")?;
-    is_written_behind(rt.alloc(), "", &cr, "# a\r\r\n\n")
+    assert_written(rt.alloc(), &cr, "# a\r\r\n\n")?;
+    assert_written_behind(rt.alloc(), "", &cr, "# a\r\r\n\n")
 }

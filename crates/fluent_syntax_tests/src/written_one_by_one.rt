@@ -1,7 +1,7 @@
 //! Entries that are written one by one.
 ghost use Rattle.std.specs.Prelude.{string_bytes};
 
-use crate::alike::same_text;
+use crate::alike::assert_same_text;
 use crate::made::{Made, Text, comment, valued};
 use fluent_syntax::ast::Entry;
 use fluent_syntax::parser::{parse, recovered};
@@ -41,31 +41,31 @@ const ROWS: [(&str, &str, &str); 6] = [
 ];
 
 /// Fails where the entries are written as another text.
-fn is_written(
+fn assert_written(
     alloc: Global,
     entries: &[Entry<&str>],
     with_junk: bool,
     expected: &str,
 ) -> Result<(), Fail> {
     let text = written(alloc, entries, with_junk)?;
-    same_text(alloc, expected, text.as_str(), expected)
+    assert_same_text(alloc, expected, text.as_str(), expected)
 }
 
-fn are_entries_of(
+fn assert_entries_of(
     alloc: Global,
     text: &str,
     without_junk: &str,
     with_junk: &str,
 ) -> Result<(), Fail> {
     let (tree, _errors) = recovered(alloc, parse(alloc, text))?;
-    is_written(alloc, &tree.body, false, without_junk)?;
-    is_written(alloc, &tree.body, true, with_junk)
+    assert_written(alloc, &tree.body, false, without_junk)?;
+    assert_written(alloc, &tree.body, true, with_junk)
 }
 
 #[test]
 fn entries_of_texts(rt: HostRuntime) -> Result<(), Fail> {
     for (text, without_junk, with_junk) in ROWS {
-        are_entries_of(rt.alloc(), text, without_junk, with_junk)?;
+        assert_entries_of(rt.alloc(), text, without_junk, with_junk)?;
     }
     Ok(())
 }
@@ -92,8 +92,8 @@ fn entries_behind(alloc: Global, content: Text) -> Made<Vec<Entry<Text>>> {
 fn a_line_end_behind_a_cr(rt: HostRuntime) -> Result<(), Fail> {
     let alloc = rt.alloc();
     let entries = entries_behind(alloc, "a\r")?;
-    is_written(alloc, &entries, true, "a\r\r\nk = v\n")?;
-    is_written(alloc, &entries, false, "\nk = v\n")
+    assert_written(alloc, &entries, true, "a\r\r\nk = v\n")?;
+    assert_written(alloc, &entries, false, "\nk = v\n")
 }
 
 /// A sink that refuses what would make its text longer than so many bytes, and counts the pieces that come then.
@@ -155,7 +155,7 @@ fn ends_at(alloc: Global, entries: &[Entry<&str>], most: usize, whole: &str) -> 
         && taken.is_ok() == (whole.len() <= most)
 }
 
-fn are_refused_in_order(alloc: Global, text: &str) -> Result<(), Fail> {
+fn assert_refused_in_order(alloc: Global, text: &str) -> Result<(), Fail> {
     let (tree, _errors) = recovered(alloc, parse(alloc, text))?;
     let whole = serialize_with_options(alloc, &tree, Options { with_junk: true })?;
     for most in 0..=whole.len() {
@@ -169,7 +169,7 @@ fn are_refused_in_order(alloc: Global, text: &str) -> Result<(), Fail> {
 #[test]
 fn entries_to_a_sink_that_refuses(rt: HostRuntime) -> Result<(), Fail> {
     for (text, _, _) in ROWS {
-        are_refused_in_order(rt.alloc(), text)?;
+        assert_refused_in_order(rt.alloc(), text)?;
     }
     Ok(())
 }

@@ -1,6 +1,6 @@
 //! Readers and writers that fail, and how a run meets them.
 
-use crate::alike::holds;
+use fluent_syntax_tests::alike::assert_holds;
 use ftl::{Command, Outcome, RunFault, Watched, run};
 use std::alloc::Global;
 use std::io::{self, Read, Write};
@@ -117,7 +117,7 @@ const INPUT: &str = "\nkey1 = Value 1\n\ng@Rb@ge = #2y ds\n\nkey2 = Value 2\n\n"
 
 const OUTPUT: &str = "key1 = Value 1\nkey2 = Value 2\n";
 
-fn fails_after(alloc: Global, reads: usize) -> Result<(), Fail> {
+fn assert_fails_after(alloc: Global, reads: usize) -> Result<(), Fail> {
     let reader = Drip {
         bytes: INPUT.as_bytes(),
         reads,
@@ -125,19 +125,19 @@ fn fails_after(alloc: Global, reads: usize) -> Result<(), Fail> {
     let writer = Narrow::wide(alloc);
     let end = Err(RunFault::Input);
     let is_so = ends_so(alloc, Command::Format, reader, writer, end, &[]);
-    holds(alloc, "a failing read", is_so)
+    assert_holds(alloc, "a failing read", is_so)
 }
 
 #[test]
 fn a_failing_read_writes_nothing(rt: HostRuntime) -> Result<(), Fail> {
     for reads in 0..INPUT.len() + 1 {
-        fails_after(rt.alloc(), reads)?;
+        assert_fails_after(rt.alloc(), reads)?;
     }
     Ok(())
 }
 
 /// Fails where formatting the input ends otherwise, or has written other bytes.
-fn is_formatted(
+fn assert_formatted(
     alloc: Global,
     writer: Narrow,
     end: Result<Outcome, RunFault>,
@@ -145,11 +145,16 @@ fn is_formatted(
 ) -> Result<(), Fail> {
     let reader = Drip::whole(INPUT.as_bytes());
     let is_so = ends_so(alloc, Command::Format, reader, writer, end, bytes);
-    holds(alloc, "a writer", is_so)
+    assert_holds(alloc, "a writer", is_so)
 }
 
 /// Formats the input onto a writer that takes so many bytes a call, and so many in all.
-fn leaves_a_beginning(alloc: Global, step: usize, room: usize, fails: bool) -> Result<(), Fail> {
+fn assert_leaves_a_beginning(
+    alloc: Global,
+    step: usize,
+    room: usize,
+    fails: bool,
+) -> Result<(), Fail> {
     let writer = Narrow {
         taken: Vec::new(alloc),
         step,
@@ -158,16 +163,16 @@ fn leaves_a_beginning(alloc: Global, step: usize, room: usize, fails: bool) -> R
     };
     let room = room.min(OUTPUT.len());
     let beginning = &OUTPUT.as_bytes()[..room];
-    is_formatted(alloc, writer, Err(RunFault::Output), beginning)
+    assert_formatted(alloc, writer, Err(RunFault::Output), beginning)
 }
 
 #[test]
 fn a_failing_write_leaves_a_beginning(rt: HostRuntime) -> Result<(), Fail> {
     for room in 0..OUTPUT.len() {
-        leaves_a_beginning(rt.alloc(), 1, room, false)?;
-        leaves_a_beginning(rt.alloc(), 1, room, true)?;
-        leaves_a_beginning(rt.alloc(), usize::MAX, room, false)?;
-        leaves_a_beginning(rt.alloc(), usize::MAX, room, true)?;
+        assert_leaves_a_beginning(rt.alloc(), 1, room, false)?;
+        assert_leaves_a_beginning(rt.alloc(), 1, room, true)?;
+        assert_leaves_a_beginning(rt.alloc(), usize::MAX, room, false)?;
+        assert_leaves_a_beginning(rt.alloc(), usize::MAX, room, true)?;
     }
     Ok(())
 }
@@ -181,7 +186,7 @@ fn a_writer_of_one_byte_a_call_gets_all(rt: HostRuntime) -> Result<(), Fail> {
         fails: true,
     };
     let end = Ok(Outcome::SyntaxErrors);
-    is_formatted(rt.alloc(), writer, end, OUTPUT.as_bytes())
+    assert_formatted(rt.alloc(), writer, end, OUTPUT.as_bytes())
 }
 
 #[test]
@@ -195,7 +200,7 @@ fn a_writer_that_fails_after_three_bytes(rt: HostRuntime) -> Result<(), Fail> {
     let reader = Drip::whole(b"\n\nhello-world = Hello World!\n\n");
     let end = Err(RunFault::Output);
     let is_so = ends_so(rt.alloc(), Command::Format, reader, writer, end, b"hel");
-    holds(rt.alloc(), "three bytes", is_so)
+    assert_holds(rt.alloc(), "three bytes", is_so)
 }
 
 /// Whether bytes that are no text are told as such, with nothing written and without a failure of the reader or writer.
@@ -209,5 +214,5 @@ fn is_no_text(alloc: Global, bytes: &[u8]) -> bool {
 
 #[test]
 fn bytes_that_are_no_text(rt: HostRuntime) -> Result<(), Fail> {
-    holds(rt.alloc(), "one byte", is_no_text(rt.alloc(), &[255]))
+    assert_holds(rt.alloc(), "one byte", is_no_text(rt.alloc(), &[255]))
 }

@@ -1,11 +1,11 @@
 //! The language server: places, frames, tables of methods and endings, and whole sessions.
 
-use crate::alike::{holds, same, same_text};
 use crate::ends::{Drip, Narrow};
 use fluent_syntax_lsp::{
     BODY_LIMIT, Diagnostic, Ending, ErrorCode, FrameFault, Framing, Method, Phase, Place, Places,
     diagnostics_in, first_frame, formatted, serve,
 };
+use fluent_syntax_tests::alike::{assert_holds, assert_same, assert_same_text};
 use ftl::Watched;
 use std::alloc::Global;
 use std::io::Read;
@@ -43,20 +43,20 @@ const PLACES: [PlaceRow; 23] = [
     ("日b", 1, 0, 1),
 ];
 
-fn is_placed(alloc: Global, row: &PlaceRow) -> Result<(), Fail> {
+fn assert_placed(alloc: Global, row: &PlaceRow) -> Result<(), Fail> {
     let (text, byte, line, character) = row;
     let place = Places::new(*text).place_or_end(*byte);
     let expected = Place {
         line: *line,
         character: *character,
     };
-    same(alloc, *text, &place, &expected)
+    assert_same(alloc, *text, &place, &expected)
 }
 
 #[test]
 fn places_by_line_and_unit(rt: HostRuntime) -> Result<(), Fail> {
     for row in &PLACES {
-        is_placed(rt.alloc(), row)?;
+        assert_placed(rt.alloc(), row)?;
     }
     Ok(())
 }
@@ -72,7 +72,7 @@ fn places_in_any_order(rt: HostRuntime) -> Result<(), Fail> {
             line: *line,
             character: *character,
         };
-        same(
+        assert_same(
             rt.alloc(),
             "a place",
             &places.place_or_end(*byte),
@@ -150,30 +150,30 @@ const FRAMES: [Frame; 20] = [
     ),
 ];
 
-fn is_framed(alloc: Global, row: &Frame) -> Result<(), Fail> {
+fn assert_framed(alloc: Global, row: &Frame) -> Result<(), Fail> {
     let (bytes, found) = row;
-    same(alloc, *bytes, &first_frame(bytes.as_bytes()), found)
+    assert_same(alloc, *bytes, &first_frame(bytes.as_bytes()), found)
 }
 
 #[test]
 fn frames_at_the_front(rt: HostRuntime) -> Result<(), Fail> {
     for row in &FRAMES {
-        is_framed(rt.alloc(), row)?;
+        assert_framed(rt.alloc(), row)?;
     }
     Ok(())
 }
 
 /// Fails where so many bytes without the end of a header are found to be something else.
-fn is_found(alloc: Global, size: usize, found: Framing) -> Result<(), Fail> {
+fn assert_found(alloc: Global, size: usize, found: Framing) -> Result<(), Fail> {
     let bytes = vec![in alloc; b'x'; size]?;
-    same(alloc, "bytes", &first_frame(bytes.as_slice()), &found)
+    assert_same(alloc, "bytes", &first_frame(bytes.as_slice()), &found)
 }
 
 #[test]
 fn a_header_without_end(rt: HostRuntime) -> Result<(), Fail> {
-    is_found(rt.alloc(), 4095, Framing::Partial)?;
-    is_found(rt.alloc(), 4096, Framing::Refused(FrameFault::LongHeader))?;
-    holds(rt.alloc(), "the limit", BODY_LIMIT == 64 * 1024 * 1024)
+    assert_found(rt.alloc(), 4095, Framing::Partial)?;
+    assert_found(rt.alloc(), 4096, Framing::Refused(FrameFault::LongHeader))?;
+    assert_holds(rt.alloc(), "the limit", BODY_LIMIT == 64 * 1024 * 1024)
 }
 
 /// Each ending, with its status and the line for standard error.
@@ -204,16 +204,16 @@ const ENDINGS: [EndingRow; 10] = [
     ),
 ];
 
-fn is_told(alloc: Global, row: &EndingRow) -> Result<(), Fail> {
+fn assert_told(alloc: Global, row: &EndingRow) -> Result<(), Fail> {
     let (ending, status, line) = row;
-    same(alloc, *line, &ending.status(), status)?;
-    same_text(alloc, "line", ending.line(), *line)
+    assert_same(alloc, *line, &ending.status(), status)?;
+    assert_same_text(alloc, "line", ending.line(), *line)
 }
 
 #[test]
 fn endings(rt: HostRuntime) -> Result<(), Fail> {
     for row in &ENDINGS {
-        is_told(rt.alloc(), row)?;
+        assert_told(rt.alloc(), row)?;
     }
     Ok(())
 }
@@ -237,15 +237,15 @@ const METHODS: [MethodRow; 13] = [
     ("", None),
 ];
 
-fn is_named(alloc: Global, row: &MethodRow) -> Result<(), Fail> {
+fn assert_named(alloc: Global, row: &MethodRow) -> Result<(), Fail> {
     let (name, method) = row;
-    same(alloc, *name, &Method::from_name(*name), method)
+    assert_same(alloc, *name, &Method::from_name(*name), method)
 }
 
 #[test]
 fn methods(rt: HostRuntime) -> Result<(), Fail> {
     for row in &METHODS {
-        is_named(rt.alloc(), row)?;
+        assert_named(rt.alloc(), row)?;
     }
     Ok(())
 }
@@ -261,15 +261,15 @@ const CODES: [CodeRow; 5] = [
     (ErrorCode::NotInitialized, -32002),
 ];
 
-fn is_numbered(alloc: Global, row: &CodeRow) -> Result<(), Fail> {
+fn assert_numbered(alloc: Global, row: &CodeRow) -> Result<(), Fail> {
     let (code, number) = row;
-    same(alloc, "a code", &code.number(), number)
+    assert_same(alloc, "a code", &code.number(), number)
 }
 
 #[test]
 fn error_codes(rt: HostRuntime) -> Result<(), Fail> {
     for row in &CODES {
-        is_numbered(rt.alloc(), row)?;
+        assert_numbered(rt.alloc(), row)?;
     }
     Ok(())
 }
@@ -364,11 +364,11 @@ const PHASES: [PhaseRow; 12] = [
     ),
 ];
 
-fn goes_on(alloc: Global, row: &PhaseRow) -> Result<(), Fail> {
+fn assert_goes_on(alloc: Global, row: &PhaseRow) -> Result<(), Fail> {
     let (phase, method, refusal, requested, notified) = row;
-    same(alloc, "a refusal", &phase.refusal(*method), refusal)?;
-    same(alloc, "requested", &phase.after_request(*method), requested)?;
-    same(
+    assert_same(alloc, "a refusal", &phase.refusal(*method), refusal)?;
+    assert_same(alloc, "requested", &phase.after_request(*method), requested)?;
+    assert_same(
         alloc,
         "notified",
         &phase.after_notification(*method),
@@ -387,18 +387,18 @@ const ENDS: [EndRow; 5] = [
     (Phase::Left, Some(Ending::Left)),
 ];
 
-fn has_ended(alloc: Global, row: &EndRow) -> Result<(), Fail> {
+fn assert_ended(alloc: Global, row: &EndRow) -> Result<(), Fail> {
     let (phase, ending) = row;
-    same(alloc, "an ending", &phase.ending(), ending)
+    assert_same(alloc, "an ending", &phase.ending(), ending)
 }
 
 #[test]
 fn phases(rt: HostRuntime) -> Result<(), Fail> {
     for row in &PHASES {
-        goes_on(rt.alloc(), row)?;
+        assert_goes_on(rt.alloc(), row)?;
     }
     for row in &ENDS {
-        has_ended(rt.alloc(), row)?;
+        assert_ended(rt.alloc(), row)?;
     }
     Ok(())
 }
@@ -431,28 +431,28 @@ fn is_diagnostic(
         && (found.end.line, found.end.character) == end
 }
 
-fn has_one(alloc: Global, row: &ErrorRow) -> Result<(), Fail> {
+fn assert_one(alloc: Global, row: &ErrorRow) -> Result<(), Fail> {
     let (text, code, start, end) = row;
     let found = diagnostics_in(alloc, *text)?;
     let is_so = match found.as_slice() {
         [one] => is_diagnostic(one, *code, *start, *end),
         _ => false,
     };
-    holds(alloc, *text, is_so)
+    assert_holds(alloc, *text, is_so)
 }
 
-fn has_so_many(alloc: Global, text: &str, count: usize) -> Result<(), Fail> {
+fn assert_so_many(alloc: Global, text: &str, count: usize) -> Result<(), Fail> {
     let found = diagnostics_in(alloc, text)?;
-    same(alloc, text, &found.len(), &count)
+    assert_same(alloc, text, &found.len(), &count)
 }
 
 #[test]
 fn diagnostics_of_texts(rt: HostRuntime) -> Result<(), Fail> {
     for row in &ERRORS {
-        has_one(rt.alloc(), row)?;
+        assert_one(rt.alloc(), row)?;
     }
-    has_so_many(rt.alloc(), "a = b\n# c\n", 0)?;
-    has_so_many(rt.alloc(), "bro ken\na = b\nx y\n", 2)
+    assert_so_many(rt.alloc(), "a = b\n# c\n", 0)?;
+    assert_so_many(rt.alloc(), "bro ken\na = b\nx y\n", 2)
 }
 
 /// A text, and the text that it is formatted to.
@@ -465,17 +465,17 @@ const FORMATTED: [FormattedRow; 4] = [
     ("a=b\nbro ken\n", None),
 ];
 
-fn is_formatted(alloc: Global, row: &FormattedRow) -> Result<(), Fail> {
+fn assert_formatted(alloc: Global, row: &FormattedRow) -> Result<(), Fail> {
     let (text, written) = row;
     let found = formatted(alloc, *text)?;
     let found = found.as_ref().map(|found| found.as_str());
-    same(alloc, *text, &found, written)
+    assert_same(alloc, *text, &found, written)
 }
 
 #[test]
 fn formatted_texts(rt: HostRuntime) -> Result<(), Fail> {
     for row in &FORMATTED {
-        is_formatted(rt.alloc(), row)?;
+        assert_formatted(rt.alloc(), row)?;
     }
     Ok(())
 }
@@ -513,10 +513,10 @@ fn a_text_that_nests_too_deeply(rt: HostRuntime) -> Result<(), Fail> {
     let shallow = nested(alloc, 500)?;
     let is_so = is_flawless(alloc, shallow.as_str())?
         && formatted(alloc, shallow.as_str())?.is_some();
-    holds(alloc, "500 in one another", is_so)?;
+    assert_holds(alloc, "500 in one another", is_so)?;
     let deep = nested(alloc, 501)?;
     let is_so = is_too_deep(alloc, deep.as_str())? && formatted(alloc, deep.as_str())?.is_none();
-    holds(alloc, "501 in one another", is_so)
+    assert_holds(alloc, "501 in one another", is_so)
 }
 
 /// Bodies of messages, and the bodies of those that are sent for them; then how the session ends.
@@ -600,28 +600,28 @@ fn serves<R: Read + Drop>(alloc: Global, reader: R, ending: Ending, output: &[u8
     ended == ending && writer.as_slice() == output
 }
 
-fn is_served(alloc: Global, row: &Session) -> Result<(), Fail> {
+fn assert_served(alloc: Global, row: &Session) -> Result<(), Fail> {
     let (sent, answered, ending) = row;
     let input = framed(alloc, *sent)?;
     let output = framed(alloc, *answered)?;
     let joined = serves(alloc, input.as_bytes(), *ending, output.as_bytes());
     let drip = Drip::whole(input.as_bytes());
     let by_byte = serves(alloc, drip, *ending, output.as_bytes());
-    holds(alloc, "a session", joined && by_byte)
+    assert_holds(alloc, "a session", joined && by_byte)
 }
 
 #[test]
 fn sessions_joined_and_byte_by_byte(rt: HostRuntime) -> Result<(), Fail> {
     for row in &SESSIONS {
-        is_served(rt.alloc(), row)?;
+        assert_served(rt.alloc(), row)?;
     }
     Ok(())
 }
 
-fn beginnings_are_cut(alloc: Global, input: &[u8]) -> Result<(), Fail> {
+fn assert_beginnings_cut(alloc: Global, input: &[u8]) -> Result<(), Fail> {
     for size in 1..input.len() {
         let is_so = serves(alloc, &input[..size], Ending::Cut, &[]);
-        holds(alloc, "a beginning", is_so)?;
+        assert_holds(alloc, "a beginning", is_so)?;
     }
     Ok(())
 }
@@ -629,7 +629,7 @@ fn beginnings_are_cut(alloc: Global, input: &[u8]) -> Result<(), Fail> {
 #[test]
 fn an_input_that_ends_inside_a_frame(rt: HostRuntime) -> Result<(), Fail> {
     let input = framed(rt.alloc(), &[SHUTDOWN])?;
-    beginnings_are_cut(rt.alloc(), input.as_bytes())
+    assert_beginnings_cut(rt.alloc(), input.as_bytes())
 }
 
 #[test]
@@ -638,5 +638,5 @@ fn a_writer_that_fails(rt: HostRuntime) -> Result<(), Fail> {
     let mut reader = Watched::new(input.as_bytes());
     let mut writer = Narrow::closed(rt.alloc());
     let ended = serve(rt.alloc(), &mut reader, &mut writer);
-    same(rt.alloc(), "a closed writer", &ended, &Ending::Output)
+    assert_same(rt.alloc(), "a closed writer", &ended, &Ending::Output)
 }

@@ -1,7 +1,7 @@
 //! What each command writes of a text, as an answer and over a reader and a writer.
 
-use crate::alike::{holds, same, same_text};
 use crate::ends::{Drip, Narrow, ends_so};
+use fluent_syntax_tests::alike::{assert_holds, assert_same, assert_same_text};
 use ftl::{Command, Outcome, answer, answer_within};
 use serde_json::Value;
 use std::alloc::Global;
@@ -97,19 +97,19 @@ const ROWS: [Row; 12] = [
     ),
 ];
 
-fn is_answered(alloc: Global, row: &Row) -> Result<(), Fail> {
+fn assert_answered(alloc: Global, row: &Row) -> Result<(), Fail> {
     let (command, shows, input, expected, end) = row;
     let Ok((text, outcome)) = answer(alloc, *command, input.as_bytes()) else {
         return Err("no answer".into());
     };
-    same(alloc, *shows, &outcome, end)?;
-    same_text(alloc, *shows, text.as_str(), *expected)
+    assert_same(alloc, *shows, &outcome, end)?;
+    assert_same_text(alloc, *shows, text.as_str(), *expected)
 }
 
 #[test]
 fn answers(rt: HostRuntime) -> Result<(), Fail> {
     for row in &ROWS {
-        is_answered(rt.alloc(), row)?;
+        assert_answered(rt.alloc(), row)?;
     }
     Ok(())
 }
@@ -127,29 +127,29 @@ const OF_NESTED: [OfNested; 5] = [
     (Command::Runtime, NESTED),
 ];
 
-fn is_answered_within_2(alloc: Global, row: &OfNested) -> Result<(), Fail> {
+fn assert_answered_within_2(alloc: Global, row: &OfNested) -> Result<(), Fail> {
     let (command, expected) = row;
     let Ok(Ok((text, Outcome::Clean))) = answer_within(alloc, *command, NESTED.as_bytes(), 2) else {
         return Err("no answer within 2".into());
     };
-    same_text(alloc, "within 2", text.as_str(), *expected)
+    assert_same_text(alloc, "within 2", text.as_str(), *expected)
 }
 
-fn is_too_deep_for_1(alloc: Global, command: Command) -> Result<(), Fail> {
+fn assert_too_deep_for_1(alloc: Global, command: Command) -> Result<(), Fail> {
     let is_refused = answer_within(alloc, command, NESTED.as_bytes(), 1).is_err();
-    holds(alloc, "within 1", is_refused)
+    assert_holds(alloc, "within 1", is_refused)
 }
 
 #[test]
 fn answers_within_a_bound(rt: HostRuntime) -> Result<(), Fail> {
     for row in &OF_NESTED {
-        is_answered_within_2(rt.alloc(), row)?;
-        is_too_deep_for_1(rt.alloc(), row.0)?;
+        assert_answered_within_2(rt.alloc(), row)?;
+        assert_too_deep_for_1(rt.alloc(), row.0)?;
     }
-    is_too_deep_for_1(rt.alloc(), Command::Json)
+    assert_too_deep_for_1(rt.alloc(), Command::Json)
 }
 
-fn is_run(alloc: Global, row: &Row) -> Result<(), Fail> {
+fn assert_run(alloc: Global, row: &Row) -> Result<(), Fail> {
     let (command, shows, input, expected, end) = row;
     let reader = Drip::whole(input.as_bytes());
     let writer = Narrow::wide(alloc);
@@ -161,13 +161,13 @@ fn is_run(alloc: Global, row: &Row) -> Result<(), Fail> {
         Ok(*end),
         expected.as_bytes(),
     );
-    holds(alloc, *shows, is_so)
+    assert_holds(alloc, *shows, is_so)
 }
 
 #[test]
 fn runs(rt: HostRuntime) -> Result<(), Fail> {
     for row in &ROWS {
-        is_run(rt.alloc(), row)?;
+        assert_run(rt.alloc(), row)?;
     }
     Ok(())
 }
@@ -202,5 +202,5 @@ fn a_value_on_one_line(rt: HostRuntime) -> Result<(), Fail> {
         return Err("no answer".into());
     };
     let is_so = is_line_of_value(alloc, text.as_str())? && is_written(alloc, text.as_str());
-    holds(alloc, "one line", is_so)
+    assert_holds(alloc, "one line", is_so)
 }

@@ -1,6 +1,6 @@
 //! The words of the program, its statuses and its lines.
 
-use crate::alike::{same, same_text};
+use fluent_syntax_tests::alike::{assert_same, assert_same_text};
 use ftl::{Command, Outcome, RunFault, usage};
 use std::alloc::Global;
 use std::test::Fail;
@@ -19,17 +19,17 @@ const WORDS: [Word; 8] = [
     ("", None),
 ];
 
-fn is_named(alloc: Global, row: &Word) -> Result<(), Fail> {
+fn assert_named(alloc: Global, row: &Word) -> Result<(), Fail> {
     let (word, command) = row;
-    same(alloc, *word, &Command::from_word(*word), command)
+    assert_same(alloc, *word, &Command::from_word(*word), command)
 }
 
 #[test]
 fn words(rt: HostRuntime) -> Result<(), Fail> {
     for row in &WORDS {
-        is_named(rt.alloc(), row)?;
+        assert_named(rt.alloc(), row)?;
     }
-    same_text(
+    assert_same_text(
         rt.alloc(),
         "usage",
         usage(),
@@ -46,17 +46,17 @@ const FAULTS: [Fault; 3] = [
     (RunFault::Output, 5, "ftl: output failed"),
 ];
 
-fn is_told(alloc: Global, row: &Fault) -> Result<(), Fail> {
+fn assert_told(alloc: Global, row: &Fault) -> Result<(), Fail> {
     let (fault, status, line) = row;
-    same(alloc, *line, &fault.status(), status)?;
-    same_text(alloc, "line", fault.line(), *line)
+    assert_same(alloc, *line, &fault.status(), status)?;
+    assert_same_text(alloc, "line", fault.line(), *line)
 }
 
 #[test]
 fn statuses_and_lines(rt: HostRuntime) -> Result<(), Fail> {
     for row in &FAULTS {
-        is_told(rt.alloc(), row)?;
+        assert_told(rt.alloc(), row)?;
     }
-    same(rt.alloc(), "clean", &Outcome::Clean.status(), &0)?;
-    same(rt.alloc(), "errors", &Outcome::SyntaxErrors.status(), &1)
+    assert_same(rt.alloc(), "clean", &Outcome::Clean.status(), &0)?;
+    assert_same(rt.alloc(), "errors", &Outcome::SyntaxErrors.status(), &1)
 }

@@ -1,0 +1,13 @@
+//! Tests of the commands and of the language server: texts, runs and sessions whose answers are known.
+#![tactic(auto)]
+
+#[cfg(test)]
+mod ends;
+#[cfg(test)]
+mod language_server;
+#[cfg(test)]
+mod runs;
+#[cfg(test)]
+mod surface;
+#[cfg(test)]
+mod words;
