@@ -115,7 +115,7 @@ fn assert_as_of_form(alloc: Global, text: &str) -> Result<(), Fail> {
 }
 
 /// Appends the character, and fails where it, alone or after those before it, is not written as `serde_json` writes it.
-fn assert_goes_on(alloc: Global, all: &mut String, character: char) -> Result<(), Fail> {
+fn assert_next_character_written(alloc: Global, all: &mut String, character: char) -> Result<(), Fail> {
     let mut one = String::new(alloc);
     one.push(character)?;
     all.push(character)?;
@@ -128,7 +128,7 @@ fn assert_goes_on(alloc: Global, all: &mut String, character: char) -> Result<()
 fn characters_as_serde_json_writes_them(rt: HostRuntime) -> Result<(), Fail> {
     let mut all = String::new(rt.alloc());
     for byte in 0..128u8 {
-        assert_goes_on(rt.alloc(), &mut all, char::from(byte))?;
+        assert_next_character_written(rt.alloc(), &mut all, char::from(byte))?;
     }
     Ok(())
 }

@@ -91,7 +91,7 @@ pub(crate) fn kind(alloc: Global, name: &str) -> Result<ErrorKind, Fail> {
     })
 }
 
-fn assert_name(alloc: Global, row: &Kind) -> Result<(), Fail> {
+fn assert_kind_named(alloc: Global, row: &Kind) -> Result<(), Fail> {
     let (name, _) = row;
     assert_same_text(alloc, *name, kind(alloc, *name)?.name(), *name)
 }
@@ -117,7 +117,7 @@ fn assert_error_shown(alloc: Global, row: &Kind) -> Result<(), Fail> {
 #[test]
 fn names_and_shown_texts(rt: HostRuntime) -> Result<(), Fail> {
     for row in &KINDS {
-        assert_name(rt.alloc(), row)?;
+        assert_kind_named(rt.alloc(), row)?;
         assert_kind_shown(rt.alloc(), row)?;
         assert_error_shown(rt.alloc(), row)?;
     }

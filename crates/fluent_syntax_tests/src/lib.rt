@@ -1,4 +1,5 @@
-//! Tests of the parser, the serializer and the JSON of trees: texts whose trees, errors and written texts are known.
+//! Tests of the parser, the serializer, the laws of round trips and the JSON of trees: texts whose trees, errors and
+//! written texts are known, and trees made at random.
 #![tactic(auto)]
 
 pub mod alike;

@@ -202,14 +202,14 @@ fn next_shown(
 }
 
 /// Fails where what is read first by the bound is another.
-fn assert_first(alloc: Global, text: &str, nesting: usize, expected: &str) -> Result<(), Fail> {
+fn assert_first_read_within(alloc: Global, text: &str, nesting: usize, expected: &str) -> Result<(), Fail> {
     let mut parts = Vec::new(alloc);
     let found = next_shown(alloc, &mut Entries::new(text, within(nesting)), &mut parts)?;
     assert_same_text(alloc, text, found.as_str(), expected)
 }
 
 fn assert_parts(alloc: Global, row: &Short) -> Result<(), Fail> {
-    assert_first(alloc, row.0, 1, row.1)
+    assert_first_read_within(alloc, row.0, 1, row.1)
 }
 
 #[test]
@@ -231,7 +231,7 @@ fn references(rt: HostRuntime) -> Result<(), Fail> {
 #[test]
 fn with_a_tree(rt: HostRuntime) -> Result<(), Fail> {
     for row in &OTHERS {
-        assert_first(rt.alloc(), row.0, 3, "none")?;
+        assert_first_read_within(rt.alloc(), row.0, 3, "none")?;
     }
     Ok(())
 }
@@ -239,7 +239,7 @@ fn with_a_tree(rt: HostRuntime) -> Result<(), Fail> {
 #[test]
 fn refused(rt: HostRuntime) -> Result<(), Fail> {
     for text in &REFUSED {
-        assert_first(rt.alloc(), *text, 3, "none")?;
+        assert_first_read_within(rt.alloc(), *text, 3, "none")?;
     }
     Ok(())
 }
@@ -285,7 +285,7 @@ fn assert_nests_once(alloc: Global, text: &'static str) -> Result<(), Fail> {
 /// A reference nests once. Where nothing may nest, nothing is read without a tree.
 fn assert_bounded(alloc: Global, row: &Short) -> Result<(), Fail> {
     let text = row.0;
-    assert_first(alloc, text, 0, "none")?;
+    assert_first_read_within(alloc, text, 0, "none")?;
     let is_refused = parse_within(alloc, text, Edition::One, 0) == Err(TooDeep);
     assert_holds(alloc, text, is_refused)?;
     assert_nests_once(alloc, text)
@@ -294,7 +294,7 @@ fn assert_bounded(alloc: Global, row: &Short) -> Result<(), Fail> {
 #[test]
 fn bounds(rt: HostRuntime) -> Result<(), Fail> {
     for row in &TEXTS {
-        assert_first(rt.alloc(), row.0, 0, "none")?;
+        assert_first_read_within(rt.alloc(), row.0, 0, "none")?;
     }
     for row in &REFERENCES {
         assert_bounded(rt.alloc(), row)?;

@@ -55,20 +55,20 @@ const INDENTED: (&str, &str) = (
     "0..3 = 10..12 16..18 {19..20}\n",
 );
 
-fn assert_with_comments(alloc: Global) -> Result<(), Fail> {
+fn assert_read_with_comments(alloc: Global) -> Result<(), Fail> {
     let answer = parse_spans_edition(alloc, INDENTED.0, Edition::Two);
     assert_outline(alloc, "with comments", &answer, INDENTED.1)
 }
 
-fn assert_of_runtime(alloc: Global) -> Result<(), Fail> {
+fn assert_read_without_comments(alloc: Global) -> Result<(), Fail> {
     let answer = parse_runtime_spans_edition(alloc, INDENTED.0, Edition::Two);
     assert_outline(alloc, "without comments", &answer, INDENTED.1)
 }
 
 #[test]
 fn edition_two(rt: HostRuntime) -> Result<(), Fail> {
-    assert_with_comments(rt.alloc())?;
-    assert_of_runtime(rt.alloc())
+    assert_read_with_comments(rt.alloc())?;
+    assert_read_without_comments(rt.alloc())
 }
 
 #[test]

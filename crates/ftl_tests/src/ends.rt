@@ -1,6 +1,6 @@
 //! Readers and writers that fail, and how a run meets them.
 
-use fluent_syntax_tests::alike::assert_holds;
+use fluent_syntax_tests::alike::{assert_holds, assert_same};
 use ftl::{Command, Outcome, RunFault, Watched, run};
 use std::alloc::Global;
 use std::io::{self, Read, Write};
@@ -88,7 +88,7 @@ impl Write for Narrow {
 }
 
 /// How the command ends over a reader and a writer, and what was written.
-pub(crate) fn ran(
+fn ran(
     alloc: Global,
     command: Command,
     reader: Drip<'_>,
@@ -144,8 +144,9 @@ fn assert_formatted(
     bytes: &[u8],
 ) -> Result<(), Fail> {
     let reader = Drip::whole(INPUT.as_bytes());
-    let is_so = ends_so(alloc, Command::Format, reader, writer, end, bytes);
-    assert_holds(alloc, "a writer", is_so)
+    let (ended, written) = ran(alloc, Command::Format, reader, writer);
+    assert_same(alloc, "the end", &ended, &end)?;
+    assert_holds(alloc, "the bytes", written.as_slice() == bytes)
 }
 
 /// Formats the input onto a writer that takes so many bytes a call, and so many in all.

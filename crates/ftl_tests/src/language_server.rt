@@ -364,7 +364,7 @@ const PHASES: [PhaseRow; 12] = [
     ),
 ];
 
-fn assert_goes_on(alloc: Global, row: &PhaseRow) -> Result<(), Fail> {
+fn assert_phases_after(alloc: Global, row: &PhaseRow) -> Result<(), Fail> {
     let (phase, method, refusal, requested, notified) = row;
     assert_same(alloc, "a refusal", &phase.refusal(*method), refusal)?;
     assert_same(alloc, "requested", &phase.after_request(*method), requested)?;
@@ -395,7 +395,7 @@ fn assert_ended(alloc: Global, row: &EndRow) -> Result<(), Fail> {
 #[test]
 fn phases(rt: HostRuntime) -> Result<(), Fail> {
     for row in &PHASES {
-        assert_goes_on(rt.alloc(), row)?;
+        assert_phases_after(rt.alloc(), row)?;
     }
     for row in &ENDS {
         assert_ended(rt.alloc(), row)?;
@@ -431,7 +431,7 @@ fn is_diagnostic(
         && (found.end.line, found.end.character) == end
 }
 
-fn assert_one(alloc: Global, row: &ErrorRow) -> Result<(), Fail> {
+fn assert_one_diagnostic(alloc: Global, row: &ErrorRow) -> Result<(), Fail> {
     let (text, code, start, end) = row;
     let found = diagnostics_in(alloc, *text)?;
     let is_so = match found.as_slice() {
@@ -441,7 +441,7 @@ fn assert_one(alloc: Global, row: &ErrorRow) -> Result<(), Fail> {
     assert_holds(alloc, *text, is_so)
 }
 
-fn assert_so_many(alloc: Global, text: &str, count: usize) -> Result<(), Fail> {
+fn assert_diagnostics_counted(alloc: Global, text: &str, count: usize) -> Result<(), Fail> {
     let found = diagnostics_in(alloc, text)?;
     assert_same(alloc, text, &found.len(), &count)
 }
@@ -449,10 +449,10 @@ fn assert_so_many(alloc: Global, text: &str, count: usize) -> Result<(), Fail> {
 #[test]
 fn diagnostics_of_texts(rt: HostRuntime) -> Result<(), Fail> {
     for row in &ERRORS {
-        assert_one(rt.alloc(), row)?;
+        assert_one_diagnostic(rt.alloc(), row)?;
     }
-    assert_so_many(rt.alloc(), "a = b\n# c\n", 0)?;
-    assert_so_many(rt.alloc(), "bro ken\na = b\nx y\n", 2)
+    assert_diagnostics_counted(rt.alloc(), "a = b\n# c\n", 0)?;
+    assert_diagnostics_counted(rt.alloc(), "bro ken\na = b\nx y\n", 2)
 }
 
 /// A text, and the text that it is formatted to.

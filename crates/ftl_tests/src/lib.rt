@@ -8,6 +8,4 @@ mod language_server;
 #[cfg(test)]
 mod runs;
 #[cfg(test)]
-mod surface;
-#[cfg(test)]
 mod words;
