@@ -39,6 +39,7 @@ pub mod ShortPieces
 pub mod ShortReferences
 pub mod ShortStands
 pub mod ShortTrees
+pub mod ShortWhole
 pub mod Spelled
 pub mod Stars
 pub mod StringBytes

@@ -38,6 +38,11 @@ module _ (comments : Comments) (t : List ℕ) where
         more,
       )
 
+  pub next_behind : (i j start : ℕ) → BlankBlock t i j → StartsAt j start → NextStart comments t i start
+  next_behind i j start block (inl here) =
+      behind_block (subst (λ k. BlankBlock t i k) here.0 block) (subst (λ k. is_dropped k ≡ false) here.0 here.1)
+  next_behind i j start block (inr found) = behind_comment block found.1 found.2 found.3
+
   module _ (i start : ℕ) where
     pub starts_here : is_dropped i ≡ false → StartsAt i start → i ≡ start
     starts_here kept (inl here) = here.0

@@ -1,7 +1,7 @@
 -- What stands where a reader of short messages looks.
 use Rattle.std.proofs.Common.{◌≡◌, ℕ, ◌+◌, ◌<◌, List, length, Option, Some, None, Bool, true, false, refl, subst}
 use Rattle.std.specs.Prelude.{slice_get, ◌==◌, if◌then◌else◌}
-use Rattle.fluent_syntax_tree.specs.Kind.{Kind}
+use Rattle.fluent_syntax_tree.specs.Kind.{ExpectedToken, Kind}
 use Rattle.fluent_syntax_grammar.specs.Bytes.{dollar_sign, double_quote, hyphen, is_digit, is_letter, left_brace}
 use Rattle.fluent_syntax_grammar.specs.Construct.{Read, Refused, at_place, chosen, failed, given, goes_on, second}
 use Rattle.fluent_syntax_grammar.specs.Places.{Blank, has, has_byte, holds}
@@ -11,7 +11,7 @@ use Rattle.fluent_syntax_grammar.specs.Words.{identifier, token}
 use Rattle.fluent_syntax_grammar.proofs.Facts.{byte_inside}
 use Rattle.fluent_syntax_grammar.proofs.Functional.{single_stretch}
 use Rattle.fluent_syntax_grammar.proofs.FunctionalWords.{functional_identifier, functional_token}
-use Rattle.fluent_syntax_parser.proofs.ShortReferences.{present}
+use Rattle.fluent_syntax_parser.proofs.ShortReferences.{absent, present}
 use Rattle.fluent_syntax_parser.specs.ShortGrammar.{IdentifierAt, PlacedReference, PlainReference}
 use Rattle.fluent_syntax_parser.specs.ShortGrammar.{variable, message, term}
 use Rattle.fluent_syntax_parser.specs.ShortPieces.{Closes}
@@ -35,6 +35,26 @@ module _ (t : List ℕ) (i : ℕ) where
 
   pub no_token : (b : ℕ) (kind : Kind) (from to : ℕ) → has_byte t b i ≡ true → token t b i (Refused kind from to) → ⊥
   no_token b kind from to there a = let same = (functional_token t b).same i _ _ a (present t i b there) in cc
+
+module _ (t : List ℕ) (i b : ℕ) where
+  refused_there : has_byte t b i ≡ false → token t b i (Refused (ExpectedToken b) i (i + 1))
+  refused_there none = goes_on (absent t i b none) (second refl (failed refl))
+
+  -- where the byte is read, it stands; where it is refused, it doesn't
+  read_byte : (found : Bool) (j : ℕ) → has_byte t b i ≡ found → token t b i (Read tt j) → found ≡ true
+  read_byte true j e a = refl
+  read_byte false j e a = let same = (functional_token t b).same i _ _ a (refused_there e) in cc
+
+  refused_byte : (found : Bool) (kind : Kind) (from to : ℕ) → has_byte t b i ≡ found →
+      token t b i (Refused kind from to) → found ≡ false
+  refused_byte true kind from to e a = absurd (no_token t i b kind from to e a)
+  refused_byte false kind from to e a = refl
+
+  pub byte_read : (j : ℕ) → token t b i (Read tt j) → has_byte t b i ≡ true
+  byte_read j a = read_byte (has_byte t b i) j refl a
+
+  pub byte_refused : (kind : Kind) (from to : ℕ) → token t b i (Refused kind from to) → has_byte t b i ≡ false
+  byte_refused kind from to a = refused_byte (has_byte t b i) kind from to refl a
 
 -- ---- the start of a plain reference
 
@@ -131,3 +151,15 @@ module _ (t : List ℕ) (i inside mark : ℕ) (brace : token t left_brace i (Rea
       let opens = token_end t i left_brace inside p.brace brace in
       let same = single_stretch.same (i + 1) _ _ p.blank (subst (λ k. Blank t k mark) opens blank) in
       (p.end, subst (λ k. PlainReference t k p.end) same p.reference, p.closes)
+
+  pub placed_there : (end j : ℕ) → PlainReference t mark end → Closes t end j → PlacedReference t i j
+  placed_there end j reference closes =
+      let there = byte_read t i left_brace inside brace in
+      record {
+        mark = mark;
+        end = end;
+        brace = there;
+        blank = subst (λ k. Blank t k mark) (token_end t i left_brace inside there brace) blank;
+        reference = reference;
+        closes = closes;
+      }

@@ -3,10 +3,10 @@ use Rattle.std.proofs.Common.{◌≡◌, ℕ, ◌+◌, ◌<◌, ◌≤◌, List,
 use Rattle.std.proofs.Common.{arith, inl, inr, not, subst, sym}
 use Rattle.std.specs.Prelude.{slice_get, slice_range, nat_lt, is_some, ◌==◌, ◌&&◌, ◌⊎◌}
 use Rattle.std.proofs.lemmas.Option.{slice_get_within}
-use Rattle.fluent_syntax_tree.specs.Kind.{ExpectedToken, Kind}
+use Rattle.fluent_syntax_tree.specs.Kind.{Kind}
 use Rattle.fluent_syntax_tree.specs.declared.edition.Edition.{Edition}
 use Rattle.fluent_syntax_grammar.specs.Bytes.{equals_sign, full_stop, left_brace, lf}
-use Rattle.fluent_syntax_grammar.specs.Construct.{Read, Refused, failed, goes_on, second}
+use Rattle.fluent_syntax_grammar.specs.Construct.{Read, Refused, goes_on}
 use Rattle.fluent_syntax_grammar.specs.Grammar.{family}
 use Rattle.fluent_syntax_grammar.specs.Lines as lines
 use Rattle.fluent_syntax_grammar.specs.Lines.{belongs, is_run_place, no_byte, other_line, own_line}
@@ -19,9 +19,9 @@ use Rattle.fluent_syntax_grammar.proofs.FunctionalWords.{functional_token}
 use Rattle.fluent_syntax_grammar.proofs.Nesting.{from_family}
 use Rattle.fluent_syntax_parser.proofs.BlankLines.{eol_there}
 use Rattle.fluent_syntax_grammar.specs.Elements.{is_nonblank}
-use Rattle.fluent_syntax_parser.proofs.ShortGrammar.{name_end}
+use Rattle.fluent_syntax_parser.proofs.ShortGrammar.{byte_read, name_end}
 use Rattle.fluent_syntax_parser.proofs.ShortPatterns.{run_nonblank}
-use Rattle.fluent_syntax_parser.proofs.ShortReferences.{absent, begins_no_line_end}
+use Rattle.fluent_syntax_parser.proofs.ShortReferences.{begins_no_line_end}
 use Rattle.fluent_syntax_parser.specs.ShortGrammar.{IdentifierAt, PlacedReference, ShortAttributes, ShortField}
 use Rattle.fluent_syntax_parser.specs.ShortGrammar.{ShortLine, ShortMessage}
 use Rattle.fluent_syntax_parser.specs.ShortGrammar.{ShortPattern, ended, no_more, one_more, placed}
@@ -198,11 +198,6 @@ module _ (edition : Edition) (t : List ℕ) (filled : Bool) (i j end sign : ℕ)
 
 -- ---- attributes
 
-no_dot : (t : List ℕ) (i start : ℕ) → has_byte t full_stop i ≡ false → token t full_stop i (Read tt start) → ⊥
-no_dot t i start none read =
-    let refused = goes_on (absent t i full_stop none) (second refl (failed refl)) in
-    let same = (functional_token t full_stop).same i _ (Refused (ExpectedToken full_stop) i (i + 1)) read refused in cc
-
 module _ (edition : Edition) (t : List ℕ) where
   pub no_attribute_there : (i dot end : ℕ) (kind : Kind) (from to : ℕ) → InlineBlank t i dot →
       token t full_stop dot (Refused kind from to) → ShortAttributes edition t i end → i ≡ end
@@ -216,7 +211,7 @@ module _ (edition : Edition) (t : List ℕ) where
       ShortAttributes edition t i end → (j : ℕ) × ShortField edition t true start j × ShortAttributes edition t j end
   attribute_there i dot start end blank read (no_more other none) =
       let same = single_stretch.same i _ _ other blank in
-      absurd (no_dot t dot start (subst (λ k. has_byte t full_stop k ≡ false) same none) read)
+      differs (byte_read t dot full_stop start read) (subst (λ k. has_byte t full_stop k ≡ false) same none)
   attribute_there i dot start end blank read (one_more {start = begin} {j = j} other mark field more) =
       let same = single_stretch.same i _ _ other blank in
       let there = subst (λ k. token t full_stop k (Read tt begin)) same mark in

@@ -85,6 +85,9 @@ impl<'s> Entries<'s> {
         ensures next { let t = self.old.source.bytes.now in let options = self.old.options in
             IfOk result (λ found. IfSome found (λ name. EntryTo options.comments options.edition t self.old.ptr
             self.new.ptr (short_message (λ s. s) name parts.new.items) [])) }
+        ensures short { let t = self.old.source.bytes.now in let options = self.old.options in
+            IfOk result (λ found. IfSome found (λ name. (start : ℕ) ×
+            NextStart options.comments t self.old.ptr start × ShortMessage options.edition t start self.new.ptr)) }
         ensures stands { let t = self.old.source.bytes.now in let options = self.old.options in
             IfOk result (λ found. 0 < options.nesting → (start end : ℕ) →
             NextStart options.comments t self.old.ptr start → ShortMessage options.edition t start end →

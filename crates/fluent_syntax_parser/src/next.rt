@@ -45,6 +45,7 @@ impl<'s> Source<'s> {
         ensures shallow { (edition : Edition) (n : ℕ) →
             let t = self.now.bytes.now in let at = TileIn comments edition t in
             TextDeeper edition t at n ptr → TileDeeper edition t at n result }
+        ensures next { NextStart comments self.now.bytes.now ptr result }
         ensures dropped { are_dropped comments ≡ true → has_byte self.now.bytes.now hash result ≡ false }
         ensures blank { let t = self.now.bytes.now in BlankBlock t ptr (length t) → result ≡ length t }
         ensures starts { (start : ℕ) → NextStart comments self.now.bytes.now ptr start → result ≡ start }
@@ -78,6 +79,8 @@ impl<'s> Source<'s> {
         ensures shallow { let t = self.now.bytes.now in let at = TileIn options.comments options.edition t in
             let deeper = TextDeeper options.edition t at options.nesting in
             IfOk result (λ found. IfSome found (λ read. deeper ptr → deeper read.1)) }
+        ensures short { let t = self.now.bytes.now in IfOk result (λ found. IfSome found (λ read. (start : ℕ) ×
+            NextStart options.comments t ptr start × ShortMessage options.edition t start read.1)) }
         ensures stands { let t = self.now.bytes.now in IfOk result (λ found. 0 < options.nesting → (start end : ℕ) →
             NextStart options.comments t ptr start → ShortMessage options.edition t start end →
             IsSomeAnd found (λ read. read.1 ≡ end)) }

@@ -74,6 +74,8 @@ impl<'s> Source<'s> {
     pub(crate) fn end_behind_blank_lines(&self, edition: Edition, ptr: usize) -> Option<usize>
         requires { ptr ≤ length self.now.bytes.now }
         ensures lines { IfSome result (EndsBlank edition self.now.bytes.now ptr) }
+        ensures left { let t = self.now.bytes.now in IfSome result (λ end. (first : ℕ) × BlankBlock t ptr first ×
+            (family edition t).more_lines first (Read [] end)) }
         ensures stands { let t = self.now.bytes.now in (first end : ℕ) → BlankBlock t ptr first →
             (family edition t).more_lines first (Read [] end) → IsSomeAnd result (λ found. found ≡ end) }
         ensures within { IfSome result (λ end. (ptr ≤ end) × (end ≤ length self.now.bytes.now)) }
@@ -136,6 +138,9 @@ impl<'s> Source<'s> {
     pub(crate) fn end_without_text(&self, edition: Edition, start: usize) -> Option<usize>
         requires { start ≤ length self.now.bytes.now }
         ensures opens { IfSome result (OpensAs edition self.now.bytes.now start None) }
+        ensures left { let t = self.now.bytes.now in IfSome result (λ end. (next first : ℕ) ×
+            (after_eol t start ≡ Some next) × BlankBlock t next first ×
+            (family edition t).more_lines first (Read [] end)) }
         ensures stands { let t = self.now.bytes.now in (next first end : ℕ) → after_eol t start ≡ Some next →
             BlankBlock t next first → (family edition t).more_lines first (Read [] end) →
             IsSomeAnd result (λ found. found ≡ end) }

@@ -1,6 +1,6 @@
 //! Messages whose patterns are each one line of texts and plain references, as most are: their parts are read without a
 //! tree.
-ghost use Rattle.std.specs.Prelude.{◌≡◌, ◌<◌, ◌≤◌, ℕ, suc, length, true, IfOk, IfSome, IsSomeAnd};
+ghost use Rattle.std.specs.Prelude.{◌≡◌, ◌<◌, ◌≤◌, ◌⊎◌, ℕ, suc, length, true, IfOk, IfSome, IsSomeAnd};
 ghost use Rattle.fluent_syntax_grammar.specs.Bytes.{full_stop};
 ghost use Rattle.fluent_syntax_grammar.specs.Construct.{Read};
 ghost use Rattle.fluent_syntax_grammar.specs.Entries.{message_entry};
@@ -76,6 +76,7 @@ impl<'s> Source<'s> {
             ReadsAttribute edition t parts.old.items i parts.new.items end)) }
         ensures within { IfOk result (λ found. IfSome found
             (λ end. (start < end) × (end ≤ length self.now.bytes.now))) }
+        ensures field { IfOk result (λ found. IfSome found (ShortField edition self.now.bytes.now true start)) }
         ensures stands { IfOk result (λ found. (end : ℕ) → ShortField edition self.now.bytes.now true start end →
             IsSomeAnd found (λ place. place ≡ end)) }
         ensures grows { IfOk result (λ found. IfSome found
@@ -111,8 +112,11 @@ impl<'s> Source<'s> {
             (λ end. ReadsAttributes edition t parts.old.items ptr parts.new.items end)) }
         ensures within { IfOk result (λ found. IfSome found
             (λ end. (ptr ≤ end) × (end ≤ length self.now.bytes.now))) }
+        ensures attributes { IfOk result (λ found. IfSome found (ShortAttributes edition self.now.bytes.now ptr)) }
         ensures stands { IfOk result (λ found. (end : ℕ) → ShortAttributes edition self.now.bytes.now ptr end →
             IsSomeAnd found (λ place. place ≡ end)) }
+        ensures some { IfOk result (λ found. IfSome found
+            (λ end. (parts.new.items ≡ parts.old.items) ⊎ (ptr < end))) }
         ensures grows { IfOk result (λ found. IfSome found (λ end.
             (length parts.old.items ≤ length parts.new.items) ×
             (ptr < end → length parts.old.items < length parts.new.items))) }
@@ -143,6 +147,8 @@ impl<'s> Source<'s> {
             (Read (short_message (λ s. s) read.0 parts.new.items) read.1))) }
         ensures within { IfOk result (λ found. IfSome found
             (λ read. (start < read.1) × (read.1 ≤ length self.now.bytes.now))) }
+        ensures short { IfOk result (λ found. IfSome found
+            (λ read. ShortMessage edition self.now.bytes.now start read.1)) }
         ensures stands { IfOk result (λ found. (end : ℕ) → ShortMessage edition self.now.bytes.now start end →
             IsSomeAnd found (λ read. read.1 ≡ end)) }
         ensures flat { IfOk result (λ found. IfSome found

@@ -1,5 +1,5 @@
 //! Lines of texts and plain references, read without a tree.
-ghost use Rattle.std.specs.Prelude.{◌≡◌, ◌<◌, ◌≤◌, ℕ, Bool, None, length, true, IfOk, IfSome, IsSomeAnd};
+ghost use Rattle.std.specs.Prelude.{◌≡◌, ◌<◌, ◌≤◌, ◌⊎◌, ℕ, Bool, None, length, true, IfOk, IfSome, IsSomeAnd};
 ghost use Rattle.fluent_syntax_grammar.specs.Lines.{is_run_place};
 ghost use Rattle.fluent_syntax_grammar.specs.Places.{InlineBlank, Stretch, after_eol, is_line_place};
 ghost use Rattle.fluent_syntax_parser.specs.ShortGrammar.{ShortLine, ShortPattern, ShortRest};
@@ -27,8 +27,12 @@ impl<'s> Source<'s> {
             (λ last. Stretch (is_run_place self.now.bytes.now) last.0 last.1)) }
         ensures within { IfOk result (λ found. IfSome found
             (λ last. (ptr ≤ last.0) × (last.0 ≤ last.1) × (last.1 ≤ length self.now.bytes.now))) }
+        ensures line { let t = self.now.bytes.now in IfOk result (λ found. IfSome found (λ last. (stop next : ℕ) →
+            EndsLine t last.1 stop next → ShortLine t ptr next)) }
         ensures stands { let t = self.now.bytes.now in IfOk result (λ found. (next : ℕ) → ShortLine t ptr next →
             IsSomeAnd found (λ last. (stop : ℕ) × EndsLine t last.1 stop next)) }
+        ensures some { IfOk result (λ found. IfSome found
+            (λ last. (parts.new.items ≡ parts.old.items) ⊎ (ptr < last.0))) }
         ensures grows { IfOk result (λ found. IfSome found (λ last.
             (length parts.old.items ≤ length parts.new.items) ×
             (ptr < last.0 → length parts.old.items < length parts.new.items))) }
@@ -64,8 +68,11 @@ impl<'s> Source<'s> {
             InlineBlank t ptr start → ReadsShort edition t parts.old.items ptr parts.new.items end)) }
         ensures within { IfOk result (λ found. IfSome found
             (λ end. (start ≤ end) × (end ≤ length self.now.bytes.now))) }
+        ensures rest { IfOk result (λ found. IfSome found (ShortRest edition self.now.bytes.now start)) }
         ensures stands { IfOk result (λ found. (end : ℕ) → ShortRest edition self.now.bytes.now start end →
             IsSomeAnd found (λ place. place ≡ end)) }
+        ensures some { IfOk result (λ found. IfSome found
+            (λ _. (parts.new.items ≡ parts.old.items) ⊎ (start < length self.now.bytes.now))) }
         ensures filled { let t = self.now.bytes.now in IfOk result (λ found. IfSome found (λ end. (ptr : ℕ) →
             InlineBlank t ptr start → is_line_place t start ≡ true →
             length parts.old.items < length parts.new.items)) }
@@ -108,6 +115,8 @@ impl<'s> Source<'s> {
             (λ end. ReadsShort edition t parts.old.items ptr parts.new.items end)) }
         ensures within { IfOk result (λ found. IfSome found
             (λ end. (ptr ≤ end) × (end ≤ length self.now.bytes.now))) }
+        ensures pattern { let t = self.now.bytes.now in IfOk result (λ found. IfSome found (λ end. (filled : Bool) ×
+            ShortPattern edition t filled ptr end × ((parts.new.items ≡ parts.old.items) ⊎ (filled ≡ true)))) }
         ensures stands { IfOk result (λ found. (filled : Bool) (end : ℕ) →
             ShortPattern edition self.now.bytes.now filled ptr end → IsSomeAnd found (λ place. place ≡ end)) }
         ensures filled { let t = self.now.bytes.now in IfOk result (λ found. IfSome found (λ end. (start : ℕ) →

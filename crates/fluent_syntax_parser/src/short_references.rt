@@ -44,6 +44,7 @@ impl<'s> Source<'s> {
     pub(crate) fn short_placeable(&self, ptr: usize) -> Option<(ShortElement, usize)>
         requires { ptr ≤ length self.now.bytes.now }
         ensures reads { IfSome result (λ read. ReadsPlaced self.now.bytes.now ptr read.0 read.1) }
+        ensures placed { IfSome result (λ read. PlacedReference self.now.bytes.now ptr read.1) }
         ensures stands { (end : ℕ) → PlacedReference self.now.bytes.now ptr end →
             IsSomeAnd result (λ read. read.1 ≡ end) }
         ensures within { IfSome result (λ read. (ptr < read.1) × (read.1 ≤ length self.now.bytes.now)) }

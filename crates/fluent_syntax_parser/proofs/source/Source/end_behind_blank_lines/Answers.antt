@@ -11,6 +11,9 @@ returns-clause-lines c =
     c.skip_blank_block.ensures.blank in
     record { lines = found.0; read = found.1; blank = found.2 }
 
+pub returns-clause-left : goal.returns-clause-left
+returns-clause-left c = (_, c.skip_blank_block.ensures.blank, c.in_ok-end.ensures.lines)
+
 pub returns-clause-shallow : goal.returns-clause-shallow
 returns-clause-shallow c = λ n.
     blank_shallow c.args.edition c.args.self.now.bytes.now _ _ c.in_ok-end.ensures.lines n _

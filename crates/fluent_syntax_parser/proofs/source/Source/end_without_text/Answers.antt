@@ -12,6 +12,10 @@ returns-clause-opens c = λ i blank.
     empty_read c.args.edition c.args.self.now.bytes.now _ _ _ _ (sym c.in_ok-next.ensures.eol)
     c.skip_blank_block.ensures.blank c.in_ok-end.ensures.lines i blank
 
+pub returns-clause-left : goal.returns-clause-left
+returns-clause-left c =
+    (_, _, sym c.in_ok-next.ensures.eol, c.skip_blank_block.ensures.blank, c.in_ok-end.ensures.lines)
+
 pub returns-clause-shallow : goal.returns-clause-shallow
 returns-clause-shallow c = λ n.
     empty_shallow c.args.edition c.args.self.now.bytes.now _ _ _ _ (sym c.in_ok-next.ensures.eol)

@@ -45,6 +45,37 @@ returns-clause-flat c =
     (fields_led edition t _ (goes_on (passed c.skip_blank_inline.ensures.blank) c.in-Ok-expect_byte.ensures.meets)
     _ _ _ value.read c.skip_blank_block.ensures.blank (message_led edition t _ _ c.in-Ok.ensures.meets d)))
 
+pub returns-clause-short : goal.returns-clause-short
+returns-clause-short c =
+    let found = rw c.in-Some.is at c.in_ok-line.ensures.pattern in
+    let list = rw c.in-Some-2.is at c.in_ok-place.ensures in
+    let parts = c.short_attributes.new.parts in
+    let size : length parts.items ≡ vec_len parts = omega (arith, parts.ok.0) in
+    let any = some_items parts.items _ size c.if-is_empty.ensures in
+    record {
+      filled = found.0;
+      line = _;
+      place = _;
+      field = record {
+        end = _;
+        sign = _;
+        behind = _;
+        name = c.in-Ok.ensures.meets;
+        blank = c.skip_blank_inline.ensures.blank;
+        equals = c.in-Ok-expect_byte.ensures.meets;
+        value = found.1;
+      };
+      block = c.skip_blank_block.ensures.blank;
+      attributes = list.attributes;
+      some = elim list.some [
+        | inr forward ↦ inr forward
+        | inl none ↦ elim found.2 [
+          | inl same ↦ absurd (any (none ∙ (same ∙ c.clear.ensures.items)))
+          | inr filled ↦ inl filled
+        ]
+      ];
+    }
+
 pub returns-in_default-clause-stands : goal.returns-in_default-clause-stands
 returns-in_default-clause-stands c = λ end m.
     no_name c.args.self.now.bytes.now c.args.start _ _ _ m.field.end

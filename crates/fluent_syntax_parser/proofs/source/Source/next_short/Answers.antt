@@ -48,6 +48,11 @@ returns-clause-shallow c =
     (omega (arith, c.if-not-may_nest)) (entry_message options.edition t (no_hyphen t _ letter) d))
     (start.ensures.shallow options.edition options.nesting h)
 
+pub returns-clause-short : goal.returns-clause-short
+returns-clause-short c =
+    let found = rw c.in-Some.is at c.in_ok-name.ensures.short in
+    (c.tile_start-start.result, c.tile_start-start.ensures.next, found)
+
 pub returns-then-not-may_nest-clause-stands : goal.returns-then-not-may_nest-clause-stands
 returns-then-not-may_nest-clause-stands c = λ may start end next m. absurd (omega (arith, may, c.if-not-may_nest.true))
 

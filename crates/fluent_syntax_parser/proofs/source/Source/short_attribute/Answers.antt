@@ -1,9 +1,10 @@
-use Rattle.std.proofs.Common.{◌≡◌, ap, arith, length, refl, true}
+use Rattle.std.proofs.Common.{◌≡◌, ap, arith, inl, inr, length, refl, subst, true}
 use Rattle.std.specs.Vec.{vec_len}
 use Rattle.fluent_syntax_grammar.specs.Construct.{goes_on, passed}
 use Rattle.fluent_syntax_parser.proofs.ShortMessages.{attribute_of}
 use Rattle.fluent_syntax_parser.proofs.ShortGrammar.{no_name}
 use Rattle.fluent_syntax_parser.proofs.ShortStands.{no_equals, value_there}
+use Rattle.fluent_syntax_parser.specs.ShortGrammar.{ShortPattern}
 use Rattle.fluent_syntax_parser.proofs.source.Source.short_attribute.Goals as goal
 
 pub returns-clause-reads : goal.returns-clause-reads
@@ -70,3 +71,27 @@ returns-clause-stands c = λ end field.
     c.skip_blank_inline.ensures.blank field _ c.in-Ok-expect_byte.ensures.meets in
     let read = rw c.in-Some.is at c.in_ok-place.ensures.stands in
     read true end value
+
+pub returns-clause-field : goal.returns-clause-field
+returns-clause-field c =
+    let t = c.args.self.now.bytes.now in
+    let mid = c.push.new.self in
+    let new = c.short_pattern.new.parts in
+    let found = rw c.in-Some.is at c.in_ok-place.ensures.pattern in
+    let filled : found.0 ≡ true = elim found.2 [
+      | inl same ↦
+          let size : length new.items ≡ length mid.items = ap length same in
+          let longer : length new.items ≡ vec_len new = omega (arith, new.ok.0) in
+          let shorter : length mid.items ≡ vec_len mid = omega (arith, mid.ok.0) in
+          absurd (c.if-len-count.false (omega (arith, c.len.ensures, c.len-count.ensures, size, longer, shorter)))
+      | inr filled ↦ filled
+    ] in
+    record {
+      end = _;
+      sign = _;
+      behind = _;
+      name = c.in-Ok.ensures.meets;
+      blank = c.skip_blank_inline.ensures.blank;
+      equals = c.in-Ok-expect_byte.ensures.meets;
+      value = subst (λ f. ShortPattern c.args.edition t f c.in-Ok-expect_byte.behind c.in-Some.place) filled found.1;
+    }

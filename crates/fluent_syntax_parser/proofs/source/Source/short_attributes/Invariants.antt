@@ -1,4 +1,5 @@
-use Rattle.std.proofs.Common.{◌<◌, ◌≤◌, ◌-◌, ℕ, length}
+use Rattle.std.proofs.Common.{◌≡◌, ◌<◌, ◌≤◌, ◌-◌, ℕ, length}
+use Rattle.std.specs.Prelude.{◌⊎◌}
 use Rattle.fluent_syntax_parser.specs.ShortGrammar.{ShortAttributes}
 use Rattle.fluent_syntax_parser.specs.ShortMessages.{GathersAttributes}
 use Rattle.fluent_syntax_parser.proofs.source.Source.short_attributes.Given as goal
@@ -8,8 +9,11 @@ invariant-loop-start l = record {
   forward : l.ptr ≤ l.place;
   within : l.place ≤ length l.self.bytes.now;
   gathered : GathersAttributes l.edition l.self.bytes.now l.fn.parts.items l.ptr l.parts.items l.place;
+  attributes : (end : ℕ) → ShortAttributes l.edition l.self.bytes.now l.place end →
+      ShortAttributes l.edition l.self.bytes.now l.ptr end;
   stands : (end : ℕ) → ShortAttributes l.edition l.self.bytes.now l.ptr end →
       ShortAttributes l.edition l.self.bytes.now l.place end;
+  moved : (l.parts.items ≡ l.fn.parts.items) ⊎ (l.ptr < l.place);
   grows : length l.fn.parts.items ≤ length l.parts.items;
   some : l.ptr < l.place → length l.fn.parts.items < length l.parts.items;
 }

@@ -1,9 +1,13 @@
-use Rattle.std.proofs.Common.{◌≡◌, ℕ, arith, subst, sym}
+use Rattle.std.proofs.Common.{◌≡◌, ◌<◌, ℕ, arith, inr, subst, sym}
 use Rattle.fluent_syntax_parser.proofs.ShortPieces.{and_placed, and_text_and_placed, one_longer, two_longer}
 use Rattle.fluent_syntax_parser.proofs.ShortStands.{line_ends, line_goes_on}
-use Rattle.fluent_syntax_parser.specs.ShortGrammar.{ShortLine}
+use Rattle.fluent_syntax_parser.specs.ShortGrammar.{ShortLine, ended, placed}
 use Rattle.fluent_syntax_parser.proofs.source.Source.short_pieces.Goals.{then-start-end+in_ok-push, else-start-end}
 use Rattle.fluent_syntax_parser.proofs.source.Source.short_pieces.Goals as goal
+
+pub returns-then-not-is_byte_at-clause-line : goal.returns-then-not-is_byte_at-clause-line
+returns-then-not-is_byte_at-clause-line c = λ stop next ends.
+    c.loop-ptr.invariant.line next (ended c.run_end-end.ensures.run ends)
 
 pub returns-then-not-is_byte_at-clause-stands : goal.returns-then-not-is_byte_at-clause-stands
 returns-then-not-is_byte_at-clause-stands c = λ next line.
@@ -25,6 +29,9 @@ loop-ptr-preserved c =
     let run = c.run_end-end.ensures.run in
     let read = c.in-Some.ensures in
     let forward = run.forward in
+    let line : (next : ℕ) → ShortLine t c.in-Some.next next → ShortLine t c.args.ptr next = λ next rest.
+    inv.line next (placed run read.placed rest) in
+    let moved : c.args.ptr < c.in-Some.next = omega (arith, inv.forward, forward, read.within.0) in
     let stands : (next : ℕ) → ShortLine t c.args.ptr next → ShortLine t c.in-Some.next next = λ next line.
     let found = line_goes_on t _ _ run next brace (inv.stands next line) in
     subst (λ k. ShortLine t k next) (sym (read.stands found.0 found.1)) found.2 in
@@ -36,7 +43,9 @@ loop-ptr-preserved c =
             forward = omega (arith, inv.forward, forward, read.within.0);
             within = read.within.1;
             pieces = and_text_and_placed t old _ _ _ _ _ _ inv.pieces brace _ read.reads run w.if-start-end.true items;
+            line = line;
             stands = stands;
+            moved = inr moved;
             grows = omega (arith, inv.grows, longer);
             some = λ l. omega (arith, inv.grows, longer);
           }
@@ -48,7 +57,9 @@ loop-ptr-preserved c =
             forward = omega (arith, inv.forward, forward, read.within.0);
             within = read.within.1;
             pieces = and_placed t old _ _ _ _ _ _ inv.pieces brace _ read.reads same items;
+            line = line;
             stands = stands;
+            moved = inr moved;
             grows = omega (arith, inv.grows, longer);
             some = λ l. omega (arith, inv.grows, longer);
           }

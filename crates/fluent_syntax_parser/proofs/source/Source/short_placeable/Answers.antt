@@ -2,8 +2,9 @@ use Rattle.std.proofs.Common.{arith, refl}
 use Rattle.fluent_syntax_grammar.specs.Bytes.{dollar_sign, hyphen, left_brace}
 use Rattle.fluent_syntax_parser.proofs.ShortReferences.{present, reads_message, reads_term, reads_variable}
 use Rattle.fluent_syntax_parser.proofs.ShortGrammar.{dollar_inside, dollar_stands, hyphen_inside, hyphen_stands}
-use Rattle.fluent_syntax_parser.proofs.ShortGrammar.{message_name, no_reference, no_token, reference_in, term_name}
-use Rattle.fluent_syntax_parser.proofs.ShortGrammar.{variable_name}
+use Rattle.fluent_syntax_parser.proofs.ShortGrammar.{message_name, no_reference, no_token, placed_there, reference_in}
+use Rattle.fluent_syntax_parser.proofs.ShortGrammar.{term_name, variable_name}
+use Rattle.fluent_syntax_parser.specs.ShortGrammar.{message, term, variable}
 use Rattle.fluent_syntax_parser.proofs.source.Source.short_placeable.Goals as goal
 
 pub returns-in_ok-end-in-Dollar-clause-reads : goal.returns-in_ok-end-in-Dollar-clause-reads
@@ -26,6 +27,24 @@ returns-in_ok-end-in-Term-clause-reads c =
     reads_term t _ _ _ c.in-Ok.ensures.meets c.skip_blank-mark.ensures.blank _ _ _ read.name read.closes
     c.in-Term.ensures (present t _ hyphen (hyphen_stands t _ c.in-Term.ensures))
 
+pub returns-in_ok-end-in-Dollar-clause-placed : goal.returns-in_ok-end-in-Dollar-clause-placed
+returns-in_ok-end-in-Dollar-clause-placed c =
+    let read = c.in_ok-end-in-Dollar.ensures in
+    placed_there c.args.self.now.bytes.now _ _ _ c.in-Ok.ensures.meets c.skip_blank-mark.ensures.blank _ _
+    (variable c.in-Dollar.ensures read.name) read.closes
+
+pub returns-in_ok-end-in-Letter-clause-placed : goal.returns-in_ok-end-in-Letter-clause-placed
+returns-in_ok-end-in-Letter-clause-placed c =
+    let read = c.in_ok-end-in-Letter.ensures in
+    placed_there c.args.self.now.bytes.now _ _ _ c.in-Ok.ensures.meets c.skip_blank-mark.ensures.blank _ _
+    (message c.in-Letter.ensures read.name) read.closes
+
+pub returns-in_ok-end-in-Term-clause-placed : goal.returns-in_ok-end-in-Term-clause-placed
+returns-in_ok-end-in-Term-clause-placed c =
+    let read = c.in_ok-end-in-Term.ensures in
+    placed_there c.args.self.now.bytes.now _ _ _ c.in-Ok.ensures.meets c.skip_blank-mark.ensures.blank _ _
+    (term c.in-Term.ensures read.name) read.closes
+
 pub placed_name-requires : goal.placed_name-requires
 placed_name-requires c =
     let inside = dollar_inside c.args.self.now.bytes.now _ c.in-Dollar.ensures in omega (arith, inside)
@@ -42,6 +61,7 @@ returns-in_default-clause-stands c = λ end placed.
 pub returns-in_default-start : goal.returns-in_default-start
 returns-in_default-start c = record {
   reads = tt;
+  placed = tt;
   stands = λ end placed.
       let t = c.args.self.now.bytes.now in
       let found = reference_in t _ _ _ c.in-Ok.ensures.meets c.skip_blank-mark.ensures.blank end placed in

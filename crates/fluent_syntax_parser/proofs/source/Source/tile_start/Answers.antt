@@ -1,9 +1,9 @@
-use Rattle.std.proofs.Common.{◌<◌, length, sym, arith}
+use Rattle.std.proofs.Common.{◌<◌, inl, inr, length, refl, sym, arith}
 use Rattle.fluent_syntax_grammar.proofs.Functional.{single_block}
 use Rattle.fluent_syntax_grammar.proofs.Shallow.{block_behind}
 use Rattle.fluent_syntax_parser.specs.Rest.{TileIn}
 use Rattle.fluent_syntax_parser.proofs.DeeperTiles.{behind_dropped, dropped_led}
-use Rattle.fluent_syntax_parser.proofs.NextStarts.{both_true, starts_behind, starts_behind_comment}
+use Rattle.fluent_syntax_parser.proofs.NextStarts.{both_true, next_behind, starts_behind, starts_behind_comment}
 use Rattle.fluent_syntax_parser.proofs.Rests.{rest_behind, rest_dropped}
 use Rattle.fluent_syntax_parser.proofs.source.Source.tile_start.Goals as goal
 
@@ -18,6 +18,7 @@ loop-comments-init c =
           rest_behind c.args.comments edition t _ _ entries errors block.blank rest;
       deeper = λ edition n h. (_, block.blank, h);
       shallow = λ edition n h. block_behind edition t (TileIn c.args.comments edition t) _ block.blank h;
+      next = λ start found. next_behind c.args.comments t _ _ start block.blank found;
       starts = λ start next. starts_behind c.args.comments t _ _ start block.blank next;
       blank = λ all. single_block.same c.args.ptr _ _ block.blank all;
     }
@@ -42,6 +43,10 @@ loop-comments-preserved c =
       shallow = λ edition n h. block_behind edition t (TileIn c.args.comments edition t) _ block.blank
           (dropped_led edition t _ _ n c.args.comments (sym c.loop-comments-test.ensures)
           (sym c.if-is_byte_at.ensures) line.line (inv.shallow edition n h));
+      next = λ start found. inv.next start
+          (inr
+          (_, both_true (sym c.loop-comments-test.ensures) (sym c.if-is_byte_at.ensures), line.line,
+          next_behind c.args.comments t _ _ start block.blank found));
       starts = λ start next. starts_behind c.args.comments t _ _ start block.blank
           (starts_behind_comment c.args.comments t _ start _
           (both_true (sym c.loop-comments-test.ensures) (sym c.if-is_byte_at.ensures)) line.line

@@ -23,6 +23,8 @@ invariant-loop-comments l = record {
   shallow : (edition : Edition) (n : ℕ) →
       TextDeeper edition l.self.bytes.now (TileIn l.comments edition l.self.bytes.now) n l.ptr →
       TileDeeper edition l.self.bytes.now (TileIn l.comments edition l.self.bytes.now) n l.start;
+  next : (start : ℕ) → StartsAt l.comments l.self.bytes.now l.start start →
+      NextStart l.comments l.self.bytes.now l.ptr start;
   starts : (start : ℕ) → NextStart l.comments l.self.bytes.now l.ptr start →
       StartsAt l.comments l.self.bytes.now l.start start;
   blank : BlankBlock l.self.bytes.now l.ptr (length l.self.bytes.now) → l.start ≡ length l.self.bytes.now;
