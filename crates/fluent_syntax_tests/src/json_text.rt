@@ -115,7 +115,11 @@ fn assert_as_of_form(alloc: Global, text: &str) -> Result<(), Fail> {
 }
 
 /// Appends the character, and fails where it, alone or after those before it, is not written as `serde_json` writes it.
-fn assert_next_character_written(alloc: Global, all: &mut String, character: char) -> Result<(), Fail> {
+fn assert_next_character_written(
+    alloc: Global,
+    all: &mut String,
+    character: char,
+) -> Result<(), Fail> {
     let mut one = String::new(alloc);
     one.push(character)?;
     all.push(character)?;

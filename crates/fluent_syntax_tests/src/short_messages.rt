@@ -202,7 +202,12 @@ fn next_shown(
 }
 
 /// Fails where what is read first by the bound is another.
-fn assert_first_read_within(alloc: Global, text: &str, nesting: usize, expected: &str) -> Result<(), Fail> {
+fn assert_first_read_within(
+    alloc: Global,
+    text: &str,
+    nesting: usize,
+    expected: &str,
+) -> Result<(), Fail> {
     let mut parts = Vec::new(alloc);
     let found = next_shown(alloc, &mut Entries::new(text, within(nesting)), &mut parts)?;
     assert_same_text(alloc, text, found.as_str(), expected)

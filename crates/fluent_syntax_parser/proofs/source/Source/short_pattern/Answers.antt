@@ -32,12 +32,14 @@ pub returns-in-None-clause-pattern : goal.returns-in-None-clause-pattern
 returns-in-None-clause-pattern c =
     let t = c.args.self.now.bytes.now in
     let opens = sym c.in-None.ensures.eol in
-    of_both (λ end rest some.
-    (_, pattern_of c.args.edition t c.args.ptr _ end c.skip_blank_inline-start.ensures.blank rest,
-    elim some [
-      | inl same ↦ inl same
-      | inr inside ↦ inr (line_place t _ opens inside)
-    ]))
+    of_both (λ end rest some. (
+      _,
+      pattern_of c.args.edition t c.args.ptr _ end c.skip_blank_inline-start.ensures.blank rest,
+      elim some [
+        | inl same ↦ inl same
+        | inr inside ↦ inr (line_place t _ opens inside)
+      ],
+    ))
     c.short_line.result c.short_line.ensures.rest c.short_line.ensures.some
 
 pub returns-in-None-clause-filled : goal.returns-in-None-clause-filled

@@ -44,9 +44,12 @@ loop-comments-preserved c =
           (dropped_led edition t _ _ n c.args.comments (sym c.loop-comments-test.ensures)
           (sym c.if-is_byte_at.ensures) line.line (inv.shallow edition n h));
       next = λ start found. inv.next start
-          (inr
-          (_, both_true (sym c.loop-comments-test.ensures) (sym c.if-is_byte_at.ensures), line.line,
-          next_behind c.args.comments t _ _ start block.blank found));
+          (inr (
+            _,
+            both_true (sym c.loop-comments-test.ensures) (sym c.if-is_byte_at.ensures),
+            line.line,
+            next_behind c.args.comments t _ _ start block.blank found,
+          ));
       starts = λ start next. starts_behind c.args.comments t _ _ start block.blank
           (starts_behind_comment c.args.comments t _ start _
           (both_true (sym c.loop-comments-test.ensures) (sym c.if-is_byte_at.ensures)) line.line
