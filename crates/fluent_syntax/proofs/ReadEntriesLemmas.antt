@@ -1,5 +1,5 @@
 -- Entries that are read one by one, each with its texts.
-use Rattle.std.proofs.Common.{◌≡◌, ℕ, ◌≤◌, List, [], ◌∷◌, ◌++◌, length, map, Option, refl, sym, ◌∙◌, ap}
+use Rattle.std.proofs.Common.{◌≡◌, ℕ, ◌≤◌, List, [], ◌∷◌, ◌++◌, length, map, Option, sym, ◌∙◌, ap}
 use Rattle.std.specs.Str.{IsUtf8}
 use Rattle.std.proofs.lemmas.List.{append-nil, append_assoc, map-append}
 use Rattle.fluent_syntax_tree.specs.Entry.{EntryTree, entry_map}
@@ -24,9 +24,6 @@ one_more before x after = append_assoc before (x ∷ []) after
 module _ {S : Type 0} (text : S → List ℕ) (comments : Comments) (edition : Edition) (t : List ℕ) where
   abbrev ReadTo : ℕ → List (Entry S) → List ParserError → Type 0
   ReadTo = IsReadTo text comments edition t
-
-  pub nothing_read : ReadTo 0 [] []
-  nothing_read = record { spans = []; texts = refl; rest = λ entries others rest. rest }
 
   module _ (i : ℕ) (body : List (Entry S)) (errors : List ParserError) (read : ReadTo i body errors) where
     -- with nothing left, all was read

@@ -1,7 +1,7 @@
 -- Rows of names.
-use Rattle.std.proofs.Common.{◌≡◌, ◌<◌, ◌≤◌, ◌+◌, ◌++◌, ◌∷◌, [], ℕ, List, length, get_or, take, drop, map}
+use Rattle.std.proofs.Common.{◌≡◌, ◌<◌, ◌≤◌, ◌+◌, ◌++◌, ◌∷◌, ℕ, List, length, get_or, drop, map}
 use Rattle.std.proofs.Common.{sym, ap, ◌∙◌, subst, append_assoc, append-nil, length-append}
-use Rattle.std.proofs.lemmas.List.{map_more, map-append, drop_all, drop_more}
+use Rattle.std.proofs.lemmas.List.{drop_all, drop_more}
 use Rattle.fluent_syntax_tree.specs.Entry.{EntryTree}
 use Rattle.fluent_syntax_tree.specs.Every.{attribute_every, list_every}
 use Rattle.fluent_syntax_tree.specs.Spans.{IsPart}
@@ -9,7 +9,7 @@ use Rattle.fluent_syntax_tree.specs.View.{attribute_view}
 use Rattle.fluent_syntax_tree.specs.declared.ast.Attribute.{Attribute}
 use Rattle.fluent_syntax_tree.specs.declared.spans.Span.{Span}
 use Rattle.fluent_syntax_tree.proofs.Every.{every_item}
-use Rattle.fluent_syntax_c.specs.Names.{attribute_row, body_rows, entry_rows, name_row, owner_rows}
+use Rattle.fluent_syntax_c.specs.Names.{body_rows, entry_rows}
 use Rattle.fluent_syntax_c.specs.declared.names.FtlName.{FtlName}
 use Rattle.fluent_syntax_c.specs.declared.names.Named.{Named}
 use Rattle.fluent_syntax_c.specs.declared.names.Named.TheVariants as named
@@ -22,23 +22,6 @@ attribute_inside t s attributes items i a all same l is text =
     let h : attribute_every (IsPart t) (attribute_view (λ s. s) a) =
     every_item (attribute_every (IsPart t)) (attribute_view (λ s. s)) attributes items i a all same l is in
     subst (λ u. a.id.name.start ≤ length u) (sym text) h.0.1.0
-
--- one more attribute's row
-pub attribute_added : (t s : List ℕ) (kind : Named) (owner : ℕ) (name : Span) (items : List (Attribute Span)) (i : ℕ)
-    (a : Attribute Span) (before rows new : List FtlName) → i < length items → a ≡ get_or items i a → s ≡ t →
-    rows ≡ before ++ owner_rows t kind owner name (map (attribute_view (λ s. s)) (take i items)) →
-    new ≡ rows ++ name_row s named.Attribute owner a.id.name ∷ [] →
-    new ≡ before ++ owner_rows t kind owner name (map (attribute_view (λ s. s)) (take (i + 1) items))
-attribute_added t s kind owner name items i a before rows new l is text so_far e =
-    let row : Attribute Span → FtlName = λ x. attribute_row t owner (attribute_view (λ s. s) x) in
-    e ∙ ap (λ u. rows ++ name_row u named.Attribute owner a.id.name ∷ []) text
-    ∙ ap (λ xs. xs ++ row a ∷ []) so_far
-    ∙ append_assoc before (owner_rows t kind owner name (map (attribute_view (λ s. s)) (take i items))) (row a ∷ [])
-    ∙ ap (λ xs. before ++ name_row t kind owner name ∷ xs)
-    (ap (λ x. map (attribute_row t owner) (map (attribute_view (λ s. s)) (take i items)) ++ row x ∷ []) is
-    ∙ sym (ap (map (attribute_row t owner)) (map_more (attribute_view (λ s. s)) items i a l)
-    ∙ map-append (attribute_row t owner) (map (attribute_view (λ s. s)) (take i items))
-    (attribute_view (λ s. s) (get_or items i a) ∷ [])))
 
 -- one more entry's rows, and what is to come after them
 pub entry_added : {E : Type 0} (view : E → EntryTree Span) (t s : List ℕ) (items : List E) (i : ℕ) (e : E)

@@ -20,10 +20,11 @@ pub(crate) fn give<T: Copy>(
         out.old out.new count.new) }
     ensures refused { (why : Why) → (result ≡ refusal_number why) ↔ (answer ≡ Err why) }
 {
-    given(answer, out, count).number()
+    give_answer(answer, out, count).number()
 }
 
-fn given<T: Copy>(
+/// The same, with its status.
+fn give_answer<T: Copy>(
     answer: Result<(Vec<T>, Outcome), Refusal>,
     out: &mut [T],
     count: &mut usize,

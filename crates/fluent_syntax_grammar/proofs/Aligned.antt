@@ -4,7 +4,6 @@ use Rattle.std.proofs.Common.{refl, sym, ◌∙◌, subst, arith, inl, inr}
 use Rattle.std.specs.Prelude.{slice_get, ◌==◌, ◌⊎◌}
 use Rattle.std.proofs.lemmas.Bool.{false≢true}
 use Rattle.std.proofs.lemmas.Bool.Decides.{nat_tests}
-use Rattle.std.proofs.lemmas.Option.{slice_get_within}
 use Rattle.fluent_syntax_tree.specs.Kind.{Kind}
 use Rattle.fluent_syntax_tree.specs.Entry.{EntryTree, comment, Level}
 use Rattle.fluent_syntax_grammar.specs.Bytes.{is_letter}
@@ -27,13 +26,13 @@ use Rattle.fluent_syntax_grammar.proofs.OneTiling.{one_tile, junk_same, function
 use Rattle.fluent_syntax_grammar.proofs.Cuts.{block_forward}
 use Rattle.fluent_syntax_grammar.proofs.Sound.{IsPlain}
 use Rattle.fluent_syntax_grammar.proofs.SoundEntries.{plain_place}
-use Rattle.fluent_syntax_grammar.proofs.LineEnds.{IsLineStart, hash_entry, split_at, block_no_entry, block_at_entry}
+use Rattle.fluent_syntax_grammar.proofs.LineEnds.{IsLineStart, hash_entry, block_no_entry, block_at_entry, letter_entry}
 use Rattle.fluent_syntax_grammar.proofs.LineEnds.{block_at_end, block_start}
 use Rattle.fluent_syntax_grammar.proofs.WholeLines.{IsLine, line_of, line_to, line_start, line_in_text, no_start}
 use Rattle.fluent_syntax_grammar.proofs.WholeLines.{hash_bytes, comment_whole, hashes_onward}
 use Rattle.fluent_syntax_grammar.proofs.CommentFaults.{IsAt, comment_fault, name_fault, some_hash}
 use Rattle.fluent_syntax_grammar.proofs.Facts.{byte_found, byte_stands, differs, implies, left_true, lt_or_same}
-use Rattle.fluent_syntax_grammar.proofs.Facts.{right_false, right_true}
+use Rattle.fluent_syntax_grammar.proofs.Facts.{right_false, right_true, lt_or_le, has_inside}
 
 -- Tiles of the one and of the other that are the same; comments of the one and dropped lines of the other; and junk
 -- that a malformed comment makes in the one, which in the other is a dropped line and perhaps junk.
@@ -53,9 +52,6 @@ module _ (t : List ℕ) where
 
   hash_there : (i : ℕ) → has_byte t 35 i ≡ true → has t is_entry_byte i ≡ true
   hash_there i e = implies (λ c. c == 35) is_entry_byte (slice_get t i) hash_entry e
-
-  byte_inside : (p : ℕ → Bool) (i : ℕ) → has t p i ≡ true → i < length t
-  byte_inside p i e = let b = byte_found p (slice_get t i) e in slice_get_within t i b.0 b.1
 
 module _ (edition : Edition) (t : List ℕ) where
   abbrev Runtime : ℕ → List Tile → Type 0
@@ -77,7 +73,7 @@ module _ (edition : Edition) (t : List ℕ) where
   -- a line that begins with `#` is dropped
   drop_line : (i j : ℕ) (ys : List Tile) → has_byte t 35 i ≡ true → IsLine t i j → Runtime i ys → Rest j ys (λ xs. xs)
   drop_line i j ys e x (done b) =
-      let l = byte_inside t (λ c. c == 35) i e in
+      let l = has_inside (λ c. c == 35) t i e in
       differs (hash_there t i e) (block_no_entry t i (length t) i b (omega arith) l)
   drop_line i j ys e x (next {start = start} {end = end} {tiles = more} b l (drops h w) m) =
       let same : start ≡ i = single_block.same i _ _ b (block_at_entry t i (hash_there t i e)) in
@@ -123,7 +119,7 @@ module _ (edition : Edition) (t : List ℕ) where
 
   dropped_first : (i : ℕ) (ys : List Tile) → has_byte t 35 i ≡ true → Runtime i ys → Dropped i ys
   dropped_first i ys e (done b) =
-      let l = byte_inside t (λ c. c == 35) i e in
+      let l = has_inside (λ c. c == 35) t i e in
       differs (hash_there t i e) (block_no_entry t i (length t) i b (omega arith) l)
   dropped_first i ys e (next {start = start} {end = end} {tiles = more} b l (drops h w) m) =
       let same : start ≡ i = single_block.same i _ _ b (block_at_entry t i (hash_there t i e)) in
@@ -150,9 +146,6 @@ module _ (edition : Edition) (t : List ℕ) where
   letter_of : (i j : ℕ) (a : Span) → identifier t i (Read a j) → has t is_letter i ≡ true
   letter_of i j a (goes_on at_place (goes_on (chosen given) (first e x))) = e
   letter_of i j a (goes_on at_place (goes_on (chosen given) (second e x))) = elim x [ ]
-
-  letter_entry : (b : ℕ) → is_letter b ≡ true → is_entry_byte b ≡ true
-  letter_entry b e = grind (arith, nat_tests)
 
   minus_entry : (b : ℕ) → (b == 45) ≡ true → is_entry_byte b ≡ true
   minus_entry b e = grind (arith, nat_tests)
@@ -224,7 +217,7 @@ module _ (edition : Edition) (t : List ℕ) where
   junk_align m e f ys h j (done b) =
       let inside = j.in_text in
       let forward = j.forward in
-      elim (split_at t e (length t)) [
+      elim (lt_or_le e (length t)) [
         | inl l ↦ absurd (no_entry_in_block m (length t) e b forward l (omega arith) j)
         | inr l ↦ (let same : length t ≡ e = omega arith in
             record {
@@ -237,7 +230,7 @@ module _ (edition : Edition) (t : List ℕ) where
       let inside = j.in_text in
       let forward = j.forward in
       let on = block_forward t m s b in
-      elim (split_at t e s) [
+      elim (lt_or_le e s) [
         | inl y ↦ absurd (no_entry_in_block m s e b forward y (omega arith) j)
         | inr y ↦ elim (lt_or_same s e y) [
           | inl z ↦ junk_inside m s e end f tile more (tile ∷ more) h b on z j x r refl
@@ -252,7 +245,7 @@ module _ (edition : Edition) (t : List ℕ) where
 
   past_line : (i m e : ℕ) → IsLine t i m → i < e → m ≤ length t → (starts_entry t e ≡ true) ⊎ (e ≡ length t) → m ≤ e
   past_line i m e x l n (inl h) =
-      elim (split_at t e m)
+      elim (lt_or_le e m)
       [ inl y ↦ differs (left_true (starts_line t e) (has t is_entry_byte e) h) (no_start t i m e x l y) | inr y ↦ y ]
   past_line i m e x l n (inr f) = omega arith
 
@@ -266,7 +259,7 @@ module _ (edition : Edition) (t : List ℕ) where
       let place : failing_place k from to ≡ i + hashes t i = plain_place k at.plain from to ∙ at.at in
       let j' = subst (λ p. JunkEnd t p e) place j in
       let one = some_hash t i h in
-      let l = byte_inside t (λ c. c == 35) i h in
+      let l = has_inside (λ c. c == 35) t i h in
       let on = hashes_onward t i d.end d.line in
       let forward = j'.forward in
       let inside = line_in_text t i d.end (omega arith) d.line in

@@ -9,7 +9,8 @@ use Rattle.std.specs.Char.{is_ascii_hexdigit}
 use Rattle.fluent_syntax_grammar.specs.Places.{holds, Stretch, Word, has, has_byte, has_eol, after_eol, is_line_place}
 use Rattle.fluent_syntax_grammar.specs.Places.{is_blank_place, Blank, BlankBlock, no_line, line}
 use Rattle.fluent_syntax_grammar.specs.Lines.{is_run_place}
-use Rattle.fluent_syntax_grammar.proofs.Facts.{byte_found, stretch_in_text, two_on}
+use Rattle.fluent_syntax_grammar.proofs.Facts.{byte_found, stretch_in_text, two_on, add_one, has_inside}
+use Rattle.fluent_syntax_grammar.proofs.Tests.{or_cases}
 
 -- an ASCII byte stands there
 pub record AsciiAt (t : List ℕ) (i : ℕ) : Type 0 where
@@ -66,6 +67,13 @@ pub eol_cases : (t : List ℕ) (i k : ℕ) → after_eol t i ≡ Some k →
     ((has_byte t lf i ≡ true) × (k ≡ i + 1)) ⊎ ((has_byte t cr i ≡ true) × (has_byte t lf (i + 1) ≡ true) × (k ≡ i + 2))
 eol_cases t i k e = eol_of (has_byte t lf i) (has_byte t cr i) (has_byte t lf (i + 1)) i k e
 
+-- and it ends within the text
+pub eol_text : (t : List ℕ) (i k : ℕ) → after_eol t i ≡ Some k → k ≤ length t
+eol_text t i k e = elim (eol_cases t i k e) [
+  | inl x ↦ (let l = has_inside (λ b. b == lf) t i x.0 in let f = x.1 in omega arith)
+  | inr x ↦ (let l = has_inside (λ b. b == lf) t (i + 1) x.1 in let f = x.2 in omega arith)
+]
+
 either_true : (a b c : Bool) → (a || b && c) ≡ true → (a ≡ true) ⊎ (b ≡ true)
 either_true true b c e = inl refl
 either_true false true c e = inr refl
@@ -76,19 +84,12 @@ ascii_eol t i e =
     elim (either_true (has_byte t lf i) (has_byte t cr i) (has_byte t lf (i + 1)) e)
     [ inl x ↦ ascii_byte t lf i (omega arith) x | inr x ↦ ascii_byte t cr i (omega arith) x ]
 
-or_true : (a b : Bool) → (a || b) ≡ true → (a ≡ true) ⊎ (b ≡ true)
-or_true true b e = inl refl
-or_true false b e = inr e
-
 pub ascii_blank : (t : List ℕ) (i : ℕ) → is_blank_place t i ≡ true → AsciiAt t i
 ascii_blank t i e =
-    elim (or_true (has_byte t space i) (has_eol t i) e)
+    elim (or_cases (has_byte t space i) (has_eol t i) e)
     [ inl x ↦ ascii_byte t space i (omega arith) x | inr x ↦ ascii_eol t i x ]
 
 -- ---- words
-
-add_one : (k : ℕ) → k + 1 ≡ suc k
-add_one k = omega arith
 
 none_some : {o : Option ℕ} {b : ℕ} {X : Type 0} → o ≡ None → o ≡ Some b → X
 none_some e f = cc

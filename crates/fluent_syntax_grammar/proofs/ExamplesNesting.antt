@@ -1,6 +1,6 @@
 -- Texts that nest deeper than a number.
 use Rattle.std.proofs.Common.{◌≡◌, ℕ, zero, suc, ◌+◌, List, [], ◌∷◌, Bool, true, false, refl, arith}
-use Rattle.std.specs.Prelude.{codes, ◌||◌, ◌==◌}
+use Rattle.std.specs.Prelude.{codes, ◌==◌}
 use Rattle.std.specs.List.{list_any}
 use Rattle.fluent_syntax_tree.specs.declared.edition.Edition.TheVariants.{One}
 use Rattle.fluent_syntax_grammar.specs.Bytes.{equals_sign, hyphen, is_letter, is_name_byte, is_space, left_brace}
@@ -16,6 +16,7 @@ use Rattle.fluent_syntax_grammar.specs.Tiling.{TileAt}
 use Rattle.fluent_syntax_grammar.specs.Words.{identifier, token}
 use Rattle.fluent_syntax_grammar.proofs.Facts.{differs, left_true}
 use Rattle.fluent_syntax_grammar.proofs.Shallow.{brace_led, call_stuck, letter_led, placeable_led}
+use Rattle.fluent_syntax_grammar.proofs.Tests.{neither_left, neither_right}
 
 -- ---- what stands in them
 
@@ -61,19 +62,11 @@ three_braces =
     (its_selector (its_placeable refl
     (opens_placeable refl (mark braces left_brace 2 refl)))))))
 
-left_no : (a b : Bool) → (a || b) ≡ false → a ≡ false
-left_no true b e = cc
-left_no false b e = refl
-
-right_no : (a b : Bool) → (a || b) ≡ false → b ≡ false
-right_no true b e = cc
-right_no false b e = e
-
 -- a byte that is not in the text stands nowhere
 absent : (t : List ℕ) (b : ℕ) → list_any (λ c. c == b) t ≡ false → (i : ℕ) → has_byte t b i ≡ false
 absent [] b e i = refl
-absent (c ∷ t) b e zero = left_no (c == b) (list_any (λ c. c == b) t) e
-absent (c ∷ t) b e (suc i) = absent t b (right_no (c == b) (list_any (λ c. c == b) t) e) i
+absent (c ∷ t) b e zero = neither_left (c == b) (list_any (λ c. c == b) t) e
+absent (c ∷ t) b e (suc i) = absent t b (neither_right (c == b) (list_any (λ c. c == b) t) e) i
 
 no_select : {n i : ℕ} → Deeper One braces in_expression n i → Deeper One braces in_inline_expression n i
 no_select (its_selector d) = d

@@ -2,7 +2,7 @@
 -- Each says that the grammar gives just these errors and this tree.
 use Rattle.std.proofs.Common.{[], ◌∷◌, Some, None, refl}
 use Rattle.std.specs.Prelude.{codes}
-use Rattle.fluent_syntax_tree.specs.Tree.{inline, message_reference, text_element, placeable, no_elements, elements}
+use Rattle.fluent_syntax_tree.specs.Tree.{text_element, no_elements, elements}
 use Rattle.fluent_syntax_tree.specs.Entry.{message, junk}
 use Rattle.fluent_syntax_tree.specs.Kind.{ExpectedCharRange, UnbalancedClosingBrace}
 use Rattle.fluent_syntax_tree.specs.declared.edition.Edition.TheVariants.{One}
@@ -20,19 +20,6 @@ common_indent : IsRead One (codes "key =\n    a\n\n      b\n")
       comment = None;
     }) ∷ [])
 common_indent = read One (codes "key =\n    a\n\n      b\n") _ _ refl
-
--- a placeable at column 0 counts with 0
-placeable_at_column_0 : IsRead One (codes "key =\n{x}\n    b\n")
-    []
-    (message (record {
-      id = codes "key";
-      value =
-          Some (elements (placeable (inline (message_reference (codes "x") None)))
-          (elements (text_element (codes "\n")) (elements (text_element (codes "    b")) no_elements)));
-      attributes = [];
-      comment = None;
-    }) ∷ [])
-placeable_at_column_0 = read One (codes "key =\n{x}\n    b\n") _ _ refl
 
 -- a CRLF is a text of its own that is one LF
 crlf : IsRead One (codes "key = a\r\n    b")
@@ -96,16 +83,3 @@ closing_brace_begins_a_line : IsRead One (codes "key = a\n  }\n")
       comment = None;
     }) ∷ junk (codes "  }\n") ∷ [])
 closing_brace_begins_a_line = read One (codes "key = a\n  }\n") _ _ refl
-
--- an indented placeable does not count, and its indent is dropped
-indented_placeable : IsRead One (codes "key =\n  {x} a\n    b\n")
-    []
-    (message (record {
-      id = codes "key";
-      value =
-          Some (elements (placeable (inline (message_reference (codes "x") None)))
-          (elements (text_element (codes " a\n")) (elements (text_element (codes "b")) no_elements)));
-      attributes = [];
-      comment = None;
-    }) ∷ [])
-indented_placeable = read One (codes "key =\n  {x} a\n    b\n") _ _ refl

@@ -1,14 +1,16 @@
 -- What stands in blank blocks and on lines.
 use Rattle.std.proofs.Common.{◌≡◌, ℕ, ◌+◌, ◌-◌, ◌<◌, ◌≤◌, List, length, Some, None, Bool, true, false, refl, sym, subst}
-use Rattle.std.proofs.Common.{arith, inl, inr}
+use Rattle.std.proofs.Common.{arith, inl, inr, Option}
 use Rattle.std.specs.Prelude.{slice_get, ◌==◌, ◌||◌, ◌&&◌, ◌⊎◌, if◌then◌else◌}
 use Rattle.std.proofs.lemmas.Bool.Decides.{nat_tests}
 use Rattle.std.proofs.lemmas.Option.{slice_get_past}
-use Rattle.fluent_syntax_grammar.specs.Bytes.{lf, cr, space, is_space}
+use Rattle.fluent_syntax_grammar.specs.Bytes.{lf, cr, space, is_space, is_letter}
 use Rattle.fluent_syntax_grammar.specs.Places.{has, has_byte, after_eol, starts_line, BlankBlock, no_line, line}
+use Rattle.fluent_syntax_grammar.specs.Places.{has_eol}
 use Rattle.fluent_syntax_grammar.specs.Tiling.{is_entry_byte}
 use Rattle.fluent_syntax_grammar.proofs.Cuts.{eol_cases}
-use Rattle.fluent_syntax_grammar.proofs.Facts.{excludes, implies, none_holds}
+use Rattle.fluent_syntax_grammar.proofs.Facts.{excludes, implies, none_holds, lt_or_le}
+use Rattle.fluent_syntax_grammar.proofs.Tests.{or_right, or_none, and_left}
 
 -- spaces and the bytes of line ends
 abbrev pub is_blank_byte : ℕ → Bool
@@ -35,6 +37,9 @@ entry_no_lf b e = grind (arith, nat_tests)
 entry_no_cr : (b : ℕ) → is_entry_byte b ≡ true → (b == cr) ≡ false
 entry_no_cr b e = grind (arith, nat_tests)
 
+pub letter_entry : (b : ℕ) → is_letter b ≡ true → is_entry_byte b ≡ true
+letter_entry b e = grind (arith, nat_tests)
+
 pub hash_entry : (b : ℕ) → (b == 35) ≡ true → is_entry_byte b ≡ true
 hash_entry b e = grind (arith, nat_tests)
 
@@ -42,7 +47,21 @@ eol_between : (i k m : ℕ) → k ≤ i → i < m → (m ≡ k + 1) ⊎ (m ≡ k
 eol_between i k m a b (inl e) = inl (omega arith)
 eol_between i k m a b (inr e) = grind arith
 
+-- where neither an LF nor a CRLF stands no line end stands, and conversely
+pub eol_none : (a b : Bool) (x y : Option ℕ) → (a || b) ≡ false → (if a then x else if b then y else None) ≡ None
+eol_none true b x y e = cc
+eol_none false true x y e = cc
+eol_none false false x y e = refl
+
+none_eol : (a b : Bool) (m n : ℕ) → (if a then Some m else if b then Some n else None) ≡ None → (a || b) ≡ false
+none_eol true b m n e = cc
+none_eol false true m n e = cc
+none_eol false false m n e = refl
+
 module _ (t : List ℕ) where
+  pub after_none : (i : ℕ) → after_eol t i ≡ None → has_eol t i ≡ false
+  after_none i e = none_eol (has_byte t lf i) (has_byte t cr i && has_byte t lf (i + 1)) (i + 1) (i + 2) e
+
   eol_blank : (k m i : ℕ) → after_eol t k ≡ Some m → k ≤ i → i < m → has t is_blank_byte i ≡ true
   eol_blank k m i e a b = elim (eol_cases t k m e) [
     | inl x ↦ (let same : k ≡ i = omega arith in
@@ -56,30 +75,24 @@ module _ (t : List ℕ) where
     ]
   ]
 
-  pub split_at : (i k : ℕ) → (i < k) ⊎ (k ≤ i)
-  split_at i k = grind arith
-
   -- in a blank block stand spaces and line ends
   pub block_bytes : (i j k : ℕ) → BlankBlock t i j → i ≤ k → k < j → has t is_blank_byte k ≡ true
   block_bytes i j k (no_line a b) l m = absurd (omega arith)
-  block_bytes i j k (line {k = n} {m = p} a b c) l m = elim (split_at k n) [
+  block_bytes i j k (line {k = n} {m = p} a b c) l m = elim (lt_or_le k n) [
     | inl x ↦ implies is_space is_blank_byte (slice_get t k) space_blank (a.each k l x)
-    | inr x ↦ elim (split_at k p) [ inl y ↦ eol_blank n p k b x y | inr y ↦ block_bytes p j k c y m ]
+    | inr x ↦ elim (lt_or_le k p) [ inl y ↦ eol_blank n p k b x y | inr y ↦ block_bytes p j k c y m ]
   ]
 
   pub block_no_entry : (i j k : ℕ) → BlankBlock t i j → i ≤ k → k < j → has t is_entry_byte k ≡ false
   block_no_entry i j k b l m =
       excludes is_blank_byte is_entry_byte (slice_get t k) blank_no_entry (block_bytes i j k b l m)
 
-  eol_none : (a b c : Bool) (i : ℕ) → a ≡ false → b ≡ false →
-      (if a then Some (i + 1) else if b && c then Some (i + 2) else None) ≡ None
-  eol_none a b c i e f = rw (e, f)
-
   empty_block : (i : ℕ) → has t is_space i ≡ false → has_byte t lf i ≡ false → has_byte t cr i ≡ false →
       BlankBlock t i i
   empty_block i e f g =
       no_line (record { forward = omega arith; each = λ k a b. absurd (omega arith); longest = e })
-      (eol_none (has_byte t lf i) (has_byte t cr i) (has_byte t lf (i + 1)) i f g)
+      (eol_none (has_byte t lf i) (has_byte t cr i && has_byte t lf (i + 1)) _ _
+      (or_none (has_byte t lf i) _ f (and_left (has_byte t cr i) _ g)))
 
   -- where an entry may begin, and at the text's end, the blank block is empty
   pub block_at_entry : (i : ℕ) → has t is_entry_byte i ≡ true → BlankBlock t i i
@@ -99,10 +112,6 @@ module _ (t : List ℕ) where
   -- the start of a line, or the text's end
   abbrev pub IsLineStart : ℕ → Type 0
   IsLineStart i = (starts_line t i ≡ true) ⊎ (i ≡ length t)
-
-  or_right : (a b : Bool) → b ≡ true → (a || b) ≡ true
-  or_right true b e = refl
-  or_right false b e = e
 
   lf_start : (i : ℕ) → has_byte t lf i ≡ true → starts_line t (i + 1) ≡ true
   lf_start i e =

@@ -3,7 +3,6 @@
 use Rattle.std.proofs.Common.{◌≡◌, ℕ, ◌+◌, ◌<◌, ◌≤◌, List, [], ◌∷◌, length, Option, Some, None, true, refl, sym, ◌∙◌}
 use Rattle.std.proofs.Common.{subst, arith, inl, inr}
 use Rattle.std.specs.Prelude.{slice_get, ◌⊎◌}
-use Rattle.std.proofs.lemmas.Bool.Decides.{nat_tests}
 use Rattle.fluent_syntax_tree.specs.Kind.{Kind, ExpectedMessageField, ExpectedTermField}
 use Rattle.fluent_syntax_tree.specs.Tree.{PatternTree}
 use Rattle.fluent_syntax_tree.specs.Entry.{AttributeTree, EntryTree}
@@ -26,10 +25,10 @@ use Rattle.fluent_syntax_grammar.proofs.Cuts.{IsCuts, word_place, ascii_name, as
 use Rattle.fluent_syntax_grammar.proofs.Sound.{IsSpan, IsPlain, Inside, Ended, IsFault, Sound, sound_bind, sound_gives}
 use Rattle.fluent_syntax_grammar.proofs.Sound.{sound_fails, sound_inline_blank, sound_blank_block}
 use Rattle.fluent_syntax_grammar.proofs.SoundWords.{sound_token, sound_identifier}
-use Rattle.fluent_syntax_grammar.proofs.SoundRules.{inside_places}
 use Rattle.fluent_syntax_grammar.proofs.SoundLines as lines
 use Rattle.fluent_syntax_grammar.proofs.SoundLines.{sound_family}
 use Rattle.fluent_syntax_grammar.proofs.Facts.{differs, implies}
+use Rattle.fluent_syntax_grammar.proofs.Tests.{letter_name}
 
 -- the fault of an entry that begins at i, whose failing place is not before s
 pub record IsEntryFault (t : List ℕ) (i s : ℕ) (k : Kind) (from to : ℕ) : Type 0 where
@@ -89,7 +88,7 @@ module _ (edition : Edition) (t : List ℕ) (P : ℕ → Type 0) (cuts : IsCuts 
 
   sound_with : {s : ℕ} (id : Span) (value : Option (PatternTree Span)) → IsSpan P id →
       option_every (pattern_every (IsSpan P)) value → Sound t P s (attribute_with id value) (attribute_every (IsSpan P))
-  sound_with id None g k = sound_fails (inside_places t P cuts) tt (λ i. tt)
+  sound_with id None g k = sound_fails cuts.in_text tt (λ i. tt)
   sound_with id (Some value) g k = sound_gives (g, k)
 
   pub sound_attribute : {s : ℕ} → Sound t P s (attribute edition t) (attribute_every (IsSpan P))
@@ -173,9 +172,6 @@ module _ (edition : Edition) (t : List ℕ) (P : ℕ → Type 0) (cuts : IsCuts 
       entry_bind l (sound_inline_blank t P cuts)
       (λ u v. entry_bind l (sound_token t P cuts 61 refl) (λ u v. entry_bind l sound_pattern (λ value k.
       entry_bind l (sound_blank_block t P cuts) (λ u v. entry_bind l sound_attributes (λ rest m. g value rest k m)))))
-
-letter_name : (b : ℕ) → is_letter b ≡ true → is_name_byte b ≡ true
-letter_name b e = grind (arith, nat_tests)
 
 name_goes_on : (t : List ℕ) (i j : ℕ) → has t is_letter i ≡ true → Word t is_name_byte i j → i < j
 name_goes_on t i j e w =

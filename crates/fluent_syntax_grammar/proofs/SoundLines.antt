@@ -2,7 +2,6 @@
 use Rattle.std.proofs.Common.{◌≡◌, ℕ, zero, suc, ◌+◌, ◌-◌, ◌≤◌, List, ◌∷◌, Option, Some, None, Bool, true, false, refl}
 use Rattle.std.proofs.Common.{sym, subst, arith, inl, inr}
 use Rattle.std.specs.Prelude.{slice_get, ◌==◌, ◌||◌, if◌then◌else◌}
-use Rattle.std.proofs.lemmas.Bool.Decides.{nat_tests}
 use Rattle.fluent_syntax_tree.specs.Kind.{Kind}
 use Rattle.fluent_syntax_tree.specs.Tree.{ExpressionTree, KeyTree, PatternTree}
 use Rattle.fluent_syntax_tree.specs.Every.{key_every, expression_every, variants_every, pattern_every, option_every}
@@ -29,32 +28,26 @@ use Rattle.fluent_syntax_grammar.proofs.Sound.{sound_gives, sound_fails, sound_e
 use Rattle.fluent_syntax_grammar.proofs.Sound.{sound_inline_blank, sound_blank, sound_blank_block, onward_run}
 use Rattle.fluent_syntax_grammar.proofs.SoundWords.{sound_optional, sound_token}
 use Rattle.fluent_syntax_grammar.proofs.GoodLayout.{GoodEnding, GoodLine, GoodLayout, earlier_pieces, good_pattern}
-use Rattle.fluent_syntax_grammar.proofs.SoundRules.{EndedPieces, IsSoundFamily, inside_places, sound_key, sound_only}
+use Rattle.fluent_syntax_grammar.proofs.SoundRules.{EndedPieces, IsSoundFamily, sound_key, sound_only}
 use Rattle.fluent_syntax_grammar.proofs.SoundRules.{sound_end, sound_placeable, sound_inline, sound_arguments}
-use Rattle.fluent_syntax_grammar.proofs.Facts.{byte_stands, two_on}
+use Rattle.fluent_syntax_grammar.proofs.Facts.{byte_stands, two_on, two_on_as_one, one_on_as_two}
 
 by_test : (P : ℕ → Type 0) (s i : ℕ) (test : Bool) → (test ≡ true → GoodEnding P s (lf_at i)) →
     (test ≡ false → GoodEnding P s (crlf_at i)) → GoodEnding P s (if test then lf_at i else crlf_at i)
 by_test P s i true f g = f refl
 by_test P s i false f g = g refl
 
-not_both : (i k : ℕ) → k ≡ i + 2 → (k == i + 1) ≡ true → ⊥
-not_both i k e f = grind (arith, nat_tests)
-
-neither : (i k : ℕ) → k ≡ i + 1 → (k == i + 1) ≡ false → ⊥
-neither i k e f = grind (arith, nat_tests)
-
 module _ (t : List ℕ) (P : ℕ → Type 0) (cuts : IsCuts t P) where
   lf_good : (s i k : ℕ) → Inside P s i → after_eol t i ≡ Some k → (k == i + 1) ≡ true → GoodEnding P s (lf_at i)
   lf_good s i k p e f =
       elim (eol_cases t i k e) [
         | inl x ↦ (p.late, p.place, cuts.after i (ascii_byte t lf i (omega arith) x.0))
-        | inr x ↦ absurd (not_both i k x.2 f)
+        | inr x ↦ absurd (two_on_as_one i k x.2 f)
       ]
 
   crlf_good : (s i k : ℕ) → Inside P s i → after_eol t i ≡ Some k → (k == i + 1) ≡ false → GoodEnding P s (crlf_at i)
   crlf_good s i k p e f = elim (eol_cases t i k e) [
-    | inl x ↦ absurd (neither i k x.1 f)
+    | inl x ↦ absurd (one_on_as_two i k x.1 f)
     | inr x ↦ (let a = ascii_byte t lf (i + 1) (omega arith) x.1 in
         (p.late, cuts.before (i + 1) a, subst P (two_on i) (cuts.after (i + 1) a)))
   ]
@@ -288,7 +281,7 @@ module _ (edition : Edition) (t : List ℕ) (P : ℕ → Type 0) (cuts : IsCuts 
     sound_variant : {s : ℕ} (starred star : Bool) (key : KeyTree Span) (p : Option (PatternTree Span)) →
         key_every (IsSpan P) key → option_every (pattern_every (IsSpan P)) p →
         Sound t P s (variant_and_more edition t R starred star key p) (variants_every (IsSpan P))
-    sound_variant starred star key None g k = sound_fails (inside_places t P cuts) tt (λ i. tt)
+    sound_variant starred star key None g k = sound_fails cuts.in_text tt (λ i. tt)
     sound_variant {s = s} starred star key (Some p) g k =
         sound_bind (sound_blank t P cuts)
         (λ u v. sound_bind (h.more_variants s (starred || star)) (λ vs m. sound_gives ((g, k), m)))

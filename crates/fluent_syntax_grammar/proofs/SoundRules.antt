@@ -1,5 +1,5 @@
 -- The rules over a sound family are sound.
-use Rattle.std.proofs.Common.{◌≡◌, ℕ, ◌+◌, ◌≤◌, List, [], ◌∷◌, length, Option, Some, None, Bool, true, false, refl, sym}
+use Rattle.std.proofs.Common.{◌≡◌, ℕ, ◌+◌, ◌≤◌, List, [], ◌∷◌, Option, Some, None, Bool, true, false, refl, sym}
 use Rattle.std.proofs.Common.{◌∙◌, subst, arith}
 use Rattle.std.specs.Prelude.{slice_get, ◌==◌}
 use Rattle.fluent_syntax_tree.specs.Kind.{Kind, MessageReferenceAsSelector, MessageAttributeAsSelector}
@@ -56,9 +56,6 @@ pub sound_look : {A : Type 0} {t : List ℕ} {P : ℕ → Type 0} {s : ℕ} {loo
 sound_look = sound_at_each (λ a. sound_gives tt)
 
 module _ (t : List ℕ) (P : ℕ → Type 0) (cuts : IsCuts t P) where
-  pub inside_places : (i : ℕ) → P i → i ≤ length t
-  inside_places i p = cuts.in_text i p
-
   pub sound_accessor : {s : ℕ} → Sound t P s (accessor t) (option_every (IsSpan P))
   sound_accessor =
       sound_bind (sound_optional t P cuts 46 refl)
@@ -74,7 +71,7 @@ module _ (t : List ℕ) (P : ℕ → Type 0) (cuts : IsCuts t P) where
       Sound t P s (named_reference t id a) (inline_every (IsSpan P))
   sound_named id no_arguments g h = sound_bind sound_accessor (λ a k. sound_gives (g, k))
   sound_named id (some_arguments a) g h =
-      sound_either (λ e. sound_gives (g, h)) (λ e. sound_fails inside_places tt (λ i. tt))
+      sound_either (λ e. sound_gives (g, h)) (λ e. sound_fails cuts.in_text tt (λ i. tt))
 
   pub sound_key : {s : ℕ} → Sound t P s (variant_key t) (key_every (IsSpan P))
   sound_key =
@@ -83,11 +80,11 @@ module _ (t : List ℕ) (P : ℕ → Type 0) (cuts : IsCuts t P) where
       (λ e. sound_bind (sound_identifier t P cuts) (λ v g. sound_gives g)))
 
   pub sound_only : {s : ℕ} (starred star : Bool) → Sound t P s (only_star starred star) (λ u. Unit {0})
-  sound_only starred star = sound_either (λ e. sound_fails inside_places tt (λ i. tt)) (λ e. sound_gives tt)
+  sound_only starred star = sound_either (λ e. sound_fails cuts.in_text tt (λ i. tt)) (λ e. sound_gives tt)
 
   pub sound_end : {s : ℕ} (edition : Edition) (starred star : Bool) →
       Sound t P s (variants_end edition starred star) (variants_every (IsSpan P))
-  sound_end edition starred star = sound_either (λ e. sound_gives tt) (λ e. sound_fails inside_places tt (λ i. tt))
+  sound_end edition starred star = sound_either (λ e. sound_gives tt) (λ e. sound_fails cuts.in_text tt (λ i. tt))
 
 good_positional : (P : ℕ → Type 0) (e : InlineTree Span) (a : ArgumentsTree Span) → inline_every (IsSpan P) e →
     arguments_every (IsSpan P) a → arguments_every (IsSpan P) (add_positional e a)
@@ -186,7 +183,7 @@ module _ (t : List ℕ) (P : ℕ → Type 0) (cuts : IsCuts t P) (R : Family) (h
       (λ y. holds_weaker (λ i p. (p.0, p.1 ∙ y)) (λ a j x. x) (λ k from to x. x)
       (select_holds s e g (selector_fault e) (plain_fault t e)))
       (λ y. holds_weaker {pre = Inside P s} (λ i p. p.0) (λ a j x. x) (λ k from to x. x)
-      (sound_either (λ z. sound_fails (inside_places t P cuts) tt (λ i. tt)) (λ z. sound_gives g)).holds)
+      (sound_either (λ z. sound_fails cuts.in_text tt (λ i. tt)) (λ z. sound_gives g)).holds)
 
   pub sound_expression : {s : ℕ} → Sound t P s (expression t R) (expression_every (IsSpan P))
   sound_expression {s = s} = sound_bind (h.inline_expression s) (λ e g. sound_bind (sound_blank t P cuts) (λ u v.
@@ -216,7 +213,7 @@ module _ (t : List ℕ) (P : ℕ → Type 0) (cuts : IsCuts t P) (R : Family) (h
   sound_inline_of letter =
       sound_bind (sound_identifier t P cuts) (λ id g. sound_bind sound_call (λ a k. sound_named t P cuts id a g k))
   sound_inline_of brace = sound_bind sound_placeable (λ e g. sound_gives g)
-  sound_inline_of other = sound_fails (inside_places t P cuts) tt (λ i. tt)
+  sound_inline_of other = sound_fails cuts.in_text tt (λ i. tt)
 
   pub sound_inline : {s : ℕ} → Sound t P s (inline_expression t R) (inline_every (IsSpan P))
   sound_inline = sound_at_each sound_inline_of
@@ -225,15 +222,15 @@ module _ (t : List ℕ) (P : ℕ → Type 0) (cuts : IsCuts t P) (R : Family) (h
   sound_value {s = s} quote = h.inline_expression s
   sound_value {s = s} digit = h.inline_expression s
   sound_value {s = s} letter = h.inline_expression s
-  sound_value minus = sound_fails (inside_places t P cuts) tt (λ i. tt)
-  sound_value term = sound_fails (inside_places t P cuts) tt (λ i. tt)
-  sound_value dollar = sound_fails (inside_places t P cuts) tt (λ i. tt)
-  sound_value brace = sound_fails (inside_places t P cuts) tt (λ i. tt)
-  sound_value other = sound_fails (inside_places t P cuts) tt (λ i. tt)
+  sound_value minus = sound_fails cuts.in_text tt (λ i. tt)
+  sound_value term = sound_fails cuts.in_text tt (λ i. tt)
+  sound_value dollar = sound_fails cuts.in_text tt (λ i. tt)
+  sound_value brace = sound_fails cuts.in_text tt (λ i. tt)
+  sound_value other = sound_fails cuts.in_text tt (λ i. tt)
 
   sound_named_argument : {s : ℕ} (names : List (List ℕ)) (name : Span) → IsSpan P name →
       Sound t P s (named_and_more t R names name) (arguments_every (IsSpan P))
-  sound_named_argument {s = s} names name f = sound_either (λ e. sound_fails (inside_places t P cuts) tt (λ i. tt))
+  sound_named_argument {s = s} names name f = sound_either (λ e. sound_fails cuts.in_text tt (λ i. tt))
       (λ y. sound_bind (sound_token t P cuts 58 refl)
       (λ u v. sound_bind (sound_blank t P cuts) (λ u v. sound_bind (sound_at_each sound_value) (λ e g.
       sound_bind (sound_separator t P cuts)
@@ -245,7 +242,7 @@ module _ (t : List ℕ) (P : ℕ → Type 0) (cuts : IsCuts t P) (R : Family) (h
   sound_positional {s = s} [] e g =
       sound_bind (sound_separator t P cuts)
       (λ u v. sound_bind (h.more_arguments s []) (λ a k. sound_gives (good_positional P e a g k)))
-  sound_positional (n ∷ ns) e g = sound_fails (inside_places t P cuts) tt (λ i. tt)
+  sound_positional (n ∷ ns) e g = sound_fails cuts.in_text tt (λ i. tt)
 
   sound_argument : {s : ℕ} (names : List (List ℕ)) (e : InlineTree Span) (o : Option Span) (colon : Bool) →
       inline_every (IsSpan P) e → option_every (IsSpan P) o →

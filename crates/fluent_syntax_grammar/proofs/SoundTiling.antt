@@ -22,16 +22,13 @@ use Rattle.fluent_syntax_grammar.proofs.Sound.{sound_optional_eol}
 use Rattle.fluent_syntax_grammar.proofs.SoundEntries.{IsEntryFault, earlier_fault, message_read, message_refused}
 use Rattle.fluent_syntax_grammar.proofs.SoundEntries.{letter_refused, term_read, term_refused}
 use Rattle.fluent_syntax_grammar.proofs.SoundComments.{comment_read, comment_refused}
-use Rattle.fluent_syntax_grammar.proofs.Facts.{byte_stands, lt_or_same, right_true}
+use Rattle.fluent_syntax_grammar.proofs.Facts.{byte_stands, lt_or_same, right_true, byte_of}
 
 ascii_entry : IsAsciiSet is_entry_byte
 ascii_entry = record { small = λ b e. grind (arith, nat_tests) }
 
 entry_letter : (b : ℕ) → (b == 35) ≡ false → (b == 45) ≡ false → is_entry_byte b ≡ true → is_letter b ≡ true
 entry_letter b e f g = grind (arith, nat_tests)
-
-byte_of : (test : ℕ → Bool) (o : Option ℕ) (b : ℕ) → o ≡ Some b → holds test o ≡ true → test b ≡ true
-byte_of test o b e f = rw e at f
 
 no_byte_of : (test : ℕ → Bool) (o : Option ℕ) → o ≡ None → holds test o ≡ true → ⊥
 no_byte_of test o e f = false≢true (rw e at f)

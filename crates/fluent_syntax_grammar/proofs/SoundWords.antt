@@ -9,7 +9,7 @@ use Rattle.fluent_syntax_grammar.specs.Words.{optional, token, digits, identifie
 use Rattle.fluent_syntax_grammar.proofs.Holds.{Holds, holds_weaker, holds_bind, holds_gives, holds_fails, holds_over}
 use Rattle.fluent_syntax_grammar.proofs.Holds.{holds_at_each, holds_either}
 use Rattle.fluent_syntax_grammar.proofs.Cuts.{IsCuts, ascii_byte, ascii_digit, ascii_name}
-use Rattle.fluent_syntax_grammar.proofs.Sound.{IsSpan, Inside, Ended, IsFault, Sound, sound_bind, sound_gives}
+use Rattle.fluent_syntax_grammar.proofs.Sound.{IsSpan, Inside, IsFault, Sound, sound_bind, sound_gives}
 use Rattle.fluent_syntax_grammar.proofs.Sound.{sound_fails, sound_over, sound_at_each, sound_either, sound_here}
 use Rattle.fluent_syntax_grammar.proofs.Sound.{sound_spanned, onward_word}
 

@@ -1,7 +1,9 @@
 -- What a test says of its parts, and its parts of it.
-use Rattle.std.proofs.Common.{◌≡◌, ℕ, Bool, true, false, refl, inl, inr}
+use Rattle.std.proofs.Common.{◌≡◌, ℕ, Bool, true, false, refl, inl, inr, arith}
+use Rattle.std.proofs.lemmas.Bool.Decides.{nat_tests}
 use Rattle.std.specs.Prelude.{◌==◌, ◌&&◌, ◌||◌, ◌⊎◌, not}
 use Rattle.fluent_syntax_grammar.proofs.Facts.{equal}
+use Rattle.fluent_syntax_grammar.specs.Bytes.{is_letter, is_name_byte}
 
 -- ---- both, or one of them
 
@@ -11,6 +13,12 @@ both e f = rw (e, f) refl
 pub and_false : (x : Bool) → (x && false) ≡ false
 and_false true = refl
 and_false false = refl
+
+pub and_left : (x y : Bool) → x ≡ false → (x && y) ≡ false
+and_left x y e = rw e refl
+
+pub and_right : (x y : Bool) → y ≡ false → (x && y) ≡ false
+and_right x y e = rw e (and_false x)
 
 pub or_true : (x : Bool) → (x || true) ≡ true
 or_true true = refl
@@ -37,6 +45,9 @@ or_cases false y e = inr e
 
 -- ---- neither, and not
 
+pub or_none : (x y : Bool) → x ≡ false → y ≡ false → (x || y) ≡ false
+or_none x y e f = rw (e, f) refl
+
 pub neither_left : (x y : Bool) → (x || y) ≡ false → x ≡ false
 neither_left true y e = cc
 neither_left false y e = refl
@@ -58,6 +69,9 @@ without true y e = not_true y e
 without false y e = cc
 
 -- ---- bytes
+
+pub letter_name : (b : ℕ) → is_letter b ≡ true → is_name_byte b ≡ true
+letter_name b e = grind (arith, nat_tests)
 
 differ_at : (p : ℕ → Bool) (b c : ℕ) (x : Bool) → (b == c) ≡ x → p b ≡ true → p c ≡ false → x ≡ false
 differ_at p b c false e f g = refl

@@ -119,7 +119,7 @@ module _ {t : List ℕ} {s : ℕ} where
   both_either x y =
       record { total = total_either (λ e. x.total) (λ e. y.total); on = holds_either (λ e. x.on) (λ e. y.on) }
 
-  earlier : (i : ℕ) → From t (s + 1) i → From t s i
+  pub earlier : (i : ℕ) → From t (s + 1) i → From t s i
   earlier i p = let late = p.late in record { late = omega arith; in_text = p.in_text }
 
   pub both_strict : {A : Type 0} {c : Construct A} → Strict t s c → Both t s c

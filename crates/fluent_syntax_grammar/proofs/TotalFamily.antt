@@ -21,17 +21,17 @@ use Rattle.fluent_syntax_tree.specs.declared.spans.Span.{Span}
 use Rattle.fluent_syntax_grammar.proofs.Functional.{single_stretch}
 use Rattle.fluent_syntax_grammar.proofs.Holds.{Holds, gave, holds_weaker, holds_bind, holds_over, holds_at_each}
 use Rattle.fluent_syntax_grammar.proofs.Holds.{holds_either}
-use Rattle.fluent_syntax_grammar.proofs.Cuts.{eol_forward}
+use Rattle.fluent_syntax_grammar.proofs.Cuts.{eol_forward, eol_text}
 use Rattle.fluent_syntax_grammar.proofs.SoundStrings.{InText}
 use Rattle.fluent_syntax_grammar.proofs.SoundLines.{sound_family}
 use Rattle.fluent_syntax_grammar.proofs.Boundaries.{text_cuts}
 use Rattle.fluent_syntax_grammar.proofs.Nesting.{into_inline_expression, into_more_arguments, into_more_variants}
 use Rattle.fluent_syntax_grammar.proofs.Nesting.{into_more_pieces, into_more_lines, from_family}
-use Rattle.fluent_syntax_grammar.proofs.Total.{From, AnyFault, Total, Both, Strict, total_bind, total_weaker}
+use Rattle.fluent_syntax_grammar.proofs.Total.{From, AnyFault, Total, Both, Strict, total_bind, total_weaker, earlier}
 use Rattle.fluent_syntax_grammar.proofs.Total.{total_over, total_at_each, total_either, both_bind, both_gives}
 use Rattle.fluent_syntax_grammar.proofs.Total.{both_here, both_fails, both_either, both_strict}
 use Rattle.fluent_syntax_grammar.proofs.TotalWords.{both_blank, both_blank_block, both_inline_blank, both_optional}
-use Rattle.fluent_syntax_grammar.proofs.TotalWords.{eol_text, on_sound, optional_on, strict_token, total_optional}
+use Rattle.fluent_syntax_grammar.proofs.TotalWords.{on_sound, optional_on, strict_token, total_optional}
 use Rattle.fluent_syntax_grammar.proofs.TotalWords.{word_of}
 use Rattle.fluent_syntax_grammar.proofs.TotalRules.{BothFamily, both_key, both_ending, strict_inline, strict_arguments}
 use Rattle.fluent_syntax_grammar.proofs.TotalRules.{both_pieces, more_read, ending_after}
@@ -197,16 +197,13 @@ module _ (edition : Edition) (t : List ℕ) where
       optional t 91 >>= λ bracket.
       either bracket (variant_after edition t R starred star) (variants_end edition starred star)
 
-  earlier : (s i : ℕ) → From t (s + 1) i → From t s i
-  earlier s i p = let late = p.late in record { late = omega arith; in_text = p.in_text }
-
   both_bracket : (s : ℕ) → BothFamily t (s + 1) R → (starred star : Bool) → Both t s (Bracket starred star)
   both_bracket s h starred star = record {
     total = total_bind (total_optional t 91) (optional_on t s 91) (λ bracket. total_either
         (λ e. total_weaker (λ i p. p.past e) (both_after (s + 1) h starred star).total)
         (λ e. total_weaker (λ i p. p.at) (both_end s starred star).total));
     on = holds_bind (optional_on t s 91) (λ bracket. holds_either
-        (λ e. holds_weaker (λ i p. p.past e) (λ a j p. earlier s j p) (λ k from to x. x)
+        (λ e. holds_weaker (λ i p. p.past e) (λ a j p. earlier j p) (λ k from to x. x)
         (both_after (s + 1) h starred star).on)
         (λ e. holds_weaker (λ i p. p.at) (λ a j x. x) (λ k from to x. x) (both_end s starred star).on));
   }

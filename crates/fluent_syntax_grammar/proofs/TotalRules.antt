@@ -1,8 +1,7 @@
 -- What nests has an outcome at each place of the text.
-use Rattle.std.proofs.Common.{◌≡◌, ℕ, ◌+◌, ◌<◌, List, [], ◌∷◌, Option, Some, None, Bool, true, false, refl, sym, ◌∙◌}
+use Rattle.std.proofs.Common.{◌≡◌, ℕ, ◌+◌, List, [], ◌∷◌, Option, Some, None, Bool, true, false, refl, ◌∙◌}
 use Rattle.std.proofs.Common.{subst, arith, inl, inr}
 use Rattle.std.specs.Prelude.{slice_get, ◌⊎◌, ◌==◌, ◌||◌, ◌&&◌, not, if◌then◌else◌}
-use Rattle.std.proofs.lemmas.Bool.{false≢true}
 use Rattle.fluent_syntax_tree.specs.Kind.{Kind, TermAttributeAsPlaceable, UnbalancedClosingBrace}
 use Rattle.fluent_syntax_tree.specs.Tree.{inline, InlineTree, ExpressionTree, MaybeArguments, no_arguments}
 use Rattle.fluent_syntax_tree.specs.Tree.{some_arguments}
@@ -25,18 +24,18 @@ use Rattle.fluent_syntax_grammar.specs.Variants.{variant_key}
 use Rattle.fluent_syntax_tree.specs.declared.spans.Span.{Span}
 use Rattle.fluent_syntax_grammar.proofs.Holds.{Holds, gave, holds_weaker, holds_bind, holds_gives, holds_here}
 use Rattle.fluent_syntax_grammar.proofs.Holds.{holds_fails, holds_over, holds_at_each, holds_either}
-use Rattle.fluent_syntax_grammar.proofs.Cuts.{eol_forward}
+use Rattle.fluent_syntax_grammar.proofs.Cuts.{eol_forward, eol_text}
 use Rattle.fluent_syntax_grammar.proofs.SoundStrings.{InText}
 use Rattle.fluent_syntax_grammar.proofs.SoundLines.{ending_holds}
 use Rattle.fluent_syntax_grammar.proofs.Boundaries.{text_cuts}
-use Rattle.fluent_syntax_grammar.proofs.Total.{From, AnyFault, Total, Both, Strict, total_bind, total_weaker}
+use Rattle.fluent_syntax_grammar.proofs.Total.{From, AnyFault, Total, Both, Strict, total_bind, total_weaker, earlier}
 use Rattle.fluent_syntax_grammar.proofs.Total.{total_gives, total_here, total_fails, total_over, total_at_each}
 use Rattle.fluent_syntax_grammar.proofs.Total.{total_either, both_bind, both_gives, both_here, both_fails, both_at_each}
 use Rattle.fluent_syntax_grammar.proofs.Total.{both_either, both_strict, strict_first, strict_fails, strict_at_each}
 use Rattle.fluent_syntax_grammar.proofs.Total.{strict_either}
-use Rattle.fluent_syntax_grammar.proofs.TotalWords.{both_blank, both_inline_blank, both_optional, eol_text, run_word}
+use Rattle.fluent_syntax_grammar.proofs.TotalWords.{both_blank, both_inline_blank, both_optional, run_word}
 use Rattle.fluent_syntax_grammar.proofs.TotalWords.{strict_identifier, strict_number, strict_string, strict_token}
-use Rattle.fluent_syntax_grammar.proofs.Facts.{byte_inside, differs, lt_or_same, right_true}
+use Rattle.fluent_syntax_grammar.proofs.Facts.{differs, right_true, stretch_onward, has_inside}
 
 -- each construct of the family has an outcome at each place from s on
 pub record BothFamily (t : List ℕ) (s : ℕ) (R : Family) : Type 0 where
@@ -146,11 +145,6 @@ module _ (t : List ℕ) where
       run_at i b (slice_get t i) (has_eol t i) h e
       (byte_is i b lf h (no_line_feed (has_byte t lf i) (has_byte t cr i) (has_byte t lf (i + 1)) e)) y z
 
-  run_on : (i j : ℕ) → is_run_place t i ≡ true → Stretch (is_run_place t) i j → i < j
-  run_on i j e w =
-      elim (lt_or_same i j w.forward)
-      [ inl l ↦ l | inr same ↦ absurd (false≢true (sym w.longest ∙ subst (λ k. is_run_place t k ≡ true) same e)) ]
-
 module _ (t : List ℕ) (s : ℕ) (R : Family) (h : BothFamily t (s + 1) R) where
   both_call : Both t (s + 1) (call_arguments t R)
   both_call =
@@ -168,7 +162,7 @@ module _ (t : List ℕ) (s : ℕ) (R : Family) (h : BothFamily t (s + 1) R) wher
       let late = q.late in
       let by = w.by in
       let l =
-      byte_inside (λ c. c == 62) t (i + 1) (slice_get t (i + 1)) refl
+      has_inside (λ c. c == 62) t (i + 1)
       (right_true (has_byte t 45 i) (has_byte t 62 (i + 1)) p.1) in
       record { late = omega arith; in_text = omega arith }
 
@@ -296,7 +290,7 @@ module _ (t : List ℕ) (s : ℕ) (R : Family) (h : BothFamily t (s + 1) R) wher
   AtRun i = From t s i × (is_run_place t i ≡ true)
 
   past_run : (i j : ℕ) → AtRun i → Stretch (is_run_place t) i j → From t (s + 1) j
-  past_run i j p w = let q = p.0 in let late = q.late in let on = run_on t i j p.1 w in
+  past_run i j p w = let q = p.0 in let late = q.late in let on = stretch_onward (is_run_place t) i j p.1 w in
       record { late = omega arith; in_text = (run_word t).in_text i j q.in_text w }
 
   after_run : (from : ℕ) → Both t (s + 1) (here >>= λ to. R.more_pieces >>= λ ps. gives (run from to ∷ ps))
@@ -335,9 +329,6 @@ module _ (t : List ℕ) (s : ℕ) (R : Family) (h : BothFamily t (s + 1) R) wher
       (λ y. holds_weaker (λ i p. p.0) (λ a j z. z) (λ k from to z. z) placed_and_more.on)
       (λ y. holds_weaker (λ i p. (p.0, run_place t i b p.1 p.2 y x)) (λ a j z. z) (λ k from to z. z) run_read_on))
 
-  later_from : (i : ℕ) → From t (s + 1) i → From t s i
-  later_from i p = let late = p.late in record { late = omega arith; in_text = p.in_text }
-
   pieces_total : (o : Option ℕ) → Total (λ i. From t s i × (slice_get t i ≡ o)) (pieces_at t R o)
   pieces_total None = total_gives
   pieces_total (Some b) =
@@ -349,7 +340,7 @@ module _ (t : List ℕ) (s : ℕ) (R : Family) (h : BothFamily t (s + 1) R) wher
   pieces_on (Some b) =
       holds_at_each
       (λ eol. holds_either (λ e. holds_gives (λ i p. p.0.0))
-      (λ e. holds_weaker (λ i p. (p.0.0, p.0.1, p.1 ∙ e)) (λ a j p. later_from j p) (λ k from to z. z) (rest_on b)))
+      (λ e. holds_weaker (λ i p. (p.0.0, p.0.1, p.1 ∙ e)) (λ a j p. earlier j p) (λ k from to z. z) (rest_on b)))
 
   pub both_pieces : Both t s (more_pieces t R)
   both_pieces = record { total = total_at_each pieces_total; on = holds_at_each pieces_on }

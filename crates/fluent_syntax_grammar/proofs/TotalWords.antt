@@ -15,7 +15,7 @@ use Rattle.fluent_syntax_grammar.specs.Strings.{unit_and_more, bad_unit, string_
 use Rattle.fluent_syntax_grammar.specs.Lines.{is_run_place}
 use Rattle.fluent_syntax_grammar.proofs.Holds.{Holds, holds_weaker, holds_bind, holds_gives, holds_fails, holds_over}
 use Rattle.fluent_syntax_grammar.proofs.Holds.{holds_at_each, holds_either}
-use Rattle.fluent_syntax_grammar.proofs.Cuts.{ascii_blank, line_inside, run_inside, eol_forward, eol_place}
+use Rattle.fluent_syntax_grammar.proofs.Cuts.{ascii_blank, line_inside, run_inside, eol_forward, eol_text}
 use Rattle.fluent_syntax_grammar.proofs.Cuts.{block_forward, block_place}
 use Rattle.fluent_syntax_grammar.proofs.Sound.{Sound}
 use Rattle.fluent_syntax_grammar.proofs.SoundStrings.{InText, unit_holds, sound_units}
@@ -27,7 +27,7 @@ use Rattle.fluent_syntax_grammar.proofs.Total.{From, AnyFault, Total, Both, Stri
 use Rattle.fluent_syntax_grammar.proofs.Total.{total_fails, total_over, total_at_each, total_either, both_bind}
 use Rattle.fluent_syntax_grammar.proofs.Total.{both_gives, both_here, both_fails, both_over, both_at_each, both_either}
 use Rattle.fluent_syntax_grammar.proofs.Total.{both_strict, strict_first, strict_then}
-use Rattle.fluent_syntax_grammar.proofs.Facts.{byte_inside, lt_or_same, stretch_in_text}
+use Rattle.fluent_syntax_grammar.proofs.Facts.{lt_or_same, stretch_in_text, has_inside}
 
 true_false : {X : Type 0} → false ≡ true → X
 true_false e = cc
@@ -62,22 +62,16 @@ module _ (t : List ℕ) where
     in_text = λ i j l s. stretch_in_text (length t) test inside i j l s;
   }
 
-  has_inside : (set : ℕ → Bool) (k : ℕ) → has t set k ≡ true → k < length t
-  has_inside set k e = byte_inside set t k (slice_get t k) refl e
-
   blank_inside : (k : ℕ) → is_blank_place t k ≡ true → k < length t
   blank_inside k e = let a = ascii_blank t k e in slice_get_within t k a.byte a.stands
 
   pub word_of : (set : ℕ → Bool) → IsWord t (Word t set)
-  word_of set = stretch_word (has t set) (has_inside set)
+  word_of set = stretch_word (has t set) (has_inside set t)
 
   pub run_word : IsWord t (Stretch (is_run_place t))
   run_word = stretch_word (is_run_place t) (run_inside t)
 
   -- ---- blank blocks
-
-  pub eol_text : (i k : ℕ) → after_eol t i ≡ Some k → k ≤ length t
-  eol_text i k e = eol_place t (InText t) (text_cuts t) i k e
 
   block_at : (m i k : ℕ) → length t ≤ i + m → i ≤ length t → InlineBlank t i k → (o : Option ℕ) → after_eol t k ≡ o →
       ((q : ℕ) → i < q → q ≤ length t → (j : ℕ) × BlankBlock t q j) → (j : ℕ) × BlankBlock t i j
@@ -85,7 +79,7 @@ module _ (t : List ℕ) where
   block_at m i k l a w (Some q) e more =
       let forward = w.forward in
       let on = eol_forward t k q e in
-      let x = more q (omega arith) (eol_text k q e) in
+      let x = more q (omega arith) (eol_text t k q e) in
       (x.0, line w e x.1)
 
   block_exists : (m i : ℕ) → length t ≤ i + m → i ≤ length t → (j : ℕ) × BlankBlock t i j
@@ -121,7 +115,7 @@ module _ (t : List ℕ) where
   optional_on s b = holds_at_each (λ found. holds_either
       (λ e. holds_bind {mid = λ u. From t (s + 1)}
       (holds_over (λ i j p w. let q = p.0 in let late = q.late in let by = w.by in
-      let l = has_inside (λ c. c == b) i (p.1 ∙ e) in record { late = omega arith; in_text = omega arith }))
+      let l = has_inside (λ c. c == b) t i (p.1 ∙ e) in record { late = omega arith; in_text = omega arith }))
       (λ u. holds_gives
       (λ i p. let late = p.late in
       record { at = record { late = omega arith; in_text = p.in_text }; past = λ yes. p })))
@@ -158,7 +152,7 @@ module _ (t : List ℕ) where
   past_on s None = holds_gives (λ i p. p.0)
   past_on s (Some k) =
       holds_over (λ i j p w. let q = p.0 in let late = q.late in let there = w.there in let f = eol_forward t i k p.1 in
-      let l = eol_text i k p.1 in record { late = omega arith; in_text = omega arith })
+      let l = eol_text t i k p.1 in record { late = omega arith; in_text = omega arith })
 
   pub both_optional_eol : {s : ℕ} → Both t s (optional_eol t)
   both_optional_eol {s = s} = record { total = total_at_each (past_total s); on = holds_at_each (past_on s) }

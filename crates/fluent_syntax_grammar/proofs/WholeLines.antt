@@ -12,22 +12,16 @@ use Rattle.fluent_syntax_grammar.specs.Words.{token, optional_eol, past_eol}
 use Rattle.fluent_syntax_grammar.specs.Tiling.{whole_line}
 use Rattle.fluent_syntax_grammar.specs.Comments.{hashes, comment_text, comment_rest, comment_line}
 use Rattle.fluent_syntax_tree.specs.declared.spans.Span.{Span}
-use Rattle.fluent_syntax_grammar.proofs.Cuts.{eol_cases, eol_forward}
-use Rattle.fluent_syntax_grammar.proofs.LineEnds.{IsLineStart, eol_start, split_at}
-use Rattle.fluent_syntax_grammar.proofs.Facts.{byte_found, excludes, none_holds, some_same}
+use Rattle.fluent_syntax_grammar.proofs.Cuts.{eol_cases, eol_forward, eol_text}
+use Rattle.fluent_syntax_grammar.proofs.LineEnds.{IsLineStart, eol_start, eol_none, after_none}
+use Rattle.fluent_syntax_grammar.proofs.Facts.{byte_found, excludes, none_holds, some_same, lt_or_le}
+use Rattle.fluent_syntax_grammar.proofs.Tests.{neither_left, or_none, and_left}
 
 -- a line from i on, with its line end, reaches to j
 pub record IsLine (t : List ℕ) (i j : ℕ) : Type 0 where
   pub end : ℕ
   pub stretch : Stretch (is_line_place t) i end
   pub eol : (after_eol t end ≡ Some j) ⊎ ((after_eol t end ≡ None) × (j ≡ end))
-
-no_eol : (a b c : Bool) (i : ℕ) → (if a then Some (i + 1) else if b && c then Some (i + 2) else None) ≡ None →
-    (a || b && c) ≡ false
-no_eol true b c i e = cc
-no_eol false true true i e = cc
-no_eol false true false i e = refl
-no_eol false false c i e = refl
 
 no_byte_stands : (o : Option ℕ) (e : Bool) → (is_some o && not e) ≡ false → e ≡ false → o ≡ None
 no_byte_stands None e h g = refl
@@ -39,10 +33,6 @@ byte_stands None e h = cc
 byte_stands (Some b) true h = cc
 byte_stands (Some b) false h = (refl, (b, refl))
 
-or_left_false : (a b : Bool) → (a || b) ≡ false → a ≡ false
-or_left_false true b e = e
-or_left_false false b e = refl
-
 some_none : {o : Option ℕ} {b : ℕ} {X : Type 0} → o ≡ Some b → o ≡ None → X
 some_none e f = cc
 
@@ -53,15 +43,8 @@ cr_no_lf : (o : Option ℕ) → holds (λ c. c == cr) o ≡ true → holds (λ c
 cr_no_lf None e = refl
 cr_no_lf (Some b) e = cr_byte b e
 
-or_false : (a b : Bool) → a ≡ false → b ≡ false → (a || b) ≡ false
-or_false a b e f = rw (e, f)
-
 not_zero : (m : ℕ) → (suc m == 0) ≡ false
 not_zero m = grind (arith, nat_tests)
-
-no_lf_eol : (a b c : Bool) (i : ℕ) → a ≡ false → b ≡ false →
-    (if a then Some (i + 1) else if b && c then Some (i + 2) else None) ≡ None
-no_lf_eol a b c i e f = rw (e, f)
 
 module _ (t : List ℕ) where
   past_of : (i j : ℕ) (o : Option ℕ) → after_eol t i ≡ o → past_eol o i (Read tt j) → (after_eol t i ≡ Some j) ⊎
@@ -90,12 +73,12 @@ module _ (t : List ℕ) where
 
   place_no_lf : (k : ℕ) → is_line_place t k ≡ true → has_byte t lf k ≡ false
   place_no_lf k e = let b = byte_stands (slice_get t k) (has_eol t k) e in
-      or_left_false (has_byte t lf k) (has_byte t cr k && has_byte t lf (k + 1)) b.0
+      neither_left (has_byte t lf k) (has_byte t cr k && has_byte t lf (k + 1)) b.0
 
   stretch_inside : (i k : ℕ) → i ≤ length t → Stretch (is_line_place t) i k → k ≤ length t
   stretch_inside i k l s =
       let forward = s.forward in
-      elim (split_at t i k) [
+      elim (lt_or_le i k) [
         | inl x ↦ (let last = place_inside (k - 1) (s.each (k - 1) (omega arith) (omega arith)) in omega arith)
         | inr x ↦ omega arith
       ]
@@ -108,7 +91,7 @@ module _ (t : List ℕ) where
       let inside = stretch_inside i k l s in
       let past =
       no_byte_at k (no_byte_stands (slice_get t k) (has_eol t k) s.longest
-      (no_eol (has_byte t lf k) (has_byte t cr k) (has_byte t lf (k + 1)) k e)) in
+      (after_none t k e)) in
       omega arith
 
   -- a line leads to the start of a line, or to the text's end
@@ -116,18 +99,10 @@ module _ (t : List ℕ) where
   line_start i j l x =
       elim x.eol [ inl e ↦ inl (eol_start t x.end j e) | inr e ↦ inr (e.1 ∙ line_none i x.end l x.stretch e.0) ]
 
-  eol_inside : (k j : ℕ) → after_eol t k ≡ Some j → j ≤ length t
-  eol_inside k j e = elim (eol_cases t k j e) [
-    | inl x ↦ (let b = byte_found (λ b. b == lf) (slice_get t k) x.0 in let l = slice_get_within t k b.0 b.1 in
-        let f = x.1 in omega arith)
-    | inr x ↦ (let b = byte_found (λ b. b == lf) (slice_get t (k + 1)) x.1 in
-        let l = slice_get_within t (k + 1) b.0 b.1 in let f = x.2 in omega arith)
-  ]
-
   pub line_in_text : (i j : ℕ) → i ≤ length t → IsLine t i j → j ≤ length t
   line_in_text i j l x =
       elim x.eol [
-        | inl e ↦ eol_inside x.end j e
+        | inl e ↦ eol_text t x.end j e
         | inr e ↦ (let f = line_none i x.end l x.stretch e.0 in let g = e.1 in omega arith)
       ]
 
@@ -154,12 +129,12 @@ module _ (t : List ℕ) where
   no_start i j zero x a b = absurd (omega arith)
   no_start i j (suc m) x a b =
       let none : has_byte t lf m ≡ false =
-      elim (split_at t m x.end) [
+      elim (lt_or_le m x.end) [
         | inl l ↦ place_no_lf m (x.stretch.each m (omega arith) l)
         | inr l ↦ lf_ends x.end j m x.eol l (omega arith)
       ] in
       let same : m ≡ suc m - 1 = omega arith in
-      or_false (suc m == 0) (has_byte t lf (suc m - 1)) (not_zero m) (subst (λ k. has_byte t lf k ≡ false) same none)
+      or_none (suc m == 0) (has_byte t lf (suc m - 1)) (not_zero m) (subst (λ k. has_byte t lf k ≡ false) same none)
 
   -- ---- comment lines
 
@@ -175,7 +150,7 @@ module _ (t : List ℕ) where
       let forward = s.forward in
       record {
         forward = omega arith;
-        each = λ n a b. elim (split_at t n m) [ inl x ↦ f n a x | inr x ↦ s.each n x b ];
+        each = λ n a b. elim (lt_or_le n m) [ inl x ↦ f n a x | inr x ↦ s.each n x b ];
         longest = s.longest;
       }
 
@@ -200,8 +175,9 @@ module _ (t : List ℕ) where
 
   none_eol : (k : ℕ) → slice_get t k ≡ None → after_eol t k ≡ None
   none_eol k e =
-      no_lf_eol (has_byte t lf k) (has_byte t cr k) (has_byte t lf (k + 1)) k
-      (none_holds (λ b. b == lf) (slice_get t k) e) (none_holds (λ b. b == cr) (slice_get t k) e)
+      eol_none (has_byte t lf k) (has_byte t cr k && has_byte t lf (k + 1)) _ _
+      (or_none (has_byte t lf k) _ (none_holds (λ b. b == lf) (slice_get t k) e)
+      (and_left (has_byte t cr k) _ (none_holds (λ b. b == cr) (slice_get t k) e)))
 
   text_line : (i k j : ℕ) (span : Span) (b : ℕ) (eol : Bool) → has_eol t i ≡ eol → slice_get t i ≡ Some b →
       comment_text t eol i (Read span k) → Eol k j → IsLine t i j
@@ -295,7 +271,7 @@ module _ (t : List ℕ) where
   pub hashes_onward : (i j : ℕ) → IsLine t i j → i + hashes t i ≤ j
   hashes_onward i j x =
       let on = line_onward t i j x in
-      elim (split_at t x.end (i + hashes t i)) [
+      elim (lt_or_le x.end (i + hashes t i)) [
         | inl l ↦ absurd
             (false≢true (sym x.stretch.longest ∙ hash_place x.end (hash_bytes i x.end x.stretch.forward l)))
         | inr l ↦ omega arith

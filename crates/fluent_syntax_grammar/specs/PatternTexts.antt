@@ -2,7 +2,7 @@
 use Rattle.std.specs.Prelude.{ℕ, ◌+◌, [], ◌∷◌, None, Bool, true, false, ◌&&◌, ◌||◌, ◌==◌, not, if◌then◌else◌}
 use Rattle.std.specs.List.{list_all}
 use Rattle.fluent_syntax_tree.specs.Text.{is_trimmed}
-use Rattle.fluent_syntax_grammar.specs.Bytes.{lf, cr, is_space}
+use Rattle.fluent_syntax_grammar.specs.Bytes.{lf, cr, is_space, left_brace, right_brace}
 use Rattle.fluent_syntax_grammar.specs.Places.{holds}
 use Rattle.fluent_syntax_grammar.specs.Written.{Text, last_of, is_last}
 
@@ -16,7 +16,7 @@ is_lone_lf (b ∷ bs) = b == lf && is_empty bs
 
 -- `{` or `}`
 abbrev pub is_brace : ℕ → Bool
-is_brace b = b == 123 || b == 125
+is_brace b = b == left_brace || b == right_brace
 
 -- a CR directly before an LF
 abbrev pub has_crlf : Text → Bool

@@ -1,4 +1,3 @@
-pub mod LastBytes
 pub mod Elements
 pub mod Trees
 pub mod Bodies

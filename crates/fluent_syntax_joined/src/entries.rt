@@ -7,8 +7,9 @@ ghost use Rattle.fluent_syntax_grammar.specs.Joined.{joined_pattern, joined_attr
 ghost use Rattle.fluent_syntax_grammar.specs.Joined.{joined_entry, joined_body};
 
 use crate::patterns::pattern;
-use crate::texts::{comment, identifier, list_for};
+use crate::texts::{comment, identifier};
 use fluent_syntax_tree::ast::*;
+use fluent_syntax_tree::capacity::list_for;
 use fluent_syntax_tree::slice::Slice;
 use fluent_syntax_tree::texts::{BySlice, ReadTexts};
 use std::alloc::{AllocError, Global};

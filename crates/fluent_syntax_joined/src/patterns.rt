@@ -6,29 +6,15 @@ ghost use Rattle.fluent_syntax_tree.specs.View.{expression_view, inline_view, el
 ghost use Rattle.fluent_syntax_tree.specs.View.{named_view, pattern_view, variant_view};
 ghost use Rattle.fluent_syntax_grammar.specs.Joined.{is_joined, joined_expression, joined_inline, joined_arguments};
 ghost use Rattle.fluent_syntax_grammar.specs.Joined.{joined_named, joined_pattern, joined_variant};
-ghost use Rattle.fluent_syntax_grammar.specs.PatternTexts.{ends_in_lf, is_lone_lf};
 ghost use Rattle.fluent_syntax_grammar.specs.Written.{Text};
 ghost use Rattle.fluent_syntax_joined.specs.Joining.{before_pattern, joined_from};
 
-use crate::texts::{attribute_name, copied, identifier, key, list_for};
+use crate::texts::{attribute_name, identifier, key, string};
+use fluent_syntax_grammar::texts::{ends_in_lf, is_lone_lf};
 use fluent_syntax_tree::ast::*;
+use fluent_syntax_tree::capacity::list_for;
 use fluent_syntax_tree::texts::ReadTexts;
 use std::alloc::{AllocError, Global};
-
-fn ends_in_lf(text: &str) -> bool
-    ensures { result ≡ ends_in_lf text.now }
-{
-    match text.as_bytes().last() {
-        Some(byte) => *byte == b'\n',
-        None => false,
-    }
-}
-
-fn is_lone_lf(text: &str) -> bool
-    ensures { result ≡ is_lone_lf text.now }
-{
-    text == "\n"
-}
 
 /// Whether a text is joined to the text directly before it.
 fn is_joined(before: &str, after: &str) -> bool
@@ -111,7 +97,7 @@ fn push_element<X, T: ReadTexts<X>>(
 {
     match element {
         PatternElement::TextElement { value } => {
-            push_text(made, last, copied::<X, T>(alloc, value)?)
+            push_text(made, last, string::<X, T>(alloc, value)?)
         }
         PatternElement::Placeable { expression: inner } => {
             push_last(made, last)?;
@@ -209,10 +195,10 @@ fn inline<X, T: ReadTexts<X>>(
 {
     match inline {
         InlineExpression::StringLiteral { value } => Ok(InlineExpression::StringLiteral {
-            value: copied::<X, T>(alloc, value)?,
+            value: string::<X, T>(alloc, value)?,
         }),
         InlineExpression::NumberLiteral { value } => Ok(InlineExpression::NumberLiteral {
-            value: copied::<X, T>(alloc, value)?,
+            value: string::<X, T>(alloc, value)?,
         }),
         InlineExpression::FunctionReference {
             id,

@@ -1,23 +1,14 @@
 //! Texts, and what holds nothing else: names, keys and comments.
-ghost use Rattle.std.specs.Prelude.{◌≡◌, [], IfOk, map, option_map, string_bytes};
+ghost use Rattle.std.specs.Prelude.{◌≡◌, IfOk, map, option_map, string_bytes};
 ghost use Rattle.fluent_syntax_tree.specs.View.{identifier_view, key_view, comment_view};
 
 use fluent_syntax_tree::ast::{Comment, Identifier, VariantKey};
+use fluent_syntax_tree::capacity::list_for;
 use fluent_syntax_tree::texts::ReadTexts;
 use std::alloc::{AllocError, Global};
 
-/// An empty list, with room for as many items as are given where there is memory for it. Where there is none, the first
-/// push says so.
-pub fn list_for<X, Y>(alloc: Global, items: &Vec<X>) -> Vec<Y>
-    ensures { result.items ≡ [] }
-{
-    match Vec::with_capacity(alloc, items.len()) {
-        Ok(list) => list,
-        Err(_) => Vec::new(alloc),
-    }
-}
-
-pub fn copied<X, T: ReadTexts<X>>(alloc: Global, text: &X) -> Result<String, AllocError>
+/// The text, as one that owns its bytes.
+pub fn string<X, T: ReadTexts<X>>(alloc: Global, text: &X) -> Result<String, AllocError>
     ensures { IfOk result (λ copy. string_bytes copy ≡ T.text text.now) }
 {
     String::from_str(alloc, T::as_str(text))
@@ -30,7 +21,7 @@ pub fn identifier<X, T: ReadTexts<X>>(
     ensures { IfOk result (λ copy. identifier_view string_bytes copy ≡ identifier_view T.text id.now) }
 {
     Ok(Identifier {
-        name: copied::<X, T>(alloc, &id.name)?,
+        name: string::<X, T>(alloc, &id.name)?,
     })
 }
 
@@ -42,10 +33,10 @@ pub fn key<X, T: ReadTexts<X>>(
 {
     match key {
         VariantKey::Identifier { name } => Ok(VariantKey::Identifier {
-            name: copied::<X, T>(alloc, name)?,
+            name: string::<X, T>(alloc, name)?,
         }),
         VariantKey::NumberLiteral { value } => Ok(VariantKey::NumberLiteral {
-            value: copied::<X, T>(alloc, value)?,
+            value: string::<X, T>(alloc, value)?,
         }),
     }
 }
@@ -72,7 +63,7 @@ pub fn comment<X, T: ReadTexts<X>>(
 {
     let mut content = list_for(alloc, &comment.content);
     for line in &comment.content {
-        content.push(copied::<X, T>(alloc, line)?)?;
+        content.push(string::<X, T>(alloc, line)?)?;
     }
     Ok(Comment { content })
 }

@@ -5,5 +5,4 @@ pub mod Items
 pub mod Lines
 pub mod Back
 pub mod Outcomes
-pub mod Floats
 pub mod Escapes

@@ -18,7 +18,7 @@ pub struct Diagnostic {
 }
 
 /// The diagnostics of a text: one for each of its errors, in order, at the error's place; a lone one at the text's
-/// begin where the text nests deeper than `NESTING_LIMIT`.
+/// begin where the text nests deeper than `NESTING_LIMIT`. `AllocError` where a growth was refused.
 pub fn diagnostics_in(alloc: Global, text: &str) -> Result<Vec<Diagnostic>, AllocError>
     ensures { IfOk result (λ found. DiagnosesText text.now (map shown found.items)) }
 {

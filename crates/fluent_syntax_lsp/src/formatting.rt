@@ -8,7 +8,7 @@ use fluent_syntax::serializer::serialize;
 use std::alloc::{AllocError, Global};
 
 /// The text formatted. None of a text that has an error, since its junk would be lost, and of one that nests deeper
-/// than `NESTING_LIMIT`.
+/// than `NESTING_LIMIT`. `AllocError` where a growth was refused.
 pub fn formatted(alloc: Global, text: &str) -> Result<Option<String>, AllocError>
     ensures { IfOk result
         (λ found. MatchOption found (IsLeft text.now) (λ written. IsFormatted text.now (string_bytes written))) }

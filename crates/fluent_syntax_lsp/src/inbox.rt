@@ -55,14 +55,14 @@ fn take_body(
     ensures rest { OnOk result (pending.new.items ≡ drop end pending.old.items) }
     ensures err { IfErr result (λ ending. ending ≡ Ending.Memory) }
 {
-    let body = owned(alloc, &pending.as_slice()[start..end])?;
+    let body = copy_of(alloc, &pending.as_slice()[start..end])?;
     let (_, rest) = pending.as_slice().split_at(end);
-    let rest = owned(alloc, rest)?;
+    let rest = copy_of(alloc, rest)?;
     *pending = rest;
     Ok(body)
 }
 
-fn owned(alloc: Global, bytes: &[u8]) -> Result<Vec<u8>, Ending>
+fn copy_of(alloc: Global, bytes: &[u8]) -> Result<Vec<u8>, Ending>
     ensures same { IfOk result (λ copy. copy.items ≡ bytes.now) }
     ensures err { IfErr result (λ ending. ending ≡ Ending.Memory) }
 {

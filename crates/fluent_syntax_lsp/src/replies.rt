@@ -33,7 +33,7 @@ pub fn capabilities(alloc: Global) -> Result<Value, AllocError> {
 }
 
 /// The notification of a document's diagnostics.
-pub fn published(
+pub fn diagnostics_notification(
     alloc: Global,
     uri: &str,
     diagnostics: &Vec<Diagnostic>,

@@ -7,7 +7,7 @@ use crate::messages::{Message, message_of};
 use crate::methods::Method;
 use crate::phases::{ErrorCode, Phase};
 use crate::replies::{
-    answer, capabilities, fold_list, published, refusal, symbol_list, whole_edit,
+    answer, capabilities, diagnostics_notification, fold_list, refusal, symbol_list, whole_edit,
 };
 use crate::symbols::{folds_in, symbols_in};
 use serde_json::{Category, Value};
@@ -169,7 +169,7 @@ impl Server {
             return Ok(None);
         };
         let found = diagnostics_in(self.alloc, text.as_str())?;
-        Ok(Some(published(self.alloc, uri, &found)?))
+        Ok(Some(diagnostics_notification(self.alloc, uri, &found)?))
     }
 
     /// Closes a document, and takes its diagnostics back.
@@ -178,7 +178,7 @@ impl Server {
             None => Ok(None),
             Some(_) => {
                 let none = Vec::new(self.alloc);
-                Ok(Some(published(self.alloc, uri, &none)?))
+                Ok(Some(diagnostics_notification(self.alloc, uri, &none)?))
             }
         }
     }

@@ -1,8 +1,7 @@
 -- A comment and what stands behind it.
 use Rattle.std.proofs.Common.{◌≡◌, ℕ, ◌<◌, Bool, true, false, List, ◌∷◌, length, Option, Some, None, refl, sym, ◌∙◌, ap}
-use Rattle.std.proofs.Common.{subst, arith}
+use Rattle.std.proofs.Common.{subst}
 use Rattle.std.specs.Prelude.{◌==◌, if◌then◌else◌}
-use Rattle.std.proofs.lemmas.Bool.Decides.{nat_tests}
 use Rattle.fluent_syntax_tree.specs.Entry.{EntryTree, comment, regular}
 use Rattle.fluent_syntax_tree.specs.declared.ast.Entry.{Entry}
 use Rattle.fluent_syntax_tree.specs.declared.edition.Edition.{Edition}
@@ -11,7 +10,7 @@ use Rattle.fluent_syntax_grammar.specs.Body.{body, hung}
 use Rattle.fluent_syntax_grammar.specs.Construct.{Read}
 use Rattle.fluent_syntax_grammar.specs.Places.{BlankBlock}
 use Rattle.fluent_syntax_grammar.specs.Tiling.{Tile, entry, entry_at, Tiled, done, next, TileAt, reads, refuses}
-use Rattle.fluent_syntax_grammar.proofs.Facts.{equal}
+use Rattle.fluent_syntax_grammar.proofs.Facts.{equal, same_number}
 use Rattle.fluent_syntax_grammar.proofs.Functional.{single_block}
 use Rattle.fluent_syntax_grammar.proofs.FunctionalEntries.{functional_entry}
 use Rattle.fluent_syntax_parser.specs.Meets.{Refuses}
@@ -21,9 +20,6 @@ use Rattle.fluent_syntax_parser.specs.declared.fault.Refusal.{Refusal}
 if_none : {X : Type 0} (b : Bool) (o : Option X) → (b ≡ true → o ≡ None) → (if b then o else None) ≡ None
 if_none true o none = none refl
 if_none false o none = refl
-
-same_number : (n : ℕ) → (n == n) ≡ true
-same_number n = grind (arith, nat_tests)
 
 module _ (edition : Edition) (t : List ℕ) (content : List Span) (ptr : ℕ) where
   -- no entry that begins at the place can have the comment

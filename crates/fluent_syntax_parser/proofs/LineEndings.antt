@@ -1,25 +1,15 @@
 -- Endings of lines.
-use Rattle.std.proofs.Common.{◌≡◌, ℕ, ◌+◌, List, Option, Some, None, Bool, true, false, refl, sym, subst}
-use Rattle.std.specs.Prelude.{◌==◌, ◌||◌, if◌then◌else◌}
-use Rattle.fluent_syntax_grammar.specs.Bytes.{lf}
+use Rattle.std.proofs.Common.{◌≡◌, ℕ, ◌+◌, List, Option, Some, None, refl, sym, subst}
+use Rattle.std.specs.Prelude.{◌==◌, if◌then◌else◌}
 use Rattle.fluent_syntax_grammar.specs.Construct.{Outcome, Read, at_each, goes_on, given, passed, chosen, at_place}
 use Rattle.fluent_syntax_grammar.specs.Layout.{text_end, lf_at, crlf_at}
 use Rattle.fluent_syntax_grammar.specs.Family.{Family}
 use Rattle.fluent_syntax_grammar.specs.Layout as layout
 use Rattle.fluent_syntax_grammar.specs.Lines.{ending, ending_of}
 use Rattle.fluent_syntax_grammar.specs.Patterns.{layout_at}
-use Rattle.fluent_syntax_grammar.specs.Places.{has_byte, has_eol, after_eol}
+use Rattle.fluent_syntax_grammar.specs.Places.{after_eol}
 
 module _ (t : List ℕ) where
-  no_eol : (a b : Bool) (i : ℕ) → (if a then Some (i + 1) else if b then Some (i + 2) else None) ≡ None →
-      (a || b) ≡ false
-  no_eol true b i e = cc
-  no_eol false true i e = cc
-  no_eol false false i e = refl
-
-  pub eol_none : (i : ℕ) → after_eol t i ≡ None → has_eol t i ≡ false
-  eol_none i e = no_eol (has_byte t lf i) _ i e
-
   pub ends_text : (i : ℕ) → after_eol t i ≡ None → ending t i (Read text_end i)
   ends_text i e = goes_on at_place (chosen (subst (λ o. ending_of t i o i (Read text_end i)) (sym e) given))
 

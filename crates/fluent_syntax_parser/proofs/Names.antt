@@ -1,5 +1,5 @@
 -- The names of the arguments of a list.
-use Rattle.std.proofs.Common.{◌≡◌, ℕ, ◌+◌, ◌<◌, Bool, true, false, ◌||◌, List, [], ◌∷◌, ◌++◌, length, map, get_or, take}
+use Rattle.std.proofs.Common.{◌≡◌, ℕ, ◌+◌, ◌<◌, Bool, true, false, List, [], ◌∷◌, ◌++◌, length, get_or, take}
 use Rattle.std.proofs.Common.{refl, sym, ap, ◌∙◌, true≢false, arith}
 use Rattle.std.specs.List.{list_any}
 use Rattle.std.specs.Prelude.{nat_eq, ◌==◌, reverse}
@@ -11,13 +11,9 @@ use lib.Pointwise.{pointwise}
 use Rattle.fluent_syntax_tree.specs.Spans.{bytes_at}
 use Rattle.fluent_syntax_tree.specs.declared.ast.NamedArgument.{NamedArgument}
 use Rattle.fluent_syntax_tree.specs.declared.spans.Span.{Span}
+use Rattle.fluent_syntax_tree.proofs.Lists.{list_any-map}
 use Rattle.fluent_syntax_grammar.specs.Arguments.{is_used}
 use Rattle.fluent_syntax_parser.specs.Gathered.{names_in, names_in_order}
-
-list_any-map : {X Y : Type 0} (p : Y → Bool) (h : X → Y) (xs : List X) →
-    list_any p (map h xs) ≡ list_any (λ x. p (h x)) xs
-list_any-map p h [] = refl
-list_any-map p h (x ∷ xs) = ap (λ b. p (h x) || b) (list_any-map p h xs)
 
 module _ (t : List ℕ) where
   abbrev name_of : NamedArgument Span → List ℕ

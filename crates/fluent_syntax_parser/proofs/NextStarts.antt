@@ -1,5 +1,5 @@
 -- Where the next entry or junk begins.
-use Rattle.std.proofs.Common.{◌≡◌, ℕ, List, Bool, true, false, refl, subst, sym, inl, inr}
+use Rattle.std.proofs.Common.{◌≡◌, ℕ, List, Bool, true, false, subst, sym, inl, inr}
 use Rattle.std.specs.Prelude.{◌&&◌, ◌⊎◌}
 use Rattle.fluent_syntax_grammar.specs.Bytes.{hash}
 use Rattle.fluent_syntax_grammar.specs.Construct.{Read}
@@ -11,9 +11,6 @@ use Rattle.fluent_syntax_grammar.proofs.OneTiling.{functional_whole_line}
 use Rattle.fluent_syntax_parser.specs.Rest.{are_dropped}
 use Rattle.fluent_syntax_parser.specs.ShortGrammar.{NextStart, behind_block, behind_comment}
 use Rattle.fluent_syntax_parser.specs.declared.options.Comments.{Comments}
-
-pub both_true : {a b : Bool} → a ≡ true → b ≡ true → (a && b) ≡ true
-both_true e f = rw (e, f) refl
 
 module _ (comments : Comments) (t : List ℕ) where
   abbrev pub is_dropped : ℕ → Bool
@@ -44,10 +41,6 @@ module _ (comments : Comments) (t : List ℕ) where
   next_behind i j start block (inr found) = behind_comment block found.1 found.2 found.3
 
   module _ (i start : ℕ) where
-    pub starts_here : is_dropped i ≡ false → StartsAt i start → i ≡ start
-    starts_here kept (inl here) = here.0
-    starts_here kept (inr comment) = differs comment.1 kept
-
     pub starts_behind_comment : (next : ℕ) → is_dropped i ≡ true → whole_line t i (Read tt next) → StartsAt i start →
         NextStart comments t next start
     starts_behind_comment next comment whole (inl here) = differs comment here.1

@@ -1,5 +1,5 @@
 -- The rest of a line, by its first byte; and the lines of a pattern.
-use Rattle.std.proofs.Common.{◌≡◌, ℕ, ◌+◌, ◌-◌, ◌<◌, List, [], ◌∷◌, Option, Some, None, Bool, true, false, not, refl}
+use Rattle.std.proofs.Common.{◌≡◌, ℕ, ◌+◌, ◌-◌, List, [], ◌∷◌, Option, Some, None, Bool, true, false, not, refl}
 use Rattle.std.proofs.Common.{sym, subst, arith}
 use Rattle.std.specs.Prelude.{slice_get, ◌==◌, ◌||◌, ◌&&◌, nat_lt}
 use Rattle.std.proofs.lemmas.Bool.Decides.{nat_tests}
@@ -57,10 +57,6 @@ module _ (edition : Edition) (t : List ℕ) (i b : ℕ) (e : slice_get t i ≡ S
 
     pub run_there : is_run_place t i ≡ true
     run_there = run_test (slice_get t i) b (has_eol t i) e eol close opening no_line
-
-    -- a run has a byte
-    pub run_forward : (j : ℕ) → Stretch (is_run_place t) i j → i < j
-    run_forward j w = let here = run_there in grind (arith, w.longest, w.forward)
 
 module _ (edition : Edition) (t : List ℕ) where
   pub no_pieces : (i : ℕ) (o : Option ℕ) → slice_get t i ≡ o → (o ≡ None → ⊥) → has_eol t i ≡ true →

@@ -9,12 +9,6 @@ pub record Puts {A : Type 0} (rest whole : Construct A) (put : A → A) (i j : �
   pub refused : (k : Kind) (from to : ℕ) → rest j (Refused k from to) → whole i (Refused k from to)
 
 module _ {A : Type 0} (whole : Construct A) (i : ℕ) where
-  pub none_put : (put : A → A) → ((more : A) → put more ≡ more) → Puts whole whole put i i
-  none_put put same = record {
-    read = λ more end h. subst (λ x. whole i (Read x end)) (sym (same more)) h;
-    refused = λ k from to h. h;
-  }
-
   -- one more is put before what is read from the next place on
   pub one_put : (rest next : Construct A) (put more_put add : A → A) (j m : ℕ) → Puts rest whole put i j →
       ((more : A) → more_put more ≡ put (add more)) →

@@ -1,5 +1,5 @@
 -- Runs of a pattern's text: where they end.
-use Rattle.std.proofs.Common.{◌≡◌, ℕ, ◌+◌, ◌-◌, ◌<◌, ◌≤◌, Bool, true, false, not, List, Option, Some, None, refl, sym}
+use Rattle.std.proofs.Common.{◌≡◌, ℕ, ◌+◌, ◌-◌, ◌<◌, ◌≤◌, Bool, true, false, not, List, Option, Some, None, refl}
 use Rattle.std.proofs.Common.{arith, inl, inr}
 use Rattle.std.specs.Prelude.{slice_get, ◌&&◌, ◌||◌, ◌==◌, ◌⊎◌}
 use Rattle.std.proofs.lemmas.Bool.{false≢true}
@@ -7,6 +7,7 @@ use Rattle.std.proofs.lemmas.Bool.Decides.{nat_tests}
 use Rattle.fluent_syntax_grammar.specs.Bytes.{lf, cr, left_brace, right_brace}
 use Rattle.fluent_syntax_grammar.specs.Places.{Stretch, holds, has, has_byte, Word}
 use Rattle.fluent_syntax_grammar.specs.Lines.{is_run_place}
+use Rattle.fluent_syntax_grammar.proofs.Tests.{and_right}
 use Rattle.fluent_syntax_parser.specs.Lanes.{is_passed}
 
 passed_run : (o : Option ℕ) (eol : Bool) → holds is_passed o ≡ true → eol ≡ false →
@@ -18,14 +19,6 @@ passed_no_lf : (o : Option ℕ) → holds is_passed o ≡ true → holds (λ c. 
 passed_no_lf None e = refl
 passed_no_lf (Some b) e = grind (arith, nat_tests)
 
-pub and_first : (a b : Bool) → a ≡ false → (a && b) ≡ false
-and_first true b e = absurd (false≢true (sym e))
-and_first false b e = refl
-
-pub and_false : (a b : Bool) → b ≡ false → (a && b) ≡ false
-and_false true b e = e
-and_false false b e = refl
-
 module _ (t : List ℕ) (i m : ℕ) (word : Word t is_passed i m) where
   ends_run : (x : Bool) (o : Option ℕ) → holds is_passed o ≡ false →
       (holds (λ b. not (b == lf || b == left_brace || b == right_brace)) o && x) ≡ false
@@ -35,7 +28,7 @@ module _ (t : List ℕ) (i m : ℕ) (word : Word t is_passed i m) where
       (k + 1 < m) ⊎ (k + 1 ≡ m) → is_run_place t k ≡ true
   inside k l r last (inl more) =
       passed_run (slice_get t k) _ (word.each k l r)
-      (and_false (has_byte t cr k) (has_byte t lf (k + 1))
+      (and_right (has_byte t cr k) (has_byte t lf (k + 1))
       (passed_no_lf (slice_get t (k + 1))
       (word.each (k + 1) (omega arith) more)))
   inside k l r last (inr end) = passed_run (slice_get t k) _ (word.each k l r) (last end)

@@ -1,5 +1,5 @@
 -- Messages whose patterns are each one line of texts and plain references.
-use Rattle.std.proofs.Common.{◌≡◌, ℕ, zero, suc, ◌<◌, true, false, List, [], ◌∷◌, ◌++◌, Some, map, refl, sym, ◌∙◌, ap}
+use Rattle.std.proofs.Common.{◌≡◌, ℕ, zero, suc, ◌<◌, true, false, List, [], ◌∷◌, ◌++◌, Some, map, refl, ◌∙◌, ap}
 use Rattle.std.proofs.Common.{append_assoc, arith}
 use Rattle.std.specs.Prelude.{◌==◌, slice_get}
 use Rattle.std.proofs.lemmas.Bool.Decides.{nat_tests}
@@ -92,15 +92,6 @@ module _ (edition : Edition) (t : List ℕ) (i behind end : ℕ) (name : Span) (
 -- ---- attributes, one after the other
 
 module _ (edition : Edition) (t : List ℕ) (old : List ShortPart) (i : ℕ) where
-  pub no_attributes_yet : GathersAttributes edition t old i old i
-  no_attributes_yet = record {
-    added = [];
-    items = sym (append-nil old);
-    named = refl;
-    read = λ rest end h. h;
-    flat = λ n d. d;
-  }
-
   module _ (mid : List ShortPart) (j : ℕ) (g : GathersAttributes edition t old i mid j) where
     pub and_attribute : (new : List ShortPart) (k : ℕ) → ReadsAttribute edition t mid j new k →
         GathersAttributes edition t old i new k

@@ -1,8 +1,8 @@
 -- Patterns whose later lines are blank, and patterns that hold nothing.
 use Rattle.std.proofs.Common.{◌≡◌, ℕ, ◌+◌, ◌-◌, ◌<◌, ◌≤◌, List, [], ◌∷◌, length, get_or, Some}
-use Rattle.std.proofs.Common.{None, Bool, true, false, not, refl, sym, subst, arith, inl, inr, ap, ◌++◌}
+use Rattle.std.proofs.Common.{None, true, false, not, refl, sym, subst, arith, inl, inr, ap, ◌++◌}
 use Rattle.std.specs.List.{flat_map}
-use Rattle.std.specs.Prelude.{slice_get, slice_range, ◌==◌, ◌||◌, ◌&&◌, if◌then◌else◌}
+use Rattle.std.specs.Prelude.{slice_get, slice_range, ◌==◌, ◌||◌, if◌then◌else◌}
 use Rattle.std.proofs.lemmas.Bool.Decides.{nat_tests}
 use Rattle.std.proofs.lemmas.Option.{slice_get-get_or, slice_get_past}
 use Rattle.fluent_syntax_tree.specs.declared.edition.Edition.{Edition}
@@ -21,19 +21,11 @@ use Rattle.fluent_syntax_grammar.specs.Places.{BlankBlock, Stretch, after_eol, h
 use Rattle.fluent_syntax_grammar.proofs.Facts.{left_true, byte_found}
 use Rattle.fluent_syntax_grammar.proofs.Nesting.{into_more_pieces}
 use Rattle.fluent_syntax_grammar.proofs.Shallow.{block_led, no_lines_led, opening_led, pieces_end, pieces_eol, run_led}
+use Rattle.fluent_syntax_grammar.proofs.Tests.{without}
+use Rattle.fluent_syntax_grammar.proofs.LineEnds.{eol_none}
 use Rattle.fluent_syntax_parser.proofs.LineEndings.{ends_line, ends_text}
 use Rattle.fluent_syntax_parser.proofs.BlankLines.{crlf_byte, eol_there, lf_blank, lf_byte, no_piece, range_cons}
 use Rattle.fluent_syntax_parser.specs.ShortPatterns.{EndsBlank, EndsLine, text_pattern, with_lf, with_crlf, with_text}
-
-no_eol : (a b : Bool) (i : ℕ) → (a || b) ≡ false → (if a then Some (i + 1) else if b then Some (i + 2) else None) ≡ None
-no_eol true b i e = cc
-no_eol false true i e = cc
-no_eol false false i e = refl
-
-right_not : (a b : Bool) → (a && not b) ≡ true → b ≡ false
-right_not true true e = cc
-right_not true false e = refl
-right_not false b e = cc
 
 starts_nonblank : (b : ℕ) (bs : List ℕ) → (b == space) ≡ false → (b == lf) ≡ false → is_nonblank (b ∷ bs) ≡ true
 starts_nonblank b [] space other = rw (other, space) refl
@@ -81,7 +73,7 @@ module _ (edition : Edition) (t : List ℕ) where
         (w.each start (omega arith) some))
 
     start_eol : has_eol t start ≡ false
-    start_eol = right_not _ _ (w.each start (omega arith) some)
+    start_eol = without _ _ (w.each start (omega arith) some)
 
     pub run_before : (ps : List Piece) (end : ℕ) → R.more_pieces to (Read ps end) →
         R.more_pieces start (Read (run' start to ∷ ps) end)
@@ -189,7 +181,7 @@ module _ (edition : Edition) (t : List ℕ) where
         range_nonblank t start stop (omega arith) within f.0 f.1 space other
 
     opens_there : after_eol t start ≡ None
-    opens_there = no_eol (has_byte t lf start) _ start (start_eol start to w some)
+    opens_there = eol_none (has_byte t lf start) _ _ _ (start_eol start to w some)
 
     pub short_read : (ptr stop next end : ℕ) → InlineBlank t ptr start → EndsLine t to stop next → to ≤ stop →
         stop ≤ length t → EndsBlank edition t next end →

@@ -1,8 +1,7 @@
 -- The lines and patterns of short messages, where a reader looks.
-use Rattle.std.proofs.Common.{◌≡◌, ℕ, ◌+◌, ◌<◌, ◌≤◌, List, [], length, Option, Some, None, Bool, true, false, refl}
+use Rattle.std.proofs.Common.{◌≡◌, ℕ, ◌<◌, ◌≤◌, List, [], length, Some, None, Bool, true, false, refl}
 use Rattle.std.proofs.Common.{arith, inl, inr, not, subst, sym}
-use Rattle.std.specs.Prelude.{slice_get, slice_range, nat_lt, is_some, ◌==◌, ◌&&◌, ◌⊎◌}
-use Rattle.std.proofs.lemmas.Option.{slice_get_within}
+use Rattle.std.specs.Prelude.{slice_get, slice_range, nat_lt, ◌==◌, ◌&&◌, ◌⊎◌}
 use Rattle.fluent_syntax_tree.specs.Kind.{Kind}
 use Rattle.fluent_syntax_tree.specs.declared.edition.Edition.{Edition}
 use Rattle.fluent_syntax_grammar.specs.Bytes.{equals_sign, full_stop, left_brace, lf}
@@ -17,6 +16,7 @@ use Rattle.fluent_syntax_grammar.proofs.Functional.{single_block, single_stretch
 use Rattle.fluent_syntax_grammar.specs.Words.{token}
 use Rattle.fluent_syntax_grammar.proofs.FunctionalWords.{functional_token}
 use Rattle.fluent_syntax_grammar.proofs.Nesting.{from_family}
+use Rattle.fluent_syntax_grammar.proofs.Cuts.{line_inside}
 use Rattle.fluent_syntax_parser.proofs.BlankLines.{eol_there}
 use Rattle.fluent_syntax_grammar.specs.Elements.{is_nonblank}
 use Rattle.fluent_syntax_parser.proofs.ShortGrammar.{byte_read, name_end}
@@ -135,11 +135,6 @@ module _ (edition : Edition) (t : List ℕ) where
 
 -- ---- a line that holds something
 
-line_place_inside : (t : List ℕ) (i : ℕ) (o : Option ℕ) (eol : Bool) → slice_get t i ≡ o →
-    (is_some o && not eol) ≡ true → i < length t
-line_place_inside t i None eol e holds = cc
-line_place_inside t i (Some b) eol e holds = slice_get_within t i b e
-
 module _ (t : List ℕ) (start place to stop next : ℕ) (longer : Type 0) (forward : start ≤ place)
     (grows : start < place → longer) where
   -- a blank text behind the last placeable
@@ -160,7 +155,7 @@ module _ (t : List ℕ) (start place to stop next : ℕ) (longer : Type 0) (forw
     | inr e ↦
         let none : None ≡ after_eol t to = rw (← same, ← e) (sym opens) in
         let end = (text_ends t to stop next none line).0 in
-        let inside = line_place_inside t start (slice_get t start) (has_eol t start) refl holds in
+        let inside = line_inside t start holds in
         absurd (omega (arith, inside, e, same, end))
   ]
 

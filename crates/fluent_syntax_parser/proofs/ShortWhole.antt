@@ -1,5 +1,5 @@
 -- Parts of short messages, put together from what a reader has found.
-use Rattle.std.proofs.Common.{◌≡◌, ℕ, ◌+◌, ◌<◌, List, [], length, Option, Some, None, Bool, true, false, refl}
+use Rattle.std.proofs.Common.{◌≡◌, ℕ, ◌<◌, List, [], length, Option, Some, None, Bool, true, false, refl}
 use Rattle.std.proofs.Common.{arith, inl, inr}
 use Rattle.std.specs.Prelude.{slice_get, is_some, not, ◌&&◌, Result, Ok, Err, IfOk, IfSome}
 use Rattle.std.proofs.lemmas.Option.{slice_get-get_or}
@@ -11,8 +11,8 @@ use Rattle.fluent_syntax_grammar.specs.Lines.{is_run_place}
 use Rattle.fluent_syntax_grammar.specs.Places.{BlankBlock, InlineBlank, Stretch, after_eol, has_byte, has_eol}
 use Rattle.fluent_syntax_grammar.specs.Places.{is_line_place}
 use Rattle.fluent_syntax_grammar.proofs.Cuts.{eol_cases}
+use Rattle.fluent_syntax_grammar.proofs.LineEnds.{after_none}
 use Rattle.fluent_syntax_parser.proofs.BlankLines.{eol_there}
-use Rattle.fluent_syntax_parser.proofs.LineEndings.{eol_none}
 use Rattle.fluent_syntax_parser.specs.ShortGrammar.{ShortLine, ShortPattern, ShortRest, ended}
 use Rattle.fluent_syntax_parser.specs.ShortPatterns.{with_crlf, with_lf}
 
@@ -43,7 +43,7 @@ module _ (t : List ℕ) (i : ℕ) where
 
   -- a place in the text where no line ends
   pub line_place : after_eol t i ≡ None → i < length t → is_line_place t i ≡ true
-  line_place e inside = no_end (slice_get t i) _ (has_eol t i) (slice_get-get_or t i 0 inside) (eol_none t i e)
+  line_place e inside = no_end (slice_get t i) _ (has_eol t i) (slice_get-get_or t i 0 inside) (after_none t i e)
 
 -- ---- the rest of a pattern, and a pattern
 

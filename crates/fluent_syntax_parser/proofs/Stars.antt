@@ -2,9 +2,6 @@
 use Rattle.std.proofs.Common.{◌≡◌, Bool, true, false, ◌&&◌, refl, inl, inr}
 use Rattle.std.specs.Prelude.{◌⊎◌}
 
-pub both_true : (a b : Bool) → a ≡ true → b ≡ true → (a && b) ≡ true
-both_true a b e f = rw (e, f) refl
-
 pub one_false : (a b : Bool) → ((a ≡ true) × (b ≡ false)) ⊎ (a ≡ false) → (a && b) ≡ false
 one_false a b (inl e) = rw (e.0, e.1) refl
 one_false a b (inr e) = rw e refl

@@ -76,9 +76,10 @@ impl<'s> Entries<'s> {
     }
 
     /// Reads the next entry, if it is a message that no comment hangs on and whose patterns are each one line of texts
-    /// and plain references, the line of the `=`, and puts its parts into the list: its name. So `a =` with its text on
-    /// the next line is none. `None` where it is another entry or none is left, and where the options allow no nesting:
-    /// then it stands where it stood. `AllocError` where there is no memory for the list.
+    /// and plain references, the line of the `=`: its name, with its parts in the list in place of what that held. So
+    /// `a =` with its text on the next line is none. `None` where it is another entry or none is left, and where the
+    /// options allow no nesting; `AllocError` where there is no memory for the list. After both it stands where it
+    /// stood, and what the list holds means nothing.
     pub fn next_short(&mut self, parts: &mut Vec<ShortPart>) -> Result<Option<Span>, AllocError>
         ensures text { self.new.source ≡ self.old.source }
         ensures options { self.new.options ≡ self.old.options }

@@ -1,46 +1,19 @@
 //! The tail of a pattern's items, and the elements that are left.
 ghost use Rattle.std.specs.Prelude.{◌≡◌, map, option_map, IfOk};
 ghost use Rattle.fluent_syntax_tree.specs.Spans.{bytes_at};
-ghost use Rattle.fluent_syntax_tree.specs.Text.{is_trimmed, trimmed_len};
 ghost use Rattle.fluent_syntax_tree.specs.View.{element_view, pattern_view};
-ghost use Rattle.fluent_syntax_grammar.specs.Elements.{is_nonblank, pattern_of, stays, trimmed_end, without_last_lf};
+ghost use Rattle.fluent_syntax_grammar.specs.Elements.{is_nonblank, pattern_of, stays, trimmed_end};
 ghost use Rattle.fluent_syntax_parser.specs.Elements.{CutsTo, element_of, item_view, last_of, layout_view};
 
 use crate::elements::{Item, Layout, items_of};
 use crate::indents::common_indent;
 use crate::source::Source;
+use fluent_syntax_grammar::texts;
 use fluent_syntax_tree::ast::{Pattern, PatternElement};
 use fluent_syntax_tree::edition::Edition;
 use fluent_syntax_tree::spans::Span;
+use fluent_syntax_tree::trimming::trimmed_len;
 use std::alloc::{AllocError, Global};
-
-/// The bytes without an LF that ends them.
-fn without_last_lf(bytes: &[u8]) -> &[u8]
-    ensures { result.now ≡ without_last_lf bytes.now }
-{
-    match bytes {
-        [line @ .., last] if *last == b'\n' => line,
-        _ => bytes,
-    }
-}
-
-/// Whether it is a space, a CR or an LF.
-fn is_trimmed(byte: u8) -> bool
-    ensures { result ≡ is_trimmed byte }
-{
-    matches!(byte, b' ' | b'\r' | b'\n')
-}
-
-/// The length of a text without its ending spaces, CRs and LFs.
-fn trimmed_len(bytes: &[u8]) -> usize
-    ensures { result ≡ trimmed_len bytes.now }
-{
-    let mut len = bytes.len();
-    while len > 0 && is_trimmed(bytes[len - 1]) {
-        len -= 1;
-    }
-    len
-}
 
 /// The element that an item is which others follow.
 fn element(item: Item) -> PatternElement<Span>
@@ -77,9 +50,7 @@ impl<'s> Source<'s> {
     pub(crate) fn is_nonblank(&self, text: Span) -> bool
         ensures { result ≡ is_nonblank (bytes_at self.now.bytes.now text) }
     {
-        without_last_lf(self.bytes_of(text))
-            .iter()
-            .any(|byte| *byte != b' ')
+        texts::is_nonblank(self.bytes_of(text))
     }
 
     /// Whether it is a placeable, or a nonblank text.

@@ -28,7 +28,7 @@ pub(crate) fn as_comment(entry: Entry<Span>) -> Result<Comment<Span>, Entry<Span
 }
 
 /// A message or a term with the comment, or the comment, if it can't hang on the entry.
-fn hung(comment: Comment<Span>, entry: Entry<Span>) -> Result<Entry<Span>, Comment<Span>>
+fn with_comment(comment: Comment<Span>, entry: Entry<Span>) -> Result<Entry<Span>, Comment<Span>>
     ensures hung { IfOk result
         (λ e. bodies.hung (comment_view (λ s. s) comment) (tree_of entry) ≡ Some (tree_of e)) }
     ensures other { IfErr result
@@ -105,7 +105,7 @@ impl<'s> Source<'s> {
             return Ok((Entry::Comment(comment), ptr));
         }
         match self.get_entry(alloc, options, ptr) {
-            Ok((entry, end)) => match hung(comment, entry) {
+            Ok((entry, end)) => match with_comment(comment, entry) {
                 Ok(entry) => Ok((entry, end)),
                 Err(comment) => Ok((Entry::Comment(comment), ptr)),
             },

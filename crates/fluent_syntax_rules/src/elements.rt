@@ -9,6 +9,7 @@ ghost use Rattle.fluent_syntax_rules.specs.Places.{stand_of, stand_past, is_elem
 
 use crate::patterns::is_multiline;
 use crate::texts::*;
+use fluent_syntax_grammar::texts::ends_in_lf;
 use fluent_syntax_tree::ast::{Pattern, PatternElement};
 use fluent_syntax_tree::edition::Edition;
 use fluent_syntax_tree::texts::ReadTexts;

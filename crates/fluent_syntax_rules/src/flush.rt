@@ -12,6 +12,7 @@ ghost use Rattle.fluent_syntax_rules.specs.Places.{stands_lone, lesser};
 use crate::elements::{Stand, is_line_start, stand_past};
 use crate::patterns::{has_leading_mark, is_multiline};
 use crate::texts::*;
+use fluent_syntax_grammar::texts::is_lone_lf;
 use fluent_syntax_tree::ast::{Pattern, PatternElement};
 use fluent_syntax_tree::edition::Edition;
 use fluent_syntax_tree::texts::ReadTexts;

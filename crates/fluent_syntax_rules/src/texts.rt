@@ -2,13 +2,14 @@
 ghost use Rattle.std.specs.Prelude.{◌≡◌};
 ghost use Rattle.std.specs.List.{list_all, list_any};
 ghost use Rattle.fluent_syntax_grammar.specs.Bytes.{is_space};
-ghost use Rattle.fluent_syntax_grammar.specs.Elements.{is_nonblank, without_last_lf};
+ghost use Rattle.fluent_syntax_grammar.specs.Elements.{is_nonblank};
 ghost use Rattle.fluent_syntax_grammar.specs.PatternTexts.{is_brace, has_crlf, is_spaces, begins_with_space};
-ghost use Rattle.fluent_syntax_grammar.specs.PatternTexts.{leading_spaces, after_spaces, ends_in_lf, ends_plainly};
-ghost use Rattle.fluent_syntax_grammar.specs.PatternTexts.{is_lone_lf};
+ghost use Rattle.fluent_syntax_grammar.specs.PatternTexts.{leading_spaces, after_spaces, ends_plainly};
 ghost use Rattle.fluent_syntax_grammar.specs.Readable.{is_text};
 ghost use Rattle.fluent_syntax_grammar.specs.Written.{has_lf, is_shown, begins_with_mark, is_leading_mark};
-ghost use Rattle.fluent_syntax_tree.specs.Text.{is_trimmed};
+
+use fluent_syntax_grammar::texts::{self, without_last_lf};
+use fluent_syntax_tree::trimming::is_trimmed;
 
 /// Whether the text is not empty, and holds no brace, no CR directly before an LF, and an LF only as its last byte.
 pub(crate) fn is_text(text: &str) -> bool
@@ -50,21 +51,11 @@ pub(crate) fn has_lf(bytes: &[u8]) -> bool
     bytes.contains(&b'\n')
 }
 
-/// The bytes without an LF that ends them.
-fn without_last_lf(bytes: &[u8]) -> &[u8]
-    ensures { result.now ≡ without_last_lf bytes.now }
-{
-    match bytes {
-        [rest @ .., last] if *last == b'\n' => rest,
-        _ => bytes,
-    }
-}
-
 /// Whether the text holds a byte other than space, apart from an ending LF.
 pub(crate) fn is_nonblank(text: &str) -> bool
     ensures { result ≡ is_nonblank text.now }
 {
-    !are_spaces(without_last_lf(text.as_bytes()))
+    texts::is_nonblank(text.as_bytes())
 }
 
 pub(crate) fn is_spaces(text: &str) -> bool
@@ -128,15 +119,6 @@ fn is_leading_mark(byte: u8) -> bool
     byte == b'.' || byte == b'[' || byte == b'*'
 }
 
-pub(crate) fn ends_in_lf(text: &str) -> bool
-    ensures { result ≡ ends_in_lf text.now }
-{
-    match text.as_bytes() {
-        [.., last] => *last == b'\n',
-        [] => false,
-    }
-}
-
 /// Whether the last byte is no space, CR or LF.
 pub(crate) fn ends_plainly(text: &str) -> bool
     ensures { result ≡ ends_plainly text.now }
@@ -144,21 +126,6 @@ pub(crate) fn ends_plainly(text: &str) -> bool
     match text.as_bytes() {
         [.., last] => !is_trimmed(*last),
         [] => false,
-    }
-}
-
-fn is_trimmed(byte: u8) -> bool
-    ensures { result ≡ is_trimmed byte }
-{
-    byte == b' ' || byte == b'\r' || byte == b'\n'
-}
-
-pub(crate) fn is_lone_lf(text: &str) -> bool
-    ensures { result ≡ is_lone_lf text.now }
-{
-    match text.as_bytes() {
-        [only] => *only == b'\n',
-        _ => false,
     }
 }
 

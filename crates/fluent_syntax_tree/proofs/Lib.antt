@@ -3,3 +3,4 @@ pub mod Lists
 pub mod Every
 pub mod Natural
 pub mod Equal
+pub mod Trimmed

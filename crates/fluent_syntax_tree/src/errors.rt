@@ -71,7 +71,7 @@ pub enum ErrorKind {
     /// The selector of a select is a placeable.
     #[error("Expected a simple expression as selector")]
     ExpectedSimpleExpressionAsSelector,
-    /// The value of a named argument is no string, number, function or message.
+    /// The value of a named argument is no string, number without `-`, function or message.
     #[error("Expected a string or number literal")]
     ExpectedLiteral,
 }

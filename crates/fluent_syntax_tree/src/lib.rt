@@ -2,6 +2,7 @@
 #![tactic(auto)]
 
 pub mod ast;
+pub mod capacity;
 #[tactic(auto, using(crate::proofs::Every::always))]
 mod clones;
 pub mod copied;
@@ -11,3 +12,4 @@ pub mod laws;
 pub mod slice;
 pub mod spans;
 pub mod texts;
+pub mod trimming;

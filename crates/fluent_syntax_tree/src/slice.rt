@@ -6,6 +6,7 @@ ghost use Rattle.fluent_syntax_tree.specs.Text.{trimmed, trimmed_len};
 ghost use Rattle.std.specs.Bool.{Decides};
 ghost use Rattle.std.specs.Cmp.Lexicographic.{bytes_decides};
 
+use crate::trimming::trimmed_len;
 use std::alloc::{AllocError, Global};
 use std::ops::Range;
 
@@ -42,16 +43,7 @@ fn trimmed_end(text: &str) -> usize
     ensures end { result ≡ trimmed_len text.now }
     ensures boundary { IsCharBoundary text.now result }
 {
-    let bytes = text.as_bytes();
-    let mut end = bytes.len();
-    while end > 0 {
-        let last = bytes[end - 1];
-        if last != b' ' && last != b'\r' && last != b'\n' {
-            break;
-        }
-        end -= 1;
-    }
-    end
+    trimmed_len(text.as_bytes())
 }
 
 impl<'s> Slice<'s> for &'s str {

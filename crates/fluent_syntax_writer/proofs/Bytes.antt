@@ -4,6 +4,7 @@ use Rattle.std.proofs.Common.{refl, sym, ap, ◌∙◌, subst, arith}
 use Rattle.std.specs.Prelude.{slice_get}
 use Rattle.std.specs.Option.{option_or}
 use Rattle.fluent_syntax_grammar.specs.Written.{Text, last_of}
+use Rattle.fluent_syntax_grammar.proofs.TextEnds.{last_of-cons}
 use Rattle.fluent_syntax_writer.specs.Sink.{Takes, TakesBeginning}
 use Rattle.fluent_syntax_writer.specs.Writing.{Outcome, appended, stopped, silent, Appends}
 use Rattle.fluent_syntax_writer.proofs.Sinks.{Takes-none, Takes-append, TakesBeginning-after, TakesBeginning-before}
@@ -14,10 +15,6 @@ use Rattle.fluent_syntax_writer.specs.declared.text_writer.TextWriter.{TextWrite
 pub last_of-append : (last : Option ℕ) (xs ys : Text) → last_of last (xs ++ ys) ≡ last_of (last_of last xs) ys
 last_of-append last [] ys = refl
 last_of-append last (x ∷ xs) ys = last_of-append (Some x) xs ys
-
-last_of-cons : (last : Option ℕ) (b : ℕ) (bs : Text) → last_of last (b ∷ bs) ≡ slice_get (b ∷ bs) (length bs)
-last_of-cons last b [] = refl
-last_of-cons last b (c ∷ bs) = last_of-cons (Some b) c bs
 
 option_or-last_of : (last other : Option ℕ) (b : ℕ) (bs : Text)
     → option_or (last_of other (b ∷ bs)) last ≡ last_of other (b ∷ bs)

@@ -42,7 +42,7 @@ impl<'w, T, W: TextSink> TextWriter<'w, T, W> {
     }
 
     /// A writer that goes on after another to the same sink, where that one left off.
-    pub(crate) fn resumed(sink: &'w mut W, last: Option<u8>, refused: bool) -> Self
+    pub(crate) fn from_parts(sink: &'w mut W, last: Option<u8>, refused: bool) -> Self
         ensures same_sink { result.sink.ghost_name ≡ sink.entry.ghost_name }
         ensures sink { result.sink.now ≡ sink.old }
         ensures last { result.last ≡ last }

@@ -33,7 +33,7 @@ use std::fmt::Write;
 /// The command's text of the input, and what was found in it.
 ///
 /// `Input` for bytes that are not UTF-8, which is tested first and takes no memory; `Memory` where a
-/// growth was refused.
+/// growth was refused, and for an input of the greatest `usize` of bytes, which no memory holds.
 pub fn answer(alloc: Global, command: Command, input: &[u8]) -> Result<(String, Outcome), RunFault>
     ensures text { IfOk result (λ answer. IsAnswer command input.now (string_bytes answer.0) answer.1) }
     ensures input { (result ≡ Err RunFault.Input) ↔ ¬ (IsUtf8 input.now) }

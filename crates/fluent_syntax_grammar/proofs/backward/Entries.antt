@@ -18,8 +18,8 @@ use Rattle.fluent_syntax_grammar.specs.Grammar.{pattern, family}
 use Rattle.fluent_syntax_grammar.specs.Entries.{attribute_with, message_with, term_with, attribute, attributes, no_more}
 use Rattle.fluent_syntax_grammar.specs.Entries.{one_more, message_entry, term_entry}
 use Rattle.fluent_syntax_grammar.specs.Comments as comments
-use Rattle.fluent_syntax_grammar.specs.Comments.{hashes, level_of, comment_text, comment_rest, comment_line}
-use Rattle.fluent_syntax_grammar.specs.Comments.{comment_lines, other_level, no_comment_line, comment_of, comment_entry}
+use Rattle.fluent_syntax_grammar.specs.Comments.{comment_text, comment_rest, comment_line}
+use Rattle.fluent_syntax_grammar.specs.Comments.{comment_lines, other_level, no_comment_line, comment_entry}
 use Rattle.fluent_syntax_grammar.specs.Tiling.{entry_of, entry_at}
 use Rattle.fluent_syntax_grammar.specs.Written.{Text, has_lf}
 use Rattle.fluent_syntax_grammar.specs.Rules.{option_obeys, pattern_obeys, attribute_obeys}

@@ -1,9 +1,8 @@
 -- What was read is fine: lines, patterns and variants; and so all that nests, to any depth. In edition one, where an LF
 -- follows every CR.
-use Rattle.std.proofs.Common.{◌≡◌, ℕ, zero, suc, ◌+◌, ◌-◌, ◌<◌, List, [], ◌∷◌, ◌++◌, Option, Some, None, Bool, true}
-use Rattle.std.proofs.Common.{false, refl, sym, ◌∙◌, subst, ap, arith, inl, inr}
+use Rattle.std.proofs.Common.{◌≡◌, ℕ, zero, suc, ◌+◌, ◌-◌, List, [], ◌∷◌, ◌++◌, Option, Some, None, Bool, true}
+use Rattle.std.proofs.Common.{false, refl, sym, ◌∙◌, subst, ap, inl, inr}
 use Rattle.std.specs.Prelude.{◌==◌, ◌||◌, ◌&&◌, not, nat_lt, nat_le, slice_get, if◌then◌else◌}
-use Rattle.std.proofs.lemmas.Bool.Decides.{nat_tests}
 use Rattle.fluent_syntax_tree.specs.Spans.{bytes_at}
 use Rattle.fluent_syntax_tree.specs.declared.spans.Span.{Span}
 use Rattle.fluent_syntax_tree.specs.declared.edition.Edition.TheVariants.{One}
@@ -12,7 +11,7 @@ use Rattle.fluent_syntax_tree.specs.Tree.{KeyTree, number_key, key_map, ElementT
 use Rattle.fluent_syntax_tree.specs.Tree.{PatternTree, no_elements, elements, VariantTrees, no_variants, variants}
 use Rattle.fluent_syntax_tree.specs.Tree.{variant, variants_map}
 use Rattle.fluent_syntax_grammar.specs.Bytes.{lf, cr, is_space}
-use Rattle.fluent_syntax_grammar.specs.Places.{holds, Stretch, has, has_byte, has_eol, after_eol, InlineBlank}
+use Rattle.fluent_syntax_grammar.specs.Places.{holds, has, has_byte, has_eol, after_eol, InlineBlank}
 use Rattle.fluent_syntax_grammar.specs.Places.{BlankBlock, no_line, line}
 use Rattle.fluent_syntax_grammar.specs.Construct.{Read, ◌>>=◌, goes_on, gives, given, at_place, passed, chosen, first}
 use Rattle.fluent_syntax_grammar.specs.Construct.{second}
@@ -35,7 +34,8 @@ use Rattle.fluent_syntax_grammar.specs.RoundTrip.{HasNoBareCr}
 use Rattle.fluent_syntax_grammar.proofs.Holds.{gave}
 use Rattle.fluent_syntax_grammar.proofs.Cuts.{eol_cases}
 use Rattle.fluent_syntax_grammar.proofs.Functional.{single_stretch}
-use Rattle.fluent_syntax_grammar.proofs.Facts.{byte_stands, differs, lt_or_same}
+use Rattle.fluent_syntax_grammar.proofs.Facts.{byte_stands, differs, two_on_as_one, one_on_as_two}
+use Rattle.fluent_syntax_grammar.proofs.Facts.{stretch_onward}
 use Rattle.fluent_syntax_grammar.proofs.Tests.{both}
 use Rattle.fluent_syntax_grammar.proofs.backward.Shapes.{Kept, kept_cut, shape_cut, tree, Well, items_well, items_same}
 use Rattle.fluent_syntax_grammar.proofs.backward.Shapes.{Shape}
@@ -50,6 +50,7 @@ use Rattle.fluent_syntax_grammar.proofs.backward.Rules.{ensures_fails, ensures_a
 use Rattle.fluent_syntax_grammar.proofs.backward.Rules.{IsKey, IsVariants, IsFineFamily, ensures_name}
 use Rattle.fluent_syntax_grammar.proofs.backward.Rules.{ensures_placeable, inline_was, ensures_arguments}
 use Rattle.fluent_syntax_grammar.proofs.Tests.{neither_left, not_false}
+use Rattle.fluent_syntax_grammar.proofs.LineEnds.{after_none}
 
 -- ---- the pattern that a layout gives
 
@@ -110,36 +111,20 @@ module _ (t : List ℕ) (bare : HasNoBareCr t) (Joins : Type 0) (crs : (i : ℕ)
       (shape_cut t Joins m opening (items One y)
       (layout_shape t bare Joins crs m y x (spare t bare Joins crs m y x))) (kept_cut t (items One y))
 
-no_eol : (a b c : Bool) (m n : ℕ) → (if a then Some m else if b && c then Some n else None) ≡ None →
-    (a || b && c) ≡ false
-no_eol true b c m n e = cc
-no_eol false true true m n e = cc
-no_eol false true false m n e = refl
-no_eol false false c m n e = refl
-
 module _ (t : List ℕ) where
-  pub after_none : (i : ℕ) → after_eol t i ≡ None → has_eol t i ≡ false
-  after_none i e = no_eol (has_byte t lf i) (has_byte t cr i) (has_byte t lf (i + 1)) (i + 1) (i + 2) e
-
   block_stop : (i j : ℕ) → BlankBlock t i j → (k : ℕ) × InlineBlank t j k × (after_eol t k ≡ None)
   block_stop i j (no_line {k = k} w e) = (k, w, e)
   block_stop i j (line {m = m} w e b) = block_stop m j b
-
-not_both : (i k : ℕ) → k ≡ i + 2 → (k == i + 1) ≡ true → ⊥
-not_both i k e f = grind (arith, nat_tests)
-
-neither : (i k : ℕ) → k ≡ i + 1 → (k == i + 1) ≡ false → ⊥
-neither i k e f = grind (arith, nat_tests)
 
 module _ (t : List ℕ) (Joins : Type 0) where
   by_test : (i k j : ℕ) (test : Bool) → (k == i + 1) ≡ test → after_eol t i ≡ Some k → k ≡ j →
       EndingAt t Joins i (if test then lf_at i else crlf_at i) j
   by_test i k j true f e s = elim (eol_cases t i k e) [
     | inl x ↦ subst (EndingAt t Joins i (lf_at i)) (sym x.1 ∙ s) (lf_ends x.0)
-    | inr x ↦ absurd (not_both i k x.2 f)
+    | inr x ↦ absurd (two_on_as_one i k x.2 f)
   ]
   by_test i k j false f e s = elim (eol_cases t i k e) [
-    | inl x ↦ absurd (neither i k x.1 f)
+    | inl x ↦ absurd (one_on_as_two i k x.1 f)
     | inr x ↦ subst (EndingAt t Joins i (crlf_at i)) (sym x.2 ∙ s) (crlf_ends x.0 x.1)
   ]
 
@@ -184,12 +169,7 @@ module _ (t : List ℕ) (bare : HasNoBareCr t) (Joins : Type 0) (crs : (i : ℕ)
       (chosen (second f
       (second g (second k
       (goes_on at_place (goes_on (passed {j = to} w) (goes_on at_place (goes_on {a = qs} z given)))))))) =
-      a_run (onward i to (run_begins t Joins i b e f g k) w) w (h.more_pieces to j qs z)
-    where
-      onward : (i to : ℕ) → is_run_place t i ≡ true → Stretch (is_run_place t) i to → i < to
-      onward i to e w =
-          elim (lt_or_same i to w.forward)
-          [ inl l ↦ l | inr same ↦ differs (subst (λ k. is_run_place t k ≡ true) same e) w.longest ]
+      a_run (stretch_onward (is_run_place t) i to (run_begins t Joins i b e f g k) w) w (h.more_pieces to j qs z)
 
   pub pieces_was : (i j : ℕ) (ps : List Piece) → lines.more_pieces t R i (Read ps j) → PiecesAt t Joins i ps j
   pieces_was i j ps (chosen x) = pieces_was_at i j ps (slice_get t i) refl x

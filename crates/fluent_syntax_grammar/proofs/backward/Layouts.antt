@@ -16,7 +16,7 @@ use Rattle.fluent_syntax_grammar.specs.Readable.{Stand, opening, after_line}
 use Rattle.fluent_syntax_grammar.specs.Readable.{after_placeable}
 use Rattle.fluent_syntax_grammar.specs.RoundTrip.{HasNoBareCr}
 use Rattle.fluent_syntax_grammar.proofs.Facts.{byte_found, byte_stands, implies, left_true, right_true, differs}
-use Rattle.fluent_syntax_grammar.proofs.Facts.{equal, two_on}
+use Rattle.fluent_syntax_grammar.proofs.Facts.{equal, two_on, lt_or_le, byte_of}
 use Rattle.fluent_syntax_grammar.proofs.Tests.{or_cases}
 use Rattle.fluent_syntax_grammar.proofs.Functional.{single_stretch}
 use Rattle.fluent_syntax_grammar.proofs.backward.Texts.{is_plain, shows, Begins}
@@ -27,10 +27,6 @@ use Rattle.fluent_syntax_grammar.proofs.backward.Lines.{PiecesAt, no_piece, a_ru
 use Rattle.fluent_syntax_grammar.proofs.backward.Lines.{crlf_ends, text_ends, LineAt, LinesAt, a_line, LayoutAt}
 use Rattle.fluent_syntax_grammar.proofs.backward.Lines.{on_line, below}
 use Rattle.fluent_syntax_grammar.proofs.Tests.{not_true, or_true}
-
-byte_of : (test : ℕ → Bool) (o : Option ℕ) (b : ℕ) → o ≡ Some b → holds test o ≡ true → test b ≡ true
-byte_of test None b e f = cc
-byte_of test (Some c) b e f = let same : c ≡ b = cc in subst (λ b. test b ≡ true) same f
 
 -- a byte that is no LF and no brace, and no CR, is plain
 plain_of : (b : ℕ) → not (b == lf || b == 123 || b == 125) ≡ true → (b == cr) ≡ false → is_plain b ≡ true
@@ -136,13 +132,10 @@ module _ (t : List ℕ) (bare : HasNoBareCr t) where
 
   kept_plain : (kept first to : ℕ) → ((k : ℕ) → kept ≤ k → k < first → has t is_space k ≡ true) →
       Stretch (is_run_place t) first to → (k : ℕ) → kept ≤ k → k < to → has t is_plain k ≡ true
-  kept_plain kept first to e w k l n = elim (split k first) [
+  kept_plain kept first to e w k l n = elim (lt_or_le k first) [
     | inl x ↦ implies is_space is_plain (slice_get t k) space_plain (e k l x)
     | inr x ↦ run_plain k (w.each k x n)
   ]
-    where
-      split : (k first : ℕ) → (k < first) ⊎ (first ≤ k)
-      split k first = grind arith
 
   pub line_text : (kept first to b : ℕ) → kept ≤ first → first < to →
       ((k : ℕ) → kept ≤ k → k < first → has t is_space k ≡ true) → Stretch (is_run_place t) first to →

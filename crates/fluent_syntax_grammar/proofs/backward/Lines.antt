@@ -10,7 +10,7 @@ use Rattle.fluent_syntax_grammar.specs.Bytes.{lf, cr, is_space}
 use Rattle.fluent_syntax_grammar.specs.Places.{Stretch, has, has_byte, has_eol, InlineBlank}
 use Rattle.fluent_syntax_grammar.specs.Layout.{Piece, run, placed, Ending, lf_at, crlf_at, text_end, Line, Layout}
 use Rattle.fluent_syntax_grammar.specs.Lines.{is_run_place, belongs}
-use Rattle.fluent_syntax_grammar.proofs.Facts.{byte_found, byte_inside, equal}
+use Rattle.fluent_syntax_grammar.proofs.Facts.{byte_found, equal, has_inside}
 use Rattle.fluent_syntax_grammar.proofs.Left.{Left, first, left_first, left_next}
 use Rattle.fluent_syntax_grammar.proofs.backward.Taken.{taken_all}
 use Rattle.fluent_syntax_grammar.proofs.backward.Shapes.{IsRead}
@@ -82,7 +82,7 @@ module _ (t : List ℕ) where
       at : (n i : ℕ) → ((k : ℕ) → i ≤ k → k < i + n → has t set k ≡ true) → list_all set (take n (drop i t)) ≡ true
       at zero i e = refl
       at (suc n) i e =
-          let l : i < length t = byte_inside set t i (slice_get t i) refl (e i (omega arith) (omega arith)) in
+          let l : i < length t = has_inside set t i (e i (omega arith) (omega arith)) in
           taken_all set (suc n) (drop i t) i (record { within = omega arith; rest = refl }) e
 
   pub byte_at : (c i : ℕ) → has_byte t c i ≡ true → slice_get t i ≡ Some c

@@ -12,8 +12,7 @@ use Rattle.fluent_syntax_grammar.specs.Construct.{second}
 use Rattle.fluent_syntax_grammar.specs.Words.{identifier}
 use Rattle.fluent_syntax_grammar.specs.Spellings.{is_name}
 use Rattle.fluent_syntax_grammar.proofs.Facts.{right_true, implies}
-use Rattle.fluent_syntax_grammar.proofs.Tests.{both}
-use Rattle.fluent_syntax_grammar.proofs.forward.Words.{letter_in_name}
+use Rattle.fluent_syntax_grammar.proofs.Tests.{both, letter_name}
 use Rattle.fluent_syntax_grammar.proofs.Left.{Left, first, left_next, left_has}
 
 -- what is left at any place of the text
@@ -48,7 +47,7 @@ module _ (t : List ℕ) where
   pub name_was_read : (i j : ℕ) (s : Span) → i ≤ length t → identifier t i (Read s j) → is_name (bytes_at t s) ≡ true
   name_was_read i j s l
       (goes_on at_place (goes_on (chosen given) (first_of e (goes_on (passed w) (goes_on at_place given))))) =
-      let on = forward_one i j w.forward (implies is_letter is_name_byte (slice_get t i) letter_in_name e) w in
+      let on = forward_one i j w.forward (implies is_letter is_name_byte (slice_get t i) letter_name e) w in
       let size : suc (j - (i + 1)) ≡ j - i = omega arith in
       subst (λ n. is_name (take n (drop i t)) ≡ true) size
       (named_bytes (drop i t) (j - (i + 1)) (sym (left_has is_letter (left_at t i l)) ∙ e)

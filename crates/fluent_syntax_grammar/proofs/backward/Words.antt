@@ -14,7 +14,7 @@ use Rattle.fluent_syntax_grammar.specs.Strings.{hex_digits, all_there, escaped, 
 use Rattle.fluent_syntax_grammar.specs.Strings.{unit_and_more, string_literal}
 use Rattle.fluent_syntax_grammar.specs.Spellings.{is_name, is_digits, is_number_rest, is_unsigned, is_number, is_units}
 use Rattle.fluent_syntax_grammar.specs.Spellings.{is_escape, is_string}
-use Rattle.fluent_syntax_grammar.proofs.Facts.{byte_found, byte_inside, byte_stands, differs, lt_or_same}
+use Rattle.fluent_syntax_grammar.proofs.Facts.{byte_found, byte_stands, differs, lt_or_same, has_inside}
 use Rattle.fluent_syntax_grammar.proofs.Tests.{both}
 use Rattle.fluent_syntax_grammar.proofs.backward.Taken.{name_was_read}
 use Rattle.fluent_syntax_grammar.proofs.backward.Lines.{range_first, range_none, range_all, byte_at}
@@ -27,7 +27,7 @@ IsName t s = is_name (bytes_at t s) ≡ true
 module _ (t : List ℕ) where
   pub name_was : (i j : ℕ) (s : Span) → identifier t i (Read s j) → IsName t s
   name_was i j s (goes_on at_place (goes_on (chosen given) (first e x))) =
-      let l = byte_inside is_letter t i (slice_get t i) refl e in
+      let l = has_inside is_letter t i e in
       name_was_read t i j s (omega arith) (goes_on at_place (goes_on (chosen given) (first e x)))
   name_was i j s (goes_on at_place (goes_on (chosen given) (second e x))) = elim x [ ]
 

@@ -24,12 +24,12 @@ use Rattle.fluent_syntax_grammar.specs.Rules.{option_obeys, pattern_obeys, attri
 use Rattle.fluent_syntax_grammar.specs.Readable.{has_field, are_lines}
 use Rattle.fluent_syntax_grammar.specs.Canonical.{canonical_rules, is_canonical}
 use Rattle.fluent_syntax_grammar.specs.RoundTrip.{ReadsAs, tree_of}
-use Rattle.fluent_syntax_grammar.proofs.Facts.{left_true, right_true}
+use Rattle.fluent_syntax_grammar.proofs.Facts.{left_true, right_true, same_number}
 use Rattle.fluent_syntax_grammar.proofs.Tests.{differ}
 use Rattle.fluent_syntax_grammar.proofs.Cuts.{block_forward}
 use Rattle.fluent_syntax_grammar.proofs.Left.{Left, left_as, left_whole, left_first, left_next, left_end}
 use Rattle.fluent_syntax_grammar.proofs.forward.Reading.{Reads, reads_into}
-use Rattle.fluent_syntax_grammar.proofs.forward.Lines.{Ends, stop, blank_line, no_spaces, lf_after, same_number}
+use Rattle.fluent_syntax_grammar.proofs.forward.Lines.{Ends, stop, blank_line, no_spaces, lf_after}
 use Rattle.fluent_syntax_grammar.proofs.forward.Entries.{EntryStart, no_entry, begins, entry_stops, no_block, Tiles}
 use Rattle.fluent_syntax_grammar.proofs.forward.Entries.{tiles_end}
 use Rattle.fluent_syntax_grammar.proofs.marks.WrittenBytes.{pattern_bytes}
@@ -37,7 +37,7 @@ use Rattle.fluent_syntax_grammar.proofs.marks.WrittenEntries.{after_hashes, comm
 use Rattle.fluent_syntax_grammar.proofs.marks.WrittenEntries.{own_comment_bytes, value_bytes, message_bytes, term_bytes}
 use Rattle.fluent_syntax_grammar.proofs.forward.Fields.{message_back, term_back}
 use Rattle.fluent_syntax_grammar.proofs.forward.Comments.{comment_back}
-use Rattle.fluent_syntax_grammar.proofs.Tests.{or_third}
+use Rattle.fluent_syntax_grammar.proofs.LineEnds.{hash_entry, letter_entry}
 
 -- ---- what a body is written as
 
@@ -126,9 +126,6 @@ free_comment edition t i j k regular c (entry s e ∷ tiles) n (next {start = st
 free_comment edition t i j k regular c (refused x ∷ tiles) n (next b l (refuses r q) m) = refl
 free_comment edition t i j k regular c (dropped ∷ tiles) n (next b l a m) = elim a [ ]
 
-hash_begins : (c : ℕ) → (c == 35) ≡ true → is_entry_byte c ≡ true
-hash_begins c e = or_third (is_letter c) (c == 45) (c == 35) e
-
 module _ (edition : Edition) (t : List ℕ) where
   entry_within : (i b : ℕ) (bs : List ℕ) → Left t i (b ∷ bs) → i < length t
   entry_within i b bs l = let n = left_end l in omega arith
@@ -195,7 +192,7 @@ module _ (edition : Edition) (t : List ℕ) where
                 entry (record { start = i; end = q.end }) (comment regular d) ∷
                 entry (record { start = q.end; end = o.end }) o.value ∷ n.tiles;
             tiled =
-                next (no_block edition t i (c ∷ cs) (begins c cs (hash_begins c is)) l) (entry_within i c cs l)
+                next (no_block edition t i (c ∷ cs) (begins c cs (hash_entry c is)) l) (entry_within i c cs l)
                 (reads (reads_comment i c cs (comment regular d) q.end is l x))
                 (next (no_block edition t q.end (b ∷ bs) (begins b bs is') q.rest) (entry_within q.end b bs q.rest)
                 (reads o.reads) n.tiled);
@@ -247,9 +244,6 @@ module _ (edition : Edition) (t : List ℕ) where
           }
 
   -- ---- entries as they are written
-
-  letter_begins : (b : ℕ) → is_letter b ≡ true → is_entry_byte b ≡ true
-  letter_begins b e = rw e refl
 
   letter_reads : (i b : ℕ) (bs : List ℕ) (e : EntryTree Text) (rest : List ℕ) → is_letter b ≡ true → Left t i (b ∷ bs) →
       Reads t (message_entry edition t) (entry_map (bytes_at t)) i e rest →
@@ -323,7 +317,7 @@ module _ (edition : Edition) (t : List ℕ) where
       let letter = left_true (is_letter b) (list_all is_name_byte bs) is in
       let after = bs ++ (32 ∷ 61 ∷ value_bytes value (lf ∷ more_attributes more tail)) in
       field_back content (message (record { id = b ∷ bs; value = value; attributes = more; comment = None })) es b after
-      k.rest o refl (letter_begins b letter) (differ is_letter b 35 letter refl)
+      k.rest o refl (letter_entry b letter) (differ is_letter b 35 letter refl)
       (λ j l. letter_reads j b after
       (message (record { id = b ∷ bs; value = value; attributes = more; comment = None })) k.rest letter l
       (message_back edition t (b ∷ bs) value more j tail k.rest is f h a k.ends k.starts l)) k.tiles
@@ -349,8 +343,8 @@ module _ (edition : Edition) (t : List ℕ) where
       BodyBack (comment level content ∷ es) (comment_bytes (hashes_of level) content (lf ∷ tail))
   hashes_from level content es tail c cs e is o k =
       begins_there (comment level content ∷ es) (comment_bytes (hashes_of level) content (lf ∷ tail))
-      (subst EntryStart (sym e) (begins c cs (hash_begins c is)))
-      (λ j l. tiles_free level content es j c cs tail k.rest is (hash_begins c is) (left_as e l)
+      (subst EntryStart (sym e) (begins c cs (hash_entry c is)))
+      (λ j l. tiles_free level content es j c cs tail k.rest is (hash_entry c is) (left_as e l)
       (comment_back t level content j (lf ∷ tail) (right_true (are_lines content) _ o)
       (left_true (are_lines content) _ o) refl l) k.ends k.tiles)
 

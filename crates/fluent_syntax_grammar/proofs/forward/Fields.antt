@@ -19,7 +19,7 @@ use Rattle.fluent_syntax_grammar.specs.Spellings.{is_name}
 use Rattle.fluent_syntax_grammar.specs.Rules.{option_obeys, pattern_obeys, attribute_obeys}
 use Rattle.fluent_syntax_grammar.specs.Readable.{has_field}
 use Rattle.fluent_syntax_grammar.specs.Canonical.{canonical_rules}
-use Rattle.fluent_syntax_grammar.proofs.Facts.{left_true, right_true}
+use Rattle.fluent_syntax_grammar.proofs.Facts.{left_true, right_true, some_same}
 use Rattle.fluent_syntax_grammar.proofs.Left.{Left, left_next, left_past, left_no_eol_after, left_word}
 use Rattle.fluent_syntax_grammar.proofs.forward.Reading.{Reads, reads_bind, reads_gives, reads_here, passes_then}
 use Rattle.fluent_syntax_grammar.proofs.forward.Reading.{passes_over, passes_token, passes_inline_blank}
@@ -46,15 +46,12 @@ attributes_end (a ∷ more) tail rest e =
     stop (indented (32 ∷ 32 ∷ 32 ∷ []) 46 (a.id ++ (32 ∷ 61 ∷ pattern_bytes 1 a.value (lf ∷ more_attributes more tail)))
     refl refl)
 
-pub some_is : {X : Type 0} {x y : X} → Some x ≡ Some y → x ≡ y
-some_is e = cc
-
 module _ (edition : Edition) (t : List ℕ) where
   attribute_then : (id : Span) (a : AttributeTree Text) (v : Option (PatternTree Span)) (i : ℕ) (bs : List ℕ) →
       bytes_at t id ≡ a.id → option_map (pattern_map (bytes_at t)) v ≡ Some a.value → Left t i bs →
       Reads t (attribute_with id v) (attribute_map (bytes_at t)) i a bs
   attribute_then id a None i bs e f l = absurd cc
-  attribute_then id a (Some p) i bs e f l = reads_gives (same_attribute (some_is f)) l
+  attribute_then id a (Some p) i bs e f l = reads_gives (same_attribute (some_same f)) l
     where
       same_attribute : pattern_map (bytes_at t) p ≡ a.value →
           attribute_map (bytes_at t) (record { id = id; value = p }) ≡ a
@@ -160,7 +157,7 @@ module _ (edition : Edition) (t : List ℕ) where
           ≡ message (record { id = id; value = None; attributes = a ∷ more; comment = None })
       same_message e g = rw (e, g) refl
   message_then start id (Some q) more x None as' i rest h e f g l = absurd cc
-  message_then start id (Some q) more x (Some p) as' i rest h e f g l = reads_gives (same_message e (some_is f) g) l
+  message_then start id (Some q) more x (Some p) as' i rest h e f g l = reads_gives (same_message e (some_same f) g) l
     where
       same_message : bytes_at t x ≡ id → pattern_map (bytes_at t) p ≡ q → map (attribute_map (bytes_at t)) as' ≡ more →
           entry_map (bytes_at t) (message (record { id = x; value = Some p; attributes = as'; comment = None }))
@@ -194,7 +191,7 @@ module _ (edition : Edition) (t : List ℕ) where
       Reads t (term_with t start x v as') (entry_map (bytes_at t)) i
       (term (record { id = id; value = value; attributes = more; comment = None })) rest
   term_then start id value more x None as' i rest e f g l = absurd cc
-  term_then start id value more x (Some p) as' i rest e f g l = reads_gives (same_term e (some_is f) g) l
+  term_then start id value more x (Some p) as' i rest e f g l = reads_gives (same_term e (some_same f) g) l
     where
       same_term : bytes_at t x ≡ id → pattern_map (bytes_at t) p ≡ value → map (attribute_map (bytes_at t)) as' ≡ more →
           entry_map (bytes_at t) (term (record { id = x; value = p; attributes = as'; comment = None }))

@@ -4,6 +4,7 @@ use Rattle.std.proofs.Common.{inr}
 use Rattle.std.specs.Prelude.{◌==◌, ◌&&◌, ◌⊎◌, if◌then◌else◌}
 use Rattle.std.specs.List.{list_all}
 use Rattle.std.proofs.lemmas.Bool.Decides.{nat_tests}
+use Rattle.std.proofs.lemmas.Bool.{false≢true}
 use Rattle.fluent_syntax_tree.specs.Tree.{InlineTree, inline_map, string_literal, number_literal, function_reference}
 use Rattle.fluent_syntax_tree.specs.Tree.{message_reference, term_reference, variable_reference, inline_placeable}
 use Rattle.fluent_syntax_tree.specs.Tree.{MaybeArguments, maybe_map, no_arguments, some_arguments, option_texts}
@@ -59,9 +60,6 @@ passes_blank (inline_placeable e) = false
 -- what is left after it
 abbrev pub past : {X : Type 0} → InlineTree X → (gap more : List ℕ) → List ℕ
 past e gap more = if passes_blank e then more else gap ++ more
-
-true_not_false : false ≡ true → ⊥
-true_not_false e = cc
 
 digit_no_letter : (b : ℕ) → is_digit b ≡ true → is_letter b ≡ false
 digit_no_letter b e = grind (arith, nat_tests)
@@ -127,7 +125,7 @@ module _ (edition : Edition) (t : List ℕ) where
       (start t i ≡ minus)
   number_start i [] more e l = cc
   number_start i (b ∷ []) more e l = elim (or_cases (b == 45 && is_unsigned []) (is_unsigned (b ∷ [])) e) [
-    | inl h ↦ absurd (true_not_false (right_true (b == 45) false h))
+    | inl h ↦ absurd (false≢true (right_true (b == 45) false h))
     | inr h ↦ inl (starts_with digit (digit_start b _ (left_true (is_digit b) true h)) l)
   ]
   number_start i (b ∷ c ∷ bs) more e l =

@@ -1,6 +1,7 @@
 -- The elements of a multiline pattern are read back, if its placeables are.
-use Rattle.std.proofs.Common.{◌≡◌, ℕ, suc, ◌+◌, ◌*◌, ◌-◌, ◌≤◌, min, List, [], ◌∷◌, ◌++◌, length, map, Option, Some}
+use Rattle.std.proofs.Common.{◌≡◌, ℕ, ◌+◌, ◌*◌, ◌-◌, ◌≤◌, min, List, [], ◌∷◌, ◌++◌, length, map, Option, Some}
 use Rattle.std.proofs.Common.{None, Bool, true, false, refl, sym, ◌∙◌, subst, ap, append_assoc, length-append, arith}
+use Rattle.std.proofs.lemmas.Bool.{false≢true}
 use Rattle.std.specs.Prelude.{◌==◌, ◌||◌, ◌&&◌, not, if◌then◌else◌}
 use Rattle.std.specs.List.{list_all, list_any}
 use Rattle.fluent_syntax_tree.specs.Tree.{ExpressionTree, ElementTree, text_element, placeable, PatternTree}
@@ -17,7 +18,7 @@ use Rattle.fluent_syntax_grammar.specs.Readable.{ends_well, is_text, are_element
 use Rattle.fluent_syntax_grammar.specs.Readable.{stand_after, indents}
 use Rattle.fluent_syntax_grammar.specs.Canonical.{line_numbers, are_lone, text_numbers, placeable_numbers}
 use Rattle.fluent_syntax_grammar.specs.Elements.{is_nonblank}
-use Rattle.fluent_syntax_grammar.proofs.Facts.{differs, left_true, right_true, equal}
+use Rattle.fluent_syntax_grammar.proofs.Facts.{differs, left_true, right_true, equal, add_one}
 use Rattle.fluent_syntax_grammar.proofs.Tests.{both}
 use Rattle.fluent_syntax_grammar.proofs.Left.{Left, left_as, first, left_next, left_past}
 use Rattle.fluent_syntax_grammar.proofs.marks.LastBytes.{last_append}
@@ -143,6 +144,9 @@ pub split : (v : List ℕ) → Split v
 split [] = record { gap = []; more = []; are = refl; spaces = refl; plain = refl }
 split (b ∷ v) = split_at b v (is_space b) refl (split v)
 
+no_numbers : {m : ℕ} {ns : List ℕ} → m ∷ ns ≡ [] → ⊥
+no_numbers e = cc
+
 -- the spaces are counted
 leading_of : (gap : List ℕ) (b : ℕ) (bs : List ℕ) → list_all is_space gap ≡ true → is_space b ≡ false →
     leading_spaces (gap ++ (b ∷ bs)) ≡ length gap
@@ -150,10 +154,7 @@ leading_of [] b bs a e = rw e refl
 leading_of (x ∷ gap) b bs a e =
     rw (left_true (is_space x) (list_all is_space gap) a)
     (ap (λ n. n + 1) (leading_of gap b bs (right_true (is_space x) (list_all is_space gap) a) e)
-    ∙ suc_one (length gap))
-  where
-    suc_one : (n : ℕ) → n + 1 ≡ suc n
-    suc_one n = omega arith
+    ∙ add_one (length gap))
 
 -- such a text is nonblank
 shown_nonblank : (gap : List ℕ) (b : ℕ) (bs : List ℕ) → is_space b ≡ false → (b == lf) ≡ false →
@@ -174,12 +175,9 @@ module _ (edition : Edition) (t : List ℕ) (level : ℕ) (common : Option ℕ) 
 
     pub plain_not_line : (v body : List ℕ) → v ≡ body ++ (lf ∷ []) → ends_plainly v ≡ true → ⊥
     plain_not_line v body e p =
-        false_true (sym
+        false≢true (sym
         (ap (holds (λ b. not (Rattle.fluent_syntax_tree.specs.Text.is_trimmed b)))
         (ap (last_of None) e ∙ last_append body None lf [])) ∙ p)
-      where
-        false_true : false ≡ true → ⊥
-        false_true e = cc
 
     -- ---- a text within a line
 
@@ -349,9 +347,6 @@ module _ (edition : Edition) (t : List ℕ) (level : ℕ) (rest : List ℕ) wher
       absurd (no_numbers
       (sym (ap (λ ns. ns ++ line_numbers edition (stand_after v) es)
       (numbers_shown edition v (ap is_nonblank is ∙ shown_nonblank gap b bs s n))) ∙ y))
-    where
-      no_numbers : {m : ℕ} {ns : List ℕ} → m ∷ ns ≡ [] → ⊥
-      no_numbers e = cc
   shown_starts common v gap b bs source es i is deep a s n e fixed l k =
       let shift = length (indent level) in
       let others = map (λ n. shift + n) (line_numbers edition (stand_after v) es) in
@@ -454,25 +449,13 @@ spaces_starts :
     Starts edition t common (elements (text_element v) es)
     (map (λ n. length (indent level) + n) (line_numbers edition after_line (elements (text_element v) es))) i rest
 spaces_starts One t level common tail rest v es is a s g f mid i l =
-    absurd (false_true (must_indent (is_spaces v) false _ s g))
-  where
-    false_true : false ≡ true → ⊥
-    false_true e = cc
+    absurd (false≢true (must_indent (is_spaces v) false _ s g))
 spaces_starts Two t level common tail rest v es is a s g (lone x y) mid i l =
     absurd (no_numbers (sym (ap (λ ns. ns ++ line_numbers Two (stand_after v) es) (spaces_number v s)) ∙ y))
-  where
-    no_numbers : {m : ℕ} {ns : List ℕ} → m ∷ ns ≡ [] → ⊥
-    no_numbers e = cc
 spaces_starts Two t level common tail rest v no_elements is a s g fixed mid i l =
-    absurd (false_true (right_true (is_spaces v) false (must_indent (is_spaces v) (is_spaces v && false) _ s g)))
-  where
-    false_true : false ≡ true → ⊥
-    false_true e = cc
+    absurd (false≢true (right_true (is_spaces v) false (must_indent (is_spaces v) (is_spaces v && false) _ s g)))
 spaces_starts Two t level common tail rest v (elements (text_element w) es) is a s g fixed mid i l =
-    absurd (false_true (right_true (is_spaces v) false (must_indent (is_spaces v) (is_spaces v && false) _ s g)))
-  where
-    false_true : false ≡ true → ⊥
-    false_true e = cc
+    absurd (false≢true (right_true (is_spaces v) false (must_indent (is_spaces v) (is_spaces v && false) _ s g)))
 spaces_starts Two t level common tail rest [] (elements (placeable e) es) is a s g fixed mid i l = absurd cc
 spaces_starts Two t level common tail rest (c ∷ v) (elements (placeable e) es) is a s g fixed mid i l =
     let ind = indent level in
@@ -549,11 +532,8 @@ module _ (edition : Edition) (t : List ℕ) (level : ℕ) (common : Option ℕ) 
   pub no_text_after : (v w : Text) (es : PatternTree Text) → ends_in_lf v ≡ false →
       are_elements edition true (stand_after v) (elements (text_element w) es) ≡ true → ⊥
   no_text_after v w es e g =
-      false_true (sym (ap (λ s. stands_well edition true s w es) (ap (λ b. if b then after_line else within_line) e))
+      false≢true (sym (ap (λ s. stands_well edition true s w es) (ap (λ b. if b then after_line else within_line) e))
       ∙ text_stands (stand_after v) w es g)
-    where
-      false_true : false ≡ true → ⊥
-      false_true e = cc
 
   after_lf : (v : Text) (es : PatternTree Text) → ends_in_lf v ≡ true →
       are_elements edition true (stand_after v) es ≡ true → are_elements edition true after_line es ≡ true

@@ -1,6 +1,7 @@
 -- Patterns in which no text holds an LF are read back, if their placeables are.
 use Rattle.std.proofs.Common.{◌≡◌, ℕ, ◌+◌, List, [], ◌∷◌, ◌++◌, Option, Some, None, Bool, true, false, refl, sym, ◌∙◌}
 use Rattle.std.proofs.Common.{subst, ap}
+use Rattle.std.proofs.lemmas.Bool.{false≢true}
 use Rattle.std.specs.Prelude.{◌==◌, ◌||◌, ◌&&◌, not, option_map, if◌then◌else◌}
 use Rattle.std.specs.List.{list_all, list_any, flat_map}
 use Rattle.fluent_syntax_tree.specs.Tree.{ExpressionTree, select, inline, expression_map, string_literal}
@@ -14,7 +15,7 @@ use Rattle.fluent_syntax_grammar.specs.Bytes.{lf, cr, space, is_space}
 use Rattle.fluent_syntax_grammar.specs.Places.{holds, has_byte, has_eol, after_eol, InlineBlank}
 use Rattle.fluent_syntax_grammar.specs.Lines.{is_run_place}
 use Rattle.fluent_syntax_grammar.specs.Construct.{Read, goes_on, given, at_place, passed, chosen}
-use Rattle.fluent_syntax_grammar.specs.Layout.{Piece, Line, Layout, counted, common_indent, least}
+use Rattle.fluent_syntax_grammar.specs.Layout.{Piece, Line, Layout, least}
 use Rattle.fluent_syntax_grammar.specs.Layout as layouts
 use Rattle.fluent_syntax_grammar.specs.Elements.{with_ending, line_items, items, pattern_of, cut, spelled, if_any}
 use Rattle.fluent_syntax_grammar.specs.Patterns.{layout_at, layout}
@@ -33,6 +34,7 @@ use Rattle.fluent_syntax_grammar.proofs.forward.Runs.{is_run_byte, ends_in_cr_be
 use Rattle.fluent_syntax_grammar.proofs.forward.Lines.{Ends, reads_ending}
 use Rattle.fluent_syntax_grammar.proofs.forward.Pieces.{Mid, mid_end, mid_placeable, mid_run, run_end, run_more}
 use Rattle.fluent_syntax_grammar.proofs.Tests.{neither_left, neither_right, not_true, without}
+use Rattle.fluent_syntax_grammar.proofs.LineEnds.{eol_none}
 
 -- A placeable that is an element is read back.
 pub record ElementBack (edition : Edition) (t : List ℕ) (level : ℕ) (e : ExpressionTree Text) : Type 0 where
@@ -125,12 +127,9 @@ module _ (edition : Edition) (t : List ℕ) (level : ℕ) (common : Option ℕ) 
     pub text_after_text : (v w : Text) (es : PatternTree Text) → has_lf v ≡ false →
         stands_well edition false (stand_after v) w es ≡ true → ⊥
     text_after_text v w es e f =
-        false_true (sym
+        false≢true (sym
         (ap (λ s. stands_well edition false s w es) (ap (λ b. if b then after_line else within_line) (no_lf_end v e)))
         ∙ f)
-      where
-        false_true : false ≡ true → ⊥
-        false_true e = cc
 
     -- from within a line on
     pub line_back : (es : PatternTree Text) (s : Stand) (i : ℕ) → ElementsBack edition t level es →
@@ -162,11 +161,6 @@ module _ (edition : Edition) (t : List ℕ) (level : ℕ) (common : Option ℕ) 
         _ (right_true (is_text v) _ g)))))
 
 -- ---- the pattern
-
-eol_none : (x y : Bool) (a b : Option ℕ) → (x || y) ≡ false → (if x then a else if y then b else None) ≡ None
-eol_none false false a b e = refl
-eol_none true y a b e = absurd cc
-eol_none false true a b e = absurd cc
 
 -- a place where a pattern may open within its line: no space stands there, and no line end begins
 pub record OpensAt (t : List ℕ) (i : ℕ) (bs : List ℕ) : Type 0 where

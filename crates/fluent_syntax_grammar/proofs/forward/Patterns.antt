@@ -1,6 +1,7 @@
 -- Multiline patterns are read back, if their placeables are.
 use Rattle.std.proofs.Common.{◌≡◌, ℕ, zero, suc, ◌+◌, ◌*◌, ◌≤◌, List, [], ◌∷◌, ◌++◌, length, map, Option, Some, None}
 use Rattle.std.proofs.Common.{Bool, true, false, refl, sym, ◌∙◌, subst, ap, append_assoc, arith}
+use Rattle.std.proofs.lemmas.Bool.{false≢true}
 use Rattle.std.specs.Prelude.{replicate, option_map, ◌||◌, ◌&&◌, not}
 use Rattle.std.specs.List.{flat_map, list_all, list_any}
 use Rattle.fluent_syntax_tree.specs.declared.edition.Edition.TheVariants.{One, Two}
@@ -228,9 +229,6 @@ module _ (edition : Edition) (t : List ℕ) (level : ℕ) (tail : List ℕ) wher
 
 module _ (edition : Edition) (t : List ℕ) (level : ℕ) (common : Option ℕ) (tail rest : List ℕ) (ends : Ends tail rest)
     (deep : 1 ≤ length (indent level)) where
-  no_false : false ≡ true → ⊥
-  no_false e = cc
-
   first_alone : (v : Text) (es : PatternTree Text) (i : ℕ) →
       are_elements edition true opening (elements (text_element v) es) ≡ true → list_all is_run_byte v ≡ true →
       (gap more : List ℕ) → v ≡ gap ++ more → list_all is_space gap ≡ true → holds is_space (first more) ≡ false →
@@ -262,7 +260,7 @@ module _ (edition : Edition) (t : List ℕ) (level : ℕ) (common : Option ℕ) 
       let d =
       indents_placeable edition v no_elements
       (or_second (is_nonblank v) _ (spaces_blank_text v all)
-      (text_stands edition t level common tail rest ends deep opening v no_elements g)) in absurd (no_false d.1)
+      (text_stands edition t level common tail rest ends deep opening v no_elements g)) in absurd (false≢true d.1)
   first_alone v (elements (placeable x) es) i g a gap [] is c s l =
       let all : is_spaces v ≡ true = ap is_spaces (is ∙ append_none gap) ∙ c in
       let are =
@@ -298,7 +296,7 @@ module _ (edition : Edition) (t : List ℕ) (level : ℕ) (common : Option ℕ) 
       indents_placeable edition v (elements d es)
       (or_second (is_nonblank v) _ blank
       (text_stands edition t level common tail rest ends deep opening v (elements d es) g)) in
-      absurd (no_false (sym (ap is_spaces whole ∙ no_spaces_end gap) ∙ d.0))
+      absurd (false≢true (sym (ap is_spaces whole ∙ no_spaces_end gap) ∙ d.0))
 
   -- The first line is not blank.
   first_line : (e : ElementTree Text) (es : PatternTree Text) (i : ℕ) →

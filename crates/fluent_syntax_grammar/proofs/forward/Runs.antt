@@ -11,7 +11,7 @@ use Rattle.fluent_syntax_grammar.specs.Elements.{without_last_lf}
 use Rattle.fluent_syntax_grammar.specs.Written.{last_of, is_last, has_lf}
 use Rattle.fluent_syntax_grammar.specs.Readable.{is_text}
 use Rattle.fluent_syntax_grammar.proofs.Facts.{left_true, right_true, equal}
-use Rattle.fluent_syntax_grammar.proofs.Tests.{both}
+use Rattle.fluent_syntax_grammar.proofs.Tests.{both, and_right}
 use Rattle.fluent_syntax_grammar.proofs.Computed.{find_here, find_on}
 use Rattle.fluent_syntax_grammar.proofs.Left.{Left, first, left_first, left_next}
 use Rattle.fluent_syntax_grammar.proofs.forward.Spells.{last_from}
@@ -32,16 +32,12 @@ run_no_lf b e = first_false (b == lf) (b == 123) (b == 125) e
     first_false false y z e = refl
     first_false true y z e = cc
 
-and_false : (x y : Bool) → y ≡ false → (x && y) ≡ false
-and_false true y e = e
-and_false false y e = refl
-
 -- no line end begins inside a run
 pub inside : (x : ℕ) (xs ys : List ℕ) → list_all is_run_byte xs ≡ true → ends_in_cr_before (x ∷ xs) ys ≡ false →
     ((x == cr) && holds (λ b. b == lf) (first (xs ++ ys))) ≡ false
 inside x [] ys a e = e
 inside x (y ∷ xs) ys a e =
-    and_false (x == cr) (y == lf) (run_no_lf y (left_true (is_run_byte y) (list_all is_run_byte xs) a))
+    and_right (x == cr) (y == lf) (run_no_lf y (left_true (is_run_byte y) (list_all is_run_byte xs) a))
 
 rest_safe : (x : ℕ) (xs ys : List ℕ) → ends_in_cr_before (x ∷ xs) ys ≡ false → ends_in_cr_before xs ys ≡ false
 rest_safe x [] ys e = refl

@@ -19,7 +19,7 @@ use Rattle.fluent_syntax_grammar.specs.Placeables.{arrow_line_end, has_arrow, se
 use Rattle.fluent_syntax_grammar.specs.Variants.{is_number_start, variant_key, variants_end, variant_and_more}
 use Rattle.fluent_syntax_grammar.specs.Variants.{variant_after}
 use Rattle.fluent_syntax_grammar.specs.Grammar.{family}
-use Rattle.fluent_syntax_grammar.proofs.Facts.{left_true, right_true, equal}
+use Rattle.fluent_syntax_grammar.proofs.Facts.{left_true, right_true, equal, some_same}
 use Rattle.fluent_syntax_grammar.proofs.Tests.{both, or_cases, differ}
 use Rattle.fluent_syntax_grammar.proofs.Nesting.{into_inline_expression, into_more_variants}
 use Rattle.fluent_syntax_grammar.proofs.Left.{Left, left_as, left_first, left_next, left_has}
@@ -158,11 +158,8 @@ module _ (edition : Edition) (t : List ℕ) where
   after_value level starred star key value vs k (Some v) i close more a e f h l =
       passes_then (passes_indent level vs close more i a l)
       (λ j m. reads_bind (h.back j close more a m)
-      (λ ws q g n. reads_gives (same_variants k v ws e (some_is f) g) n))
+      (λ ws q g n. reads_gives (same_variants k v ws e (some_same f) g) n))
     where
-      some_is : {x y : PatternTree Text} → Some x ≡ Some y → x ≡ y
-      some_is e = cc
-
       same_variants : (k : KeyTree Span) (v : PatternTree Span) (ws : VariantTrees Span) →
           key_map (bytes_at t) k ≡ key → pattern_map (bytes_at t) v ≡ value → variants_map (bytes_at t) ws ≡ vs →
           variants_map (bytes_at t) (variants (variant k v star) ws) ≡ variants (variant key value star) vs

@@ -1,9 +1,8 @@
 -- Names, numbers and strings, read forwards.
-use Rattle.std.proofs.Common.{◌≡◌, ℕ, List, [], ◌∷◌, ◌++◌, Bool, true, false, refl, sym, ◌∙◌, ap, append_assoc, inl}
+use Rattle.std.proofs.Common.{◌≡◌, ℕ, List, [], ◌∷◌, ◌++◌, true, false, refl, sym, ◌∙◌, ap, append_assoc, inl}
 use Rattle.std.proofs.Common.{inr}
-use Rattle.std.specs.Prelude.{◌==◌, ◌||◌, ◌&&◌}
+use Rattle.std.specs.Prelude.{◌==◌, ◌&&◌}
 use Rattle.std.specs.List.{list_all}
-use Rattle.std.specs.Int.{is_in_range}
 use Rattle.fluent_syntax_tree.specs.Spans.{bytes_at}
 use Rattle.fluent_syntax_grammar.specs.Bytes.{is_letter, is_name_byte, is_digit}
 use Rattle.fluent_syntax_grammar.specs.Places.{holds}
@@ -11,26 +10,17 @@ use Rattle.fluent_syntax_grammar.specs.Construct.{Construct, ◌>>=◌, gives, e
 use Rattle.fluent_syntax_grammar.specs.Words.{optional, digits, identifier, number}
 use Rattle.fluent_syntax_grammar.specs.Spellings.{is_name, is_digits, is_number_rest, is_unsigned, is_number}
 use Rattle.fluent_syntax_grammar.proofs.Facts.{left_true, right_true, equal}
-use Rattle.fluent_syntax_grammar.proofs.Tests.{both, or_cases, differ}
+use Rattle.fluent_syntax_grammar.proofs.Tests.{both, or_cases, differ, letter_name}
 use Rattle.fluent_syntax_grammar.proofs.Left.{Left, left_as, first, left_past, left_has, left_word}
 use Rattle.fluent_syntax_grammar.proofs.forward.Reading.{Reads, Passes, reads_bind, passes_nothing, passes_then}
 use Rattle.fluent_syntax_grammar.proofs.forward.Reading.{reads_here, passes_over, reads_at_each, reads_look}
 use Rattle.fluent_syntax_grammar.proofs.forward.Reading.{reads_first, reads_second, reads_present, reads_absent}
 use Rattle.fluent_syntax_grammar.proofs.forward.Reading.{reads_spanned}
 
-widened : (d u l x y : Bool) → (u || l) ≡ true → (((d || u) || l) || x || y) ≡ true
-widened true u l x y e = refl
-widened false true l x y e = refl
-widened false false true x y e = refl
-widened false false false x y e = cc
-
-pub letter_in_name : (b : ℕ) → is_letter b ≡ true → is_name_byte b ≡ true
-letter_in_name b e = widened (is_in_range 48 57 b) (is_in_range 65 90 b) (is_in_range 97 122 b) (b == 45) (b == 95) e
-
 pub name_bytes : (bs : List ℕ) → is_name bs ≡ true → list_all is_name_byte bs ≡ true
 name_bytes [] e = refl
 name_bytes (b ∷ bs) e =
-    rw (letter_in_name b (left_true (is_letter b) (list_all is_name_byte bs) e))
+    rw (letter_name b (left_true (is_letter b) (list_all is_name_byte bs) e))
     (right_true (is_letter b) (list_all is_name_byte bs) e)
 
 name_begins : (bs ys : List ℕ) → is_name bs ≡ true → holds is_letter (first (bs ++ ys)) ≡ true

@@ -55,7 +55,7 @@ fn message(alloc: Global, message: &Message<String>) -> Result<Value, AllocError
             .with("id", identifier(alloc, &message.id)?)?
             .with("value", value(alloc, &message.value)?)?
             .with("attributes", attributes(alloc, &message.attributes)?)?
-            .with("comment", hung(alloc, &message.comment)?)?
+            .with("comment", comment_or_null(alloc, &message.comment)?)?
             .into_value(),
     )
 }
@@ -68,7 +68,7 @@ fn term(alloc: Global, term: &Term<String>) -> Result<Value, AllocError>
             .with("id", identifier(alloc, &term.id)?)?
             .with("value", pattern(alloc, &term.value)?)?
             .with("attributes", attributes(alloc, &term.attributes)?)?
-            .with("comment", hung(alloc, &term.comment)?)?
+            .with("comment", comment_or_null(alloc, &term.comment)?)?
             .into_value(),
     )
 }
@@ -117,7 +117,7 @@ fn attribute(alloc: Global, attribute: &Attribute<String>) -> Result<Value, Allo
 }
 
 /// The comment of a message or a term.
-fn hung(alloc: Global, comment: &Option<Comment<String>>) -> Result<Value, AllocError>
+fn comment_or_null(alloc: Global, comment: &Option<Comment<String>>) -> Result<Value, AllocError>
     ensures { IfOk result (λ v. view v ≡ or_null comment_form (option_map (comment_view string_bytes) comment.now)) }
 {
     match comment {

@@ -62,7 +62,7 @@ fn message(alloc: Global, v: &Value) -> Result<Message<String>, ValueFault>
         id: identifier(alloc, field(v, "id")?)?,
         value: value(alloc, v)?,
         attributes: attributes(alloc, field(v, "attributes")?)?,
-        comment: hung(alloc, v)?,
+        comment: comment_of(alloc, v)?,
     })
 }
 
@@ -73,7 +73,7 @@ fn term(alloc: Global, v: &Value) -> Result<Term<String>, ValueFault>
         id: identifier(alloc, field(v, "id")?)?,
         value: pattern(alloc, field(v, "value")?)?,
         attributes: attributes(alloc, field(v, "attributes")?)?,
-        comment: hung(alloc, v)?,
+        comment: comment_of(alloc, v)?,
     })
 }
 
@@ -107,7 +107,7 @@ fn attribute(alloc: Global, v: &Value) -> Result<Attribute<String>, ValueFault>
 }
 
 /// The comment of a message or a term.
-fn hung(alloc: Global, v: &Value) -> Result<Option<Comment<String>>, ValueFault>
+fn comment_of(alloc: Global, v: &Value) -> Result<Option<Comment<String>>, ValueFault>
     ensures { Answers (option_map (comment_view string_bytes)) (hung_in (view v.now)) result }
 {
     match optional(v, "comment") {

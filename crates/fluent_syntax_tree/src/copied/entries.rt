@@ -5,10 +5,10 @@ ghost use Rattle.fluent_syntax_tree.specs.Every.{entry_every, body_every, option
 ghost use Rattle.fluent_syntax_tree.specs.View.{comment_view, pattern_view, attribute_view, message_view, term_view};
 ghost use Rattle.fluent_syntax_tree.specs.View.{entry_view, resource_view};
 
-use super::list_for;
 use super::names::{comment, identifier};
 use super::patterns::pattern;
 use crate::ast::*;
+use crate::capacity::list_for;
 use crate::texts::CopyTexts;
 use std::alloc::{AllocError, Global};
 

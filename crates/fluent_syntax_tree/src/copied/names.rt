@@ -3,8 +3,8 @@ ghost use Rattle.std.specs.Prelude.{◌≡◌, IfOk, map, option_map};
 ghost use Rattle.fluent_syntax_tree.specs.Every.{key_every, option_every, list_every};
 ghost use Rattle.fluent_syntax_tree.specs.View.{identifier_view, key_view, comment_view};
 
-use super::list_for;
 use crate::ast::{Comment, Identifier, VariantKey};
+use crate::capacity::list_for;
 use crate::texts::CopyTexts;
 use std::alloc::{AllocError, Global};
 

@@ -5,9 +5,9 @@ ghost use Rattle.fluent_syntax_tree.specs.Every.{named_every, pattern_every, var
 ghost use Rattle.fluent_syntax_tree.specs.View.{expression_view, inline_view, element_view, arguments_view, named_view};
 ghost use Rattle.fluent_syntax_tree.specs.View.{pattern_view, variant_view};
 
-use super::list_for;
 use super::names::{attribute_name, identifier, key};
 use crate::ast::*;
+use crate::capacity::list_for;
 use crate::texts::CopyTexts;
 use std::alloc::{AllocError, Global};
 

@@ -60,7 +60,7 @@ impl<W: TextSink> EntryWriter<W> {
             → HasWritten W.text W.room start (body ++ entry_view T.text entry.now ∷ []) self.new }
         ensures silent { self.old.refused ≡ true → self.new.sink ≡ self.old.sink }
     {
-        let mut writer: TextWriter<'_, T, W> = TextWriter::resumed(
+        let mut writer: TextWriter<'_, T, W> = TextWriter::from_parts(
             &mut self.sink,
             self.last,
             self.refused,

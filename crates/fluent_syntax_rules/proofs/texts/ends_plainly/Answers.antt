@@ -1,5 +1,5 @@
 use Rattle.std.proofs.Common.{◌-◌, length, None, arith}
-use Rattle.fluent_syntax_rules.proofs.Bytes.{last_byte}
+use Rattle.fluent_syntax_grammar.proofs.TextEnds.{last_byte}
 use Rattle.fluent_syntax_rules.proofs.texts.ends_plainly.Goals as goal
 
 pub returns-in-len1-up : goal.returns-in-len1-up

@@ -33,6 +33,8 @@ use Rattle.fluent_syntax_grammar.proofs.Shallow.{pattern_stuck, pieces_close, pi
 use Rattle.fluent_syntax_grammar.proofs.Shallow.{placeable_stuck, placed_led, placed_stuck, plain_start, run_led}
 use Rattle.fluent_syntax_grammar.proofs.Shallow.{select_led, select_stuck, term_led, term_stuck, value_led, value_stuck}
 use Rattle.fluent_syntax_grammar.proofs.Shallow.{variants_led, variants_stuck}
+use Rattle.fluent_syntax_grammar.proofs.Tests.{both}
+use Rattle.fluent_syntax_grammar.proofs.LineEnds.{after_none}
 use Rattle.fluent_syntax_grammar.specs.Nesting.{behind_line, behind_named, behind_opening, behind_placeable, behind_run}
 use Rattle.fluent_syntax_grammar.specs.Nesting.{behind_variant, in_braces, in_list, its_argument, its_arguments}
 use Rattle.fluent_syntax_grammar.specs.Nesting.{its_layout, its_line, its_lines, its_named_value, its_opening}
@@ -48,14 +50,14 @@ use Rattle.fluent_syntax_parser.proofs.GatheredVariants.{put_added, put_all, put
 use Rattle.fluent_syntax_parser.proofs.Gathers as gathers
 use Rattle.fluent_syntax_parser.proofs.InlineStarts.{by_number, by_start, by_value, no_value, number_flat, value_begins}
 use Rattle.fluent_syntax_parser.proofs.InlineStarts.{value_begins_not}
-use Rattle.fluent_syntax_parser.proofs.LineEndings.{by_eol, ends_line, ends_text, eol_none}
+use Rattle.fluent_syntax_parser.proofs.LineEndings.{by_eol, ends_line, ends_text}
 use Rattle.fluent_syntax_parser.proofs.Names.{none_named, some_named, some_names, used_in_order}
 use Rattle.fluent_syntax_parser.proofs.Pieces.{bare_brace, end_pieces, line_read, no_lines, no_pieces, own_lines}
 use Rattle.fluent_syntax_parser.proofs.Pieces.{placed_piece, run_piece, brace_stands, run_there}
 use Rattle.fluent_syntax_parser.proofs.Puts.{one_put}
 use Rattle.fluent_syntax_parser.proofs.Selects.{is_selector, no_selector}
 use Rattle.fluent_syntax_parser.proofs.Shallows.{falls, not_first}
-use Rattle.fluent_syntax_parser.proofs.Stars.{both_true, one_false}
+use Rattle.fluent_syntax_parser.proofs.Stars.{one_false}
 use Rattle.fluent_syntax_parser.proofs.source.Source.+readers.Goals as goal
 use Rattle.fluent_syntax_parser.proofs.source.Source.+readers.Goals.{
   get_arguments-in_default-via-in-Some+else-is_byte_at,
@@ -678,7 +680,7 @@ get_variants-returns-then-star-clause-meets m c =
     (into_more_variants c.args.edition c.args.self.now.bytes.now c.loop-starred.starred _ _
     (goes_on c.take_byte_if-star.ensures.meets
     (stops
-    (first (both_true _ _ c.if-starred.true c.if-star.true)
+    (first (both c.if-starred.true c.if-star.true)
     (failed refl))))))
 
 pub get_variants-returns-then-has_default-clause-meets : goal.get_variants-returns-then-has_default-clause-meets
@@ -986,7 +988,7 @@ get_lines-returns-in-None-eol_end-clause-meets m c =
     gathers.all list line_view c.args.ptr _ _ _ gathered
     (no_lines c.args.edition t _
     (pieces.stops
-    (eol_none t _ none)))
+    (after_none t _ none)))
 
 pub get_lines-loop-lines-preserved : goal.get_lines-loop-lines-preserved
 get_lines-loop-lines-preserved m c =
@@ -1710,7 +1712,7 @@ get_variants-returns-then-star-clause-shallow m c =
     let edition = c.args.edition in
     λ e. variants_stuck edition t _ _ _ _
     (goes_on c.take_byte_if-star.ensures.meets
-    (stops (first (both_true _ _ c.if-starred.true c.if-star.true) (failed refl))))
+    (stops (first (both c.if-starred.true c.if-star.true) (failed refl))))
     (c.loop-starred.invariant.shallow e)
 
 pub get_variants-returns-then-has_default-clause-shallow : goal.get_variants-returns-then-has_default-clause-shallow
@@ -1856,7 +1858,7 @@ get_lines-returns-in-None-eol_end-clause-shallow m c =
     let edition = c.args.edition in
     let pieces = c.in_ok-pieces-in-Some.ensures in
     let none = sym c.in-None-eol_end.ensures.eol in
-    λ e. no_lines_led edition t _ (no_lines edition t _ (pieces.stops (eol_none t _ none)))
+    λ e. no_lines_led edition t _ (no_lines edition t _ (pieces.stops (after_none t _ none)))
     (not_first pieces.shallow
     (lines_led edition t _ c.skip_blank_inline-first.ensures.blank _ _ _ _ pieces.meets (ends_text t _ none)
     (c.loop-lines.invariant.shallow e)))

@@ -26,14 +26,14 @@ returns-then-is_byte_at-clause-hangs c =
           behind_blank edition t content c.args.ptr _ w.skip_blank_block.ensures.blank w.if-skip_blank_block-ptr.true
     ])
 
-pub returns-in-Ok-hung-clause-hangs : goal.returns-in-Ok-hung-clause-hangs
-returns-in-Ok-hung-clause-hangs c =
+pub returns-in-Ok-with_comment-clause-hangs : goal.returns-in-Ok-with_comment-clause-hangs
+returns-in-Ok-with_comment-clause-hangs c =
     let t = c.args.self.now.bytes.now in
     let content = comment_view (λ s. s) c.args.comment in
     let read = c.in-Ok.ensures in
     let inside : c.args.ptr < length t = omega (arith, read.within.0, read.within.1) in
     let block = rw c.if-skip_blank_block-ptr.false at c.skip_blank_block.ensures.blank in
-    hangs_on c.args.options.edition t content c.args.ptr _ _ _ block inside read.meets c.in-Ok-hung.ensures.hung
+    hangs_on c.args.options.edition t content c.args.ptr _ _ _ block inside read.meets c.in-Ok-with_comment.ensures.hung
 
 pub returns-in-Err-clause-hangs : goal.returns-in-Err-clause-hangs
 returns-in-Err-clause-hangs c =
@@ -56,8 +56,8 @@ returns-in-Err-Refused-clause-hangs c =
 
 -- ---- how deeply it nests
 
-pub returns-in-Ok-hung-clause-behind : goal.returns-in-Ok-hung-clause-behind
-returns-in-Ok-hung-clause-behind c =
+pub returns-in-Ok-with_comment-clause-behind : goal.returns-in-Ok-with_comment-clause-behind
+returns-in-Ok-with_comment-clause-behind c =
     let t = c.args.self.now.bytes.now in
     let edition = c.args.options.edition in
     let read = c.in-Ok.ensures in
@@ -70,8 +70,8 @@ returns-in-Err-TooDeep-clause-deeper c =
     let block = rw c.if-skip_blank_block-ptr.false at c.skip_blank_block.ensures.blank in
     λ e. (_, block, its_entry (c.in-Err-TooDeep.ensures.deeper c.in-Err-TooDeep.field-0-is))
 
-pub returns-in-Ok-hung-clause-shallow : goal.returns-in-Ok-hung-clause-shallow
-returns-in-Ok-hung-clause-shallow c =
+pub returns-in-Ok-with_comment-clause-shallow : goal.returns-in-Ok-with_comment-clause-shallow
+returns-in-Ok-with_comment-clause-shallow c =
     let t = c.args.self.now.bytes.now in
     let edition = c.args.options.edition in
     let read = c.in-Ok.ensures in

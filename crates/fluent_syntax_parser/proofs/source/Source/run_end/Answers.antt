@@ -2,7 +2,8 @@ use Rattle.std.proofs.Common.{◌≡◌, ◌-◌, ◌<◌, false, sym, arith}
 use Rattle.std.specs.Prelude.{◌&&◌}
 use Rattle.fluent_syntax_grammar.specs.Bytes.{lf, cr}
 use Rattle.fluent_syntax_grammar.specs.Places.{has_byte}
-use Rattle.fluent_syntax_parser.proofs.Runs.{run_to, run_before_crlf, and_first, and_false}
+use Rattle.fluent_syntax_grammar.proofs.Tests.{and_left, and_right}
+use Rattle.fluent_syntax_parser.proofs.Runs.{run_to, run_before_crlf}
 use Rattle.fluent_syntax_parser.proofs.source.Source.run_end.Goals as goal
 use Rattle.fluent_syntax_parser.proofs.source.Source.run_end.Goals.{
   else-end-ptr-via-then-end-ptr+then-is_byte_at+else-is_byte_at-2,
@@ -21,10 +22,10 @@ returns-else-end-ptr-clause-run c =
     let m = c.text_end-end.result in
     let last : c.args.ptr < m → (has_byte t cr (m - 1) && has_byte t lf m) ≡ false = λ l.
     elim c.else-end-ptr.branch [
-      | else-end-ptr-via-then-end-ptr+then-is_byte_at+else-is_byte_at-2 w ↦ and_first (has_byte t cr (m - 1))
+      | else-end-ptr-via-then-end-ptr+then-is_byte_at+else-is_byte_at-2 w ↦ and_left (has_byte t cr (m - 1))
           (has_byte t lf m)
           (sym w.if-is_byte_at-2.ensures)
-      | else-end-ptr-via-then-end-ptr+else-is_byte_at w ↦ and_false (has_byte t cr (m - 1)) (has_byte t lf m)
+      | else-end-ptr-via-then-end-ptr+else-is_byte_at w ↦ and_right (has_byte t cr (m - 1)) (has_byte t lf m)
           (sym w.if-is_byte_at.ensures)
       | else-end-ptr-via-else-end-ptr w ↦ absurd (omega (arith, w.if-end-ptr.false, l))
     ] in

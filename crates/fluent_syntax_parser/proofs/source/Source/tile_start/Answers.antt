@@ -1,9 +1,10 @@
-use Rattle.std.proofs.Common.{◌<◌, inl, inr, length, refl, sym, arith}
+use Rattle.std.proofs.Common.{◌<◌, inr, length, sym, arith}
 use Rattle.fluent_syntax_grammar.proofs.Functional.{single_block}
 use Rattle.fluent_syntax_grammar.proofs.Shallow.{block_behind}
+use Rattle.fluent_syntax_grammar.proofs.Tests.{both}
 use Rattle.fluent_syntax_parser.specs.Rest.{TileIn}
 use Rattle.fluent_syntax_parser.proofs.DeeperTiles.{behind_dropped, dropped_led}
-use Rattle.fluent_syntax_parser.proofs.NextStarts.{both_true, next_behind, starts_behind, starts_behind_comment}
+use Rattle.fluent_syntax_parser.proofs.NextStarts.{next_behind, starts_behind, starts_behind_comment}
 use Rattle.fluent_syntax_parser.proofs.Rests.{rest_behind, rest_dropped}
 use Rattle.fluent_syntax_parser.proofs.source.Source.tile_start.Goals as goal
 
@@ -46,13 +47,13 @@ loop-comments-preserved c =
       next = λ start found. inv.next start
           (inr (
             _,
-            both_true (sym c.loop-comments-test.ensures) (sym c.if-is_byte_at.ensures),
+            both (sym c.loop-comments-test.ensures) (sym c.if-is_byte_at.ensures),
             line.line,
             next_behind c.args.comments t _ _ start block.blank found,
           ));
       starts = λ start next. starts_behind c.args.comments t _ _ start block.blank
           (starts_behind_comment c.args.comments t _ start _
-          (both_true (sym c.loop-comments-test.ensures) (sym c.if-is_byte_at.ensures)) line.line
+          (both (sym c.loop-comments-test.ensures) (sym c.if-is_byte_at.ensures)) line.line
           (inv.starts start next));
       blank = λ all. let end = inv.blank all in absurd (omega (arith, end, inside));
     }

@@ -1,6 +1,6 @@
 use Rattle.std.proofs.Common.{◌≡◌, ◌≤◌, length}
 use Rattle.fluent_syntax_tree.specs.Text.{trimmed_len, trimmed_len_below}
-use Rattle.fluent_syntax_parser.proofs.tails.trimmed_len.Given as goal
+use Rattle.fluent_syntax_tree.proofs.trimming.trimmed_len.Given as goal
 
 abbrev pub invariant-loop-len : goal.invariant-loop-len
 invariant-loop-len l = record {

@@ -1,6 +1,6 @@
 use Rattle.std.proofs.Common.{◌-◌, length, None, arith}
-use Rattle.fluent_syntax_rules.proofs.Bytes.{last_byte}
-use Rattle.fluent_syntax_rules.proofs.texts.ends_in_lf.Goals as goal
+use Rattle.fluent_syntax_grammar.proofs.TextEnds.{last_byte}
+use Rattle.fluent_syntax_grammar.proofs.texts.ends_in_lf.Goals as goal
 
 pub returns-in-len1-up : goal.returns-in-len1-up
 returns-in-len1-up c =
