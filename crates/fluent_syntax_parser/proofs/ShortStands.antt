@@ -11,7 +11,7 @@ use Rattle.fluent_syntax_grammar.specs.Lines as lines
 use Rattle.fluent_syntax_grammar.specs.Lines.{belongs, is_run_place, no_byte, other_line, own_line}
 use Rattle.fluent_syntax_grammar.specs.Places.{BlankBlock, InlineBlank, Stretch, after_eol, has_byte, has_eol}
 use Rattle.fluent_syntax_grammar.specs.Places.{is_line_place}
-use Rattle.fluent_syntax_grammar.proofs.Facts.{byte_inside, differs, lt_or_same}
+use Rattle.fluent_syntax_grammar.proofs.Facts.{has_inside, differs, lt_or_same}
 use Rattle.fluent_syntax_grammar.proofs.Functional.{single_block, single_stretch}
 use Rattle.fluent_syntax_grammar.specs.Words.{token}
 use Rattle.fluent_syntax_grammar.proofs.FunctionalWords.{functional_token}
@@ -47,7 +47,7 @@ module _ (t : List ℕ) where
   brace_ends_no_line to stop next there (with_crlf f other) =
       differs (eol_there (has_byte t lf to) _ to next f) (begins_no_line_end t to left_brace refl refl there)
   brace_ends_no_line to stop next there (with_text f same) =
-      let inside = byte_inside (λ b. b == left_brace) t to (slice_get t to) refl there in omega (arith, inside, same)
+      let inside = has_inside (λ b. b == left_brace) t to there in omega (arith, inside, same)
 
 -- ---- the rest of a line, behind its run
 

@@ -1,7 +1,7 @@
 //! The items that the lines of a pattern spell.
-ghost use Rattle.std.specs.Prelude.{◌≡◌, ◌+◌, ◌<◌, ◌^◌, ◌++◌, map, IfOk, OnOk};
+ghost use Rattle.std.specs.Prelude.{◌≡◌, ◌+◌, ◌<◌, ◌^◌, ◌++◌, [], map, IfOk, OnOk};
 ghost use Rattle.fluent_syntax_grammar.specs.Elements.{line_items, with_ending};
-ghost use Rattle.fluent_syntax_parser.specs.Elements.{item_view, items_with, kept_place, layout_view, leading};
+ghost use Rattle.fluent_syntax_parser.specs.Elements.{item_view, items_with, kept_place, layout_view, leading, waiting};
 ghost use Rattle.fluent_syntax_parser.specs.Endings.{EndsWithin};
 ghost use Rattle.fluent_syntax_parser.specs.Lines.{ending_view, line_view, piece_view};
 
@@ -23,6 +23,42 @@ pub(crate) enum Item {
 pub(crate) struct Layout {
     pub(crate) opening: Option<Line>,
     pub(crate) lines: Vec<Line>,
+}
+
+/// Adds the last run of a line, where one waits, and the line's ending: an LF belongs to the text before it.
+fn add_ending(
+    pending: Option<(usize, usize)>,
+    ending: Ending,
+    items: &mut Vec<Item>,
+) -> Result<(), AllocError>
+    requires { EndsWithin ending }
+    ensures { OnOk result (map item_view items.new.items
+        ≡ map item_view items.old.items ++ with_ending (waiting pending []) (ending_view ending)) }
+{
+    match (pending, ending) {
+        (Some((from, _)), Ending::Lf(place)) => items.push(Item::Text {
+            from,
+            to: place + 1,
+        })?,
+        (None, Ending::Lf(place)) => items.push(Item::Text {
+            from: place,
+            to: place + 1,
+        })?,
+        (Some((from, to)), Ending::Crlf(place)) => {
+            items.push(Item::Text { from, to })?;
+            items.push(Item::Text {
+                from: place + 1,
+                to: place + 2,
+            })?;
+        }
+        (None, Ending::Crlf(place)) => items.push(Item::Text {
+            from: place + 1,
+            to: place + 2,
+        })?,
+        (Some((from, to)), Ending::TextEnd) => items.push(Item::Text { from, to })?,
+        (None, Ending::TextEnd) => {}
+    }
+    Ok(())
 }
 
 /// Adds the pieces of a line and its ending. A run that begins the line begins at `led`, if that is given.
@@ -52,30 +88,7 @@ fn add_pieces(
         };
         led = None;
     }
-    match (pending, ending) {
-        (Some((from, _)), Ending::Lf(place)) => items.push(Item::Text {
-            from,
-            to: place + 1,
-        })?,
-        (None, Ending::Lf(place)) => items.push(Item::Text {
-            from: place,
-            to: place + 1,
-        })?,
-        (Some((from, to)), Ending::Crlf(place)) => {
-            items.push(Item::Text { from, to })?;
-            items.push(Item::Text {
-                from: place + 1,
-                to: place + 2,
-            })?;
-        }
-        (None, Ending::Crlf(place)) => items.push(Item::Text {
-            from: place + 1,
-            to: place + 2,
-        })?,
-        (Some((from, to)), Ending::TextEnd) => items.push(Item::Text { from, to })?,
-        (None, Ending::TextEnd) => {}
-    }
-    Ok(())
+    add_ending(pending, ending, items)
 }
 
 /// Where the leading spaces of a line beyond the common indent begin.

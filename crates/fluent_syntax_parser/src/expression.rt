@@ -6,6 +6,7 @@ ghost use Rattle.fluent_syntax_grammar.specs.Grammar.{expression, family, placea
 ghost use Rattle.fluent_syntax_grammar.specs.Nesting.{Deeper, in_expression, in_inline_expression, in_placeable};
 ghost use Rattle.fluent_syntax_grammar.specs.Placeables.{arrow_line_end, has_arrow};
 ghost use Rattle.fluent_syntax_grammar.specs.Places.{after_eol};
+ghost use Rattle.fluent_syntax_grammar.specs.Starts.{letter, start, term};
 ghost use Rattle.fluent_syntax_parser.specs.Meets.{Meets, MeetsEnd, NestsWithin, OnTooDeep, Shallow};
 
 use crate::fault::{Fault, ReadFault, Refusal};
@@ -18,6 +19,73 @@ use fluent_syntax_tree::spans::Span;
 use std::alloc::Global;
 
 impl<'s> Source<'s> {
+    /// Reads a reference to a term: `-`, its name, an attribute if `.` follows, and arguments if `(` follows.
+    #[cycle(readers)]
+    fn get_term_reference(
+        &self,
+        alloc: Global,
+        edition: Edition,
+        nesting: usize,
+        ptr: usize,
+    ) -> Result<(InlineExpression<Span>, usize), ReadFault>
+        requires within { ptr ≤ length self.now.bytes.now }
+        requires starts { term ≡ start self.now.bytes.now ptr }
+        ensures meets { let t = self.now.bytes.now in
+            Meets t (family edition t).inline_expression (inline_view (λ s. s)) ptr result }
+        ensures within { IfOk result (λ read. (ptr < read.1) × (read.1 ≤ length self.now.bytes.now)) }
+        ensures nests { IfErr result (NestsWithin nesting (length self.now.bytes.now - ptr)) }
+        ensures deeper { let t = self.now.bytes.now in
+            IfErr result (OnTooDeep (Deeper edition t in_inline_expression nesting ptr)) }
+        ensures shallow { let t = self.now.bytes.now in
+            Shallow (Deeper edition t in_inline_expression nesting ptr) result }
+    {
+        let start = self.expect_byte(b'-', ptr)?;
+        let end = self.identifier_end(start)?;
+        let id = Identifier {
+            name: Span { start, end },
+        };
+        let (attribute, ptr) = self.get_attribute_accessor(end)?;
+        let (arguments, ptr) = self.get_call_arguments(alloc, edition, nesting, ptr)?;
+        Ok((
+            InlineExpression::TermReference {
+                id,
+                attribute,
+                arguments,
+            },
+            ptr,
+        ))
+    }
+
+    /// Reads a reference to a function or to a message, by its name and what follows it.
+    #[cycle(readers)]
+    fn get_reference(
+        &self,
+        alloc: Global,
+        edition: Edition,
+        nesting: usize,
+        ptr: usize,
+    ) -> Result<(InlineExpression<Span>, usize), ReadFault>
+        requires within { ptr ≤ length self.now.bytes.now }
+        requires starts { letter ≡ start self.now.bytes.now ptr }
+        ensures meets { let t = self.now.bytes.now in
+            Meets t (family edition t).inline_expression (inline_view (λ s. s)) ptr result }
+        ensures within { IfOk result (λ read. (ptr < read.1) × (read.1 ≤ length self.now.bytes.now)) }
+        ensures nests { IfErr result (NestsWithin nesting (length self.now.bytes.now - ptr)) }
+        ensures deeper { let t = self.now.bytes.now in
+            IfErr result (OnTooDeep (Deeper edition t in_inline_expression nesting ptr)) }
+        ensures shallow { let t = self.now.bytes.now in
+            Shallow (Deeper edition t in_inline_expression nesting ptr) result }
+    {
+        let end = self.identifier_end(ptr)?;
+        let id = Identifier {
+            name: Span { start: ptr, end },
+        };
+        let (arguments, ptr) = self.get_call_arguments(alloc, edition, nesting, end)?;
+        let (reference, ptr) = self.get_named_reference(id, arguments, ptr)?;
+        Ok((reference, ptr))
+    }
+
+    /// Reads an inline expression: what stands at the place decides its form.
     #[cycle(readers)]
     pub(crate) fn get_inline_expression(
         &self,
@@ -46,23 +114,7 @@ impl<'s> Source<'s> {
                 let value = Span { start: ptr, end };
                 Ok((InlineExpression::NumberLiteral { value }, end))
             }
-            Start::Term => {
-                let start = self.expect_byte(b'-', ptr)?;
-                let end = self.identifier_end(start)?;
-                let id = Identifier {
-                    name: Span { start, end },
-                };
-                let (attribute, ptr) = self.get_attribute_accessor(end)?;
-                let (arguments, ptr) = self.get_call_arguments(alloc, edition, nesting, ptr)?;
-                Ok((
-                    InlineExpression::TermReference {
-                        id,
-                        attribute,
-                        arguments,
-                    },
-                    ptr,
-                ))
-            }
+            Start::Term => self.get_term_reference(alloc, edition, nesting, ptr),
             Start::Dollar => {
                 let start = self.expect_byte(b'$', ptr)?;
                 let end = self.identifier_end(start)?;
@@ -71,15 +123,7 @@ impl<'s> Source<'s> {
                 };
                 Ok((InlineExpression::VariableReference { id }, end))
             }
-            Start::Letter => {
-                let end = self.identifier_end(ptr)?;
-                let id = Identifier {
-                    name: Span { start: ptr, end },
-                };
-                let (arguments, ptr) = self.get_call_arguments(alloc, edition, nesting, end)?;
-                let (reference, ptr) = self.get_named_reference(id, arguments, ptr)?;
-                Ok((reference, ptr))
-            }
+            Start::Letter => self.get_reference(alloc, edition, nesting, ptr),
             Start::Brace => {
                 let (expression, ptr) = self.get_placeable(alloc, edition, nesting, ptr)?;
                 let expression = Box::new(alloc, expression)?;

@@ -95,23 +95,19 @@ impl<'s> Source<'s> {
             let next = self.skip_blank(next);
             let next = self.expect_byte(b']', next)?;
             let (value, next) = self.get_pattern(alloc, edition, nesting, next)?;
-            match value {
-                None => {
-                    return Err(ReadFault::Refused(Refusal {
-                        fault: Fault::Value,
-                        place: next,
-                    }));
-                }
-                Some(value) => {
-                    variants.push(Variant {
-                        key,
-                        value,
-                        default: star,
-                    })?;
-                    starred |= star;
-                    place = self.skip_blank(next);
-                }
-            }
+            let Some(value) = value else {
+                return Err(ReadFault::Refused(Refusal {
+                    fault: Fault::Value,
+                    place: next,
+                }));
+            };
+            variants.push(Variant {
+                key,
+                value,
+                default: star,
+            })?;
+            starred |= star;
+            place = self.skip_blank(next);
         }
     }
 }

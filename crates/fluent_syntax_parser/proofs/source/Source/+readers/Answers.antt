@@ -1,5 +1,5 @@
 use Rattle.std.proofs.Common.{◌≡◌, ◌+◌, ◌-◌, ◌∙◌, refl, sym, arith, [], false, None, inl, inr}
-use Rattle.std.specs.Prelude.{slice_get, ◌==◌, ◌⊎◌}
+use Rattle.std.specs.Prelude.{◌==◌, ◌⊎◌}
 use Rattle.std.proofs.lemmas.Option.{gets}
 use Rattle.std.proofs.lemmas.Result.{err_from_is_err_and}
 use Rattle.fluent_syntax_tree.specs.Spans.{bytes_at}
@@ -22,7 +22,7 @@ use Rattle.fluent_syntax_grammar.specs.Patterns.{layout_at}
 use Rattle.fluent_syntax_grammar.specs.Places.{after_eol, has_byte}
 use Rattle.fluent_syntax_grammar.specs.Starts as starts
 use Rattle.fluent_syntax_grammar.specs.Starts.{start}
-use Rattle.fluent_syntax_grammar.proofs.Facts.{byte_inside, right_true}
+use Rattle.fluent_syntax_grammar.proofs.Facts.{has_inside, right_true}
 use Rattle.fluent_syntax_grammar.proofs.Nesting.{into_more_lines, into_more_variants}
 use Rattle.fluent_syntax_grammar.proofs.Shallow.{arguments_closed, arguments_stuck, block_led, brace_led, call_led}
 use Rattle.fluent_syntax_grammar.proofs.Shallow.{call_stuck, duplicate_led, expression_stuck, late_led, letter_led}
@@ -83,47 +83,47 @@ get_inline_expression-returns-in_err-end-in-Digit-clause-meets m c =
     by_number c.args.edition c.args.self.now.bytes.now _ c.start.result _ c.in-Digit.is c.start.ensures
     (stops (c.in_err-end-in-Digit.ensures.meets k from to h)))
 
-pub get_inline_expression-returns-in_err-start-in-Term-clause-meets :
-    goal.get_inline_expression-returns-in_err-start-in-Term-clause-meets
-get_inline_expression-returns-in_err-start-in-Term-clause-meets m c =
-    let p = err_from_is_err_and c.from_residual-in_err-start-in-Term.result
-    c.from_residual-in_err-start-in-Term.ensures.1 in
+pub get_term_reference-returns-in_err-start-clause-meets :
+    goal.get_term_reference-returns-in_err-start-clause-meets
+get_term_reference-returns-in_err-start-clause-meets m c =
+    let p = err_from_is_err_and c.from_residual.result
+    c.from_residual.ensures.1 in
     rw (p.1, p.2) (λ k from to h.
-    by_start c.args.edition c.args.self.now.bytes.now _ starts.term _ c.in-Term.ensures
-    (stops (c.in_err-start-in-Term.ensures.meets k from to h)))
+    by_start c.args.edition c.args.self.now.bytes.now _ starts.term _ c.requires.starts
+    (stops (c.in_err-start.ensures.meets k from to h)))
 
-pub get_inline_expression-returns-in_err-end-in-Term-clause-meets :
-    goal.get_inline_expression-returns-in_err-end-in-Term-clause-meets
-get_inline_expression-returns-in_err-end-in-Term-clause-meets m c =
-    let p = err_from_is_err_and c.from_residual-in_err-end-in-Term.result c.from_residual-in_err-end-in-Term.ensures.1
+pub get_term_reference-returns-in_err-end-clause-meets :
+    goal.get_term_reference-returns-in_err-end-clause-meets
+get_term_reference-returns-in_err-end-clause-meets m c =
+    let p = err_from_is_err_and c.from_residual-in_err-end.result c.from_residual-in_err-end.ensures.1
     in
     rw (p.1, p.2) (λ k from to h.
-    by_start c.args.edition c.args.self.now.bytes.now _ starts.term _ c.in-Term.ensures
-    (goes_on c.in_ok-start-in-Term.ensures.meets
-    (stops (c.in_err-end-in-Term.ensures.meets k from to h))))
+    by_start c.args.edition c.args.self.now.bytes.now _ starts.term _ c.requires.starts
+    (goes_on c.in_ok-start.ensures.meets
+    (stops (c.in_err-end.ensures.meets k from to h))))
 
-pub get_inline_expression-returns-in_err-attribute-in-Term-clause-meets :
-    goal.get_inline_expression-returns-in_err-attribute-in-Term-clause-meets
-get_inline_expression-returns-in_err-attribute-in-Term-clause-meets m c =
-    let p = err_from_is_err_and c.from_residual-in_err-attribute-in-Term.result
-    c.from_residual-in_err-attribute-in-Term.ensures.1 in
+pub get_term_reference-returns-in_err-attribute-clause-meets :
+    goal.get_term_reference-returns-in_err-attribute-clause-meets
+get_term_reference-returns-in_err-attribute-clause-meets m c =
+    let p = err_from_is_err_and c.from_residual-in_err-attribute.result
+    c.from_residual-in_err-attribute.ensures.1 in
     rw (p.1, p.2) (λ k from to h.
-    by_start c.args.edition c.args.self.now.bytes.now _ starts.term _ c.in-Term.ensures
-    (goes_on c.in_ok-start-in-Term.ensures.meets
-    (goes_on c.in_ok-end-in-Term.ensures.meets
-    (stops (c.in_err-attribute-in-Term.ensures.meets k from to h)))))
+    by_start c.args.edition c.args.self.now.bytes.now _ starts.term _ c.requires.starts
+    (goes_on c.in_ok-start.ensures.meets
+    (goes_on c.in_ok-end.ensures.meets
+    (stops (c.in_err-attribute.ensures.meets k from to h)))))
 
-pub get_inline_expression-returns-in_err-arguments-in-Term-clause-meets :
-    goal.get_inline_expression-returns-in_err-arguments-in-Term-clause-meets
-get_inline_expression-returns-in_err-arguments-in-Term-clause-meets m c =
-    let p = err_from_is_err_and c.from_residual-in_err-arguments-in-Term.result
-    c.from_residual-in_err-arguments-in-Term.ensures.1 in
+pub get_term_reference-returns-in_err-arguments-clause-meets :
+    goal.get_term_reference-returns-in_err-arguments-clause-meets
+get_term_reference-returns-in_err-arguments-clause-meets m c =
+    let p = err_from_is_err_and c.from_residual-in_err-arguments.result
+    c.from_residual-in_err-arguments.ensures.1 in
     rw (p.1, p.2) (λ k from to h.
-    by_start c.args.edition c.args.self.now.bytes.now _ starts.term _ c.in-Term.ensures
-    (goes_on c.in_ok-start-in-Term.ensures.meets
-    (goes_on c.in_ok-end-in-Term.ensures.meets
-    (goes_on c.in_ok-attribute-in-Term.ensures.meets
-    (stops (c.in_err-arguments-in-Term.ensures.meets k from to h))))))
+    by_start c.args.edition c.args.self.now.bytes.now _ starts.term _ c.requires.starts
+    (goes_on c.in_ok-start.ensures.meets
+    (goes_on c.in_ok-end.ensures.meets
+    (goes_on c.in_ok-attribute.ensures.meets
+    (stops (c.in_err-arguments.ensures.meets k from to h))))))
 
 pub get_inline_expression-returns-in_err-start-in-Dollar-clause-meets :
     goal.get_inline_expression-returns-in_err-start-in-Dollar-clause-meets
@@ -144,35 +144,35 @@ get_inline_expression-returns-in_err-end-in-Dollar-clause-meets m c =
     (goes_on c.in_ok-start-in-Dollar.ensures.meets
     (stops (c.in_err-end-in-Dollar.ensures.meets k from to h))))
 
-pub get_inline_expression-returns-in_err-end-in-Letter-clause-meets :
-    goal.get_inline_expression-returns-in_err-end-in-Letter-clause-meets
-get_inline_expression-returns-in_err-end-in-Letter-clause-meets m c =
-    let p = err_from_is_err_and c.from_residual-in_err-end-in-Letter.result
-    c.from_residual-in_err-end-in-Letter.ensures.1 in
+pub get_reference-returns-in_err-end-clause-meets :
+    goal.get_reference-returns-in_err-end-clause-meets
+get_reference-returns-in_err-end-clause-meets m c =
+    let p = err_from_is_err_and c.from_residual.result
+    c.from_residual.ensures.1 in
     rw (p.1, p.2) (λ k from to h.
-    by_start c.args.edition c.args.self.now.bytes.now _ starts.letter _ c.in-Letter.ensures
-    (stops (c.in_err-end-in-Letter.ensures.meets k from to h)))
+    by_start c.args.edition c.args.self.now.bytes.now _ starts.letter _ c.requires.starts
+    (stops (c.in_err-end.ensures.meets k from to h)))
 
-pub get_inline_expression-returns-in_err-arguments-in-Letter-clause-meets :
-    goal.get_inline_expression-returns-in_err-arguments-in-Letter-clause-meets
-get_inline_expression-returns-in_err-arguments-in-Letter-clause-meets m c =
-    let p = err_from_is_err_and c.from_residual-in_err-arguments-in-Letter.result
-    c.from_residual-in_err-arguments-in-Letter.ensures.1 in
+pub get_reference-returns-in_err-arguments-clause-meets :
+    goal.get_reference-returns-in_err-arguments-clause-meets
+get_reference-returns-in_err-arguments-clause-meets m c =
+    let p = err_from_is_err_and c.from_residual-in_err-arguments.result
+    c.from_residual-in_err-arguments.ensures.1 in
     rw (p.1, p.2) (λ k from to h.
-    by_start c.args.edition c.args.self.now.bytes.now _ starts.letter _ c.in-Letter.ensures
-    (goes_on c.in_ok-end-in-Letter.ensures.meets
-    (stops (c.in_err-arguments-in-Letter.ensures.meets k from to h))))
+    by_start c.args.edition c.args.self.now.bytes.now _ starts.letter _ c.requires.starts
+    (goes_on c.in_ok-end.ensures.meets
+    (stops (c.in_err-arguments.ensures.meets k from to h))))
 
-pub get_inline_expression-returns-in_err-reference-in-Letter-clause-meets :
-    goal.get_inline_expression-returns-in_err-reference-in-Letter-clause-meets
-get_inline_expression-returns-in_err-reference-in-Letter-clause-meets m c =
-    let p = err_from_is_err_and c.from_residual-in_err-reference-in-Letter.result
-    c.from_residual-in_err-reference-in-Letter.ensures.1 in
+pub get_reference-returns-in_err-reference-clause-meets :
+    goal.get_reference-returns-in_err-reference-clause-meets
+get_reference-returns-in_err-reference-clause-meets m c =
+    let p = err_from_is_err_and c.from_residual-in_err-reference.result
+    c.from_residual-in_err-reference.ensures.1 in
     rw (p.1, p.2) (λ k from to h.
-    by_start c.args.edition c.args.self.now.bytes.now _ starts.letter _ c.in-Letter.ensures
-    (goes_on c.in_ok-end-in-Letter.ensures.meets
-    (goes_on c.in_ok-arguments-in-Letter.ensures.meets
-    (c.in_err-reference-in-Letter.ensures.meets k from to h))))
+    by_start c.args.edition c.args.self.now.bytes.now _ starts.letter _ c.requires.starts
+    (goes_on c.in_ok-end.ensures.meets
+    (goes_on c.in_ok-arguments.ensures.meets
+    (c.in_err-reference.ensures.meets k from to h))))
 
 pub get_inline_expression-returns-in_err-expression-in-Brace-clause-meets :
     goal.get_inline_expression-returns-in_err-expression-in-Brace-clause-meets
@@ -202,18 +202,18 @@ get_inline_expression-returns-in_ok-end-in-Digit-clause-meets m c =
     (goes_on c.in_ok-end-in-Digit.ensures.meets
     given))
 
-pub get_inline_expression-returns-in_ok-arguments-in-Term-clause-meets :
-    goal.get_inline_expression-returns-in_ok-arguments-in-Term-clause-meets
+pub get_term_reference-returns-clause-meets :
+    goal.get_term_reference-returns-clause-meets
 unfolding family
-get_inline_expression-returns-in_ok-arguments-in-Term-clause-meets m c =
-    let name : Span = record { start = c.in_ok-start-in-Term.start; end = c.in_ok-end-in-Term.end } in
+get_term_reference-returns-clause-meets m c =
+    let name : Span = record { start = c.in_ok-start.start; end = c.in_ok-end.end } in
     let id : Identifier Span = record { name = name } in
-    rw (view-TermReference (λ x. x) id c.in_ok-attribute-in-Term.attribute c.in_ok-arguments-in-Term.arguments)
-    (by_start c.args.edition c.args.self.now.bytes.now _ starts.term _ c.in-Term.ensures
-    (goes_on c.in_ok-start-in-Term.ensures.meets
-    (goes_on c.in_ok-end-in-Term.ensures.meets
-    (goes_on c.in_ok-attribute-in-Term.ensures.meets
-    (goes_on c.in_ok-arguments-in-Term.ensures.meets
+    rw (view-TermReference (λ x. x) id c.in_ok-attribute.attribute c.in_ok-arguments.arguments)
+    (by_start c.args.edition c.args.self.now.bytes.now _ starts.term _ c.requires.starts
+    (goes_on c.in_ok-start.ensures.meets
+    (goes_on c.in_ok-end.ensures.meets
+    (goes_on c.in_ok-attribute.ensures.meets
+    (goes_on c.in_ok-arguments.ensures.meets
     given)))))
 
 pub get_inline_expression-returns-in_ok-end-in-Dollar-clause-meets :
@@ -228,13 +228,13 @@ get_inline_expression-returns-in_ok-end-in-Dollar-clause-meets m c =
     (goes_on c.in_ok-end-in-Dollar.ensures.meets
     given)))
 
-pub get_inline_expression-returns-in_ok-reference-in-Letter-clause-meets :
-    goal.get_inline_expression-returns-in_ok-reference-in-Letter-clause-meets
-get_inline_expression-returns-in_ok-reference-in-Letter-clause-meets m c =
-    by_start c.args.edition c.args.self.now.bytes.now _ starts.letter _ c.in-Letter.ensures
-    (goes_on c.in_ok-end-in-Letter.ensures.meets
-    (goes_on c.in_ok-arguments-in-Letter.ensures.meets
-    (c.in_ok-reference-in-Letter.ensures.meets)))
+pub get_reference-returns-clause-meets :
+    goal.get_reference-returns-clause-meets
+get_reference-returns-clause-meets m c =
+    by_start c.args.edition c.args.self.now.bytes.now _ starts.letter _ c.requires.starts
+    (goes_on c.in_ok-end.ensures.meets
+    (goes_on c.in_ok-arguments.ensures.meets
+    (c.in_ok-reference.ensures.meets)))
 
 pub get_inline_expression-returns-in_ok-expression-in-Brace-2-clause-meets :
     goal.get_inline_expression-returns-in_ok-expression-in-Brace-2-clause-meets
@@ -752,9 +752,9 @@ get_variants-returns-in_err-value-clause-meets m c =
     (goes_on c.in_ok-next.ensures.meets
     (stops (c.in_err-value.ensures.meets k from to h))))))))))))
 
-pub get_variants-returns-in-None-clause-meets : goal.get_variants-returns-in-None-clause-meets
-get_variants-returns-in-None-clause-meets m c =
-    let none = rw c.in-None.is at c.in_ok-value.ensures.meets in
+pub get_variants-returns-in_default-clause-meets : goal.get_variants-returns-in_default-clause-meets
+get_variants-returns-in_default-clause-meets m c =
+    let none = rw c.in_default.is at c.in_ok-value.ensures.meets in
     λ k from to (a, b, d). rw (a, b, d)
     (c.loop-starred.invariant.gathered.refused _ _ _
     (into_more_variants c.args.edition c.args.self.now.bytes.now c.loop-starred.starred _ _
@@ -795,7 +795,7 @@ get_variants-loop-starred-preserved m c =
       gathered =
           one_put (R.more_variants false) c.args.ptr (R.more_variants old.starred) _ (put_variants old.variants.items) _
           (variants (variant_view (λ s. s) new)) old.place _ old.invariant.gathered
-          (put_added _ _ new c.in_ok-push-in-Some.ensures.items)
+          (put_added _ _ new c.in_ok-push.ensures.items)
           (λ more end h. rw (view-Variant (λ x. x) new)
           (into_more_variants c.args.edition c.args.self.now.bytes.now c.loop-starred.starred _ _
           (goes_on c.take_byte_if-star.ensures.meets
@@ -1032,29 +1032,29 @@ get_expression-skip_blank_inline-ptr-requires m c =
     let t = c.args.self.now.bytes.now in
     let i = c.skip_blank-ptr.result in
     let mark = right_true _ _ (sym c.if-not-is_arrow.ensures) in
-    let inside = byte_inside (λ b. b == greater_than) t (i + 1) (slice_get t (i + 1)) refl mark in
+    let inside = has_inside (λ b. b == greater_than) t (i + 1) mark in
     omega (arith, inside)
 
 -- ---- where it nests too deeply
 
-pub get_inline_expression-returns-in_err-arguments-in-Term-clause-deeper :
-    goal.get_inline_expression-returns-in_err-arguments-in-Term-clause-deeper
-get_inline_expression-returns-in_err-arguments-in-Term-clause-deeper m c =
-    let p = err_from_is_err_and c.from_residual-in_err-arguments-in-Term.result
-    c.from_residual-in_err-arguments-in-Term.ensures.1 in
-    rw (p.1, p.2) (λ e. its_term_arguments (sym c.in-Term.ensures)
-    (goes_on c.in_ok-start-in-Term.ensures.meets
-    (goes_on c.in_ok-end-in-Term.ensures.meets
-    c.in_ok-attribute-in-Term.ensures.meets))
-    (c.in_err-arguments-in-Term.ensures.deeper e))
+pub get_term_reference-returns-in_err-arguments-clause-deeper :
+    goal.get_term_reference-returns-in_err-arguments-clause-deeper
+get_term_reference-returns-in_err-arguments-clause-deeper m c =
+    let p = err_from_is_err_and c.from_residual-in_err-arguments.result
+    c.from_residual-in_err-arguments.ensures.1 in
+    rw (p.1, p.2) (λ e. its_term_arguments (sym c.requires.starts)
+    (goes_on c.in_ok-start.ensures.meets
+    (goes_on c.in_ok-end.ensures.meets
+    c.in_ok-attribute.ensures.meets))
+    (c.in_err-arguments.ensures.deeper e))
 
-pub get_inline_expression-returns-in_err-arguments-in-Letter-clause-deeper :
-    goal.get_inline_expression-returns-in_err-arguments-in-Letter-clause-deeper
-get_inline_expression-returns-in_err-arguments-in-Letter-clause-deeper m c =
-    let p = err_from_is_err_and c.from_residual-in_err-arguments-in-Letter.result
-    c.from_residual-in_err-arguments-in-Letter.ensures.1 in
-    rw (p.1, p.2) (λ e. its_arguments (sym c.in-Letter.ensures) c.in_ok-end-in-Letter.ensures.meets
-    (c.in_err-arguments-in-Letter.ensures.deeper e))
+pub get_reference-returns-in_err-arguments-clause-deeper :
+    goal.get_reference-returns-in_err-arguments-clause-deeper
+get_reference-returns-in_err-arguments-clause-deeper m c =
+    let p = err_from_is_err_and c.from_residual-in_err-arguments.result
+    c.from_residual-in_err-arguments.ensures.1 in
+    rw (p.1, p.2) (λ e. its_arguments (sym c.requires.starts) c.in_ok-end.ensures.meets
+    (c.in_err-arguments.ensures.deeper e))
 
 pub get_inline_expression-returns-in_err-expression-in-Brace-clause-deeper :
     goal.get_inline_expression-returns-in_err-expression-in-Brace-clause-deeper
@@ -1236,51 +1236,51 @@ get_inline_expression-returns-in_err-end-in-Digit-clause-shallow m c =
     c.from_residual-in_err-end-in-Digit.ensures.1 in
     rw (p.1, p.2) (number_flat edition t c.args.ptr c.start.result c.in-Digit.is c.start.ensures)
 
-pub get_inline_expression-returns-in_err-start-in-Term-clause-shallow :
-    goal.get_inline_expression-returns-in_err-start-in-Term-clause-shallow
-get_inline_expression-returns-in_err-start-in-Term-clause-shallow m c =
+pub get_term_reference-returns-in_err-start-clause-shallow :
+    goal.get_term_reference-returns-in_err-start-clause-shallow
+get_term_reference-returns-in_err-start-clause-shallow m c =
     let t = c.args.self.now.bytes.now in
     let edition = c.args.edition in
-    let p = err_from_is_err_and c.from_residual-in_err-start-in-Term.result
-    c.from_residual-in_err-start-in-Term.ensures.1 in
-    rw (p.1, p.2) (term_stuck edition t _ _ _ c.in-Term.ensures
-    (stops (c.in_err-start-in-Term.ensures.meets _ _ _ (refl, refl, refl))))
+    let p = err_from_is_err_and c.from_residual.result
+    c.from_residual.ensures.1 in
+    rw (p.1, p.2) (term_stuck edition t _ _ _ c.requires.starts
+    (stops (c.in_err-start.ensures.meets _ _ _ (refl, refl, refl))))
 
-pub get_inline_expression-returns-in_err-end-in-Term-clause-shallow :
-    goal.get_inline_expression-returns-in_err-end-in-Term-clause-shallow
-get_inline_expression-returns-in_err-end-in-Term-clause-shallow m c =
+pub get_term_reference-returns-in_err-end-clause-shallow :
+    goal.get_term_reference-returns-in_err-end-clause-shallow
+get_term_reference-returns-in_err-end-clause-shallow m c =
     let t = c.args.self.now.bytes.now in
     let edition = c.args.edition in
-    let p = err_from_is_err_and c.from_residual-in_err-end-in-Term.result
-    c.from_residual-in_err-end-in-Term.ensures.1 in
-    rw (p.1, p.2) (term_stuck edition t _ _ _ c.in-Term.ensures
-    (goes_on c.in_ok-start-in-Term.ensures.meets
-    (stops (c.in_err-end-in-Term.ensures.meets _ _ _ (refl, refl, refl)))))
+    let p = err_from_is_err_and c.from_residual-in_err-end.result
+    c.from_residual-in_err-end.ensures.1 in
+    rw (p.1, p.2) (term_stuck edition t _ _ _ c.requires.starts
+    (goes_on c.in_ok-start.ensures.meets
+    (stops (c.in_err-end.ensures.meets _ _ _ (refl, refl, refl)))))
 
-pub get_inline_expression-returns-in_err-attribute-in-Term-clause-shallow :
-    goal.get_inline_expression-returns-in_err-attribute-in-Term-clause-shallow
-get_inline_expression-returns-in_err-attribute-in-Term-clause-shallow m c =
+pub get_term_reference-returns-in_err-attribute-clause-shallow :
+    goal.get_term_reference-returns-in_err-attribute-clause-shallow
+get_term_reference-returns-in_err-attribute-clause-shallow m c =
     let t = c.args.self.now.bytes.now in
     let edition = c.args.edition in
-    let p = err_from_is_err_and c.from_residual-in_err-attribute-in-Term.result
-    c.from_residual-in_err-attribute-in-Term.ensures.1 in
-    rw (p.1, p.2) (term_stuck edition t _ _ _ c.in-Term.ensures
-    (goes_on c.in_ok-start-in-Term.ensures.meets
-    (goes_on c.in_ok-end-in-Term.ensures.meets
-    (c.in_err-attribute-in-Term.ensures.meets _ _ _ (refl, refl, refl)))))
+    let p = err_from_is_err_and c.from_residual-in_err-attribute.result
+    c.from_residual-in_err-attribute.ensures.1 in
+    rw (p.1, p.2) (term_stuck edition t _ _ _ c.requires.starts
+    (goes_on c.in_ok-start.ensures.meets
+    (goes_on c.in_ok-end.ensures.meets
+    (c.in_err-attribute.ensures.meets _ _ _ (refl, refl, refl)))))
 
-pub get_inline_expression-returns-in_err-arguments-in-Term-clause-shallow :
-    goal.get_inline_expression-returns-in_err-arguments-in-Term-clause-shallow
-get_inline_expression-returns-in_err-arguments-in-Term-clause-shallow m c =
+pub get_term_reference-returns-in_err-arguments-clause-shallow :
+    goal.get_term_reference-returns-in_err-arguments-clause-shallow
+get_term_reference-returns-in_err-arguments-clause-shallow m c =
     let t = c.args.self.now.bytes.now in
     let edition = c.args.edition in
-    let p = err_from_is_err_and c.from_residual-in_err-arguments-in-Term.result
-    c.from_residual-in_err-arguments-in-Term.ensures.1 in
-    rw (p.1, p.2) (falls t (call_arguments edition t) _ _ _ _ c.in_err-arguments-in-Term.ensures.meets
-    (λ k from to r e. term_led edition t c.in-Term.ensures (goes_on c.in_ok-start-in-Term.ensures.meets
-    (goes_on c.in_ok-end-in-Term.ensures.meets
-    c.in_ok-attribute-in-Term.ensures.meets)) e)
-    c.in_err-arguments-in-Term.ensures.shallow)
+    let p = err_from_is_err_and c.from_residual-in_err-arguments.result
+    c.from_residual-in_err-arguments.ensures.1 in
+    rw (p.1, p.2) (falls t (call_arguments edition t) _ _ _ _ c.in_err-arguments.ensures.meets
+    (λ k from to r e. term_led edition t c.requires.starts (goes_on c.in_ok-start.ensures.meets
+    (goes_on c.in_ok-end.ensures.meets
+    c.in_ok-attribute.ensures.meets)) e)
+    c.in_err-arguments.ensures.shallow)
 
 pub get_inline_expression-returns-in_err-start-in-Dollar-clause-shallow :
     goal.get_inline_expression-returns-in_err-start-in-Dollar-clause-shallow
@@ -1300,36 +1300,36 @@ get_inline_expression-returns-in_err-end-in-Dollar-clause-shallow m c =
     c.from_residual-in_err-end-in-Dollar.ensures.1 in
     rw (p.1, p.2) (plain_start edition t c.in-Dollar.ensures (λ e. cc) (λ e. cc) (λ e. cc))
 
-pub get_inline_expression-returns-in_err-end-in-Letter-clause-shallow :
-    goal.get_inline_expression-returns-in_err-end-in-Letter-clause-shallow
-get_inline_expression-returns-in_err-end-in-Letter-clause-shallow m c =
+pub get_reference-returns-in_err-end-clause-shallow :
+    goal.get_reference-returns-in_err-end-clause-shallow
+get_reference-returns-in_err-end-clause-shallow m c =
     let t = c.args.self.now.bytes.now in
     let edition = c.args.edition in
-    let p = err_from_is_err_and c.from_residual-in_err-end-in-Letter.result
-    c.from_residual-in_err-end-in-Letter.ensures.1 in
-    rw (p.1, p.2) (letter_stuck edition t _ _ _ c.in-Letter.ensures (c.in_err-end-in-Letter.ensures.meets _ _ _
+    let p = err_from_is_err_and c.from_residual.result
+    c.from_residual.ensures.1 in
+    rw (p.1, p.2) (letter_stuck edition t _ _ _ c.requires.starts (c.in_err-end.ensures.meets _ _ _
     (refl, refl, refl)))
 
-pub get_inline_expression-returns-in_err-arguments-in-Letter-clause-shallow :
-    goal.get_inline_expression-returns-in_err-arguments-in-Letter-clause-shallow
-get_inline_expression-returns-in_err-arguments-in-Letter-clause-shallow m c =
+pub get_reference-returns-in_err-arguments-clause-shallow :
+    goal.get_reference-returns-in_err-arguments-clause-shallow
+get_reference-returns-in_err-arguments-clause-shallow m c =
     let t = c.args.self.now.bytes.now in
     let edition = c.args.edition in
-    let p = err_from_is_err_and c.from_residual-in_err-arguments-in-Letter.result
-    c.from_residual-in_err-arguments-in-Letter.ensures.1 in
-    rw (p.1, p.2) (falls t (call_arguments edition t) _ _ _ _ c.in_err-arguments-in-Letter.ensures.meets
-    (λ k from to r e. letter_led edition t c.in-Letter.ensures c.in_ok-end-in-Letter.ensures.meets e)
-    c.in_err-arguments-in-Letter.ensures.shallow)
+    let p = err_from_is_err_and c.from_residual-in_err-arguments.result
+    c.from_residual-in_err-arguments.ensures.1 in
+    rw (p.1, p.2) (falls t (call_arguments edition t) _ _ _ _ c.in_err-arguments.ensures.meets
+    (λ k from to r e. letter_led edition t c.requires.starts c.in_ok-end.ensures.meets e)
+    c.in_err-arguments.ensures.shallow)
 
-pub get_inline_expression-returns-in_err-reference-in-Letter-clause-shallow :
-    goal.get_inline_expression-returns-in_err-reference-in-Letter-clause-shallow
-get_inline_expression-returns-in_err-reference-in-Letter-clause-shallow m c =
+pub get_reference-returns-in_err-reference-clause-shallow :
+    goal.get_reference-returns-in_err-reference-clause-shallow
+get_reference-returns-in_err-reference-clause-shallow m c =
     let t = c.args.self.now.bytes.now in
     let edition = c.args.edition in
-    let p = err_from_is_err_and c.from_residual-in_err-reference-in-Letter.result
-    c.from_residual-in_err-reference-in-Letter.ensures.1 in
-    rw (p.1, p.2) (λ e. c.in_ok-arguments-in-Letter.ensures.shallow
-    (letter_led edition t c.in-Letter.ensures c.in_ok-end-in-Letter.ensures.meets e))
+    let p = err_from_is_err_and c.from_residual-in_err-reference.result
+    c.from_residual-in_err-reference.ensures.1 in
+    rw (p.1, p.2) (λ e. c.in_ok-arguments.ensures.shallow
+    (letter_led edition t c.requires.starts c.in_ok-end.ensures.meets e))
 
 pub get_inline_expression-returns-in_err-expression-in-Brace-clause-shallow :
     goal.get_inline_expression-returns-in_err-expression-in-Brace-clause-shallow
@@ -1369,23 +1369,23 @@ get_inline_expression-returns-in-Other-clause-shallow m c =
     let edition = c.args.edition in
     plain_start edition t c.in-Other.ensures (λ e. cc) (λ e. cc) (λ e. cc)
 
-pub get_inline_expression-returns-in_ok-arguments-in-Term-clause-shallow :
-    goal.get_inline_expression-returns-in_ok-arguments-in-Term-clause-shallow
-get_inline_expression-returns-in_ok-arguments-in-Term-clause-shallow m c =
+pub get_term_reference-returns-clause-shallow :
+    goal.get_term_reference-returns-clause-shallow
+get_term_reference-returns-clause-shallow m c =
     let t = c.args.self.now.bytes.now in
     let edition = c.args.edition in
-    λ e. c.in_ok-arguments-in-Term.ensures.shallow (term_led edition t c.in-Term.ensures (goes_on
-    c.in_ok-start-in-Term.ensures.meets
-    (goes_on c.in_ok-end-in-Term.ensures.meets
-    c.in_ok-attribute-in-Term.ensures.meets)) e)
+    λ e. c.in_ok-arguments.ensures.shallow (term_led edition t c.requires.starts (goes_on
+    c.in_ok-start.ensures.meets
+    (goes_on c.in_ok-end.ensures.meets
+    c.in_ok-attribute.ensures.meets)) e)
 
-pub get_inline_expression-returns-in_ok-reference-in-Letter-clause-shallow :
-    goal.get_inline_expression-returns-in_ok-reference-in-Letter-clause-shallow
-get_inline_expression-returns-in_ok-reference-in-Letter-clause-shallow m c =
+pub get_reference-returns-clause-shallow :
+    goal.get_reference-returns-clause-shallow
+get_reference-returns-clause-shallow m c =
     let t = c.args.self.now.bytes.now in
     let edition = c.args.edition in
-    λ e. c.in_ok-arguments-in-Letter.ensures.shallow
-    (letter_led edition t c.in-Letter.ensures c.in_ok-end-in-Letter.ensures.meets e)
+    λ e. c.in_ok-arguments.ensures.shallow
+    (letter_led edition t c.requires.starts c.in_ok-end.ensures.meets e)
 
 pub get_inline_expression-returns-in_ok-expression-in-Brace-2-clause-shallow :
     goal.get_inline_expression-returns-in_ok-expression-in-Brace-2-clause-shallow
@@ -1781,11 +1781,11 @@ get_variants-returns-in_err-value-clause-shallow m c =
     k from to r (c.loop-starred.invariant.shallow e))
     c.in_err-value.ensures.shallow)
 
-pub get_variants-returns-in-None-clause-shallow : goal.get_variants-returns-in-None-clause-shallow
-get_variants-returns-in-None-clause-shallow m c =
+pub get_variants-returns-in_default-clause-shallow : goal.get_variants-returns-in_default-clause-shallow
+get_variants-returns-in_default-clause-shallow m c =
     let t = c.args.self.now.bytes.now in
     let edition = c.args.edition in
-    let none = rw c.in-None.is at c.in_ok-value.ensures.meets in
+    let none = rw c.in_default.is at c.in_ok-value.ensures.meets in
     λ e. c.in_ok-value.ensures.shallow (no_pattern_led edition t _ _ _
     (goes_on c.take_byte_if-star.ensures.meets
     (goes_on (second (one_false _ _ c.else-starred.either) given)

@@ -18,13 +18,19 @@ abbrev pub decreases-get_call_arguments : goal.decreases-get_call_arguments
 decreases-get_call_arguments l = 10 * l.nesting
 
 abbrev pub decreases-get_inline_expression : goal.decreases-get_inline_expression
-decreases-get_inline_expression l = 10 * l.nesting + 1
+decreases-get_inline_expression l = 10 * l.nesting + 2
+
+abbrev pub decreases-get_term_reference : goal.decreases-get_term_reference
+decreases-get_term_reference l = 10 * l.nesting + 1
+
+abbrev pub decreases-get_reference : goal.decreases-get_reference
+decreases-get_reference l = 10 * l.nesting + 1
 
 abbrev pub decreases-get_argument_value : goal.decreases-get_argument_value
-decreases-get_argument_value l = 10 * l.nesting + 2
+decreases-get_argument_value l = 10 * l.nesting + 3
 
 abbrev pub decreases-get_arguments : goal.decreases-get_arguments
-decreases-get_arguments l = 10 * l.nesting + 3
+decreases-get_arguments l = 10 * l.nesting + 4
 
 abbrev pub decreases-get_pieces : goal.decreases-get_pieces
 decreases-get_pieces l = 10 * l.nesting + 1
