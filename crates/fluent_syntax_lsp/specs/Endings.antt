@@ -1,4 +1,4 @@
--- Exit statuses, and the lines for standard error.
+-- How a session ended: its exit status, and its line for standard error.
 use Rattle.std.specs.Prelude.{ℕ, List, codes}
 use Rattle.fluent_syntax_lsp.specs.declared.endings.Ending.{Ending}
 use Rattle.fluent_syntax_lsp.specs.declared.endings.Ending.TheVariants.{Exited, Left, Input, Memory, Output, Closed}

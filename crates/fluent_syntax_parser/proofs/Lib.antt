@@ -11,7 +11,6 @@ pub mod FieldForms
 pub mod GatheredArguments
 pub mod GatheredVariants
 pub mod Gathers
-pub mod Handed
 pub mod HangsOn
 pub mod InlineForms
 pub mod InlineStarts

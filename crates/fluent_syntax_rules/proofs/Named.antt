@@ -1,4 +1,4 @@
--- Named arguments, one by one.
+-- What is asked of a list of named arguments, asked of its first one and of the rest.
 use Rattle.std.proofs.Common.{◌≡◌, ℕ, ◌+◌, ◌<◌, List, [], ◌∷◌, ◌++◌, length, get_or, take, map, reverse, nat_eq}
 use Rattle.std.proofs.Common.{Bool, true, false, ◌&&◌, not, refl, sym, ap, ◌∙◌}
 use lib.Pointwise.{pointwise}

@@ -9,7 +9,7 @@ use Rattle.fluent_syntax_grammar.proofs.Shallow.{entry_comment, entry_message, e
 use Rattle.fluent_syntax_parser.proofs.Shallows.{never_deeper, falls}
 use Rattle.fluent_syntax_grammar.specs.Tiling.{entry_at}
 use Rattle.fluent_syntax_parser.proofs.EntryForms.{comment_there, message_there, term_there}
-use Rattle.fluent_syntax_parser.proofs.Handed.{meets_as}
+use Rattle.fluent_syntax_parser.proofs.Carried.{meets_as}
 use Rattle.fluent_syntax_parser.proofs.source.Source.get_entry.Goals as goal
 
 pub returns-then-is_byte_at-clause-meets : goal.returns-then-is_byte_at-clause-meets
