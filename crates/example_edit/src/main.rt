@@ -23,13 +23,13 @@ fn main(rt: HostRuntime) -> anyhow::Result<()> {
     }
     print!(rt;
         "{}",
-        edited(rt.alloc(), text.as_str(), name.as_str(), value.as_str())?
+        text_with_value(rt.alloc(), text.as_str(), name.as_str(), value.as_str())?
     )?;
     Ok(())
 }
 
 /// The file with the value of the message of that name replaced.
-fn edited(alloc: Global, text: &str, name: &str, value: &str) -> anyhow::Result<String>
+fn text_with_value(alloc: Global, text: &str, name: &str, value: &str) -> anyhow::Result<String>
     requires { length text.now + 1 < 2 ^ 64 }
 {
     let (tree, _errors) = recovered(alloc, parse_spans(alloc, text))?;

@@ -7,7 +7,7 @@ ghost use Rattle.std.specs.Prelude.{◌+◌, ◌≤◌, ◌^◌, ◌<◌, length
 mod names;
 mod references;
 
-use crate::names::{Name, defined};
+use crate::names::{Name, definitions_of};
 use crate::references::references;
 use fluent_syntax::ast::Resource;
 use fluent_syntax::parser::{ParserError, parse, recovered};
@@ -43,7 +43,7 @@ fn print_errors<R: Print>(rt: &R, text: &str, errors: &[ParserError]) -> anyhow:
 }
 
 fn print_undefined<R: Print + AllocGlobal>(rt: &R, tree: &Resource<&str>) -> anyhow::Result<()> {
-    let defined = defined(rt.alloc(), tree)?;
+    let defined = definitions_of(rt.alloc(), tree)?;
     for entry in &tree.body {
         let Some(name) = Name::of(entry) else {
             continue;

@@ -42,7 +42,7 @@ impl<'s> fmt::Display for Name<'s> {
 }
 
 /// The names of all messages and terms of a file.
-pub(crate) fn defined<'s>(
+pub(crate) fn definitions_of<'s>(
     alloc: Global,
     tree: &Resource<&'s str>,
 ) -> Result<Vec<Name<'s>>, AllocError> {

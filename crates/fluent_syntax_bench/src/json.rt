@@ -2,7 +2,7 @@
 
 ghost use Rattle.std.specs.Prelude.{◌+◌, ◌^◌, ◌<◌, length};
 
-use crate::timing::timed;
+use crate::timing::duration_of;
 use fluent_syntax::parser;
 use fluent_syntax_json::{from_value, to_value};
 use std::io;
@@ -13,7 +13,7 @@ pub(crate) fn value_of_tree<R: Clock + AllocGlobal>(rt: &R, text: &str) -> io::R
 {
     let copy = String::from_str(rt.alloc(), text)?;
     let (tree, _errors) = parser::recovered(rt.alloc(), parser::parse(rt.alloc(), copy))?;
-    timed(rt, || to_value(rt.alloc(), &tree))
+    duration_of(rt, || to_value(rt.alloc(), &tree))
 }
 
 pub(crate) fn tree_of_value<R: Clock + AllocGlobal>(rt: &R, text: &str) -> io::Result<Duration>
@@ -22,5 +22,5 @@ pub(crate) fn tree_of_value<R: Clock + AllocGlobal>(rt: &R, text: &str) -> io::R
     let copy = String::from_str(rt.alloc(), text)?;
     let (tree, _errors) = parser::recovered(rt.alloc(), parser::parse(rt.alloc(), copy))?;
     let value = to_value(rt.alloc(), &tree)?;
-    timed(rt, || from_value(rt.alloc(), &value))
+    duration_of(rt, || from_value(rt.alloc(), &value))
 }

@@ -2,7 +2,7 @@
 
 ghost use Rattle.std.specs.Prelude.{◌+◌, ◌^◌, ◌<◌, length};
 
-use crate::timing::timed;
+use crate::timing::duration_of;
 use fluent_syntax::parser::{self, ParseFault};
 use fluent_syntax::spans;
 use std::alloc::AllocError;
@@ -12,59 +12,59 @@ use std::time::{Clock, Duration, Instant};
 pub(crate) fn parse_lent<R: Clock + AllocGlobal>(rt: &R, text: &str) -> io::Result<Duration>
     requires { length text.now + 1 < 2 ^ 64 }
 {
-    timed(rt, || parser::parse(rt.alloc(), text))
+    duration_of(rt, || parser::parse(rt.alloc(), text))
 }
 
 pub(crate) fn parse_owned<R: Clock + AllocGlobal>(rt: &R, text: &str) -> io::Result<Duration>
     requires { length text.now + 1 < 2 ^ 64 }
 {
     let copy = String::from_str(rt.alloc(), text)?;
-    timed(rt, || parser::parse(rt.alloc(), copy))
+    duration_of(rt, || parser::parse(rt.alloc(), copy))
 }
 
 pub(crate) fn runtime_lent<R: Clock + AllocGlobal>(rt: &R, text: &str) -> io::Result<Duration>
     requires { length text.now + 1 < 2 ^ 64 }
 {
-    timed(rt, || parser::parse_runtime(rt.alloc(), text))
+    duration_of(rt, || parser::parse_runtime(rt.alloc(), text))
 }
 
 pub(crate) fn runtime_owned<R: Clock + AllocGlobal>(rt: &R, text: &str) -> io::Result<Duration>
     requires { length text.now + 1 < 2 ^ 64 }
 {
     let copy = String::from_str(rt.alloc(), text)?;
-    timed(rt, || parser::parse_runtime(rt.alloc(), copy))
+    duration_of(rt, || parser::parse_runtime(rt.alloc(), copy))
 }
 
 pub(crate) fn spans<R: Clock + AllocGlobal>(rt: &R, text: &str) -> io::Result<Duration>
     requires { length text.now + 1 < 2 ^ 64 }
 {
-    timed(rt, || spans::parse_spans(rt.alloc(), text))
+    duration_of(rt, || spans::parse_spans(rt.alloc(), text))
 }
 
 pub(crate) fn runtime_spans<R: Clock + AllocGlobal>(rt: &R, text: &str) -> io::Result<Duration>
     requires { length text.now + 1 < 2 ^ 64 }
 {
-    timed(rt, || spans::parse_runtime_spans(rt.alloc(), text))
+    duration_of(rt, || spans::parse_runtime_spans(rt.alloc(), text))
 }
 
 /// A copy of the tree over lent texts.
-pub(crate) fn cloned<R: Clock + AllocGlobal>(rt: &R, text: &str) -> io::Result<Duration>
+pub(crate) fn clone_tree<R: Clock + AllocGlobal>(rt: &R, text: &str) -> io::Result<Duration>
     requires { length text.now + 1 < 2 ^ 64 }
 {
     let (tree, _errors) = parser::recovered(rt.alloc(), parser::parse(rt.alloc(), text))?;
-    timed(rt, || tree.try_clone(rt.alloc()))
+    duration_of(rt, || tree.try_clone(rt.alloc()))
 }
 
 /// The tree given back to the allocator.
-pub(crate) fn dropped<R: Clock + AllocGlobal>(rt: &R, text: &str) -> io::Result<Duration>
+pub(crate) fn drop_tree<R: Clock + AllocGlobal>(rt: &R, text: &str) -> io::Result<Duration>
     requires { length text.now + 1 < 2 ^ 64 }
 {
     let (tree, _errors) = parser::recovered(rt.alloc(), parser::parse(rt.alloc(), text))?;
-    timed(rt, || drop(tree))
+    duration_of(rt, || drop(tree))
 }
 
 /// The tree of lent texts from the tree of spans.
-pub(crate) fn resolved<R: Clock + AllocGlobal>(rt: &R, text: &str) -> io::Result<Duration>
+pub(crate) fn resolve_spans<R: Clock + AllocGlobal>(rt: &R, text: &str) -> io::Result<Duration>
     requires { length text.now + 1 < 2 ^ 64 }
 {
     // Not `timed`: what is known of the spans doesn't reach a closure.

@@ -4,7 +4,10 @@ use std::io;
 use std::time::{Clock, Duration, Instant};
 
 /// How long the call takes. What it answers is dropped once the clock has stopped.
-pub(crate) fn timed<R: Clock, T: Drop, F: FnOnce() -> T>(rt: &R, call: F) -> io::Result<Duration>
+pub(crate) fn duration_of<R: Clock, T: Drop, F: FnOnce() -> T>(
+    rt: &R,
+    call: F,
+) -> io::Result<Duration>
     requires { F.IsAlwaysCallable call }
 {
     let start = Instant::now(rt)?;

@@ -57,7 +57,7 @@ fn reads_back(alloc: Global, text: &str) -> Result<bool, Fail> {
 }
 
 /// The text formatted, and whether it has no error.
-fn formatted(alloc: Global, text: &str) -> Result<(String, bool), Fail> {
+fn formatted_text(alloc: Global, text: &str) -> Result<(String, bool), Fail> {
     match answer(alloc, Command::Format, text.as_bytes()) {
         Ok((formatted, outcome)) => Ok((formatted, outcome == Outcome::Clean)),
         Err(_) => Err("not formatted".into()),
@@ -71,9 +71,9 @@ fn formats(alloc: Global, text: &str) -> Result<bool, Fail> {
     if !is_canonical(&whole, Edition::One) {
         return Ok(true);
     }
-    let (once, _) = formatted(alloc, text)?;
-    let (twice, once_clean) = formatted(alloc, once.as_str())?;
-    let (again, twice_clean) = formatted(alloc, twice.as_str())?;
+    let (once, _) = formatted_text(alloc, text)?;
+    let (twice, once_clean) = formatted_text(alloc, once.as_str())?;
+    let (again, twice_clean) = formatted_text(alloc, twice.as_str())?;
     let kept = again == twice && (!clean || twice == once);
     Ok(reads_as(alloc, &tree, &whole) && once_clean && twice_clean && kept)
 }

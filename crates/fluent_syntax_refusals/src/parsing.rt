@@ -13,21 +13,21 @@ const BLANK: [&str; 3] = ["", "\n", "\n  \n"];
 pub(crate) fn calls<R: Print + AllocGlobal>(rt: &R) -> io::Result<Tally> {
     let texts = TEXTS.as_slice();
     let blank = over(rt, "parse of blank texts", BLANK.as_slice(), read_blank)?;
-    let lent = over(rt, "parse of lent texts", texts, read)?;
+    let lent = over(rt, "parse of lent texts", texts, read_tree)?;
     let owned = over(rt, "parse of owned texts", texts, read_owned)?;
     let spans = over(rt, "parse_spans", texts, read_spans)?;
-    let resolved = over(rt, "resolve", texts, resolved)?;
+    let resolved = over(rt, "resolve", texts, resolve_spans)?;
     Ok(blank.and(lent).and(owned).and(spans).and(resolved))
 }
 
 /// Both parsers over a lent text that takes no memory.
 fn read_blank(alloc: Global, text: &str) -> Result<Tally, AllocError> {
-    let tally = read(alloc, text)?;
+    let tally = read_tree(alloc, text)?;
     Ok(tally.wrong_if(tally.refused > 0))
 }
 
 /// Both parsers over a lent text.
-fn read(alloc: Global, text: &str) -> Result<Tally, AllocError> {
+fn read_tree(alloc: Global, text: &str) -> Result<Tally, AllocError> {
     let whole = in_turn(alloc, nothing, |_| parse(alloc, text))?;
     let runtime = in_turn(alloc, nothing, |_| parse_runtime(alloc, text))?;
     Ok(whole.and(runtime))
@@ -49,7 +49,7 @@ fn read_spans(alloc: Global, text: &str) -> Result<Tally, AllocError> {
 }
 
 /// The texts put back, lent and owned, in a tree of spans, which stays as it was.
-fn resolved(alloc: Global, text: &str) -> Result<Tally, AllocError> {
+fn resolve_spans(alloc: Global, text: &str) -> Result<Tally, AllocError> {
     let (before, _errors) = recovered(alloc, parse_spans(alloc, text))?;
     let tree = match parse_spans(alloc, text) {
         Ok(tree) => tree,

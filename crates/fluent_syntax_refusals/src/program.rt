@@ -25,7 +25,7 @@ pub(crate) fn calls<R: Print + AllocGlobal>(rt: &R) -> io::Result<Tally> {
             rt,
             word,
             texts,
-            move |alloc, text| commanded(alloc, command, text),
+            move |alloc, text| run_command(alloc, command, text),
         )?;
         total = total.and(tally);
     }
@@ -33,7 +33,7 @@ pub(crate) fn calls<R: Print + AllocGlobal>(rt: &R) -> io::Result<Tally> {
 }
 
 /// A command as an answer, and over a reader and a writer.
-fn commanded(alloc: Global, command: Command, text: &str) -> Result<Tally, AllocError> {
+fn run_command(alloc: Global, command: Command, text: &str) -> Result<Tally, AllocError> {
     let input = text.as_bytes();
     let Ok((expected, _)) = answer(alloc, command, input) else {
         return Err(AllocError);

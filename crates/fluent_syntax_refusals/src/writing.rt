@@ -12,16 +12,16 @@ use std::io;
 
 pub(crate) fn calls<R: Print + AllocGlobal>(rt: &R) -> io::Result<Tally> {
     let texts = TEXTS.as_slice();
-    let trees = over(rt, "serializing", texts, written)?;
-    let escaped = over(rt, "unescaping", ESCAPED.as_slice(), unescaped)?;
-    let corpus = over(rt, "unescaping the corpus", texts, unescaped)?;
+    let trees = over(rt, "serializing", texts, write_text)?;
+    let escaped = over(rt, "unescaping", ESCAPED.as_slice(), unescape)?;
+    let corpus = over(rt, "unescaping the corpus", texts, unescape)?;
     let again = over(rt, "reparse", texts, read_again)?;
     let whole = over(rt, "joined", texts, joined_once)?;
     Ok(trees.and(escaped).and(corpus).and(again).and(whole))
 }
 
 /// The three ways to write a text's tree, which stays as it was.
-fn written(alloc: Global, text: &str) -> Result<Tally, AllocError> {
+fn write_text(alloc: Global, text: &str) -> Result<Tally, AllocError> {
     let (tree, _errors) = lent_tree(alloc, text)?;
     let (before, _errors) = lent_tree(alloc, text)?;
     let options = Options { with_junk: true };
@@ -59,7 +59,7 @@ fn joined_once(alloc: Global, text: &str) -> Result<Tally, AllocError> {
 }
 
 /// Both ways to unescape a text.
-fn unescaped(alloc: Global, text: &str) -> Result<Tally, AllocError> {
+fn unescape(alloc: Global, text: &str) -> Result<Tally, AllocError> {
     let sunk = in_turn(
         alloc,
         || String::from_str(alloc, HELD),

@@ -55,13 +55,13 @@ fn assert_text_of_form(alloc: Global, shows: &str, tree: &Resource<String>) -> R
 }
 
 /// The value's text, as `serde_json` writes it.
-fn sorted(alloc: Global, form: &str) -> Result<String, Fail> {
+fn with_sorted_keys(alloc: Global, form: &str) -> Result<String, Fail> {
     Ok(Value::from_str(alloc, form)?.to_string(alloc)?)
 }
 
 fn assert_text(alloc: Global, row: &Row) -> Result<(), Fail> {
     let (what, text, form) = row;
-    let expected = sorted(alloc, *form)?;
+    let expected = with_sorted_keys(alloc, *form)?;
     assert_written(alloc, *what, &lent_tree(alloc, *text)?, expected.as_str())?;
     assert_written(alloc, *what, &tree(alloc, *text)?, expected.as_str())
 }

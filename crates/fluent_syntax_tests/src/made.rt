@@ -60,7 +60,7 @@ pub(crate) fn message(alloc: Global, name: Text, value: Option<Pattern<Text>>) -
 }
 
 /// A message that has just a value of these elements.
-pub(crate) fn valued(alloc: Global, name: Text, texts: &[Text]) -> Made<Entry<Text>> {
+pub(crate) fn message_with_value(alloc: Global, name: Text, texts: &[Text]) -> Made<Entry<Text>> {
     let value = pattern(alloc, texts)?;
     Ok(Entry::Message(message(alloc, name, Some(value))))
 }
@@ -73,7 +73,11 @@ fn just(alloc: Global, attribute: Attribute<Text>) -> Made<Vec<Attribute<Text>>>
 }
 
 /// A message `k` that has just an attribute of that name, whose value has these elements.
-pub(crate) fn attributed(alloc: Global, name: Text, texts: &[Text]) -> Made<Entry<Text>> {
+pub(crate) fn message_with_attribute(
+    alloc: Global,
+    name: Text,
+    texts: &[Text],
+) -> Made<Entry<Text>> {
     let value = pattern(alloc, texts)?;
     let attribute = Attribute {
         id: id(name),
@@ -88,7 +92,10 @@ pub(crate) fn attributed(alloc: Global, name: Text, texts: &[Text]) -> Made<Entr
 }
 
 /// A message `key` that is a placeable of the expression.
-pub(crate) fn placed(alloc: Global, expression: Expression<Text>) -> Made<Entry<Text>> {
+pub(crate) fn message_with_placeable(
+    alloc: Global,
+    expression: Expression<Text>,
+) -> Made<Entry<Text>> {
     let mut elements = Vec::new(alloc);
     elements.push(PatternElement::Placeable { expression })?;
     Ok(Entry::Message(message(alloc, "key", Some(Pattern { elements }))))

@@ -17,39 +17,39 @@ type Written = Result<(), AllocError>;
 /// A text of a tree, as an outline shows it.
 pub trait Shown {
     /// A text that is quoted.
-    fn quoted(&self, out: &mut String) -> Written;
+    fn write_quoted(&self, out: &mut String) -> Written;
 
     /// A name or a number.
-    fn plain(&self, out: &mut String) -> Written;
+    fn write_plain(&self, out: &mut String) -> Written;
 }
 
 impl Shown for &str {
-    fn quoted(&self, out: &mut String) -> Written {
+    fn write_quoted(&self, out: &mut String) -> Written {
         let text: &str = *self;
         write!(out, "{text:?}")
     }
 
-    fn plain(&self, out: &mut String) -> Written {
+    fn write_plain(&self, out: &mut String) -> Written {
         out.push_str(*self)
     }
 }
 
 impl Shown for String {
-    fn quoted(&self, out: &mut String) -> Written {
-        self.as_str().quoted(out)
+    fn write_quoted(&self, out: &mut String) -> Written {
+        self.as_str().write_quoted(out)
     }
 
-    fn plain(&self, out: &mut String) -> Written {
+    fn write_plain(&self, out: &mut String) -> Written {
         out.push_str(self.as_str())
     }
 }
 
 impl Shown for Span {
-    fn quoted(&self, out: &mut String) -> Written {
-        self.plain(out)
+    fn write_quoted(&self, out: &mut String) -> Written {
+        self.write_plain(out)
     }
 
-    fn plain(&self, out: &mut String) -> Written {
+    fn write_plain(&self, out: &mut String) -> Written {
         let start = self.start;
         let end = self.end;
         write!(out, "{start}..{end}")
@@ -63,11 +63,11 @@ pub(crate) fn assert_outline<S: Shown>(
     answer: &Result<Resource<S>, ParseFault<S>>,
     expected: &str,
 ) -> Result<(), Fail> {
-    assert_same_text(alloc, shows, outlined(alloc, answer)?.as_str(), expected)
+    assert_same_text(alloc, shows, outline_of(alloc, answer)?.as_str(), expected)
 }
 
 /// The outline of what a parser answered.
-pub(crate) fn outlined<S: Shown>(
+pub(crate) fn outline_of<S: Shown>(
     alloc: Global,
     answer: &Result<Resource<S>, ParseFault<S>>,
 ) -> Result<String, AllocError> {
@@ -102,28 +102,28 @@ fn body<S: Shown>(out: &mut String, resource: &Resource<S>) -> Written {
 fn entry<S: Shown>(out: &mut String, entry: &Entry<S>) -> Written {
     match entry {
         Entry::Message(message) => {
-            message.id.name.plain(out)?;
+            message.id.name.write_plain(out)?;
             out.push_str(" =")?;
             if let Some(value) = &message.value {
                 pattern(out, value)?;
             }
             attributes(out, &message.attributes)?;
-            hung(out, &message.comment)
+            hanging_comment(out, &message.comment)
         }
         Entry::Term(term) => {
             out.push_str("-")?;
-            term.id.name.plain(out)?;
+            term.id.name.write_plain(out)?;
             out.push_str(" =")?;
             pattern(out, &term.value)?;
             attributes(out, &term.attributes)?;
-            hung(out, &term.comment)
+            hanging_comment(out, &term.comment)
         }
         Entry::Comment(inner) => comment(out, "#", inner),
         Entry::GroupComment(inner) => comment(out, "##", inner),
         Entry::ResourceComment(inner) => comment(out, "###", inner),
         Entry::Junk { content } => {
             out.push_str("Junk ")?;
-            content.quoted(out)
+            content.write_quoted(out)
         }
     }
 }
@@ -132,12 +132,12 @@ fn comment<S: Shown>(out: &mut String, hashes: &str, comment: &Comment<S>) -> Wr
     out.push_str(hashes)?;
     for line in &comment.content {
         out.push_str(" ")?;
-        line.quoted(out)?;
+        line.write_quoted(out)?;
     }
     Ok(())
 }
 
-fn hung<S: Shown>(out: &mut String, hung: &Option<Comment<S>>) -> Written {
+fn hanging_comment<S: Shown>(out: &mut String, hung: &Option<Comment<S>>) -> Written {
     match hung {
         None => Ok(()),
         Some(inner) => {
@@ -150,7 +150,7 @@ fn hung<S: Shown>(out: &mut String, hung: &Option<Comment<S>>) -> Written {
 fn attributes<S: Shown>(out: &mut String, attributes: &Vec<Attribute<S>>) -> Written {
     for attribute in attributes {
         out.push_str(" | .")?;
-        attribute.id.name.plain(out)?;
+        attribute.id.name.write_plain(out)?;
         out.push_str(" =")?;
         pattern(out, &attribute.value)?;
     }
@@ -169,7 +169,7 @@ fn pattern<S: Shown>(out: &mut String, pattern: &Pattern<S>) -> Written {
 #[cycle(outline)]
 fn element<S: Shown>(out: &mut String, element: &PatternElement<S>) -> Written {
     match element {
-        PatternElement::TextElement { value } => value.quoted(out),
+        PatternElement::TextElement { value } => value.write_quoted(out),
         PatternElement::Placeable { expression: inner } => {
             out.push_str("{")?;
             expression(out, inner)?;
@@ -197,8 +197,8 @@ fn expression<S: Shown>(out: &mut String, expression: &Expression<S>) -> Written
 fn variant<S: Shown>(out: &mut String, variant: &Variant<S>) -> Written {
     out.push_str(if variant.default { " *[" } else { " [" })?;
     match &variant.key {
-        VariantKey::Identifier { name } => name.plain(out)?,
-        VariantKey::NumberLiteral { value } => value.plain(out)?,
+        VariantKey::Identifier { name } => name.write_plain(out)?,
+        VariantKey::NumberLiteral { value } => value.write_plain(out)?,
     }
     out.push_str("]")?;
     pattern(out, &variant.value)
@@ -209,21 +209,21 @@ fn inline<S: Shown>(out: &mut String, inline: &InlineExpression<S>) -> Written {
     match inline {
         InlineExpression::StringLiteral { value } => {
             out.push_str("string ")?;
-            value.quoted(out)
+            value.write_quoted(out)
         }
         InlineExpression::NumberLiteral { value } => {
             out.push_str("number ")?;
-            value.plain(out)
+            value.write_plain(out)
         }
         InlineExpression::FunctionReference {
             id,
             arguments: given,
         } => {
-            id.name.plain(out)?;
+            id.name.write_plain(out)?;
             arguments(out, given)
         }
         InlineExpression::MessageReference { id, attribute: of } => {
-            id.name.plain(out)?;
+            id.name.write_plain(out)?;
             attribute(out, of)
         }
         InlineExpression::TermReference {
@@ -232,7 +232,7 @@ fn inline<S: Shown>(out: &mut String, inline: &InlineExpression<S>) -> Written {
             arguments: given,
         } => {
             out.push_str("-")?;
-            id.name.plain(out)?;
+            id.name.write_plain(out)?;
             attribute(out, of)?;
             match given {
                 None => Ok(()),
@@ -241,7 +241,7 @@ fn inline<S: Shown>(out: &mut String, inline: &InlineExpression<S>) -> Written {
         }
         InlineExpression::VariableReference { id } => {
             out.push_str("$")?;
-            id.name.plain(out)
+            id.name.write_plain(out)
         }
         InlineExpression::Placeable { expression: inner } => {
             out.push_str("{")?;
@@ -256,7 +256,7 @@ fn attribute<S: Shown>(out: &mut String, attribute: &Option<Identifier<S>>) -> W
         None => Ok(()),
         Some(id) => {
             out.push_str(".")?;
-            id.name.plain(out)
+            id.name.write_plain(out)
         }
     }
 }
@@ -269,7 +269,7 @@ fn arguments<S: Shown>(out: &mut String, arguments: &CallArguments<S>) -> Writte
         out.push_str(";")?;
     }
     for item in &arguments.named {
-        item.name.name.plain(out)?;
+        item.name.name.write_plain(out)?;
         out.push_str(": ")?;
         inline(out, &item.value)?;
         out.push_str(";")?;
@@ -299,16 +299,16 @@ fn payload(out: &mut String, kind: &ErrorKind) -> Written {
             let token = *token;
             write!(out, "({token:?})")
         }
-        ErrorKind::ExpectedCharRange { range } => bracketed(out, range.as_str()),
-        ErrorKind::ExpectedMessageField { entry_id } => bracketed(out, entry_id.as_str()),
-        ErrorKind::ExpectedTermField { entry_id } => bracketed(out, entry_id.as_str()),
-        ErrorKind::DuplicatedNamedArgument(name) => bracketed(out, name.as_str()),
-        ErrorKind::UnknownEscapeSequence(code) => bracketed(out, code.as_str()),
-        ErrorKind::InvalidUnicodeEscapeSequence(digits) => bracketed(out, digits.as_str()),
+        ErrorKind::ExpectedCharRange { range } => in_brackets(out, range.as_str()),
+        ErrorKind::ExpectedMessageField { entry_id } => in_brackets(out, entry_id.as_str()),
+        ErrorKind::ExpectedTermField { entry_id } => in_brackets(out, entry_id.as_str()),
+        ErrorKind::DuplicatedNamedArgument(name) => in_brackets(out, name.as_str()),
+        ErrorKind::UnknownEscapeSequence(code) => in_brackets(out, code.as_str()),
+        ErrorKind::InvalidUnicodeEscapeSequence(digits) => in_brackets(out, digits.as_str()),
         _ => Ok(()),
     }
 }
 
-fn bracketed(out: &mut String, text: &str) -> Written {
+fn in_brackets(out: &mut String, text: &str) -> Written {
     write!(out, "({text:?})")
 }

@@ -3,9 +3,10 @@
 use crate::alike::{assert_holds, assert_same_text};
 use crate::entries::Row;
 use crate::made::{
-    Made, Text, attributed, comment, one, owned_tree, owned_tree_without_errors, valued,
+    Made, Text, comment, message_with_attribute, message_with_value, one, owned_tree,
+    owned_tree_without_errors,
 };
-use crate::outline::{assert_outline, outlined};
+use crate::outline::{assert_outline, outline_of};
 use fluent_syntax::ast::Entry;
 use fluent_syntax::laws::{joined, reads_back, reads_readable, reparse, same_texts};
 use std::alloc::Global;
@@ -156,14 +157,14 @@ fn joins_texts(rt: HostRuntime) -> Result<(), Fail> {
 }
 
 /// The outline of what the entry is read as once it is written.
-fn reparsed(alloc: Global, entry: Made<Entry<Text>>) -> Made<String> {
+fn reparsed_text(alloc: Global, entry: Made<Entry<Text>>) -> Made<String> {
     let tree = one(alloc, entry?)?;
-    outlined(alloc, &reparse(alloc, &tree))
+    outline_of(alloc, &reparse(alloc, &tree))
 }
 
 /// Fails where the entry is read otherwise once it is written.
 fn assert_reparsed(alloc: Global, entry: Made<Entry<Text>>, expected: &str) -> Result<(), Fail> {
-    let found = reparsed(alloc, entry)?;
+    let found = reparsed_text(alloc, entry)?;
     assert_same_text(alloc, "written and read", found.as_str(), expected)
 }
 
@@ -178,7 +179,11 @@ const MARKED: [Marked; 3] = [
 
 fn assert_reads_the_mark(alloc: Global, row: &Marked) -> Result<(), Fail> {
     let (elements, expected) = row;
-    assert_reparsed(alloc, valued(alloc, "key", *elements), *expected)
+    assert_reparsed(
+        alloc,
+        message_with_value(alloc, "key", *elements),
+        *expected,
+    )
 }
 
 #[test]
@@ -186,7 +191,7 @@ fn reads_marks_that_begin_a_pattern(rt: HostRuntime) -> Result<(), Fail> {
     for row in &MARKED {
         assert_reads_the_mark(rt.alloc(), row)?;
     }
-    let attribute = attributed(rt.alloc(), "t", &[".a\n", "b"]);
+    let attribute = message_with_attribute(rt.alloc(), "t", &[".a\n", "b"]);
     assert_reparsed(rt.alloc(), attribute, "k = | .t = \".a\\n\" \"b\"\n")
 }
 

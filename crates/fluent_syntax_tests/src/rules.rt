@@ -2,7 +2,8 @@
 
 use crate::alike::assert_same;
 use crate::made::{
-    Made, Text, attributed, comment, id, message, number, one, pattern, placed, valued, variable,
+    Made, Text, comment, id, message, message_with_attribute, message_with_placeable,
+    message_with_value, number, one, pattern, variable,
 };
 use fluent_syntax::ast::*;
 use fluent_syntax::laws::{is_canonical, is_readable};
@@ -101,7 +102,7 @@ const NAMES: [Spelling; 7] = [
 ];
 
 /// What the tree of this entry is in the edition.
-fn judged(alloc: Global, entry: Made<Entry<Text>>, edition: Edition) -> Made<Found> {
+fn finding_of(alloc: Global, entry: Made<Entry<Text>>, edition: Edition) -> Made<Found> {
     let tree = one(alloc, entry?)?;
     if is_canonical(&tree, edition) {
         Ok(Canonical)
@@ -114,19 +115,31 @@ fn judged(alloc: Global, entry: Made<Entry<Text>>, edition: Edition) -> Made<Fou
 
 /// What a message of a placeable of the inline expression is in the edition.
 fn judged_inline(alloc: Global, inline: InlineExpression<Text>, edition: Edition) -> Made<Found> {
-    judged(alloc, placed(alloc, Expression::Inline(inline)), edition)
+    finding_of(
+        alloc,
+        message_with_placeable(alloc, Expression::Inline(inline)),
+        edition,
+    )
 }
 
 fn assert_pattern_judged(alloc: Global, row: &PatternRow) -> Result<(), Fail> {
     let (elements, one, two) = row;
-    let by_one = judged(alloc, valued(alloc, "k", *elements), Edition::One)?;
+    let by_one = finding_of(
+        alloc,
+        message_with_value(alloc, "k", *elements),
+        Edition::One,
+    )?;
     assert_same(
         alloc,
         "edition one",
         &(*elements, by_one),
         &(*elements, *one),
     )?;
-    let by_two = judged(alloc, valued(alloc, "k", *elements), Edition::Two)?;
+    let by_two = finding_of(
+        alloc,
+        message_with_value(alloc, "k", *elements),
+        Edition::Two,
+    )?;
     assert_same(
         alloc,
         "edition two",
@@ -160,7 +173,7 @@ fn free(alloc: Global, lines: &[Text]) -> Made<Entry<Text>> {
 }
 
 /// A term with a comment.
-fn commented(alloc: Global, lines: &[Text]) -> Made<Entry<Text>> {
+fn message_with_comment(alloc: Global, lines: &[Text]) -> Made<Entry<Text>> {
     let value = pattern(alloc, &["a"])?;
     let comment = comment(alloc, lines)?;
     Ok(Entry::Term(Term {
@@ -173,9 +186,9 @@ fn commented(alloc: Global, lines: &[Text]) -> Made<Entry<Text>> {
 
 fn assert_comment_judged(alloc: Global, row: &CommentRow) -> Result<(), Fail> {
     let (lines, expected) = row;
-    let alone = judged(alloc, free(alloc, *lines), Edition::One)?;
+    let alone = finding_of(alloc, free(alloc, *lines), Edition::One)?;
     assert_same(alloc, "alone", &(*lines, alone), &(*lines, *expected))?;
-    let hung = judged(alloc, commented(alloc, *lines), Edition::One)?;
+    let hung = finding_of(alloc, message_with_comment(alloc, *lines), Edition::One)?;
     assert_same(alloc, "hung", &(*lines, hung), &(*lines, *expected))
 }
 
@@ -183,7 +196,7 @@ fn assert_neither(alloc: Global, shows: &str, entry: Entry<Text>) -> Result<(), 
     assert_same(
         alloc,
         shows,
-        &judged(alloc, Ok(entry), Edition::One)?,
+        &finding_of(alloc, Ok(entry), Edition::One)?,
         &Neither,
     )
 }
@@ -200,7 +213,7 @@ fn entries(rt: HostRuntime) -> Result<(), Fail> {
 }
 
 /// `Canonical` for what is spelled well.
-fn spelled(well: bool) -> Found {
+fn finding_of_spelling(well: bool) -> Found {
     if well { Canonical } else { Neither }
 }
 
@@ -212,13 +225,17 @@ fn assert_spelled(
 ) -> Result<(), Fail> {
     let (text, well) = row;
     let found = judged_inline(alloc, inline, Edition::One)?;
-    assert_same(alloc, *text, &found, &spelled(*well))
+    assert_same(alloc, *text, &found, &finding_of_spelling(*well))
 }
 
 fn assert_attribute_spelled(alloc: Global, row: &Spelling) -> Result<(), Fail> {
     let (name, well) = row;
-    let found = judged(alloc, attributed(alloc, *name, &["a"]), Edition::One)?;
-    assert_same(alloc, *name, &found, &spelled(*well))
+    let found = finding_of(
+        alloc,
+        message_with_attribute(alloc, *name, &["a"]),
+        Edition::One,
+    )?;
+    assert_same(alloc, *name, &found, &finding_of_spelling(*well))
 }
 
 #[test]
@@ -270,7 +287,7 @@ fn judged_select(
 ) -> Made<Found> {
     let variants = variants(alloc, defaults)?;
     let select = Expression::Select { selector, variants };
-    judged(alloc, placed(alloc, select), Edition::Two)
+    finding_of(alloc, message_with_placeable(alloc, select), Edition::Two)
 }
 
 /// Which variants of a select are defaults, and what it is.

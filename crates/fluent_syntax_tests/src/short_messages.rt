@@ -1,7 +1,7 @@
 //! Messages that are read without a tree: which are, and with which parts; and the trees of all.
 
 use crate::alike::{assert_holds, assert_same_text};
-use crate::outline::{assert_outline, outlined};
+use crate::outline::{assert_outline, outline_of};
 use fluent_syntax::ast::Resource;
 use fluent_syntax::parser::{TooDeep, parse, parse_within};
 use fluent_syntax::spans::{parse_spans, resolve};
@@ -157,7 +157,7 @@ const REFUSED: [&'static str; 11] = [
     "a = b\n    .c\n",
 ];
 
-fn within(nesting: usize) -> Options {
+fn options_within(nesting: usize) -> Options {
     Options {
         edition: Edition::One,
         comments: Comments::Kept,
@@ -180,7 +180,11 @@ fn show_part(out: &mut String, part: &ShortPart) -> Result<(), AllocError> {
     }
 }
 
-fn shown(alloc: Global, name: Span, parts: &Vec<ShortPart>) -> Result<String, AllocError> {
+fn outline_of_parts(
+    alloc: Global,
+    name: Span,
+    parts: &Vec<ShortPart>,
+) -> Result<String, AllocError> {
     let Span { start, end } = name;
     let mut out = format!(in alloc; "{start}..{end}")?;
     for part in parts {
@@ -196,7 +200,7 @@ fn next_shown(
     parts: &mut Vec<ShortPart>,
 ) -> Result<String, AllocError> {
     match entries.next_short(parts)? {
-        Some(name) => shown(alloc, name, parts),
+        Some(name) => outline_of_parts(alloc, name, parts),
         None => String::from_str(alloc, "none"),
     }
 }
@@ -209,7 +213,11 @@ fn assert_first_read_within(
     expected: &str,
 ) -> Result<(), Fail> {
     let mut parts = Vec::new(alloc);
-    let found = next_shown(alloc, &mut Entries::new(text, within(nesting)), &mut parts)?;
+    let found = next_shown(
+        alloc,
+        &mut Entries::new(text, options_within(nesting)),
+        &mut parts,
+    )?;
     assert_same_text(alloc, text, found.as_str(), expected)
 }
 
@@ -283,7 +291,7 @@ fn assert_nests_once(alloc: Global, text: &'static str) -> Result<(), Fail> {
     let Ok(answer) = parse_within(alloc, text, Edition::One, 1) else {
         return Err("a placeable was too deep".into());
     };
-    let unbounded = outlined(alloc, &parse(alloc, text))?;
+    let unbounded = outline_of(alloc, &parse(alloc, text))?;
     assert_outline(alloc, text, &answer, unbounded.as_str())
 }
 
@@ -311,7 +319,7 @@ fn bounds(rt: HostRuntime) -> Result<(), Fail> {
 fn one_behind_another(rt: HostRuntime) -> Result<(), Fail> {
     let alloc = rt.alloc();
     let mut parts = Vec::new(alloc);
-    let mut entries = Entries::new("a = b \n    .c = d\n-e = f\ng = h\n", within(1));
+    let mut entries = Entries::new("a = b \n    .c = d\n-e = f\ng = h\n", options_within(1));
     let first = next_shown(alloc, &mut entries, &mut parts)?;
     assert_same_text(
         alloc,
@@ -330,7 +338,7 @@ fn one_behind_another(rt: HostRuntime) -> Result<(), Fail> {
 fn placeables_behind_another(rt: HostRuntime) -> Result<(), Fail> {
     let alloc = rt.alloc();
     let mut parts = Vec::new(alloc);
-    let mut entries = Entries::new("a = {b} c {F()}\nd = {$e}f\ng = h\n", within(2));
+    let mut entries = Entries::new("a = {b} c {F()}\nd = {$e}f\ng = h\n", options_within(2));
     let call = next_shown(alloc, &mut entries, &mut parts)?;
     assert_same_text(alloc, "a call", call.as_str(), "none")?;
     assert_holds(alloc, "the call", entries.next_entry(alloc).is_ok())?;

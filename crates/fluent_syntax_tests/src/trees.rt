@@ -2,7 +2,7 @@
 
 use crate::alike::{assert_holds, assert_same_text};
 use crate::made::owned_tree_without_errors;
-use crate::outline::outlined;
+use crate::outline::outline_of;
 use fluent_syntax::ast::*;
 use fluent_syntax::laws::{same_answers, same_texts};
 use fluent_syntax::parser::{Edition, is_flat, parse};
@@ -40,8 +40,8 @@ fn assert_one_answer(alloc: Global, text: &'static str) -> Result<(), Fail> {
     let lent = parse(alloc, text);
     let owned = parse(alloc, String::from_str(alloc, text)?);
     same_answers(text, Edition::One, &lent, &owned);
-    let lent_outline = outlined(alloc, &lent)?;
-    let owned_outline = outlined(alloc, &owned)?;
+    let lent_outline = outline_of(alloc, &lent)?;
+    let owned_outline = outline_of(alloc, &owned)?;
     assert_same_text(alloc, text, owned_outline.as_str(), lent_outline.as_str())
 }
 

@@ -2,8 +2,8 @@
 
 use crate::alike::assert_same_text;
 use crate::made::{
-    Made, Text, attributed, comment, id, message, number, one, pattern, placed, reference, valued,
-    variable,
+    Made, Text, comment, id, message, message_with_attribute, message_with_placeable,
+    message_with_value, number, one, pattern, reference, variable,
 };
 use fluent_syntax::ast::*;
 use fluent_syntax::serializer::{Options, serialize, serialize_to, serialize_with_options};
@@ -29,7 +29,7 @@ use Row::{Commented, GroupComment, Junk};
 
 fn entry(alloc: Global, row: Row) -> Made<Entry<Text>> {
     match row {
-        Row::Message(name, text) => valued(alloc, name, &[text]),
+        Row::Message(name, text) => message_with_value(alloc, name, &[text]),
         Row::Commented(line, text) => {
             let mut commented = message(alloc, "key", Some(pattern(alloc, &[text])?));
             commented.comment = Some(comment(alloc, &[line])?);
@@ -77,7 +77,11 @@ fn assert_inline_written(
     inline: Made<InlineExpression<Text>>,
     expected: &str,
 ) -> Result<(), Fail> {
-    assert_entry_written(alloc, placed(alloc, Expression::Inline(inline?)), expected)
+    assert_entry_written(
+        alloc,
+        message_with_placeable(alloc, Expression::Inline(inline?)),
+        expected,
+    )
 }
 
 /// The name of a message, the elements of its value, and its written text.
@@ -104,7 +108,11 @@ const MESSAGES: [Named; 4] = [
 
 fn assert_message_written(alloc: Global, row: &Named) -> Result<(), Fail> {
     let (name, elements, expected) = row;
-    assert_entry_written(alloc, valued(alloc, *name, *elements), *expected)
+    assert_entry_written(
+        alloc,
+        message_with_value(alloc, *name, *elements),
+        *expected,
+    )
 }
 
 #[test]
@@ -112,7 +120,7 @@ fn writes_messages(rt: HostRuntime) -> Result<(), Fail> {
     for row in &MESSAGES {
         assert_message_written(rt.alloc(), row)?;
     }
-    let attribute = attributed(rt.alloc(), "a", &["x\n", "y"]);
+    let attribute = message_with_attribute(rt.alloc(), "a", &["x\n", "y"]);
     assert_entry_written(
         rt.alloc(),
         attribute,
@@ -132,7 +140,7 @@ fn writes_leading_marks_readably(rt: HostRuntime) -> Result<(), Fail> {
     for row in &MARKED {
         assert_message_written(rt.alloc(), row)?;
     }
-    let attribute = attributed(rt.alloc(), "t", &[".a\n", "b"]);
+    let attribute = message_with_attribute(rt.alloc(), "t", &[".a\n", "b"]);
     assert_entry_written(rt.alloc(), attribute, "k =\n    .t = .a\n        b\n")
 }
 
@@ -183,7 +191,7 @@ fn term_with_argument(alloc: Global) -> Made<InlineExpression<Text>> {
     })
 }
 
-fn nested(alloc: Global, expression: Expression<Text>) -> Made<InlineExpression<Text>> {
+fn nested_placeable(alloc: Global, expression: Expression<Text>) -> Made<InlineExpression<Text>> {
     Ok(InlineExpression::Placeable {
         expression: Box::new(alloc, expression)?,
     })
@@ -202,7 +210,7 @@ fn writes_expressions(rt: HostRuntime) -> Result<(), Fail> {
     assert_inline_written(alloc, mixed_call(alloc), mixed)?;
     let attribute = reference("foo", Some(id("bar")));
     assert_inline_written(alloc, Ok(attribute), "key = { foo.bar }\n")?;
-    let inner = nested(alloc, Expression::Inline(variable("x")));
+    let inner = nested_placeable(alloc, Expression::Inline(variable("x")));
     assert_inline_written(alloc, inner, "key = {{ $x }}\n")?;
     assert_inline_written(alloc, term_with_argument(alloc), "key = { -t.a(1) }\n")
 }
@@ -225,7 +233,7 @@ fn select(alloc: Global, selector: Text, rows: &[(Text, Text)]) -> Made<Expressi
 
 /// A call whose argument is a select.
 fn call_of_select(alloc: Global) -> Made<InlineExpression<Text>> {
-    let select = nested(alloc, select(alloc, "x", &[("a", "b")])?)?;
+    let select = nested_placeable(alloc, select(alloc, "x", &[("a", "b")])?)?;
     Ok(call("F", positional(alloc, select, None)?))
 }
 
@@ -245,7 +253,7 @@ const SELECTS: [Select; 2] = [
 fn tree_of_select(alloc: Global, row: &Select) -> Made<Resource<Text>> {
     let (selector, variants, _) = row;
     let select = select(alloc, *selector, *variants)?;
-    one(alloc, placed(alloc, select)?)
+    one(alloc, message_with_placeable(alloc, select)?)
 }
 
 fn assert_select_written(alloc: Global, row: &Select) -> Result<(), Fail> {

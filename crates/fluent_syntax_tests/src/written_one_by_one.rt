@@ -2,7 +2,7 @@
 ghost use Rattle.std.specs.Prelude.{string_bytes};
 
 use crate::alike::assert_same_text;
-use crate::made::{Made, Text, comment, valued};
+use crate::made::{Made, Text, comment, message_with_value};
 use fluent_syntax::ast::Entry;
 use fluent_syntax::parser::{parse, recovered};
 use fluent_syntax::serializer::{EntryWriter, Options, serialize_with_options};
@@ -83,7 +83,7 @@ fn entries_behind(alloc: Global, content: Text) -> Made<Vec<Entry<Text>>> {
     let mut entries = Vec::new(alloc);
     entries.push(junk(content))?;
     entries.push(empty_comment(alloc)?)?;
-    entries.push(valued(alloc, "k", &["v"])?)?;
+    entries.push(message_with_value(alloc, "k", &["v"])?)?;
     Ok(entries)
 }
 

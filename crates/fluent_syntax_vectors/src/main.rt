@@ -64,7 +64,7 @@ fn print_round_trips<R: Print>(rt: &R, edition: &str, counted: RoundTrips) -> an
 /// The text of a line.
 fn text_of(alloc: Global, line: &str) -> Result<String, AllocError> {
     match line.split('\t').next() {
-        Some(field) => unescaped(alloc, field),
+        Some(field) => unescaped_field(alloc, field),
         None => Ok(String::new(alloc)),
     }
 }
@@ -74,18 +74,18 @@ fn differing(alloc: Global, text: &str, line: &str) -> anyhow::Result<u64> {
     let mut fields = line.split('\t').skip(1);
     let mut different = 0u64;
     for command in COMMANDS {
-        let got = answered(alloc, command, text)?;
+        let got = answer_text(alloc, command, text)?;
         let same = match fields.next() {
-            Some(field) => unescaped(alloc, field)?.as_str() == got.as_str(),
+            Some(field) => unescaped_field(alloc, field)?.as_str() == got.as_str(),
             None => false,
         };
         if !same {
             different = different.saturating_add(1);
         }
     }
-    let got = answered(alloc, Command::Json, text)?;
+    let got = answer_text(alloc, Command::Json, text)?;
     let same = match fields.next() {
-        Some(field) => is_same_value(alloc, unescaped(alloc, field)?.as_str(), got.as_str())?,
+        Some(field) => is_same_value(alloc, unescaped_field(alloc, field)?.as_str(), got.as_str())?,
         None => false,
     };
     if !same {
@@ -109,7 +109,7 @@ fn is_same_value(alloc: Global, expected: &str, got: &str) -> anyhow::Result<boo
 }
 
 /// What the engine answers: the exit status, a colon and the output.
-fn answered(alloc: Global, command: Command, text: &str) -> Result<String, AllocError> {
+fn answer_text(alloc: Global, command: Command, text: &str) -> Result<String, AllocError> {
     match answer(alloc, command, text.as_bytes()) {
         Ok((output, outcome)) => {
             let status = outcome.status();
@@ -120,7 +120,7 @@ fn answered(alloc: Global, command: Command, text: &str) -> Result<String, Alloc
 }
 
 /// The field with `\\`, `\n`, `\r`, `\t` and `\u{feff}` as what they stand for.
-fn unescaped(alloc: Global, field: &str) -> Result<String, AllocError> {
+fn unescaped_field(alloc: Global, field: &str) -> Result<String, AllocError> {
     let mut out = String::new(alloc);
     let mut escaped = false;
     let mut skipped = 0u8;

@@ -87,7 +87,7 @@ fn reparses(alloc: Global, tree: &Resource<String>, whole: &Resource<String>) ->
 }
 
 /// The text as a command formats it, and whether it has no error.
-fn formatted(alloc: Global, command: Command, text: &str) -> anyhow::Result<(String, bool)> {
+fn formatted_text(alloc: Global, command: Command, text: &str) -> anyhow::Result<(String, bool)> {
     match answer(alloc, command, text.as_bytes()) {
         Ok((formatted, outcome)) => Ok((formatted, outcome == Outcome::Clean)),
         Err(fault) => anyhow::bail!("{}", fault.line()),
@@ -107,9 +107,9 @@ fn formats(
         Edition::One => Command::Format,
         Edition::Two => Command::FormatTwo,
     };
-    let (once, _) = formatted(alloc, command, text)?;
-    let (twice, is_once_clean) = formatted(alloc, command, once.as_str())?;
-    let (again, is_twice_clean) = formatted(alloc, command, twice.as_str())?;
+    let (once, _) = formatted_text(alloc, command, text)?;
+    let (twice, is_once_clean) = formatted_text(alloc, command, once.as_str())?;
+    let (again, is_twice_clean) = formatted_text(alloc, command, twice.as_str())?;
     let settles = twice == serialize(alloc, whole)? && again == twice;
     Ok(is_once_clean && is_twice_clean && settles && (!is_clean || once == twice))
 }

@@ -88,7 +88,7 @@ impl Write for Narrow {
 }
 
 /// How the command ends over a reader and a writer, and what was written.
-fn ran(
+fn end_of_run(
     alloc: Global,
     command: Command,
     reader: Drip<'_>,
@@ -109,7 +109,7 @@ pub(crate) fn ends_so(
     end: Result<Outcome, RunFault>,
     bytes: &[u8],
 ) -> bool {
-    let (ended, written) = ran(alloc, command, reader, writer);
+    let (ended, written) = end_of_run(alloc, command, reader, writer);
     ended == end && written.as_slice() == bytes
 }
 
@@ -144,7 +144,7 @@ fn assert_formatted(
     bytes: &[u8],
 ) -> Result<(), Fail> {
     let reader = Drip::whole(INPUT.as_bytes());
-    let (ended, written) = ran(alloc, Command::Format, reader, writer);
+    let (ended, written) = end_of_run(alloc, Command::Format, reader, writer);
     assert_same(alloc, "the end", &ended, &end)?;
     assert_holds(alloc, "the bytes", written.as_slice() == bytes)
 }

@@ -481,7 +481,7 @@ fn formatted_texts(rt: HostRuntime) -> Result<(), Fail> {
 }
 
 /// A message of so many placeables in one another.
-fn nested(alloc: Global, depth: usize) -> Result<String, Fail> {
+fn nested_text(alloc: Global, depth: usize) -> Result<String, Fail> {
     let mut text = String::from_str(alloc, "a = ")?;
     for _ in 0..depth {
         text.push('{')?;
@@ -510,11 +510,11 @@ fn is_flawless(alloc: Global, text: &str) -> Result<bool, Fail> {
 #[test]
 fn a_text_that_nests_too_deeply(rt: HostRuntime) -> Result<(), Fail> {
     let alloc = rt.alloc();
-    let shallow = nested(alloc, 500)?;
+    let shallow = nested_text(alloc, 500)?;
     let is_so = is_flawless(alloc, shallow.as_str())?
         && formatted(alloc, shallow.as_str())?.is_some();
     assert_holds(alloc, "500 in one another", is_so)?;
-    let deep = nested(alloc, 501)?;
+    let deep = nested_text(alloc, 501)?;
     let is_so = is_too_deep(alloc, deep.as_str())? && formatted(alloc, deep.as_str())?.is_none();
     assert_holds(alloc, "501 in one another", is_so)
 }
@@ -585,7 +585,7 @@ fn push_frame(alloc: Global, frames: &mut String, body: &str) -> Result<(), Fail
 }
 
 /// The frames of the bodies, behind one another.
-fn framed(alloc: Global, bodies: &[&str]) -> Result<String, Fail> {
+fn frames_of(alloc: Global, bodies: &[&str]) -> Result<String, Fail> {
     let mut frames = String::new(alloc);
     for body in bodies {
         push_frame(alloc, &mut frames, *body)?;
@@ -602,8 +602,8 @@ fn serves<R: Read + Drop>(alloc: Global, reader: R, ending: Ending, output: &[u8
 
 fn assert_served(alloc: Global, row: &Session) -> Result<(), Fail> {
     let (sent, answered, ending) = row;
-    let input = framed(alloc, *sent)?;
-    let output = framed(alloc, *answered)?;
+    let input = frames_of(alloc, *sent)?;
+    let output = frames_of(alloc, *answered)?;
     let joined = serves(alloc, input.as_bytes(), *ending, output.as_bytes());
     let drip = Drip::whole(input.as_bytes());
     let by_byte = serves(alloc, drip, *ending, output.as_bytes());
@@ -628,13 +628,13 @@ fn assert_beginnings_cut(alloc: Global, input: &[u8]) -> Result<(), Fail> {
 
 #[test]
 fn an_input_that_ends_inside_a_frame(rt: HostRuntime) -> Result<(), Fail> {
-    let input = framed(rt.alloc(), &[SHUTDOWN])?;
+    let input = frames_of(rt.alloc(), &[SHUTDOWN])?;
     assert_beginnings_cut(rt.alloc(), input.as_bytes())
 }
 
 #[test]
 fn a_writer_that_fails(rt: HostRuntime) -> Result<(), Fail> {
-    let input = framed(rt.alloc(), &[SHUTDOWN])?;
+    let input = frames_of(rt.alloc(), &[SHUTDOWN])?;
     let mut reader = Watched::new(input.as_bytes());
     let mut writer = Narrow::closed(rt.alloc());
     let ended = serve(rt.alloc(), &mut reader, &mut writer);
