@@ -271,7 +271,7 @@ module _ (t : List ℕ) (n : ℕ) where
   end_step f k j true e more h = end_start k j e h
   end_step f k j false e more h = end_at f k j (k == length t) refl e more h
 
-  pub found_end : (fuel k j : ℕ) → find_end fuel k ≡ Some j → JunkEnd t k j
+  found_end : (fuel k j : ℕ) → find_end fuel k ≡ Some j → JunkEnd t k j
   found_end zero k j h = none_some h
   found_end (suc f) k j h = end_step f k j (starts_entry t k) refl (λ x. found_end f (k + 1) j x) h
 

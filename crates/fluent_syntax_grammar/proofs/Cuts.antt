@@ -79,7 +79,7 @@ either_true true b c e = inl refl
 either_true false true c e = inr refl
 either_true false false c e = cc
 
-pub ascii_eol : (t : List ℕ) (i : ℕ) → has_eol t i ≡ true → AsciiAt t i
+ascii_eol : (t : List ℕ) (i : ℕ) → has_eol t i ≡ true → AsciiAt t i
 ascii_eol t i e =
     elim (either_true (has_byte t lf i) (has_byte t cr i) (has_byte t lf (i + 1)) e)
     [ inl x ↦ ascii_byte t lf i (omega arith) x | inr x ↦ ascii_byte t cr i (omega arith) x ]

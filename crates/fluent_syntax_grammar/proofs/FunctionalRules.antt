@@ -46,7 +46,7 @@ module _ (t : List ℕ) where
   pub functional_separator : IsFunctional (separator t)
   functional_separator = search words depth 30
 
-  pub functional_named : (id : Span) (a : MaybeArguments Span) → IsFunctional (named_reference t id a)
+  functional_named : (id : Span) (a : MaybeArguments Span) → IsFunctional (named_reference t id a)
   functional_named id no_arguments = search (words, functional_accessor) depth 30
   functional_named id (some_arguments a) = search words depth 30
 

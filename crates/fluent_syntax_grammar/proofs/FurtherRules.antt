@@ -226,7 +226,7 @@ module _ (edition : Edition) where
   entry_splits (junk content) = refl
 
   -- Canonical: readable, and obeying the four rules.
-  pub body_splits : (es : BodyTree Text) →
+  body_splits : (es : BodyTree Text) →
       is_canonical edition es ≡ (is_readable edition es && body_obeys (further_rules edition) es)
   body_splits es =
       list_splits (entry_obeys (canonical_rules edition)) (entry_obeys (readable_rules edition))

@@ -76,7 +76,7 @@ module _ (t : List ℕ) where
   ]
 
   -- in a blank block stand spaces and line ends
-  pub block_bytes : (i j k : ℕ) → BlankBlock t i j → i ≤ k → k < j → has t is_blank_byte k ≡ true
+  block_bytes : (i j k : ℕ) → BlankBlock t i j → i ≤ k → k < j → has t is_blank_byte k ≡ true
   block_bytes i j k (no_line a b) l m = absurd (omega arith)
   block_bytes i j k (line {k = n} {m = p} a b c) l m = elim (lt_or_le k n) [
     | inl x ↦ implies is_space is_blank_byte (slice_get t k) space_blank (a.each k l x)

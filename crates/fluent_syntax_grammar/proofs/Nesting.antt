@@ -33,12 +33,12 @@ module _ (edition : Edition) (t : List ℕ) where
   next_included m n h = included_next edition t (within edition t m) (within edition t n) h
 
   -- what nests less deeply than m, nests less deeply than a larger number
-  pub within_grows : (m n : ℕ) → m ≤ n → IsIncludedFamily (within edition t m) (within edition t n)
+  within_grows : (m n : ℕ) → m ≤ n → IsIncludedFamily (within edition t m) (within edition t n)
   within_grows zero n l = nothing_included n
   within_grows (suc m) zero l = absurd (omega arith)
   within_grows (suc m) (suc n) l = next_included m n (within_grows m n (omega arith))
 
-  pub within_family : (n : ℕ) → IsIncludedFamily (within edition t n) (family edition t)
+  within_family : (n : ℕ) → IsIncludedFamily (within edition t n) (family edition t)
   unfolding family
   within_family n = record {
     inline_expression = record { part = λ i o x. (n, x) };
@@ -49,7 +49,7 @@ module _ (edition : Edition) (t : List ℕ) where
   }
 
   -- the family is the union of what nests to each depth
-  pub union_family : IsUnionFamily (family edition t) (within edition t)
+  union_family : IsUnionFamily (family edition t) (within edition t)
   unfolding family
   union_family = record {
     grows = within_grows;

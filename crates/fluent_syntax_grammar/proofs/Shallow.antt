@@ -53,15 +53,15 @@ ruleset words =
 
 -- ---- one outcome at a place
 
-pub read_at : {A : Type 0} {c : Construct A} → IsFunctional c → (i : ℕ) {a b : A} {j k : ℕ} → c i (Read a j) →
+read_at : {A : Type 0} {c : Construct A} → IsFunctional c → (i : ℕ) {a b : A} {j k : ℕ} → c i (Read a j) →
     c i (Read b k) → j ≡ k
 read_at f i x y = let e = f.same i _ _ x y in cc
 
-pub read_as : {A : Type 0} {c : Construct A} → IsFunctional c → (i : ℕ) {a b : A} {j k : ℕ} → c i (Read a j) →
+read_as : {A : Type 0} {c : Construct A} → IsFunctional c → (i : ℕ) {a b : A} {j k : ℕ} → c i (Read a j) →
     c i (Read b k) → a ≡ b
 read_as f i x y = let e = f.same i _ _ x y in cc
 
-pub clash : {A : Type 0} {c : Construct A} → IsFunctional c → (i : ℕ) {a : A} {j from to : ℕ} {k : Kind} →
+clash : {A : Type 0} {c : Construct A} → IsFunctional c → (i : ℕ) {a : A} {j from to : ℕ} {k : Kind} →
     c i (Read a j) → c i (Refused k from to) → ⊥
 clash f i x y = let e = f.same i _ _ x y in cc
 
@@ -601,7 +601,7 @@ module _ (edition : Edition) (t : List ℕ) where
     entry_message none (its_term mark d) = differs mark none
 
     -- no entry stands at the text's end
-    pub entry_end : slice_get t i ≡ None → Deeper edition t in_entry n i → ⊥
+    entry_end : slice_get t i ≡ None → Deeper edition t in_entry n i → ⊥
     entry_end none (its_message a b (its_message_fields x d)) =
         clash (functional_identifier t) i x
         (goes_on at_place (goes_on (chosen given) (second (rw none refl) (failed refl))))

@@ -54,7 +54,7 @@ pub record IsOnward (P : ℕ → Type 0) (W : ℕ → ℕ → Type 0) : Type 0 w
   pub forward : (i j : ℕ) → W i j → i ≤ j
   pub place : (i j : ℕ) → P i → W i j → P j
 
-pub weaker_end : {A : Type 0} {P : ℕ → Type 0} {Good : A → Type 0} (s m : ℕ) → s ≤ m → (a : A) (j : ℕ) →
+weaker_end : {A : Type 0} {P : ℕ → Type 0} {Good : A → Type 0} (s m : ℕ) → s ≤ m → (a : A) (j : ℕ) →
     Ended P m Good a j → Ended P s Good a j
 weaker_end s m l a j e = let f = e.late in record { late = omega arith; place = e.place; good = e.good }
 

@@ -51,7 +51,7 @@ pub record IsSoundFamily (t : List ℕ) (P : ℕ → Type 0) (R : Family) : Type
   pub more_pieces : (s : ℕ) → Holds (Inside P s) R.more_pieces (EndedPieces P s) (IsFault t s)
   pub more_lines : (s : ℕ) → Sound t P s R.more_lines (list_every (GoodLine P))
 
-pub sound_look : {A : Type 0} {t : List ℕ} {P : ℕ → Type 0} {s : ℕ} {look : ℕ → A} →
+sound_look : {A : Type 0} {t : List ℕ} {P : ℕ → Type 0} {s : ℕ} {look : ℕ → A} →
     Sound t P s (at_each look gives) (λ a. Unit {0})
 sound_look = sound_at_each (λ a. sound_gives tt)
 

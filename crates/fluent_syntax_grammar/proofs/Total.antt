@@ -55,7 +55,7 @@ total_here = record { has = λ i p. (Read i i, at_place) }
 pub total_fails : {A : Type 0} {pre : ℕ → Type 0} {k : Kind} → Total pre (fails {A = A} k)
 total_fails {k = k} = record { has = λ i p. (Refused k i (i + 1), failed refl) }
 
-pub total_fails_from : {A : Type 0} {pre : ℕ → Type 0} {k : Kind} {start : ℕ} → Total pre (fails_from {A = A} k start)
+total_fails_from : {A : Type 0} {pre : ℕ → Type 0} {k : Kind} {start : ℕ} → Total pre (fails_from {A = A} k start)
 total_fails_from {k = k} {start = start} = record { has = λ i p. (Refused k start i, failed_from) }
 
 pub total_over : {pre : ℕ → Type 0} {W : ℕ → ℕ → Type 0} → ((i : ℕ) → pre i → (j : ℕ) × W i j) → Total pre (over W)

@@ -171,7 +171,7 @@ module _ (edition : Edition) (t : List ℕ) where
         both_bind (both_inline_blank t)
         (λ u. record { total = total_at_each layout_total; on = holds_at_each layout_on })
 
-    pub both_pattern : Both t s (pattern edition t R)
+    both_pattern : Both t s (pattern edition t R)
     both_pattern = both_bind both_layout (λ y. both_gives)
 
     both_variant : (starred star : Bool) (key : KeyTree Span) (p : Option (PatternTree Span)) →
@@ -259,7 +259,7 @@ module _ (edition : Edition) (t : List ℕ) where
       }
 
   -- what nests has an outcome at each place of the text
-  pub both_family : (s : ℕ) → BothFamily t s R
+  both_family : (s : ℕ) → BothFamily t s R
   both_family s = family_from (length t + 1) s (omega arith)
 
   -- a pattern has an outcome at each place of the text

@@ -45,7 +45,7 @@ pub record BothFamily (t : List ℕ) (s : ℕ) (R : Family) : Type 0 where
   pub more_pieces : Both t s R.more_pieces
   pub more_lines : Both t s R.more_lines
 
-pub both_look : {A : Type 0} {t : List ℕ} {s : ℕ} {look : ℕ → A} → Both t s (at_each look gives)
+both_look : {A : Type 0} {t : List ℕ} {s : ℕ} {look : ℕ → A} → Both t s (at_each look gives)
 both_look = both_at_each (λ a. both_gives)
 
 module _ (t : List ℕ) where
@@ -213,7 +213,7 @@ module _ (t : List ℕ) (s : ℕ) (R : Family) (h : BothFamily t (s + 1) R) wher
   both_expression : Both t (s + 1) (expression t R)
   both_expression = both_bind h.inline_expression (λ e. both_bind (both_blank t) (λ u. arrow_at e))
 
-  pub strict_placeable : Strict t s (placeable t R)
+  strict_placeable : Strict t s (placeable t R)
   strict_placeable =
       strict_first (strict_token t 123)
       (λ u. both_bind (both_blank t)

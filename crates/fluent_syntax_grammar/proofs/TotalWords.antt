@@ -170,7 +170,7 @@ module _ (t : List ℕ) where
       elim (lt_or_same i j w.forward)
       [ inl l ↦ l | inr same ↦ absurd (false≢true (sym w.longest ∙ subst (λ k. has t set k ≡ true) same e)) ]
 
-  pub strict_digits : {s : ℕ} → Strict t s (digits t)
+  strict_digits : {s : ℕ} → Strict t s (digits t)
   strict_digits {s = s} = record {
     total =
         total_at_each

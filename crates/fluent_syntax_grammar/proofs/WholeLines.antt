@@ -111,7 +111,7 @@ module _ (t : List ℕ) where
   eol_onward k j (inr e) = let f = e.1 in omega arith
 
   -- what is passed over before the line end, the whole line passes over
-  pub line_onward : (i j : ℕ) (x : IsLine t i j) → x.end ≤ j
+  line_onward : (i j : ℕ) (x : IsLine t i j) → x.end ≤ j
   line_onward i j x = eol_onward x.end j x.eol
 
   -- each LF of a line ends it
@@ -138,7 +138,7 @@ module _ (t : List ℕ) where
 
   -- ---- comment lines
 
-  pub token_read : (b i j : ℕ) → token t b i (Read tt j) → (has_byte t b i ≡ true) × (j ≡ i + 1)
+  token_read : (b i j : ℕ) → token t b i (Read tt j) → (has_byte t b i ≡ true) × (j ≡ i + 1)
   token_read b i j (goes_on (chosen (first e (goes_on (passed w) given))) (first f given)) = (e, w.by)
   token_read b i j (goes_on (chosen (first e (goes_on (passed w) given))) (second f x)) = elim x [ ]
   token_read b i j (goes_on (chosen (second e given)) (first f given)) = cc

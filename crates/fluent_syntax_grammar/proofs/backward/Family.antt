@@ -171,7 +171,7 @@ module _ (t : List ℕ) (bare : HasNoBareCr t) (Joins : Type 0) (crs : (i : ℕ)
       (goes_on at_place (goes_on (passed {j = to} w) (goes_on at_place (goes_on {a = qs} z given)))))))) =
       a_run (stretch_onward (is_run_place t) i to (run_begins t Joins i b e f g k) w) w (h.more_pieces to j qs z)
 
-  pub pieces_was : (i j : ℕ) (ps : List Piece) → lines.more_pieces t R i (Read ps j) → PiecesAt t Joins i ps j
+  pieces_was : (i j : ℕ) (ps : List Piece) → lines.more_pieces t R i (Read ps j) → PiecesAt t Joins i ps j
   pieces_was i j ps (chosen x) = pieces_was_at i j ps (slice_get t i) refl x
 
   line_made : (i k b start m n : ℕ) (ps : List Piece) (e' : Ending) → InlineBlank t i k → slice_get t k ≡ Some b →
@@ -206,7 +206,7 @@ module _ (t : List ℕ) (bare : HasNoBareCr t) (Joins : Type 0) (crs : (i : ℕ)
       (subst (λ j. LineAt t Joins i (record { start = i; spaces = start - i; pieces = ps; ending = e' }) j) value.1
       made)
 
-  pub lines_was : (i j : ℕ) (ls : List Line) → lines.more_lines t R i (Read ls j) → LinesAt t Joins i ls
+  lines_was : (i j : ℕ) (ls : List Line) → lines.more_lines t R i (Read ls j) → LinesAt t Joins i ls
   lines_was i j ls (no_byte w e) = no_lines
   lines_was i j ls (other_line w e f) = no_lines
   lines_was i j ls (own_line {k = k} {b = b} w e f (goes_on {j = m} {a = l} x (goes_on {a = rest} y given))) =
@@ -223,7 +223,7 @@ module _ (t : List ℕ) (bare : HasNoBareCr t) (Joins : Type 0) (crs : (i : ℕ)
       let c = block_stop t m n b in
       below c.1 (after_none t c.0 c.2) (h.more_lines n j ls v)
 
-  pub layout_was : (i j : ℕ) (y : Layout) → layout t R i (Read y j) → LayoutAt t Joins y
+  layout_was : (i j : ℕ) (y : Layout) → layout t R i (Read y j) → LayoutAt t Joins y
   layout_was i j y (goes_on (passed {j = m} w) (chosen x)) = layout_was_at m j y (after_eol t m) w.longest refl x
 
   pub ensures_pattern : Ensures (pattern One t R) (option_every (IsPattern t Joins))
@@ -243,7 +243,7 @@ module _ (t : List ℕ) (bare : HasNoBareCr t) (Joins : Type 0) (crs : (i : ℕ)
       (λ n. ensures_either (λ e. record { on_read = number_key_was })
       (λ e. ensures_bind (ensures_name t Joins) (λ v g. ensures_gives g)))
 
-  pub no_variant : (starred : Bool) → IsVariants t Joins starred no_variants
+  no_variant : (starred : Bool) → IsVariants t Joins starred no_variants
   no_variant starred = record { fine = record { obeys = refl; same = λ none. refl }; none = λ e. refl; one = refl }
 
   one_less : (n : ℕ) → n ≡ 0 → nat_le (1 + n) 1 ≡ true

@@ -44,7 +44,7 @@ module _ (t : List ℕ) where
   cut_at x [] true z e f g = record { head = x; rest = []; is = rw e refl }
   cut_at x [] false z e f g = let c = g f in let wrong = c.is in absurd cc
 
-  pub cut_any : (xs : List Item) → list_any (stays t) xs ≡ true → Cons (cut t xs)
+  cut_any : (xs : List Item) → list_any (stays t) xs ≡ true → Cons (cut t xs)
   cut_any [] e = absurd cc
   cut_any (x ∷ xs) e = cut_at x (cut t xs) (stays t x) (list_any (stays t) xs) refl e (cut_any xs)
 
@@ -53,7 +53,7 @@ module _ (t : List ℕ) where
   before_cons x [] z zs = refl
   before_cons x (y ∷ ys) z zs = refl
 
-  pub cut_append : (xs ys : List Item) (z : Item) (zs : List Item) → cut t ys ≡ z ∷ zs →
+  cut_append : (xs ys : List Item) (z : Item) (zs : List Item) → cut t ys ≡ z ∷ zs →
       cut t (xs ++ ys) ≡ xs ++ (z ∷ zs)
   cut_append [] ys z zs e = e
   cut_append (x ∷ xs) ys z zs e = ap (cut_before t x) (cut_append xs ys z zs e) ∙ before_cons x xs z zs
@@ -64,7 +64,7 @@ module _ (t : List ℕ) where
   spans (filled e) = false
 
   -- a text with an LF that is not the last item makes the pattern span lines
-  pub spans_tree : (xs : List Item) (z : Item) (zs : List Item) → list_any spans xs ≡ true →
+  spans_tree : (xs : List Item) (z : Item) (zs : List Item) → list_any spans xs ≡ true →
       is_multiline (tree t (xs ++ (z ∷ zs))) ≡ true
   spans_tree [] z zs e = cc
   spans_tree (text from to ∷ []) z zs e =

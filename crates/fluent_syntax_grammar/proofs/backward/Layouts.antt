@@ -67,7 +67,7 @@ module _ (t : List ℕ) (bare : HasNoBareCr t) where
   no_cr i b true e f g = let h = byte_stands (λ c. c == cr) (slice_get t i) b f e in differs (eol_of i h (bare i h)) g
 
   -- a byte of a run is plain
-  pub run_plain : (i : ℕ) → is_run_place t i ≡ true → has t is_plain i ≡ true
+  run_plain : (i : ℕ) → is_run_place t i ≡ true → has t is_plain i ≡ true
   run_plain i e =
       let b =
       byte_found (λ b. not (b == lf || b == 123 || b == 125)) (slice_get t i) (left_true _ (not (has_eol t i)) e) in
@@ -77,7 +77,7 @@ module _ (t : List ℕ) (bare : HasNoBareCr t) where
       byte_stands is_plain (slice_get t i) b.0 b.1 (plain_of b.0 b.2 (no_cr i b.0 (b.0 == cr) refl b.1 f))
 
   -- where a run begins a later line, it begins with no mark
-  pub own_mark : (indented : Bool) (i b : ℕ) → belongs t indented i ≡ true → is_run_place t i ≡ true →
+  own_mark : (indented : Bool) (i b : ℕ) → belongs t indented i ≡ true → is_run_place t i ≡ true →
       slice_get t i ≡ Some b → is_leading_mark b ≡ false
   own_mark true i b e f g = elim (or_cases (has_eol t i) _ e) [
     | inl h ↦ differs h
@@ -137,7 +137,7 @@ module _ (t : List ℕ) (bare : HasNoBareCr t) where
     | inr x ↦ run_plain k (w.each k x n)
   ]
 
-  pub line_text : (kept first to b : ℕ) → kept ≤ first → first < to →
+  line_text : (kept first to b : ℕ) → kept ≤ first → first < to →
       ((k : ℕ) → kept ≤ k → k < first → has t is_space k ≡ true) → Stretch (is_run_place t) first to →
       slice_get t first ≡ Some b → is_space b ≡ false → LineText kept first to b
   line_text kept first to b l n e w f g =
@@ -311,7 +311,7 @@ module _ (t : List ℕ) (bare : HasNoBareCr t) (Joins : Type 0) (crs : (i : ℕ)
       no_space : (i b : ℕ) → slice_get t i ≡ Some b → has t is_space i ≡ false → is_space b ≡ false
       no_space i b e f = ap (holds is_space) (sym e) ∙ f
 
-  pub lines_shape : (common : Option ℕ) (i : ℕ) (ls : List Line) → LinesAt t Joins i ls →
+  lines_shape : (common : Option ℕ) (i : ℕ) (ls : List Line) → LinesAt t Joins i ls →
       Shape t Joins m after_line (flat_map (line_items One common) ls)
   lines_shape common i [] h = done
   lines_shape common i (l ∷ ls) (a_line {j = j} x h) =

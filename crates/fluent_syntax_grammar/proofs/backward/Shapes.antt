@@ -84,7 +84,7 @@ module _ (t : List ℕ) where
   kept_cut [] = tt
   kept_cut (x ∷ xs) = kept_before x (cut t xs) (kept_cut xs)
 
-  pub kept_after : (x : Item) (xs : List Item) → Kept t (x ∷ xs) → Kept t xs
+  kept_after : (x : Item) (xs : List Item) → Kept t (x ∷ xs) → Kept t xs
   kept_after x [] k = tt
   kept_after x (y ∷ ys) k = k
 
@@ -94,7 +94,7 @@ tree t xs = pattern_map (bytes_at t) (elements_of (spelled t xs))
 
 -- ---- joining
 
-pub line_joined : (w : Text) (q : PatternTree Text) → ends_in_lf w ≡ true →
+line_joined : (w : Text) (q : PatternTree Text) → ends_in_lf w ≡ true →
     joined_after w q ≡ elements (text_element w) (joined_pattern q)
 line_joined w no_elements e = refl
 line_joined w (elements (placeable x) es) e = refl
@@ -107,7 +107,7 @@ line_joined w (elements (text_element v) es) e = apart (is_lone_lf v) (ends_in_l
     apart false b e = refl
     apart true false e = cc
 
-pub lf_joined : (w : Text) (q : PatternTree Text) → ends_in_lf w ≡ false →
+lf_joined : (w : Text) (q : PatternTree Text) → ends_in_lf w ≡ false →
     joined_after w (elements (text_element (lf ∷ [])) q) ≡ elements (text_element (w ++ (lf ∷ []))) (joined_pattern q)
 lf_joined w q e = rw e refl
 
@@ -172,7 +172,7 @@ shown_not_empty (x ∷ u) e = refl
 pub space_plain : (b : ℕ) → is_space b ≡ true → is_plain b ≡ true
 space_plain b e = let same = equal b 32 e in subst (λ b. is_plain b ≡ true) (sym same) refl
 
-pub spaces_plain : (u : Text) → is_spaces u ≡ true → list_all is_plain u ≡ true
+spaces_plain : (u : Text) → is_spaces u ≡ true → list_all is_plain u ≡ true
 spaces_plain [] e = refl
 spaces_plain (x ∷ u) e =
     both (space_plain x (left_true (is_space x) (is_spaces u) e))

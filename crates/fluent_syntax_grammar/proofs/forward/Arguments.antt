@@ -109,7 +109,7 @@ module _ (edition : Edition) where
 pub begins_other : (c : ℕ) {bs : List ℕ} → Begins bs → is_start c ≡ false → holds (λ b. b == c) (first bs) ≡ false
 begins_other c b e = rw (b.are) (differ is_start b.byte c b.start e)
 
-pub past_same : (e : InlineTree Text) (more : List ℕ) → past e [] more ≡ more
+past_same : (e : InlineTree Text) (more : List ℕ) → past e [] more ≡ more
 past_same e more = same (passes_blank e)
   where
     same : (b : Bool) → (if b then more else more) ≡ more

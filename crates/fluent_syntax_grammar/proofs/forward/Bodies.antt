@@ -365,7 +365,7 @@ module _ (edition : Edition) (t : List ℕ) where
   gap_back false es bs k = k
 
   -- a written body is read back
-  pub body_back : (es : BodyTree Text) (tail : Text) → body_obeys (canonical_rules edition) es ≡ true →
+  body_back : (es : BodyTree Text) (tail : Text) → body_obeys (canonical_rules edition) es ≡ true →
       IsWritten es tail → BodyBack es tail
   body_back [] tail h nothing =
       record {

@@ -58,7 +58,7 @@ spaces_blank (b ∷ bs) e =
     (spaces_blank bs (right_true (is_space b) (list_all is_space bs) e))
 
 -- before the brace that closes a placeable
-pub follows_brace : (gap more : List ℕ) → list_all is_space gap ≡ true → Follows gap (125 ∷ more)
+follows_brace : (gap more : List ℕ) → list_all is_space gap ≡ true → Follows gap (125 ∷ more)
 follows_brace [] more e =
     record {
       spaces = refl;

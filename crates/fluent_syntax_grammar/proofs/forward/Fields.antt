@@ -71,7 +71,7 @@ module _ (edition : Edition) (t : List ℕ) where
       (λ v w g s. attribute_then x a v w rest f g s))))))
 
   -- the attributes after a pattern
-  pub attributes_back : (more : List (AttributeTree Text)) (i : ℕ) (tail rest : List ℕ) →
+  attributes_back : (more : List (AttributeTree Text)) (i : ℕ) (tail rest : List ℕ) →
       list_all (attribute_obeys (canonical_rules edition)) more ≡ true → Ends tail rest → EntryStart rest →
       Left t i (before more tail rest) →
       Reads t (attributes edition t) (map (attribute_map (bytes_at t))) i more rest

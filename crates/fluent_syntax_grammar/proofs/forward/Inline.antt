@@ -70,7 +70,7 @@ letter_no_digit b e = grind (arith, nat_tests)
 pub digit_start : (b : ℕ) (next : Bool) → is_digit b ≡ true → start_of (Some b) next ≡ digit
 digit_start b next e = rw (differ is_digit b 34 e refl, e) refl
 
-pub letter_start : (b : ℕ) (next : Bool) → is_letter b ≡ true → start_of (Some b) next ≡ letter
+letter_start : (b : ℕ) (next : Bool) → is_letter b ≡ true → start_of (Some b) next ≡ letter
 letter_start b next e =
     rw (
       differ is_letter b 34 e refl,
@@ -88,7 +88,7 @@ module _ {t : List ℕ} where
       Left t i (gap ++ more) → Passes t (blank t) i more
   passes_blanks gap more a d e f l = passes_over (left_blank gap more a d e f l) (left_past gap l)
 
-  pub passes_gap : {i : ℕ} (gap more : List ℕ) → Follows gap more → Left t i (gap ++ more) → Passes t (blank t) i more
+  passes_gap : {i : ℕ} (gap more : List ℕ) → Follows gap more → Left t i (gap ++ more) → Passes t (blank t) i more
   passes_gap gap more f l = passes_blanks gap more f.spaces f.no_space f.no_lf f.no_cr l
 
   -- the start that a byte makes
@@ -160,7 +160,7 @@ module _ (edition : Edition) (t : List ℕ) where
       (λ j m. reads_bind (reads_absent 40 f.no_list m) (λ b k e n. reads_second e (reads_gives refl n)))
 
   -- no argument list, and no blank to pass
-  pub no_list_here : (i : ℕ) (more : List ℕ) → holds is_space (first more) ≡ false →
+  no_list_here : (i : ℕ) (more : List ℕ) → holds is_space (first more) ≡ false →
       holds (λ b. b == lf) (first more) ≡ false → holds (λ b. b == cr) (first more) ≡ false →
       holds (λ b. b == 40) (first more) ≡ false →
       Left t i more → ReadsCall i no_arguments more

@@ -47,7 +47,7 @@ run_ends_in [] e = refl
 run_ends_in (c ∷ v) e = run_no_end c v e
 
 -- a run and an LF do
-pub line_ends_in : (v body : List ℕ) → v ≡ body ++ (lf ∷ []) → ends_in_lf v ≡ true
+line_ends_in : (v body : List ℕ) → v ≡ body ++ (lf ∷ []) → ends_in_lf v ≡ true
 line_ends_in v body e = rw (e, last_append body None lf []) refl
 
 none_after : (xs ys : List ℕ) → xs ++ ys ≡ [] → ys ≡ []

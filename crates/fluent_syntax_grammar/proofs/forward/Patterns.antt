@@ -106,7 +106,7 @@ module _ (edition : Edition) (t : List ℕ) (level : ℕ) (tail rest : List ℕ)
   mark_opens (placeable x) es i m l = absurd cc
 
   -- with a leading mark
-  pub marked_back : (e : ElementTree Text) (es : PatternTree Text) (i : ℕ) → has_leading_mark (elements e es) ≡ true →
+  marked_back : (e : ElementTree Text) (es : PatternTree Text) (i : ℕ) → has_leading_mark (elements e es) ≡ true →
       are_elements edition true opening (elements e es) ≡ true →
       are_flush (least (line_numbers edition after_placeable (elements e es))) after_placeable (elements e es) ≡ true →
       ElementsBack edition t (level + 1) (elements e es) →
@@ -173,7 +173,7 @@ module _ (edition : Edition) (t : List ℕ) where
       (goes_on (passed (record { there = refl })) (goes_on (passed b) (goes_on m given)))))
 
   -- it is read back, if its lines are
-  pub opened_back :
+  opened_back :
       (common : Option ℕ) (numbers : List ℕ) (e : ElementTree Text) (es : PatternTree Text) (i : ℕ) (bs rest : List ℕ) →
       least numbers ≡ common → Left t i (lf ∷ bs) → BlankBlock t (i + 1) (i + 1) →
       Starts edition t common (elements e es) numbers (i + 1) rest →
@@ -321,7 +321,7 @@ module _ (edition : Edition) (t : List ℕ) (level : ℕ) (common : Option ℕ) 
 module _ (edition : Edition) (t : List ℕ) (level : ℕ) (tail rest : List ℕ) (ends : Ends tail rest)
     (deep : 1 ≤ length (indent (level + 1))) where
   -- a multiline pattern that opens a line
-  pub line_opened_back : (e : ElementTree Text) (es : PatternTree Text) (i : ℕ) → hides_mark (elements e es) ≡ false →
+  line_opened_back : (e : ElementTree Text) (es : PatternTree Text) (i : ℕ) → hides_mark (elements e es) ≡ false →
       has_leading_mark (elements e es) ≡ false → are_elements edition true opening (elements e es) ≡ true →
       are_flush (least (line_numbers edition opening (elements e es))) opening (elements e es) ≡ true →
       ElementsBack edition t (level + 1) (elements e es) →

@@ -139,7 +139,7 @@ module _ (edition : Edition) (t : List ℕ) where
   name_before_accessor level None a gap more f = no_name_before level a gap more f
   name_before_accessor level (Some x) a gap more f = refl
 
-  pub term_at :
+  term_at :
       (level : ℕ) (id : Text) (attribute : Option Text) (a : MaybeArguments Text) (i : ℕ) (gap more : List ℕ) →
       inline_obeys (canonical_rules edition) (term_reference id attribute a) ≡ true → MaybeBack edition t level a →
       Follows gap more →

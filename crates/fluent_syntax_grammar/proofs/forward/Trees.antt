@@ -152,7 +152,7 @@ module _ (edition : Edition) (t : List ℕ) where
       )
 
   mutual
-    pub expression_back : (level : ℕ) (e : ExpressionTree Text) → expression_obeys (canonical_rules edition) e ≡ true →
+    expression_back : (level : ℕ) (e : ExpressionTree Text) → expression_obeys (canonical_rules edition) e ≡ true →
         ExpressionBack edition t level e
     expression_back level (inline e) h =
         inline_is_back edition t level e
@@ -165,7 +165,7 @@ module _ (edition : Edition) (t : List ℕ) where
         (one_back (level + 1) vs (select_one e vs h)
         (right_true (inline_obeys (canonical_rules edition) e) _ (select_parts edition e vs h)))
 
-    pub inline_back : (level : ℕ) (e : InlineTree Text) → inline_obeys (canonical_rules edition) e ≡ true →
+    inline_back : (level : ℕ) (e : InlineTree Text) → inline_obeys (canonical_rules edition) e ≡ true →
         InlineBack edition t level e
     inline_back level (string_literal v) h = string_is_back edition t level v h
     inline_back level (number_literal v) h = number_is_back edition t level v h

@@ -313,7 +313,7 @@ mutual
       (same_variant level key value default (same_pattern level value (λ l. same_elements l value)))
       (same_cons line_end xs ys (same_variants level vs))
 
-  pub same_elements : (level : ℕ) (p : PatternTree Text) →
+  same_elements : (level : ℕ) (p : PatternTree Text) →
       SameText (elements_marks level p) (elements_marks level (joined_pattern p))
   same_elements level no_elements = same []
   same_elements level (elements (placeable e) es) =
