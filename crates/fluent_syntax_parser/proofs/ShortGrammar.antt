@@ -8,7 +8,7 @@ use Rattle.fluent_syntax_grammar.specs.Places.{Blank, has, has_byte, holds}
 use Rattle.fluent_syntax_grammar.specs.Starts as starts
 use Rattle.fluent_syntax_grammar.specs.Starts.{dollar, letter, other, start, start_of}
 use Rattle.fluent_syntax_grammar.specs.Words.{identifier, token}
-use Rattle.fluent_syntax_grammar.proofs.Facts.{byte_inside}
+use Rattle.fluent_syntax_grammar.proofs.Facts.{has_inside}
 use Rattle.fluent_syntax_grammar.proofs.Functional.{single_stretch}
 use Rattle.fluent_syntax_grammar.proofs.FunctionalWords.{functional_identifier, functional_token}
 use Rattle.fluent_syntax_parser.proofs.ShortReferences.{absent, present}
@@ -109,10 +109,10 @@ module _ (t : List ℕ) (i : ℕ) where
   hyphen_stands e = hyphen_found (slice_get t i) (has t is_letter (i + 1)) e
 
   pub dollar_inside : dollar ≡ start t i → i < length t
-  dollar_inside e = byte_inside (λ b. b == dollar_sign) t i (slice_get t i) refl (dollar_stands e)
+  dollar_inside e = has_inside (λ b. b == dollar_sign) t i (dollar_stands e)
 
   pub hyphen_inside : starts.term ≡ start t i → i < length t
-  hyphen_inside e = byte_inside (λ b. b == hyphen) t i (slice_get t i) refl (hyphen_stands e)
+  hyphen_inside e = has_inside (λ b. b == hyphen) t i (hyphen_stands e)
 
   module _ (j : ℕ) where
     pub variable_name : dollar ≡ start t i → PlainReference t i j → IdentifierAt t (i + 1) j

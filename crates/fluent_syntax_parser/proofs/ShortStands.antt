@@ -1,7 +1,7 @@
 -- The lines and patterns of short messages, where a reader looks.
 use Rattle.std.proofs.Common.{◌≡◌, ℕ, ◌<◌, ◌≤◌, List, [], length, Some, None, Bool, true, false, refl}
-use Rattle.std.proofs.Common.{arith, inl, inr, not, subst, sym}
-use Rattle.std.specs.Prelude.{slice_get, slice_range, nat_lt, ◌==◌, ◌&&◌, ◌⊎◌}
+use Rattle.std.proofs.Common.{ap, arith, inl, inr, subst, sym, ◌∙◌}
+use Rattle.std.specs.Prelude.{slice_get, slice_range, nat_lt, ◌==◌, ◌⊎◌}
 use Rattle.fluent_syntax_tree.specs.Kind.{Kind}
 use Rattle.fluent_syntax_tree.specs.declared.edition.Edition.{Edition}
 use Rattle.fluent_syntax_grammar.specs.Bytes.{equals_sign, full_stop, left_brace, lf}
@@ -11,8 +11,9 @@ use Rattle.fluent_syntax_grammar.specs.Lines as lines
 use Rattle.fluent_syntax_grammar.specs.Lines.{belongs, is_run_place, no_byte, other_line, own_line}
 use Rattle.fluent_syntax_grammar.specs.Places.{BlankBlock, InlineBlank, Stretch, after_eol, has_byte, has_eol}
 use Rattle.fluent_syntax_grammar.specs.Places.{is_line_place}
-use Rattle.fluent_syntax_grammar.proofs.Facts.{byte_inside, differs, lt_or_same}
+use Rattle.fluent_syntax_grammar.proofs.Facts.{has_inside, differs, lt_or_same}
 use Rattle.fluent_syntax_grammar.proofs.Functional.{single_block, single_stretch}
+use Rattle.fluent_syntax_grammar.proofs.Tests.{without}
 use Rattle.fluent_syntax_grammar.specs.Words.{token}
 use Rattle.fluent_syntax_grammar.proofs.FunctionalWords.{functional_token}
 use Rattle.fluent_syntax_grammar.proofs.Nesting.{from_family}
@@ -47,7 +48,7 @@ module _ (t : List ℕ) where
   brace_ends_no_line to stop next there (with_crlf f other) =
       differs (eol_there (has_byte t lf to) _ to next f) (begins_no_line_end t to left_brace refl refl there)
   brace_ends_no_line to stop next there (with_text f same) =
-      let inside = byte_inside (λ b. b == left_brace) t to (slice_get t to) refl there in omega (arith, inside, same)
+      let inside = has_inside (λ b. b == left_brace) t to there in omega (arith, inside, same)
 
 -- ---- the rest of a line, behind its run
 
@@ -66,14 +67,10 @@ module _ (t : List ℕ) (i end : ℕ) (run : Stretch (is_run_place t) i end) (ne
   line_goes_on there (placed {j = j} w p l) =
       (j, subst (λ k. PlacedReference t k j) (single_stretch.same i _ _ w run) p, l)
 
-no_run : (a : Bool) → (a && not true) ≡ true → ⊥
-no_run true e = cc
-no_run false e = cc
-
 -- a run that begins where a line ends is empty
 run_at_eol : (t : List ℕ) (i j : ℕ) → has_eol t i ≡ true → Stretch (is_run_place t) i j → i ≡ j
 run_at_eol t i j eol w = elim (lt_or_same i j w.forward) [
-  | inl l ↦ (let f = w.each i (omega arith) l in let g = rw eol at f in absurd (no_run _ g))
+  | inl l ↦ differs eol (without _ _ (w.each i (omega arith) l))
   | inr e ↦ e
 ]
 
@@ -135,23 +132,22 @@ module _ (edition : Edition) (t : List ℕ) where
 
 -- ---- a line that holds something
 
-module _ (t : List ℕ) (start place to stop next : ℕ) (longer : Type 0) (forward : start ≤ place)
-    (grows : start < place → longer) where
-  -- a blank text behind the last placeable
-  pub filled_before : (edition : Edition) (ptr : ℕ) → InlineBlank t ptr start → Stretch (is_run_place t) place to →
-      place < to → to ≤ stop → stop ≤ length t → is_nonblank (slice_range t place stop) ≡ false → longer
-  filled_before edition ptr blank run some l within falls = elim (lt_or_same start place forward) [
-    | inl m ↦ grows m
+module _ (t : List ℕ) (start place to stop : ℕ) (forward : start ≤ place) where
+  -- Where a line opens behind an inline blank, a blank text in it stands behind a placeable.
+  pub before_blank : (edition : Edition) (ptr : ℕ) → InlineBlank t ptr start → Stretch (is_run_place t) place to →
+      place < to → to ≤ stop → stop ≤ length t → is_nonblank (slice_range t place stop) ≡ false → start < place
+  before_blank edition ptr blank run some l within falls = elim (lt_or_same start place forward) [
+    | inl before ↦ before
     | inr e ↦
         let here = subst (λ p. InlineBlank t ptr p) e blank in
         differs (run_nonblank edition t place to run some ptr stop here l within) falls
   ]
 
-  -- no text behind it
-  pub filled_up_to : after_eol t start ≡ None → place ≡ to → EndsLine t to stop next → is_line_place t start ≡ true →
-      longer
-  filled_up_to opens same line holds = elim (lt_or_same start place forward) [
-    | inl m ↦ grows m
+  -- So does the end of a line that holds something, if no text stands before it.
+  pub before_line_end : (next : ℕ) → after_eol t start ≡ None → place ≡ to → EndsLine t to stop next →
+      is_line_place t start ≡ true → start < place
+  before_line_end next opens same line holds = elim (lt_or_same start place forward) [
+    | inl before ↦ before
     | inr e ↦
         let none : None ≡ after_eol t to = rw (← same, ← e) (sym opens) in
         let end = (text_ends t to stop next none line).0 in
@@ -159,8 +155,16 @@ module _ (t : List ℕ) (start place to stop next : ℕ) (longer : Type 0) (forw
         absurd (omega (arith, inside, e, same, end))
   ]
 
--- ---- a pattern that begins where a line ends
+-- ---- a pattern
 
+-- Whether it holds something hangs on where it begins alone.
+pub same_filled : (edition : Edition) (t : List ℕ) (a b : Bool) (ptr j k : ℕ) → ShortPattern edition t a ptr j →
+    ShortPattern edition t b ptr k → a ≡ b
+same_filled edition t a b ptr j k p q =
+    let same = single_stretch.same ptr _ _ p.blank q.blank in
+    sym p.holds ∙ (ap (λ s. is_line_place t s) same ∙ q.holds)
+
+-- one that begins where a line ends
 pub empty_line : (edition : Edition) (t : List ℕ) (filled : Bool) (ptr start next end : ℕ) → InlineBlank t ptr start →
     Some next ≡ after_eol t start → ShortPattern edition t filled ptr end →
     (first : ℕ) × BlankBlock t next first × (family edition t).more_lines first (Read [] end)
