@@ -22,11 +22,15 @@ use Rattle.fluent_syntax_parser.proofs.BlankLines.{eol_there}
 use Rattle.fluent_syntax_grammar.specs.Elements.{is_nonblank}
 use Rattle.fluent_syntax_parser.proofs.ShortGrammar.{byte_read, name_end}
 use Rattle.fluent_syntax_parser.proofs.ShortPatterns.{run_nonblank}
+use Rattle.fluent_syntax_parser.proofs.ShortPieces.{grows_alike, grows_more, one_longer}
 use Rattle.fluent_syntax_parser.proofs.ShortReferences.{begins_no_line_end}
+use Rattle.fluent_syntax_parser.proofs.ShortWhole.{line_place}
 use Rattle.fluent_syntax_parser.specs.ShortGrammar.{IdentifierAt, PlacedReference, ShortAttributes, ShortField}
 use Rattle.fluent_syntax_parser.specs.ShortGrammar.{ShortLine, ShortMessage}
 use Rattle.fluent_syntax_parser.specs.ShortGrammar.{ShortPattern, ended, no_more, one_more, placed}
 use Rattle.fluent_syntax_parser.specs.ShortPatterns.{EndsLine, with_crlf, with_lf, with_text}
+use Rattle.fluent_syntax_parser.specs.ShortPieces.{AddsLastText, GrowsWhere, text_added, text_blank, text_empty}
+use Rattle.fluent_syntax_parser.specs.declared.short.ShortPart.{ShortPart}
 
 -- ---- where a line ends
 
@@ -134,7 +138,7 @@ module _ (edition : Edition) (t : List ℕ) where
 
 module _ (t : List ℕ) (start place to stop : ℕ) (forward : start ≤ place) where
   -- Where a line opens behind an inline blank, a blank text in it stands behind a placeable.
-  pub before_blank : (edition : Edition) (ptr : ℕ) → InlineBlank t ptr start → Stretch (is_run_place t) place to →
+  before_blank : (edition : Edition) (ptr : ℕ) → InlineBlank t ptr start → Stretch (is_run_place t) place to →
       place < to → to ≤ stop → stop ≤ length t → is_nonblank (slice_range t place stop) ≡ false → start < place
   before_blank edition ptr blank run some l within falls = elim (lt_or_same start place forward) [
     | inl before ↦ before
@@ -144,7 +148,7 @@ module _ (t : List ℕ) (start place to stop : ℕ) (forward : start ≤ place) 
   ]
 
   -- So does the end of a line that holds something, if no text stands before it.
-  pub before_line_end : (next : ℕ) → after_eol t start ≡ None → place ≡ to → EndsLine t to stop next →
+  before_line_end : (next : ℕ) → after_eol t start ≡ None → place ≡ to → EndsLine t to stop next →
       is_line_place t start ≡ true → start < place
   before_line_end next opens same line holds = elim (lt_or_same start place forward) [
     | inl before ↦ before
@@ -154,6 +158,27 @@ module _ (t : List ℕ) (start place to stop : ℕ) (forward : start ≤ place) 
         let inside = line_inside t start holds in
         absurd (omega (arith, inside, e, same, end))
   ]
+
+  module _ (edition : Edition) (ptr next : ℕ) (blank : InlineBlank t ptr start) (opens : after_eol t start ≡ None)
+      (run : Stretch (is_run_place t) place to) (line : EndsLine t to stop next) (ends : to ≤ stop)
+      (within : stop ≤ length t) (old mid new : List ShortPart) (grows : GrowsWhere (start < place) old mid) where
+    abbrev HoldsSome : Type 0
+    HoldsSome = is_line_place t start ≡ true
+
+    opened : start < place → HoldsSome
+    opened before = line_place t start opens (omega (arith, before, run.forward, ends, within))
+
+    -- with what a reader has added of its last text
+    pub line_grows : AddsLastText t place to stop mid new → GrowsWhere HoldsSome old new
+    line_grows (text_added some nonblank items) =
+        let longer = one_longer mid new _ items in
+        grows_more grows (omega (arith, longer)) (line_place t start opens (omega (arith, forward, some, ends, within)))
+    line_grows (text_blank some falls same) =
+        subst (λ ps. GrowsWhere HoldsSome old ps) (sym same)
+        (grows_alike grows opened (λ _. before_blank edition ptr blank run some ends within falls))
+    line_grows (text_empty none same) =
+        subst (λ ps. GrowsWhere HoldsSome old ps) (sym same)
+        (grows_alike grows opened (before_line_end next opens none line))
 
 -- ---- a pattern
 
