@@ -3,17 +3,17 @@ use Rattle.std.specs.Vec.{vec_len}
 use Rattle.fluent_syntax_grammar.specs.Construct.{goes_on, passed}
 use Rattle.fluent_syntax_parser.proofs.ShortMessages.{attribute_of}
 use Rattle.fluent_syntax_parser.proofs.ShortGrammar.{no_name}
-use Rattle.fluent_syntax_parser.proofs.ShortPieces.{longer_if, holds_if_changed}
+use Rattle.fluent_syntax_parser.proofs.ShortPieces.{holds_if_changed, longer_if}
 use Rattle.fluent_syntax_parser.proofs.ShortStands.{no_equals, same_filled, value_there}
 use Rattle.fluent_syntax_parser.proofs.ShortWhole.{field_of}
 use Rattle.fluent_syntax_parser.specs.declared.short.ShortPart.{ShortPart}
 use Rattle.fluent_syntax_parser.specs.ShortGrammar.{ShortPattern}
 use Rattle.fluent_syntax_parser.proofs.source.Source.short_attribute.Goals as goal
 
--- lists of other lengths
-other_list : {A : Type 0} (before after : Vec ShortPart A) (n m : ℕ) → n ≡ vec_len before → m ≡ vec_len after →
+-- Lists differ where their lengths do.
+lists_differ : {A : Type 0} (before after : Vec ShortPart A) (n m : ℕ) → n ≡ vec_len before → m ≡ vec_len after →
     (m ≡ n → ⊥) → after.items ≡ before.items → ⊥
-other_list before after n m is_before is_after other same =
+lists_differ before after n m is_before is_after other same =
     let size : length after.items ≡ length before.items = ap length same in
     other (omega (arith, is_before, is_after, size, before.ok.0, after.ok.0))
 
@@ -37,7 +37,7 @@ returns-clause-reads c =
     (goes_on c.in-Ok-expect_byte.ensures.meets
     h)))))
     read c.in_ok-push.ensures.items
-    (other_list c.push.new.self c.short_pattern.new.parts _ _ c.len-count.ensures c.len.ensures c.if-len-count.false)
+    (lists_differ c.push.new.self c.short_pattern.new.parts _ _ c.len-count.ensures c.len.ensures c.if-len-count.false)
 
 pub returns-in_default-clause-stands : goal.returns-in_default-clause-stands
 returns-in_default-clause-stands c = λ end field.
@@ -82,9 +82,9 @@ pub returns-clause-field : goal.returns-clause-field
 returns-clause-field c =
     let t = c.args.self.now.bytes.now in
     let found = rw c.in-Some.is at c.in_ok-place.ensures.pattern in
-    let other = other_list c.push.new.self c.short_pattern.new.parts _ _ c.len-count.ensures c.len.ensures
+    let changed = lists_differ c.push.new.self c.short_pattern.new.parts _ _ c.len-count.ensures c.len.ensures
     c.if-len-count.false in
-    let filled = holds_if_changed found.2 other in
+    let filled = holds_if_changed found.2 changed in
     field_of c.args.edition t c.args.start _ _ _ c.in-Ok.ensures.meets c.skip_blank_inline.ensures.blank
     c.in-Ok-expect_byte.ensures.meets true _
     (subst (λ f. ShortPattern c.args.edition t f c.in-Ok-expect_byte.behind c.in-Some.place) filled found.1)
