@@ -20,7 +20,8 @@ use Rattle.fluent_syntax_parser.proofs.ShortPieces.{more_items}
 use Rattle.fluent_syntax_parser.proofs.ShortPatterns.{line_ended, opening_flat, opening_read, run_before}
 use Rattle.fluent_syntax_parser.specs.ShortMessages.{short_element}
 use Rattle.fluent_syntax_parser.specs.ShortPatterns.{EndsBlank, EndsLine, OpensAs}
-use Rattle.fluent_syntax_parser.specs.ShortPieces.{NoTextIsLast, GathersPieces, ReadsShort, short_item, short_piece}
+use Rattle.fluent_syntax_parser.specs.ShortPieces.{AddsLastText, NoTextIsLast, GathersPieces, ReadsShort, short_item}
+use Rattle.fluent_syntax_parser.specs.ShortPieces.{short_piece, text_added, text_blank, text_empty}
 use Rattle.fluent_syntax_parser.specs.declared.short.ShortElement.{ShortElement}
 use Rattle.fluent_syntax_parser.specs.declared.short.ShortElement.TheVariants.{Text, Variable, Message, Term}
 use Rattle.fluent_syntax_parser.specs.declared.short.ShortPart.{ShortPart}
@@ -119,19 +120,17 @@ module _ (edition : Edition) (t : List ℕ) (start : ℕ) (opens : after_eol t s
         opening_flat edition t start opens _ to text_pieces ended.ends_by next ended.ends (suc n)
         (λ d. ended.flat (suc n) (run_led edition t to (w.each place (omega arith) some) w (g.flat edition n d))) lines
 
-    pub text_reads : (ptr trimmed : ℕ) (longer : List ShortPart) → InlineBlank t ptr start →
-        EndsBlank edition t next end → ((n : ℕ) → Deeper edition t in_lines n next → ⊥) →
-        trimmed ≡ trimmed_end t place stop → is_nonblank (slice_range t place stop) ≡ true →
-        longer ≡ new ++ Element (Text (record { start = place; end = trimmed })) ∷ [] →
+    text_reads : (ptr : ℕ) (longer : List ShortPart) → InlineBlank t ptr start → EndsBlank edition t next end →
+        ((n : ℕ) → Deeper edition t in_lines n next → ⊥) → is_nonblank (slice_range t place stop) ≡ true →
+        longer ≡ new ++ Element (Text (record { start = place; end = trimmed_end t place stop })) ∷ [] →
         ReadsShort edition t old ptr longer end
-    text_reads ptr trimmed longer blank lines shallow is nonblank items =
-        let last : ShortElement = Text (record { start = place; end = trimmed }) in
+    text_reads ptr longer blank lines shallow nonblank items =
+        let last : ShortElement = Text (record { start = place; end = trimmed_end t place stop }) in
         record {
           elements = g.elements ++ last ∷ [];
           items = more_items old new longer g.elements last g.items items;
           read =
-              rw (map-append (short_element (λ s. s)) g.elements (last ∷ []), is)
-              (text_read ptr blank lines nonblank);
+              rw (map-append (short_element (λ s. s)) g.elements (last ∷ [])) (text_read ptr blank lines nonblank);
           flat = λ n d. text_flat n (shallow (suc n)) (pattern_led edition t start blank d);
         }
 
@@ -147,7 +146,7 @@ module _ (edition : Edition) (t : List ℕ) (start : ℕ) (opens : after_eol t s
         let same = spelled_placed t g.elements g.ends (run' place to ∷ []) ended.ends_by falls in
         let f = rw same at read in f
 
-    pub blank_reads : (ptr : ℕ) → InlineBlank t ptr start → EndsBlank edition t next end →
+    blank_reads : (ptr : ℕ) → InlineBlank t ptr start → EndsBlank edition t next end →
         ((n : ℕ) → Deeper edition t in_lines n next → ⊥) → is_nonblank (slice_range t place stop) ≡ false →
         ReadsShort edition t old ptr new end
     blank_reads ptr blank lines shallow falls = record {
@@ -180,7 +179,7 @@ module _ (edition : Edition) (t : List ℕ) (start : ℕ) (opens : after_eol t s
         opening_flat edition t start opens _ to placed_pieces ended.ends_by next ended.ends (suc n)
         (λ d. ended.flat (suc n) (subst (λ k. Deeper edition t in_pieces (suc n) k) same (g.flat edition n d))) lines
 
-    pub placed_reads : (ptr : ℕ) → InlineBlank t ptr start → EndsBlank edition t next end →
+    placed_reads : (ptr : ℕ) → InlineBlank t ptr start → EndsBlank edition t next end →
         ((n : ℕ) → Deeper edition t in_lines n next → ⊥) → ReadsShort edition t old ptr new end
     placed_reads ptr blank lines shallow = record {
       elements = g.elements;
@@ -188,6 +187,17 @@ module _ (edition : Edition) (t : List ℕ) (start : ℕ) (opens : after_eol t s
       read = placed_read ptr blank lines;
       flat = λ n d. placed_flat n (shallow (suc n)) (pattern_led edition t start blank d);
     }
+
+  -- with what a reader has added of its last text
+  pub line_reads : (ptr : ℕ) (longer : List ShortPart) → InlineBlank t ptr start → EndsBlank edition t next end →
+      ((n : ℕ) → Deeper edition t in_lines n next → ⊥) → Stretch (is_run_place t) place to →
+      AddsLastText t place to stop new longer → ReadsShort edition t old ptr longer end
+  line_reads ptr longer blank lines shallow w (text_added some nonblank items) =
+      text_reads w some ptr longer blank lines shallow nonblank items
+  line_reads ptr longer blank lines shallow w (text_blank some falls same) =
+      subst (λ ps. ReadsShort edition t old ptr ps end) (sym same) (blank_reads w some ptr blank lines shallow falls)
+  line_reads ptr longer blank lines shallow w (text_empty none same) =
+      subst (λ ps. ReadsShort edition t old ptr ps end) (sym same) (placed_reads none ptr blank lines shallow)
 
 -- ---- a pattern that holds nothing
 

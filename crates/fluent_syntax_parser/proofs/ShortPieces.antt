@@ -2,7 +2,7 @@
 use Rattle.std.proofs.Common.{◌≡◌, ℕ, suc, ◌+◌, ◌<◌, List, [], ◌∷◌, ◌++◌, length, map, Some, true, refl, sym, ◌∙◌}
 use Rattle.std.proofs.Common.{ap, subst}
 use Rattle.std.proofs.Common.{append_assoc, arith, inl, inr}
-use Rattle.std.specs.Prelude.{slice_get, ◌==◌}
+use Rattle.std.specs.Prelude.{slice_get, ◌==◌, ◌⊎◌}
 use Rattle.std.proofs.lemmas.List.{append-nil, length-append, map-append}
 use Rattle.fluent_syntax_tree.specs.Tree.{ExpressionTree}
 use Rattle.fluent_syntax_tree.specs.declared.edition.Edition.{Edition}
@@ -20,7 +20,8 @@ use Rattle.fluent_syntax_parser.proofs.Gathers.{map_more}
 use Rattle.fluent_syntax_parser.proofs.Pieces.{placed_piece}
 use Rattle.fluent_syntax_parser.proofs.ShortPatterns.{run_before}
 use Rattle.fluent_syntax_parser.proofs.ShortReferences.{begins_no_line_end}
-use Rattle.fluent_syntax_parser.specs.ShortPieces.{GathersPieces, ReadsPlaced, short_piece}
+use Rattle.fluent_syntax_parser.specs.ShortPieces.{GathersPieces, GrowsWhere, ReadsPlaced, grown, short_piece}
+use Rattle.fluent_syntax_parser.specs.ShortPieces.{unchanged}
 use Rattle.fluent_syntax_parser.specs.declared.short.ShortElement.{ShortElement}
 use Rattle.fluent_syntax_parser.specs.declared.short.ShortElement.TheVariants.{Text}
 use Rattle.fluent_syntax_parser.specs.declared.short.ShortPart.{ShortPart}
@@ -43,6 +44,37 @@ two_longer mid new p q longer =
     let all = one_longer (mid ++ p ∷ []) new q longer in
     let first = one_longer mid (mid ++ p ∷ []) p refl in
     omega (arith, all, first)
+
+-- ---- a list that grew, or did not
+
+module _ {P : Type 0} {old new : List ShortPart} where
+  pub longer_if : GrowsWhere P old new → P → length old < length new
+  longer_if (grown longer p) holds = longer
+  longer_if (unchanged same none) holds = absurd (none holds)
+
+  pub holds_if_changed : GrowsWhere P old new → (new ≡ old → ⊥) → P
+  holds_if_changed (grown longer p) other = p
+  holds_if_changed (unchanged same none) other = absurd (other same)
+
+  -- where the one condition holds just where the other does
+  pub grows_alike : {Q : Type 0} → GrowsWhere P old new → (P → Q) → (Q → P) → GrowsWhere Q old new
+  grows_alike (grown longer p) then back = grown longer (then p)
+  grows_alike (unchanged same none) then back = unchanged same (λ q. none (back q))
+
+module _ {P Q : Type 0} {old mid new : List ShortPart} where
+  -- with one part more and more
+  pub grows_more : GrowsWhere P old mid → length mid < length new → Q → GrowsWhere Q old new
+  grows_more (grown longer p) more q = grown (omega (arith, longer, more)) q
+  grows_more (unchanged same none) more q = grown (subst (λ ps. length ps < length new) same more) q
+
+  -- twice, one after the other
+  pub grows_either : GrowsWhere P old mid → GrowsWhere Q mid new → GrowsWhere (P ⊎ Q) old new
+  grows_either (grown longer p) (grown more q) = grown (omega (arith, longer, more)) (inl p)
+  grows_either (grown longer p) (unchanged same none) =
+      grown (subst (λ ps. length old < length ps) (sym same) longer) (inl p)
+  grows_either (unchanged same none) (grown more q) = grown (subst (λ ps. length ps < length new) same more) (inr q)
+  grows_either (unchanged first none) (unchanged second neither) =
+      unchanged (second ∙ first) (λ either. elim either [ inl p ↦ none p | inr q ↦ neither q ])
 
 -- ---- a placeable
 

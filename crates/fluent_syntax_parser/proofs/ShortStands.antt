@@ -1,7 +1,7 @@
 -- The lines and patterns of short messages, where a reader looks.
 use Rattle.std.proofs.Common.{◌≡◌, ℕ, ◌<◌, ◌≤◌, List, [], length, Some, None, Bool, true, false, refl}
-use Rattle.std.proofs.Common.{arith, inl, inr, not, subst, sym}
-use Rattle.std.specs.Prelude.{slice_get, slice_range, nat_lt, ◌==◌, ◌&&◌, ◌⊎◌}
+use Rattle.std.proofs.Common.{ap, arith, inl, inr, subst, sym, ◌∙◌}
+use Rattle.std.specs.Prelude.{slice_get, slice_range, nat_lt, ◌==◌, ◌⊎◌}
 use Rattle.fluent_syntax_tree.specs.Kind.{Kind}
 use Rattle.fluent_syntax_tree.specs.declared.edition.Edition.{Edition}
 use Rattle.fluent_syntax_grammar.specs.Bytes.{equals_sign, full_stop, left_brace, lf}
@@ -13,6 +13,7 @@ use Rattle.fluent_syntax_grammar.specs.Places.{BlankBlock, InlineBlank, Stretch,
 use Rattle.fluent_syntax_grammar.specs.Places.{is_line_place}
 use Rattle.fluent_syntax_grammar.proofs.Facts.{has_inside, differs, lt_or_same}
 use Rattle.fluent_syntax_grammar.proofs.Functional.{single_block, single_stretch}
+use Rattle.fluent_syntax_grammar.proofs.Tests.{without}
 use Rattle.fluent_syntax_grammar.specs.Words.{token}
 use Rattle.fluent_syntax_grammar.proofs.FunctionalWords.{functional_token}
 use Rattle.fluent_syntax_grammar.proofs.Nesting.{from_family}
@@ -21,11 +22,15 @@ use Rattle.fluent_syntax_parser.proofs.BlankLines.{eol_there}
 use Rattle.fluent_syntax_grammar.specs.Elements.{is_nonblank}
 use Rattle.fluent_syntax_parser.proofs.ShortGrammar.{byte_read, name_end}
 use Rattle.fluent_syntax_parser.proofs.ShortPatterns.{run_nonblank}
+use Rattle.fluent_syntax_parser.proofs.ShortPieces.{grows_alike, grows_more, one_longer}
 use Rattle.fluent_syntax_parser.proofs.ShortReferences.{begins_no_line_end}
+use Rattle.fluent_syntax_parser.proofs.ShortWhole.{line_place}
 use Rattle.fluent_syntax_parser.specs.ShortGrammar.{IdentifierAt, PlacedReference, ShortAttributes, ShortField}
 use Rattle.fluent_syntax_parser.specs.ShortGrammar.{ShortLine, ShortMessage}
 use Rattle.fluent_syntax_parser.specs.ShortGrammar.{ShortPattern, ended, no_more, one_more, placed}
 use Rattle.fluent_syntax_parser.specs.ShortPatterns.{EndsLine, with_crlf, with_lf, with_text}
+use Rattle.fluent_syntax_parser.specs.ShortPieces.{AddsLastText, GrowsWhere, text_added, text_blank, text_empty}
+use Rattle.fluent_syntax_parser.specs.declared.short.ShortPart.{ShortPart}
 
 -- ---- where a line ends
 
@@ -66,14 +71,10 @@ module _ (t : List ℕ) (i end : ℕ) (run : Stretch (is_run_place t) i end) (ne
   line_goes_on there (placed {j = j} w p l) =
       (j, subst (λ k. PlacedReference t k j) (single_stretch.same i _ _ w run) p, l)
 
-no_run : (a : Bool) → (a && not true) ≡ true → ⊥
-no_run true e = cc
-no_run false e = cc
-
 -- a run that begins where a line ends is empty
 run_at_eol : (t : List ℕ) (i j : ℕ) → has_eol t i ≡ true → Stretch (is_run_place t) i j → i ≡ j
 run_at_eol t i j eol w = elim (lt_or_same i j w.forward) [
-  | inl l ↦ (let f = w.each i (omega arith) l in let g = rw eol at f in absurd (no_run _ g))
+  | inl l ↦ differs eol (without _ _ (w.each i (omega arith) l))
   | inr e ↦ e
 ]
 
@@ -135,23 +136,22 @@ module _ (edition : Edition) (t : List ℕ) where
 
 -- ---- a line that holds something
 
-module _ (t : List ℕ) (start place to stop next : ℕ) (longer : Type 0) (forward : start ≤ place)
-    (grows : start < place → longer) where
-  -- a blank text behind the last placeable
-  pub filled_before : (edition : Edition) (ptr : ℕ) → InlineBlank t ptr start → Stretch (is_run_place t) place to →
-      place < to → to ≤ stop → stop ≤ length t → is_nonblank (slice_range t place stop) ≡ false → longer
-  filled_before edition ptr blank run some l within falls = elim (lt_or_same start place forward) [
-    | inl m ↦ grows m
+module _ (t : List ℕ) (start place to stop : ℕ) (forward : start ≤ place) where
+  -- Where a line opens behind an inline blank, a blank text in it stands behind a placeable.
+  before_blank : (edition : Edition) (ptr : ℕ) → InlineBlank t ptr start → Stretch (is_run_place t) place to →
+      place < to → to ≤ stop → stop ≤ length t → is_nonblank (slice_range t place stop) ≡ false → start < place
+  before_blank edition ptr blank run some l within falls = elim (lt_or_same start place forward) [
+    | inl before ↦ before
     | inr e ↦
         let here = subst (λ p. InlineBlank t ptr p) e blank in
         differs (run_nonblank edition t place to run some ptr stop here l within) falls
   ]
 
-  -- no text behind it
-  pub filled_up_to : after_eol t start ≡ None → place ≡ to → EndsLine t to stop next → is_line_place t start ≡ true →
-      longer
-  filled_up_to opens same line holds = elim (lt_or_same start place forward) [
-    | inl m ↦ grows m
+  -- So does the end of a line that holds something, if no text stands before it.
+  before_line_end : (next : ℕ) → after_eol t start ≡ None → place ≡ to → EndsLine t to stop next →
+      is_line_place t start ≡ true → start < place
+  before_line_end next opens same line holds = elim (lt_or_same start place forward) [
+    | inl before ↦ before
     | inr e ↦
         let none : None ≡ after_eol t to = rw (← same, ← e) (sym opens) in
         let end = (text_ends t to stop next none line).0 in
@@ -159,8 +159,37 @@ module _ (t : List ℕ) (start place to stop next : ℕ) (longer : Type 0) (forw
         absurd (omega (arith, inside, e, same, end))
   ]
 
--- ---- a pattern that begins where a line ends
+  module _ (edition : Edition) (ptr next : ℕ) (blank : InlineBlank t ptr start) (opens : after_eol t start ≡ None)
+      (run : Stretch (is_run_place t) place to) (line : EndsLine t to stop next) (ends : to ≤ stop)
+      (within : stop ≤ length t) (old mid new : List ShortPart) (grows : GrowsWhere (start < place) old mid) where
+    abbrev HoldsSome : Type 0
+    HoldsSome = is_line_place t start ≡ true
 
+    opened : start < place → HoldsSome
+    opened before = line_place t start opens (omega (arith, before, run.forward, ends, within))
+
+    -- with what a reader has added of its last text
+    pub line_grows : AddsLastText t place to stop mid new → GrowsWhere HoldsSome old new
+    line_grows (text_added some nonblank items) =
+        let longer = one_longer mid new _ items in
+        grows_more grows (omega (arith, longer)) (line_place t start opens (omega (arith, forward, some, ends, within)))
+    line_grows (text_blank some falls same) =
+        subst (λ ps. GrowsWhere HoldsSome old ps) (sym same)
+        (grows_alike grows opened (λ _. before_blank edition ptr blank run some ends within falls))
+    line_grows (text_empty none same) =
+        subst (λ ps. GrowsWhere HoldsSome old ps) (sym same)
+        (grows_alike grows opened (before_line_end next opens none line))
+
+-- ---- a pattern
+
+-- Whether it holds something hangs on where it begins alone.
+pub same_filled : (edition : Edition) (t : List ℕ) (a b : Bool) (ptr j k : ℕ) → ShortPattern edition t a ptr j →
+    ShortPattern edition t b ptr k → a ≡ b
+same_filled edition t a b ptr j k p q =
+    let same = single_stretch.same ptr _ _ p.blank q.blank in
+    sym p.holds ∙ (ap (λ s. is_line_place t s) same ∙ q.holds)
+
+-- one that begins where a line ends
 pub empty_line : (edition : Edition) (t : List ℕ) (filled : Bool) (ptr start next end : ℕ) → InlineBlank t ptr start →
     Some next ≡ after_eol t start → ShortPattern edition t filled ptr end →
     (first : ℕ) × BlankBlock t next first × (family edition t).more_lines first (Read [] end)

@@ -1,12 +1,13 @@
 -- Pieces of a line that are read without a tree: texts and plain references.
-use Rattle.std.specs.Prelude.{◌≡◌, ℕ, ◌+◌, suc, ◌⊎◌, List, [], ◌∷◌, ◌++◌, None, true, map}
+use Rattle.std.specs.Prelude.{◌≡◌, ◌<◌, ℕ, ◌+◌, suc, ◌⊎◌, List, [], ◌∷◌, ◌++◌, None, true, false, length, map}
+use Rattle.std.specs.Prelude.{slice_range}
 use Rattle.fluent_syntax_tree.specs.Tree.{ExpressionTree, inline, message_reference, no_arguments, term_reference}
 use Rattle.fluent_syntax_tree.specs.Tree.{variable_reference}
 use Rattle.fluent_syntax_tree.specs.declared.edition.Edition.{Edition}
 use Rattle.fluent_syntax_tree.specs.declared.spans.Span.{Span}
 use Rattle.fluent_syntax_grammar.specs.Bytes.{right_brace}
 use Rattle.fluent_syntax_grammar.specs.Construct.{Read}
-use Rattle.fluent_syntax_grammar.specs.Elements.{Item, filled, if_any, text}
+use Rattle.fluent_syntax_grammar.specs.Elements.{Item, filled, if_any, is_nonblank, text, trimmed_end}
 use Rattle.fluent_syntax_grammar.specs.Grammar.{family, pattern, placeable}
 use Rattle.fluent_syntax_grammar.specs.Layout.{Piece, run, placed}
 use Rattle.fluent_syntax_grammar.specs.Nesting.{Deeper, in_pattern, in_pieces, in_placeable}
@@ -43,6 +44,21 @@ pub record ReadsPlaced (t : List ℕ) (i : ℕ) (x : ShortElement) (j : ℕ) : T
   pub is : short_piece x ≡ placed expression
   pub read : (edition : Edition) → placeable edition t i (Read expression j)
   pub flat : (edition : Edition) (n : ℕ) → Deeper edition t in_placeable (suc n) i → ⊥
+
+-- The list grew where the condition holds, and is as it was where it does not.
+pub data GrowsWhere (P : Type 0) (old new : List ShortPart) : Type 0 where
+  grown : length old < length new → P → GrowsWhere P old new
+  unchanged : new ≡ old → (P → ⊥) → GrowsWhere P old new
+
+-- The last text of a line, whose run goes from `place` to `to` and whose bytes end at `stop`, stands behind the parts
+-- that were there, without the spaces at its end. Where it is blank or empty, nothing does.
+pub data AddsLastText (t : List ℕ) (place to stop : ℕ) (old new : List ShortPart) : Type 0 where
+  text_added : place < to → is_nonblank (slice_range t place stop) ≡ true →
+      new ≡ old ++ Element (Text (record { start = place; end = trimmed_end t place stop })) ∷ [] →
+      AddsLastText t place to stop old new
+  text_blank : place < to → is_nonblank (slice_range t place stop) ≡ false → new ≡ old →
+      AddsLastText t place to stop old new
+  text_empty : place ≡ to → new ≡ old → AddsLastText t place to stop old new
 
 -- A text is not the last of the elements.
 abbrev pub NoTextIsLast : List ShortElement → Type 0

@@ -1,6 +1,6 @@
 //! Messages whose patterns are each one line of texts and plain references, as most are: their parts are read without a
 //! tree.
-ghost use Rattle.std.specs.Prelude.{◌≡◌, ◌<◌, ◌≤◌, ◌⊎◌, ℕ, suc, length, true, IfOk, IfSome, IsSomeAnd};
+ghost use Rattle.std.specs.Prelude.{◌≡◌, ◌<◌, ◌≤◌, ℕ, suc, length, true, IfOk, IfSome, IsSomeAnd};
 ghost use Rattle.fluent_syntax_grammar.specs.Bytes.{full_stop};
 ghost use Rattle.fluent_syntax_grammar.specs.Construct.{Read};
 ghost use Rattle.fluent_syntax_grammar.specs.Entries.{message_entry};
@@ -10,6 +10,7 @@ ghost use Rattle.fluent_syntax_grammar.specs.Words.{token};
 ghost use Rattle.fluent_syntax_parser.specs.ShortGrammar.{ShortAttributes, ShortField, ShortMessage};
 ghost use Rattle.fluent_syntax_parser.specs.ShortMessages.{ReadsAttribute, ReadsAttributes, leading_elements};
 ghost use Rattle.fluent_syntax_parser.specs.ShortMessages.{short_attributes, short_message};
+ghost use Rattle.fluent_syntax_parser.specs.ShortPieces.{GrowsWhere};
 
 use crate::source::Source;
 use fluent_syntax_tree::edition::Edition;
@@ -115,11 +116,8 @@ impl<'s> Source<'s> {
         ensures attributes { IfOk result (λ found. IfSome found (ShortAttributes edition self.now.bytes.now ptr)) }
         ensures stands { IfOk result (λ found. (end : ℕ) → ShortAttributes edition self.now.bytes.now ptr end →
             IsSomeAnd found (λ place. place ≡ end)) }
-        ensures some { IfOk result (λ found. IfSome found
-            (λ end. (parts.new.items ≡ parts.old.items) ⊎ (ptr < end))) }
-        ensures grows { IfOk result (λ found. IfSome found (λ end.
-            (length parts.old.items ≤ length parts.new.items) ×
-            (ptr < end → length parts.old.items < length parts.new.items))) }
+        ensures grows { IfOk result (λ found. IfSome found
+            (λ end. GrowsWhere (ptr < end) parts.old.items parts.new.items)) }
     {
         let mut place = ptr;
         loop {

@@ -1,10 +1,10 @@
 //! Lines of texts and plain references, read without a tree.
-ghost use Rattle.std.specs.Prelude.{◌≡◌, ◌<◌, ◌≤◌, ◌⊎◌, ℕ, Bool, None, length, true, IfOk, IfSome, IsSomeAnd};
+ghost use Rattle.std.specs.Prelude.{◌≡◌, ◌<◌, ◌≤◌, ℕ, Bool, None, length, true, IfOk, IfSome, IsSomeAnd};
 ghost use Rattle.fluent_syntax_grammar.specs.Lines.{is_run_place};
 ghost use Rattle.fluent_syntax_grammar.specs.Places.{InlineBlank, Stretch, after_eol, is_line_place};
 ghost use Rattle.fluent_syntax_parser.specs.ShortGrammar.{ShortLine, ShortPattern, ShortRest};
 ghost use Rattle.fluent_syntax_parser.specs.ShortPatterns.{EndsLine};
-ghost use Rattle.fluent_syntax_parser.specs.ShortPieces.{GathersPieces, ReadsShort};
+ghost use Rattle.fluent_syntax_parser.specs.ShortPieces.{AddsLastText, GathersPieces, GrowsWhere, ReadsShort};
 
 use crate::short::{ShortElement, ShortPart};
 use crate::source::Source;
@@ -31,11 +31,8 @@ impl<'s> Source<'s> {
             EndsLine t last.1 stop next → ShortLine t ptr next)) }
         ensures stands { let t = self.now.bytes.now in IfOk result (λ found. (next : ℕ) → ShortLine t ptr next →
             IsSomeAnd found (λ last. (stop : ℕ) × EndsLine t last.1 stop next)) }
-        ensures some { IfOk result (λ found. IfSome found
-            (λ last. (parts.new.items ≡ parts.old.items) ⊎ (ptr < last.0))) }
-        ensures grows { IfOk result (λ found. IfSome found (λ last.
-            (length parts.old.items ≤ length parts.new.items) ×
-            (ptr < last.0 → length parts.old.items < length parts.new.items))) }
+        ensures grows { IfOk result (λ found. IfSome found
+            (λ last. GrowsWhere (ptr < last.0) parts.old.items parts.new.items)) }
     {
         let mut start = ptr;
         loop {
@@ -52,6 +49,35 @@ impl<'s> Source<'s> {
             parts.push(ShortPart::Element(element))?;
             start = next;
         }
+    }
+
+    /// Adds the last text of a line without the spaces at its end, if it is not blank. Its run goes from `place` to
+    /// `to`, and its bytes to `stop`, which is behind the line's LF, if that ends it.
+    fn push_last_text(
+        &self,
+        parts: &mut Vec<ShortPart>,
+        place: usize,
+        to: usize,
+        stop: usize,
+    ) -> Result<(), AllocError>
+        requires { place ≤ to }
+        ensures { IfOk result
+            (λ _. AddsLastText self.now.bytes.now place to stop parts.old.items parts.new.items) }
+    {
+        if place < to {
+            let last = Span {
+                start: place,
+                end: stop,
+            };
+            if self.is_nonblank(last) {
+                let text = Span {
+                    start: place,
+                    end: self.trimmed_end(place, stop),
+                };
+                parts.push(ShortPart::Element(ShortElement::Text(text)))?;
+            }
+        }
+        Ok(())
     }
 
     /// Reads a pattern that opens at a place, where no line ends, and whose later lines are blank: its elements, behind
@@ -71,11 +97,8 @@ impl<'s> Source<'s> {
         ensures rest { IfOk result (λ found. IfSome found (ShortRest edition self.now.bytes.now start)) }
         ensures stands { IfOk result (λ found. (end : ℕ) → ShortRest edition self.now.bytes.now start end →
             IsSomeAnd found (λ place. place ≡ end)) }
-        ensures some { IfOk result (λ found. IfSome found
-            (λ _. (parts.new.items ≡ parts.old.items) ⊎ (start < length self.now.bytes.now))) }
-        ensures filled { let t = self.now.bytes.now in IfOk result (λ found. IfSome found (λ end. (ptr : ℕ) →
-            InlineBlank t ptr start → is_line_place t start ≡ true →
-            length parts.old.items < length parts.new.items)) }
+        ensures grows { let t = self.now.bytes.now in IfOk result (λ found. IfSome found (λ _. (ptr : ℕ) →
+            InlineBlank t ptr start → GrowsWhere (is_line_place t start ≡ true) parts.old.items parts.new.items)) }
     {
         let Some((place, to)) = self.short_pieces(parts, start)? else {
             return Ok(None);
@@ -86,19 +109,7 @@ impl<'s> Source<'s> {
         let Some(end) = self.end_behind_blank_lines(edition, next) else {
             return Ok(None);
         };
-        if place < to {
-            let last = Span {
-                start: place,
-                end: stop,
-            };
-            if self.is_nonblank(last) {
-                let text = Span {
-                    start: place,
-                    end: self.trimmed_end(place, stop),
-                };
-                parts.push(ShortPart::Element(ShortElement::Text(text)))?;
-            }
-        }
+        self.push_last_text(parts, place, to, stop)?;
         Ok(Some(end))
     }
 
@@ -116,12 +127,9 @@ impl<'s> Source<'s> {
         ensures within { IfOk result (λ found. IfSome found
             (λ end. (ptr ≤ end) × (end ≤ length self.now.bytes.now))) }
         ensures pattern { let t = self.now.bytes.now in IfOk result (λ found. IfSome found (λ end. (filled : Bool) ×
-            ShortPattern edition t filled ptr end × ((parts.new.items ≡ parts.old.items) ⊎ (filled ≡ true)))) }
+            ShortPattern edition t filled ptr end × GrowsWhere (filled ≡ true) parts.old.items parts.new.items)) }
         ensures stands { IfOk result (λ found. (filled : Bool) (end : ℕ) →
             ShortPattern edition self.now.bytes.now filled ptr end → IsSomeAnd found (λ place. place ≡ end)) }
-        ensures filled { let t = self.now.bytes.now in IfOk result (λ found. IfSome found (λ end. (start : ℕ) →
-            InlineBlank t ptr start → is_line_place t start ≡ true →
-            length parts.old.items < length parts.new.items)) }
     {
         let start = self.skip_blank_inline(ptr);
         match self.eol_end(start) {

@@ -8,7 +8,10 @@ use Rattle.fluent_syntax_parser.proofs.Shallows.{not_first}
 use Rattle.fluent_syntax_grammar.proofs.Facts.{equal}
 use Rattle.fluent_syntax_parser.proofs.ShortGrammar.{no_name}
 use Rattle.fluent_syntax_parser.proofs.ShortMessages.{message_of}
+use Rattle.fluent_syntax_parser.proofs.ShortPieces.{grows_either, longer_if, holds_if_changed}
 use Rattle.fluent_syntax_parser.proofs.ShortStands.{message_attributes, message_holds, message_value, no_equals}
+use Rattle.fluent_syntax_parser.proofs.ShortStands.{same_filled}
+use Rattle.fluent_syntax_parser.proofs.ShortWhole.{field_of}
 use Rattle.fluent_syntax_parser.specs.declared.short.ShortPart.TheVariants.{Element}
 use Rattle.fluent_syntax_parser.proofs.source.Source.get_short_message.Goals as goal
 
@@ -47,6 +50,7 @@ returns-clause-flat c =
 
 pub returns-clause-short : goal.returns-clause-short
 returns-clause-short c =
+    let t = c.args.self.now.bytes.now in
     let found = rw c.in-Some.is at c.in_ok-line.ensures.pattern in
     let list = rw c.in-Some-2.is at c.in_ok-place.ensures in
     let parts = c.short_attributes.new.parts in
@@ -56,24 +60,11 @@ returns-clause-short c =
       filled = found.0;
       line = _;
       place = _;
-      field = record {
-        end = _;
-        sign = _;
-        behind = _;
-        name = c.in-Ok.ensures.meets;
-        blank = c.skip_blank_inline.ensures.blank;
-        equals = c.in-Ok-expect_byte.ensures.meets;
-        value = found.1;
-      };
+      field = field_of c.args.edition t c.args.start _ _ _ c.in-Ok.ensures.meets c.skip_blank_inline.ensures.blank
+          c.in-Ok-expect_byte.ensures.meets _ _ found.1;
       block = c.skip_blank_block.ensures.blank;
       attributes = list.attributes;
-      some = elim list.some [
-        | inr forward ↦ inr forward
-        | inl none ↦ elim found.2 [
-          | inl same ↦ absurd (any (none ∙ (same ∙ c.clear.ensures.items)))
-          | inr filled ↦ inl filled
-        ]
-      ];
+      some = holds_if_changed (grows_either found.2 list.grows) (λ same. any (same ∙ c.clear.ensures.items));
     }
 
 pub returns-in_default-clause-stands : goal.returns-in_default-clause-stands
@@ -115,18 +106,15 @@ returns-then-is_empty-clause-stands c = λ end m.
     let attributes = message_attributes c.args.edition t c.args.start end m _ _ same c.skip_blank_block.ensures.blank in
     let list = rw c.in-Some-2.is at c.in_ok-place.ensures in
     let last = list.stands end attributes in
-    let grows = list.grows in
+    let found = line.pattern in
+    let filled = same_filled c.args.edition t _ _ _ _ _ found.1 value in
     let parts = c.short_attributes.new.parts in
     let size : length parts.items ≡ vec_len parts = omega (arith, parts.ok.0) in
     let none = equal (vec_len parts) 0 (sym c.if-is_empty.ensures) in
-    elim (message_holds c.args.edition t c.args.start end m _ _ same c.skip_blank_block.ensures.blank) [
-      | inl filled ↦
-          let longer = line.filled value.start value.blank (value.holds ∙ filled) in
-          absurd (omega (arith, grows.0, longer, size, none))
-      | inr forward ↦
-          let longer = grows.1 (omega (arith, forward, last)) in
-          absurd (omega (arith, longer, size, none))
-    ]
+    let holds = message_holds c.args.edition t c.args.start end m _ _ same c.skip_blank_block.ensures.blank in
+    let longer = longer_if (grows_either found.2 list.grows)
+    (elim holds [ inl holds ↦ inl (filled ∙ holds) | inr forward ↦ inr (omega (arith, forward, last)) ]) in
+    absurd (omega (arith, longer, size, none))
 
 pub returns-clause-stands : goal.returns-clause-stands
 returns-clause-stands c = λ end m.

@@ -1,11 +1,21 @@
-use Rattle.std.proofs.Common.{◌≡◌, ap, arith, inl, inr, length, refl, subst, true}
+use Rattle.std.proofs.Common.{◌≡◌, ℕ, Vec, ap, arith, length, refl, subst, true}
 use Rattle.std.specs.Vec.{vec_len}
 use Rattle.fluent_syntax_grammar.specs.Construct.{goes_on, passed}
 use Rattle.fluent_syntax_parser.proofs.ShortMessages.{attribute_of}
 use Rattle.fluent_syntax_parser.proofs.ShortGrammar.{no_name}
-use Rattle.fluent_syntax_parser.proofs.ShortStands.{no_equals, value_there}
+use Rattle.fluent_syntax_parser.proofs.ShortPieces.{holds_if_changed, longer_if}
+use Rattle.fluent_syntax_parser.proofs.ShortStands.{no_equals, same_filled, value_there}
+use Rattle.fluent_syntax_parser.proofs.ShortWhole.{field_of}
+use Rattle.fluent_syntax_parser.specs.declared.short.ShortPart.{ShortPart}
 use Rattle.fluent_syntax_parser.specs.ShortGrammar.{ShortPattern}
 use Rattle.fluent_syntax_parser.proofs.source.Source.short_attribute.Goals as goal
+
+-- Lists differ where their lengths do.
+lists_differ : {A : Type 0} (before after : Vec ShortPart A) (n m : ℕ) → n ≡ vec_len before → m ≡ vec_len after →
+    (m ≡ n → ⊥) → after.items ≡ before.items → ⊥
+lists_differ before after n m is_before is_after other same =
+    let size : length after.items ≡ length before.items = ap length same in
+    other (omega (arith, is_before, is_after, size, before.ok.0, after.ok.0))
 
 pub returns-clause-reads : goal.returns-clause-reads
 returns-clause-reads c =
@@ -27,11 +37,7 @@ returns-clause-reads c =
     (goes_on c.in-Ok-expect_byte.ensures.meets
     h)))))
     read c.in_ok-push.ensures.items
-    (λ same.
-    let size : length new ≡ length mid = ap length same in
-    let longer : length new ≡ vec_len c.short_pattern.new.parts = omega (arith, c.short_pattern.new.parts.ok.0) in
-    let shorter : length mid ≡ vec_len c.push.new.self = omega (arith, c.push.new.self.ok.0) in
-    c.if-len-count.false (omega (arith, c.len.ensures, c.len-count.ensures, size, longer, shorter)))
+    (lists_differ c.push.new.self c.short_pattern.new.parts _ _ c.len-count.ensures c.len.ensures c.if-len-count.false)
 
 pub returns-in_default-clause-stands : goal.returns-in_default-clause-stands
 returns-in_default-clause-stands c = λ end field.
@@ -58,8 +64,8 @@ returns-then-len-count-clause-stands c = λ end field.
     let new = c.short_pattern.new.parts in
     let value = value_there c.args.edition t true c.args.start end _ _ c.in-Ok.ensures.meets
     c.skip_blank_inline.ensures.blank field _ c.in-Ok-expect_byte.ensures.meets in
-    let filled = rw c.in-Some.is at c.in_ok-place.ensures.filled in
-    let longer = filled value.start value.blank value.holds in
+    let found = rw c.in-Some.is at c.in_ok-place.ensures.pattern in
+    let longer = longer_if found.2 (same_filled c.args.edition t _ _ _ _ _ found.1 value) in
     let all : length new.items ≡ vec_len new = omega (arith, new.ok.0) in
     let before : length mid.items ≡ vec_len mid = omega (arith, mid.ok.0) in
     absurd (omega (arith, c.len.ensures, c.len-count.ensures, c.if-len-count.true, all, before, longer))
@@ -75,23 +81,10 @@ returns-clause-stands c = λ end field.
 pub returns-clause-field : goal.returns-clause-field
 returns-clause-field c =
     let t = c.args.self.now.bytes.now in
-    let mid = c.push.new.self in
-    let new = c.short_pattern.new.parts in
     let found = rw c.in-Some.is at c.in_ok-place.ensures.pattern in
-    let filled : found.0 ≡ true = elim found.2 [
-      | inl same ↦
-          let size : length new.items ≡ length mid.items = ap length same in
-          let longer : length new.items ≡ vec_len new = omega (arith, new.ok.0) in
-          let shorter : length mid.items ≡ vec_len mid = omega (arith, mid.ok.0) in
-          absurd (c.if-len-count.false (omega (arith, c.len.ensures, c.len-count.ensures, size, longer, shorter)))
-      | inr filled ↦ filled
-    ] in
-    record {
-      end = _;
-      sign = _;
-      behind = _;
-      name = c.in-Ok.ensures.meets;
-      blank = c.skip_blank_inline.ensures.blank;
-      equals = c.in-Ok-expect_byte.ensures.meets;
-      value = subst (λ f. ShortPattern c.args.edition t f c.in-Ok-expect_byte.behind c.in-Some.place) filled found.1;
-    }
+    let changed = lists_differ c.push.new.self c.short_pattern.new.parts _ _ c.len-count.ensures c.len.ensures
+    c.if-len-count.false in
+    let filled = holds_if_changed found.2 changed in
+    field_of c.args.edition t c.args.start _ _ _ c.in-Ok.ensures.meets c.skip_blank_inline.ensures.blank
+    c.in-Ok-expect_byte.ensures.meets true _
+    (subst (λ f. ShortPattern c.args.edition t f c.in-Ok-expect_byte.behind c.in-Some.place) filled found.1)

@@ -1,10 +1,11 @@
-use Rattle.std.proofs.Common.{ℕ, arith, inr, refl, subst, sym}
+use Rattle.std.proofs.Common.{ℕ, arith, refl, subst, sym}
 use Rattle.fluent_syntax_grammar.specs.Bytes.{full_stop}
 use Rattle.fluent_syntax_grammar.specs.Construct.{goes_on, passed, stops}
 use Rattle.fluent_syntax_grammar.specs.Entries as entries
 use Rattle.fluent_syntax_grammar.proofs.Shallow.{attribute_stuck, attributes_stuck}
 use Rattle.fluent_syntax_parser.proofs.ShortGrammar.{byte_refused}
 use Rattle.fluent_syntax_parser.proofs.ShortMessages.{and_attribute, no_attribute_more}
+use Rattle.fluent_syntax_parser.proofs.ShortPieces.{grows_more}
 use Rattle.fluent_syntax_parser.proofs.ShortStands.{attribute_there, no_attribute_there}
 use Rattle.fluent_syntax_parser.specs.ShortGrammar.{ShortAttributes, no_more, one_more}
 use Rattle.fluent_syntax_parser.proofs.source.Source.short_attributes.Goals as goal
@@ -15,7 +16,8 @@ returns-in_default-clause-reads c =
     let edition = c.args.edition in
     let mark = c.in_default.ensures.meets _ _ _ (refl, refl, refl) in
     let blank = c.skip_blank_inline.ensures.blank in
-    no_attribute_more edition t _ _ _ _ c.loop-start.invariant.gathered (entries.no_more (goes_on (passed blank) (stops mark)))
+    no_attribute_more edition t _ _ _ _ c.loop-start.invariant.gathered
+    (entries.no_more (goes_on (passed blank) (stops mark)))
     (λ n d.
     attribute_stuck edition t _ _ _ (goes_on (passed blank) (stops mark))
     (attributes_stuck edition t _ _ _ (goes_on (passed blank) (stops mark)) d))
@@ -39,9 +41,7 @@ loop-start-preserved c =
           and_attribute c.args.edition t _ _ _ _ inv.gathered _ _ (read.reads _ _ blank mark.meets);
       attributes = λ end rest. inv.attributes end (one_more blank mark.meets read.field rest);
       stands = stands;
-      moved = inr (omega (arith, inv.forward, forward, mark.within.0, read.within.0));
-      grows = omega (arith, inv.grows, read.grows);
-      some = λ l. omega (arith, inv.grows, read.grows);
+      grows = grows_more inv.grows read.grows (omega (arith, inv.forward, forward, mark.within.0, read.within.0));
     }
 
 pub returns-in_default-clause-attributes : goal.returns-in_default-clause-attributes

@@ -1,7 +1,7 @@
-use Rattle.std.proofs.Common.{◌≡◌, ◌<◌, ◌≤◌, ◌-◌, ℕ, length}
-use Rattle.std.specs.Prelude.{◌⊎◌}
+use Rattle.std.proofs.Common.{◌<◌, ◌≤◌, ◌-◌, ℕ, length}
 use Rattle.fluent_syntax_parser.specs.ShortGrammar.{ShortAttributes}
 use Rattle.fluent_syntax_parser.specs.ShortMessages.{GathersAttributes}
+use Rattle.fluent_syntax_parser.specs.ShortPieces.{GrowsWhere}
 use Rattle.fluent_syntax_parser.proofs.source.Source.short_attributes.Given as goal
 
 abbrev pub invariant-loop-start : goal.invariant-loop-start
@@ -13,9 +13,7 @@ invariant-loop-start l = record {
       ShortAttributes l.edition l.self.bytes.now l.ptr end;
   stands : (end : ℕ) → ShortAttributes l.edition l.self.bytes.now l.ptr end →
       ShortAttributes l.edition l.self.bytes.now l.place end;
-  moved : (l.parts.items ≡ l.fn.parts.items) ⊎ (l.ptr < l.place);
-  grows : length l.fn.parts.items ≤ length l.parts.items;
-  some : l.ptr < l.place → length l.fn.parts.items < length l.parts.items;
+  grows : GrowsWhere (l.ptr < l.place) l.fn.parts.items l.parts.items;
 }
 
 abbrev pub decreases-loop-start : goal.decreases-loop-start

@@ -1,10 +1,9 @@
-use Rattle.std.proofs.Common.{◌≡◌, inl, inr, refl, subst, sym, true}
-use Rattle.fluent_syntax_grammar.specs.Places.{is_line_place}
-use Rattle.fluent_syntax_grammar.proofs.Functional.{single_stretch}
+use Rattle.std.proofs.Common.{refl, sym}
 use Rattle.fluent_syntax_parser.proofs.ShortLines.{empty_reads}
 use Rattle.fluent_syntax_parser.proofs.ShortStands.{empty_line}
-use Rattle.fluent_syntax_parser.proofs.ShortWhole.{empty_short_line, line_place, of_both, of_found, pattern_of}
+use Rattle.fluent_syntax_parser.proofs.ShortWhole.{empty_short_line, no_line_place, of_both, of_found, pattern_of}
 use Rattle.fluent_syntax_parser.proofs.ShortWhole.{rest_of}
+use Rattle.fluent_syntax_parser.specs.ShortPieces.{unchanged}
 use Rattle.fluent_syntax_parser.proofs.source.Source.short_pattern.Goals as goal
 
 pub returns-in-Some-clause-reads : goal.returns-in-Some-clause-reads
@@ -22,32 +21,16 @@ returns-in-Some-clause-stands c = λ filled end pattern.
 pub returns-in-Some-clause-pattern : goal.returns-in-Some-clause-pattern
 returns-in-Some-clause-pattern c =
     let t = c.args.self.now.bytes.now in
-    of_found (λ end left.
-    let line = empty_short_line t _ left.0 left.2 in
-    let rest = rest_of c.args.edition t _ left.0 end line (left.1, left.3, left.4) in
-    (_, pattern_of c.args.edition t c.args.ptr _ end c.skip_blank_inline-start.ensures.blank rest, inl refl))
+    of_found (λ end (next, first, eol, block, lines).
+    let rest = rest_of c.args.edition t _ next end (empty_short_line t _ next eol) (first, block, lines) in
+    let pattern = pattern_of c.args.edition t c.args.ptr _ end c.skip_blank_inline-start.ensures.blank rest in
+    (_, pattern, unchanged refl (no_line_place t _ next eol)))
     c.end_without_text.result c.end_without_text.ensures.left
 
 pub returns-in-None-clause-pattern : goal.returns-in-None-clause-pattern
 returns-in-None-clause-pattern c =
     let t = c.args.self.now.bytes.now in
-    let opens = sym c.in-None.ensures.eol in
-    of_both (λ end rest some. (
-      _,
-      pattern_of c.args.edition t c.args.ptr _ end c.skip_blank_inline-start.ensures.blank rest,
-      elim some [
-        | inl same ↦ inl same
-        | inr inside ↦ inr (line_place t _ opens inside)
-      ],
-    ))
-    c.short_line.result c.short_line.ensures.rest c.short_line.ensures.some
-
-pub returns-in-None-clause-filled : goal.returns-in-None-clause-filled
-returns-in-None-clause-filled c =
-    let t = c.args.self.now.bytes.now in
-    let here = c.skip_blank_inline-start.ensures.blank in
-    let filled = c.short_line.ensures.filled in
-    of_both (λ end longer _. λ start blank holds.
-    let same = single_stretch.same c.args.ptr start _ blank here in
-    longer c.args.ptr here (subst (λ k. is_line_place t k ≡ true) same holds))
-    c.short_line.result filled filled
+    let blank = c.skip_blank_inline-start.ensures.blank in
+    of_both (λ end rest grows.
+    (_, pattern_of c.args.edition t c.args.ptr _ end blank rest, grows c.args.ptr blank))
+    c.short_line.result c.short_line.ensures.rest c.short_line.ensures.grows

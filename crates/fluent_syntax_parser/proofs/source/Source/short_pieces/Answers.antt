@@ -1,5 +1,6 @@
-use Rattle.std.proofs.Common.{◌≡◌, ◌<◌, ℕ, arith, inr, subst, sym}
-use Rattle.fluent_syntax_parser.proofs.ShortPieces.{and_placed, and_text_and_placed, one_longer, two_longer}
+use Rattle.std.proofs.Common.{◌≡◌, ◌<◌, ℕ, arith, subst, sym}
+use Rattle.fluent_syntax_parser.proofs.ShortPieces.{and_placed, and_text_and_placed, grows_more, one_longer}
+use Rattle.fluent_syntax_parser.proofs.ShortPieces.{two_longer}
 use Rattle.fluent_syntax_parser.proofs.ShortStands.{line_ends, line_goes_on}
 use Rattle.fluent_syntax_parser.specs.ShortGrammar.{ShortLine, ended, placed}
 use Rattle.fluent_syntax_parser.proofs.source.Source.short_pieces.Goals.{then-start-end+in_ok-push, else-start-end}
@@ -31,7 +32,7 @@ loop-ptr-preserved c =
     let forward = run.forward in
     let line : (next : ℕ) → ShortLine t c.in-Some.next next → ShortLine t c.args.ptr next = λ next rest.
     inv.line next (placed run read.placed rest) in
-    let moved : c.args.ptr < c.in-Some.next = omega (arith, inv.forward, forward, read.within.0) in
+    let after : c.args.ptr < c.in-Some.next = omega (arith, inv.forward, forward, read.within.0) in
     let stands : (next : ℕ) → ShortLine t c.args.ptr next → ShortLine t c.in-Some.next next = λ next line.
     let found = line_goes_on t _ _ run next brace (inv.stands next line) in
     subst (λ k. ShortLine t k next) (sym (read.stands found.0 found.1)) found.2 in
@@ -45,9 +46,7 @@ loop-ptr-preserved c =
             pieces = and_text_and_placed t old _ _ _ _ _ _ inv.pieces brace _ read.reads run w.if-start-end.true items;
             line = line;
             stands = stands;
-            moved = inr moved;
-            grows = omega (arith, inv.grows, longer);
-            some = λ l. omega (arith, inv.grows, longer);
+            grows = grows_more inv.grows (omega (arith, longer)) after;
           }
       | else-start-end w ↦
           let same : c.loop-ptr.start ≡ c.run_end-end.result = omega (arith, forward, w.if-start-end.false) in
@@ -59,8 +58,6 @@ loop-ptr-preserved c =
             pieces = and_placed t old _ _ _ _ _ _ inv.pieces brace _ read.reads same items;
             line = line;
             stands = stands;
-            moved = inr moved;
-            grows = omega (arith, inv.grows, longer);
-            some = λ l. omega (arith, inv.grows, longer);
+            grows = grows_more inv.grows (omega (arith, longer)) after;
           }
     ]
