@@ -77,7 +77,7 @@ one_more t n false l e p = record {
   character = ap (λ m. m + utf16_units (slice_index t n)) p.character ∙ sym (range_more t p.start n p.before l);
 }
 
-pub is_place : (t : List ℕ) (n : ℕ) → n ≤ length t → IsPlace t n (place_at t n)
+is_place : (t : List ℕ) (n : ℕ) → n ≤ length t → IsPlace t n (place_at t n)
 is_place t zero l = record {
   start = 0;
   before = omega arith;

@@ -32,7 +32,7 @@ same_place (Some r) pos fault f same e =
     cc
 
 -- an error begins where the fault begins that it tells of
-pub place_told : (e : ParserError) (f : Fault) → fault_of e ≡ Some f → e.pos.start ≡ f.pos.start
+place_told : (e : ParserError) (f : Fault) → fault_of e ≡ Some f → e.pos.start ≡ f.pos.start
 place_told e f told = same_place e.slice e.pos.start (λ slice. record {
   kind = kind_of e.kind;
   pos = record { start = e.pos.start; end = e.pos.end };
@@ -91,10 +91,10 @@ module _ (t : List ℕ) where
     given_in_text tiles (Err Memory) up given = tt
 
     module _ (edition : Edition) (result : Result (Resource S) (ParseFault S)) where
-      pub errors_in_text : AnswersTiling text whole edition t result → ErrorsInText t result
+      errors_in_text : AnswersTiling text whole edition t result → ErrorsInText t result
       errors_in_text (tiles, tiling, given) = given_in_text tiles result (errors_ascend edition t tiles tiling) given
 
-      pub runtime_errors_in_text : AnswersRuntimeTiling text whole edition t result → ErrorsInText t result
+      runtime_errors_in_text : AnswersRuntimeTiling text whole edition t result → ErrorsInText t result
       runtime_errors_in_text (tiles, tiling, given) =
           given_in_text tiles result (runtime_errors_ascend edition t tiles tiling) given
 

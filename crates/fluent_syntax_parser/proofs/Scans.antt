@@ -13,10 +13,10 @@ module _ (t : List ℕ) (test : ℕ → Bool) (i : ℕ) (within : i ≤ length t
   abbrev pub rest : List ℕ
   rest = take (length t - i) (drop i t)
 
-  pub length_rest : length rest ≡ length t - i
+  length_rest : length rest ≡ length t - i
   length_rest = omega (arith, length-take {A = ℕ}, length-drop {A = ℕ})
 
-  pub at_rest : (k : ℕ) → i + k < length t → get_or rest k 0 ≡ get_or t (i + k) 0
+  at_rest : (k : ℕ) → i + k < length t → get_or rest k 0 ≡ get_or t (i + k) 0
   at_rest k l =
       let h : k < length t - i = omega arith in get_or-take (length t - i) (drop i t) k 0 h ∙ get_or-drop i t k 0
 
@@ -43,7 +43,7 @@ module _ (t : List ℕ) (test : ℕ → Bool) (i : ℕ) (within : i ≤ length t
   ends_text = rw (slice_get_past t (length t) (omega arith)) refl
 
   -- the search has found nothing
-  pub scanned_all : Nowhere (Passes test rest) 0 (length rest) → Word t (λ b. not (test b)) i (length t)
+  scanned_all : Nowhere (Passes test rest) 0 (length rest) → Word t (λ b. not (test b)) i (length t)
   scanned_all none =
       let e = length_rest in
       record {
@@ -53,7 +53,7 @@ module _ (t : List ℕ) (test : ℕ → Bool) (i : ℕ) (within : i ≤ length t
       }
 
   -- the search has found a byte
-  pub scanned_to : (len : ℕ) → NoneBefore (Passes test rest) 0 (length rest) len → Passes test rest len →
+  scanned_to : (len : ℕ) → NoneBefore (Passes test rest) 0 (length rest) len → Passes test rest len →
       Word t (λ b. not (test b)) i (i + len)
   scanned_to len before here =
       let e = length_rest in

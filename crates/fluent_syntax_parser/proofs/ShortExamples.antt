@@ -73,7 +73,7 @@ attribute = record {
   };
 }
 
-pub with_an_attribute : ShortMessage One text 0 17
+with_an_attribute : ShortMessage One text 0 17
 with_an_attribute = record {
   filled = true;
   line = 10;

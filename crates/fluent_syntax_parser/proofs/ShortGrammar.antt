@@ -30,7 +30,7 @@ module _ (t : List ℕ) (i : ℕ) where
   no_letter_no_name j none name =
       no_name _ i (i + 1) j (goes_on at_place (goes_on (chosen given) (second none (failed refl)))) name
 
-  pub token_end : (b j : ℕ) → has_byte t b i ≡ true → token t b i (Read tt j) → j ≡ i + 1
+  token_end : (b j : ℕ) → has_byte t b i ≡ true → token t b i (Read tt j) → j ≡ i + 1
   token_end b j there a = let same = (functional_token t b).same i _ _ a (present t i b there) in cc
 
   pub no_token : (b : ℕ) (kind : Kind) (from to : ℕ) → has_byte t b i ≡ true → token t b i (Refused kind from to) → ⊥

@@ -28,7 +28,7 @@ byte_differs a c e b same = grind (arith, nat_tests)
 
 module _ (t : List ℕ) (i : ℕ) where
   -- where one byte stands, no other does
-  pub no_other_byte : (a c : ℕ) → (a == c) ≡ false → has_byte t a i ≡ true → has_byte t c i ≡ false
+  no_other_byte : (a c : ℕ) → (a == c) ≡ false → has_byte t a i ≡ true → has_byte t c i ≡ false
   no_other_byte a c e = excludes (λ b. b == a) (λ b. b == c) _ (byte_differs a c e)
 
   -- where a byte stands that begins no line end, none begins

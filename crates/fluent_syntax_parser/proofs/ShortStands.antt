@@ -78,7 +78,7 @@ run_at_eol t i j eol w = elim (lt_or_same i j w.forward) [
   | inr e ↦ e
 ]
 
-pub line_at_eol : (t : List ℕ) (i k next : ℕ) → Some k ≡ after_eol t i → ShortLine t i next → k ≡ next
+line_at_eol : (t : List ℕ) (i k next : ℕ) → Some k ≡ after_eol t i → ShortLine t i next → k ≡ next
 line_at_eol t i k next e (ended {to = to} {stop = stop} w ends) =
     let eol = eol_there (has_byte t lf i) _ i k (sym e) in
     let same = run_at_eol t i to eol w in

@@ -18,7 +18,7 @@ use Rattle.fluent_syntax_parser.specs.declared.fault.Fault.TheVariants as fault
 use Rattle.fluent_syntax_parser.specs.declared.fault.Refusal.{Refusal}
 
 -- reading fails where the refusal says
-pub fails_there : (t : List ℕ) (f : Fault) (place : ℕ) →
+fails_there : (t : List ℕ) (f : Fault) (place : ℕ) →
     failing_place (kind_at t f place) (from_of f place) (to_of f place) ≡ place
 fails_there t (fault.MessageField name) place = refl
 fails_there t f place = refl
