@@ -1,4 +1,4 @@
--- Messages whose patterns are each one line of texts and plain references.
+-- What the readers of short messages put together is what the grammar reads: attributes, their list, the message.
 use Rattle.std.proofs.Common.{◌≡◌, ℕ, zero, suc, ◌<◌, true, false, List, [], ◌∷◌, ◌++◌, Some, map, refl, ◌∙◌, ap}
 use Rattle.std.proofs.Common.{append_assoc, arith}
 use Rattle.std.specs.Prelude.{◌==◌, slice_get}
