@@ -10,10 +10,10 @@ ghost use Rattle.fluent_syntax_tree.specs.Spans.{bytes_at};
 ghost use Rattle.fluent_syntax_tree.specs.View.{resource_view};
 
 use crate::parser::{Edition, ParseFault, Result, Slice, parse};
-pub use fluent_syntax_joined::joined;
-pub use fluent_syntax_laws::{
+pub use fluent_syntax_grammar::{
     formats_again, reads_back, reads_readable, unique_reading, written_apart,
 };
+pub use fluent_syntax_joined::joined;
 pub use fluent_syntax_rules::{is_canonical, is_readable};
 use fluent_syntax_tree::ast::Resource;
 pub use fluent_syntax_tree::laws::same_texts;

@@ -49,17 +49,17 @@ impl Ending {
     {
         match self {
             Ending::Exited | Ending::Left => "",
-            Ending::Input => "ftl_lsp: input failed",
-            Ending::Memory => "ftl_lsp: no memory",
-            Ending::Output => "ftl_lsp: output failed",
-            Ending::Closed => "ftl_lsp: the input ended without exit",
-            Ending::Cut => "ftl_lsp: the input ended inside a message",
+            Ending::Input => "ftl lsp: input failed",
+            Ending::Memory => "ftl lsp: no memory",
+            Ending::Output => "ftl lsp: output failed",
+            Ending::Closed => "ftl lsp: the input ended without exit",
+            Ending::Cut => "ftl lsp: the input ended inside a message",
             Ending::Refused(FrameFault::LongHeader) => {
-                "ftl_lsp: a header has more than 4096 bytes"
+                "ftl lsp: a header has more than 4096 bytes"
             }
-            Ending::Refused(FrameFault::NoLength) => "ftl_lsp: a header has no Content-Length",
+            Ending::Refused(FrameFault::NoLength) => "ftl lsp: a header has no Content-Length",
             Ending::Refused(FrameFault::LongBody) => {
-                "ftl_lsp: a message has more than 67108864 bytes"
+                "ftl lsp: a message has more than 67108864 bytes"
             }
         }
     }

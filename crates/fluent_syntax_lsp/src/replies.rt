@@ -28,7 +28,7 @@ pub fn capabilities(alloc: Global) -> Result<Value, AllocError> {
             "documentFormattingProvider": true,
             "foldingRangeProvider": true
         },
-        "serverInfo": {"name": "ftl_lsp"}
+        "serverInfo": {"name": "ftl"}
     })
 }
 

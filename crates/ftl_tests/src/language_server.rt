@@ -182,25 +182,25 @@ type EndingRow = (Ending, u8, &'static str);
 const ENDINGS: [EndingRow; 10] = [
     (Ending::Exited, 0, ""),
     (Ending::Left, 1, ""),
-    (Ending::Input, 3, "ftl_lsp: input failed"),
-    (Ending::Memory, 4, "ftl_lsp: no memory"),
-    (Ending::Output, 5, "ftl_lsp: output failed"),
-    (Ending::Closed, 6, "ftl_lsp: the input ended without exit"),
-    (Ending::Cut, 7, "ftl_lsp: the input ended inside a message"),
+    (Ending::Input, 3, "ftl lsp: input failed"),
+    (Ending::Memory, 4, "ftl lsp: no memory"),
+    (Ending::Output, 5, "ftl lsp: output failed"),
+    (Ending::Closed, 6, "ftl lsp: the input ended without exit"),
+    (Ending::Cut, 7, "ftl lsp: the input ended inside a message"),
     (
         Ending::Refused(FrameFault::LongHeader),
         8,
-        "ftl_lsp: a header has more than 4096 bytes",
+        "ftl lsp: a header has more than 4096 bytes",
     ),
     (
         Ending::Refused(FrameFault::NoLength),
         8,
-        "ftl_lsp: a header has no Content-Length",
+        "ftl lsp: a header has no Content-Length",
     ),
     (
         Ending::Refused(FrameFault::LongBody),
         9,
-        "ftl_lsp: a message has more than 67108864 bytes",
+        "ftl lsp: a message has more than 67108864 bytes",
     ),
 ];
 
@@ -558,7 +558,7 @@ const EXIT: &str = "{\"jsonrpc\":\"2.0\",\"method\":\"exit\"}";
 const INITIALIZED: &str =
     "{\"id\":1,\"jsonrpc\":\"2.0\",\"result\":{\"capabilities\":{\"documentFormattingProvider\":true,\
     \"documentSymbolProvider\":true,\"foldingRangeProvider\":true,\"positionEncoding\":\"utf-16\",\
-    \"textDocumentSync\":{\"change\":1,\"openClose\":true,\"save\":true}},\"serverInfo\":{\"name\":\"ftl_lsp\"}}}";
+    \"textDocumentSync\":{\"change\":1,\"openClose\":true,\"save\":true}},\"serverInfo\":{\"name\":\"ftl\"}}}";
 
 const STOPPED: &str = "{\"id\":1,\"jsonrpc\":\"2.0\",\"result\":null}";
 
