@@ -2,7 +2,8 @@
 
 /// The words and statuses. The file `help.txt` of this crate has the same text, for where the program isn't built.
 pub(crate) const HELP: &str = "\
-    ftl reads a Fluent file (.ftl) from standard input and writes to standard output.\n\
+    ftl 0.12.0\n\
+    Reads a Fluent file (.ftl) from standard input and writes to standard output.\n\
     \n\
     \x20   ftl check < menu.ftl      a line for each syntax error: line:column, place, entry left out, kind of error\n\
     \x20   ftl format < menu.ftl     the file in its normal form; entries with errors are left out\n\
