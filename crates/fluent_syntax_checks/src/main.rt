@@ -1,0 +1,55 @@
+//! Checks the library from outside, as a program:
+//!
+//!     fluent_syntax_checks texts
+//!     fluent_syntax_checks refusals
+//!     fluent_syntax_checks time CALL ROUNDS < FILE
+//!
+//! `texts` replays texts with known answers, `refusals` refuses each request for memory of each call in turn, and
+//! `time` times a call.
+#![tactic(auto)]
+
+mod refusals;
+mod texts;
+mod timing;
+
+use std::env;
+use std::io::ErrorKind;
+use std::process::ExitCode;
+
+/// The status for wrong words and for a text that can't be timed.
+const WRONG_ARGUMENTS: u8 = 2;
+
+fn main(rt: HostRuntime) -> anyhow::Result<ExitCode> {
+    let mut words = match env::args(&rt) {
+        Ok(words) => words.skip(1),
+        // A word that is not UTF-8 is none of these.
+        Err(error) if error.kind() == ErrorKind::InvalidData => return refuse(&rt),
+        Err(error) => return Err(error)?,
+    };
+    let Some(word) = words.next() else {
+        return refuse(&rt);
+    };
+    match (word.as_str(), words.next(), words.next(), words.next()) {
+        ("texts", None, None, None) => {
+            texts::replay(&rt)?;
+            Ok(ExitCode::from(0))
+        }
+        ("refusals", None, None, None) => {
+            let seen = refusals::calls(&rt)?;
+            Ok(ExitCode::from(u8::from(seen.wrong > 0)))
+        }
+        ("time", Some(call), Some(rounds), None) => {
+            if timing::print_times(&rt, call.as_str(), rounds.as_str())? {
+                Ok(ExitCode::from(0))
+            } else {
+                refuse(&rt)
+            }
+        }
+        _ => refuse(&rt),
+    }
+}
+
+fn refuse<R: Eprint>(rt: &R) -> anyhow::Result<ExitCode> {
+    rt.eprintln("usage: fluent_syntax_checks texts | refusals | time CALL ROUNDS < FILE")?;
+    Ok(ExitCode::from(WRONG_ARGUMENTS))
+}

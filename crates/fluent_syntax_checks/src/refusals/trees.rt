@@ -1,0 +1,58 @@
+//! Copies of trees and of errors.
+
+use crate::refusals::turns::{in_turn, nothing, over};
+use fluent_syntax::ast::Resource;
+use fluent_syntax::parser::{ParserError, parse, recovered};
+use fluent_syntax_corpus::{TEXTS, Tally};
+use std::alloc::{AllocError, Global};
+use std::io;
+
+pub(crate) fn calls<R: Print + AllocGlobal>(rt: &R) -> io::Result<Tally> {
+    let texts = TEXTS.as_slice();
+    let lent = over(rt, "try_clone of trees of lent texts", texts, lent_copies)?;
+    let owned = over(rt, "try_clone of trees of owned texts", texts, owned_copies)?;
+    let errors = over(rt, "try_clone of errors", texts, copies_of_errors)?;
+    Ok(lent.and(owned).and(errors))
+}
+
+/// The tree of a text, and its errors.
+pub(crate) fn lent_tree(
+    alloc: Global,
+    text: &str,
+) -> Result<(Resource<&str>, Vec<ParserError>), AllocError> {
+    recovered(alloc, parse(alloc, text))
+}
+
+/// The tree of a text over `String`.
+pub(crate) fn owned_tree(alloc: Global, text: &str) -> Result<Resource<String>, AllocError> {
+    let source = String::from_str(alloc, text)?;
+    let (tree, _errors) = recovered(alloc, parse(alloc, source))?;
+    Ok(tree)
+}
+
+/// Copies of the text's tree of lent texts, which stays as it was.
+fn lent_copies(alloc: Global, text: &str) -> Result<Tally, AllocError> {
+    let (tree, _errors) = lent_tree(alloc, text)?;
+    let (before, _errors) = lent_tree(alloc, text)?;
+    let tally = in_turn(alloc, nothing, |_| tree.try_clone(alloc))?;
+    Ok(tally.wrong_if(tree != before))
+}
+
+/// Copies of the text's tree of owned texts, which stays as it was.
+fn owned_copies(alloc: Global, text: &str) -> Result<Tally, AllocError> {
+    let tree = owned_tree(alloc, text)?;
+    let before = owned_tree(alloc, text)?;
+    let tally = in_turn(alloc, nothing, |_| tree.try_clone(alloc))?;
+    Ok(tally.wrong_if(tree != before))
+}
+
+/// Copies of the text's errors, which stay as they were.
+fn copies_of_errors(alloc: Global, text: &str) -> Result<Tally, AllocError> {
+    let (_tree, errors) = lent_tree(alloc, text)?;
+    let (_tree, before) = lent_tree(alloc, text)?;
+    let mut total = Tally::NONE;
+    for error in &errors {
+        total = total.and(in_turn(alloc, nothing, |_| error.try_clone(alloc))?);
+    }
+    Ok(total.wrong_if(errors != before))
+}
