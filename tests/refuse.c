@@ -1,7 +1,7 @@
 /* Refuses one request for memory of a program that it is loaded into before the C library.
 
-   `fluent_syntax_refusals` speaks to it by requests of sizes that nothing else asks for (its file
-   requests.rt). REFUSE + n: the n-th request from now on is refused. TELL: none is refused from now on;
+   `fluent_syntax_checks refusals` speaks to it by requests of sizes that nothing else asks for (its file
+   refusals/requests.rt). REFUSE + n: the n-th request from now on is refused. TELL: none is refused from now on;
    granted where one was. Both words are themselves refused otherwise, as they are without this library.
 
    For a program that doesn't speak to it, the environment's REFUSE is the number of the request that is
