@@ -1,4 +1,5 @@
-//! Each text cut at each of its characters: joined, formatted, and formatted again.
+//! Each text: written and read as its joined tree; and, cut at each of its characters, joined, formatted, and formatted
+//! again.
 
 use crate::texts::TEXTS;
 use fluent_syntax::ast::Resource;
@@ -86,6 +87,39 @@ fn holds_of_each_beginning(alloc: Global, text: &str) -> Result<(), Fail> {
         };
         if !joins(alloc, cut)? || !reads_back(alloc, cut)? || !formats(alloc, cut)? {
             return Err(format!(in alloc; "not so: {cut}")?.into());
+        }
+    }
+    Ok(())
+}
+
+/// The texts of all in which an LF follows each CR whose joined trees are not canonical, and not read back.
+const NOT_READ_BACK: [&str; 4] = [
+    // No line lacks the spaces before `b`, and a placeable does not count.
+    "key =\n{x}\n    b\n",
+    // A lone star counts as a default variant, and is not written.
+    "key = { $x ->\n * }",
+    // A comment without lines, and one whose line is of spaces.
+    "#",
+    "#   ",
+];
+
+/// Fails where the tree of the text is not read back as its joined tree, and the text is none of those that are known
+/// for that; or where it is one, and is read back.
+fn assert_read_back(alloc: Global, text: &str) -> Result<(), Fail> {
+    let (tree, _) = tree(alloc, text)?;
+    let whole = joined(alloc, &tree)?;
+    let is_known = NOT_READ_BACK.contains(&text);
+    if reads_as(alloc, &tree, &whole) == is_known {
+        return Err(format!(in alloc; "not so: {text}")?.into());
+    }
+    Ok(())
+}
+
+#[test]
+fn each_text_read_back_joined(rt: HostRuntime) -> Result<(), Fail> {
+    for text in TEXTS.as_slice() {
+        if has_no_bare_cr(text) {
+            assert_read_back(rt.alloc(), text)?;
         }
     }
     Ok(())

@@ -8,7 +8,7 @@ use std::test::Fail;
 /// What it shows, the text, and the outline of the answer.
 pub type Row = (&'static str, &'static str, &'static str);
 
-const ROWS: [Row; 34] = [
+const ROWS: [Row; 36] = [
     (
         "blank lines around a message",
         "\n\nhello-world = Hello World!\n\n",
@@ -68,6 +68,11 @@ const ROWS: [Row; 34] = [
         "# \"a\"\nkey = \"c\"\n",
     ),
     ("hashes at the end of the text", "#", "#\n"),
+    (
+        "spaces alone behind a hash and its space",
+        "#   ",
+        "# \"  \"\n",
+    ),
     (
         "three levels of comments",
         "## g\n\n# f\n\n# m\nkey = v\n",
@@ -146,6 +151,11 @@ const ROWS: [Row; 34] = [
     (
         "a line mark may stand in the opening line",
         "key = [a\n  b\n",
+        "key = \"[a\\n\" \"b\"\n",
+    ),
+    (
+        "the same without a line end at the end of the text",
+        "key = [a\n  b",
         "key = \"[a\\n\" \"b\"\n",
     ),
     (

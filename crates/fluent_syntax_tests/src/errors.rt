@@ -3,7 +3,7 @@
 use crate::entries::{Row, assert_read};
 use std::test::Fail;
 
-const ROWS: [Row; 47] = [
+const ROWS: [Row; 52] = [
     (
         "spaces alone",
         "  ",
@@ -234,6 +234,31 @@ const ROWS: [Row; 47] = [
         "a term's attribute follows its name at once",
         "k = {-t .a}",
         "Junk \"k = {-t .a}\"\n8..9 0..11 ExpectedToken('}')\n",
+    ),
+    (
+        "a message of spaces alone",
+        "key = \n",
+        "Junk \"key = \\n\"\n0..7 0..7 ExpectedMessageField(\"key\")\n",
+    ),
+    (
+        "an indented line between a comment and a message",
+        "# a\n  x\nk = v\n",
+        "# \"a\"\nJunk \"  x\\n\"\nk = \"v\"\n4..5 4..8 ExpectedCharRange(\"a-zA-Z\")\n",
+    ),
+    (
+        "the text ends behind a call with a named argument",
+        "k = {F(a b: c)",
+        "Junk \"k = {F(a b: c)\"\n14..15 0..14 ExpectedToken('}')\n",
+    ),
+    (
+        "the text ends behind a call with a comma at its end",
+        "key = { F(1 2,)",
+        "Junk \"key = { F(1 2,)\"\n15..16 0..15 ExpectedToken('}')\n",
+    ),
+    (
+        "the text ends behind the arguments of a term's attribute",
+        "k = {-t.a (1)",
+        "Junk \"k = {-t.a (1)\"\n13..14 0..13 TermAttributeAsPlaceable\n",
     ),
     (
         "a term's attribute behind a blank",

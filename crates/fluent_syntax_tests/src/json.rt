@@ -2,6 +2,7 @@
 
 use crate::alike::assert_holds;
 use crate::made::owned_tree;
+use crate::outline::assert_outline;
 use fluent_syntax::ast::Resource;
 use fluent_syntax_json::{ValueFault, form_reads, from_value, to_value};
 use serde_json::Value;
@@ -246,6 +247,51 @@ fn assert_spelled(alloc: Global, row: &Row) -> Result<(), Fail> {
 fn values_that_are_no_forms(rt: HostRuntime) -> Result<(), Fail> {
     for row in &SPELLED {
         assert_spelled(rt.alloc(), row)?;
+    }
+    Ok(())
+}
+
+/// A value, and the outline of the tree that it spells.
+const TREES: [Row; 5] = [
+    ("an unknown key", "{\"body\":[],\"x\":1}", ""),
+    (
+        "absent keys",
+        "{\"body\":[{\"type\":\"Message\",\"id\":{\"name\":\"a\"},\"attributes\":[]}]}",
+        "a =\n",
+    ),
+    (
+        "a comment's content as one text",
+        "{\"body\":[{\"type\":\"Comment\",\"content\":\"a\"}]}",
+        "# \"a\"\n",
+    ),
+    (
+        "a variable",
+        "{\"body\":[{\"type\":\"Message\",\"id\":{\"name\":\"key\"},\"value\":{\"elements\":[{\"type\":\"Placeable\",\
+        \"expression\":{\"type\":\"VariableReference\",\"id\":{\"name\":\"x\"}}}]},\"attributes\":[],\
+        \"comment\":null}]}",
+        "key = {$x}\n",
+    ),
+    (
+        "a select without variants",
+        "{\"body\":[{\"type\":\"Message\",\"id\":{\"name\":\"key\"},\"value\":{\"elements\":[{\"type\":\"Placeable\",\
+        \"expression\":{\"selector\":{\"type\":\"VariableReference\",\"id\":{\"name\":\"x\"}},\"variants\":[]}}]},\
+        \"attributes\":[],\"comment\":null}]}",
+        "key = {$x ->}\n",
+    ),
+];
+
+fn assert_spells_tree(alloc: Global, row: &Row) -> Result<(), Fail> {
+    let (what, value, outline) = row;
+    let Ok(tree) = read(alloc, *value)? else {
+        return assert_holds(alloc, *what, false);
+    };
+    assert_outline(alloc, *what, &Ok(tree), *outline)
+}
+
+#[test]
+fn values_and_their_trees(rt: HostRuntime) -> Result<(), Fail> {
+    for row in &TREES {
+        assert_spells_tree(rt.alloc(), row)?;
     }
     Ok(())
 }

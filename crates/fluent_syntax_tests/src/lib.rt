@@ -4,6 +4,8 @@
 
 pub mod alike;
 #[cfg(test)]
+mod blank;
+#[cfg(test)]
 mod copies;
 #[cfg(test)]
 mod depths;
@@ -49,6 +51,8 @@ mod sinks;
 mod spans;
 #[cfg(test)]
 mod surface;
+#[cfg(test)]
+mod texts;
 #[cfg(test)]
 mod trees;
 #[cfg(test)]

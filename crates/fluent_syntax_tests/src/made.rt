@@ -91,14 +91,20 @@ pub(crate) fn message_with_attribute(
     }))
 }
 
+/// A pattern that is a placeable of the expression.
+pub(crate) fn placeable(alloc: Global, expression: Expression<Text>) -> Made<Pattern<Text>> {
+    let mut elements = Vec::new(alloc);
+    elements.push(PatternElement::Placeable { expression })?;
+    Ok(Pattern { elements })
+}
+
 /// A message `key` that is a placeable of the expression.
 pub(crate) fn message_with_placeable(
     alloc: Global,
     expression: Expression<Text>,
 ) -> Made<Entry<Text>> {
-    let mut elements = Vec::new(alloc);
-    elements.push(PatternElement::Placeable { expression })?;
-    Ok(Entry::Message(message(alloc, "key", Some(Pattern { elements }))))
+    let value = placeable(alloc, expression)?;
+    Ok(Entry::Message(message(alloc, "key", Some(value))))
 }
 
 pub(crate) fn comment(alloc: Global, lines: &[Text]) -> Made<Comment<Text>> {

@@ -8,7 +8,10 @@ use crate::made::{
 };
 use crate::outline::{assert_outline, outline_of};
 use fluent_syntax::ast::Entry;
-use fluent_syntax::laws::{joined, reads_back, reads_readable, reparse, same_texts};
+use fluent_syntax::laws::{
+    is_canonical, is_readable, joined, reads_back, reads_readable, reparse, same_texts,
+};
+use fluent_syntax::parser::Edition;
 use std::alloc::Global;
 use std::test::Fail;
 
@@ -138,6 +141,29 @@ fn assert_reads_another(alloc: Global, row: &Row) -> Result<(), Fail> {
 fn reads_another_tree(rt: HostRuntime) -> Result<(), Fail> {
     for row in &OTHER {
         assert_reads_another(rt.alloc(), row)?;
+    }
+    Ok(())
+}
+
+/// Texts whose joined trees are readable, and not canonical.
+const ONLY_READABLE: [Same; 4] = [
+    ("spaces that no line lacks", "key =\n{x}\n    b\n"),
+    ("a select without a default variant", "key = { $x ->\n * }"),
+    ("a line of spaces in a comment", "#   "),
+    ("a comment without lines", "#"),
+];
+
+fn assert_only_readable(alloc: Global, row: &Same) -> Result<(), Fail> {
+    let (what, text) = row;
+    let tree = joined(alloc, &owned_tree(alloc, *text)?)?;
+    let is_so = is_readable(&tree, Edition::One) && !is_canonical(&tree, Edition::One);
+    assert_holds(alloc, *what, is_so)
+}
+
+#[test]
+fn tells_what_is_only_readable(rt: HostRuntime) -> Result<(), Fail> {
+    for row in &ONLY_READABLE {
+        assert_only_readable(rt.alloc(), row)?;
     }
     Ok(())
 }

@@ -10,7 +10,7 @@ use fluent_syntax::spans::{
 use std::alloc::Global;
 use std::test::Fail;
 
-const ROWS: [Row; 5] = [
+const ROWS: [Row; 7] = [
     (
         "a CRLF between two texts",
         "key = a\r\n    b",
@@ -28,6 +28,16 @@ const ROWS: [Row; 5] = [
         "0..1 = 4..5\n6..7 = 10..11\n",
     ),
     ("a hung comment", "# a\nkey = c", "4..7 = 10..11 | # 2..3\n"),
+    (
+        "a call, its argument and its named argument",
+        "k = {F(a b: c)}",
+        "0..1 = {5..6(7..8;9..10: 12..13;)}\n",
+    ),
+    (
+        "a term, its attribute and its argument",
+        "k = {-t.a (1) ->\n*[a] b\n}",
+        "0..1 = {-6..7.8..9(number 11..12;) -> *[19..20] 22..23}\n",
+    ),
 ];
 
 fn assert_read(alloc: Global, row: &Row) -> Result<(), Fail> {

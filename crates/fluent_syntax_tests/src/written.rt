@@ -3,7 +3,7 @@
 use crate::alike::assert_same_text;
 use crate::made::{
     Made, Text, comment, id, message, message_with_attribute, message_with_placeable,
-    message_with_value, number, one, pattern, reference, variable,
+    message_with_value, number, one, pattern, placeable, reference, variable,
 };
 use fluent_syntax::ast::*;
 use fluent_syntax::serializer::{Options, serialize, serialize_to, serialize_with_options};
@@ -210,9 +210,20 @@ fn writes_expressions(rt: HostRuntime) -> Result<(), Fail> {
     assert_inline_written(alloc, mixed_call(alloc), mixed)?;
     let attribute = reference("foo", Some(id("bar")));
     assert_inline_written(alloc, Ok(attribute), "key = { foo.bar }\n")?;
-    let inner = nested_placeable(alloc, Expression::Inline(variable("x")));
-    assert_inline_written(alloc, inner, "key = {{ $x }}\n")?;
     assert_inline_written(alloc, term_with_argument(alloc), "key = { -t.a(1) }\n")
+}
+
+/// A message `k` that is a placeable of a placeable of a variable.
+fn message_of_nested_placeables(alloc: Global) -> Made<Entry<Text>> {
+    let inner = nested_placeable(alloc, Expression::Inline(variable("x")))?;
+    let value = placeable(alloc, Expression::Inline(inner))?;
+    Ok(Entry::Message(message(alloc, "k", Some(value))))
+}
+
+#[test]
+fn writes_a_placeable_of_a_placeable(rt: HostRuntime) -> Result<(), Fail> {
+    let message = message_of_nested_placeables(rt.alloc());
+    assert_entry_written(rt.alloc(), message, "k = {{ $x }}\n")
 }
 
 /// A select by the variable, whose variants have these keys and texts; the last is the default.

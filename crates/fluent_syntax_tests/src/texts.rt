@@ -1,0 +1,75 @@
+//! What a text of a tree can do, lent and owned: the text of a range of it, and its end trimmed.
+
+use crate::alike::assert_same_text;
+use fluent_syntax::parser::Slice;
+use std::alloc::Global;
+use std::ops::Range;
+use std::test::Fail;
+
+/// A text, the ends of a range of it, and the text there.
+type Part = (&'static str, usize, usize, &'static str);
+
+const PARTS: [Part; 6] = [
+    ("key = \u{e9}\r\n", 0, 3, "key"),
+    ("key = \u{e9}\r\n", 4, 8, "= \u{e9}"),
+    ("key = \u{e9}\r\n", 6, 8, "\u{e9}"),
+    ("key = \u{e9}\r\n", 5, 5, ""),
+    ("key = \u{e9}\r\n", 10, 10, ""),
+    ("key = \u{e9}\r\n", 0, 10, "key = \u{e9}\r\n"),
+];
+
+/// The text of the range.
+fn part_of<'s, S: Slice<'s>>(alloc: Global, text: &S, range: Range<usize>) -> Result<S, Fail> {
+    let whole = text.as_str();
+    let is_range = range.start <= range.end
+        && whole.is_char_boundary(range.start)
+        && whole.is_char_boundary(range.end);
+    if !is_range {
+        return Err("no range of the text".into());
+    }
+    Ok(text.slice(alloc, range)?)
+}
+
+fn assert_part<'s, S: Slice<'s>>(alloc: Global, text: &S, row: &Part) -> Result<(), Fail> {
+    let (whole, start, end, expected) = row;
+    let part = part_of(alloc, text, *start..*end)?;
+    assert_same_text(alloc, "the part", part.as_str(), *expected)?;
+    assert_same_text(alloc, "the text itself", text.as_str(), *whole)
+}
+
+#[test]
+fn parts(rt: HostRuntime) -> Result<(), Fail> {
+    for row in &PARTS {
+        assert_part(rt.alloc(), &row.0, row)?;
+        assert_part(rt.alloc(), &String::from_str(rt.alloc(), row.0)?, row)?;
+    }
+    Ok(())
+}
+
+/// A text, and what is left of it once it is trimmed.
+type Trimmed = (&'static str, &'static str);
+
+const TRIMMED: [Trimmed; 7] = [
+    ("a", "a"),
+    ("a \r\n \n", "a"),
+    (" \r\na\nb \r", " \r\na\nb"),
+    ("a\t \t\n", "a\t \t"),
+    ("\u{e9}\u{a0} ", "\u{e9}\u{a0}"),
+    (" \r\n", ""),
+    ("", ""),
+];
+
+fn assert_trimmed<'s, S: Slice<'s>>(alloc: Global, text: S, expected: &str) -> Result<(), Fail> {
+    let mut trimmed = text;
+    trimmed.trim();
+    assert_same_text(alloc, "trimmed", trimmed.as_str(), expected)
+}
+
+#[test]
+fn trimmed_endings(rt: HostRuntime) -> Result<(), Fail> {
+    for (text, expected) in &TRIMMED {
+        assert_trimmed(rt.alloc(), *text, *expected)?;
+        assert_trimmed(rt.alloc(), String::from_str(rt.alloc(), *text)?, *expected)?;
+    }
+    Ok(())
+}
