@@ -30,18 +30,28 @@ fn part_of<'s, S: Slice<'s>>(alloc: Global, text: &S, range: Range<usize>) -> Re
     Ok(text.slice(alloc, range)?)
 }
 
-fn assert_part<'s, S: Slice<'s>>(alloc: Global, text: &S, row: &Part) -> Result<(), Fail> {
-    let (whole, start, end, expected) = row;
-    let part = part_of(alloc, text, *start..*end)?;
-    assert_same_text(alloc, "the part", part.as_str(), *expected)?;
-    assert_same_text(alloc, "the text itself", text.as_str(), *whole)
+fn assert_part<'s, S: Slice<'s>>(
+    alloc: Global,
+    text: &S,
+    range: Range<usize>,
+    expected: &str,
+) -> Result<(), Fail> {
+    let part = part_of(alloc, text, range)?;
+    assert_same_text(alloc, "the part", part.as_str(), expected)
+}
+
+fn assert_parts(alloc: Global, row: &Part) -> Result<(), Fail> {
+    let (text, start, end, expected) = row;
+    let owned = String::from_str(alloc, *text)?;
+    assert_part(alloc, text, *start..*end, *expected)?;
+    assert_part(alloc, &owned, *start..*end, *expected)?;
+    assert_same_text(alloc, "the text itself", owned.as_str(), *text)
 }
 
 #[test]
 fn parts(rt: HostRuntime) -> Result<(), Fail> {
     for row in &PARTS {
-        assert_part(rt.alloc(), &row.0, row)?;
-        assert_part(rt.alloc(), &String::from_str(rt.alloc(), row.0)?, row)?;
+        assert_parts(rt.alloc(), row)?;
     }
     Ok(())
 }
@@ -65,11 +75,16 @@ fn assert_trimmed<'s, S: Slice<'s>>(alloc: Global, text: S, expected: &str) -> R
     assert_same_text(alloc, "trimmed", trimmed.as_str(), expected)
 }
 
+fn assert_both_trimmed(alloc: Global, row: &Trimmed) -> Result<(), Fail> {
+    let (text, expected) = row;
+    assert_trimmed(alloc, *text, *expected)?;
+    assert_trimmed(alloc, String::from_str(alloc, *text)?, *expected)
+}
+
 #[test]
 fn trimmed_endings(rt: HostRuntime) -> Result<(), Fail> {
-    for (text, expected) in &TRIMMED {
-        assert_trimmed(rt.alloc(), *text, *expected)?;
-        assert_trimmed(rt.alloc(), String::from_str(rt.alloc(), *text)?, *expected)?;
+    for row in &TRIMMED {
+        assert_both_trimmed(rt.alloc(), row)?;
     }
     Ok(())
 }
