@@ -96,7 +96,7 @@ build_once() {
     trap leave EXIT
     trap interrupt INT TERM HUP
     until is_same; do
-        say "building the program; from nothing that takes some ten minutes on four processors, longer on fewer"
+        say "building the program; from nothing that takes about half an hour on four processors, longer on fewer"
         build
     done
     trap - EXIT INT TERM HUP
