@@ -18,19 +18,16 @@ say() { printf 'ftl: %s\n' "$*" >&2; }
 # Says why there is no program, and ends with a status of its own.
 fail() { say "$*"; exit 70; }
 
-# The sources of the crates, which are set, each with its size and times.
+# The sources of the crates, which are set, each with its size and the time of its last change.
 listing() {
     local crate folders=()
     for crate in "${crates[@]}"; do folders+=("$top/crates/$crate"/{src,specs,proofs}); done
-    find "$top/crates.txt" "${folders[@]}" -type f -printf '%P %s %T@ %C@\n'
+    find "$top/crates.txt" "${folders[@]}" -type f -printf '%P %s %C@\n' 2>/dev/null || true
 }
 
-# Whether the program was built from the sources that have the sizes and times of those that are there.
+# Whether the program was built from sources of the sizes and times of those that are there.
 is_current() {
-    local listed=""
-    [ -x "$made/ftl" ] && [ -f "$made/listing" ] || return 1
-    { read -r -a crates; IFS= read -r -d '' listed; } <"$made/listing" || true
-    [ "${listed%$'\n'}" = "$(listing 2>/dev/null)" ]
+    [ -x "$made/ftl" ] && read -r -a crates 2>/dev/null <"$made/crates" && cmp -s <(listing) "$made/listing"
 }
 
 # One sum of all the text that the program is made from, in this folder or in a copy.
@@ -40,19 +37,13 @@ sum_of_sources() (
         sort -z | xargs -0 sha256sum | cat - <(grep -E "^($(IFS='|'; echo "${crates[*]}"))[ :]" crates.txt) | sha256sum
 )
 
-# Whether the program was built from just these sources; then their sizes and times are noted.
-is_same() {
-    local listed
-    mapfile -t crates < <("$top/scripts/crates" ftl_program)
-    listed="$(listing)"
-    [ -x "$made/ftl" ] && [ "$(sum_of_sources "$top")" = "$(cat "$made/built-from" 2>/dev/null)" ] || return 1
-    printf '%s\n' "${crates[*]}" "$listed" >"$made/listing.new" && mv "$made/listing.new" "$made/listing" || true
-}
+# Whether the program was built from just the sources that are there.
+is_same() { [ -x "$made/ftl" ] && [ "$(sum_of_sources "$top")" = "$(cat "$made/built-from" 2>/dev/null)" ]; }
 
 # Ends what was begun.
 leave() {
-    [ -z "$job" ] || kill -TERM -- "-$job" 2>/dev/null || true
-    [ -z "$room" ] || rm -rf "$room"
+    [ -z "$job" ] || { kill -TERM -- "-$job" && wait "$job"; } 2>/dev/null || true
+    [ -z "$room" ] || rm -rf "$room" "$room.log"
 }
 
 interrupt() {
@@ -61,46 +52,56 @@ interrupt() {
     exit 130
 }
 
-# Says which crate was proved, as the lines of `rt ci` come.
+# Says which crate was proved, as the lines of scripts/prove come.
 tell() {
     local line number=0
     while IFS= read -r line; do
-        [[ "$line" =~ ^rt:\ ([a-z_]+)\ (proved|is\ kept) ]] && say "${BASH_REMATCH[1]} is proved ($((++number)) of ${#crates[@]})"
+        [[ "$line" != *" is proved" ]] || say "$line ($((++number)) of ${#crates[@]})"
     done
-    true
 }
 
-# Proves all that the program is made of in a copy, and builds it.
+# Proves the libraries that the program stands on, and in a copy the program, which is built and run once there.
+prove() {
+    "$top/scripts/prove" ftl_program && "$top/scripts/lay" --built "$room" ftl_program && cd "$room/crates/ftl_program" &&
+        rt run -- $(cat args) <stdin && echo "ftl_program is proved"
+}
+
+# Proves and builds the program. The libraries were built of the sources in the copy, or the copy builds them anew.
 build() {
     room="$(mktemp -d)"
-    "$top/scripts/lay" "$room" ftl_program
     set -m
-    (cd "$room" && exec rt ci) </dev/null > >(tee "$room/log" | tell) 2>&1 9>&- &
+    prove </dev/null > >(tee "$room.log" | tell) 2>&1 9>&- &
     job=$!
     set +m
-    wait "$job" || { cat "$room/log" >&2; fail "the program was not built"; }
+    wait "$job" || { job=""; cat "$room.log" >&2; fail "the program was not built"; }
     job=""
     cp "$room/crates/ftl_program/out/ftl_program" "$made/ftl.new"
     rm -f "$made/built-from" "$made/listing"
     mv "$made/ftl.new" "$made/ftl"
     sum_of_sources "$room" >"$made/built-from"
-    rm -rf "$room"
+    leave
     room=""
 }
 
-# Builds the program unless another run does; then waits for that.
-build_once() {
-    command -v rt >/dev/null || fail "the program is not built yet, and the Rattle toolchain, which builds it, is not there (no rt on the PATH)"
-    { mkdir -p "$made" && exec 9>"$made/lock"; } 2>/dev/null || fail "the program is not built yet, and $top cannot be written to"
-    flock -n 9 || { say "another ftl builds the program: waiting for it"; flock 9; }
-    trap leave EXIT
-    trap interrupt INT TERM HUP
-    until is_same; do
-        say "building the program; from nothing that takes about half an hour on four processors, longer on fewer"
-        build
-    done
-    trap - EXIT INT TERM HUP
-    exec 9>&-
+# Makes a program of the sources that are there, unless another run does, and notes their sizes and times.
+renew() {
+    local listed
+    mapfile -t crates < <("$top/scripts/crates" ftl_program)
+    listed="$(listing)"
+    if ! is_same; then
+        command -v rt >/dev/null || fail "the program is not built yet, and the Rattle toolchain, which builds it, is not there (no rt on the PATH)"
+        { mkdir -p "$made" && exec 9>"$made/lock"; } 2>/dev/null || fail "the program is not built yet, and $top cannot be written to"
+        flock -n 9 || { say "another ftl builds the program: waiting for it"; flock 9; }
+        trap leave EXIT
+        trap interrupt INT TERM HUP
+        until listed="$(listing)"; is_same; do
+            say "building the program; from nothing that takes some TIME on four processors, longer on fewer"
+            build
+        done
+        trap - EXIT INT TERM HUP
+        exec 9>&-
+    fi
+    { echo "${crates[*]}" >"$made/crates" && echo "$listed" >"$made/listing.new" && mv "$made/listing.new" "$made/listing"; } 2>/dev/null || true
 }
 
 if [ "$#" = 2 ] && [ "$1" = install ]; then
@@ -116,7 +117,7 @@ else
     echo "$usage" >&2
     exit 2
 fi
-is_current || is_same || build_once
+is_current || renew
 if [ -n "${install_to-}" ]; then
     mkdir -p "$install_to"
     cp "$made/ftl" "$install_to/.ftl-new-$$"

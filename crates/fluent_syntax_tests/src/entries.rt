@@ -1,12 +1,9 @@
 //! Texts, and the trees that they are read as.
 
-use crate::outline::assert_outline;
+use crate::outline::{Row, assert_outline};
 use fluent_syntax::parser::parse;
 use std::alloc::Global;
 use std::test::Fail;
-
-/// What it shows, the text, and the outline of the answer.
-pub type Row = (&'static str, &'static str, &'static str);
 
 const ROWS: [Row; 36] = [
     (

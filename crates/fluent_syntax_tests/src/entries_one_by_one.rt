@@ -1,7 +1,7 @@
 //! Texts, what is read of them, and their errors.
 
 use crate::alike::assert_same_text;
-use crate::entries::Row;
+use crate::outline::Row;
 use fluent_syntax_parser::entries::Entries;
 use fluent_syntax_parser::fault::ParseFault;
 use fluent_syntax_parser::options::{Comments, Options};

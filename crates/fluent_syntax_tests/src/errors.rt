@@ -1,6 +1,7 @@
 //! Broken texts, and the errors at their places.
 
-use crate::entries::{Row, assert_read};
+use crate::entries::assert_read;
+use crate::outline::Row;
 use std::test::Fail;
 
 const ROWS: [Row; 52] = [

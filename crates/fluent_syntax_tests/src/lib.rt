@@ -1,5 +1,4 @@
-//! Tests of the parser, the serializer, the laws of round trips and the JSON of trees: texts whose trees, errors and
-//! written texts are known, and trees made at random.
+//! Tests of the parser: texts whose trees and errors are known; and what other tests compare and make trees with.
 #![tactic(auto)]
 
 pub mod alike;
@@ -18,46 +17,20 @@ mod entries_one_by_one;
 #[cfg(test)]
 mod errors;
 #[cfg(test)]
-mod json;
-#[cfg(test)]
-mod json_text;
-#[cfg(test)]
 mod kinds;
-#[cfg(test)]
-mod made;
+pub mod made;
 #[cfg(test)]
 mod nesting;
-#[cfg(test)]
-mod outline;
+pub mod outline;
 #[cfg(test)]
 mod places;
 #[cfg(test)]
-mod random_trees;
-#[cfg(test)]
-mod round_trip;
-#[cfg(test)]
-mod round_trip_at_random;
-#[cfg(test)]
-mod rules;
-#[cfg(test)]
 mod runtime;
-#[cfg(test)]
-mod serialized;
 #[cfg(test)]
 mod short_messages;
 #[cfg(test)]
-mod sinks;
-#[cfg(test)]
 mod spans;
-#[cfg(test)]
-mod surface;
 #[cfg(test)]
 mod texts;
 #[cfg(test)]
 mod trees;
-#[cfg(test)]
-mod unescaped;
-#[cfg(test)]
-mod written;
-#[cfg(test)]
-mod written_one_by_one;

@@ -9,19 +9,19 @@ pub type Text = &'static str;
 
 pub type Made<T> = Result<T, AllocError>;
 
-pub(crate) fn id(name: Text) -> Identifier<Text> {
+pub fn id(name: Text) -> Identifier<Text> {
     Identifier { name }
 }
 
-pub(crate) fn variable(name: Text) -> InlineExpression<Text> {
+pub fn variable(name: Text) -> InlineExpression<Text> {
     InlineExpression::VariableReference { id: id(name) }
 }
 
-pub(crate) fn number(value: Text) -> InlineExpression<Text> {
+pub fn number(value: Text) -> InlineExpression<Text> {
     InlineExpression::NumberLiteral { value }
 }
 
-pub(crate) fn reference(name: Text, attribute: Option<Identifier<Text>>) -> InlineExpression<Text> {
+pub fn reference(name: Text, attribute: Option<Identifier<Text>>) -> InlineExpression<Text> {
     InlineExpression::MessageReference {
         id: id(name),
         attribute,
@@ -42,7 +42,7 @@ fn element(text: Text) -> PatternElement<Text> {
     }
 }
 
-pub(crate) fn pattern(alloc: Global, texts: &[Text]) -> Made<Pattern<Text>> {
+pub fn pattern(alloc: Global, texts: &[Text]) -> Made<Pattern<Text>> {
     let mut elements = Vec::new(alloc);
     for text in texts {
         elements.push(element(*text))?;
@@ -50,7 +50,7 @@ pub(crate) fn pattern(alloc: Global, texts: &[Text]) -> Made<Pattern<Text>> {
     Ok(Pattern { elements })
 }
 
-pub(crate) fn message(alloc: Global, name: Text, value: Option<Pattern<Text>>) -> Message<Text> {
+pub fn message(alloc: Global, name: Text, value: Option<Pattern<Text>>) -> Message<Text> {
     Message {
         id: id(name),
         value,
@@ -60,7 +60,7 @@ pub(crate) fn message(alloc: Global, name: Text, value: Option<Pattern<Text>>) -
 }
 
 /// A message that has just a value of these elements.
-pub(crate) fn message_with_value(alloc: Global, name: Text, texts: &[Text]) -> Made<Entry<Text>> {
+pub fn message_with_value(alloc: Global, name: Text, texts: &[Text]) -> Made<Entry<Text>> {
     let value = pattern(alloc, texts)?;
     Ok(Entry::Message(message(alloc, name, Some(value))))
 }
@@ -73,11 +73,7 @@ fn just(alloc: Global, attribute: Attribute<Text>) -> Made<Vec<Attribute<Text>>>
 }
 
 /// A message `k` that has just an attribute of that name, whose value has these elements.
-pub(crate) fn message_with_attribute(
-    alloc: Global,
-    name: Text,
-    texts: &[Text],
-) -> Made<Entry<Text>> {
+pub fn message_with_attribute(alloc: Global, name: Text, texts: &[Text]) -> Made<Entry<Text>> {
     let value = pattern(alloc, texts)?;
     let attribute = Attribute {
         id: id(name),
@@ -92,36 +88,33 @@ pub(crate) fn message_with_attribute(
 }
 
 /// A pattern that is a placeable of the expression.
-pub(crate) fn placeable(alloc: Global, expression: Expression<Text>) -> Made<Pattern<Text>> {
+pub fn placeable(alloc: Global, expression: Expression<Text>) -> Made<Pattern<Text>> {
     let mut elements = Vec::new(alloc);
     elements.push(PatternElement::Placeable { expression })?;
     Ok(Pattern { elements })
 }
 
 /// A message `key` that is a placeable of the expression.
-pub(crate) fn message_with_placeable(
-    alloc: Global,
-    expression: Expression<Text>,
-) -> Made<Entry<Text>> {
+pub fn message_with_placeable(alloc: Global, expression: Expression<Text>) -> Made<Entry<Text>> {
     let value = placeable(alloc, expression)?;
     Ok(Entry::Message(message(alloc, "key", Some(value))))
 }
 
-pub(crate) fn comment(alloc: Global, lines: &[Text]) -> Made<Comment<Text>> {
+pub fn comment(alloc: Global, lines: &[Text]) -> Made<Comment<Text>> {
     Ok(Comment {
         content: Vec::from_slice(alloc, lines)?,
     })
 }
 
 /// The tree of one entry.
-pub(crate) fn one(alloc: Global, entry: Entry<Text>) -> Made<Resource<Text>> {
+pub fn one(alloc: Global, entry: Entry<Text>) -> Made<Resource<Text>> {
     let mut body = Vec::new(alloc);
     body.push(entry)?;
     Ok(Resource { body })
 }
 
 /// The tree of a text, whether it has errors or not.
-pub(crate) fn lent_tree(alloc: Global, text: Text) -> Made<Resource<Text>> {
+pub fn lent_tree(alloc: Global, text: Text) -> Made<Resource<Text>> {
     match parse(alloc, text) {
         Ok(tree) => Ok(tree),
         Err(ParseFault::Syntax(tree, _errors)) => Ok(tree),
@@ -130,7 +123,7 @@ pub(crate) fn lent_tree(alloc: Global, text: Text) -> Made<Resource<Text>> {
 }
 
 /// The same, over texts of its own.
-pub(crate) fn owned_tree(alloc: Global, text: &str) -> Made<Resource<String>> {
+pub fn owned_tree(alloc: Global, text: &str) -> Made<Resource<String>> {
     match parse(alloc, String::from_str(alloc, text)?) {
         Ok(tree) => Ok(tree),
         Err(ParseFault::Syntax(tree, _errors)) => Ok(tree),
@@ -139,7 +132,7 @@ pub(crate) fn owned_tree(alloc: Global, text: &str) -> Made<Resource<String>> {
 }
 
 /// The tree of a text without errors.
-pub(crate) fn lent_tree_without_errors(alloc: Global, text: Text) -> Result<Resource<Text>, Fail> {
+pub fn lent_tree_without_errors(alloc: Global, text: Text) -> Result<Resource<Text>, Fail> {
     match parse(alloc, text) {
         Ok(tree) => Ok(tree),
         Err(_) => Err("a text without errors was refused".into()),
@@ -147,10 +140,7 @@ pub(crate) fn lent_tree_without_errors(alloc: Global, text: Text) -> Result<Reso
 }
 
 /// The same, over texts of its own.
-pub(crate) fn owned_tree_without_errors(
-    alloc: Global,
-    text: &str,
-) -> Result<Resource<String>, Fail> {
+pub fn owned_tree_without_errors(alloc: Global, text: &str) -> Result<Resource<String>, Fail> {
     match parse(alloc, String::from_str(alloc, text)?) {
         Ok(tree) => Ok(tree),
         Err(_) => Err("a text without errors was refused".into()),

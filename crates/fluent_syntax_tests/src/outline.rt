@@ -56,8 +56,11 @@ impl Shown for Span {
     }
 }
 
+/// What it shows, the text, and the outline of the answer.
+pub type Row = (&'static str, &'static str, &'static str);
+
 /// Fails where the outline of the answer is not the expected one.
-pub(crate) fn assert_outline<S: Shown>(
+pub fn assert_outline<S: Shown>(
     alloc: Global,
     shows: &str,
     answer: &Result<Resource<S>, ParseFault<S>>,
@@ -67,7 +70,7 @@ pub(crate) fn assert_outline<S: Shown>(
 }
 
 /// The outline of what a parser answered.
-pub(crate) fn outline_of<S: Shown>(
+pub fn outline_of<S: Shown>(
     alloc: Global,
     answer: &Result<Resource<S>, ParseFault<S>>,
 ) -> Result<String, AllocError> {

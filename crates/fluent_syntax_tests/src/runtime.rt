@@ -1,7 +1,6 @@
 //! Texts that are read without comments.
 
-use crate::entries::Row;
-use crate::outline::assert_outline;
+use crate::outline::{Row, assert_outline};
 use fluent_syntax::parser::parse_runtime;
 use std::alloc::Global;
 use std::test::Fail;

@@ -1,8 +1,7 @@
 //! Texts, and the ranges that they are read as.
 
 use crate::alike::assert_same;
-use crate::entries::Row;
-use crate::outline::assert_outline;
+use crate::outline::{Row, assert_outline};
 use fluent_syntax::parser::Edition;
 use fluent_syntax::spans::{
     line_column, parse_runtime_spans, parse_runtime_spans_edition, parse_spans, parse_spans_edition,

@@ -1,13 +1,13 @@
 //! The smallest trees that break each rule of readable and canonical trees, and trees beside them that keep it.
 
-use crate::alike::assert_same;
-use crate::made::{
-    Made, Text, comment, id, message, message_with_attribute, message_with_placeable,
-    message_with_value, number, one, pattern, variable,
-};
 use fluent_syntax::ast::*;
 use fluent_syntax::laws::{is_canonical, is_readable};
 use fluent_syntax::parser::Edition;
+use fluent_syntax_tests::alike::assert_same;
+use fluent_syntax_tests::made::{
+    Made, Text, comment, id, message, message_with_attribute, message_with_placeable,
+    message_with_value, number, one, pattern, variable,
+};
 use std::alloc::Global;
 use std::test::Fail;
 

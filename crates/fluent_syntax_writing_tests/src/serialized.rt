@@ -1,8 +1,8 @@
 //! Texts, and the texts that their trees are written as.
 
-use crate::alike::assert_same_text;
-use crate::made::lent_tree;
 use fluent_syntax::serializer::serialize;
+use fluent_syntax_tests::alike::assert_same_text;
+use fluent_syntax_tests::made::lent_tree;
 use std::alloc::Global;
 use std::test::Fail;
 

@@ -1,10 +1,10 @@
 //! Values, the trees that they spell, and the JSON forms of trees.
 
-use crate::alike::assert_holds;
-use crate::made::owned_tree;
-use crate::outline::assert_outline;
 use fluent_syntax::ast::Resource;
 use fluent_syntax_json::{ValueFault, form_reads, from_value, to_value};
+use fluent_syntax_tests::alike::assert_holds;
+use fluent_syntax_tests::made::owned_tree;
+use fluent_syntax_tests::outline::assert_outline;
 use serde_json::Value;
 use std::alloc::Global;
 use std::test::Fail;

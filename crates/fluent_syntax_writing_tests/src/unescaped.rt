@@ -1,7 +1,7 @@
 //! Unescaped texts.
 
-use crate::alike::{assert_holds, assert_same_text};
 use fluent_syntax::unicode::{unescape_unicode, unescape_unicode_to_string};
+use fluent_syntax_tests::alike::{assert_holds, assert_same_text};
 use std::alloc::{AllocError, Global};
 use std::borrow::CowStr;
 use std::test::Fail;

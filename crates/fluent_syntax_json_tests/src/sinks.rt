@@ -1,13 +1,13 @@
 //! Sinks that refuse a piece: they hold a beginning of the text.
 ghost use Rattle.std.specs.Prelude.{◌≡◌, ◌+◌, ◌≤◌, string_bytes, string_capacity, string_len};
 
-use crate::alike::assert_holds;
 use crate::json_text::json_text;
-use crate::made::{Text, lent_tree};
 use fluent_syntax::ast::Resource;
 use fluent_syntax::serializer::{Options, serialize_to, serialize_with_options};
 use fluent_syntax::unicode::{SinkError, TextSink, unescape_unicode, unescape_unicode_to_string};
 use fluent_syntax_json::write_to;
+use fluent_syntax_tests::alike::assert_holds;
+use fluent_syntax_tests::made::{Text, lent_tree};
 use std::alloc::{AllocError, Global};
 use std::test::Fail;
 

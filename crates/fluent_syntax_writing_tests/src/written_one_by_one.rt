@@ -1,12 +1,12 @@
 //! Entries that are written one by one.
 ghost use Rattle.std.specs.Prelude.{string_bytes};
 
-use crate::alike::assert_same_text;
-use crate::made::{Made, Text, comment, message_with_value};
 use fluent_syntax::ast::Entry;
 use fluent_syntax::parser::{parse, recovered};
 use fluent_syntax::serializer::{EntryWriter, Options, serialize_with_options};
 use fluent_syntax::unicode::{SinkError, TextSink};
+use fluent_syntax_tests::alike::assert_same_text;
+use fluent_syntax_tests::made::{Made, Text, comment, message_with_value};
 use std::alloc::Global;
 use std::test::Fail;
 

@@ -1,11 +1,11 @@
 //! JSON text that is written without a value.
 
-use crate::alike::assert_same_text;
 use crate::json::{FORMS, Row, tree};
-use crate::made::{Made, lent_tree};
 use fluent_syntax::ast::{Entry, Resource};
 use fluent_syntax::parser::Slice;
 use fluent_syntax_json::{to_value, write_to};
+use fluent_syntax_tests::alike::assert_same_text;
+use fluent_syntax_tests::made::{Made, lent_tree};
 use serde_json::Value;
 use std::alloc::{AllocError, Global};
 use std::test::Fail;

@@ -1,12 +1,12 @@
 //! Written texts of trees that were made by hand.
 
-use crate::alike::assert_same_text;
-use crate::made::{
+use fluent_syntax::ast::*;
+use fluent_syntax::serializer::{Options, serialize, serialize_to, serialize_with_options};
+use fluent_syntax_tests::alike::assert_same_text;
+use fluent_syntax_tests::made::{
     Made, Text, comment, id, message, message_with_attribute, message_with_placeable,
     message_with_value, number, one, pattern, placeable, reference, variable,
 };
-use fluent_syntax::ast::*;
-use fluent_syntax::serializer::{Options, serialize, serialize_to, serialize_with_options};
 use std::alloc::Global;
 use std::test::Fail;
 

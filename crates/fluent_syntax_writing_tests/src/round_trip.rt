@@ -1,17 +1,16 @@
 //! Trees that are written and read again.
 
-use crate::alike::{assert_holds, assert_same_text};
-use crate::entries::Row;
-use crate::made::{
-    Made, Text, comment, message_with_attribute, message_with_value, one, owned_tree,
-    owned_tree_without_errors,
-};
-use crate::outline::{assert_outline, outline_of};
 use fluent_syntax::ast::Entry;
 use fluent_syntax::laws::{
     is_canonical, is_readable, joined, reads_back, reads_readable, reparse, same_texts,
 };
 use fluent_syntax::parser::Edition;
+use fluent_syntax_tests::alike::{assert_holds, assert_same_text};
+use fluent_syntax_tests::made::{
+    Made, Text, comment, message_with_attribute, message_with_value, one, owned_tree,
+    owned_tree_without_errors,
+};
+use fluent_syntax_tests::outline::{Row, assert_outline, outline_of};
 use std::alloc::Global;
 use std::test::Fail;
 

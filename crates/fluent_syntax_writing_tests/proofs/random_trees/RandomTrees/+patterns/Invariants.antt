@@ -1,6 +1,6 @@
 -- Each call of the cycle has a lower depth, or stands lower in it.
 use Rattle.std.proofs.Common.{◌+◌, ◌*◌}
-use Rattle.fluent_syntax_tests.proofs.random_trees.RandomTrees.+patterns.Given as goal
+use Rattle.fluent_syntax_writing_tests.proofs.random_trees.RandomTrees.+patterns.Given as goal
 
 abbrev pub decreases-argument : goal.decreases-argument
 decreases-argument l = 16 * l.depth + 1
