@@ -6,6 +6,7 @@ use Rattle.std.proofs.lemmas.Bool.{false≢true}
 use Rattle.std.proofs.lemmas.Bool.Decides.{nat_tests}
 use Rattle.fluent_syntax_tree.specs.Kind.{Kind}
 use Rattle.fluent_syntax_tree.specs.Entry.{EntryTree, comment, Level}
+use Rattle.fluent_syntax_grammar.specs.Grammar.{family}
 use Rattle.fluent_syntax_grammar.specs.Bytes.{is_letter}
 use Rattle.fluent_syntax_grammar.specs.Places.{has, has_byte, starts_line, BlankBlock, no_line, line}
 use Rattle.fluent_syntax_grammar.specs.Construct.{Outcome, Read, Refused, stops, goes_on, given, at_place, chosen}
@@ -159,7 +160,7 @@ module _ (edition : Edition) (t : List ℕ) where
       differs (implies is_letter is_entry_byte (slice_get t i) letter_entry (letter_of i j a x)) e
 
   entry_there : (i : ℕ) (o : Outcome (EntryTree Span)) (b : Option ℕ) → slice_get t i ≡ b →
-      has t is_entry_byte i ≡ false → entry_of edition t b i o → (k : Kind) × (from : ℕ) × (to : ℕ) ×
+      has t is_entry_byte i ≡ false → entry_of edition t (family edition t) b i o → (k : Kind) × (from : ℕ) × (to : ℕ) ×
       (o ≡ Refused k from to) × IsAt i k from to
   entry_there i o None f e x = message_there i o e x
   entry_there i o (Some b) f e (first g x) = differs (byte_stands is_entry_byte (slice_get t i) b f (hash_entry b g)) e
@@ -275,7 +276,7 @@ module _ (edition : Edition) (t : List ℕ) where
   other_byte i b h e f = false≢true (sym f ∙ (rw e at h))
 
   hash_entry_of : (i : ℕ) (o : Outcome (EntryTree Span)) (b : Option ℕ) → slice_get t i ≡ b → has_byte t 35 i ≡ true →
-      entry_of edition t b i o → comment_entry t i o
+      entry_of edition t (family edition t) b i o → comment_entry t i o
   hash_entry_of i o None e h x = absurd (hash_not i None is_letter h e refl)
   hash_entry_of i o (Some b) e h (first f x) = x
   hash_entry_of i o (Some b) e h (second f x) = absurd (other_byte i b h e f)

@@ -5,6 +5,7 @@ use Rattle.fluent_syntax_tree.specs.Kind.{Kind}
 use Rattle.fluent_syntax_tree.specs.Tree.{PatternTree}
 use Rattle.fluent_syntax_tree.specs.Entry.{AttributeTree, EntryTree}
 use Rattle.fluent_syntax_tree.specs.Every.{list_every}
+use Rattle.fluent_syntax_grammar.specs.Grammar.{family}
 use Rattle.fluent_syntax_grammar.specs.Places.{holds, has_byte}
 use Rattle.fluent_syntax_grammar.specs.Construct.{Read, Construct, chosen, first, second}
 use Rattle.fluent_syntax_grammar.specs.Entries.{message_with, term_with, message_entry, term_entry}
@@ -66,7 +67,7 @@ module _ (edition : Edition) (t : List ℕ) where
   a_hash i b o e f = rw e f
 
   bare_of : (i j : ℕ) (e : EntryTree Span) (o : Option ℕ) → slice_get t i ≡ o → has_byte t 35 i ≡ false →
-      entry_of edition t o i (Read e j) → IsBare e
+      entry_of edition t (family edition t) o i (Read e j) → IsBare e
   bare_of i j e None p h x = message_bare.on_read i j e tt x
   bare_of i j e (Some b) p h (first f x) = differs (a_hash i b (slice_get t i) p f) h
   bare_of i j e (Some b) p h (second f (first g x)) = term_bare.on_read i j e tt x

@@ -5,8 +5,10 @@ use Rattle.fluent_syntax_tree.specs.Kind.{Kind}
 use Rattle.fluent_syntax_grammar.specs.Places.{Stretch, Steps, Reaches}
 use Rattle.fluent_syntax_grammar.specs.Construct.{Outcome, Read, Refused, Construct, ◌>>=◌, stops, goes_on, gives}
 use Rattle.fluent_syntax_grammar.specs.Construct.{given, here, at_place, fails, failed, fails_from, failed_from, over}
-use Rattle.fluent_syntax_grammar.specs.Construct.{passed, at_each, chosen, either, first, second}
+use Rattle.fluent_syntax_grammar.specs.Construct.{passed, at_each, chosen, either, first, second, More, no_item, item}
+use Rattle.fluent_syntax_grammar.specs.Construct.{many}
 use Rattle.fluent_syntax_grammar.proofs.Facts.{here_or_on, some_same}
+use Rattle.fluent_syntax_grammar.proofs.Lists.{rest_of, into_list}
 
 pub record Computed {A : Type 0} (c : Construct A) : Type 0 where
   pub run : ℕ → Option (Outcome A)
@@ -91,15 +93,30 @@ pub either_sound :
 either_sound true c d x y i o h = first refl (x.sound i o h)
 either_sound false c d x y i o h = second refl (y.sound i o h)
 
+pub none_some : {A X : Type 0} {a : A} → None ≡ Some a → X
+none_some e = cc
+
 abbrev pub computed_either : {A : Type 0} {test : Bool} {c d : Construct A} → Computed c → Computed d →
     Computed (either test c d)
 computed_either {test = test} {c = c} {d = d} x y =
     record { run = λ i. choose test (λ u. x.run i) (λ u. y.run i); sound = λ i o h. either_sound test c d x y i o h }
 
--- ---- words
+module _ {A S B : Type 0} (next : S → Construct (More A S)) (add : A → B → B) (none : B)
+    (g : (s : S) → Computed (next s)) where
+  abbrev pub computed_rest : ((s : S) → Computed (many next add none s)) → (x : More A S) →
+      Computed (rest_of next add none x)
+  computed_rest h no_item = computed_gives
+  computed_rest h (item a s) = computed_bind (h s) (λ rest. computed_gives)
 
-pub none_some : {A X : Type 0} {a : A} → None ≡ Some a → X
-none_some e = cc
+  -- a list of fewer items than the fuel
+  abbrev pub computed_many : (fuel : ℕ) → (s : S) → Computed (many next add none s)
+  computed_many zero s = record { run = λ i. None; sound = λ i o x. none_some x }
+  computed_many (suc n) s = record {
+    run = λ i. (computed_bind (g s) (computed_rest (computed_many n))).run i;
+    sound = λ i o x. into_list next add none s i o ((computed_bind (g s) (computed_rest (computed_many n))).sound i o x);
+  }
+
+-- ---- words
 
 abbrev pub computed_steps : {n : ℕ} → ComputedWord (Steps n)
 computed_steps {n = n} = record { run = λ i. Some (i + n); sound = λ i j h. record { by = sym (some_same h) } }

@@ -349,7 +349,7 @@ module _ (t : List ℕ) (n : ℕ) (at : (i j : ℕ) → Tile → Type 0) (c : Co
   found_tiles (suc f) i tiles h = tiles_block f i tiles (find_block t n n i) refl (λ j more x. found_tiles f j more x) h
 
 module _ (edition : Edition) (t : List ℕ) (n : ℕ) where
-  abbrev pub computed_entry_of : (b : Option ℕ) → Computed (entry_of edition t b)
+  abbrev pub computed_entry_of : (b : Option ℕ) → Computed (entry_of edition t (family edition t) b)
   computed_entry_of None = computed_message edition t n
   computed_entry_of (Some b) =
       computed_either (computed_comment t n)

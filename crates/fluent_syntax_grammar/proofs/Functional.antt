@@ -3,9 +3,10 @@ use Rattle.std.proofs.Common.{◌≡◌, ℕ, Bool, refl, sym, ◌∙◌, subst,
 use Rattle.fluent_syntax_grammar.specs.Places.{Stretch, Steps, Reaches, BlankBlock, no_line, line}
 use Rattle.std.proofs.Common.{List}
 use Rattle.fluent_syntax_tree.specs.Kind.{Kind}
-use Rattle.fluent_syntax_grammar.specs.Construct.{Outcome, Construct, ◌>>=◌, stops, goes_on, gives, given, here}
+use Rattle.fluent_syntax_grammar.specs.Construct.{Outcome, Read, Refused, Construct, ◌>>=◌, stops, goes_on, gives, given, here}
 use Rattle.fluent_syntax_grammar.specs.Construct.{at_place, fails, failed, fails_from, failed_from, over, passed}
-use Rattle.fluent_syntax_grammar.specs.Construct.{at_each, chosen, either, first, second}
+use Rattle.fluent_syntax_grammar.specs.Construct.{at_each, chosen, either, first, second, More, many, list_ends}
+use Rattle.fluent_syntax_grammar.specs.Construct.{list_stops, item_and_more, stops_later}
 use Rattle.fluent_syntax_grammar.specs.Laws.{IsFunctional}
 
 -- the relation leads from each place to one place at most
@@ -77,6 +78,52 @@ pub functional_either : {A : Type 0} {b : Bool} {c d : Construct A} → IsFuncti
     IsFunctional (either b c d)
 functional_either {b = b} {c = c} {d = d} cf df = record { same = either_same b c d cf df }
 
+module _ {A S B : Type 0} (next : S → Construct (More A S)) (add : A → B → B) (none : B)
+    (f : (s : S) → IsFunctional (next s)) where
+  list_moved : (q r : S) (k j : ℕ) (o : Outcome B) → q ≡ r → k ≡ j → many next add none q k o →
+      many next add none r j o
+  list_moved q r k j o e f x =
+      subst (λ r. many next add none r j o) e (subst (λ j. many next add none q j o) f x)
+
+  many_same : (s : S) (i : ℕ) (o p : Outcome B) → many next add none s i o → many next add none s i p → o ≡ p
+  many_same s i o p (list_ends x) (list_ends y) = let e = (f s).same i _ _ x y in cc
+  many_same s i o p (list_ends x) (list_stops y) = let e = (f s).same i _ _ x y in cc
+  many_same s i o p (list_ends x) (item_and_more y z) = let e = (f s).same i _ _ x y in cc
+  many_same s i o p (list_ends x) (stops_later y z) = let e = (f s).same i _ _ x y in cc
+  many_same s i o p (list_stops x) (list_ends y) = let e = (f s).same i _ _ x y in cc
+  many_same s i o p (list_stops x) (list_stops y) = let e = (f s).same i _ _ x y in cc
+  many_same s i o p (list_stops x) (item_and_more y z) = let e = (f s).same i _ _ x y in cc
+  many_same s i o p (list_stops x) (stops_later y z) = let e = (f s).same i _ _ x y in cc
+  many_same s i o p (item_and_more x y) (list_ends z) = let e = (f s).same i _ _ x z in cc
+  many_same s i o p (item_and_more x y) (list_stops z) = let e = (f s).same i _ _ x z in cc
+  many_same s i o p (item_and_more {later = r} {j = j} {end = m} {rest = xs} x y) (item_and_more {later = q} {j = h} {end = u} {rest = ys} z w) =
+      let e = (f s).same i _ _ x z in
+      let same_r : q ≡ r = cc in
+      let same_j : h ≡ j = cc in
+      let same : Read xs m ≡ Read ys u = many_same r j _ _ y (list_moved q r h j _ same_r same_j w) in cc
+  many_same s i o p (item_and_more {later = r} {j = j} {end = m} {rest = xs} x y) (stops_later {later = q} {j = h} {from = u} {to = v} {k = l} z w) =
+      let e = (f s).same i _ _ x z in
+      let same_r : q ≡ r = cc in
+      let same_j : h ≡ j = cc in
+      let same : Read xs m ≡ Refused l u v = many_same r j _ _ y (list_moved q r h j _ same_r same_j w) in cc
+  many_same s i o p (stops_later x y) (list_ends z) = let e = (f s).same i _ _ x z in cc
+  many_same s i o p (stops_later x y) (list_stops z) = let e = (f s).same i _ _ x z in cc
+  many_same s i o p (stops_later {later = r} {j = j} {from = m} {to = n} {k = k} x y) (item_and_more {later = q} {j = h} {end = u} {rest = ys} z w) =
+      let e = (f s).same i _ _ x z in
+      let same_r : q ≡ r = cc in
+      let same_j : h ≡ j = cc in
+      let same : Refused k m n ≡ Read ys u = many_same r j _ _ y (list_moved q r h j _ same_r same_j w) in cc
+  many_same s i o p (stops_later {later = r} {j = j} {from = m} {to = n} {k = k} x y) (stops_later {later = q} {j = h} {from = u} {to = v} {k = l} z w) =
+      let e = (f s).same i _ _ x z in
+      let same_r : q ≡ r = cc in
+      let same_j : h ≡ j = cc in
+      let same : Refused k m n ≡ Refused l u v = many_same r j _ _ y (list_moved q r h j _ same_r same_j w) in cc
+
+pub functional_many : {A S B : Type 0} {next : S → Construct (More A S)} {add : A → B → B} {none : B} {s : S} →
+    ((s : S) → IsFunctional (next s)) → IsFunctional (many next add none s)
+functional_many {next = next} {add = add} {none = none} {s = s} f =
+    record { same = many_same next add none f s }
+
 -- ---- longest words
 
 stretch_same : (test : ℕ → Bool) (i j k : ℕ) → Stretch test i j → Stretch test i k → j ≡ k
@@ -118,6 +165,7 @@ pub ruleset functional = (
   functional_over,
   functional_at_each,
   functional_either,
+  functional_many,
   single_stretch,
   single_steps,
   single_reaches,

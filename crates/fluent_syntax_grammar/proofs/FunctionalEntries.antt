@@ -111,7 +111,7 @@ module _ (t : List ℕ) where
   functional_comment = search (words, functional_comment_of) depth 30
 
 module _ (edition : Edition) (t : List ℕ) where
-  functional_entry_of : (b : Option ℕ) → IsFunctional (entry_of edition t b)
+  functional_entry_of : (b : Option ℕ) → IsFunctional (entry_of edition t (family edition t) b)
   functional_entry_of None = functional_message edition t
   functional_entry_of (Some b) = search (words, functional_comment, functional_term, functional_message) depth 30
 

@@ -53,6 +53,10 @@ module _ (P : ℕ → Type 0) where
   earlier_piece s s' e l (run from to) (a, b, c, d, f) = (omega arith, b, c, d, f)
   earlier_piece s s' e l (placed x) g = g
 
+  pub later_piece : (s e e' : ℕ) → e ≤ e' → (p : Piece) → GoodPiece s e p → GoodPiece s e' p
+  later_piece s e e' l (run from to) (a, b, c, d, f) = (a, b, omega arith, d, f)
+  later_piece s e e' l (placed x) g = g
+
   pub earlier_pieces : (s s' e : ℕ) → s' ≤ s → (ps : List Piece) → list_every (GoodPiece s e) ps →
       list_every (GoodPiece s' e) ps
   earlier_pieces s s' e l [] g = tt

@@ -3,7 +3,8 @@ use Rattle.std.proofs.Common.{◌≡◌, ℕ, ◌+◌, Bool, true, false, refl}
 use Rattle.fluent_syntax_tree.specs.Kind.{Kind}
 use Rattle.fluent_syntax_grammar.specs.Construct.{Read, Refused, Construct, ◌>>=◌, stops, goes_on, gives, given, here}
 use Rattle.fluent_syntax_grammar.specs.Construct.{at_place, fails, failed, fails_from, failed_from, over, passed}
-use Rattle.fluent_syntax_grammar.specs.Construct.{at_each, chosen, either, first, second}
+use Rattle.fluent_syntax_grammar.specs.Construct.{at_each, chosen, either, first, second, More, no_item, item}
+use Rattle.fluent_syntax_grammar.specs.Construct.{many, list_ends, list_stops, item_and_more, stops_later}
 
 -- From each place with `pre`, every reading has `read value end`, and every refusal `refused kind from to`.
 pub record Holds {A : Type 0} (pre : ℕ → Type 0) (c : Construct A) (read : A → ℕ → Type 0)
@@ -160,4 +161,35 @@ holds_either {pre = pre} {test = test} {yes = c} {no = d} {read = read} {refused
     record {
       on_read = either_read pre test c d read refused h g;
       on_refused = either_refused pre test c d read refused h g;
+    }
+
+module _ {A S B : Type 0} (next : S → Construct (More A S)) (add : A → B → B) (none : B) (pre : S → ℕ → Type 0)
+    (after : More A S → ℕ → Type 0) (read : B → ℕ → Type 0) (refused : Kind → ℕ → ℕ → Type 0)
+    (h : (s : S) → Holds (pre s) (next s) after refused) (at_end : (i : ℕ) → after no_item i → read none i)
+    (goes : (a : A) (s : S) (i : ℕ) → after (item a s) i → pre s i)
+    (adds : (a : A) (s : S) (i j : ℕ) (b : B) → after (item a s) i → read b j → read (add a b) j) where
+  many_read : (s : S) (i j : ℕ) (b : B) → pre s i → many next add none s i (Read b j) → read b j
+  many_read s i j b p (list_ends x) = at_end j ((h s).on_read i j _ p x)
+  many_read s i j b p (item_and_more {later = r} {j = m} {a = a} x y) = let q = (h s).on_read i m _ p x in
+      adds a r m j _ q (many_read r m j _ (goes a r m q) y)
+
+  many_refused : (s : S) (i from to : ℕ) (k : Kind) → pre s i → many next add none s i (Refused k from to) →
+      refused k from to
+  many_refused s i from to k p (list_stops x) = (h s).on_refused i from to k p x
+  many_refused s i from to k p (stops_later {later = r} {j = m} {a = a} x y) =
+      many_refused r m from to k (goes a r m ((h s).on_read i m _ p x)) y
+
+-- what holds after an item is where the next one begins, and an item is added to what holds of the rest
+pub holds_many :
+    {A S B : Type 0} {next : S → Construct (More A S)} {add : A → B → B} {none : B} {pre : S → ℕ → Type 0}
+    {after : More A S → ℕ → Type 0} {read : B → ℕ → Type 0} {refused : Kind → ℕ → ℕ → Type 0} {s : S} →
+    ((s : S) → Holds (pre s) (next s) after refused) → ((i : ℕ) → after no_item i → read none i) →
+    ((a : A) (s : S) (i : ℕ) → after (item a s) i → pre s i) →
+    ((a : A) (s : S) (i j : ℕ) (b : B) → after (item a s) i → read b j → read (add a b) j) →
+    Holds (pre s) (many next add none s) read refused
+holds_many {next = next} {add = add} {none = none} {pre = pre} {after = after} {read = read} {refused = refused} {s = s}
+    h e g a =
+    record {
+      on_read = many_read next add none pre after read refused h e g a s;
+      on_refused = many_refused next add none pre after read refused h e g a s;
     }

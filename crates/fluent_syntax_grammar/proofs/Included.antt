@@ -2,19 +2,20 @@
 use Rattle.std.proofs.Common.{ℕ, List, [], ◌∷◌, Option, Some, None, Bool, true, false}
 use Rattle.fluent_syntax_tree.specs.Kind.{Kind}
 use Rattle.fluent_syntax_tree.specs.Tree.{InlineTree, KeyTree, PatternTree}
-use Rattle.fluent_syntax_grammar.specs.Construct.{Outcome, Construct, ◌>>=◌, stops, goes_on, at_each, chosen, either}
-use Rattle.fluent_syntax_grammar.specs.Construct.{first, second}
+use Rattle.fluent_syntax_grammar.specs.Construct.{Outcome, Construct, ◌>>=◌, stops, goes_on, gives, at_each, chosen, either}
+use Rattle.fluent_syntax_grammar.specs.Construct.{first, second, More, item, many, list_ends, list_stops}
+use Rattle.fluent_syntax_grammar.specs.Construct.{item_and_more, stops_later}
 use Rattle.fluent_syntax_grammar.specs.Family.{Family}
 use Rattle.fluent_syntax_grammar.specs.Starts.{Start, quote, digit, term, minus, dollar, letter, brace, other}
-use Rattle.fluent_syntax_grammar.specs.Arguments.{call_arguments, argument_value, named_and_more, positional_and_more}
-use Rattle.fluent_syntax_grammar.specs.Arguments.{argument_and_more, more_arguments_at, more_arguments}
+use Rattle.fluent_syntax_grammar.specs.Arguments.{call_arguments, argument_value, named_rest}
+use Rattle.fluent_syntax_grammar.specs.Arguments.{argument_rest, next_argument_at, next_argument, more_arguments}
 use Rattle.fluent_syntax_grammar.specs.Placeables.{variants_of_select, select_with, expression, placeable}
 use Rattle.fluent_syntax_grammar.specs.Inline.{inline_of, inline_expression}
-use Rattle.fluent_syntax_grammar.specs.Lines.{pieces_at, more_pieces, line_and_more, more_lines, no_byte, other_line}
-use Rattle.fluent_syntax_grammar.specs.Lines.{own_line}
+use Rattle.fluent_syntax_grammar.specs.Lines.{next_piece_at, next_piece, more_pieces, line, next_line, more_lines}
+use Rattle.fluent_syntax_grammar.specs.Lines.{no_byte, other_line, own_line}
 use Rattle.fluent_syntax_grammar.specs.Layout.{Line}
 use Rattle.fluent_syntax_grammar.specs.Patterns.{layout_at, layout, pattern}
-use Rattle.fluent_syntax_grammar.specs.Variants.{variant_and_more, variant_after, more_variants}
+use Rattle.fluent_syntax_grammar.specs.Variants.{next_variant, more_variants}
 use Rattle.fluent_syntax_grammar.specs.Grammar.{next}
 use Rattle.fluent_syntax_tree.specs.declared.edition.Edition.{Edition}
 use Rattle.fluent_syntax_tree.specs.declared.spans.Span.{Span}
@@ -54,42 +55,39 @@ pub included_either : {A : Type 0} {b : Bool} {c c' d d' : Construct A} → IsIn
     IsIncluded (either b c d) (either b c' d')
 included_either {b = b} {c = c} {c' = c'} {d = d} {d' = d'} p q = record { part = either_part b c c' d d' p q }
 
+module _ {A S B : Type 0} (f g : S → Construct (More A S)) (add : A → B → B) (none : B)
+    (fg : (s : S) → IsIncluded (f s) (g s)) where
+  many_part : (s : S) (i : ℕ) (o : Outcome B) → many f add none s i o → many g add none s i o
+  many_part s i o (list_ends x) = list_ends ((fg s).part i _ x)
+  many_part s i o (list_stops x) = list_stops ((fg s).part i _ x)
+  many_part s i o (item_and_more x y) = item_and_more ((fg s).part i _ x) (many_part _ _ _ y)
+  many_part s i o (stops_later x y) = stops_later ((fg s).part i _ x) (many_part _ _ _ y)
+
+pub included_many : {A S B : Type 0} {f g : S → Construct (More A S)} {add : A → B → B} {none : B} {s : S} →
+    ((s : S) → IsIncluded (f s) (g s)) → IsIncluded (many f add none s) (many g add none s)
+included_many {f = f} {g = g} {add = add} {none = none} {s = s} fg =
+    record { part = many_part f g add none fg s }
+
 pub ruleset inclusions = (included_same, included_bind, included_at_each, included_either)
 
 -- ---- the rules
 
 pub record IsIncludedFamily (R S : Family) : Type 0 where
-  pub inline_expression : IsIncluded R.inline_expression S.inline_expression
-  pub more_arguments : (names : List (List ℕ)) → IsIncluded (R.more_arguments names) (S.more_arguments names)
-  pub more_variants : (starred : Bool) → IsIncluded (R.more_variants starred) (S.more_variants starred)
-  pub more_pieces : IsIncluded R.more_pieces S.more_pieces
-  pub more_lines : IsIncluded R.more_lines S.more_lines
+  pub expression : IsIncluded R.expression S.expression
+  pub argument_list : IsIncluded R.argument_list S.argument_list
 
 module _ (t : List ℕ) (R S : Family) (h : IsIncludedFamily R S) where
-  nested_inline : IsIncluded R.inline_expression S.inline_expression
-  nested_inline = h.inline_expression
+  inside_braces : IsIncluded R.expression S.expression
+  inside_braces = h.expression
 
-  nested_pieces : IsIncluded R.more_pieces S.more_pieces
-  nested_pieces = h.more_pieces
+  inside_parentheses : IsIncluded R.argument_list S.argument_list
+  inside_parentheses = h.argument_list
 
-  nested_lines : IsIncluded R.more_lines S.more_lines
-  nested_lines = h.more_lines
+  pub included_call : IsIncluded (call_arguments t R) (call_arguments t S)
+  included_call = search (inclusions, inside_parentheses) depth 30
 
-  included_call : IsIncluded (call_arguments t R) (call_arguments t S)
-  included_call = search (inclusions, h.more_arguments) depth 30
-
-  included_variants_of_select : IsIncluded (variants_of_select t R) (variants_of_select t S)
-  included_variants_of_select = search (inclusions, h.more_variants) depth 30
-
-  included_select : (e : InlineTree Span) (o : Option Kind) → IsIncluded (select_with t R e o) (select_with t S e o)
-  included_select e None = search (inclusions, included_variants_of_select) depth 30
-  included_select e (Some k) = search inclusions depth 30
-
-  included_expression : IsIncluded (expression t R) (expression t S)
-  included_expression = search (inclusions, included_select, nested_inline) depth 30
-
-  included_placeable : IsIncluded (placeable t R) (placeable t S)
-  included_placeable = search (inclusions, included_expression) depth 30
+  pub included_placeable : IsIncluded (placeable t R) (placeable t S)
+  included_placeable = search (inclusions, inside_braces) depth 30
 
   included_inline_of : (s : Start) → IsIncluded (inline_of t R s) (inline_of t S s)
   included_inline_of quote = search inclusions depth 30
@@ -101,90 +99,96 @@ module _ (t : List ℕ) (R S : Family) (h : IsIncludedFamily R S) where
   included_inline_of brace = search (inclusions, included_placeable) depth 30
   included_inline_of other = search inclusions depth 30
 
-  included_inline : IsIncluded (inline_expression t R) (inline_expression t S)
+  pub included_inline : IsIncluded (inline_expression t R) (inline_expression t S)
   included_inline = search (inclusions, included_inline_of) depth 30
 
   included_value : (s : Start) → IsIncluded (argument_value t R s) (argument_value t S s)
-  included_value quote = h.inline_expression
-  included_value digit = h.inline_expression
+  included_value quote = included_inline
+  included_value digit = included_inline
   included_value minus = search inclusions depth 30
   included_value term = search inclusions depth 30
   included_value dollar = search inclusions depth 30
-  included_value letter = h.inline_expression
+  included_value letter = included_inline
   included_value brace = search inclusions depth 30
   included_value other = search inclusions depth 30
 
-  included_named : (names : List (List ℕ)) (name : Span) →
-      IsIncluded (named_and_more t R names name) (named_and_more t S names name)
-  included_named names name = search (inclusions, included_value, h.more_arguments) depth 30
+  included_named_rest : (names : List (List ℕ)) (name : Span) →
+      IsIncluded (named_rest t R names name) (named_rest t S names name)
+  included_named_rest names name = search (inclusions, included_value) depth 30
 
-  included_positional : (names : List (List ℕ)) (e : InlineTree Span) →
-      IsIncluded (positional_and_more t R names e) (positional_and_more t S names e)
-  included_positional [] e = search (inclusions, h.more_arguments) depth 30
-  included_positional (n ∷ ns) e = search inclusions depth 30
+  included_argument_rest : (names : List (List ℕ)) (e : InlineTree Span) (o : Option Span) (colon : Bool) →
+      IsIncluded (argument_rest t R names e o colon) (argument_rest t S names e o colon)
+  included_argument_rest names e None colon = included_same
+  included_argument_rest names e (Some n) true = included_named_rest names n
+  included_argument_rest names e (Some n) false = included_same
 
-  included_argument : (names : List (List ℕ)) (e : InlineTree Span) (o : Option Span) (colon : Bool) →
-      IsIncluded (argument_and_more t R names e o colon) (argument_and_more t S names e o colon)
-  included_argument names e None colon = included_positional names e
-  included_argument names e (Some n) true = included_named names n
-  included_argument names e (Some n) false = included_positional names e
+  included_argument_at : (names : List (List ℕ)) (b : Option ℕ) →
+      IsIncluded (next_argument_at t R names b) (next_argument_at t S names b)
+  included_argument_at names None = search inclusions depth 30
+  included_argument_at names (Some b) = search (inclusions, included_argument_rest, included_inline) depth 30
 
-  included_arguments_at : (names : List (List ℕ)) (b : Option ℕ) →
-      IsIncluded (more_arguments_at t R names b) (more_arguments_at t S names b)
-  included_arguments_at names None = search inclusions depth 30
-  included_arguments_at names (Some b) = search (inclusions, included_argument, nested_inline) depth 30
+  included_next_argument : (names : List (List ℕ)) → IsIncluded (next_argument t R names) (next_argument t S names)
+  included_next_argument names = search (inclusions, included_argument_at) depth 30
 
-  included_arguments : (names : List (List ℕ)) → IsIncluded (more_arguments t R names) (more_arguments t S names)
-  included_arguments names = search (inclusions, included_arguments_at) depth 30
+  pub included_arguments : (names : List (List ℕ)) →
+      IsIncluded (more_arguments t R names) (more_arguments t S names)
+  included_arguments names = included_many included_next_argument
 
-  included_pieces_at : (b : Option ℕ) → IsIncluded (pieces_at t R b) (pieces_at t S b)
-  included_pieces_at None = search inclusions depth 30
-  included_pieces_at (Some b) = search (inclusions, included_placeable, nested_pieces) depth 30
+  included_piece_at : (b : Option ℕ) → IsIncluded (next_piece_at t R b) (next_piece_at t S b)
+  included_piece_at None = search inclusions depth 30
+  included_piece_at (Some b) = search (inclusions, included_placeable) depth 30
 
-  included_pieces : IsIncluded (more_pieces t R) (more_pieces t S)
-  included_pieces = search (inclusions, included_pieces_at) depth 30
+  included_next_piece : IsIncluded (next_piece t R) (next_piece t S)
+  included_next_piece = search (inclusions, included_piece_at) depth 30
 
-  included_line : IsIncluded (line_and_more t R) (line_and_more t S)
-  included_line = search (inclusions, nested_pieces, nested_lines) depth 30
+  pub included_pieces : IsIncluded (more_pieces t R) (more_pieces t S)
+  included_pieces = included_many (λ u. included_next_piece)
 
-  lines_part : (i : ℕ) (o : Outcome (List Line)) → more_lines t R i o → more_lines t S i o
-  lines_part i o (no_byte a b) = no_byte a b
-  lines_part i o (other_line a b c) = other_line a b c
-  lines_part i o (own_line a b c d) = own_line a b c (included_line.part i o d)
+  included_line : IsIncluded (line t R) (line t S)
+  included_line = search (inclusions, included_pieces) depth 30
+
+  included_own : IsIncluded {A = More Line (Unit {0})} (line t R >>= λ l. gives (item l tt))
+      (line t S >>= λ l. gives (item l tt))
+  included_own = search (inclusions, included_line) depth 30
+
+  line_part : (i : ℕ) (o : Outcome (More Line (Unit {0}))) → next_line t R i o → next_line t S i o
+  line_part i o (no_byte a b) = no_byte a b
+  line_part i o (other_line a b c) = other_line a b c
+  line_part i o (own_line a b c d) = own_line a b c (included_own.part i o d)
+
+  pub included_next_line : IsIncluded (next_line t R) (next_line t S)
+  included_next_line = record { part = line_part }
 
   pub included_lines : IsIncluded (more_lines t R) (more_lines t S)
-  included_lines = record { part = lines_part }
+  included_lines = included_many (λ u. included_next_line)
 
   included_layout_at : (o : Option ℕ) → IsIncluded (layout_at t R o) (layout_at t S o)
-  included_layout_at None = search (inclusions, nested_pieces, nested_lines) depth 30
-  included_layout_at (Some k) = search (inclusions, nested_lines) depth 30
+  included_layout_at None = search (inclusions, included_pieces, included_lines) depth 30
+  included_layout_at (Some k) = search (inclusions, included_lines) depth 30
 
   included_layout : IsIncluded (layout t R) (layout t S)
   included_layout = search (inclusions, included_layout_at) depth 30
 
 module _ (edition : Edition) (t : List ℕ) (R S : Family) (h : IsIncludedFamily R S) where
-  included_pattern : IsIncluded (pattern edition t R) (pattern edition t S)
-  included_pattern = search (inclusions, included_layout t R S h) depth 30
+  pub included_pattern : IsIncluded (pattern edition t R) (pattern edition t S)
+  included_pattern = search (inclusions, included_layout) depth 30
 
-  included_variant : (starred star : Bool) (key : KeyTree Span) (p : Option (PatternTree Span)) →
-      IsIncluded (variant_and_more edition t R starred star key p) (variant_and_more edition t S starred star key p)
-  included_variant starred star key None = search inclusions depth 30
-  included_variant starred star key (Some p) = search (inclusions, h.more_variants) depth 30
+  included_next_variant : (starred : Bool) →
+      IsIncluded (next_variant edition t R starred) (next_variant edition t S starred)
+  included_next_variant starred = search (inclusions, included_pattern) depth 30
 
-  included_after : (starred star : Bool) →
-      IsIncluded (variant_after edition t R starred star) (variant_after edition t S starred star)
-  included_after starred star = search (inclusions, included_pattern, included_variant) depth 30
-
-  included_variants : (starred : Bool) →
+  pub included_variants : (starred : Bool) →
       IsIncluded (more_variants edition t R starred) (more_variants edition t S starred)
-  included_variants starred = search (inclusions, included_after) depth 30
+  included_variants starred = included_many included_next_variant
+
+  included_select : (e : InlineTree Span) (o : Option Kind) →
+      IsIncluded (select_with edition t R e o) (select_with edition t S e o)
+  included_select e None = search (inclusions, included_variants) depth 30
+  included_select e (Some k) = search inclusions depth 30
+
+  pub included_expression : IsIncluded (expression edition t R) (expression edition t S)
+  included_expression = search (inclusions, included_select, included_inline) depth 30
 
   -- the rules over a family are included in the rules over a larger one
   pub included_next : IsIncludedFamily (next edition t R) (next edition t S)
-  included_next = record {
-    inline_expression = included_inline t R S h;
-    more_arguments = included_arguments t R S h;
-    more_variants = included_variants;
-    more_pieces = included_pieces t R S h;
-    more_lines = included_lines t R S h;
-  }
+  included_next = record { expression = included_expression; argument_list = included_arguments t R S h [] }

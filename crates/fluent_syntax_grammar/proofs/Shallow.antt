@@ -15,10 +15,11 @@ use Rattle.fluent_syntax_grammar.specs.Construct.{Construct, Outcome, Read, Refu
 use Rattle.fluent_syntax_grammar.specs.Construct.{first, second, failed, at_place}
 use Rattle.fluent_syntax_grammar.specs.Entries.{attribute}
 use Rattle.fluent_syntax_grammar.specs.Family.{Family}
-use Rattle.fluent_syntax_grammar.specs.Grammar.{family, pattern, placeable}
+use Rattle.fluent_syntax_grammar.specs.Grammar.{family, inline_expression, more_pieces, more_lines as grammar_lines, pattern, placeable}
+use Rattle.fluent_syntax_grammar.specs.Construct.{no_item, many, list_ends}
 use Rattle.fluent_syntax_grammar.specs.Laws.{IsFunctional}
 use Rattle.fluent_syntax_grammar.specs.Layout.{Piece, Ending}
-use Rattle.fluent_syntax_grammar.specs.Lines.{belongs, ending, is_run_place, more_lines, no_byte, other_line, own_line}
+use Rattle.fluent_syntax_grammar.specs.Lines.{belongs, ending, is_run_place, next_line, no_byte, other_line, own_line}
 use Rattle.fluent_syntax_grammar.specs.Nesting.{Deeper, IsArgument, IsNamed, Selects, attribute_head, begins_value}
 use Rattle.fluent_syntax_grammar.specs.Nesting.{fields_head, list_head, placeable_head, select_head, term_head}
 use Rattle.fluent_syntax_grammar.specs.Nesting.{variant_head, in_inline_expression, in_value, in_call, in_expression}
@@ -45,7 +46,7 @@ use Rattle.fluent_syntax_grammar.proofs.FunctionalEntries.{functional_attribute,
 use Rattle.fluent_syntax_grammar.proofs.FunctionalRules as rules
 use Rattle.fluent_syntax_grammar.proofs.FunctionalWords.{functional_identifier, functional_optional, functional_token}
 use Rattle.fluent_syntax_grammar.proofs.FunctionalWords.{functional_number}
-use Rattle.fluent_syntax_grammar.proofs.Nesting.{from_family, functional_family}
+use Rattle.fluent_syntax_grammar.proofs.Nesting.{functional_family}
 use Rattle.fluent_syntax_grammar.proofs.OneTiling.{IsOneTile}
 
 ruleset words =
@@ -149,41 +150,41 @@ module _ (edition : Edition) (t : List ℕ) where
   move : {part : _} {n j k : ℕ} → j ≡ k → Deeper edition t part n j → Deeper edition t part n k
   move {part = part} {n = n} same d = subst (λ k. Deeper edition t part n k) same d
 
-  arrow_same : (i : ℕ) (e : InlineTree Span) (j k : ℕ) → R.inline_expression i (Read e j) → Blank t j k → {m : ℕ} →
+  arrow_same : (i : ℕ) (e : InlineTree Span) (j k : ℕ) → inline_expression edition t i (Read e j) → Blank t j k → {m : ℕ} →
       (x : Selects edition t i m) → x.arrow ≡ k
   arrow_same i e j k read blank x =
-      let same = read_at h.inline_expression i x.read read in
+      let same = read_at (rules.functional_inline t R h) i x.read read in
       single_stretch.same j x.arrow k (subst (λ j. Blank t j x.arrow) same x.blank) blank
 
-  module _ (i : ℕ) (e : InlineTree Span) (j : ℕ) (read : R.inline_expression i (Read e j)) where
+  module _ (i : ℕ) (e : InlineTree Span) (j : ℕ) (read : inline_expression edition t i (Read e j)) where
     same_name : {name : Span} → argument_name e ≡ Some name → {names : List (List ℕ)} {other : Span} {k : ℕ} →
         IsNamed edition t names i other k → other ≡ name
     same_name {name = name} is {other = other} x =
-        let same = read_as h.inline_expression i x.argument.read read in
+        let same = read_as (rules.functional_inline t R h) i x.argument.read read in
         some_same (sym (subst (λ e. argument_name e ≡ Some other) same x.is) ∙ is)
 
     same_start : (m : ℕ) → Blank t (j + 1) m → {names : List (List ℕ)} {name : Span} {k : ℕ} →
         IsNamed edition t names i name k → k ≡ m
     same_start m blank {k = k} x =
-        let same = read_at h.inline_expression i x.argument.read read in
+        let same = read_at (rules.functional_inline t R h) i x.argument.read read in
         single_stretch.same (j + 1) k m (subst (λ j. Blank t (j + 1) k) same x.blank) blank
 
     no_positional : {name : Span} → argument_name e ≡ Some name → has_byte t colon j ≡ true → {o : InlineTree Span}
         {end : ℕ} → IsArgument edition t i o end → (argument_name o ≡ None) ⊎ (has_byte t colon end ≡ false) → ⊥
     no_positional is mark x (inl none) =
-        let same = read_as h.inline_expression i x.read read in
+        let same = read_as (rules.functional_inline t R h) i x.read read in
         let f = subst (λ e. argument_name e ≡ None) same none in cc
     no_positional is mark x (inr none) =
-        let same = read_at h.inline_expression i x.read read in
+        let same = read_at (rules.functional_inline t R h) i x.read read in
         differs mark (subst (λ j. has_byte t colon j ≡ false) same none)
 
     no_named : (argument_name e ≡ None) ⊎ (has_byte t colon j ≡ false) → {names : List (List ℕ)} {name : Span}
         {k : ℕ} → IsNamed edition t names i name k → ⊥
     no_named (inl none) x =
-        let same = read_as h.inline_expression i x.argument.read read in
+        let same = read_as (rules.functional_inline t R h) i x.argument.read read in
         let f = subst (λ e. argument_name e ≡ Some _) same x.is in cc
     no_named (inr none) x =
-        let same = read_at h.inline_expression i x.argument.read read in
+        let same = read_at (rules.functional_inline t R h) i x.argument.read read in
         differs (subst (λ j. has_byte t colon j ≡ true) same x.mark) none
 
   read_brace : (i : ℕ) {e : ExpressionTree Span} {j : ℕ} → placeable edition t i (Read e j) →
@@ -242,12 +243,12 @@ module _ (edition : Edition) (t : List ℕ) where
         let same : k ≡ m = omega (arith, is, e) in
         subst (λ k. Deeper edition t in_expression k j) same (move (read_at (functional_placeable_head t) i x r) d)
 
-    pub expression_stuck : (k : Kind) (from to : ℕ) → R.inline_expression i (Refused k from to) →
+    pub expression_stuck : (k : Kind) (from to : ℕ) → inline_expression edition t i (Refused k from to) →
         Deeper edition t in_expression n i → Deeper edition t in_inline_expression n i
     expression_stuck k from to r (its_selector d) = d
-    expression_stuck k from to r (its_variants x d) = absurd (clash h.inline_expression i x.read r)
+    expression_stuck k from to r (its_variants x d) = absurd (clash (rules.functional_inline t R h) i x.read r)
 
-    module _ (e : InlineTree Span) (j k : ℕ) (read : R.inline_expression i (Read e j)) (blank : Blank t j k) where
+    module _ (e : InlineTree Span) (j k : ℕ) (read : inline_expression edition t i (Read e j)) (blank : Blank t j k) where
       pub no_arrow : has_arrow t k ≡ false → Deeper edition t in_expression n i →
           Deeper edition t in_inline_expression n i
       no_arrow none (its_selector d) = d
@@ -258,7 +259,7 @@ module _ (edition : Edition) (t : List ℕ) where
           Deeper edition t in_inline_expression n i
       no_selector_there f is (its_selector d) = d
       no_selector_there f is (its_variants x d) =
-          let same = read_as h.inline_expression i x.read read in
+          let same = read_as (rules.functional_inline t R h) i x.read read in
           let none = subst (λ e. selector_fault e ≡ None) same x.selects in
           cc
 
@@ -304,14 +305,14 @@ module _ (edition : Edition) (t : List ℕ) where
     arguments_closed names there (behind_named x v s d) = differs there x.argument.other
     arguments_closed names there (behind_positional x is s d) = differs there x.other
 
-    pub arguments_stuck : (k : Kind) (from to : ℕ) (names : List (List ℕ)) → R.inline_expression i (Refused k from to) →
+    pub arguments_stuck : (k : Kind) (from to : ℕ) (names : List (List ℕ)) → inline_expression edition t i (Refused k from to) →
         Deeper edition t (in_arguments names) n i → Deeper edition t in_inline_expression n i
     arguments_stuck k from to names r (its_argument o d) = d
-    arguments_stuck k from to names r (its_named_value x d) = absurd (clash h.inline_expression i x.argument.read r)
-    arguments_stuck k from to names r (behind_named x v s d) = absurd (clash h.inline_expression i x.argument.read r)
-    arguments_stuck k from to names r (behind_positional x is s d) = absurd (clash h.inline_expression i x.read r)
+    arguments_stuck k from to names r (its_named_value x d) = absurd (clash (rules.functional_inline t R h) i x.argument.read r)
+    arguments_stuck k from to names r (behind_named x v s d) = absurd (clash (rules.functional_inline t R h) i x.argument.read r)
+    arguments_stuck k from to names r (behind_positional x is s d) = absurd (clash (rules.functional_inline t R h) i x.read r)
 
-    module _ (e : InlineTree Span) (j : ℕ) (read : R.inline_expression i (Read e j)) where
+    module _ (e : InlineTree Span) (j : ℕ) (read : inline_expression edition t i (Read e j)) where
       pub duplicate_led : (names : List (List ℕ)) (name : Span) → argument_name e ≡ Some name →
           has_byte t colon j ≡ true → is_used (bytes_at t name) names ≡ true →
           Deeper edition t (in_arguments names) n i → Deeper edition t in_inline_expression n i
@@ -371,7 +372,7 @@ module _ (edition : Edition) (t : List ℕ) where
       positional_led next is after (its_named_value x d) = absurd (no_named i e j read is x)
       positional_led next is after (behind_named x v s d) = absurd (no_named i e j read is x)
       positional_led next is after (behind_positional {next = next'} x other s d) =
-          let same = read_at h.inline_expression i x.read read in
+          let same = read_at (rules.functional_inline t R h) i x.read read in
           inr (move (read_at (rules.functional_separator t) j (subst (λ j. separator t j (Read tt next')) same s) after)
           d)
 
@@ -468,30 +469,34 @@ module _ (edition : Edition) (t : List ℕ) where
           differs
           (subst (λ k. belongs t (nat_lt i k) k ≡ true) (single_stretch.same i _ k x.blank blank) x.own) none
 
-      pub lines_stuck : (f : Kind) (from to : ℕ) → R.more_pieces k (Refused f from to) →
+      pub lines_stuck : (f : Kind) (from to : ℕ) → more_pieces edition t k (Refused f from to) →
           Deeper edition t in_lines n i → Deeper edition t in_pieces n k
       lines_stuck f from to r (its_line x d) = move (single_stretch.same i _ k x.blank blank) d
       lines_stuck f from to r (behind_line {j = j} ps x p e d) =
-          absurd (clash h.more_pieces k
-          (moved R.more_pieces {o = Read ps j} (single_stretch.same i _ k x.blank blank) p) r)
+          absurd (clash (rules.functional_pieces t R h) k
+          (moved (more_pieces edition t) {o = Read ps j} (single_stretch.same i _ k x.blank blank) p) r)
 
-      pub lines_led : (ps : List Piece) (j : ℕ) (end : Ending) (m : ℕ) → R.more_pieces k (Read ps j) →
+      pub lines_led : (ps : List Piece) (j : ℕ) (end : Ending) (m : ℕ) → more_pieces edition t k (Read ps j) →
           ending t j (Read end m) → Deeper edition t in_lines n i →
           Deeper edition t in_pieces n k ⊎ Deeper edition t in_lines n m
       lines_led ps j end m r ends (its_line x d) = inl (move (single_stretch.same i _ k x.blank blank) d)
       lines_led ps j end m r ends (behind_line {j = j'} {m = m'} qs x p e d) =
-          let there = read_at h.more_pieces k
-          (moved R.more_pieces {o = Read qs j'} (single_stretch.same i _ k x.blank blank) p) r in
+          let there = read_at (rules.functional_pieces t R h) k
+          (moved (more_pieces edition t) {o = Read qs j'} (single_stretch.same i _ k x.blank blank) p) r in
           inr (move (read_at (rules.functional_ending t) j (moved (ending t) there e) ends) d)
 
-    no_lines_rule : (j : ℕ) → more_lines t R i (Read [] j) → Deeper edition t in_lines n i → ⊥
+    no_lines_rule : (j : ℕ) → next_line t R i (Read no_item j) → Deeper edition t in_lines n i → ⊥
     no_lines_rule j (no_byte {k = k} blank none) d = lines_none k blank none d
     no_lines_rule j (other_line {k = k} blank there none) d = lines_other k blank none d
-    no_lines_rule j (own_line blank there own (goes_on x (goes_on y z))) d = elim z [ ]
+    no_lines_rule j (own_line blank there own (goes_on x y)) d = elim y [ ]
+
+    no_line_first : (u : Unit {0}) (j : ℕ) →
+        many (λ u. next_line t R) (λ l ls. l ∷ ls) [] u i (Read [] j) → Deeper edition t in_lines n i → ⊥
+    no_line_first u j (list_ends x) d = no_lines_rule j x d
 
     -- where no line is read, none nests
-    pub no_lines_led : (j : ℕ) → R.more_lines i (Read [] j) → Deeper edition t in_lines n i → ⊥
-    no_lines_led j r d = no_lines_rule j ((from_family edition t).more_lines.part i _ r) d
+    pub no_lines_led : (j : ℕ) → grammar_lines edition t i (Read [] j) → Deeper edition t in_lines n i → ⊥
+    no_lines_led j r d = no_line_first tt j r d
 
     -- ---- patterns
 
@@ -503,19 +508,19 @@ module _ (edition : Edition) (t : List ℕ) where
     block_led k m is block (its_opening e d) = let f = sym e ∙ is in cc
     block_led k m is block (behind_opening ps e p x d) = let f = sym e ∙ is in cc
 
-    pub opening_stuck : (k : Kind) (from to : ℕ) → after_eol t i ≡ None → R.more_pieces i (Refused k from to) →
+    pub opening_stuck : (k : Kind) (from to : ℕ) → after_eol t i ≡ None → more_pieces edition t i (Refused k from to) →
         Deeper edition t in_layout n i → Deeper edition t in_pieces n i
     opening_stuck k from to is r (its_lines e b d) = let f = sym e ∙ is in cc
     opening_stuck k from to is r (its_opening e d) = d
-    opening_stuck k from to is r (behind_opening ps e p x d) = absurd (clash h.more_pieces i p r)
+    opening_stuck k from to is r (behind_opening ps e p x d) = absurd (clash (rules.functional_pieces t R h) i p r)
 
     pub opening_led : (ps : List Piece) (j : ℕ) (end : Ending) (m : ℕ) → after_eol t i ≡ None →
-        R.more_pieces i (Read ps j) → ending t j (Read end m) → Deeper edition t in_layout n i →
+        more_pieces edition t i (Read ps j) → ending t j (Read end m) → Deeper edition t in_layout n i →
         Deeper edition t in_pieces n i ⊎ Deeper edition t in_lines n m
     opening_led ps j end m is r ends (its_lines e b d) = let f = sym e ∙ is in cc
     opening_led ps j end m is r ends (its_opening e d) = inl d
     opening_led ps j end m is r ends (behind_opening {j = j'} {m = m'} qs e p x d) =
-        let there = read_at h.more_pieces i p r in
+        let there = read_at (rules.functional_pieces t R h) i p r in
         inr (move (read_at (rules.functional_ending t) j (moved (ending t) there x) ends) d)
 
     pub pattern_led : (j : ℕ) → InlineBlank t i j → Deeper edition t in_pattern n i → Deeper edition t in_layout n j

@@ -4,6 +4,7 @@ use Rattle.std.proofs.Common.{true, false, refl, subst, arith, inl, inr}
 use Rattle.std.specs.Prelude.{slice_get, ◌==◌}
 use Rattle.fluent_syntax_tree.specs.Tree.{PatternTree}
 use Rattle.fluent_syntax_tree.specs.Entry.{AttributeTree, EntryTree}
+use Rattle.fluent_syntax_grammar.specs.Grammar.{family}
 use Rattle.fluent_syntax_grammar.specs.Places.{Stretch, has_byte, after_eol, is_line_place, BlankBlock}
 use Rattle.fluent_syntax_grammar.specs.Construct.{Outcome, Read, Refused, stops, goes_on, given, chosen, either, first}
 use Rattle.fluent_syntax_grammar.specs.Construct.{second}
@@ -210,12 +211,12 @@ module _ (edition : Edition) (t : List ℕ) where
       (x.0, second e x.1)
 
   entry_choice : (i b : ℕ) (hash : Bool) → i ≤ length t → slice_get t i ≡ Some b → (b == 35) ≡ hash →
-      (o : Outcome (EntryTree Span)) × entry_of edition t (Some b) i o
+      (o : Outcome (EntryTree Span)) × entry_of edition t (family edition t) (Some b) i o
   entry_choice i b true l e f = let x = comment_has t i l (hash_stands i b e f) in (x.0, first f x.1)
   entry_choice i b false l e f = let x = entry_other i b (b == 45) l refl in (x.0, second f x.1)
 
   entry_has_of : (i : ℕ) (o : Option ℕ) → i ≤ length t → slice_get t i ≡ o → (p : Outcome (EntryTree Span)) ×
-      entry_of edition t o i p
+      entry_of edition t (family edition t) o i p
   entry_has_of i None l e = (both_message edition t {s = i}).total.has i (record { late = omega arith; in_text = l })
   entry_has_of i (Some b) l e = entry_choice i b (b == 35) l e refl
 

@@ -6,13 +6,13 @@ use Rattle.fluent_syntax_tree.specs.Kind.{Kind, ExpectedMessageField, ExpectedTe
 use Rattle.fluent_syntax_grammar.specs.Places.{Stretch, after_eol, Word, Blank, BlankBlock, is_line_place}
 use Rattle.fluent_syntax_grammar.specs.Lines.{is_run_place}
 use Rattle.fluent_syntax_grammar.specs.Construct.{Read, Refused, Construct, ◌>>=◌, stops, goes_on, gives, here}
-use Rattle.fluent_syntax_grammar.specs.Construct.{at_place, fails, over, at_each, either}
+use Rattle.fluent_syntax_grammar.specs.Construct.{at_place, fails, over, at_each, either, More, no_item, item, many}
 use Rattle.fluent_syntax_grammar.specs.Words.{spanned, inline_blank, blank, blank_block, past_eol, optional_eol}
 use Rattle.fluent_syntax_grammar.specs.Words.{rest_of_line}
 use Rattle.fluent_syntax_grammar.specs.Meaning.{kind_means}
 use Rattle.fluent_syntax_tree.specs.declared.spans.Span.{Span}
 use Rattle.fluent_syntax_grammar.proofs.Holds.{Holds, holds_weaker, holds_bind, holds_gives, holds_fails, holds_over}
-use Rattle.fluent_syntax_grammar.proofs.Holds.{holds_at_each, holds_either}
+use Rattle.fluent_syntax_grammar.proofs.Holds.{holds_at_each, holds_either, holds_many}
 use Rattle.fluent_syntax_grammar.proofs.Cuts.{IsCuts, IsAsciiSet, ascii_space, word_place, blank_place, block_place}
 use Rattle.fluent_syntax_grammar.proofs.Cuts.{block_forward, eol_forward, eol_place, line_stop, run_stop}
 
@@ -125,6 +125,22 @@ module _ {t : List ℕ} {P : ℕ → Type 0} {s : ℕ} where
       ((m : ℕ) → Inside P s m → Sound t P m (f m) Good) → Sound t P s (here >>= f) Good
   sound_here {Good = Good} {f = f} g =
       record { holds = record { on_read = here_read t P s Good f g; on_refused = here_refused t P s Good f g } }
+
+-- what is good of a list's item, where there is one
+abbrev pub good_more : {A S : Type 0} → (A → Type 0) → More A S → Type 0
+good_more Good no_item = Unit {0}
+good_more Good (item a s) = Good a
+
+pub sound_many :
+    {A S B : Type 0} {t : List ℕ} {P : ℕ → Type 0} {s : ℕ} {next : S → Construct (More A S)} {add : A → B → B} {none : B}
+    {r : S} {Good : A → Type 0} {All : B → Type 0} → ((r : S) → Sound t P s (next r) (good_more Good)) → All none →
+    ((a : A) (b : B) → Good a → All b → All (add a b)) → Sound t P s (many next add none r) All
+sound_many {Good = Good} h e g =
+    record {
+      holds = holds_many (λ r. (h r).holds) (λ i p. record { late = p.late; place = p.place; good = e })
+          (λ a r i p. record { late = p.late; place = p.place })
+          (λ a r i j b p q. record { late = q.late; place = q.place; good = g a b p.good q.good });
+    }
 
 -- the text from an earlier place to here
 pub sound_spanned : {t : List ℕ} {P : ℕ → Type 0} {s : ℕ} → P s → Sound t P s (spanned s) (IsSpan P)

@@ -1,21 +1,25 @@
 -- Lines, patterns and variants over a sound family are sound.
-use Rattle.std.proofs.Common.{◌≡◌, ℕ, zero, suc, ◌+◌, ◌-◌, ◌≤◌, List, ◌∷◌, Option, Some, None, Bool, true, false, refl}
-use Rattle.std.proofs.Common.{sym, subst, arith, inl, inr}
+use Rattle.std.proofs.Common.{◌≡◌, ℕ, zero, suc, ◌+◌, ◌-◌, ◌≤◌, List, [], ◌∷◌, Option, Some, None, Bool, true, false, refl}
+use Rattle.std.proofs.Common.{sym, ◌∙◌, subst, arith, inl, inr}
 use Rattle.std.specs.Prelude.{slice_get, ◌==◌, ◌||◌, if◌then◌else◌}
-use Rattle.fluent_syntax_tree.specs.Kind.{Kind}
-use Rattle.fluent_syntax_tree.specs.Tree.{ExpressionTree, KeyTree, PatternTree}
+use Rattle.fluent_syntax_tree.specs.Kind.{Kind, TermAttributeAsPlaceable}
+use Rattle.fluent_syntax_grammar.specs.Meaning.{kind_means}
+use Rattle.fluent_syntax_tree.specs.Tree.{inline, InlineTree, KeyTree, PatternTree}
 use Rattle.fluent_syntax_tree.specs.Every.{key_every, expression_every, variants_every, pattern_every, option_every}
-use Rattle.fluent_syntax_tree.specs.Every.{list_every}
+use Rattle.fluent_syntax_tree.specs.Every.{list_every, variant_every, inline_every}
 use Rattle.fluent_syntax_grammar.specs.Bytes.{lf, is_space}
-use Rattle.fluent_syntax_grammar.specs.Places.{Stretch, has, after_eol, InlineBlank}
-use Rattle.fluent_syntax_grammar.specs.Construct.{Read, Refused, Construct, ◌>>=◌, ◌>>◌, stops, goes_on, gives, given}
-use Rattle.fluent_syntax_grammar.specs.Construct.{here, at_place, over, passed, chosen}
+use Rattle.fluent_syntax_grammar.specs.Places.{has, after_eol, InlineBlank}
+use Rattle.fluent_syntax_grammar.specs.Construct.{Read, Refused, ◌>>=◌, stops, goes_on, gives, given}
+use Rattle.fluent_syntax_grammar.specs.Construct.{at_place, passed, at_each, chosen, either, fails, More, no_item, item}
+use Rattle.fluent_syntax_grammar.specs.Construct.{many, list_ends, list_stops, item_and_more, stops_later}
 use Rattle.fluent_syntax_grammar.specs.Family.{Family}
-use Rattle.fluent_syntax_grammar.specs.Layout.{Piece, run, Ending, lf_at, crlf_at, Line}
-use Rattle.fluent_syntax_grammar.specs.Lines.{is_run_place, ending_of, ending, pieces_at, more_pieces, line}
-use Rattle.fluent_syntax_grammar.specs.Lines.{line_and_more, more_lines, no_byte, other_line, own_line}
+use Rattle.fluent_syntax_grammar.specs.Layout.{Piece, Ending, lf_at, crlf_at, Line}
+use Rattle.fluent_syntax_grammar.specs.Lines.{ending_of, ending, text_run, next_piece_at, next_piece, more_pieces, line}
+use Rattle.fluent_syntax_grammar.specs.Lines.{next_line, more_lines, no_byte, other_line, own_line}
+use Rattle.fluent_syntax_grammar.specs.Placeables.{selector_fault, is_term_attribute, variants_of_select, select_with}
+use Rattle.fluent_syntax_grammar.specs.Placeables.{expression}
 use Rattle.fluent_syntax_grammar.specs.Patterns.{layout_at, layout, pattern}
-use Rattle.fluent_syntax_grammar.specs.Variants.{variant_and_more, variant_after, more_variants}
+use Rattle.fluent_syntax_grammar.specs.Variants.{variant_of, variant_after, next_variant, more_variants}
 use Rattle.fluent_syntax_grammar.specs.Grammar.{next, within, family}
 use Rattle.fluent_syntax_tree.specs.declared.edition.Edition.{Edition}
 use Rattle.fluent_syntax_tree.specs.declared.spans.Span.{Span}
@@ -24,12 +28,14 @@ use Rattle.fluent_syntax_grammar.proofs.Holds.{holds_over, holds_at_each, holds_
 use Rattle.fluent_syntax_grammar.proofs.Cuts.{IsCuts, ascii_byte, ascii_has, ascii_space, eol_cases, eol_forward}
 use Rattle.fluent_syntax_grammar.proofs.Cuts.{eol_place, stretch_places, word_place}
 use Rattle.fluent_syntax_grammar.proofs.Sound.{IsSpan, Inside, Ended, IsFault, Sound, weaker_fault, sound_bind}
-use Rattle.fluent_syntax_grammar.proofs.Sound.{sound_gives, sound_fails, sound_either, sound_here, known}
+use Rattle.fluent_syntax_grammar.proofs.Sound.{sound_gives, sound_fails, sound_either, sound_here, known, IsPlain, good_more, sound_many}
 use Rattle.fluent_syntax_grammar.proofs.Sound.{sound_inline_blank, sound_blank, sound_blank_block, onward_run}
 use Rattle.fluent_syntax_grammar.proofs.SoundWords.{sound_optional, sound_token}
-use Rattle.fluent_syntax_grammar.proofs.GoodLayout.{GoodEnding, GoodLine, GoodLayout, earlier_pieces, good_pattern}
-use Rattle.fluent_syntax_grammar.proofs.SoundRules.{EndedPieces, IsSoundFamily, sound_key, sound_only}
-use Rattle.fluent_syntax_grammar.proofs.SoundRules.{sound_end, sound_placeable, sound_inline, sound_arguments}
+use Rattle.fluent_syntax_grammar.proofs.GoodLayout.{GoodPiece, GoodEnding, GoodLine, GoodLayout, later_piece}
+use Rattle.fluent_syntax_grammar.proofs.GoodLayout.{earlier_pieces, good_pattern}
+use Rattle.fluent_syntax_grammar.proofs.SoundRules.{IsSoundFamily, sound_key, sound_only, sound_end, plain_fault}
+use Rattle.fluent_syntax_grammar.proofs.SoundRules.{sound_arrow, AtArrow, after_arrow, sound_placeable, sound_inline}
+use Rattle.fluent_syntax_grammar.proofs.SoundRules.{sound_arguments}
 use Rattle.fluent_syntax_grammar.proofs.Facts.{byte_stands, two_on, two_on_as_one, one_on_as_two}
 
 by_test : (P : ℕ → Type 0) (s i : ℕ) (test : Bool) → (test ≡ true → GoodEnding P s (lf_at i)) →
@@ -88,58 +94,43 @@ module _ (t : List ℕ) (P : ℕ → Type 0) (cuts : IsCuts t P) where
         on_refused = λ i from to k p y. ending_refused (IsFault t s k from to) i from to k y;
       }
 
+-- pieces that lie between a place and where their reading ended
+pub record EndedPieces (P : ℕ → Type 0) (s : ℕ) (ps : List Piece) (j : ℕ) : Type 0 where
+  pub late : s ≤ j
+  pub place : P j
+  pub good : list_every (GoodPiece P s j) ps
+
 module _ (t : List ℕ) (P : ℕ → Type 0) (cuts : IsCuts t P) (R : Family) (h : IsSoundFamily t P R) where
-  -- a run and the pieces after it
-  abbrev RunAndMore : Construct (List Piece)
-  RunAndMore = do
-    from ← here
-    over (Stretch (is_run_place t))
-    to ← here
-    ps ← R.more_pieces
-    gives (run from to ∷ ps)
+  -- a piece that lies between a place and where its reading ended
+  abbrev EndedPiece : ℕ → More Piece (Unit {0}) → ℕ → Type 0
+  EndedPiece s no_item j = Inside P s j
+  EndedPiece s (item p u) j = Inside P s j × GoodPiece P s j p
 
-  run_read : (s i j : ℕ) (ps : List Piece) → Inside P s i → RunAndMore i (Read ps j) → EndedPieces P s ps j
-  run_read s i j ps p (goes_on at_place (goes_on (passed {j = to} w) (goes_on at_place (goes_on {a = rest} x given)))) =
-      let late = p.late in
+  run_read : (s i j : ℕ) (p : Piece) → Inside P s i → text_run t i (Read p j) → Inside P s j × GoodPiece P s j p
+  run_read s i j p q (goes_on at_place (goes_on (passed {j = to} w) (goes_on at_place given))) =
+      let late = q.late in
       let forward = w.forward in
-      let place = (onward_run t P cuts).place i to p.place w in
-      let r = (h.more_pieces to).on_read to j rest (record { late = omega arith; place = place }) x in
-      let on = r.late in
-      record {
-        late = omega arith;
-        place = r.place;
-        good = ((late, forward, on, p.place, place), earlier_pieces P to s j (omega arith) rest r.good);
-      }
+      let place = (onward_run t P cuts).place i to q.place w in
+      (record { late = omega arith; place = place }, (late, forward, omega arith, q.place, place))
 
-  run_refused : (s i from to : ℕ) (k : Kind) → Inside P s i → RunAndMore i (Refused k from to) → IsFault t s k from to
-  run_refused s i from to k p (stops x) = elim x [ ]
-  run_refused s i from to k p (goes_on at_place (stops x)) = elim x [ ]
-  run_refused s i from to k p (goes_on at_place (goes_on (passed w) (stops x))) = elim x [ ]
-  run_refused s i from to k p (goes_on at_place (goes_on (passed {j = m} w) (goes_on at_place (stops x)))) =
-      let late = p.late in
-      let forward = w.forward in
-      weaker_fault s m (omega arith) k from to
-      ((h.more_pieces m).on_refused m from to k
-      (record { late = omega arith; place = (onward_run t P cuts).place i m p.place w }) x)
-  run_refused s i from to k p (goes_on at_place (goes_on (passed w) (goes_on at_place (goes_on x y)))) = elim y [ ]
+  run_refused : (X : Type 0) (i from to : ℕ) (k : Kind) → text_run t i (Refused k from to) → X
+  run_refused X i from to k (stops x) = elim x [ ]
+  run_refused X i from to k (goes_on at_place (stops x)) = elim x [ ]
+  run_refused X i from to k (goes_on at_place (goes_on (passed w) (stops x))) = elim x [ ]
+  run_refused X i from to k (goes_on at_place (goes_on (passed w) (goes_on at_place x))) = elim x [ ]
 
-  run_holds : (s : ℕ) → Holds (Inside P s) RunAndMore (EndedPieces P s) (IsFault t s)
-  run_holds s = record { on_read = run_read s; on_refused = run_refused s }
-
-  keep_pieces : (s : ℕ) (e : ExpressionTree Span) →
-      Holds (Ended P s (expression_every (IsSpan P)) e) R.more_pieces
-      (λ ps j. EndedPieces P s ps j × expression_every (IsSpan P) e) (IsFault t s)
-  keep_pieces s e = record {
-    on_read = λ i j ps p x. ((h.more_pieces s).on_read i j ps (record { late = p.late; place = p.place }) x, p.good);
-    on_refused =
-        λ i from to k p x. (h.more_pieces s).on_refused i from to k (record { late = p.late; place = p.place }) x;
+  run_holds : (s : ℕ) →
+      Holds (Inside P s) (text_run t) (λ p j. Inside P s j × GoodPiece P s j p) (IsFault t s)
+  run_holds s = record {
+    on_read = λ i j p q x. run_read s i j p q x;
+    on_refused = λ i from to k q x. run_refused (IsFault t s k from to) i from to k x;
   }
 
-  pieces_holds : (s : ℕ) (o : Option ℕ) →
-      Holds (λ i. Inside P s i × (slice_get t i ≡ o)) (pieces_at t R o) (EndedPieces P s) (IsFault t s)
-  pieces_holds s None = holds_gives (λ i p. let q = p.0 in record { late = q.late; place = q.place; good = tt })
-  pieces_holds s (Some b) = holds_at_each (λ eol. holds_either
-      (λ e. holds_gives (λ i p. let q = p.0.0 in record { late = q.late; place = q.place; good = tt }))
+  piece_holds : (s : ℕ) (o : Option ℕ) →
+      Holds (λ i. Inside P s i × (slice_get t i ≡ o)) (next_piece_at t R o) (EndedPiece s) (IsFault t s)
+  piece_holds s None = holds_gives (λ i p. p.0)
+  piece_holds s (Some b) = holds_at_each (λ eol. holds_either
+      (λ e. holds_gives (λ i p. p.0.0))
       (λ e. holds_either
       (λ f. holds_fails
       (λ i p. let q = p.0.0 in
@@ -154,13 +145,40 @@ module _ (t : List ℕ) (P : ℕ → Type 0) (cuts : IsCuts t P) (R : Family) (h
       (λ g. holds_bind {mid = Ended P s (expression_every (IsSpan P))}
       (holds_weaker {pre = Inside P s} (λ i p. p.0.0) (λ a j x. x) (λ k from to x. x)
       (sound_placeable t P cuts R h).holds)
-      (λ x. holds_bind (keep_pieces s x)
-      (λ ps. holds_gives
-      (λ i p. let q = p.0 in record { late = q.late; place = q.place; good = (p.1, q.good) }))))
-      (λ g. holds_weaker {pre = Inside P s} (λ i p. p.0.0) (λ a j x. x) (λ k from to x. x) (run_holds s)))))
+      (λ x. holds_gives (λ i p. (record { late = p.late; place = p.place }, p.good))))
+      (λ g. holds_bind
+      (holds_weaker {pre = Inside P s} (λ i p. p.0.0) (λ a j x. x) (λ k from to x. x) (run_holds s))
+      (λ x. holds_gives (λ i p. p))))))
+
+  next_piece_holds : (s : ℕ) → Holds (Inside P s) (next_piece t R) (EndedPiece s) (IsFault t s)
+  next_piece_holds s = holds_at_each (piece_holds s)
+
+  pieces_read : (u : Unit {0}) (s i j : ℕ) (ps : List Piece) → Inside P s i →
+      many (λ u. next_piece t R) (λ p ps. p ∷ ps) [] u i (Read ps j) → EndedPieces P s ps j
+  pieces_read u s i j ps p (list_ends x) = let q = (next_piece_holds s).on_read i j _ p x in
+      record { late = q.late; place = q.place; good = tt }
+  pieces_read u s i j ps p (item_and_more {later = v} {j = m} {a = piece} {rest = rest} x y) =
+      let q = (next_piece_holds s).on_read i m _ p x in
+      let late = (q.0).late in
+      let r = pieces_read v m m j rest (record { late = omega arith; place = (q.0).place }) y in
+      let on = r.late in
+      record {
+        late = omega arith;
+        place = r.place;
+        good = (later_piece P s m j on piece q.1, earlier_pieces P m s j late rest r.good);
+      }
+
+  pieces_refused : (u : Unit {0}) (s i from to : ℕ) (k : Kind) → Inside P s i →
+      many (λ u. next_piece t R) (λ p ps. p ∷ ps) [] u i (Refused k from to) → IsFault t s k from to
+  pieces_refused u s i from to k p (list_stops x) = (next_piece_holds s).on_refused i from to k p x
+  pieces_refused u s i from to k p (stops_later {later = v} {j = m} {a = piece} x y) =
+      let q = (next_piece_holds s).on_read i m _ p x in pieces_refused v s m from to k q.0 y
 
   pub sound_pieces : (s : ℕ) → Holds (Inside P s) (more_pieces t R) (EndedPieces P s) (IsFault t s)
-  sound_pieces s = holds_at_each (pieces_holds s)
+  sound_pieces s = record {
+    on_read = λ i j ps p x. pieces_read tt s i j ps p x;
+    on_refused = λ i from to k p x. pieces_refused tt s i from to k p x;
+  }
 
   leading_places : (i f m : ℕ) → P i → InlineBlank t i f → m ≤ f - i → P (i + m)
   leading_places i f m p w l = let forward = w.forward in
@@ -174,7 +192,7 @@ module _ (t : List ℕ) (P : ℕ → Type 0) (cuts : IsCuts t P) (R : Family) (h
       let late = p.late in
       let forward = w.forward in
       let place = word_place t P cuts is_space ascii_space i f p.place w in
-      let r = (h.more_pieces f).on_read f m ps (record { late = omega arith; place = place }) x in
+      let r = (sound_pieces f).on_read f m ps (record { late = omega arith; place = place }) x in
       let on = r.late in
       let q = (ending_holds t P cuts m).on_read m n e (record { late = omega arith; place = r.place }) y in
       let end = q.late in
@@ -200,7 +218,7 @@ module _ (t : List ℕ) (P : ℕ → Type 0) (cuts : IsCuts t P) (R : Family) (h
       let late = p.late in
       let forward = w.forward in
       weaker_fault s f (omega arith) k from to
-      ((h.more_pieces f).on_refused f from to k
+      ((sound_pieces f).on_refused f from to k
       (record { late = omega arith; place = word_place t P cuts is_space ascii_space i f p.place w }) x)
   line_refused s i from to k p
       (goes_on at_place (goes_on (passed w) (goes_on at_place (goes_on {j = m} x (stops y))))) =
@@ -211,22 +229,25 @@ module _ (t : List ℕ) (P : ℕ → Type 0) (cuts : IsCuts t P) (R : Family) (h
   sound_line : {s : ℕ} → Sound t P s (line t R) (GoodLine P)
   sound_line {s = s} = record { holds = record { on_read = line_read s; on_refused = line_refused s } }
 
-  sound_line_and_more : {s : ℕ} → Sound t P s (line_and_more t R) (list_every (GoodLine P))
-  sound_line_and_more {s = s} = sound_bind sound_line (λ l g. sound_bind (h.more_lines s) (λ ls k. sound_gives (g, k)))
+  sound_own : {s : ℕ} → Sound t P s (line t R >>= λ l. gives (item l tt)) (good_more {S = Unit {0}} (GoodLine P))
+  sound_own = sound_bind sound_line (λ l g. sound_gives g)
 
-  lines_read : (s i j : ℕ) (ls : List Line) → Inside P s i → more_lines t R i (Read ls j) →
-      Ended P s (list_every (GoodLine P)) ls j
-  lines_read s i j ls p (no_byte w e) = let late = p.late in let forward = w.forward in
+  next_line_read : (s i j : ℕ) (l : More Line (Unit {0})) → Inside P s i → next_line t R i (Read l j) →
+      Ended P s (good_more (GoodLine P)) l j
+  next_line_read s i j l p (no_byte w e) = let late = p.late in let forward = w.forward in
       record { late = omega arith; place = word_place t P cuts is_space ascii_space i j p.place w; good = tt }
-  lines_read s i j ls p (other_line w e f) = record { late = p.late; place = p.place; good = tt }
-  lines_read s i j ls p (own_line w e f x) = sound_line_and_more.holds.on_read i j ls p x
+  next_line_read s i j l p (other_line w e f) = record { late = p.late; place = p.place; good = tt }
+  next_line_read s i j l p (own_line w e f x) = sound_own.holds.on_read i j l p x
 
-  lines_refused : (s i from to : ℕ) (k : Kind) → Inside P s i → more_lines t R i (Refused k from to) →
+  next_line_refused : (s i from to : ℕ) (k : Kind) → Inside P s i → next_line t R i (Refused k from to) →
       IsFault t s k from to
-  lines_refused s i from to k p (own_line w e f x) = sound_line_and_more.holds.on_refused i from to k p x
+  next_line_refused s i from to k p (own_line w e f x) = sound_own.holds.on_refused i from to k p x
 
   pub sound_lines : {s : ℕ} → Sound t P s (more_lines t R) (list_every (GoodLine P))
-  sound_lines {s = s} = record { holds = record { on_read = lines_read s; on_refused = lines_refused s } }
+  sound_lines {s = s} =
+      sound_many
+      (λ u. record { holds = record { on_read = next_line_read s; on_refused = next_line_refused s } })
+      tt (λ l ls g k. (g, k))
 
   opening_good : (start end : ℕ) (ps : List Piece) (e : Ending) → P start → EndedPieces P start ps end →
       GoodEnding P end e → GoodLine P (record { start = start; spaces = 0; pieces = ps; ending = e })
@@ -258,16 +279,16 @@ module _ (t : List ℕ) (P : ℕ → Type 0) (cuts : IsCuts t P) (R : Family) (h
       Holds (λ i. Inside P s i × (after_eol t i ≡ o)) (layout_at t R o) (Ended P s (GoodLayout P)) (IsFault t s)
   layout_holds s None = holds_weaker {pre = Inside P s} (λ i p. p.0) (λ a j x. x) (λ k from to x. x)
       (sound_here (λ m q. record {
-        holds = holds_bind (h.more_pieces m) (λ ps. holds_bind (after_pieces m ps q.place) (λ e.
+        holds = holds_bind (sound_pieces m) (λ ps. holds_bind (after_pieces m ps q.place) (λ e.
             known {Mid = λ e. GoodLine P (Opening m ps e)}
-            (λ g. sound_bind (h.more_lines m) (λ ls k. sound_gives (record { opening = g; lines = k })))));
+            (λ g. sound_bind sound_lines (λ ls k. sound_gives (record { opening = g; lines = k })))));
       })).holds
   layout_holds s (Some k) = holds_bind {mid = λ u. Inside P s}
       (holds_over (λ i j p w. let q = p.0 in let late = q.late in let there = w.there in
       let f = eol_forward t i k p.1 in
       record { late = omega arith; place = subst P (sym there) (eol_place t P cuts i k p.1) }))
       (λ u. (sound_bind (sound_blank_block t P cuts)
-      (λ u v. sound_bind (h.more_lines s) (λ ls g. sound_gives (record { opening = tt; lines = g })))).holds)
+      (λ u v. sound_bind sound_lines (λ ls g. sound_gives (record { opening = tt; lines = g })))).holds)
 
   pub sound_layout : {s : ℕ} → Sound t P s (layout t R) (GoodLayout P)
   sound_layout {s = s} =
@@ -278,56 +299,78 @@ module _ (edition : Edition) (t : List ℕ) (P : ℕ → Type 0) (cuts : IsCuts 
     pub sound_pattern : {s : ℕ} → Sound t P s (pattern edition t R) (option_every (pattern_every (IsSpan P)))
     sound_pattern = sound_bind (sound_layout t P cuts R h) (λ y g. sound_gives (good_pattern t P cuts edition y g))
 
-    sound_variant : {s : ℕ} (starred star : Bool) (key : KeyTree Span) (p : Option (PatternTree Span)) →
+    sound_variant_of : {s : ℕ} (starred star : Bool) (key : KeyTree Span) (p : Option (PatternTree Span)) →
         key_every (IsSpan P) key → option_every (pattern_every (IsSpan P)) p →
-        Sound t P s (variant_and_more edition t R starred star key p) (variants_every (IsSpan P))
-    sound_variant starred star key None g k = sound_fails cuts.in_text tt (λ i. tt)
-    sound_variant {s = s} starred star key (Some p) g k =
-        sound_bind (sound_blank t P cuts)
-        (λ u v. sound_bind (h.more_variants s (starred || star)) (λ vs m. sound_gives ((g, k), m)))
+        Sound t P s (variant_of t starred star key p) (good_more (variant_every (IsSpan P)))
+    sound_variant_of starred star key None g k = sound_fails cuts.in_text tt (λ i. tt)
+    sound_variant_of starred star key (Some p) g k = sound_bind (sound_blank t P cuts) (λ u v. sound_gives (g, k))
 
     sound_after : {s : ℕ} (starred star : Bool) →
-        Sound t P s (variant_after edition t R starred star) (variants_every (IsSpan P))
+        Sound t P s (variant_after edition t R starred star) (good_more (variant_every (IsSpan P)))
     sound_after starred star =
         sound_bind (sound_blank t P cuts)
         (λ u v. sound_bind (sound_key t P cuts) (λ key g. sound_bind (sound_blank t P cuts) (λ u v.
         sound_bind (sound_token t P cuts 93 refl)
-        (λ u v. sound_bind sound_pattern (λ value k. sound_variant starred star key value g k)))))
+        (λ u v. sound_bind sound_pattern (λ value k. sound_variant_of starred star key value g k)))))
 
-    sound_variants : {s : ℕ} (starred : Bool) →
-        Sound t P s (more_variants edition t R starred) (variants_every (IsSpan P))
-    sound_variants starred =
+    sound_next_variant : {s : ℕ} (starred : Bool) →
+        Sound t P s (next_variant edition t R starred) (good_more (variant_every (IsSpan P)))
+    sound_next_variant starred =
         sound_bind (sound_optional t P cuts 42 refl) (λ star u. sound_bind (sound_only t P cuts starred star) (λ u v.
         sound_bind (sound_optional t P cuts 91 refl)
         (λ bracket u. sound_either (λ e. sound_after starred star) (λ e. sound_end t P cuts edition starred star))))
 
+    pub sound_variants : {s : ℕ} (starred : Bool) →
+        Sound t P s (more_variants edition t R starred) (variants_every (IsSpan P))
+    sound_variants starred = sound_many sound_next_variant tt (λ v vs g k. (g, k))
+
+    variants_holds : (s : ℕ) →
+        Holds (AtArrow t P cuts s true) (variants_of_select edition t R) (Ended P s (variants_every (IsSpan P))) (IsFault t s)
+    variants_holds s = holds_bind {mid = λ u. Inside P s} (holds_over (after_arrow t P cuts s))
+        (λ u. (sound_bind (sound_inline_blank t P cuts)
+        (λ u v. sound_bind (sound_arrow t P cuts)
+        (λ u v. sound_bind (sound_blank t P cuts) (λ u v. sound_variants false)))).holds)
+
+    select_holds : (s : ℕ) (e : InlineTree Span) → inline_every (IsSpan P) e → (o : Option Kind) →
+        ((k : Kind) → o ≡ Some k → (i : ℕ) → IsPlain k × kind_means t k i) →
+        Holds (AtArrow t P cuts s true) (select_with edition t R e o) (Ended P s (expression_every (IsSpan P))) (IsFault t s)
+    select_holds s e g None m =
+        holds_bind (variants_holds s)
+        (λ vs. holds_gives (λ i p. record { late = p.late; place = p.place; good = (g, p.good) }))
+    select_holds s e g (Some k) m =
+        holds_fails (λ i p. let q = p.0 in let n = m k refl i in
+        record { late = q.late; in_text = cuts.in_text i q.place; one = refl; plain = n.0; means = n.1 })
+
+    after_blank : (s : ℕ) (e : InlineTree Span) → inline_every (IsSpan P) e → (arrow : Bool) →
+        Holds (AtArrow t P cuts s arrow)
+        (either arrow (select_with edition t R e (selector_fault e))
+        (either (is_term_attribute e) (fails TermAttributeAsPlaceable) (gives (inline e))))
+        (Ended P s (expression_every (IsSpan P))) (IsFault t s)
+    after_blank s e g arrow = holds_either
+        (λ y. holds_weaker (λ i p. (p.0, p.1 ∙ y)) (λ a j x. x) (λ k from to x. x)
+        (select_holds s e g (selector_fault e) (plain_fault t e)))
+        (λ y. holds_weaker {pre = Inside P s} (λ i p. p.0) (λ a j x. x) (λ k from to x. x)
+        (sound_either (λ z. sound_fails cuts.in_text tt (λ i. tt)) (λ z. sound_gives g)).holds)
+
+    pub sound_expression : {s : ℕ} → Sound t P s (expression edition t R) (expression_every (IsSpan P))
+    sound_expression {s = s} = sound_bind (sound_inline t P cuts R h) (λ e g. sound_bind (sound_blank t P cuts) (λ u v.
+        record {
+          holds =
+              holds_bind {mid = AtArrow t P cuts s} (holds_at_each (λ a. holds_gives (λ i p. p)))
+              (λ arrow. after_blank s e g arrow);
+        }))
+
     sound_next : IsSoundFamily t P (next edition t R)
-    sound_next = record {
-      inline_expression = λ s. sound_inline t P cuts R h;
-      more_arguments = λ s names. sound_arguments t P cuts R h names;
-      more_variants = λ s starred. sound_variants starred;
-      more_pieces = λ s. sound_pieces t P cuts R h s;
-      more_lines = λ s. sound_lines t P cuts R h;
-    }
+    sound_next =
+        record { expression = λ s. sound_expression; argument_list = λ s. sound_arguments t P cuts R h [] }
 
 module _ (edition : Edition) (t : List ℕ) (P : ℕ → Type 0) (cuts : IsCuts t P) where
   sound_nothing : IsSoundFamily t P (within edition t zero)
   unfolding within
   sound_nothing = record {
-    inline_expression =
+    expression =
         λ s. record { holds = record { on_read = λ i j a p x. absurd x; on_refused = λ i from to k p x. absurd x } };
-    more_arguments =
-        λ s names. record {
-          holds =
-              record { on_read = λ i j a p x. absurd x; on_refused = λ i from to k p x. absurd x };
-        };
-    more_variants =
-        λ s starred. record {
-          holds =
-              record { on_read = λ i j a p x. absurd x; on_refused = λ i from to k p x. absurd x };
-        };
-    more_pieces = λ s. record { on_read = λ i j a p x. absurd x; on_refused = λ i from to k p x. absurd x };
-    more_lines =
+    argument_list =
         λ s. record { holds = record { on_read = λ i j a p x. absurd x; on_refused = λ i from to k p x. absurd x } };
   }
 
@@ -335,7 +378,7 @@ module _ (edition : Edition) (t : List ℕ) (P : ℕ → Type 0) (cuts : IsCuts 
   unfolding within
   sound_suc n h = sound_next edition t P cuts (within edition t n) h
 
-  sound_within : (n : ℕ) → IsSoundFamily t P (within edition t n)
+  pub sound_within : (n : ℕ) → IsSoundFamily t P (within edition t n)
   sound_within zero = sound_nothing
   sound_within (suc n) = sound_suc n (sound_within n)
 
@@ -343,32 +386,16 @@ module _ (edition : Edition) (t : List ℕ) (P : ℕ → Type 0) (cuts : IsCuts 
   pub sound_family : IsSoundFamily t P (family edition t)
   unfolding family
   sound_family = record {
-    inline_expression = λ s. record {
+    expression = λ s. record {
       holds = record {
-        on_read = λ i j a p x. ((sound_within x.0).inline_expression s).holds.on_read i j a p x.1;
-        on_refused = λ i from to k p x. ((sound_within x.0).inline_expression s).holds.on_refused i from to k p x.1;
+        on_read = λ i j a p x. ((sound_within x.0).expression s).holds.on_read i j a p x.1;
+        on_refused = λ i from to k p x. ((sound_within x.0).expression s).holds.on_refused i from to k p x.1;
       };
     };
-    more_arguments = λ s names. record {
+    argument_list = λ s. record {
       holds = record {
-        on_read = λ i j a p x. ((sound_within x.0).more_arguments s names).holds.on_read i j a p x.1;
-        on_refused = λ i from to k p x. ((sound_within x.0).more_arguments s names).holds.on_refused i from to k p x.1;
-      };
-    };
-    more_variants = λ s starred. record {
-      holds = record {
-        on_read = λ i j a p x. ((sound_within x.0).more_variants s starred).holds.on_read i j a p x.1;
-        on_refused = λ i from to k p x. ((sound_within x.0).more_variants s starred).holds.on_refused i from to k p x.1;
-      };
-    };
-    more_pieces = λ s. record {
-      on_read = λ i j a p x. ((sound_within x.0).more_pieces s).on_read i j a p x.1;
-      on_refused = λ i from to k p x. ((sound_within x.0).more_pieces s).on_refused i from to k p x.1;
-    };
-    more_lines = λ s. record {
-      holds = record {
-        on_read = λ i j a p x. ((sound_within x.0).more_lines s).holds.on_read i j a p x.1;
-        on_refused = λ i from to k p x. ((sound_within x.0).more_lines s).holds.on_refused i from to k p x.1;
+        on_read = λ i j a p x. ((sound_within x.0).argument_list s).holds.on_read i j a p x.1;
+        on_refused = λ i from to k p x. ((sound_within x.0).argument_list s).holds.on_refused i from to k p x.1;
       };
     };
   }

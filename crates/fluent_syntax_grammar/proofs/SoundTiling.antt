@@ -7,6 +7,7 @@ use Rattle.std.proofs.lemmas.Bool.Decides.{nat_tests}
 use Rattle.fluent_syntax_tree.specs.Kind.{Kind}
 use Rattle.fluent_syntax_tree.specs.Entry.{EntryTree}
 use Rattle.fluent_syntax_tree.specs.Every.{list_every, entry_every}
+use Rattle.fluent_syntax_grammar.specs.Grammar.{family}
 use Rattle.fluent_syntax_grammar.specs.Bytes.{is_letter}
 use Rattle.fluent_syntax_grammar.specs.Places.{holds, has, starts_line}
 use Rattle.fluent_syntax_grammar.specs.Construct.{Read, Refused, chosen, first, second}
@@ -41,7 +42,7 @@ module _ (edition : Edition) (t : List ℕ) (P : ℕ → Type 0) (cuts : IsCuts 
   IsGood = entry_every (IsSpan P)
 
   entry_read_of : (i j : ℕ) (a : EntryTree Span) (o : Option ℕ) → slice_get t i ≡ o → P i →
-      entry_of edition t o i (Read a j) → Ended P (i + 1) IsGood a j
+      entry_of edition t (family edition t) o i (Read a j) → Ended P (i + 1) IsGood a j
   entry_read_of i j a None e p x = message_read edition t P cuts i j a p x
   entry_read_of i j a (Some b) e p (first f x) =
       comment_read t P cuts i j a p (byte_stands (λ c. c == 35) (slice_get t i) b e f) x
@@ -54,7 +55,7 @@ module _ (edition : Edition) (t : List ℕ) (P : ℕ → Type 0) (cuts : IsCuts 
   entry_read i j a p (chosen x) = entry_read_of i j a (slice_get t i) refl p x
 
   entry_refused_of : (i from to : ℕ) (k : Kind) (o : Option ℕ) → slice_get t i ≡ o → P i →
-      entry_of edition t o i (Refused k from to) → IsEntryFault t i i k from to
+      entry_of edition t (family edition t) o i (Refused k from to) → IsEntryFault t i i k from to
   entry_refused_of i from to k None e p x = message_refused edition t P cuts i from to k p x
   entry_refused_of i from to k (Some b) e p (first f x) =
       weaker i from to k (comment_refused t P cuts i from to k p (byte_stands (λ c. c == 35) (slice_get t i) b e f) x)
@@ -68,7 +69,7 @@ module _ (edition : Edition) (t : List ℕ) (P : ℕ → Type 0) (cuts : IsCuts 
   entry_refused i from to k p (chosen x) = entry_refused_of i from to k (slice_get t i) refl p x
 
   entry_onward_of : (i from to : ℕ) (k : Kind) (o : Option ℕ) → slice_get t i ≡ o → P i → has t is_entry_byte i ≡ true →
-      entry_of edition t o i (Refused k from to) → IsEntryFault t i (i + 1) k from to
+      entry_of edition t (family edition t) o i (Refused k from to) → IsEntryFault t i (i + 1) k from to
   entry_onward_of i from to k None e p h x = absurd (no_byte_of is_entry_byte (slice_get t i) e h)
   entry_onward_of i from to k (Some b) e p h (first f x) =
       comment_refused t P cuts i from to k p (byte_stands (λ c. c == 35) (slice_get t i) b e f) x

@@ -1,9 +1,10 @@
 -- Constructs that have an outcome at each place of the text from some place on, and that do not go back.
-use Rattle.std.proofs.Common.{◌≡◌, ℕ, ◌+◌, ◌≤◌, List, length, Bool, true, false, refl, arith}
+use Rattle.std.proofs.Common.{◌≡◌, ℕ, zero, suc, ◌+◌, ◌<◌, ◌≤◌, List, length, Bool, true, false, refl, arith}
 use Rattle.fluent_syntax_tree.specs.Kind.{Kind}
 use Rattle.fluent_syntax_grammar.specs.Construct.{Outcome, Read, Refused, Construct, ◌>>=◌, stops, goes_on, gives}
 use Rattle.fluent_syntax_grammar.specs.Construct.{given, here, at_place, fails, failed, fails_from, failed_from, over}
-use Rattle.fluent_syntax_grammar.specs.Construct.{passed, at_each, chosen, either, first, second}
+use Rattle.fluent_syntax_grammar.specs.Construct.{passed, at_each, chosen, either, first, second, More, no_item, item}
+use Rattle.fluent_syntax_grammar.specs.Construct.{many, list_ends, list_stops, item_and_more, stops_later}
 use Rattle.fluent_syntax_grammar.proofs.Holds.{Holds, holds_weaker, holds_bind, holds_gives, holds_here, holds_fails}
 use Rattle.fluent_syntax_grammar.proofs.Holds.{holds_fails_from, holds_over, holds_at_each, holds_either}
 
@@ -148,6 +149,76 @@ module _ {t : List ℕ} {s : ℕ} where
       Strict t s (either test c d)
   strict_either x y =
       record { total = total_either (λ e. x.total) (λ e. y.total); on = holds_either (λ e. x.on) (λ e. y.on) }
+
+-- ---- lists
+
+-- where a list's item stands, it goes on
+abbrev pub more_on : {A S : Type 0} (t : List ℕ) (s : ℕ) → More A S → ℕ → Type 0
+more_on t s no_item j = From t s j
+more_on t s (item a r) j = From t (s + 1) j
+
+-- It has an outcome from each place from s on, and where it reads an item it goes on.
+pub record Going {A S : Type 0} (t : List ℕ) (s : ℕ) (c : Construct (More A S)) : Type 0 where
+  pub total : Total (From t s) c
+  pub on : Holds (From t s) c (more_on t s) AnyFault
+
+pub more_earlier : {A S : Type 0} (t : List ℕ) (s : ℕ) (x : More A S) (j : ℕ) → From t (s + 1) j → more_on t s x j
+more_earlier t s no_item j p = earlier j p
+more_earlier t s (item a r) j p = p
+
+pub going_strict : {A S : Type 0} {t : List ℕ} {s : ℕ} {c : Construct (More A S)} → Strict t s c → Going t s c
+going_strict {t = t} {s = s} x =
+    record { total = x.total; on = holds_weaker (λ i p. p) (more_earlier t s) (λ k from to p. p) x.on }
+
+pub going_then : {A B S : Type 0} {t : List ℕ} {s : ℕ} {c : Construct A} {f : A → Construct (More B S)} → Both t s c →
+    ((a : A) → Going t s (f a)) → Going t s (c >>= f)
+going_then x g = record { total = total_bind x.total x.on (λ a. (g a).total); on = holds_bind x.on (λ a. (g a).on) }
+
+pub past_end : {A : Type 0} {t : List ℕ} {c : Construct A} (s : ℕ) → length t < s → Both t s c
+past_end s l = record {
+  total = record { has = λ i p. (let late = p.late in let inside = p.in_text in absurd (omega arith)) };
+  on =
+      record {
+        on_read = λ i j a p x. (let late = p.late in let inside = p.in_text in absurd (omega arith));
+        on_refused = λ i from to k p x. tt;
+      };
+}
+
+module _ {A S B : Type 0} (t : List ℕ) (next : S → Construct (More A S)) (add : A → B → B) (none : B) (low : ℕ)
+    (h : (s : ℕ) → low ≤ s → (r : S) → Going t s (next r)) where
+  module _ (s : ℕ) (r : S) (l : low ≤ s) (g : (r : S) → Both t (s + 1) (many next add none r)) where
+    after_item : (i : ℕ) (x : More A S) (j : ℕ) → next r i (Read x j) → more_on t s x j → (o : Outcome B) ×
+        many next add none r i o
+    after_item i no_item j x p = (Read none j, list_ends x)
+    after_item i (item a q) j x p = rest_of i a q j x ((g q).total.has j p)
+      where
+        rest_of : (i : ℕ) (a : A) (q : S) (j : ℕ) → next r i (Read (item a q) j) →
+            (o : Outcome B) × many next add none q j o → (o : Outcome B) × many next add none r i o
+        rest_of i a q j x (Read b m, y) = (Read (add a b) m, item_and_more x y)
+        rest_of i a q j x (Refused k from to, y) = (Refused k from to, stops_later x y)
+
+    one_has : (i : ℕ) → From t s i → (o : Outcome (More A S)) × next r i o → (o : Outcome B) × many next add none r i o
+    one_has i p (Read x j, y) = after_item i x j y ((h s l r).on.on_read i j x p y)
+    one_has i p (Refused k from to, y) = (Refused k from to, list_stops y)
+
+    many_on : (i j : ℕ) (b : B) → From t s i → many next add none r i (Read b j) → From t s j
+    many_on i j b p (list_ends x) = (h s l r).on.on_read i j _ p x
+    many_on i j b p (item_and_more {later = q} {j = m} x y) =
+        earlier j ((g q).on.on_read m j _ ((h s l r).on.on_read i m _ p x) y)
+
+    one_both : Both t s (many next add none r)
+    one_both = record {
+      total = record { has = λ i p. one_has i p ((h s l r).total.has i p) };
+      on = record { on_read = many_on; on_refused = λ i from to k p x. tt };
+    }
+
+  many_from : (m s : ℕ) → low ≤ s → length t < s + m → (r : S) → Both t s (many next add none r)
+  many_from zero s l e r = past_end s (omega arith)
+  many_from (suc m) s l e r = one_both s r l (λ r. many_from m (s + 1) (omega arith) (omega arith) r)
+
+  -- a list whose items go on, by induction on the bytes that are left
+  pub both_many : (s : ℕ) → low ≤ s → (r : S) → Both t s (many next add none r)
+  both_many s l r = many_from (length t + 1) s l (omega arith) r
 
 pub ruleset totals =
     (both_bind, both_gives, both_here, both_fails, both_fails_from, both_over, both_at_each, both_either)

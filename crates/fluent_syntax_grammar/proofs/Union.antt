@@ -2,21 +2,22 @@
 use Rattle.std.proofs.Common.{ℕ, ◌+◌, ◌≤◌, arith, List, [], ◌∷◌, Option, Some, None, Bool, true, false}
 use Rattle.fluent_syntax_tree.specs.Kind.{Kind}
 use Rattle.fluent_syntax_tree.specs.Tree.{InlineTree, KeyTree, PatternTree}
-use Rattle.fluent_syntax_grammar.specs.Construct.{Outcome, Construct, ◌>>=◌, stops, goes_on, at_each, chosen, either}
-use Rattle.fluent_syntax_grammar.specs.Construct.{first, second}
+use Rattle.fluent_syntax_grammar.specs.Construct.{Outcome, Construct, ◌>>=◌, stops, goes_on, gives, at_each, chosen, either}
+use Rattle.fluent_syntax_grammar.specs.Construct.{first, second, More, item, many, list_ends, list_stops}
+use Rattle.fluent_syntax_grammar.specs.Construct.{item_and_more, stops_later}
 use Rattle.fluent_syntax_grammar.specs.Family.{Family}
 use Rattle.fluent_syntax_grammar.specs.Starts.{Start, quote, digit, term, minus, dollar, letter, brace, other}
-use Rattle.fluent_syntax_grammar.specs.Arguments.{call_arguments, argument_value, named_and_more, positional_and_more}
-use Rattle.fluent_syntax_grammar.specs.Arguments.{argument_and_more, more_arguments_at, more_arguments}
+use Rattle.fluent_syntax_grammar.specs.Arguments.{call_arguments, argument_value, named_rest}
+use Rattle.fluent_syntax_grammar.specs.Arguments.{argument_rest, next_argument_at, next_argument, more_arguments}
 use Rattle.fluent_syntax_grammar.specs.Placeables.{variants_of_select, select_with, expression, placeable}
 use Rattle.fluent_syntax_grammar.specs.Inline.{inline_of, inline_expression}
-use Rattle.fluent_syntax_grammar.specs.Lines.{pieces_at, more_pieces, line_and_more, more_lines, no_byte, other_line}
-use Rattle.fluent_syntax_grammar.specs.Lines.{own_line}
+use Rattle.fluent_syntax_grammar.specs.Lines.{next_piece_at, next_piece, more_pieces, line, next_line, more_lines}
+use Rattle.fluent_syntax_grammar.specs.Lines.{no_byte, other_line, own_line}
 use Rattle.fluent_syntax_grammar.specs.Layout.{Line}
 use Rattle.fluent_syntax_grammar.specs.Patterns.{layout_at, layout, pattern}
-use Rattle.fluent_syntax_grammar.specs.Variants.{variant_and_more, variant_after, more_variants}
+use Rattle.fluent_syntax_grammar.specs.Variants.{next_variant, more_variants}
 use Rattle.fluent_syntax_grammar.proofs.Included.{IsIncluded, included_same, included_bind, included_at_each}
-use Rattle.fluent_syntax_grammar.proofs.Included.{included_either, included_lines, IsIncludedFamily}
+use Rattle.fluent_syntax_grammar.proofs.Included.{included_either, included_many, included_next_line, IsIncludedFamily}
 use Rattle.fluent_syntax_tree.specs.declared.edition.Edition.{Edition}
 use Rattle.fluent_syntax_tree.specs.declared.spans.Span.{Span}
 
@@ -74,6 +75,35 @@ union_either {b = b} {c = c} {d = d} {cs = cs} {ds = ds} u v = record {
   found = either_found b c d cs ds u v;
 }
 
+module _ {A S B : Type 0} (f : S → Construct (More A S)) (fs : ℕ → S → Construct (More A S)) (add : A → B → B)
+    (none : B) (v : (s : S) → IsUnion (f s) (λ n. fs n s)) where
+  many_grows : (s : S) (m n : ℕ) → m ≤ n → IsIncluded (many (fs m) add none s) (many (fs n) add none s)
+  many_grows s m n l = included_many (λ s. (v s).grows m n l)
+
+  many_found : (s : S) (i : ℕ) (o : Outcome B) → many f add none s i o → (n : ℕ) × many (fs n) add none s i o
+  many_found s i o (list_ends x) = let m = (v s).found i _ x in (m.0, list_ends m.1)
+  many_found s i o (list_stops x) = let m = (v s).found i _ x in (m.0, list_stops m.1)
+  many_found s i o (item_and_more {later = r} {j = j} x y) =
+      let m = (v s).found i _ x in
+      let n = many_found r j _ y in (
+        m.0 + n.0,
+        item_and_more (((v s).grows m.0 (m.0 + n.0) (omega arith)).part i _ m.1)
+            ((many_grows r n.0 (m.0 + n.0) (omega arith)).part j _ n.1),
+      )
+  many_found s i o (stops_later {later = r} {j = j} x y) =
+      let m = (v s).found i _ x in
+      let n = many_found r j _ y in (
+        m.0 + n.0,
+        stops_later (((v s).grows m.0 (m.0 + n.0) (omega arith)).part i _ m.1)
+            ((many_grows r n.0 (m.0 + n.0) (omega arith)).part j _ n.1),
+      )
+
+pub union_many :
+    {A S B : Type 0} {f : S → Construct (More A S)} {fs : ℕ → S → Construct (More A S)} {add : A → B → B} {none : B}
+    {s : S} → ((s : S) → IsUnion (f s) (λ n. fs n s)) → IsUnion (many f add none s) (λ n. many (fs n) add none s)
+union_many {f = f} {fs = fs} {add = add} {none = none} {s = s} v =
+    record { grows = many_grows f fs add none v s; found = many_found f fs add none v s }
+
 pub ruleset unions = (union_same, union_bind, union_at_each, union_either)
 
 -- ---- the rules
@@ -81,37 +111,21 @@ pub ruleset unions = (union_same, union_bind, union_at_each, union_either)
 -- a family that is the union of families that grow
 pub record IsUnionFamily (R : Family) (Rs : ℕ → Family) : Type 0 where
   pub grows : (m n : ℕ) → m ≤ n → IsIncludedFamily (Rs m) (Rs n)
-  pub inline_expression : IsUnion R.inline_expression (λ n. (Rs n).inline_expression)
-  pub more_arguments : (names : List (List ℕ)) → IsUnion (R.more_arguments names) (λ n. (Rs n).more_arguments names)
-  pub more_variants : (starred : Bool) → IsUnion (R.more_variants starred) (λ n. (Rs n).more_variants starred)
-  pub more_pieces : IsUnion R.more_pieces (λ n. (Rs n).more_pieces)
-  pub more_lines : IsUnion R.more_lines (λ n. (Rs n).more_lines)
+  pub expression : IsUnion R.expression (λ n. (Rs n).expression)
+  pub argument_list : IsUnion R.argument_list (λ n. (Rs n).argument_list)
 
 module _ (t : List ℕ) (R : Family) (Rs : ℕ → Family) (h : IsUnionFamily R Rs) where
-  nested_inline : IsUnion R.inline_expression (λ n. (Rs n).inline_expression)
-  nested_inline = h.inline_expression
+  inside_braces : IsUnion R.expression (λ n. (Rs n).expression)
+  inside_braces = h.expression
 
-  nested_pieces : IsUnion R.more_pieces (λ n. (Rs n).more_pieces)
-  nested_pieces = h.more_pieces
-
-  nested_lines : IsUnion R.more_lines (λ n. (Rs n).more_lines)
-  nested_lines = h.more_lines
+  inside_parentheses : IsUnion R.argument_list (λ n. (Rs n).argument_list)
+  inside_parentheses = h.argument_list
 
   pub union_call : IsUnion (call_arguments t R) (λ n. call_arguments t (Rs n))
-  union_call = search (unions, h.more_arguments) depth 30
-
-  union_variants_of_select : IsUnion (variants_of_select t R) (λ n. variants_of_select t (Rs n))
-  union_variants_of_select = search (unions, h.more_variants) depth 30
-
-  union_select : (e : InlineTree Span) (o : Option Kind) → IsUnion (select_with t R e o) (λ n. select_with t (Rs n) e o)
-  union_select e None = search (unions, union_variants_of_select) depth 30
-  union_select e (Some k) = search unions depth 30
-
-  pub union_expression : IsUnion (expression t R) (λ n. expression t (Rs n))
-  union_expression = search (unions, union_select, nested_inline) depth 30
+  union_call = search (unions, inside_parentheses) depth 30
 
   pub union_placeable : IsUnion (placeable t R) (λ n. placeable t (Rs n))
-  union_placeable = search (unions, union_expression) depth 30
+  union_placeable = search (unions, inside_braces) depth 30
 
   union_inline_of : (s : Start) → IsUnion (inline_of t R s) (λ n. inline_of t (Rs n) s)
   union_inline_of quote = search unions depth 30
@@ -127,78 +141,89 @@ module _ (t : List ℕ) (R : Family) (Rs : ℕ → Family) (h : IsUnionFamily R 
   union_inline = search (unions, union_inline_of) depth 30
 
   union_value : (s : Start) → IsUnion (argument_value t R s) (λ n. argument_value t (Rs n) s)
-  union_value quote = h.inline_expression
-  union_value digit = h.inline_expression
+  union_value quote = union_inline
+  union_value digit = union_inline
   union_value minus = search unions depth 30
   union_value term = search unions depth 30
   union_value dollar = search unions depth 30
-  union_value letter = h.inline_expression
+  union_value letter = union_inline
   union_value brace = search unions depth 30
   union_value other = search unions depth 30
 
-  union_named : (names : List (List ℕ)) (name : Span) →
-      IsUnion (named_and_more t R names name) (λ n. named_and_more t (Rs n) names name)
-  union_named names name = search (unions, union_value, h.more_arguments) depth 30
+  union_named_rest : (names : List (List ℕ)) (name : Span) →
+      IsUnion (named_rest t R names name) (λ n. named_rest t (Rs n) names name)
+  union_named_rest names name = search (unions, union_value) depth 30
 
-  union_positional : (names : List (List ℕ)) (e : InlineTree Span) →
-      IsUnion (positional_and_more t R names e) (λ n. positional_and_more t (Rs n) names e)
-  union_positional [] e = search (unions, h.more_arguments) depth 30
-  union_positional (n ∷ ns) e = search unions depth 30
+  union_argument_rest : (names : List (List ℕ)) (e : InlineTree Span) (o : Option Span) (colon : Bool) →
+      IsUnion (argument_rest t R names e o colon) (λ n. argument_rest t (Rs n) names e o colon)
+  union_argument_rest names e None colon = union_same
+  union_argument_rest names e (Some n) true = union_named_rest names n
+  union_argument_rest names e (Some n) false = union_same
 
-  union_argument : (names : List (List ℕ)) (e : InlineTree Span) (o : Option Span) (colon : Bool) →
-      IsUnion (argument_and_more t R names e o colon) (λ n. argument_and_more t (Rs n) names e o colon)
-  union_argument names e None colon = union_positional names e
-  union_argument names e (Some n) true = union_named names n
-  union_argument names e (Some n) false = union_positional names e
+  union_argument_at : (names : List (List ℕ)) (b : Option ℕ) →
+      IsUnion (next_argument_at t R names b) (λ n. next_argument_at t (Rs n) names b)
+  union_argument_at names None = search unions depth 30
+  union_argument_at names (Some b) = search (unions, union_argument_rest, union_inline) depth 30
 
-  union_arguments_at : (names : List (List ℕ)) (b : Option ℕ) →
-      IsUnion (more_arguments_at t R names b) (λ n. more_arguments_at t (Rs n) names b)
-  union_arguments_at names None = search unions depth 30
-  union_arguments_at names (Some b) = search (unions, union_argument, nested_inline) depth 30
+  union_next_argument : (names : List (List ℕ)) → IsUnion (next_argument t R names) (λ n. next_argument t (Rs n) names)
+  union_next_argument names = search (unions, union_argument_at) depth 30
 
   pub union_arguments : (names : List (List ℕ)) →
       IsUnion (more_arguments t R names) (λ n. more_arguments t (Rs n) names)
-  union_arguments names = search (unions, union_arguments_at) depth 30
+  union_arguments names = union_many union_next_argument
 
-  union_pieces_at : (b : Option ℕ) → IsUnion (pieces_at t R b) (λ n. pieces_at t (Rs n) b)
-  union_pieces_at None = search unions depth 30
-  union_pieces_at (Some b) = search (unions, union_placeable, nested_pieces) depth 30
+  union_piece_at : (b : Option ℕ) → IsUnion (next_piece_at t R b) (λ n. next_piece_at t (Rs n) b)
+  union_piece_at None = search unions depth 30
+  union_piece_at (Some b) = search (unions, union_placeable) depth 30
+
+  union_next_piece : IsUnion (next_piece t R) (λ n. next_piece t (Rs n))
+  union_next_piece = search (unions, union_piece_at) depth 30
 
   pub union_pieces : IsUnion (more_pieces t R) (λ n. more_pieces t (Rs n))
-  union_pieces = search (unions, union_pieces_at) depth 30
+  union_pieces = union_many (λ u. union_next_piece)
 
-  union_line : IsUnion (line_and_more t R) (λ n. line_and_more t (Rs n))
-  union_line = search (unions, nested_pieces, nested_lines) depth 30
+  union_line : IsUnion (line t R) (λ n. line t (Rs n))
+  union_line = search (unions, union_pieces) depth 30
 
-  lines_found : (i : ℕ) (o : Outcome (List Line)) → more_lines t R i o → (n : ℕ) × more_lines t (Rs n) i o
-  lines_found i o (no_byte a b) = (0, no_byte a b)
-  lines_found i o (other_line a b c) = (0, other_line a b c)
-  lines_found i o (own_line a b c d) = let m = union_line.found i o d in (m.0, own_line a b c m.1)
+  union_own : IsUnion {A = More Line (Unit {0})} (line t R >>= λ l. gives (item l tt))
+      (λ n. line t (Rs n) >>= λ l. gives (item l tt))
+  union_own = search (unions, union_line) depth 30
+
+  line_found : (i : ℕ) (o : Outcome (More Line (Unit {0}))) → next_line t R i o → (n : ℕ) × next_line t (Rs n) i o
+  line_found i o (no_byte a b) = (0, no_byte a b)
+  line_found i o (other_line a b c) = (0, other_line a b c)
+  line_found i o (own_line a b c d) = let m = union_own.found i o d in (m.0, own_line a b c m.1)
+
+  union_next_line : IsUnion (next_line t R) (λ n. next_line t (Rs n))
+  union_next_line =
+      record { grows = λ m n l. included_next_line t (Rs m) (Rs n) (h.grows m n l); found = line_found }
 
   pub union_lines : IsUnion (more_lines t R) (λ n. more_lines t (Rs n))
-  union_lines = record { grows = λ m n l. included_lines t (Rs m) (Rs n) (h.grows m n l); found = lines_found }
+  union_lines = union_many (λ u. union_next_line)
 
   union_layout_at : (o : Option ℕ) → IsUnion (layout_at t R o) (λ n. layout_at t (Rs n) o)
-  union_layout_at None = search (unions, nested_pieces, nested_lines) depth 30
-  union_layout_at (Some k) = search (unions, nested_lines) depth 30
+  union_layout_at None = search (unions, union_pieces, union_lines) depth 30
+  union_layout_at (Some k) = search (unions, union_lines) depth 30
 
   union_layout : IsUnion (layout t R) (λ n. layout t (Rs n))
   union_layout = search (unions, union_layout_at) depth 30
 
 module _ (edition : Edition) (t : List ℕ) (R : Family) (Rs : ℕ → Family) (h : IsUnionFamily R Rs) where
   pub union_pattern : IsUnion (pattern edition t R) (λ n. pattern edition t (Rs n))
-  union_pattern = search (unions, union_layout t R Rs h) depth 30
+  union_pattern = search (unions, union_layout) depth 30
 
-  union_variant : (starred star : Bool) (key : KeyTree Span) (p : Option (PatternTree Span)) →
-      IsUnion (variant_and_more edition t R starred star key p)
-      (λ n. variant_and_more edition t (Rs n) starred star key p)
-  union_variant starred star key None = search unions depth 30
-  union_variant starred star key (Some p) = search (unions, h.more_variants) depth 30
-
-  union_after : (starred star : Bool) →
-      IsUnion (variant_after edition t R starred star) (λ n. variant_after edition t (Rs n) starred star)
-  union_after starred star = search (unions, union_pattern, union_variant) depth 30
+  union_next_variant : (starred : Bool) →
+      IsUnion (next_variant edition t R starred) (λ n. next_variant edition t (Rs n) starred)
+  union_next_variant starred = search (unions, union_pattern) depth 30
 
   pub union_variants : (starred : Bool) →
       IsUnion (more_variants edition t R starred) (λ n. more_variants edition t (Rs n) starred)
-  union_variants starred = search (unions, union_after) depth 30
+  union_variants starred = union_many union_next_variant
+
+  union_select : (e : InlineTree Span) (o : Option Kind) →
+      IsUnion (select_with edition t R e o) (λ n. select_with edition t (Rs n) e o)
+  union_select e None = search (unions, union_variants) depth 30
+  union_select e (Some k) = search unions depth 30
+
+  pub union_expression : IsUnion (expression edition t R) (λ n. expression edition t (Rs n))
+  union_expression = search (unions, union_select, union_inline) depth 30

@@ -1,6 +1,6 @@
 -- What may come of reading a construct at a place, and how constructs are made of parts.
 -- Reading and refusing are one relation with two outcomes.
-use Rattle.std.specs.Prelude.{◌≡◌, ℕ, ◌+◌, Bool, true, false}
+use Rattle.std.specs.Prelude.{◌≡◌, ℕ, ◌+◌, List, [], ◌∷◌, Bool, true, false}
 use Rattle.fluent_syntax_tree.specs.Kind.{Kind}
 
 -- It is read and spells a value, and ends at the place; or it is refused, for a kind of fault, from the one place to
@@ -52,3 +52,23 @@ pub data at_each {A B : Type 0} (look : ℕ → A) (part : A → Construct B) : 
 pub data either {A : Type 0} (test : Bool) (yes no : Construct A) : ℕ → Outcome A → Type 0 where
   first : {i : ℕ} {o : Outcome A} → test ≡ true → yes i o → either test yes no i o
   second : {i : ℕ} {o : Outcome A} → test ≡ false → no i o → either test yes no i o
+
+-- Where a list may go on: its end, or one more item, and with it the state by which the next ones are read.
+pub data More (A S : Type 0) : Type 0 where
+  no_item : More A S
+  item : A → S → More A S
+
+module _ {A S B : Type 0} (next : S → Construct (More A S)) (add : A → B → B) (none : B) where
+  -- A list from a state on: one item after the other, up to where `next` finds no more. `add` puts an item before
+  -- those that follow it, and `none` is the list of no items. The first refusal met is the list's.
+  pub data many : S → ℕ → Outcome B → Type 0 where
+    list_ends : {s : S} {i j : ℕ} → next s i (Read no_item j) → many s i (Read none j)
+    list_stops : {s : S} {i from to : ℕ} {k : Kind} → next s i (Refused k from to) → many s i (Refused k from to)
+    item_and_more : {s later : S} {i j end : ℕ} {a : A} {rest : B} → next s i (Read (item a later) j) →
+        many later j (Read rest end) → many s i (Read (add a rest) end)
+    stops_later : {s later : S} {i j from to : ℕ} {a : A} {k : Kind} → next s i (Read (item a later) j) →
+        many later j (Refused k from to) → many s i (Refused k from to)
+
+-- A plain list, each item of which is read in the same way.
+abbrev pub list_of : {A : Type 0} → Construct (More A (Unit {0})) → Construct (List A)
+list_of next = many (λ u. next) (λ a rest. a ∷ rest) [] tt

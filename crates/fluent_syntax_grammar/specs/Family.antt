@@ -1,20 +1,33 @@
--- Constructs that hold one another.
-use Rattle.std.specs.Prelude.{ℕ, List, Bool}
-use Rattle.fluent_syntax_tree.specs.Tree.{InlineTree, ArgumentsTree, VariantTrees}
-use Rattle.fluent_syntax_grammar.specs.Construct.{Construct}
-use Rattle.fluent_syntax_grammar.specs.Layout.{Piece, Line}
+-- What opens: a placeable and an argument list. Whatever nests, nests in one of the two.
+use Rattle.std.specs.Prelude.{ℕ, List}
+use Rattle.fluent_syntax_tree.specs.Tree.{ArgumentsTree, ExpressionTree, MaybeArguments, no_arguments, some_arguments}
+use Rattle.fluent_syntax_grammar.specs.Bytes.{left_brace, left_parenthesis, right_brace}
+use Rattle.fluent_syntax_grammar.specs.Construct.{Construct, ◌>>=◌, ◌>>◌, gives, either}
+use Rattle.fluent_syntax_grammar.specs.Words.{optional, token, inline_blank, blank}
 use Rattle.fluent_syntax_tree.specs.declared.spans.Span.{Span}
 
--- An expression holds arguments, variants and patterns, and these hold expressions. Each rule of such a construct is
--- written over a family R that reads what the construct holds; the grammar is the family that the rules make of
--- themselves.
+-- What may stand inside: in the braces of a placeable an expression, and in the parentheses of an argument list the
+-- arguments, with the `)`. Each rule is written over a family R that reads what is inside; the grammar is the family
+-- that the rules make of themselves.
 pub record Family : Type 1 where
-  pub inline_expression : Construct (InlineTree Span)
-  -- the rest of an argument list, after named arguments of these names
-  pub more_arguments : List (List ℕ) → Construct (ArgumentsTree Span)
-  -- the rest of a list of variants; the flag says whether a default stood before
-  pub more_variants : Bool → Construct (VariantTrees Span)
-  -- the rest of a line, up to its ending
-  pub more_pieces : Construct (List Piece)
-  -- the lines that belong to a pattern, from a line's start on
-  pub more_lines : Construct (List Line)
+  pub expression : Construct (ExpressionTree Span)
+  pub argument_list : Construct (ArgumentsTree Span)
+
+module _ (t : List ℕ) (R : Family) where
+  -- Placeable: `{`, a blank, an expression, an inline blank, `}`.
+  abbrev pub placeable : Construct (ExpressionTree Span)
+  placeable = do
+    token t left_brace
+    blank t
+    e ← R.expression
+    inline_blank t
+    token t right_brace
+    gives e
+
+  -- Arguments: a blank, and where `(` follows, that, a blank, and the list with its `)`. Else there are none, and the
+  -- blank stays passed.
+  abbrev pub call_arguments : Construct (MaybeArguments Span)
+  call_arguments = do
+    blank t
+    bracket ← optional t left_parenthesis
+    either bracket (blank t >> R.argument_list >>= λ a. gives (some_arguments a)) (gives no_arguments)

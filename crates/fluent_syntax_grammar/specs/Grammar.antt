@@ -1,5 +1,5 @@
 -- The grammar of what nests: the family that its own rules make.
-use Rattle.std.specs.Prelude.{ℕ, zero, suc, List, Bool, false, Option}
+use Rattle.std.specs.Prelude.{ℕ, zero, suc, List, [], Bool, false, Option}
 use Rattle.fluent_syntax_grammar.specs.Construct.{Construct}
 use Rattle.fluent_syntax_grammar.specs.Family.{Family}
 use Rattle.fluent_syntax_grammar.specs.Arguments as arguments
@@ -17,34 +17,19 @@ use Rattle.fluent_syntax_tree.specs.declared.spans.Span.{Span}
 module _ (edition : Edition) (t : List ℕ) where
   -- the rules over a family
   abbrev pub next : Family → Family
-  next R = record {
-    inline_expression = inline.inline_expression t R;
-    more_arguments = arguments.more_arguments t R;
-    more_variants = variants.more_variants edition t R;
-    more_pieces = lines.more_pieces t R;
-    more_lines = lines.more_lines t R;
-  }
+  next R = record { expression = placeables.expression edition t R; argument_list = arguments.more_arguments t R [] }
 
-  -- the constructs that nest less deeply than the number
+  -- What stands inside, where at most n placeables and argument lists are open at once inside it. What opens one more
+  -- has no outcome: so a construct over this family has none where it nests deeper than n.
   unfoldable pub within : ℕ → Family
-  within zero = record {
-    inline_expression = λ i o. ⊥;
-    more_arguments = λ names i o. ⊥;
-    more_variants = λ starred i o. ⊥;
-    more_pieces = λ i o. ⊥;
-    more_lines = λ i o. ⊥;
-  }
+  within zero = record { expression = λ i o. ⊥; argument_list = λ i o. ⊥ }
   within (suc n) = next (within n)
 
-  -- The constructs that nest to any depth. There is no limit: each text that is read or refused is so within some
-  -- number.
+  -- What stands inside, at any depth. There is no limit: each text that is read or refused is so within some number.
   unfoldable pub family : Family
   family = record {
-    inline_expression = λ i o. (n : ℕ) × (within n).inline_expression i o;
-    more_arguments = λ names i o. (n : ℕ) × (within n).more_arguments names i o;
-    more_variants = λ starred i o. (n : ℕ) × (within n).more_variants starred i o;
-    more_pieces = λ i o. (n : ℕ) × (within n).more_pieces i o;
-    more_lines = λ i o. (n : ℕ) × (within n).more_lines i o;
+    expression = λ i o. (n : ℕ) × (within n).expression i o;
+    argument_list = λ i o. (n : ℕ) × (within n).argument_list i o;
   }
 
   -- an inline expression, with what nests in it to any depth; and so on for the others
@@ -57,11 +42,11 @@ module _ (edition : Edition) (t : List ℕ) where
 
   -- the rest of an argument list, after named arguments of these names
   abbrev pub more_arguments : List (List ℕ) → Construct (ArgumentsTree Span)
-  more_arguments names = family.more_arguments names
+  more_arguments names = arguments.more_arguments t family names
 
   -- an expression in a placeable
   abbrev pub expression : Construct (ExpressionTree Span)
-  expression = placeables.expression t family
+  expression = placeables.expression edition t family
 
   -- a placeable
   abbrev pub placeable : Construct (ExpressionTree Span)
@@ -69,7 +54,7 @@ module _ (edition : Edition) (t : List ℕ) where
 
   -- the rest of a list of variants; the flag says whether a default stood before
   abbrev pub more_variants : (starred : Bool) → Construct (VariantTrees Span)
-  more_variants starred = family.more_variants starred
+  more_variants starred = variants.more_variants edition t family starred
 
   -- the variants of a select
   abbrev pub variant_list : Construct (VariantTrees Span)
@@ -77,7 +62,7 @@ module _ (edition : Edition) (t : List ℕ) where
 
   -- the rest of a line of a pattern, up to its ending
   abbrev pub more_pieces : Construct (List Piece)
-  more_pieces = family.more_pieces
+  more_pieces = lines.more_pieces t family
 
   -- a line of a pattern
   abbrev pub line : Construct Line
@@ -85,7 +70,7 @@ module _ (edition : Edition) (t : List ℕ) where
 
   -- the lines that belong to a pattern, from a line's start on
   abbrev pub more_lines : Construct (List Line)
-  more_lines = family.more_lines
+  more_lines = lines.more_lines t family
 
   -- the layout of a pattern
   abbrev pub layout : Construct Layout

@@ -1,24 +1,29 @@
 -- Inline expressions.
-use Rattle.std.specs.Prelude.{ℕ, List, Bool, ◌||◌, ◌==◌}
+use Rattle.std.specs.Prelude.{ℕ, List, Option, Some, None, Bool, ◌||◌, ◌==◌}
 use Rattle.std.specs.List.{list_all}
-use Rattle.fluent_syntax_grammar.specs.Bytes.{dollar_sign, hyphen, underscore, is_capital, is_digit}
+use Rattle.fluent_syntax_grammar.specs.Bytes.{dollar_sign, full_stop, hyphen, underscore, is_capital, is_digit}
 use Rattle.fluent_syntax_tree.specs.Spans.{bytes_at}
 use Rattle.fluent_syntax_tree.specs.Tree.{InlineTree, string_literal, number_literal, function_reference}
 use Rattle.fluent_syntax_tree.specs.Tree.{message_reference, term_reference, variable_reference, inline_placeable}
 use Rattle.fluent_syntax_tree.specs.Tree.{MaybeArguments, no_arguments, some_arguments}
 use Rattle.fluent_syntax_tree.specs.Kind.{ForbiddenCallee, ExpectedInlineExpression}
 use Rattle.fluent_syntax_grammar.specs.Construct.{Construct, ◌>>=◌, ◌>>◌, gives, fails, at_each, either}
-use Rattle.fluent_syntax_grammar.specs.Words.{token, identifier, number}
+use Rattle.fluent_syntax_grammar.specs.Words.{optional, token, identifier, number}
 use Rattle.fluent_syntax_grammar.specs.Strings as strings
 use Rattle.fluent_syntax_grammar.specs.Starts.{Start, quote, digit, term, minus, dollar, letter, brace, other, start}
-use Rattle.fluent_syntax_grammar.specs.Family.{Family}
-use Rattle.fluent_syntax_grammar.specs.Arguments.{accessor, call_arguments}
-use Rattle.fluent_syntax_grammar.specs.Placeables.{placeable}
+use Rattle.fluent_syntax_grammar.specs.Family.{Family, call_arguments, placeable}
 use Rattle.fluent_syntax_tree.specs.declared.spans.Span.{Span}
 
 -- `A` to `Z`, digits, `_` and `-`
 abbrev pub is_callee_byte : ℕ → Bool
 is_callee_byte b = is_capital b || is_digit b || b == underscore || b == hyphen
+
+module _ (t : List ℕ) where
+  -- where `.` follows at once, that and the name of an attribute
+  abbrev pub accessor : Construct (Option Span)
+  accessor = do
+    dot ← optional t full_stop
+    either dot (identifier t >>= λ a. gives (Some a)) (gives None)
 
 -- After a name and its arguments: with arguments a function reference, whose name holds only callee bytes; without them
 -- a message reference, which has an attribute where `.` follows.

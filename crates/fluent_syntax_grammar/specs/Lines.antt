@@ -1,15 +1,14 @@
 -- The lines of a pattern: runs of text and placeables.
-use Rattle.std.specs.Prelude.{◌≡◌, ℕ, ◌+◌, ◌-◌, List, [], ◌∷◌, slice_get, Option, Some, None, Bool, true, false, ◌&&◌}
+use Rattle.std.specs.Prelude.{◌≡◌, ℕ, ◌+◌, ◌-◌, List, slice_get, Option, Some, None, Bool, true, false, ◌&&◌}
 use Rattle.std.specs.Prelude.{◌||◌, ◌==◌, not, nat_lt, if◌then◌else◌}
 use Rattle.fluent_syntax_grammar.specs.Bytes.{lf, cr, asterisk, full_stop, left_brace, left_bracket, right_brace}
 use Rattle.fluent_syntax_grammar.specs.Places.{Stretch, Reaches, has, has_byte, after_eol, has_eol, InlineBlank}
 use Rattle.fluent_syntax_tree.specs.Kind.{UnbalancedClosingBrace}
 use Rattle.fluent_syntax_grammar.specs.Construct.{Outcome, Read, Construct, ◌>>=◌, ◌>>◌, gives, here, fails, over}
-use Rattle.fluent_syntax_grammar.specs.Construct.{at_each, either}
+use Rattle.fluent_syntax_grammar.specs.Construct.{at_each, either, More, no_item, item, list_of}
 use Rattle.fluent_syntax_grammar.specs.Words.{inline_blank}
 use Rattle.fluent_syntax_grammar.specs.Layout.{Piece, run, placed, Ending, lf_at, crlf_at, text_end, Line}
-use Rattle.fluent_syntax_grammar.specs.Family.{Family}
-use Rattle.fluent_syntax_grammar.specs.Placeables.{placeable}
+use Rattle.fluent_syntax_grammar.specs.Family.{Family, placeable}
 
 module _ (t : List ℕ) where
   -- a byte that is no brace and begins no line end
@@ -34,27 +33,31 @@ module _ (t : List ℕ) where
       has_eol t i || has t (λ b. not (b == full_stop || b == right_brace || b == left_bracket || b == asterisk)) i
   belongs false i = has_eol t i || has_byte t left_brace i || has_byte t cr i
 
+  -- a run of text, which reaches to the next brace, line end or the text's end
+  abbrev pub text_run : Construct Piece
+  text_run = do
+    from ← here
+    over (Stretch is_run_place)
+    to ← here
+    gives (run from to)
+
 module _ (t : List ℕ) (R : Family) where
-  -- The rest of a line by the byte there. It ends before a line end and at the text's end; `}` is refused; `{` begins a
-  -- placeable; any other byte begins a run, which reaches to the next of these.
-  abbrev pub pieces_at : Option ℕ → Construct (List Piece)
-  pieces_at None = gives []
-  pieces_at (Some b) =
-      at_each (has_eol t) (λ eol. either eol (gives []) (either (b == right_brace) (fails UnbalancedClosingBrace)
-      (either (b == left_brace) (do
-        e ← placeable t R
-        ps ← R.more_pieces
-        gives (placed e ∷ ps))
-      (do
-        from ← here
-        over (Stretch (is_run_place t))
-        to ← here
-        ps ← R.more_pieces
-        gives (run from to ∷ ps)))))
+  -- The next piece of a line by the byte there. The line ends before a line end and at the text's end; `}` is refused;
+  -- `{` begins a placeable; any other byte begins a run.
+  abbrev pub next_piece_at : Option ℕ → Construct (More Piece (Unit {0}))
+  next_piece_at None = gives no_item
+  next_piece_at (Some b) =
+      at_each (has_eol t) (λ eol. either eol (gives no_item) (either (b == right_brace) (fails UnbalancedClosingBrace)
+      (either (b == left_brace) (placeable t R >>= λ e. gives (item (placed e) tt))
+      (text_run t >>= λ p. gives (item p tt)))))
+
+  -- the next piece of a line, if it has one more
+  abbrev pub next_piece : Construct (More Piece (Unit {0}))
+  next_piece = at_each (slice_get t) next_piece_at
 
   -- the rest of a line, up to its ending
   abbrev pub more_pieces : Construct (List Piece)
-  more_pieces = at_each (slice_get t) pieces_at
+  more_pieces = list_of next_piece
 
   -- Line: its leading spaces, runs and placeables, and its ending.
   abbrev pub line : Construct Line
@@ -62,22 +65,19 @@ module _ (t : List ℕ) (R : Family) where
     start ← here
     inline_blank t
     first ← here
-    ps ← R.more_pieces
+    ps ← more_pieces
     e ← ending t
     gives (record { start = start; spaces = first - start; pieces = ps; ending = e })
 
-  -- a line that belongs, and those after it
-  abbrev pub line_and_more : Construct (List Line)
-  line_and_more = do
-    l ← line
-    ls ← R.more_lines
-    gives (l ∷ ls)
-
-  -- The lines that belong to a pattern, from a line's start on. They stop at the start of the first line that does not
-  -- belong. Spaces alone at the text's end are passed over and give nothing.
-  pub data more_lines : ℕ → Outcome (List Line) → Type 0 where
-    no_byte : {i k : ℕ} → InlineBlank t i k → slice_get t k ≡ None → more_lines i (Read [] k)
+  -- The next line of a pattern, if one more belongs to it. The first that does not belong stays unread. Spaces alone at
+  -- the text's end are passed over and give nothing.
+  pub data next_line : ℕ → Outcome (More Line (Unit {0})) → Type 0 where
+    no_byte : {i k : ℕ} → InlineBlank t i k → slice_get t k ≡ None → next_line i (Read no_item k)
     other_line : {i k b : ℕ} → InlineBlank t i k → slice_get t k ≡ Some b → belongs t (nat_lt i k) k ≡ false →
-        more_lines i (Read [] i)
-    own_line : {i k b : ℕ} {o : Outcome (List Line)} → InlineBlank t i k → slice_get t k ≡ Some b →
-        belongs t (nat_lt i k) k ≡ true → line_and_more i o → more_lines i o
+        next_line i (Read no_item i)
+    own_line : {i k b : ℕ} {o : Outcome (More Line (Unit {0}))} → InlineBlank t i k → slice_get t k ≡ Some b →
+        belongs t (nat_lt i k) k ≡ true → (line >>= λ l. gives (item l tt)) i o → next_line i o
+
+  -- the lines that belong to a pattern, from a line's start on
+  abbrev pub more_lines : Construct (List Line)
+  more_lines = list_of next_line

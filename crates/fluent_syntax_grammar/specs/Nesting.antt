@@ -11,7 +11,7 @@ use Rattle.fluent_syntax_grammar.specs.Bytes.{asterisk, colon, equals_sign, full
 use Rattle.fluent_syntax_grammar.specs.Bytes.{left_bracket, left_parenthesis, right_bracket, right_parenthesis}
 use Rattle.fluent_syntax_grammar.specs.Construct.{Construct, Read, ◌>>=◌, ◌>>◌, gives, over, at_each}
 use Rattle.fluent_syntax_grammar.specs.Entries.{attribute}
-use Rattle.fluent_syntax_grammar.specs.Grammar.{family, pattern, placeable}
+use Rattle.fluent_syntax_grammar.specs.Grammar.{family, inline_expression, more_pieces, pattern, placeable}
 use Rattle.fluent_syntax_grammar.specs.Layout.{Piece, Ending}
 use Rattle.fluent_syntax_grammar.specs.Lines.{belongs, ending, is_run_place}
 use Rattle.fluent_syntax_grammar.specs.Placeables.{arrow_line_end, has_arrow, selector_fault}
@@ -110,7 +110,7 @@ module _ (edition : Edition) (t : List ℕ) where
     pub selector : InlineTree Span
     pub end : ℕ
     pub arrow : ℕ
-    pub read : (family edition t).inline_expression i (Read selector end)
+    pub read : inline_expression edition t i (Read selector end)
     pub blank : Blank t end arrow
     pub there : has_arrow t arrow ≡ true
     pub selects : selector_fault selector ≡ None
@@ -119,7 +119,7 @@ module _ (edition : Edition) (t : List ℕ) where
   -- An argument of a list is read from i to j.
   pub record IsArgument (i : ℕ) (e : InlineTree Span) (j : ℕ) : Type 0 where
     pub other : has_byte t right_parenthesis i ≡ false
-    pub read : (family edition t).inline_expression i (Read e j)
+    pub read : inline_expression edition t i (Read e j)
 
   -- A named argument stands at i, with a name that is none of the names; and k is where its value begins.
   pub record IsNamed (names : List (List ℕ)) (i : ℕ) (name : Span) (k : ℕ) : Type 0 where
@@ -175,12 +175,12 @@ module _ (edition : Edition) (t : List ℕ) where
         Deeper in_pieces n i
     its_line : {i k n : ℕ} → OwnLine t i k → Deeper in_pieces n k → Deeper in_lines n i
     behind_line : {i k j m n : ℕ} (pieces : List Piece) {end : Ending} → OwnLine t i k →
-        (family edition t).more_pieces k (Read pieces j) → ending t j (Read end m) → Deeper in_lines n m →
+        more_pieces edition t k (Read pieces j) → ending t j (Read end m) → Deeper in_lines n m →
         Deeper in_lines n i
     its_lines : {i k m n : ℕ} → after_eol t i ≡ Some k → BlankBlock t k m → Deeper in_lines n m → Deeper in_layout n i
     its_opening : {i n : ℕ} → after_eol t i ≡ None → Deeper in_pieces n i → Deeper in_layout n i
     behind_opening : {i j m n : ℕ} (pieces : List Piece) {end : Ending} → after_eol t i ≡ None →
-        (family edition t).more_pieces i (Read pieces j) → ending t j (Read end m) → Deeper in_lines n m →
+        more_pieces edition t i (Read pieces j) → ending t j (Read end m) → Deeper in_lines n m →
         Deeper in_layout n i
     its_layout : {i j n : ℕ} → InlineBlank t i j → Deeper in_layout n j → Deeper in_pattern n i
     -- ---- entries

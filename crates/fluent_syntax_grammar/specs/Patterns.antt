@@ -7,7 +7,7 @@ use Rattle.fluent_syntax_grammar.specs.Words.{inline_blank, blank_block}
 use Rattle.fluent_syntax_grammar.specs.Layout.{Layout}
 use Rattle.fluent_syntax_grammar.specs.Elements.{pattern_of}
 use Rattle.fluent_syntax_grammar.specs.Family.{Family}
-use Rattle.fluent_syntax_grammar.specs.Lines.{ending}
+use Rattle.fluent_syntax_grammar.specs.Lines.{ending, more_lines, more_pieces}
 use Rattle.fluent_syntax_tree.specs.declared.spans.Span.{Span}
 use Rattle.fluent_syntax_tree.specs.declared.edition.Edition.{Edition}
 
@@ -19,13 +19,13 @@ module _ (t : List ℕ) (R : Family) where
   layout_at (Some k) = do
     over (Reaches k)
     blank_block t
-    ls ← R.more_lines
+    ls ← more_lines t R
     gives (record { opening = None; lines = ls })
   layout_at None = do
     start ← here
-    ps ← R.more_pieces
+    ps ← more_pieces t R
     e ← ending t
-    ls ← R.more_lines
+    ls ← more_lines t R
     gives (record { opening = Some (record { start = start; spaces = 0; pieces = ps; ending = e }); lines = ls })
 
   -- Layout: an inline blank, and what follows on the line decides.

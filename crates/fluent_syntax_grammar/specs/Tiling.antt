@@ -7,7 +7,9 @@ use Rattle.fluent_syntax_tree.specs.Kind.{Kind, ExpectedMessageField, ExpectedTe
 use Rattle.fluent_syntax_grammar.specs.Construct.{Read, Refused, Construct, ◌>>◌, at_each, either}
 use Rattle.fluent_syntax_grammar.specs.Words.{rest_of_line, optional_eol}
 use Rattle.fluent_syntax_tree.specs.Entry.{EntryTree}
-use Rattle.fluent_syntax_grammar.specs.Entries.{message_entry, term_entry}
+use Rattle.fluent_syntax_grammar.specs.Entries.{message_of, term_of}
+use Rattle.fluent_syntax_grammar.specs.Family.{Family}
+use Rattle.fluent_syntax_grammar.specs.Grammar.{family}
 use Rattle.fluent_syntax_grammar.specs.Comments.{comment_entry}
 use Rattle.fluent_syntax_tree.specs.declared.spans.Span.{Span}
 use Rattle.fluent_syntax_tree.specs.declared.edition.Edition.{Edition}
@@ -59,33 +61,45 @@ module _ (t : List ℕ) where
     next : {i start end : ℕ} {tile : Tile} {tiles : List Tile} → BlankBlock t i start → start < length t →
         at start end tile → Tiled at end tiles → Tiled at i (tile ∷ tiles)
 
-module _ (edition : Edition) (t : List ℕ) where
+-- over a family: what may nest in the entries, to any depth or within some number
+module _ (edition : Edition) (t : List ℕ) (R : Family) where
   -- an entry, by its first byte: `#` a comment, `-` a term, any other a message
   abbrev pub entry_of : Option ℕ → Construct (EntryTree Span)
-  entry_of None = message_entry edition t
+  entry_of None = message_of edition t R
   entry_of (Some b) =
-      either (b == hash) (comment_entry t) (either (b == hyphen) (term_entry edition t) (message_entry edition t))
+      either (b == hash) (comment_entry t) (either (b == hyphen) (term_of edition t R) (message_of edition t R))
 
   -- Entry: what stands at the place decides its form.
-  abbrev pub entry_at : Construct (EntryTree Span)
-  entry_at = at_each (slice_get t) entry_of
+  abbrev pub entry_in : Construct (EntryTree Span)
+  entry_in = at_each (slice_get t) entry_of
 
   -- The tile that stands from i to j: the entry that is read there; or, where it is refused, junk that reaches
   -- from there to the first entry start at or after the failing place.
-  pub data TileAt : (i j : ℕ) → Tile → Type 0 where
-    reads : {i j : ℕ} {e : EntryTree Span} → entry_at i (Read e j) →
-        TileAt i j (entry (record { start = i; end = j }) e)
-    refuses : {i j from to : ℕ} {k : Kind} → entry_at i (Refused k from to) → JunkEnd t (failing_place k from to) j →
-        TileAt i j (refused (record {
+  pub data TileIn : (i j : ℕ) → Tile → Type 0 where
+    reads : {i j : ℕ} {e : EntryTree Span} → entry_in i (Read e j) →
+        TileIn i j (entry (record { start = i; end = j }) e)
+    refuses : {i j from to : ℕ} {k : Kind} → entry_in i (Refused k from to) → JunkEnd t (failing_place k from to) j →
+        TileIn i j (refused (record {
           kind = k;
           pos = record { start = from; end = to };
           slice = record { start = i; end = j };
         }))
 
   -- Without comments: a line that begins with `#` is dropped with its end, malformed or not; other tiles are the same.
-  pub data RuntimeTileAt : (i j : ℕ) → Tile → Type 0 where
-    drops : {i j : ℕ} → has_byte t hash i ≡ true → whole_line t i (Read tt j) → RuntimeTileAt i j dropped
-    stands : {i j : ℕ} {tile : Tile} → has_byte t hash i ≡ false → TileAt i j tile → RuntimeTileAt i j tile
+  pub data RuntimeTileIn : (i j : ℕ) → Tile → Type 0 where
+    drops : {i j : ℕ} → has_byte t hash i ≡ true → whole_line t i (Read tt j) → RuntimeTileIn i j dropped
+    stands : {i j : ℕ} {tile : Tile} → has_byte t hash i ≡ false → TileIn i j tile → RuntimeTileIn i j tile
+
+module _ (edition : Edition) (t : List ℕ) where
+  -- an entry, with what nests in it to any depth; and so on for the others
+  abbrev pub entry_at : Construct (EntryTree Span)
+  entry_at = entry_in edition t (family edition t)
+
+  abbrev pub TileAt : (i j : ℕ) → Tile → Type 0
+  TileAt = TileIn edition t (family edition t)
+
+  abbrev pub RuntimeTileAt : (i j : ℕ) → Tile → Type 0
+  RuntimeTileAt = RuntimeTileIn edition t (family edition t)
 
   -- The tiles of the whole text.
   abbrev pub Tiling : List Tile → Type 0

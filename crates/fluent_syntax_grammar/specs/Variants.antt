@@ -2,10 +2,11 @@
 use Rattle.std.specs.Prelude.{ℕ, List, Option, Some, None, Bool, ◌&&◌, ◌||◌, ◌==◌}
 use Rattle.fluent_syntax_grammar.specs.Bytes.{is_digit, asterisk, hyphen, left_bracket, right_bracket}
 use Rattle.fluent_syntax_grammar.specs.Places.{has}
-use Rattle.fluent_syntax_tree.specs.Tree.{KeyTree, name_key, number_key, PatternTree, VariantTrees, no_variants}
-use Rattle.fluent_syntax_tree.specs.Tree.{variants, variant}
+use Rattle.fluent_syntax_tree.specs.Tree.{KeyTree, name_key, number_key, PatternTree, VariantTree, VariantTrees}
+use Rattle.fluent_syntax_tree.specs.Tree.{no_variants, variants, variant}
 use Rattle.fluent_syntax_tree.specs.Kind.{MissingDefaultVariant, MissingValue, MultipleDefaultVariants}
-use Rattle.fluent_syntax_grammar.specs.Construct.{Construct, ◌>>=◌, ◌>>◌, gives, fails, at_each, either}
+use Rattle.fluent_syntax_grammar.specs.Construct.{Construct, ◌>>=◌, ◌>>◌, gives, fails, at_each, either, More}
+use Rattle.fluent_syntax_grammar.specs.Construct.{no_item, item, many}
 use Rattle.fluent_syntax_grammar.specs.Words.{optional, token, blank, identifier, number}
 use Rattle.fluent_syntax_grammar.specs.Family.{Family}
 use Rattle.fluent_syntax_grammar.specs.Patterns.{pattern}
@@ -34,35 +35,37 @@ abbrev pub only_star : (starred star : Bool) → Construct (Unit {0})
 only_star starred star = either (starred && star) (fails MultipleDefaultVariants) (gives tt)
 
 -- the end of a list of variants, which has to have a default
-abbrev pub variants_end : Edition → (starred star : Bool) → Construct (VariantTrees Span)
+abbrev pub variants_end : Edition → (starred star : Bool) → Construct (More (VariantTree Span) Bool)
 variants_end edition starred star =
-    either (has_default edition starred star) (gives no_variants) (fails MissingDefaultVariant)
+    either (has_default edition starred star) (gives no_item) (fails MissingDefaultVariant)
+
+module _ (t : List ℕ) where
+  -- From the end of a variant's pattern on: there has to be one. Then a blank.
+  abbrev pub variant_of : (starred star : Bool) → KeyTree Span → Option (PatternTree Span) →
+      Construct (More (VariantTree Span) Bool)
+  variant_of starred star key None = fails MissingValue
+  variant_of starred star key (Some value) = blank t >> gives (item (variant key value star) (starred || star))
 
 module _ (edition : Edition) (t : List ℕ) (R : Family) where
-  -- From the end of a variant's pattern on: there has to be one. Then a blank, and the rest of the list.
-  abbrev pub variant_and_more : (starred star : Bool) → KeyTree Span → Option (PatternTree Span) →
-      Construct (VariantTrees Span)
-  variant_and_more starred star key None = fails MissingValue
-  variant_and_more starred star key (Some value) = do
-    blank t
-    vs ← R.more_variants (starred || star)
-    gives (variants (variant key value star) vs)
-
-  -- Variant, after its star and `[`: a blank, a key, a blank, `]`, a pattern, a blank; and the rest of the list.
-  abbrev pub variant_after : (starred star : Bool) → Construct (VariantTrees Span)
+  -- Variant, after its star and `[`: a blank, a key, a blank, `]`, a pattern, a blank.
+  abbrev pub variant_after : (starred star : Bool) → Construct (More (VariantTree Span) Bool)
   variant_after starred star = do
     blank t
     key ← variant_key t
     blank t
     token t right_bracket
     value ← pattern edition t R
-    variant_and_more starred star key value
+    variant_of t starred star key value
 
-  -- The rest of a list of variants: an optional `*`, and where `[` follows a variant and more; else the list ends
+  -- The next variant of a list, if it has one more: an optional `*`, and where `[` follows a variant; else the list ends
   -- there.
-  abbrev pub more_variants : (starred : Bool) → Construct (VariantTrees Span)
-  more_variants starred = do
+  abbrev pub next_variant : (starred : Bool) → Construct (More (VariantTree Span) Bool)
+  next_variant starred = do
     star ← optional t asterisk
     only_star starred star
     bracket ← optional t left_bracket
     either bracket (variant_after starred star) (variants_end edition starred star)
+
+  -- the rest of a list of variants; the flag says whether a default stood before
+  abbrev pub more_variants : (starred : Bool) → Construct (VariantTrees Span)
+  more_variants = many next_variant variants no_variants

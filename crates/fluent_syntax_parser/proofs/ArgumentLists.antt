@@ -1,30 +1,30 @@
--- The rest of an argument list, by what stands there.
+-- The next argument of a list, by what stands there.
 use Rattle.std.proofs.Common.{◌≡◌, ℕ, ◌+◌, ◌≤◌, ◌<◌, true, false, List, [], ◌∷◌, ◌++◌, length, Option, Some, None, refl}
 use Rattle.std.proofs.Common.{sym, ap, ◌∙◌, subst, inl, inr}
 use Rattle.std.specs.Prelude.{◌==◌, ◌⊎◌, slice_get}
 use Rattle.std.proofs.lemmas.Option.{slice_get-get_or, slice_get_past}
 use Rattle.fluent_syntax_tree.specs.Kind.{Kind, ExpectedToken, PositionalArgumentFollowsNamed}
 use Rattle.fluent_syntax_tree.specs.Spans.{bytes_at}
-use Rattle.fluent_syntax_tree.specs.Tree.{InlineTree, ArgumentsTree, arguments, no_inlines, no_named}
+use Rattle.fluent_syntax_tree.specs.Tree.{InlineTree, arguments, no_inlines, no_named}
 use Rattle.fluent_syntax_tree.specs.View.{inline_view}
 use Rattle.fluent_syntax_tree.specs.declared.ast.InlineExpression.{InlineExpression}
 use Rattle.fluent_syntax_tree.specs.declared.ast.NamedArgument.{NamedArgument}
 use Rattle.fluent_syntax_tree.specs.declared.edition.Edition.{Edition}
 use Rattle.fluent_syntax_tree.specs.declared.spans.Span.{Span}
-use Rattle.fluent_syntax_grammar.specs.Arguments.{add_named, add_positional, argument_name, argument_value, is_used}
-use Rattle.fluent_syntax_grammar.specs.Arguments.{named_and_more, positional_and_more, argument_and_more, separator}
+use Rattle.fluent_syntax_grammar.specs.Arguments as rules
+use Rattle.fluent_syntax_grammar.specs.Arguments.{Argument, add_argument, argument_name, argument_rest, argument_value}
+use Rattle.fluent_syntax_grammar.specs.Arguments.{is_used, named_rest, next_argument, positional_rest, separator}
 use Rattle.fluent_syntax_grammar.specs.Bytes.{colon, right_parenthesis}
 use Rattle.fluent_syntax_grammar.specs.Construct.{Outcome, Read, Refused, ◌>>=◌, gives, at_each, goes_on, stops, given}
-use Rattle.fluent_syntax_grammar.specs.Construct.{failed, passed, chosen, first, second}
+use Rattle.fluent_syntax_grammar.specs.Construct.{failed, passed, chosen, first, second, More, no_item, item}
 use Rattle.fluent_syntax_grammar.specs.Family.{Family}
-use Rattle.fluent_syntax_grammar.specs.Grammar.{family}
+use Rattle.fluent_syntax_grammar.specs.Grammar.{family, inline_expression, more_arguments}
 use Rattle.fluent_syntax_grammar.specs.Nesting.{Deeper, IsArgument, behind_positional, in_arguments}
 use Rattle.fluent_syntax_grammar.specs.Nesting.{in_inline_expression}
 use Rattle.fluent_syntax_grammar.specs.Places.{Blank, has_byte}
 use Rattle.fluent_syntax_grammar.specs.Starts.{other, start}
 use Rattle.fluent_syntax_grammar.specs.Words.{token}
 use Rattle.fluent_syntax_grammar.proofs.Facts.{byte_found}
-use Rattle.fluent_syntax_grammar.proofs.Nesting.{into_more_arguments}
 use Rattle.fluent_syntax_grammar.proofs.Shallow.{arguments_stuck, plain_start, positional_led}
 use Rattle.fluent_syntax_parser.specs.Gathered.{names_in}
 use Rattle.fluent_syntax_parser.proofs.GatheredArguments.{put_arguments, put_named, put_positional}
@@ -42,113 +42,102 @@ module _ (edition : Edition) (t : List ℕ) where
 
   -- the text's end
   pub list_open : (names : List (List ℕ)) (i : ℕ) → length t ≤ i →
-      R.more_arguments names i (Refused (ExpectedToken right_parenthesis) i (i + 1))
+      next_argument t R names i (Refused (ExpectedToken right_parenthesis) i (i + 1))
   list_open names i past =
       let none = slice_get_past t i past in
-      into_more_arguments edition t names i _
-      (chosen {o = Refused (ExpectedToken right_parenthesis) i (i + 1)} (rw none (failed refl)))
+      chosen {o = Refused (ExpectedToken right_parenthesis) i (i + 1)} (rw none (failed refl))
 
   -- the list's `)`
   pub list_closed : (names : List (List ℕ)) (i : ℕ) → has_byte t right_parenthesis i ≡ true →
-      R.more_arguments names i (Read (arguments no_inlines no_named) (i + 1))
+      next_argument t R names i (Read no_item (i + 1))
   list_closed names i there =
       let found = byte_found (λ c. c == right_parenthesis) (slice_get t i) there in
       let close = token_there t right_parenthesis i there in
-      into_more_arguments edition t names i _
-      (chosen {o = Read (arguments no_inlines no_named) (i + 1)}
-      (rw found.1 (first found.2 (goes_on close given))))
+      chosen {o = Read no_item (i + 1)} (rw found.1 (first found.2 (goes_on close given)))
 
   module _ (names : List (List ℕ)) (i : ℕ) (within : i < length t) (no_end : has_byte t right_parenthesis i ≡ false)
     where
-      begins : (o : Outcome (ArgumentsTree Span)) →
-          (R.inline_expression >>= λ e.
-          at_each (has_byte t colon) gives >>= λ is_named. argument_and_more t R names e (argument_name e) is_named) i o
+      begins : (o : Outcome (More Argument (List (List ℕ)))) →
+          (inline_expression edition t >>= λ e.
+          at_each (has_byte t colon) gives >>= λ is_named. argument_rest t R names e (argument_name e) is_named) i o
           →
-          R.more_arguments names i o
+          next_argument t R names i o
       begins o h =
           let byte = slice_get-get_or t i 0 within in
           let test = rw byte at no_end in
-          into_more_arguments edition t names i o (chosen {o = o} (rw byte (second test h)))
+          chosen {o = o} (rw byte (second test h))
 
-      pub inline_fails : (k : Kind) (from to : ℕ) → R.inline_expression i (Refused k from to) →
-          R.more_arguments names i (Refused k from to)
+      pub inline_fails : (k : Kind) (from to : ℕ) → inline_expression edition t i (Refused k from to) →
+          next_argument t R names i (Refused k from to)
       inline_fails k from to h = begins _ (stops h)
 
-      module _ (e : InlineTree Span) (j : ℕ) (read : R.inline_expression i (Read e j)) where
+      module _ (e : InlineTree Span) (j : ℕ) (read : inline_expression edition t i (Read e j)) where
         pub named : (name : Span) → argument_name e ≡ Some name → has_byte t colon j ≡ true →
-            (o : Outcome (ArgumentsTree Span)) → named_and_more t R names name j o → R.more_arguments names i o
+            (o : Outcome (More Argument (List (List ℕ)))) → named_rest t R names name j o → next_argument t R names i o
         named name is mark o h = begins o (goes_on read (goes_on (chosen given) (rw (is, mark) h)))
 
-        unmarked : (name : Option Span) (o : Outcome (ArgumentsTree Span)) → positional_and_more t R names e j o →
-            argument_and_more t R names e name false j o
+        unmarked : (name : Option Span) (o : Outcome (More Argument (List (List ℕ)))) →
+            positional_rest t names e j o → argument_rest t R names e name false j o
         unmarked None o h = h
         unmarked (Some name) o h = h
 
-        pub positional : (argument_name e ≡ None) ⊎ (has_byte t colon j ≡ false) → (o : Outcome (ArgumentsTree Span)) →
-            positional_and_more t R names e j o → R.more_arguments names i o
+        pub positional : (argument_name e ≡ None) ⊎ (has_byte t colon j ≡ false) →
+            (o : Outcome (More Argument (List (List ℕ)))) → positional_rest t names e j o → next_argument t R names i o
         positional (inl none) o h = begins o (goes_on read (goes_on (chosen given) (rw none h)))
         positional (inr none) o h =
             begins o (goes_on read (goes_on (chosen given) (rw none (unmarked (argument_name e) o h))))
 
   -- a positional argument after a named one
   pub late : (names : List (List ℕ)) (e : InlineTree Span) (j : ℕ) → (names ≡ [] → ⊥) →
-      positional_and_more t R names e j (Refused PositionalArgumentFollowsNamed j (j + 1))
+      positional_rest t names e j (Refused PositionalArgumentFollowsNamed j (j + 1))
   late [] e j some = absurd (some refl)
   late (name ∷ names) e j some = failed refl
 
   module _ (ps : List (InlineExpression Span)) (ns : List (NamedArgument Span)) (from i : ℕ)
-      (gathered : Puts (R.more_arguments (names_in t ns)) (R.more_arguments []) (put_arguments ps ns) from i)
+      (gathered : Puts (more_arguments edition t (names_in t ns)) (more_arguments edition t []) (put_arguments ps ns)
+          from i)
       (within : i < length t) (no_end : has_byte t right_parenthesis i ≡ false)
-      (e : InlineExpression Span) (j : ℕ) (read : R.inline_expression i (Read (inline_view (λ s. s) e) j)) where
+      (e : InlineExpression Span) (j : ℕ) (read : inline_expression edition t i (Read (inline_view (λ s. s) e) j)) where
     -- one more named argument
     pub one_named : (x : NamedArgument Span) → argument_name (inline_view (λ s. s) e) ≡ Some x.name.name →
         has_byte t colon j ≡ true → is_used (bytes_at t x.name.name) (names_in t ns) ≡ false →
         (more : List (NamedArgument Span)) → more ≡ ns ++ x ∷ [] → (m end next : ℕ) → Blank t (j + 1) m →
         at_each (start t) (argument_value t R) m (Read (inline_view (λ s. s) x.value) end) →
         separator t end (Read tt next) →
-        Puts (R.more_arguments (names_in t more)) (R.more_arguments []) (put_arguments ps more) from next
+        Puts (more_arguments edition t (names_in t more)) (more_arguments edition t []) (put_arguments ps more)
+        from next
     one_named x is mark new more pushed m end next blank value after =
         let names : names_in t more ≡ bytes_at t x.name.name ∷ names_in t ns =
         ap (names_in t) pushed ∙ names_added t ns x in
-        let add = add_named x.name.name (inline_view (λ s. s) x.value) in
-        one_put (R.more_arguments []) from (R.more_arguments (names_in t ns)) (R.more_arguments (names_in t more))
-        (put_arguments ps ns) (put_arguments ps more) add i next gathered (put_named ps ns more x pushed)
-        (λ rest last h. named (names_in t ns) i within no_end (inline_view (λ s. s) e) j read x.name.name is mark
-        (Read (add rest) last)
+        let added = rules.named x.name.name (inline_view (λ s. s) x.value) in
+        subst (λ xs. Puts (more_arguments edition t xs) (more_arguments edition t []) (put_arguments ps more) from next)
+        (sym names)
+        (one_put (next_argument t R) add_argument (arguments no_inlines no_named) (more_arguments edition t []) from
+        (put_arguments ps ns) (put_arguments ps more) added (names_in t ns) (bytes_at t x.name.name ∷ names_in t ns)
+        i next gathered (put_named ps ns more x pushed)
+        (named (names_in t ns) i within no_end (inline_view (λ s. s) e) j read x.name.name is mark
+        (Read (item added (bytes_at t x.name.name ∷ names_in t ns)) next)
         (second new
         (goes_on (token_there t colon j mark)
         (goes_on (passed blank)
         (goes_on value
-        (goes_on after
-        (goes_on (subst (λ xs. R.more_arguments xs next (Read rest last)) names h) given)))))))
-        (λ k a b h. named (names_in t ns) i within no_end (inline_view (λ s. s) e) j read x.name.name is mark
-        (Refused k a b)
-        (second new
-        (goes_on (token_there t colon j mark)
-        (goes_on (passed blank)
-        (goes_on value
-        (goes_on after
-        (stops (subst (λ xs. R.more_arguments xs next (Refused k a b)) names h))))))))
+        (goes_on after given)))))))
 
     -- one more positional argument
     pub one_positional : (argument_name (inline_view (λ s. s) e) ≡ None) ⊎ (has_byte t colon j ≡ false) → ns ≡ [] →
         (more : List (InlineExpression Span)) → more ≡ ps ++ e ∷ [] → (next : ℕ) → separator t j (Read tt next) →
-        Puts (R.more_arguments (names_in t ns)) (R.more_arguments []) (put_arguments more ns) from next
+        Puts (more_arguments edition t (names_in t ns)) (more_arguments edition t []) (put_arguments more ns) from next
     one_positional is none more pushed next after =
         let names : names_in t ns ≡ [] = rw none refl in
-        let add = add_positional (inline_view (λ s. s) e) in
-        one_put (R.more_arguments []) from (R.more_arguments (names_in t ns)) (R.more_arguments (names_in t ns))
-        (put_arguments ps ns) (put_arguments more ns) add i next gathered (put_positional ps more ns e pushed)
-        (λ rest last h. positional (names_in t ns) i within no_end (inline_view (λ s. s) e) j read is
-        (Read (add rest) last)
-        (subst (λ xs. positional_and_more t R xs (inline_view (λ s. s) e) j (Read (add rest) last)) (sym names)
-        (goes_on after
-        (goes_on (subst (λ xs. R.more_arguments xs next (Read rest last)) names h) given))))
-        (λ k a b h. positional (names_in t ns) i within no_end (inline_view (λ s. s) e) j read is
-        (Refused k a b)
-        (subst (λ xs. positional_and_more t R xs (inline_view (λ s. s) e) j (Refused k a b)) (sym names)
-        (goes_on after
-        (stops (subst (λ xs. R.more_arguments xs next (Refused k a b)) names h)))))
+        let added = rules.positional (inline_view (λ s. s) e) in
+        subst (λ xs. Puts (more_arguments edition t xs) (more_arguments edition t []) (put_arguments more ns) from next)
+        (sym names)
+        (one_put (next_argument t R) add_argument (arguments no_inlines no_named) (more_arguments edition t []) from
+        (put_arguments ps ns) (put_arguments more ns) added (names_in t ns) [] i next gathered
+        (put_positional ps more ns e pushed)
+        (positional (names_in t ns) i within no_end (inline_view (λ s. s) e) j read is (Read (item added []) next)
+        (subst (λ xs. positional_rest t xs (inline_view (λ s. s) e) j (Read (item added []) next)) (sym names)
+        (goes_on after given))))
 
 -- the names of named arguments with one more
 pub one_name_more : (t : List ℕ) (ns : List (NamedArgument Span)) (x : NamedArgument Span)
@@ -164,7 +153,7 @@ module _ (edition : Edition) (t : List ℕ) (ns : List (NamedArgument Span)) (no
   behind_only_positional argument is after h = rw none (behind_positional argument is after (rw none at h))
 
   pub only_positional_led : {i n : ℕ} (e : InlineTree Span) (j next : ℕ) →
-      (family edition t).inline_expression i (Read e j) → (argument_name e ≡ None) ⊎ (has_byte t colon j ≡ false) →
+      inline_expression edition t i (Read e j) → (argument_name e ≡ None) ⊎ (has_byte t colon j ≡ false) →
       separator t j (Read tt next) → Deeper edition t (in_arguments (names_in t ns)) n i →
       Deeper edition t in_inline_expression n i ⊎ Deeper edition t (in_arguments (names_in t ns)) n next
   only_positional_led e j next read is after h =

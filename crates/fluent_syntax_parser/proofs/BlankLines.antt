@@ -8,16 +8,14 @@ use Rattle.std.proofs.lemmas.Bool.Decides.{nat_tests}
 use Rattle.std.proofs.lemmas.Option.{slice_get-get_or, slice_get_within}
 use Rattle.fluent_syntax_tree.specs.declared.edition.Edition.{Edition}
 use Rattle.fluent_syntax_grammar.specs.Bytes.{lf, cr, space}
-use Rattle.fluent_syntax_grammar.specs.Construct.{Read, at_place, chosen, first, given, goes_on, passed}
+use Rattle.fluent_syntax_grammar.specs.Construct.{Read, at_place, chosen, first, given, goes_on, item_and_more, list_ends, passed}
 use Rattle.fluent_syntax_grammar.specs.Elements.{Item, cut, is_nonblank, line_items}
-use Rattle.fluent_syntax_grammar.specs.Family.{Family}
-use Rattle.fluent_syntax_grammar.specs.Grammar.{family}
+use Rattle.fluent_syntax_grammar.specs.Grammar.{more_lines, more_pieces}
 use Rattle.fluent_syntax_grammar.specs.Layout.{Line, crlf_at, lf_at}
 use Rattle.fluent_syntax_grammar.specs.Lines.{belongs, own_line}
 use Rattle.fluent_syntax_grammar.specs.Nesting.{Deeper, in_lines}
 use Rattle.fluent_syntax_grammar.specs.Places.{BlankBlock, InlineBlank, after_eol, has_byte, has_eol, line, no_line}
 use Rattle.fluent_syntax_grammar.proofs.Facts.{byte_found, equal}
-use Rattle.fluent_syntax_grammar.proofs.Nesting.{into_more_lines, into_more_pieces}
 use Rattle.fluent_syntax_grammar.proofs.Shallow.{lines_led, no_lines_led, pieces_eol}
 use Rattle.fluent_syntax_parser.proofs.LineEndings.{ends_line}
 use Rattle.fluent_syntax_parser.specs.ShortPatterns.{AreBlank}
@@ -127,12 +125,9 @@ module _ (edition : Edition) (t : List ℕ) (common : Option ℕ) (i k m : ℕ) 
   blank_items = by_test (m == k + 1) refl
 
 module _ (edition : Edition) (t : List ℕ) where
-  abbrev R : Family
-  R = family edition t
-
-  pub no_piece : (i : ℕ) (o : Option ℕ) → slice_get t i ≡ o → has_eol t i ≡ true → R.more_pieces i (Read [] i)
-  no_piece i None e eol = into_more_pieces edition t i _ (chosen (rw e given))
-  no_piece i (Some b) e eol = into_more_pieces edition t i _ (chosen (rw e (chosen (first eol given))))
+  pub no_piece : (i : ℕ) (o : Option ℕ) → slice_get t i ≡ o → has_eol t i ≡ true → more_pieces edition t i (Read [] i)
+  no_piece i None e eol = list_ends (chosen (rw e given))
+  no_piece i (Some b) e eol = list_ends (chosen (rw e (chosen (first eol given))))
 
   byte_there : (k : ℕ) (o : Option ℕ) → slice_get t k ≡ o → has_eol t k ≡ true → (b : ℕ) × (slice_get t k ≡ Some b)
   byte_there k None e eol = let f = rw e at eol in cc
@@ -142,17 +137,17 @@ module _ (edition : Edition) (t : List ℕ) where
   owned k true eol = rw eol refl
   owned k false eol = rw eol refl
 
-  module _ (j end : ℕ) (last : R.more_lines j (Read [] end)) where
+  module _ (j end : ℕ) (last : more_lines edition t j (Read [] end)) where
     -- the blank lines of a blank block, where no line of a pattern follows them
     pub blank_lines : (i : ℕ) → BlankBlock t i j →
-        (ls : List Line) × R.more_lines i (Read ls end) × AreBlank edition t ls
+        (ls : List Line) × more_lines edition t i (Read ls end) × AreBlank edition t ls
     blank_lines i (no_line blank none) = ([], last, λ common. refl)
     blank_lines i (line {k = k} {m = m} blank eol more) =
         let found = blank_lines m more in
         let there = eol_there (has_byte t lf k) _ k m eol in
         let byte = byte_there k (slice_get t k) refl there in (
           blank_line i k m ∷ found.0,
-          into_more_lines edition t i _
+          item_and_more
               (own_line blank byte.1 (owned k (nat_lt i k) there)
               (goes_on
               (goes_on at_place
@@ -161,7 +156,8 @@ module _ (edition : Edition) (t : List ℕ) where
               (goes_on (no_piece k (slice_get t k) refl there)
               (goes_on (ends_line t k m eol)
               given)))))
-              (goes_on found.1 given))),
+              given))
+              found.1,
           λ common. blank_items edition t common i k m blank eol (flat_map (line_items edition common) found.0)
               (found.2 common),
         )

@@ -9,6 +9,7 @@ use Rattle.fluent_syntax_grammar.specs.Bytes.{hash, hyphen}
 use Rattle.fluent_syntax_grammar.specs.Comments.{comment_entry}
 use Rattle.fluent_syntax_grammar.specs.Construct.{Outcome, Read, goes_on, chosen, first, second}
 use Rattle.fluent_syntax_grammar.specs.Entries.{message_entry, term_entry}
+use Rattle.fluent_syntax_grammar.specs.Grammar.{family}
 use Rattle.fluent_syntax_grammar.specs.Places.{holds, has_byte}
 use Rattle.fluent_syntax_grammar.specs.Tiling.{entry_at, entry_of}
 use Rattle.fluent_syntax_grammar.proofs.Facts.{differs}
@@ -16,17 +17,17 @@ use Rattle.fluent_syntax_grammar.proofs.Holds.{gave}
 
 module _ (edition : Edition) (t : List ℕ) (i : ℕ) (o : Outcome (EntryTree Span)) where
   comment_of_byte : (here : Option ℕ) → holds (λ b. b == hash) here ≡ true → comment_entry t i o →
-      entry_of edition t here i o
+      entry_of edition t (family edition t) here i o
   comment_of_byte None there h = cc
   comment_of_byte (Some b) there h = first there h
 
   term_of_byte : (here : Option ℕ) → holds (λ b. b == hash) here ≡ false → holds (λ b. b == hyphen) here ≡ true →
-      term_entry edition t i o → entry_of edition t here i o
+      term_entry edition t i o → entry_of edition t (family edition t) here i o
   term_of_byte None none there h = cc
   term_of_byte (Some b) none there h = second none (first there h)
 
   message_of_byte : (here : Option ℕ) → holds (λ b. b == hash) here ≡ false → holds (λ b. b == hyphen) here ≡ false →
-      message_entry edition t i o → entry_of edition t here i o
+      message_entry edition t i o → entry_of edition t (family edition t) here i o
   message_of_byte None none other h = h
   message_of_byte (Some b) none other h = second none (second other h)
 
@@ -47,7 +48,7 @@ module _ (edition : Edition) (t : List ℕ) (content : List Span) (i j : ℕ) (e
   comment_hangs_not : comment_entry t i (Read e j) → hung content e ≡ None
   comment_hangs_not (chosen (goes_on x (goes_on {j = m} y z))) = rw (← (gave _ e m j z).0) refl
 
-  hash_of_byte : (here : Option ℕ) → holds (λ b. b == hash) here ≡ true → entry_of edition t here i (Read e j) →
+  hash_of_byte : (here : Option ℕ) → holds (λ b. b == hash) here ≡ true → entry_of edition t (family edition t) here i (Read e j) →
       hung content e ≡ None
   hash_of_byte None there x = cc
   hash_of_byte (Some b) there (first f x) = comment_hangs_not x

@@ -7,12 +7,11 @@ use Rattle.fluent_syntax_tree.specs.declared.edition.Edition.{Edition}
 use Rattle.fluent_syntax_tree.specs.declared.spans.Span.{Span}
 use Rattle.fluent_syntax_grammar.specs.Arguments.{argument_value}
 use Rattle.fluent_syntax_grammar.specs.Construct.{Outcome, Refused, ◌>>=◌, gives, at_each, chosen, failed}
-use Rattle.fluent_syntax_grammar.specs.Grammar.{family}
+use Rattle.fluent_syntax_grammar.specs.Grammar.{family, inline_expression}
 use Rattle.fluent_syntax_grammar.specs.Inline.{inline_of}
 use Rattle.fluent_syntax_grammar.specs.Nesting.{Deeper, begins_value, in_inline_expression}
 use Rattle.fluent_syntax_grammar.specs.Starts.{Start, digit, letter, minus, quote, start}
 use Rattle.fluent_syntax_grammar.specs.Words.{number}
-use Rattle.fluent_syntax_grammar.proofs.Nesting.{into_inline_expression}
 use Rattle.fluent_syntax_grammar.proofs.Shallow.{plain_start}
 use Rattle.fluent_syntax_parser.specs.Starts.{start_view}
 use Rattle.fluent_syntax_parser.specs.declared.starts.Start as found
@@ -20,19 +19,19 @@ use Rattle.fluent_syntax_parser.specs.declared.starts.Start.TheVariants as start
 
 module _ (edition : Edition) (t : List ℕ) (i : ℕ) where
   pub by_start : (s : Start) (o : Outcome (InlineTree Span)) → s ≡ start t i → inline_of t (family edition t) s i o →
-      (family edition t).inline_expression i o
+      inline_expression edition t i o
   by_start s o e h =
-      into_inline_expression edition t i o (chosen (subst (λ x. inline_of t (family edition t) x i o) e h))
+      chosen (subst (λ x. inline_of t (family edition t) x i o) e h)
 
   pub by_number : (s : found.Start) (o : Outcome (InlineTree Span)) → (s ≡ starts.Digit) ⊎ (s ≡ starts.Minus) →
       start_view s ≡ start t i → (number t >>= λ v. gives (number_literal v)) i o →
-      (family edition t).inline_expression i o
+      inline_expression edition t i o
   by_number s o (left is) e h = let e' : digit ≡ start t i = rw is at e in by_start digit o e' h
   by_number s o (inr is) e h = let e' : minus ≡ start t i = rw is at e in by_start minus o e' h
 
   pub by_value : (s : found.Start) (o : Outcome (InlineTree Span)) →
       (s ≡ starts.Quote) ⊎ ((s ≡ starts.Digit) ⊎ (s ≡ starts.Letter)) → start_view s ≡ start t i →
-      (family edition t).inline_expression i o → at_each (start t) (argument_value t (family edition t)) i o
+      inline_expression edition t i o → at_each (start t) (argument_value t (family edition t)) i o
   by_value s o (left is) e h =
       let e' : quote ≡ start t i = rw is at e in
       chosen (subst (λ x. argument_value t (family edition t) x i o) e' h)

@@ -4,9 +4,10 @@ use Rattle.std.specs.Prelude.{codes}
 use Rattle.fluent_syntax_tree.specs.declared.edition.Edition.TheVariants.{One}
 use Rattle.fluent_syntax_grammar.specs.Bytes.{equals_sign, full_stop}
 use Rattle.fluent_syntax_grammar.specs.Construct.{Read}
+use Rattle.fluent_syntax_grammar.specs.Grammar.{family, more_lines}
 use Rattle.fluent_syntax_grammar.specs.Places.{no_line}
-use Rattle.fluent_syntax_grammar.proofs.Computed.{computed_stretch}
-use Rattle.fluent_syntax_grammar.proofs.ComputedFamily.{computed_family}
+use Rattle.fluent_syntax_grammar.proofs.Computed.{Computed, computed_stretch}
+use Rattle.fluent_syntax_grammar.proofs.ComputedFamily.{computed_family, computed_lines}
 use Rattle.fluent_syntax_grammar.proofs.ComputedRules.{computed_identifier, computed_token}
 use Rattle.fluent_syntax_parser.specs.ShortGrammar.{PlacedReference, ShortField, ShortMessage, ended, no_more, one_more}
 use Rattle.fluent_syntax_parser.specs.ShortGrammar.{placed, variable}
@@ -14,6 +15,9 @@ use Rattle.fluent_syntax_parser.specs.ShortPatterns.{with_lf, with_text}
 
 abbrev text : List ℕ
 text = codes "a = b{$c}\n .d = e"
+
+abbrev computed_more_lines : Computed (more_lines One text)
+computed_more_lines = computed_lines text 20 (family One text) (computed_family One text 20 20)
 
 -- `{$c}`
 reference : PlacedReference text 5 9
@@ -45,7 +49,7 @@ value = record {
       line = placed ((computed_stretch 20).sound 4 5 refl) reference
           (ended ((computed_stretch 20).sound 9 9 refl) (with_lf refl refl));
       block = no_line ((computed_stretch 20).sound 10 11 refl) refl;
-      lines = (computed_family One text 20 20).more_lines.sound 10 (Read [] 10) refl;
+      lines = computed_more_lines.sound 10 (Read [] 10) refl;
     };
   };
 }
@@ -68,7 +72,7 @@ attribute = record {
       first = 17;
       line = ended ((computed_stretch 20).sound 16 17 refl) (with_text refl refl);
       block = no_line ((computed_stretch 20).sound 17 17 refl) refl;
-      lines = (computed_family One text 20 20).more_lines.sound 17 (Read [] 17) refl;
+      lines = computed_more_lines.sound 17 (Read [] 17) refl;
     };
   };
 }

@@ -9,8 +9,7 @@ use Rattle.fluent_syntax_tree.specs.declared.spans.Span.{Span}
 use Rattle.fluent_syntax_grammar.specs.Construct.{Read}
 use Rattle.fluent_syntax_grammar.specs.Elements.{Item, filled, text, cut, if_any, is_nonblank, spelled, trimmed_end}
 use Rattle.fluent_syntax_grammar.specs.Elements.{with_ending}
-use Rattle.fluent_syntax_grammar.specs.Family.{Family}
-use Rattle.fluent_syntax_grammar.specs.Grammar.{family, pattern}
+use Rattle.fluent_syntax_grammar.specs.Grammar.{more_pieces, pattern}
 use Rattle.fluent_syntax_grammar.specs.Layout.{Ending, Piece, placed, run as run'}
 use Rattle.fluent_syntax_grammar.specs.Lines.{is_run_place}
 use Rattle.fluent_syntax_grammar.specs.Nesting.{Deeper, in_layout, in_lines, in_pieces}
@@ -90,14 +89,11 @@ spelled_placed t es (inr (before, x, expression, is, is_placed)) ps e nothing =
 
 module _ (edition : Edition) (t : List ℕ) (start : ℕ) (opens : after_eol t start ≡ None) (old new : List ShortPart)
     (place to stop next end : ℕ) (g : GathersPieces t old start new place) (line : EndsLine t to stop next) where
-  abbrev R : Family
-  R = family edition t
-
   abbrev elements : List (ElementTree Span)
   elements = map (short_element (λ s. s)) g.elements
 
   module _ (w : Stretch (is_run_place t) place to) (some : place < to) where
-    text_pieces : R.more_pieces start (Read (map short_piece g.elements ++ run' place to ∷ []) to)
+    text_pieces : more_pieces edition t start (Read (map short_piece g.elements ++ run' place to ∷ []) to)
     text_pieces =
         g.read edition _ _ (run_before edition t place to w some [] to (line_ended edition t to stop next line).pieces)
 
@@ -157,10 +153,10 @@ module _ (edition : Edition) (t : List ℕ) (start : ℕ) (opens : after_eol t s
     }
 
   module _ (same : place ≡ to) where
-    placed_pieces : R.more_pieces start (Read (map short_piece g.elements ++ []) to)
+    placed_pieces : more_pieces edition t start (Read (map short_piece g.elements ++ []) to)
     placed_pieces =
         g.read edition [] to
-        (subst (λ k. R.more_pieces k (Read [] to)) (sym same) (line_ended edition t to stop next line).pieces)
+        (subst (λ k. more_pieces edition t k (Read [] to)) (sym same) (line_ended edition t to stop next line).pieces)
 
     -- with nothing behind them
     placed_read : (ptr : ℕ) → InlineBlank t ptr start → EndsBlank edition t next end →

@@ -8,18 +8,17 @@ use Rattle.std.proofs.lemmas.Option.{slice_get-get_or, slice_get_past}
 use Rattle.fluent_syntax_tree.specs.declared.edition.Edition.{Edition}
 use Rattle.fluent_syntax_grammar.specs.Bytes.{lf, cr, space, left_brace, right_brace}
 use Rattle.fluent_syntax_grammar.specs.Construct.{Read, goes_on, given, passed, chosen, second, at_place}
+use Rattle.fluent_syntax_grammar.specs.Construct.{item, item_and_more, list_ends}
 use Rattle.fluent_syntax_grammar.specs.Elements.{Item, text, cut, cut_before, if_any, is_nonblank, line_items}
 use Rattle.fluent_syntax_grammar.specs.Elements.{pattern_of, spelled, trimmed_end, with_ending}
-use Rattle.fluent_syntax_grammar.specs.Family.{Family}
-use Rattle.fluent_syntax_grammar.specs.Grammar.{family, pattern}
+use Rattle.fluent_syntax_grammar.specs.Grammar.{family, more_lines, more_pieces, pattern}
 use Rattle.fluent_syntax_grammar.specs.Layout.{Layout, Line, Piece, common_indent, run as run', Ending, lf_at}
 use Rattle.fluent_syntax_grammar.specs.Layout.{crlf_at, text_end as text_end'}
-use Rattle.fluent_syntax_grammar.specs.Lines.{is_run_place, ending}
+use Rattle.fluent_syntax_grammar.specs.Lines.{is_run_place, next_piece, text_run, ending}
 use Rattle.fluent_syntax_grammar.specs.Nesting.{Deeper, in_layout, in_lines, in_pieces}
 use Rattle.fluent_syntax_grammar.specs.Patterns.{layout_at, layout}
 use Rattle.fluent_syntax_grammar.specs.Places.{BlankBlock, Stretch, after_eol, has_byte, has_eol, InlineBlank}
 use Rattle.fluent_syntax_grammar.proofs.Facts.{left_true, byte_found}
-use Rattle.fluent_syntax_grammar.proofs.Nesting.{into_more_pieces}
 use Rattle.fluent_syntax_grammar.proofs.Shallow.{block_led, no_lines_led, opening_led, pieces_end, pieces_eol, run_led}
 use Rattle.fluent_syntax_grammar.proofs.Tests.{without}
 use Rattle.fluent_syntax_grammar.proofs.LineEnds.{eol_none}
@@ -44,26 +43,16 @@ cut_behind t [] ys none = none
 cut_behind t (x ∷ xs) ys none = ap (cut_before t x) (cut_behind t xs ys none)
 
 module _ (edition : Edition) (t : List ℕ) where
-  abbrev R : Family
-  R = family edition t
-
   run_piece : (i j b : ℕ) (ps : List Piece) (end : ℕ) → slice_get t i ≡ Some b →
       not (b == lf || b == left_brace || b == right_brace) ≡ true → has_eol t i ≡ false → Stretch (is_run_place t) i j →
-      R.more_pieces j (Read ps end) → R.more_pieces i (Read (run' i j ∷ ps) end)
+      more_pieces edition t j (Read ps end) → more_pieces edition t i (Read (run' i j ∷ ps) end)
   run_piece i j b ps end e test eol w h =
       let close : (b == right_brace) ≡ false = grind (arith, nat_tests) in
       let opening : (b == left_brace) ≡ false = grind (arith, nat_tests) in
-      into_more_pieces edition t i _
-      (chosen
-      (rw e
-      (chosen
-      (second eol
-      (second close
-      (second opening
-      (goes_on at_place
-      (goes_on (passed w)
-      (goes_on at_place
-      (goes_on h given))))))))))
+      let run : text_run t i (Read (run' i j) j) = goes_on at_place (goes_on (passed w) (goes_on at_place given)) in
+      let piece : next_piece t (family edition t) i (Read (item (run' i j) tt) j) =
+      chosen (rw e (chosen (second eol (second close (second opening (goes_on run given)))))) in
+      item_and_more piece h
 
   module _ (start to : ℕ) (w : Stretch (is_run_place t) start to) (some : start < to) where
     first_byte : (b : ℕ) × (slice_get t start ≡ Some b) × (not (b == lf || b == left_brace || b == right_brace) ≡ true)
@@ -75,8 +64,8 @@ module _ (edition : Edition) (t : List ℕ) where
     start_eol : has_eol t start ≡ false
     start_eol = without _ _ (w.each start (omega arith) some)
 
-    pub run_before : (ps : List Piece) (end : ℕ) → R.more_pieces to (Read ps end) →
-        R.more_pieces start (Read (run' start to ∷ ps) end)
+    pub run_before : (ps : List Piece) (end : ℕ) → more_pieces edition t to (Read ps end) →
+        more_pieces edition t start (Read (run' start to ∷ ps) end)
     run_before ps end pieces =
         let f = first_byte in run_piece start to f.0 ps end f.1 f.2 start_eol w pieces
 
@@ -87,7 +76,7 @@ module _ (edition : Edition) (t : List ℕ) where
   pub record EndedLine (to stop next : ℕ) : Type 0 where
     pub ends_by : Ending
     pub ends : ending t to (Read ends_by next)
-    pub pieces : R.more_pieces to (Read [] to)
+    pub pieces : more_pieces edition t to (Read [] to)
     pub text_stays : (from : ℕ) → is_nonblank (slice_range t from stop) ≡ true →
         cut t (with_ending (run' from to ∷ []) ends_by) ≡ text from stop ∷ []
     pub text_falls : (from : ℕ) → is_nonblank (slice_range t from stop) ≡ false →
@@ -130,7 +119,7 @@ module _ (edition : Edition) (t : List ℕ) where
       record {
         ends_by = text_end';
         ends = ends_text t to eol;
-        pieces = into_more_pieces edition t to _ (chosen (rw none given));
+        pieces = list_ends (chosen (rw none given));
         text_stays = λ from stays. rw stays refl;
         text_falls = λ from falls. rw falls refl;
         none_stays = refl;
@@ -140,7 +129,7 @@ module _ (edition : Edition) (t : List ℕ) where
   -- ---- a pattern whose later lines are blank
 
   module _ (start : ℕ) (opens : after_eol t start ≡ None) (ps : List Piece) (to : ℕ)
-      (pieces : R.more_pieces start (Read ps to)) (e : Ending) (next : ℕ) (ends : ending t to (Read e next)) where
+      (pieces : more_pieces edition t start (Read ps to)) (e : Ending) (next : ℕ) (ends : ending t to (Read e next)) where
     abbrev opened : List Line → Layout
     opened ls = record { opening = Some (record { start = start; spaces = 0; pieces = ps; ending = e }); lines = ls }
 
@@ -148,12 +137,12 @@ module _ (edition : Edition) (t : List ℕ) where
     pub opening_read : (ptr end : ℕ) → InlineBlank t ptr start → EndsBlank edition t next end →
         pattern edition t ptr (Read (if_any (spelled t (cut t (with_ending ps e)))) end)
     opening_read ptr end blank behind =
-        let laid : layout_at t R None start (Read (opened behind.lines) end) = goes_on at_place
+        let laid : layout_at t (family edition t) None start (Read (opened behind.lines) end) = goes_on at_place
         (goes_on pieces
         (goes_on ends
         (goes_on behind.read given))) in
-        let whole : layout t R ptr (Read (opened behind.lines) end) = goes_on (passed blank)
-        (chosen (subst (λ o. layout_at t R o start (Read (opened behind.lines) end)) (sym opens) laid)) in
+        let whole : layout t (family edition t) ptr (Read (opened behind.lines) end) = goes_on (passed blank)
+        (chosen (subst (λ o. layout_at t (family edition t) o start (Read (opened behind.lines) end)) (sym opens) laid)) in
         let cut_off = cut_behind t (with_ending ps e)
         (flat_map (line_items edition (common_indent edition (opened behind.lines))) behind.lines) (behind.blank _) in
         let same : pattern_of edition t (opened behind.lines) ≡ if_any (spelled t (cut t (with_ending ps e))) =
@@ -207,15 +196,15 @@ module _ (edition : Edition) (t : List ℕ) where
   -- ---- a pattern that holds nothing: a line ends where it would begin, and no line of a pattern follows
 
   module _ (start next first end : ℕ) (eol : after_eol t start ≡ Some next) (block : BlankBlock t next first)
-      (lines : R.more_lines first (Read [] end)) where
+      (lines : more_lines edition t first (Read [] end)) where
     pub empty_read : (ptr : ℕ) → InlineBlank t ptr start → pattern edition t ptr (Read None end)
     empty_read ptr blank =
         let empty : Layout = record { opening = None; lines = [] } in
-        let laid : layout_at t R (Some next) start (Read empty end) = goes_on (passed (record { there = refl }))
+        let laid : layout_at t (family edition t) (Some next) start (Read empty end) = goes_on (passed (record { there = refl }))
         (goes_on (passed block)
         (goes_on lines given)) in
-        let whole : layout t R ptr (Read empty end) = goes_on (passed blank)
-        (chosen (subst (λ o. layout_at t R o start (Read empty end)) (sym eol) laid)) in
+        let whole : layout t (family edition t) ptr (Read empty end) = goes_on (passed blank)
+        (chosen (subst (λ o. layout_at t (family edition t) o start (Read empty end)) (sym eol) laid)) in
         goes_on whole given
 
     pub empty_shallow : (n : ℕ) → Deeper edition t in_layout n start → ⊥

@@ -8,8 +8,8 @@ use Rattle.fluent_syntax_tree.specs.Tree.{ExpressionTree}
 use Rattle.fluent_syntax_tree.specs.declared.edition.Edition.{Edition}
 use Rattle.fluent_syntax_tree.specs.declared.spans.Span.{Span}
 use Rattle.fluent_syntax_grammar.specs.Bytes.{left_brace}
-use Rattle.fluent_syntax_grammar.specs.Construct.{Read, given, goes_on}
-use Rattle.fluent_syntax_grammar.specs.Grammar.{family, placeable}
+use Rattle.fluent_syntax_grammar.specs.Construct.{Read, given, goes_on, item_and_more}
+use Rattle.fluent_syntax_grammar.specs.Grammar.{more_pieces, placeable}
 use Rattle.fluent_syntax_grammar.specs.Layout.{Piece, placed}
 use Rattle.fluent_syntax_grammar.specs.Lines.{is_run_place}
 use Rattle.fluent_syntax_grammar.specs.Nesting.{Deeper, in_pieces}
@@ -85,11 +85,13 @@ module _ (t : List ℕ) (m : ℕ) (brace : has_byte t left_brace m ≡ true) whe
       f.1 ∙ ap Some (equal f.0 left_brace f.2)
 
   placed_before : (edition : Edition) (e : ExpressionTree Span) (k : ℕ) → placeable edition t m (Read e k) →
-      (more : List Piece) (end : ℕ) → (family edition t).more_pieces k (Read more end) →
-      (family edition t).more_pieces m (Read (placed e ∷ more) end)
+      (more : List Piece) (end : ℕ) → more_pieces edition t k (Read more end) →
+      more_pieces edition t m (Read (placed e ∷ more) end)
   placed_before edition e k read more end h =
-      placed_piece edition t m left_brace brace_byte (begins_no_line_end t m left_brace refl refl brace) refl _
-      (goes_on read (goes_on h given))
+      item_and_more
+      (placed_piece edition t m left_brace brace_byte (begins_no_line_end t m left_brace refl refl brace) refl _
+      (goes_on read given))
+      h
 
 -- ---- one more
 
@@ -112,7 +114,7 @@ module _ (t : List ℕ) (old : List ShortPart) (i : ℕ) where
       items = more_items old mid new g.elements x g.items longer;
       read = λ edition more end h. rw (map_more short_piece g.elements x more, p.is)
           (g.read edition _ _
-          (subst (λ a. (family edition t).more_pieces a (Read (placed p.expression ∷ more) end)) (sym same)
+          (subst (λ a. more_pieces edition t a (Read (placed p.expression ∷ more) end)) (sym same)
           (placed_before t m brace edition p.expression k (p.read edition) more end h)));
       ends = inr (g.elements, x, p.expression, refl, p.is);
       flat = λ edition n d.

@@ -11,13 +11,14 @@ use Rattle.fluent_syntax_grammar.specs.Arguments.{accessor, call_arguments}
 use Rattle.fluent_syntax_grammar.specs.Bytes.{cr, dollar_sign, full_stop, hyphen, left_brace, left_parenthesis, lf}
 use Rattle.fluent_syntax_grammar.specs.Bytes.{right_brace, space}
 use Rattle.fluent_syntax_grammar.specs.Construct.{Read, chosen, given, goes_on, passed, first, second, failed}
-use Rattle.fluent_syntax_grammar.specs.Grammar.{family, placeable}
+use Rattle.fluent_syntax_grammar.specs.Grammar.{family, inline_expression, placeable}
 use Rattle.fluent_syntax_grammar.specs.Nesting.{Deeper, in_call, in_inline_expression, in_placeable}
 use Rattle.fluent_syntax_grammar.specs.Placeables.{has_arrow, is_term_attribute}
 use Rattle.fluent_syntax_grammar.specs.Places.{Blank, InlineBlank, has_byte, has_eol, holds, is_blank_place}
 use Rattle.fluent_syntax_grammar.specs.Starts.{dollar, letter, start, term}
 use Rattle.fluent_syntax_grammar.specs.Words.{identifier, optional, token}
 use Rattle.fluent_syntax_grammar.proofs.Facts.{excludes, lt_or_same}
+use Rattle.fluent_syntax_grammar.proofs.Nesting.{into_expression}
 use Rattle.fluent_syntax_grammar.proofs.Shallow.{call_stuck, letter_led, no_arrow, placeable_led, plain_start, term_led}
 use Rattle.fluent_syntax_parser.proofs.InlineStarts.{by_start}
 use Rattle.fluent_syntax_parser.specs.ShortPieces.{Closes, ReadsPlaced}
@@ -106,18 +107,19 @@ module _ (edition : Edition) (t : List ℕ) (i j : ℕ) (c : Closes t i j) where
 
 module _ (edition : Edition) (t : List ℕ) (i inside mark : ℕ) (brace : token t left_brace i (Read tt inside))
     (blank : Blank t inside mark) (e : InlineTree Span) (plain : is_term_attribute e ≡ false) (end close : ℕ)
-    (read : (family edition t).inline_expression mark (Read e end)) (after : Blank t end close)
+    (read : inline_expression edition t mark (Read e end)) (after : Blank t end close)
     (there : has_byte t right_brace close ≡ true) where
   placed_read : placeable edition t i (Read (inline e) (close + 1))
   placed_read =
       goes_on brace
       (goes_on (passed blank)
       (goes_on
+      (into_expression edition t mark _
       (goes_on read
       (goes_on (passed after)
       (goes_on (chosen given)
       (second (no_arrow_at_close t close there)
-      (second plain given)))))
+      (second plain given))))))
       (goes_on (passed (inline_blank_at_close t close there))
       (goes_on (present t close right_brace there)
       given))))

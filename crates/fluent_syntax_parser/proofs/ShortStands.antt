@@ -5,10 +5,10 @@ use Rattle.std.specs.Prelude.{slice_get, slice_range, nat_lt, ◌==◌, ◌⊎�
 use Rattle.fluent_syntax_tree.specs.Kind.{Kind}
 use Rattle.fluent_syntax_tree.specs.declared.edition.Edition.{Edition}
 use Rattle.fluent_syntax_grammar.specs.Bytes.{equals_sign, full_stop, left_brace, lf}
-use Rattle.fluent_syntax_grammar.specs.Construct.{Read, Refused, goes_on}
-use Rattle.fluent_syntax_grammar.specs.Grammar.{family}
-use Rattle.fluent_syntax_grammar.specs.Lines as lines
+use Rattle.fluent_syntax_grammar.specs.Construct.{Read, Refused, goes_on, no_item, list_ends}
+use Rattle.fluent_syntax_grammar.specs.Grammar.{family, more_lines}
 use Rattle.fluent_syntax_grammar.specs.Lines.{belongs, is_run_place, no_byte, other_line, own_line}
+use Rattle.fluent_syntax_grammar.specs.Lines as lines
 use Rattle.fluent_syntax_grammar.specs.Places.{BlankBlock, InlineBlank, Stretch, after_eol, has_byte, has_eol}
 use Rattle.fluent_syntax_grammar.specs.Places.{is_line_place}
 use Rattle.fluent_syntax_grammar.proofs.Facts.{has_inside, differs, lt_or_same}
@@ -16,7 +16,6 @@ use Rattle.fluent_syntax_grammar.proofs.Functional.{single_block, single_stretch
 use Rattle.fluent_syntax_grammar.proofs.Tests.{without}
 use Rattle.fluent_syntax_grammar.specs.Words.{token}
 use Rattle.fluent_syntax_grammar.proofs.FunctionalWords.{functional_token}
-use Rattle.fluent_syntax_grammar.proofs.Nesting.{from_family}
 use Rattle.fluent_syntax_grammar.proofs.Cuts.{line_inside}
 use Rattle.fluent_syntax_parser.proofs.BlankLines.{eol_there}
 use Rattle.fluent_syntax_grammar.specs.Elements.{is_nonblank}
@@ -97,7 +96,7 @@ module _ (edition : Edition) (t : List ℕ) where
       ((slice_get t k ≡ None) × (k ≡ end)) ⊎
       ((b : ℕ) × (slice_get t k ≡ Some b) × (belongs t (nat_lt i k) k ≡ false) × (i ≡ end))
 
-  by_rule : (i k end : ℕ) → InlineBlank t i k → lines.more_lines t (family edition t) i (Read [] end) → NoLine i k end
+  by_rule : (i k end : ℕ) → InlineBlank t i k → lines.next_line t (family edition t) i (Read no_item end) → NoLine i k end
   by_rule i k end blank (no_byte {k = m} other none) =
       let same = single_stretch.same i m k other blank in
       inl (subst (λ p. slice_get t p ≡ None) same none, sym same)
@@ -109,26 +108,26 @@ module _ (edition : Edition) (t : List ℕ) where
         subst (λ p. belongs t (nat_lt i p) p ≡ false) same none,
         refl,
       )
-  by_rule i k end blank (own_line other there own (goes_on x (goes_on y z))) = elim z [ ]
+  by_rule i k end blank (own_line other there own (goes_on x y)) = elim y [ ]
 
   module _ (i k end : ℕ) (blank : InlineBlank t i k) where
-    no_line : (family edition t).more_lines i (Read [] end) → NoLine i k end
-    no_line h = by_rule i k end blank ((from_family edition t).more_lines.part i _ h)
+    no_line : more_lines edition t i (Read [] end) → NoLine i k end
+    no_line (list_ends h) = by_rule i k end blank h
 
-    pub text_is_left : slice_get t k ≡ None → (family edition t).more_lines i (Read [] end) → k ≡ end
+    pub text_is_left : slice_get t k ≡ None → more_lines edition t i (Read [] end) → k ≡ end
     text_is_left none h = elim (no_line h) [
       | inl found ↦ found.1
       | inr found ↦ (let there = found.1 in cc)
     ]
 
-    pub line_is_other : (b : ℕ) → slice_get t k ≡ Some b → (family edition t).more_lines i (Read [] end) → i ≡ end
+    pub line_is_other : (b : ℕ) → slice_get t k ≡ Some b → more_lines edition t i (Read [] end) → i ≡ end
     line_is_other b there h = elim (no_line h) [
       | inl found ↦ (let none = found.0 in cc)
       | inr found ↦ found.3
     ]
 
     pub line_is_own : (b : ℕ) → slice_get t k ≡ Some b → belongs t (nat_lt i k) k ≡ true →
-        (family edition t).more_lines i (Read [] end) → ⊥
+        more_lines edition t i (Read [] end) → ⊥
     line_is_own b there own h = elim (no_line h) [
       | inl found ↦ (let none = found.0 in cc)
       | inr found ↦ differs own found.2
@@ -192,7 +191,7 @@ same_filled edition t a b ptr j k p q =
 -- one that begins where a line ends
 pub empty_line : (edition : Edition) (t : List ℕ) (filled : Bool) (ptr start next end : ℕ) → InlineBlank t ptr start →
     Some next ≡ after_eol t start → ShortPattern edition t filled ptr end →
-    (first : ℕ) × BlankBlock t next first × (family edition t).more_lines first (Read [] end)
+    (first : ℕ) × BlankBlock t next first × more_lines edition t first (Read [] end)
 empty_line edition t filled ptr start next end blank eol p =
     let same = single_stretch.same ptr _ _ p.blank blank in
     let line = subst (λ k. ShortLine t k p.rest.next) same p.rest.line in

@@ -7,7 +7,7 @@ use Rattle.std.proofs.lemmas.Option.{slice_get-get_or}
 use Rattle.fluent_syntax_tree.specs.declared.edition.Edition.{Edition}
 use Rattle.fluent_syntax_grammar.specs.Bytes.{equals_sign, lf}
 use Rattle.fluent_syntax_grammar.specs.Construct.{Read}
-use Rattle.fluent_syntax_grammar.specs.Grammar.{family}
+use Rattle.fluent_syntax_grammar.specs.Grammar.{more_lines}
 use Rattle.fluent_syntax_grammar.specs.Lines.{is_run_place}
 use Rattle.fluent_syntax_grammar.specs.Places.{BlankBlock, InlineBlank, Stretch, after_eol, has_byte, has_eol}
 use Rattle.fluent_syntax_grammar.specs.Places.{is_line_place}
@@ -55,7 +55,7 @@ module _ (t : List ℕ) (i : ℕ) where
 -- of its line, and of what is left of the pattern behind that: blank lines, and no line that goes on with it
 module _ (edition : Edition) (t : List ℕ) (start next end : ℕ) (line : ShortLine t start next) where
   pub rest_of :
-      ((first : ℕ) × BlankBlock t next first × (family edition t).more_lines first (Read [] end)) →
+      ((first : ℕ) × BlankBlock t next first × more_lines edition t first (Read [] end)) →
       ShortRest edition t start end
   rest_of (first, block, lines) = record { next = next; first = first; line = line; block = block; lines = lines }
 

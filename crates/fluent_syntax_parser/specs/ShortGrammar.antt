@@ -3,7 +3,7 @@ use Rattle.std.specs.Prelude.{◌≡◌, ℕ, ◌+◌, ◌<◌, ◌⊎◌, List,
 use Rattle.fluent_syntax_tree.specs.declared.edition.Edition.{Edition}
 use Rattle.fluent_syntax_grammar.specs.Bytes.{equals_sign, full_stop, hash, left_brace}
 use Rattle.fluent_syntax_grammar.specs.Construct.{Read}
-use Rattle.fluent_syntax_grammar.specs.Grammar.{family}
+use Rattle.fluent_syntax_grammar.specs.Grammar.{more_lines}
 use Rattle.fluent_syntax_grammar.specs.Lines.{is_run_place}
 use Rattle.fluent_syntax_grammar.specs.Places.{Blank, BlankBlock, InlineBlank, Stretch, has_byte, is_line_place}
 use Rattle.fluent_syntax_grammar.specs.Starts.{dollar, letter, start, term as term_start}
@@ -46,7 +46,7 @@ pub record ShortRest (edition : Edition) (t : List ℕ) (i j : ℕ) : Type 0 whe
   pub first : ℕ
   pub line : ShortLine t i next
   pub block : BlankBlock t next first
-  pub lines : (family edition t).more_lines first (Read [] j)
+  pub lines : more_lines edition t first (Read [] j)
 
 -- A pattern of one such line, and whether it holds something: a byte behind its inline blank that begins no line end.
 pub record ShortPattern (edition : Edition) (t : List ℕ) (filled : Bool) (i j : ℕ) : Type 0 where

@@ -6,7 +6,7 @@ use Rattle.fluent_syntax_tree.specs.declared.edition.Edition.{Edition}
 use Rattle.fluent_syntax_tree.specs.declared.spans.Span.{Span}
 use Rattle.fluent_syntax_grammar.specs.Construct.{Read}
 use Rattle.fluent_syntax_grammar.specs.Elements.{cut, line_items}
-use Rattle.fluent_syntax_grammar.specs.Grammar.{family, pattern}
+use Rattle.fluent_syntax_grammar.specs.Grammar.{more_lines, pattern}
 use Rattle.fluent_syntax_grammar.specs.Layout.{Line}
 use Rattle.fluent_syntax_grammar.specs.Places.{after_eol, InlineBlank}
 
@@ -28,7 +28,7 @@ AreBlank edition t ls = (common : Option ℕ) → cut t (flat_map (line_items ed
 -- All lines of the pattern that are left from the place on are blank, and it ends there.
 pub record EndsBlank (edition : Edition) (t : List ℕ) (i end : ℕ) : Type 0 where
   pub lines : List Line
-  pub read : (family edition t).more_lines i (Read lines end)
+  pub read : more_lines edition t i (Read lines end)
   pub blank : AreBlank edition t lines
 
 -- the pattern of one text

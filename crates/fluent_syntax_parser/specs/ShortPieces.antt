@@ -8,7 +8,7 @@ use Rattle.fluent_syntax_tree.specs.declared.spans.Span.{Span}
 use Rattle.fluent_syntax_grammar.specs.Bytes.{right_brace}
 use Rattle.fluent_syntax_grammar.specs.Construct.{Read}
 use Rattle.fluent_syntax_grammar.specs.Elements.{Item, filled, if_any, is_nonblank, text, trimmed_end}
-use Rattle.fluent_syntax_grammar.specs.Grammar.{family, pattern, placeable}
+use Rattle.fluent_syntax_grammar.specs.Grammar.{more_pieces, pattern, placeable}
 use Rattle.fluent_syntax_grammar.specs.Layout.{Piece, run, placed}
 use Rattle.fluent_syntax_grammar.specs.Nesting.{Deeper, in_pattern, in_pieces, in_placeable}
 use Rattle.fluent_syntax_grammar.specs.Places.{Blank, has_byte}
@@ -72,8 +72,8 @@ pub record GathersPieces (t : List ℕ) (old : List ShortPart) (i : ℕ) (new : 
   pub elements : List ShortElement
   pub items : new ≡ old ++ map Element elements
   pub read : (edition : Edition) (more : List Piece) (end : ℕ) →
-      (family edition t).more_pieces j (Read more end) →
-      (family edition t).more_pieces i (Read (map short_piece elements ++ more) end)
+      more_pieces edition t j (Read more end) →
+      more_pieces edition t i (Read (map short_piece elements ++ more) end)
   pub ends : NoTextIsLast elements
   pub flat : (edition : Edition) (n : ℕ) → Deeper edition t in_pieces (suc n) i → Deeper edition t in_pieces (suc n) j
 

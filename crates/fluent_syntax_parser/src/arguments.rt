@@ -4,7 +4,7 @@ ghost use Rattle.fluent_syntax_tree.specs.Spans.{bytes_at};
 ghost use Rattle.fluent_syntax_tree.specs.View.{arguments_view, inline_view};
 ghost use Rattle.fluent_syntax_grammar.specs.Arguments.{argument_value, is_used, separator};
 ghost use Rattle.fluent_syntax_grammar.specs.Construct.{Read, at_each};
-ghost use Rattle.fluent_syntax_grammar.specs.Grammar.{call_arguments, family};
+ghost use Rattle.fluent_syntax_grammar.specs.Grammar.{call_arguments, family, more_arguments};
 ghost use Rattle.fluent_syntax_grammar.specs.Nesting.{Deeper, in_arguments, in_call, in_value};
 ghost use Rattle.fluent_syntax_grammar.specs.Starts.{start};
 ghost use Rattle.fluent_syntax_parser.specs.Gathered.{maybe_view, names_in_order};
@@ -86,7 +86,7 @@ impl<'s> Source<'s> {
     ) -> Result<(CallArguments<Span>, usize), ReadFault>
         requires { ptr ≤ length self.now.bytes.now }
         ensures meets { let t = self.now.bytes.now in
-            Meets t ((family edition t).more_arguments []) (arguments_view (λ s. s)) ptr result }
+            Meets t (more_arguments edition t []) (arguments_view (λ s. s)) ptr result }
         ensures within { IfOk result (λ read. (ptr < read.1) × (read.1 ≤ length self.now.bytes.now)) }
         ensures nests { IfErr result (NestsWithin nesting (length self.now.bytes.now - ptr)) }
         ensures deeper { let t = self.now.bytes.now in

@@ -2,7 +2,7 @@
 ghost use Rattle.std.specs.Prelude.{◌≡◌, ◌-◌, ◌<◌, ◌≤◌, length, IfErr, IfOk};
 ghost use Rattle.fluent_syntax_tree.specs.View.{expression_view, inline_view};
 ghost use Rattle.fluent_syntax_grammar.specs.Construct.{at_each};
-ghost use Rattle.fluent_syntax_grammar.specs.Grammar.{expression, family, placeable};
+ghost use Rattle.fluent_syntax_grammar.specs.Grammar.{expression, inline_expression, placeable};
 ghost use Rattle.fluent_syntax_grammar.specs.Nesting.{Deeper, in_expression, in_inline_expression, in_placeable};
 ghost use Rattle.fluent_syntax_grammar.specs.Placeables.{arrow_line_end, has_arrow};
 ghost use Rattle.fluent_syntax_grammar.specs.Places.{after_eol};
@@ -31,7 +31,7 @@ impl<'s> Source<'s> {
         requires within { ptr ≤ length self.now.bytes.now }
         requires starts { term ≡ start self.now.bytes.now ptr }
         ensures meets { let t = self.now.bytes.now in
-            Meets t (family edition t).inline_expression (inline_view (λ s. s)) ptr result }
+            Meets t (inline_expression edition t) (inline_view (λ s. s)) ptr result }
         ensures within { IfOk result (λ read. (ptr < read.1) × (read.1 ≤ length self.now.bytes.now)) }
         ensures nests { IfErr result (NestsWithin nesting (length self.now.bytes.now - ptr)) }
         ensures deeper { let t = self.now.bytes.now in
@@ -68,7 +68,7 @@ impl<'s> Source<'s> {
         requires within { ptr ≤ length self.now.bytes.now }
         requires starts { letter ≡ start self.now.bytes.now ptr }
         ensures meets { let t = self.now.bytes.now in
-            Meets t (family edition t).inline_expression (inline_view (λ s. s)) ptr result }
+            Meets t (inline_expression edition t) (inline_view (λ s. s)) ptr result }
         ensures within { IfOk result (λ read. (ptr < read.1) × (read.1 ≤ length self.now.bytes.now)) }
         ensures nests { IfErr result (NestsWithin nesting (length self.now.bytes.now - ptr)) }
         ensures deeper { let t = self.now.bytes.now in
@@ -96,7 +96,7 @@ impl<'s> Source<'s> {
     ) -> Result<(InlineExpression<Span>, usize), ReadFault>
         requires { ptr ≤ length self.now.bytes.now }
         ensures meets { let t = self.now.bytes.now in
-            Meets t (family edition t).inline_expression (inline_view (λ s. s)) ptr result }
+            Meets t (inline_expression edition t) (inline_view (λ s. s)) ptr result }
         ensures within { IfOk result (λ read. (ptr < read.1) × (read.1 ≤ length self.now.bytes.now)) }
         ensures nests { IfErr result (NestsWithin nesting (length self.now.bytes.now - ptr)) }
         ensures deeper { let t = self.now.bytes.now in

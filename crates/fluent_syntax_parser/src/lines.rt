@@ -2,7 +2,7 @@
 ghost use Rattle.std.specs.Prelude.{◌≡◌, ◌+◌, ◌-◌, ◌<◌, ◌≤◌, length, map, slice_get, IfErr, IfOk, None, Some, false};
 ghost use Rattle.std.specs.Prelude.{◌==◌, if◌then◌else◌};
 ghost use Rattle.fluent_syntax_grammar.specs.Construct.{Read};
-ghost use Rattle.fluent_syntax_grammar.specs.Grammar.{family};
+ghost use Rattle.fluent_syntax_grammar.specs.Grammar.{more_lines, more_pieces};
 ghost use Rattle.fluent_syntax_grammar.specs.Layout.{crlf_at, lf_at};
 ghost use Rattle.fluent_syntax_grammar.specs.Lines.{belongs, ending, is_run_place};
 ghost use Rattle.fluent_syntax_grammar.specs.Places.{has_eol, Stretch, Word};
@@ -109,7 +109,7 @@ impl<'s> Source<'s> {
     ) -> Result<(Vec<Piece>, usize), ReadFault>
         requires { ptr ≤ length self.now.bytes.now }
         ensures meets { let t = self.now.bytes.now in
-            Meets t (family edition t).more_pieces (λ pieces. map piece_view pieces.items) ptr result }
+            Meets t (more_pieces edition t) (λ pieces. map piece_view pieces.items) ptr result }
         ensures within { IfOk result (λ read. (ptr ≤ read.1) × (read.1 ≤ length self.now.bytes.now)) }
         ensures stops { let t = self.now.bytes.now in
             IfOk result (λ read. has_eol t read.1 ≡ false → slice_get t read.1 ≡ None) }
@@ -161,7 +161,7 @@ impl<'s> Source<'s> {
     ) -> Result<(Vec<Line>, usize), ReadFault>
         requires { ptr ≤ length self.now.bytes.now }
         ensures meets { let t = self.now.bytes.now in
-            Meets t (family edition t).more_lines (λ lines. map line_view lines.items) ptr result }
+            Meets t (more_lines edition t) (λ lines. map line_view lines.items) ptr result }
         ensures within { IfOk result (λ read. (ptr ≤ read.1) × (read.1 ≤ length self.now.bytes.now)) }
         ensures nests { IfErr result (NestsWithin nesting (length self.now.bytes.now - ptr)) }
         ensures deeper { let t = self.now.bytes.now in

@@ -3,7 +3,7 @@ ghost use Rattle.std.specs.Prelude.{◌≡◌, ◌-◌, ◌≤◌, ℕ, length, 
 ghost use Rattle.std.specs.Prelude.{[]};
 ghost use Rattle.fluent_syntax_tree.specs.View.{pattern_view};
 ghost use Rattle.fluent_syntax_grammar.specs.Construct.{Read, at_each};
-ghost use Rattle.fluent_syntax_grammar.specs.Grammar.{family, pattern};
+ghost use Rattle.fluent_syntax_grammar.specs.Grammar.{family, more_lines, pattern};
 ghost use Rattle.fluent_syntax_grammar.specs.Nesting.{Deeper, in_layout, in_lines, in_pattern};
 ghost use Rattle.fluent_syntax_grammar.specs.Patterns.{layout_at};
 ghost use Rattle.fluent_syntax_grammar.specs.Places.{BlankBlock, after_eol};
@@ -24,8 +24,8 @@ impl<'s> Source<'s> {
     /// Where a pattern ends that has no line from a line's start on.
     fn end_without_lines(&self, edition: Edition, ptr: usize) -> Option<usize>
         requires { ptr ≤ length self.now.bytes.now }
-        ensures lines { IfSome result (λ end. (family edition self.now.bytes.now).more_lines ptr (Read [] end)) }
-        ensures stands { (end : ℕ) → (family edition self.now.bytes.now).more_lines ptr (Read [] end) →
+        ensures lines { IfSome result (λ end. more_lines edition self.now.bytes.now ptr (Read [] end)) }
+        ensures stands { (end : ℕ) → more_lines edition self.now.bytes.now ptr (Read [] end) →
             IsSomeAnd result (λ found. found ≡ end) }
         ensures within { IfSome result (λ end. (ptr ≤ end) × (end ≤ length self.now.bytes.now)) }
     {
@@ -75,9 +75,9 @@ impl<'s> Source<'s> {
         requires { ptr ≤ length self.now.bytes.now }
         ensures lines { IfSome result (EndsBlank edition self.now.bytes.now ptr) }
         ensures left { let t = self.now.bytes.now in IfSome result (λ end. (first : ℕ) × BlankBlock t ptr first ×
-            (family edition t).more_lines first (Read [] end)) }
+            more_lines edition t first (Read [] end)) }
         ensures stands { let t = self.now.bytes.now in (first end : ℕ) → BlankBlock t ptr first →
-            (family edition t).more_lines first (Read [] end) → IsSomeAnd result (λ found. found ≡ end) }
+            more_lines edition t first (Read [] end) → IsSomeAnd result (λ found. found ≡ end) }
         ensures within { IfSome result (λ end. (ptr ≤ end) × (end ≤ length self.now.bytes.now)) }
         ensures shallow { IfSome result
             (λ _. (n : ℕ) → Deeper edition self.now.bytes.now in_lines n ptr → ⊥) }
@@ -140,9 +140,9 @@ impl<'s> Source<'s> {
         ensures opens { IfSome result (OpensAs edition self.now.bytes.now start None) }
         ensures left { let t = self.now.bytes.now in IfSome result (λ end. (next first : ℕ) ×
             (after_eol t start ≡ Some next) × BlankBlock t next first ×
-            (family edition t).more_lines first (Read [] end)) }
+            more_lines edition t first (Read [] end)) }
         ensures stands { let t = self.now.bytes.now in (next first end : ℕ) → after_eol t start ≡ Some next →
-            BlankBlock t next first → (family edition t).more_lines first (Read [] end) →
+            BlankBlock t next first → more_lines edition t first (Read [] end) →
             IsSomeAnd result (λ found. found ≡ end) }
         ensures within { IfSome result (λ end. (start ≤ end) × (end ≤ length self.now.bytes.now)) }
         ensures shallow { IfSome result

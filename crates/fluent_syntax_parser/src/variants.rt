@@ -1,7 +1,7 @@
 //! The variants of a select.
 ghost use Rattle.std.specs.Prelude.{◌≡◌, ◌-◌, ◌<◌, ◌≤◌, false, length, IfErr, IfOk};
 ghost use Rattle.fluent_syntax_tree.specs.View.{key_view};
-ghost use Rattle.fluent_syntax_grammar.specs.Grammar.{family};
+ghost use Rattle.fluent_syntax_grammar.specs.Grammar.{more_variants};
 ghost use Rattle.fluent_syntax_grammar.specs.Nesting.{Deeper, in_variants};
 ghost use Rattle.fluent_syntax_grammar.specs.Places.{has};
 ghost use Rattle.fluent_syntax_grammar.specs.Variants.{has_default, is_number_start, variant_key};
@@ -60,7 +60,7 @@ impl<'s> Source<'s> {
     ) -> Result<(Vec<Variant<Span>>, usize), ReadFault>
         requires { ptr ≤ length self.now.bytes.now }
         ensures meets { let t = self.now.bytes.now in
-            Meets t ((family edition t).more_variants false)
+            Meets t (more_variants edition t false)
             (λ variants. variants_view variants.items) ptr result }
         ensures within { IfOk result (λ read. (ptr ≤ read.1) × (read.1 ≤ length self.now.bytes.now)) }
         ensures nests { IfErr result (NestsWithin nesting (length self.now.bytes.now - ptr)) }

@@ -222,7 +222,7 @@ module _ (t : List ℕ) (bare : HasNoBareCr t) (Joins : Type 0) (crs : (i : ℕ)
       (λ c g. ensures_bind {Mid = IsLines t} (record { on_read = lines_read t level })
       (λ rest k. ensures_gives (lines_append t c rest g k))))
 
-  ensures_entry_of : (o : Option ℕ) → Ensures (entry_of One t o) (IsEntry t Joins)
+  ensures_entry_of : (o : Option ℕ) → Ensures (entry_of One t (family One t) o) (IsEntry t Joins)
   ensures_entry_of None = ensures_message
   ensures_entry_of (Some b) =
       ensures_either (λ e. ensures_comment) (λ e. ensures_either (λ e. ensures_term) (λ e. ensures_message))

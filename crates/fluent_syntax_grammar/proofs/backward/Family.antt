@@ -14,17 +14,18 @@ use Rattle.fluent_syntax_grammar.specs.Bytes.{lf, cr, is_space}
 use Rattle.fluent_syntax_grammar.specs.Places.{holds, has, has_byte, has_eol, after_eol, InlineBlank}
 use Rattle.fluent_syntax_grammar.specs.Places.{BlankBlock, no_line, line}
 use Rattle.fluent_syntax_grammar.specs.Construct.{Read, ◌>>=◌, goes_on, gives, given, at_place, passed, chosen, first}
-use Rattle.fluent_syntax_grammar.specs.Construct.{second}
+use Rattle.fluent_syntax_grammar.specs.Construct.{second, More, no_item, item, many, list_ends, item_and_more}
 use Rattle.fluent_syntax_grammar.specs.Words.{number}
 use Rattle.fluent_syntax_grammar.specs.Family.{Family}
 use Rattle.fluent_syntax_grammar.specs.Layout.{Piece, run, placed, Ending, lf_at, crlf_at, Line, Layout}
 use Rattle.fluent_syntax_grammar.specs.Elements.{Item, text, filled, items, cut, spelled, if_any, pattern_of}
 use Rattle.fluent_syntax_grammar.specs.Lines as lines
-use Rattle.fluent_syntax_grammar.specs.Lines.{is_run_place, belongs, ending_of, ending, pieces_at, no_byte, other_line}
-use Rattle.fluent_syntax_grammar.specs.Lines.{own_line}
+use Rattle.fluent_syntax_grammar.specs.Lines.{is_run_place, belongs, ending_of, ending, next_piece_at, next_piece, next_line}
+use Rattle.fluent_syntax_grammar.specs.Lines.{no_byte, other_line, own_line}
+use Rattle.fluent_syntax_grammar.specs.Placeables.{selector_fault, variants_of_select, select_with, expression}
 use Rattle.fluent_syntax_grammar.specs.Patterns.{layout_at, layout, pattern}
-use Rattle.fluent_syntax_grammar.specs.Variants.{variant_key, only_star, variants_end, variant_and_more, variant_after}
-use Rattle.fluent_syntax_grammar.specs.Variants.{more_variants}
+use Rattle.fluent_syntax_grammar.specs.Variants.{variant_key, only_star, variants_end, variant_of, variant_after}
+use Rattle.fluent_syntax_grammar.specs.Variants.{next_variant, more_variants}
 use Rattle.fluent_syntax_grammar.specs.Grammar.{next, within, family}
 use Rattle.fluent_syntax_grammar.specs.Written.{Text, is_multiline}
 use Rattle.fluent_syntax_grammar.specs.Rules.{pattern_obeys}
@@ -47,8 +48,12 @@ use Rattle.fluent_syntax_grammar.proofs.backward.FirstLines.{spare}
 use Rattle.fluent_syntax_grammar.proofs.backward.Words.{number_was}
 use Rattle.fluent_syntax_grammar.proofs.backward.Rules.{Ensures, ensures_bind, ensures_then, ensures_gives}
 use Rattle.fluent_syntax_grammar.proofs.backward.Rules.{ensures_fails, ensures_at_each, ensures_either, Fine, IsPattern}
-use Rattle.fluent_syntax_grammar.proofs.backward.Rules.{IsKey, IsVariants, IsFineFamily, ensures_name}
-use Rattle.fluent_syntax_grammar.proofs.backward.Rules.{ensures_placeable, inline_was, ensures_arguments}
+use Rattle.fluent_syntax_grammar.proofs.backward.Rules.{IsKey, IsVariants, IsFineFamily, ensures_name, IsInline}
+use Rattle.fluent_syntax_grammar.proofs.backward.Rules.{ensures_placeable, inline_was, ensures_arguments, Adds, ensures_many}
+use Rattle.fluent_syntax_grammar.proofs.backward.Rules.{fine_select, fine_inline}
+use Rattle.fluent_syntax_grammar.proofs.backward.Shapes.{IsRead}
+use Rattle.fluent_syntax_tree.specs.Tree.{InlineTree, VariantTree}
+use Rattle.fluent_syntax_tree.specs.Kind.{Kind}
 use Rattle.fluent_syntax_grammar.proofs.Tests.{neither_left, not_false}
 use Rattle.fluent_syntax_grammar.proofs.LineEnds.{after_none}
 
@@ -157,22 +162,35 @@ module _ (t : List ℕ) (Joins : Type 0) where
 
 module _ (t : List ℕ) (bare : HasNoBareCr t) (Joins : Type 0) (crs : (i : ℕ) → has_byte t cr i ≡ true → Joins)
     (R : Family) (h : IsFineFamily t Joins R) where
-  pieces_was_at : (i j : ℕ) (ps : List Piece) (o : Option ℕ) → slice_get t i ≡ o → pieces_at t R o i (Read ps j) →
-      PiecesAt t Joins i ps j
-  pieces_was_at i j ps None e given = no_piece (inr e)
-  pieces_was_at i j ps (Some b) e (chosen (first f given)) = no_piece (inl f)
-  pieces_was_at i j ps (Some b) e (chosen (second f (first g x))) = elim x [ ]
-  pieces_was_at i j ps (Some b) e
-      (chosen (second f (second g (first k (goes_on {j = m} {a = x} y (goes_on {a = qs} z given)))))) =
-      a_placeable ((ensures_placeable t Joins R h).on_read i m x y) (h.more_pieces m j qs z)
-  pieces_was_at i j ps (Some b) e
+  -- the pieces, behind one that was read
+  abbrev AddsPiece : ℕ → More Piece (Unit {0}) → ℕ → Type 0
+  AddsPiece i no_item j = PiecesAt t Joins i [] j
+  AddsPiece i (item p u) j = (ps : List Piece) (k : ℕ) → PiecesAt t Joins j ps k → PiecesAt t Joins i (p ∷ ps) k
+
+  piece_was_at : (i j : ℕ) (p : More Piece (Unit {0})) (o : Option ℕ) → slice_get t i ≡ o →
+      next_piece_at t R o i (Read p j) → AddsPiece i p j
+  piece_was_at i j p None e given = no_piece (inr e)
+  piece_was_at i j p (Some b) e (chosen (first f given)) = no_piece (inl f)
+  piece_was_at i j p (Some b) e (chosen (second f (first g x))) = elim x [ ]
+  piece_was_at i j p (Some b) e (chosen (second f (second g (first k (goes_on {j = m} {a = x} y given))))) =
+      λ ps n z. a_placeable ((ensures_placeable t Joins R h).on_read i m x y) z
+  piece_was_at i j p (Some b) e
       (chosen (second f
       (second g (second k
-      (goes_on at_place (goes_on (passed {j = to} w) (goes_on at_place (goes_on {a = qs} z given)))))))) =
-      a_run (stretch_onward (is_run_place t) i to (run_begins t Joins i b e f g k) w) w (h.more_pieces to j qs z)
+      (goes_on (goes_on at_place (goes_on (passed {j = to} w) (goes_on at_place given))) given))))) =
+      λ ps n z. a_run (stretch_onward (is_run_place t) i to (run_begins t Joins i b e f g k) w) w z
+
+  piece_was : (i j : ℕ) (p : More Piece (Unit {0})) → next_piece t R i (Read p j) → AddsPiece i p j
+  piece_was i j p (chosen x) = piece_was_at i j p (slice_get t i) refl x
+
+  pieces_from : (u : Unit {0}) (i j : ℕ) (ps : List Piece) →
+      many (λ u. next_piece t R) (λ p ps. p ∷ ps) [] u i (Read ps j) → PiecesAt t Joins i ps j
+  pieces_from u i j ps (list_ends x) = piece_was i j no_item x
+  pieces_from u i j ps (item_and_more {later = v} {j = m} {a = p} {rest = rest} x y) =
+      piece_was i m (item p v) x rest j (pieces_from v m j rest y)
 
   pieces_was : (i j : ℕ) (ps : List Piece) → lines.more_pieces t R i (Read ps j) → PiecesAt t Joins i ps j
-  pieces_was i j ps (chosen x) = pieces_was_at i j ps (slice_get t i) refl x
+  pieces_was i j ps x = pieces_from tt i j ps x
 
   line_made : (i k b start m n : ℕ) (ps : List Piece) (e' : Ending) → InlineBlank t i k → slice_get t k ≡ Some b →
       belongs t (nat_lt i k) k ≡ true → InlineBlank t i start → PiecesAt t Joins start ps m → EndingAt t Joins m e' n →
@@ -198,7 +216,7 @@ module _ (t : List ℕ) (bare : HasNoBareCr t) (Joins : Type 0) (crs : (i : ℕ)
       (goes_on at_place
       (goes_on (passed {j = start} v)
       (goes_on at_place (goes_on {j = m} {a = ps} x (goes_on {j = n} {a = e'} y z))))) =
-      let p = h.more_pieces start m ps x in
+      let p = pieces_was start m ps x in
       let made =
       line_made i k b start m n ps e' w e f v p (ending_was t Joins m n e' (pieces_end t Joins start ps m p) y) in
       let value = gave (record { start = i; spaces = start - i; pieces = ps; ending = e' }) l n j z in
@@ -206,22 +224,36 @@ module _ (t : List ℕ) (bare : HasNoBareCr t) (Joins : Type 0) (crs : (i : ℕ)
       (subst (λ j. LineAt t Joins i (record { start = i; spaces = start - i; pieces = ps; ending = e' }) j) value.1
       made)
 
+  -- the lines, behind one that was read
+  abbrev AddsLine : ℕ → More Line (Unit {0}) → ℕ → Type 0
+  AddsLine i no_item j = LinesAt t Joins i []
+  AddsLine i (item l u) j = (ls : List Line) → LinesAt t Joins j ls → LinesAt t Joins i (l ∷ ls)
+
+  next_was : (i j : ℕ) (l : More Line (Unit {0})) → next_line t R i (Read l j) → AddsLine i l j
+  next_was i j l (no_byte w e) = no_lines
+  next_was i j l (other_line w e f) = no_lines
+  next_was i j l (own_line {k = k} {b = b} w e f (goes_on {j = m} {a = x} y given)) =
+      λ ls z. a_line (line_was i k b m x w e f y) z
+
+  lines_from : (u : Unit {0}) (i j : ℕ) (ls : List Line) →
+      many (λ u. next_line t R) (λ l ls. l ∷ ls) [] u i (Read ls j) → LinesAt t Joins i ls
+  lines_from u i j ls (list_ends x) = next_was i j no_item x
+  lines_from u i j ls (item_and_more {later = v} {j = m} {a = l} {rest = rest} x y) =
+      next_was i m (item l v) x rest (lines_from v m j rest y)
+
   lines_was : (i j : ℕ) (ls : List Line) → lines.more_lines t R i (Read ls j) → LinesAt t Joins i ls
-  lines_was i j ls (no_byte w e) = no_lines
-  lines_was i j ls (other_line w e f) = no_lines
-  lines_was i j ls (own_line {k = k} {b = b} w e f (goes_on {j = m} {a = l} x (goes_on {a = rest} y given))) =
-      a_line (line_was i k b m l w e f x) (h.more_lines m j rest y)
+  lines_was i j ls x = lines_from tt i j ls x
 
   layout_was_at : (i j : ℕ) (y : Layout) (o : Option ℕ) → has t is_space i ≡ false → after_eol t i ≡ o →
       layout_at t R o i (Read y j) → LayoutAt t Joins y
   layout_was_at i j y None s e
       (goes_on at_place (goes_on {j = m} {a = ps} x (goes_on {j = n} {a = z} w (goes_on {a = ls} v given)))) =
-      let p = h.more_pieces i m ps x in
-      on_line s (after_none t i e) p (ending_was t Joins m n z (pieces_end t Joins i ps m p) w) (h.more_lines n j ls v)
+      let p = pieces_was i m ps x in
+      on_line s (after_none t i e) p (ending_was t Joins m n z (pieces_end t Joins i ps m p) w) (lines_was n j ls v)
   layout_was_at i j y (Some k) s e
       (goes_on (passed {j = m} r) (goes_on (passed {j = n} b) (goes_on {a = ls} v given))) =
       let c = block_stop t m n b in
-      below c.1 (after_none t c.0 c.2) (h.more_lines n j ls v)
+      below c.1 (after_none t c.0 c.2) (lines_was n j ls v)
 
   layout_was : (i j : ℕ) (y : Layout) → layout t R i (Read y j) → LayoutAt t Joins y
   layout_was i j y (goes_on (passed {j = m} w) (chosen x)) = layout_was_at m j y (after_eol t m) w.longest refl x
@@ -293,17 +325,19 @@ module _ (t : List ℕ) (bare : HasNoBareCr t) (Joins : Type 0) (crs : (i : ℕ)
         one = g.one;
       }
 
+  -- what is asked of the next variant
+  abbrev IsNext : Bool → More (VariantTree Span) Bool → Type 0
+  IsNext = Adds (next_variant One t R) variants no_variants (IsVariants t Joins)
+
   ensures_variant : (starred star : Bool) (key : KeyTree Span) (o : Option (PatternTree Span)) →
       (starred && star) ≡ false → IsKey t Joins key → option_every (IsPattern t Joins) o →
-      Ensures (variant_and_more One t R starred star key o) (IsVariants t Joins starred)
+      Ensures (variant_of t starred star key o) (IsNext starred)
   ensures_variant starred star key None e k p = ensures_fails
   ensures_variant starred star key (Some value) e k p =
-      ensures_then (λ u.
-      ensures_bind (h.more_variants (starred || star))
-      (λ vs g. ensures_gives (add_variant starred star key value vs e k p g)))
+      ensures_then (λ u. ensures_gives (λ vs g. add_variant starred star key value vs e k p g))
 
   ensures_after : (starred star : Bool) → (starred && star) ≡ false →
-      Ensures (variant_after One t R starred star) (IsVariants t Joins starred)
+      Ensures (variant_after One t R starred star) (IsNext starred)
   ensures_after starred star e =
       ensures_then (λ u.
       ensures_bind ensures_key
@@ -313,34 +347,43 @@ module _ (t : List ℕ) (bare : HasNoBareCr t) (Joins : Type 0) (crs : (i : ℕ)
   ensures_only : (starred star : Bool) → Ensures (only_star starred star) (λ u. (starred && star) ≡ false)
   ensures_only starred star = ensures_either (λ e. ensures_fails) (λ e. ensures_gives e)
 
-  ensures_end : (starred star : Bool) → Ensures (variants_end One starred star) (IsVariants t Joins starred)
+  ensures_end : (starred star : Bool) → Ensures (variants_end One starred star) (IsNext starred)
   ensures_end starred star = ensures_either (λ e. ensures_gives (no_variant starred)) (λ e. ensures_fails)
 
   ensures_variants : (starred : Bool) → Ensures (more_variants One t R starred) (IsVariants t Joins starred)
-  ensures_variants starred =
-      ensures_then (λ star.
+  ensures_variants = ensures_many (next_variant One t R) variants no_variants (IsVariants t Joins)
+      (λ starred. ensures_then (λ star.
       ensures_bind (ensures_only starred star)
       (λ u e. ensures_then
-      (λ bracket. ensures_either (λ y. ensures_after starred star e) (λ y. ensures_end starred star))))
+      (λ bracket. ensures_either (λ y. ensures_after starred star e) (λ y. ensures_end starred star)))))
+
+  -- ---- expressions
+
+  ensures_variants_of : Ensures (variants_of_select One t R) (IsVariants t Joins false)
+  ensures_variants_of =
+      ensures_then (λ u. ensures_then (λ u. ensures_then (λ u. ensures_then (λ u. ensures_variants false))))
+
+  ensures_select : (e : InlineTree Span) (o : Option Kind) → IsInline t Joins e → selector_fault e ≡ o →
+      Ensures (select_with One t R e o) (IsRead t Joins)
+  ensures_select e None f k = ensures_bind ensures_variants_of (λ vs g. ensures_gives (fine_select t Joins R h e vs f k g))
+  ensures_select e (Some x) f k = ensures_fails
+
+  pub ensures_expression : Ensures (expression One t R) (IsRead t Joins)
+  ensures_expression =
+      ensures_bind (record { on_read = λ i j e x. (inline_was t Joins R h i j e x).0 })
+      (λ e f. ensures_then (λ u. ensures_then (λ arrow. ensures_either
+      (λ y. ensures_select e (selector_fault e) f refl)
+      (λ y. ensures_either (λ z. ensures_fails) (λ z. ensures_gives (fine_inline t Joins R h e f z))))))
 
   fine_next : IsFineFamily t Joins (next One t R)
-  fine_next = record {
-    inline_expression = inline_was t Joins R h;
-    more_arguments = ensures_arguments t Joins R h;
-    more_variants = ensures_variants;
-    more_pieces = pieces_was;
-    more_lines = lines_was;
-  }
+  fine_next = record { expression = ensures_expression; argument_list = ensures_arguments t Joins R h [] }
 
 module _ (t : List ℕ) (bare : HasNoBareCr t) (Joins : Type 0) (crs : (i : ℕ) → has_byte t cr i ≡ true → Joins) where
   fine_nothing : IsFineFamily t Joins (within One t zero)
   unfolding within
   fine_nothing = record {
-    inline_expression = λ i j e x. absurd x;
-    more_arguments = λ names. record { on_read = λ i j a x. absurd x };
-    more_variants = λ starred. record { on_read = λ i j a x. absurd x };
-    more_pieces = λ i j ps x. absurd x;
-    more_lines = λ i j ls x. absurd x;
+    expression = record { on_read = λ i j a x. absurd x };
+    argument_list = record { on_read = λ i j a x. absurd x };
   }
 
   fine_suc : (n : ℕ) → IsFineFamily t Joins (within One t n) → IsFineFamily t Joins (within One t (suc n))
@@ -355,11 +398,6 @@ module _ (t : List ℕ) (bare : HasNoBareCr t) (Joins : Type 0) (crs : (i : ℕ)
   pub fine_family : IsFineFamily t Joins (family One t)
   unfolding family
   fine_family = record {
-    inline_expression = λ i j e x. (fine_within x.0).inline_expression i j e x.1;
-    more_arguments =
-        λ names. record { on_read = λ i j a x. ((fine_within x.0).more_arguments names).on_read i j a x.1 };
-    more_variants =
-        λ starred. record { on_read = λ i j a x. ((fine_within x.0).more_variants starred).on_read i j a x.1 };
-    more_pieces = λ i j ps x. (fine_within x.0).more_pieces i j ps x.1;
-    more_lines = λ i j ls x. (fine_within x.0).more_lines i j ls x.1;
+    expression = record { on_read = λ i j a x. (fine_within x.0).expression.on_read i j a x.1 };
+    argument_list = record { on_read = λ i j a x. (fine_within x.0).argument_list.on_read i j a x.1 };
   }

@@ -11,23 +11,21 @@ use Rattle.fluent_syntax_tree.specs.Tree.{function_reference, message_reference,
 use Rattle.fluent_syntax_tree.specs.Tree.{inline_placeable, inline_map, ArgumentsTree, arguments, arguments_map}
 use Rattle.fluent_syntax_tree.specs.Tree.{MaybeArguments, no_arguments, some_arguments, maybe_map, inlines_map}
 use Rattle.fluent_syntax_tree.specs.Tree.{nameds_map, PatternTree, pattern_map, VariantTrees, variants_map}
-use Rattle.fluent_syntax_tree.specs.Tree.{option_texts}
+use Rattle.fluent_syntax_tree.specs.Tree.{option_texts, no_inlines, no_named}
 use Rattle.fluent_syntax_grammar.specs.Bytes.{is_digit, is_letter}
 use Rattle.fluent_syntax_grammar.specs.Places.{holds, has}
 use Rattle.fluent_syntax_grammar.specs.Construct.{Read, Construct, ◌>>=◌, goes_on, gives, given, fails, at_each, chosen}
-use Rattle.fluent_syntax_grammar.specs.Construct.{either, first, second}
+use Rattle.fluent_syntax_grammar.specs.Construct.{either, first, second, More, no_item, item, many, list_ends, item_and_more}
 use Rattle.fluent_syntax_grammar.specs.Words.{identifier, number}
 use Rattle.fluent_syntax_grammar.specs.Strings as strings
 use Rattle.fluent_syntax_grammar.specs.Family.{Family}
 use Rattle.fluent_syntax_grammar.specs.Starts.{Start, quote, digit, term, minus, dollar, letter, brace, other, start_of}
 use Rattle.fluent_syntax_grammar.specs.Starts.{start}
-use Rattle.fluent_syntax_grammar.specs.Arguments.{accessor, add_positional, add_named, call_arguments, argument_value}
-use Rattle.fluent_syntax_grammar.specs.Arguments.{named_and_more, positional_and_more, argument_name, argument_and_more}
-use Rattle.fluent_syntax_grammar.specs.Arguments.{more_arguments_at, more_arguments, is_used}
-use Rattle.fluent_syntax_grammar.specs.Placeables.{selector_fault, is_term_attribute, variants_of_select, select_with}
-use Rattle.fluent_syntax_grammar.specs.Placeables.{expression, placeable}
+use Rattle.fluent_syntax_grammar.specs.Arguments.{accessor, Argument, add_argument, add_positional, add_named, call_arguments}
+use Rattle.fluent_syntax_grammar.specs.Arguments.{argument_value, named_rest, positional_rest, argument_name}
+use Rattle.fluent_syntax_grammar.specs.Arguments.{argument_rest, next_argument_at, next_argument, more_arguments, is_used}
+use Rattle.fluent_syntax_grammar.specs.Placeables.{selector_fault, is_term_attribute, placeable}
 use Rattle.fluent_syntax_grammar.specs.Inline.{named_reference, inline_of, inline_expression, is_callee_byte}
-use Rattle.fluent_syntax_grammar.specs.Layout.{Piece, Line}
 use Rattle.fluent_syntax_grammar.specs.Written.{Text}
 use Rattle.fluent_syntax_grammar.specs.Spellings.{is_name}
 use Rattle.fluent_syntax_grammar.specs.Rules.{option_obeys, key_obeys, inline_obeys, maybe_obeys, arguments_obey}
@@ -38,7 +36,6 @@ use Rattle.fluent_syntax_grammar.specs.Joined.{joined_nameds, joined_variants, j
 use Rattle.fluent_syntax_grammar.proofs.Facts.{left_true}
 use Rattle.fluent_syntax_grammar.proofs.Tests.{both}
 use Rattle.fluent_syntax_grammar.proofs.backward.Shapes.{IsRead}
-use Rattle.fluent_syntax_grammar.proofs.backward.Lines.{PiecesAt, LinesAt}
 use Rattle.fluent_syntax_grammar.proofs.backward.Words.{IsName, name_was, number_was, string_was}
 use Rattle.fluent_syntax_grammar.proofs.Tests.{not_false}
 
@@ -89,6 +86,21 @@ pub ensures_either : {A : Type 0} {Good : A → Type 0} {test : Bool} {c d : Con
     (test ≡ true → Ensures c Good) → (test ≡ false → Ensures d Good) → Ensures (either test c d) Good
 ensures_either {Good = Good} {test = test} {c = c} {d = d} g h = record { on_read = either_read Good test c d g h }
 
+module _ {A S B : Type 0} (next : S → Construct (More A S)) (add : A → B → B) (none : B) (Good : S → B → Type 0) where
+  -- what is asked of an item: added to what is good behind it, it is good
+  abbrev pub Adds : S → More A S → Type 0
+  Adds s no_item = Good s none
+  Adds s (item a r) = (b : B) → Good r b → Good s (add a b)
+
+  many_read : ((s : S) → Ensures (next s) (Adds s)) → (s : S) (i j : ℕ) (b : B) → many next add none s i (Read b j) →
+      Good s b
+  many_read h s i j b (list_ends x) = (h s).on_read i j no_item x
+  many_read h s i j b (item_and_more {later = r} {j = m} {a = a} {rest = rest} x y) =
+      (h s).on_read i m (item a r) x rest (many_read h r m j rest y)
+
+  pub ensures_many : ((s : S) → Ensures (next s) (Adds s)) → (s : S) → Ensures (many next add none s) (Good s)
+  ensures_many h s = record { on_read = many_read h s }
+
 -- ---- what is fine
 
 -- Joined it passes the test; and it is joined already, where nothing is there to join.
@@ -130,12 +142,8 @@ module _ (t : List ℕ) (Joins : Type 0) where
   FitsStart s e = Unit {0}
 
   pub record IsFineFamily (R : Family) : Type 0 where
-    pub inline_expression : (i j : ℕ) (e : InlineTree Span) → R.inline_expression i (Read e j) → IsInline e ×
-        FitsStart (start t i) e
-    pub more_arguments : (names : List Text) → Ensures (R.more_arguments names) (IsArguments names)
-    pub more_variants : (starred : Bool) → Ensures (R.more_variants starred) (IsVariants starred)
-    pub more_pieces : (i j : ℕ) (ps : List Piece) → R.more_pieces i (Read ps j) → PiecesAt t Joins i ps j
-    pub more_lines : (i j : ℕ) (ls : List Line) → R.more_lines i (Read ls j) → LinesAt t Joins i ls
+    pub expression : Ensures R.expression (IsRead t Joins)
+    pub argument_list : Ensures R.argument_list (IsArguments [])
 
   pub ensures_name : Ensures (identifier t) (IsName t)
   ensures_name = record { on_read = λ i j s x. name_was t i j s x }
@@ -224,13 +232,13 @@ start_digit (Some b) l e = digit_of (b == 34) (is_digit b) (b == 45) l (b == 36)
 module _ (t : List ℕ) (Joins : Type 0) (R : Family) (h : IsFineFamily t Joins R) where
   pub ensures_call : Ensures (call_arguments t R) (IsMaybe t Joins)
   ensures_call = ensures_then (λ u. ensures_then (λ bracket. ensures_either
-      (λ e. ensures_bind (ensures_then (λ u. h.more_arguments []))
+      (λ e. ensures_bind (ensures_then (λ u. h.argument_list))
       (λ a g. ensures_gives (fine_some t Joins a (fine_arguments t Joins a g))))
       (λ e. ensures_gives (record { obeys = refl; same = λ none. refl }))))
 
   -- ---- expressions
 
-  fine_select : (e : InlineTree Span) (vs : VariantTrees Span) → IsInline t Joins e → selector_fault e ≡ None →
+  pub fine_select : (e : InlineTree Span) (vs : VariantTrees Span) → IsInline t Joins e → selector_fault e ≡ None →
       IsVariants t Joins false vs → IsRead t Joins (select e vs)
   fine_select e vs f k g =
       let v = g.fine in
@@ -239,7 +247,7 @@ module _ (t : List ℕ) (Joins : Type 0) (R : Family) (h : IsFineFamily t Joins 
         same = λ none. cc (f.same none, v.same none);
       }
 
-  fine_inline : (e : InlineTree Span) → IsInline t Joins e → is_term_attribute e ≡ false → IsRead t Joins (inline e)
+  pub fine_inline : (e : InlineTree Span) → IsInline t Joins e → is_term_attribute e ≡ false → IsRead t Joins (inline e)
   fine_inline e f k =
       record {
         obeys =
@@ -249,27 +257,11 @@ module _ (t : List ℕ) (Joins : Type 0) (R : Family) (h : IsFineFamily t Joins 
         same = λ none. ap inline (f.same none);
       }
 
-  ensures_variants_of : Ensures (variants_of_select t R) (IsVariants t Joins false)
-  ensures_variants_of =
-      ensures_then (λ u. ensures_then (λ u. ensures_then (λ u. ensures_then (λ u. h.more_variants false))))
-
-  ensures_select : (e : InlineTree Span) (o : Option Kind) → IsInline t Joins e → selector_fault e ≡ o →
-      Ensures (select_with t R e o) (IsRead t Joins)
-  ensures_select e None f k = ensures_bind ensures_variants_of (λ vs g. ensures_gives (fine_select e vs f k g))
-  ensures_select e (Some x) f k = ensures_fails
-
-  pub ensures_expression : Ensures (expression t R) (IsRead t Joins)
-  ensures_expression =
-      ensures_bind (record { on_read = λ i j e x. (h.inline_expression i j e x).0 })
-      (λ e f. ensures_then (λ u. ensures_then (λ arrow. ensures_either
-      (λ y. ensures_select e (selector_fault e) f refl)
-      (λ y. ensures_either (λ z. ensures_fails) (λ z. ensures_gives (fine_inline e f z))))))
-
   pub ensures_placeable : Ensures (placeable t R) (IsRead t Joins)
   ensures_placeable =
       ensures_then (λ u.
       ensures_then (λ u.
-      ensures_bind ensures_expression (λ e f. ensures_then (λ u. ensures_then (λ u. ensures_gives f)))))
+      ensures_bind h.expression (λ e f. ensures_then (λ u. ensures_then (λ u. ensures_gives f)))))
 
   -- ---- inline expressions
 
@@ -323,9 +315,9 @@ module _ (t : List ℕ) (Joins : Type 0) (R : Family) (h : IsFineFamily t Joins 
 
   value_read : (s : Start) (i j : ℕ) (e : InlineTree Span) → start t i ≡ s → argument_value t R s i (Read e j) →
       IsValue t Joins e
-  value_read quote i j e s x = let r = h.inline_expression i j e x in (r.0, subst (λ s. FitsStart t Joins s e) s r.1)
-  value_read digit i j e s x = let r = h.inline_expression i j e x in (r.0, subst (λ s. FitsStart t Joins s e) s r.1)
-  value_read letter i j e s x = let r = h.inline_expression i j e x in (r.0, subst (λ s. FitsStart t Joins s e) s r.1)
+  value_read quote i j e s x = let r = inline_was i j e x in (r.0, subst (λ s. FitsStart t Joins s e) s r.1)
+  value_read digit i j e s x = let r = inline_was i j e x in (r.0, subst (λ s. FitsStart t Joins s e) s r.1)
+  value_read letter i j e s x = let r = inline_was i j e x in (r.0, subst (λ s. FitsStart t Joins s e) s r.1)
   value_read term i j e s x = elim x [ ]
   value_read minus i j e s x = elim x [ ]
   value_read dollar i j e s x = elim x [ ]
@@ -349,19 +341,20 @@ module _ (t : List ℕ) (Joins : Type 0) (R : Family) (h : IsFineFamily t Joins 
   add_positional_fine e (arguments ps ns) f (g, k, l) =
       (record { obeys = both f.obeys g.obeys; same = λ none. cc (f.same none, g.same none) }, k, l)
 
+  -- what is asked of the next argument, after these names
+  abbrev IsNext : List Text → More Argument (List Text) → Type 0
+  IsNext = Adds (next_argument t R) add_argument (arguments no_inlines no_named) (IsArguments t Joins)
+
   ensures_named : (names : List Text) (name : Span) → IsName t name →
-      Ensures (named_and_more t R names name) (IsArguments t Joins names)
+      Ensures (named_rest t R names name) (IsNext names)
   ensures_named names name n =
       ensures_either (λ y. ensures_fails)
       (λ y. ensures_then (λ u. ensures_then (λ u. ensures_bind (record { on_read = value_at }) (λ e f.
-      ensures_then (λ u.
-      ensures_bind (h.more_arguments (bytes_at t name ∷ names))
-      (λ a g. ensures_gives (add_named_fine names name e a n y f g)))))))
+      ensures_then (λ u. ensures_gives (λ a g. add_named_fine names name e a n y f g))))))
 
   ensures_positional : (names : List Text) (e : InlineTree Span) → IsInline t Joins e →
-      Ensures (positional_and_more t R names e) (IsArguments t Joins names)
-  ensures_positional [] e f =
-      ensures_then (λ u. ensures_bind (h.more_arguments []) (λ a g. ensures_gives (add_positional_fine e a f g)))
+      Ensures (positional_rest t names e) (IsNext names)
+  ensures_positional [] e f = ensures_then (λ u. ensures_gives (λ a g. add_positional_fine e a f g))
   ensures_positional (n ∷ ns) e f = ensures_fails
 
   name_of : (e : InlineTree Span) (s : Span) → IsInline t Joins e → argument_name e ≡ Some s → IsName t s
@@ -376,20 +369,22 @@ module _ (t : List ℕ) (Joins : Type 0) (R : Family) (h : IsFineFamily t Joins 
   name_of (inline_placeable e) s f k = cc
 
   ensures_argument : (names : List Text) (e : InlineTree Span) (o : Option Span) (colon : Bool) → argument_name e ≡ o →
-      IsInline t Joins e → Ensures (argument_and_more t R names e o colon) (IsArguments t Joins names)
+      IsInline t Joins e → Ensures (argument_rest t R names e o colon) (IsNext names)
   ensures_argument names e None colon k f = ensures_positional names e f
   ensures_argument names e (Some s) true k f = ensures_named names s (name_of e s f k)
   ensures_argument names e (Some s) false k f = ensures_positional names e f
 
   ensures_arguments_at : (names : List Text) (o : Option ℕ) →
-      Ensures (more_arguments_at t R names o) (IsArguments t Joins names)
+      Ensures (next_argument_at t R names o) (IsNext names)
   ensures_arguments_at names None = ensures_fails
   ensures_arguments_at names (Some b) = ensures_either
       (λ y. ensures_then
       (λ u. ensures_gives
       (record { obeys = refl; same = λ none. refl }, record { obeys = refl; same = λ none. refl }, refl)))
-      (λ y. ensures_bind (record { on_read = λ i j e x. (h.inline_expression i j e x).0 })
+      (λ y. ensures_bind (record { on_read = λ i j e x. (inline_was i j e x).0 })
       (λ e f. ensures_then (λ colon. ensures_argument names e (argument_name e) colon refl f)))
 
   pub ensures_arguments : (names : List Text) → Ensures (more_arguments t R names) (IsArguments t Joins names)
-  ensures_arguments names = ensures_at_each (ensures_arguments_at names)
+  ensures_arguments =
+      ensures_many (next_argument t R) add_argument (arguments no_inlines no_named) (IsArguments t Joins)
+      (λ names. ensures_at_each (ensures_arguments_at names))

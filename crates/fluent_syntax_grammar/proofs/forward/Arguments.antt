@@ -1,5 +1,5 @@
 -- Argument lists, read forwards: a list is read if its arguments are.
-use Rattle.std.proofs.Common.{◌≡◌, ℕ, List, [], ◌∷◌, ◌++◌, Option, Some, None, Bool, true, false, refl, ◌∙◌, ap, inl}
+use Rattle.std.proofs.Common.{◌≡◌, ℕ, List, [], ◌∷◌, ◌++◌, Option, Some, None, Bool, true, false, refl, sym, ◌∙◌, subst, ap, inl}
 use Rattle.std.proofs.Common.{inr}
 use Rattle.std.specs.Prelude.{◌==◌, ◌||◌, ◌&&◌, ◌⊎◌, if◌then◌else◌}
 use Rattle.std.specs.List.{list_all}
@@ -14,24 +14,25 @@ use Rattle.fluent_syntax_tree.specs.declared.edition.Edition.{Edition}
 use Rattle.fluent_syntax_grammar.specs.Bytes.{lf, cr, is_name_byte, is_letter, is_digit}
 use Rattle.fluent_syntax_grammar.specs.Places.{holds, has_byte}
 use Rattle.fluent_syntax_grammar.specs.Starts.{start, quote, digit, letter}
-use Rattle.fluent_syntax_grammar.specs.Construct.{◌>>=◌, gives, at_each}
+use Rattle.fluent_syntax_grammar.specs.Construct.{◌>>=◌, gives, at_each, More, item}
 use Rattle.fluent_syntax_grammar.specs.Words.{blank}
 use Rattle.fluent_syntax_grammar.specs.Written.{Text}
 use Rattle.fluent_syntax_grammar.specs.Spellings.{is_name, is_number, is_number_rest, is_unsigned}
 use Rattle.fluent_syntax_grammar.specs.Rules.{inline_obeys}
 use Rattle.fluent_syntax_grammar.specs.Readable.{is_argument_value}
 use Rattle.fluent_syntax_grammar.specs.Canonical.{canonical_rules}
-use Rattle.fluent_syntax_grammar.specs.Arguments.{argument_name, is_used, add_positional, add_named, separator}
-use Rattle.fluent_syntax_grammar.specs.Arguments.{positional_and_more, named_and_more, argument_and_more}
-use Rattle.fluent_syntax_grammar.specs.Arguments.{more_arguments, argument_value}
+use Rattle.fluent_syntax_grammar.specs.Arguments.{Argument, positional, named, add_argument, argument_name, is_used}
+use Rattle.fluent_syntax_grammar.specs.Arguments.{separator, positional_rest, named_rest, argument_rest, next_argument}
+use Rattle.fluent_syntax_grammar.specs.Arguments.{argument_value}
+use Rattle.fluent_syntax_grammar.specs.Grammar as grammar
 use Rattle.fluent_syntax_grammar.specs.Grammar.{family, inline_expression, call_arguments}
 use Rattle.fluent_syntax_grammar.proofs.Facts.{left_true, equal}
 use Rattle.fluent_syntax_grammar.proofs.Tests.{or_cases, differ}
-use Rattle.fluent_syntax_grammar.proofs.Nesting.{into_inline_expression, into_more_arguments}
+use Rattle.fluent_syntax_grammar.proofs.Nesting.{into_argument_list}
 use Rattle.fluent_syntax_grammar.proofs.Left.{Left, left_as, first, left_first, left_has}
 use Rattle.fluent_syntax_grammar.proofs.forward.Reading.{Reads, Passes, reads_bind, reads_gives, passes_then}
 use Rattle.fluent_syntax_grammar.proofs.forward.Reading.{reads_at_each, reads_look, reads_first, reads_second}
-use Rattle.fluent_syntax_grammar.proofs.forward.Reading.{reads_into, reads_present, reads_absent, passes_token}
+use Rattle.fluent_syntax_grammar.proofs.forward.Reading.{reads_into, reads_present, reads_absent, passes_token, more_map, reads_end, reads_item}
 use Rattle.fluent_syntax_grammar.proofs.marks.WrittenBytes.{inline_bytes, arguments_bytes, positional_bytes}
 use Rattle.fluent_syntax_grammar.proofs.marks.WrittenBytes.{named_bytes, is_none_of}
 use Rattle.fluent_syntax_grammar.proofs.forward.Inline.{Follows, past, passes_blank, passes_blanks, starts_with}
@@ -116,6 +117,15 @@ past_same e more = same (passes_blank e)
     same true = refl
     same false = refl
 
+-- what an argument says
+pub data Said : Type 0 where
+  says_positional : InlineTree Text → Said
+  says_named : Text → InlineTree Text → Said
+
+abbrev pub said : List ℕ → Argument → Said
+said t (positional e) = says_positional (inline_map (bytes_at t) e)
+said t (named name e) = says_named (bytes_at t name) (inline_map (bytes_at t) e)
+
 -- An inline expression is read back, whatever may follow it.
 pub record InlineBack (edition : Edition) (t : List ℕ) (level : ℕ) (e : InlineTree Text) : Type 0 where
   pub obeys : inline_obeys (canonical_rules edition) e ≡ true
@@ -130,25 +140,32 @@ pub record ListBack (edition : Edition) (t : List ℕ) (level : ℕ) (names : Li
       ((ps ≡ no_inlines) × (ns ≡ no_named))
   pub back : (i : ℕ) (tail : List ℕ) →
       Left t i (positional_bytes level true ps (named_bytes level (is_none_of ps) ns (41 ∷ tail))) →
-      Reads t ((family edition t).more_arguments names) (arguments_map (bytes_at t)) i (arguments ps ns) tail
+      Reads t (grammar.more_arguments edition t names) (arguments_map (bytes_at t)) i (arguments ps ns) tail
 
 module _ (edition : Edition) (t : List ℕ) where
   abbrev pub ReadsMore : List Text → ℕ → ArgumentsTree Text → List ℕ → Type 0
-  ReadsMore names i a left = Reads t ((family edition t).more_arguments names) (arguments_map (bytes_at t)) i a left
+  ReadsMore names i a left = Reads t (grammar.more_arguments edition t names) (arguments_map (bytes_at t)) i a left
 
-  more_into : (names : List Text) (i : ℕ) (a : ArgumentsTree Text) (left : List ℕ) →
-      Reads t (more_arguments t (family edition t) names) (arguments_map (bytes_at t)) i a left →
-      ReadsMore names i a left
-  more_into names i a left r = reads_into (λ o x. into_more_arguments edition t names i o x) r
+  -- what the next argument of a list says, and the names after it
+  abbrev pub ReadsNext : List Text → ℕ → More Said (List Text) → List ℕ → Type 0
+  ReadsNext names i x left = Reads t (next_argument t (family edition t) names) (more_map (said t) (λ ns. ns)) i x left
+
+  -- the rest of a list, after these names
+  after_names : (level : ℕ) (names : List Text) (ps : InlineTrees Text) (ns : NamedTrees Text) (tail : List ℕ) →
+      ListBack edition t level names ps ns → (p : List Text) (j : ℕ) → p ≡ names →
+      Left t j (positional_bytes level true ps (named_bytes level (is_none_of ps) ns (41 ∷ tail))) →
+      ReadsMore p j (arguments ps ns) tail
+  after_names level names ps ns tail h p j e m =
+      subst (λ p. ReadsMore p j (arguments ps ns) tail) (sym e) (h.back j tail m)
 
   -- the end of a list
   pub nothing_back : (level : ℕ) (names : List Text) → ListBack edition t level names no_inlines no_named
   nothing_back level names = record {
     begins = λ tail. inr (refl, refl);
     back =
-        λ i tail l. more_into names i (arguments no_inlines no_named) tail
+        λ i tail l. reads_end {f = said t} {g = λ ns. ns}
         (reads_at_each (Some 41) (left_first l)
-        (reads_first refl (passes_then (passes_token 41 refl l) (λ j m. reads_gives refl m))));
+        (reads_first refl (passes_then (passes_token 41 refl l) (λ j m. reads_gives refl m)))) refl;
   }
 
   -- between two arguments, or before the end of the list
@@ -224,29 +241,29 @@ module _ (edition : Edition) (t : List ℕ) where
 
   -- without a colon an argument is positional
   as_positional :
-      (names : List Text) (e : InlineTree Span) (o : Option Span) (colon : Bool) (i : ℕ) (a : ArgumentsTree Text)
+      (names : List Text) (e : InlineTree Span) (o : Option Span) (colon : Bool) (i : ℕ) (a : More Said (List Text))
       (left : List ℕ) → colon ≡ false →
-      Reads t (positional_and_more t (family edition t) names e) (arguments_map (bytes_at t)) i a left →
-      Reads t (argument_and_more t (family edition t) names e o colon) (arguments_map (bytes_at t)) i a left
+      Reads t (positional_rest t names e) (more_map (said t) (λ ns. ns)) i a left →
+      Reads t (argument_rest t (family edition t) names e o colon) (more_map (said t) (λ ns. ns)) i a left
   as_positional names e None colon i a left f r = r
   as_positional names e (Some n) true i a left f r = absurd cc
   as_positional names e (Some n) false i a left f r = r
 
   added_positional :
-      (v : InlineTree Span) (a : ArgumentsTree Span) (e : InlineTree Text) (ps : InlineTrees Text)
-      (ns : NamedTrees Text) → inline_map (bytes_at t) v ≡ e → arguments_map (bytes_at t) a ≡ arguments ps ns →
-      arguments_map (bytes_at t) (add_positional v a) ≡ arguments (inlines e ps) ns
-  added_positional v (arguments qs ms) e ps ns f g = cc
+      (v : Argument) (a : ArgumentsTree Span) (e : InlineTree Text) (ps : InlineTrees Text)
+      (ns : NamedTrees Text) → said t v ≡ says_positional e → arguments_map (bytes_at t) a ≡ arguments ps ns →
+      arguments_map (bytes_at t) (add_argument v a) ≡ arguments (inlines e ps) ns
+  added_positional (positional v) (arguments qs ms) e ps ns f g = cc
+  added_positional (named name v) (arguments qs ms) e ps ns f g = absurd cc
 
   -- the rest of a list, at an argument's first byte
-  at_argument : (names : List Text) (i : ℕ) (bs : List ℕ) (a : ArgumentsTree Text) (left : List ℕ) → Begins bs →
+  at_argument : (names : List Text) (i : ℕ) (bs : List ℕ) (a : More Said (List Text)) (left : List ℕ) → Begins bs →
       Left t i bs →
-      Reads t ((family edition t).inline_expression >>= λ e. at_each (has_byte t 58) gives >>= λ colon.
-      argument_and_more t (family edition t) names e (argument_name e) colon) (arguments_map (bytes_at t)) i a
+      Reads t (grammar.inline_expression edition t >>= λ e. at_each (has_byte t 58) gives >>= λ colon.
+      argument_rest t (family edition t) names e (argument_name e) colon) (more_map (said t) (λ ns. ns)) i a
       left →
-      ReadsMore names i a left
+      ReadsNext names i a left
   at_argument names i bs a left b l r =
-      more_into names i a left
       (reads_at_each (Some b.byte) (left_first l ∙ ap first b.are)
       (reads_second (differ is_start b.byte 41 b.start refl) r))
 
@@ -256,16 +273,16 @@ module _ (edition : Edition) (t : List ℕ) where
     begins = λ tail. inl (inline_begins edition level e _ h.obeys);
     back = λ i tail l.
         let rest = positional_bytes level false es (named_bytes level false ns (41 ∷ tail)) in
-        at_argument [] i _ _ tail (inline_begins edition level e rest h.obeys) l
-        (reads_bind (reads_into (λ o x. into_inline_expression edition t i o x)
-        (h.back i [] rest (follows_positional level es ns tail) l)) (λ v j f m.
+        reads_item {c = says_positional e} {q = []}
+        (at_argument [] i _ _ _ (inline_begins edition level e rest h.obeys) l
+        (reads_bind (h.back i [] rest (follows_positional level es ns tail) l) (λ v j f m.
         let n = left_as (past_same e rest) m in
         reads_look (has_byte t 58 j) refl
-        (as_positional [] v (argument_name v) (has_byte t 58 j) j _ tail
+        (as_positional [] v (argument_name v) (has_byte t 58 j) j _ _
         (left_has (λ b. b == 58) n ∙ no_colon level es ns tail)
         (passes_then (passes_separator level [] es ns j tail more n)
-        (λ k q. reads_bind (more.back k tail q)
-        (λ a p g s. reads_gives (added_positional v a e es ns f g) s))))));
+        (λ k q. reads_gives (ap (λ e. item (says_positional e) []) f) q))))))
+        (after_names level [] es ns tail more) (λ v a f g. added_positional v a e es ns f g);
   }
 
   -- ---- named arguments
@@ -290,23 +307,24 @@ module _ (edition : Edition) (t : List ℕ) where
   -- before a colon a name is that of a named argument
   as_named :
       (names : List Text) (e : InlineTree Span) (id : Span) (o : Option Span) (colon : Bool) (i : ℕ)
-      (a : ArgumentsTree Text) (left : List ℕ) → o ≡ Some id → colon ≡ true →
-      Reads t (named_and_more t (family edition t) names id) (arguments_map (bytes_at t)) i a left →
-      Reads t (argument_and_more t (family edition t) names e o colon) (arguments_map (bytes_at t)) i a left
+      (a : More Said (List Text)) (left : List ℕ) → o ≡ Some id → colon ≡ true →
+      Reads t (named_rest t (family edition t) names id) (more_map (said t) (λ ns. ns)) i a left →
+      Reads t (argument_rest t (family edition t) names e o colon) (more_map (said t) (λ ns. ns)) i a left
   as_named names e id o colon i a left f g r = rw (f, g) r
 
   added_named :
-      (id : Span) (v : InlineTree Span) (a : ArgumentsTree Span) (name : Text) (e : InlineTree Text)
-      (ps : InlineTrees Text) (ns : NamedTrees Text) → bytes_at t id ≡ name → inline_map (bytes_at t) v ≡ e →
+      (v : Argument) (a : ArgumentsTree Span) (name : Text) (e : InlineTree Text)
+      (ps : InlineTrees Text) (ns : NamedTrees Text) → said t v ≡ says_named name e →
       arguments_map (bytes_at t) a ≡ arguments ps ns →
-      arguments_map (bytes_at t) (add_named id v a) ≡ arguments ps (nameds (named_argument name e) ns)
-  added_named id v (arguments qs ms) name e ps ns f g h = cc
+      arguments_map (bytes_at t) (add_argument v a) ≡ arguments ps (nameds (named_argument name e) ns)
+  added_named (positional v) (arguments qs ms) name e ps ns f g = absurd cc
+  added_named (named id v) (arguments qs ms) name e ps ns f g = cc
 
   -- a value that may be one, by its start
   value_at : (level : ℕ) (e : InlineTree Text) (i : ℕ) (tail left : List ℕ) →
       inline_obeys (canonical_rules edition) e ≡ true → is_argument_value e ≡ true →
       Left t i (inline_bytes level e tail) →
-      Reads t ((family edition t).inline_expression) (inline_map (bytes_at t)) i e left →
+      Reads t (grammar.inline_expression edition t) (inline_map (bytes_at t)) i e left →
       Reads t (at_each (start t) (argument_value t (family edition t))) (inline_map (bytes_at t)) i e left
   value_at level (string_literal v) i tail left h a l r = reads_at_each quote (starts_with quote refl l) r
   value_at level (number_literal []) i tail left h a l r = absurd cc
@@ -326,8 +344,8 @@ module _ (edition : Edition) (t : List ℕ) where
       ListBack edition t level (name ∷ names) no_inlines ns →
       (id : Span) (i : ℕ) (tail : List ℕ) → bytes_at t id ≡ name →
       Left t i (58 ∷ 32 ∷ inline_bytes level e (named_bytes level false ns (41 ∷ tail))) →
-      Reads t (named_and_more t (family edition t) names id) (arguments_map (bytes_at t)) i
-      (arguments no_inlines (nameds (named_argument name e) ns)) tail
+      Reads t (named_rest t (family edition t) names id) (more_map (said t) (λ ns. ns)) i
+      (item (says_named name e) (name ∷ names)) (named_bytes level true ns (41 ∷ tail))
   from_colon level names name e ns h used value more id i tail f l =
       let rest = named_bytes level false ns (41 ∷ tail) in
       let b = inline_begins edition level e rest h.obeys in
@@ -337,17 +355,14 @@ module _ (edition : Edition) (t : List ℕ) where
       (passes_blanks (32 ∷ []) _ refl (begins_other 32 b refl) (begins_other lf b refl) (begins_other cr b refl)
       m) (λ k n.
       reads_bind (value_at level e k rest (past e [] rest) h.obeys value n
-      (reads_into (λ o x. into_inline_expression edition t k o x)
-      (h.back k [] rest (follows_positional level no_inlines ns tail) n))) (λ v p g q.
+      (h.back k [] rest (follows_positional level no_inlines ns tail) n)) (λ v p g q.
       passes_then (passes_separator level (name ∷ names) no_inlines ns p tail more (left_as (past_same e rest) q))
-      (λ y z.
-      reads_bind (reads_named id name names y ns tail f (more.back y tail z))
-      (λ a w x s. reads_gives (added_named id v a name e no_inlines ns f g x) s))))))
+      (λ y z. reads_gives (same_item v f g) z)))))
     where
-      reads_named : (id : Span) (name : Text) (names : List Text) (y : ℕ) (ns : NamedTrees Text) (tail : List ℕ) →
-          bytes_at t id ≡ name → ReadsMore (name ∷ names) y (arguments no_inlines ns) tail →
-          ReadsMore (bytes_at t id ∷ names) y (arguments no_inlines ns) tail
-      reads_named id name names y ns tail f r = rw f r
+      same_item : (v : InlineTree Span) → bytes_at t id ≡ name → inline_map (bytes_at t) v ≡ e →
+          item (says_named (bytes_at t id) (inline_map (bytes_at t) v)) (bytes_at t id ∷ names) ≡
+          item (says_named name e) (name ∷ names)
+      same_item v f g = cc
 
   pub named_back : (level : ℕ) (names : List Text) (name : Text) (e : InlineTree Text) (ns : NamedTrees Text) →
       is_name name ≡ true → InlineBack edition t level e → is_used name names ≡ false → is_argument_value e ≡ true →
@@ -369,13 +384,15 @@ module _ (edition : Edition) (t : List ℕ) where
           no_list = refl;
           no_attribute = refl;
         } in
-        at_argument names i _ _ tail (name_begins name rest is) l
-        (reads_bind (reads_into (λ o x. into_inline_expression edition t i o x)
-        (message_back edition t i level name [] rest is f l)) (λ v j g m.
+        reads_item {c = says_named name e} {q = name ∷ names}
+        (at_argument names i _ _ _ (name_begins name rest is) l
+        (reads_bind (message_back edition t i level name [] rest is f l) (λ v j g m.
         let n = name_of v name g in
         reads_look (has_byte t 58 j) refl
-        (as_named names v n.id (argument_name v) (has_byte t 58 j) j _ tail n.is (left_has (λ b. b == 58) m)
-        (from_colon level names name e ns h used value more n.id j tail n.spells m))));
+        (as_named names v n.id (argument_name v) (has_byte t 58 j) j _ _ n.is (left_has (λ b. b == 58) m)
+        (from_colon level names name e ns h used value more n.id j tail n.spells m)))))
+        (after_names level (name ∷ names) no_inlines ns tail more)
+        (λ v a f g. added_named v a name e no_inlines ns f g);
   }
 
   -- ---- the whole list
@@ -387,7 +404,8 @@ module _ (edition : Edition) (t : List ℕ) where
   call_back level ps ns h i tail l =
       passes_then (passes_blanks [] _ refl refl refl refl l)
       (λ j m. reads_bind (reads_present 40 refl m) (λ b k e n. reads_first e
-      (reads_bind (passes_then (inside k n) (λ p q. h.back p tail q))
+      (reads_bind (passes_then (inside k n) (λ p q.
+      reads_into (λ o x. into_argument_list edition t p o x) (h.back p tail q)))
       (λ a w x s. reads_gives (ap some_arguments x) s))))
     where
       at_end : (ps : InlineTrees Text) (ns : NamedTrees Text) (k : ℕ) → (ps ≡ no_inlines) ×

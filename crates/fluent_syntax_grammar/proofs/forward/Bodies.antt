@@ -10,6 +10,7 @@ use Rattle.fluent_syntax_tree.specs.Entry.{regular, group, resource, BodyTree, M
 use Rattle.fluent_syntax_tree.specs.Spans.{bytes_at}
 use Rattle.fluent_syntax_tree.specs.declared.spans.Span.{Span}
 use Rattle.fluent_syntax_tree.specs.declared.edition.Edition.{Edition}
+use Rattle.fluent_syntax_grammar.specs.Grammar.{family}
 use Rattle.fluent_syntax_grammar.specs.Bytes.{lf, is_letter, is_name_byte}
 use Rattle.fluent_syntax_grammar.specs.Places.{line}
 use Rattle.fluent_syntax_grammar.specs.Construct.{Read, chosen, first as first_of, second}
@@ -147,7 +148,7 @@ module _ (edition : Edition) (t : List ℕ) where
   reads_comment : (i b : ℕ) (bs : List ℕ) (e : EntryTree Span) (j : ℕ) → (b == 35) ≡ true → Left t i (b ∷ bs) →
       comment_entry t i (Read e j) → entry_at edition t i (Read e j)
   reads_comment i b bs e j is l r =
-      chosen (subst (λ o. entry_of edition t o i (Read e j)) (sym (left_first l)) (first_of is r))
+      chosen (subst (λ o. entry_of edition t (family edition t) o i (Read e j)) (sym (left_first l)) (first_of is r))
 
   -- a message or a term
   tiles_alone : (e : EntryTree Text) (es : BodyTree Text) (i b : ℕ) (bs rest : List ℕ) → takes_comment e ≡ true →
@@ -250,7 +251,7 @@ module _ (edition : Edition) (t : List ℕ) where
       Reads t (entry_at edition t) (entry_map (bytes_at t)) i e rest
   letter_reads i b bs e rest is l r =
       reads_into (λ o x.
-      chosen (subst (λ b. entry_of edition t b i o) (sym (left_first l))
+      chosen (subst (λ b. entry_of edition t (family edition t) b i o) (sym (left_first l))
       (second (differ is_letter b 35 is refl) (second (differ is_letter b 45 is refl) x)))) r
 
   minus_reads : (i : ℕ) (bs : List ℕ) (e : EntryTree Text) (rest : List ℕ) → Left t i (45 ∷ bs) →
@@ -258,7 +259,7 @@ module _ (edition : Edition) (t : List ℕ) where
       Reads t (entry_at edition t) (entry_map (bytes_at t)) i e rest
   minus_reads i bs e rest l r =
       reads_into (λ o x.
-      chosen (subst (λ b. entry_of edition t b i o) (sym (left_first l)) (second refl (first_of refl x)))) r
+      chosen (subst (λ b. entry_of edition t (family edition t) b i o) (sym (left_first l)) (second refl (first_of refl x)))) r
 
   -- The text from here on is tiled into these entries, after blank lines.
   pub record BodyBack (es : BodyTree Text) (tail : List ℕ) : Type 0 where

@@ -19,7 +19,7 @@ use Rattle.fluent_syntax_grammar.specs.Canonical.{canonical_rules}
 use Rattle.fluent_syntax_grammar.specs.Grammar.{inline_expression, expression, placeable}
 use Rattle.fluent_syntax_grammar.proofs.Facts.{left_true, right_true, equal}
 use Rattle.fluent_syntax_grammar.proofs.Tests.{both}
-use Rattle.fluent_syntax_grammar.proofs.Nesting.{into_inline_expression}
+use Rattle.fluent_syntax_grammar.proofs.Nesting.{into_expression}
 use Rattle.fluent_syntax_grammar.proofs.Left.{Left, left_first, is_blank_byte}
 use Rattle.fluent_syntax_grammar.proofs.forward.Reading.{Reads, Passes, reads_bind, reads_gives, passes_then}
 use Rattle.fluent_syntax_grammar.proofs.forward.Reading.{reads_at_each, reads_look, reads_second, reads_into}
@@ -112,7 +112,7 @@ module _ (edition : Edition) (t : List ℕ) where
       Reads t (inline_expression edition t) (inline_map (bytes_at t)) i e (past e gap (125 ∷ more)) →
       Reads t (expression edition t) (expression_map (bytes_at t)) i (inline e) (125 ∷ more)
   expression_after e gap more i a g r =
-      reads_bind (reads_into (λ o x. into_inline_expression edition t i o x) r)
+      reads_bind r
       (λ v j f m. passes_then (passes_after e gap (125 ∷ more) j (follows_brace gap more g) m) (λ k n.
       reads_look false (no_arrow k more n)
       (reads_second refl
@@ -139,7 +139,7 @@ module _ (edition : Edition) (t : List ℕ) where
       (λ j m. passes_then
       (passes_blanks before _ (spaces_blank before a) (begins_other 32 b refl) (begins_other lf b refl)
       (begins_other cr b refl) m) (λ k n.
-      reads_bind (h.back k gap more g n)
+      reads_bind (reads_into (λ o x. into_expression edition t k o x) (h.back k gap more g n))
       (λ v p f o. passes_then (passes_inline_blank [] (125 ∷ more) refl refl o)
       (λ q r. passes_then (passes_token 125 refl r) (λ y z. reads_gives f z)))))
 
@@ -167,7 +167,8 @@ module _ (edition : Edition) (t : List ℕ) where
       Reads t (placeable edition t) (expression_map (bytes_at t)) i (inline (inline_placeable e)) tail
   double_back level e i tail h l =
       passes_then (passes_token 123 refl l) (λ j m. passes_then (passes_blanks [] _ refl refl refl refl m) (λ k n.
-      reads_bind (expression_after (inline_placeable e) [] tail k refl refl
-      (braced level e (32 ∷ []) (32 ∷ []) (125 ∷ tail) k refl refl h n))
+      reads_bind (reads_into (λ o x. into_expression edition t k o x)
+      (expression_after (inline_placeable e) [] tail k refl refl
+      (braced level e (32 ∷ []) (32 ∷ []) (125 ∷ tail) k refl refl h n)))
       (λ v p f o. passes_then (passes_inline_blank [] (125 ∷ tail) refl refl o) (λ q r.
       passes_then (passes_token 125 refl r) (λ y z. reads_gives f z)))))

@@ -186,8 +186,8 @@ module _ (edition : Edition) (t : List ℕ) where
 
   -- the layout of a pattern that opens within its line
   reads_layout : (i j at end : ℕ) (ps : List Piece) (ls : List Line) (bs : List ℕ) → InlineBlank t i j →
-      after_eol t j ≡ None → (family edition t).more_pieces j (Read ps at) → Left t at (lf ∷ bs) →
-      (family edition t).more_lines (at + 1) (Read ls end) →
+      after_eol t j ≡ None → grammar.more_pieces edition t j (Read ps at) → Left t at (lf ∷ bs) →
+      grammar.more_lines edition t (at + 1) (Read ls end) →
       layout t (family edition t) i
       (Read (record {
         opening = Some (record { start = j; spaces = 0; pieces = ps; ending = layouts.lf_at at });

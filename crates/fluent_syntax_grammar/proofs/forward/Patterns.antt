@@ -164,7 +164,7 @@ numbers_at edition (placeable x) es = refl
 module _ (edition : Edition) (t : List ℕ) where
   -- the layout of a pattern that opens a line
   reads_opened : (i end : ℕ) (ls : List Line) (bs : List ℕ) → Left t i (lf ∷ bs) → BlankBlock t (i + 1) (i + 1) →
-      (family edition t).more_lines (i + 1) (Read ls end) →
+      grammar.more_lines edition t (i + 1) (Read ls end) →
       layout t (family edition t) i (Read (record { opening = None; lines = ls }) end)
   reads_opened i end ls bs l b m =
       let y : Layout = record { opening = None; lines = ls } in

@@ -12,15 +12,14 @@ use Rattle.fluent_syntax_grammar.specs.PatternTexts.{ends_plainly}
 use Rattle.fluent_syntax_grammar.specs.Bytes.{lf, cr}
 use Rattle.fluent_syntax_grammar.specs.Places.{Stretch, has_eol}
 use Rattle.fluent_syntax_grammar.specs.Construct.{Read, goes_on, given, at_place, passed, chosen, first as first_of}
-use Rattle.fluent_syntax_grammar.specs.Construct.{second}
+use Rattle.fluent_syntax_grammar.specs.Construct.{second, item, item_and_more}
 use Rattle.fluent_syntax_grammar.specs.Layout.{Piece, run, placed, lf_at, Line, counted}
 use Rattle.fluent_syntax_grammar.specs.Elements.{Item, with_ending, line_items}
-use Rattle.fluent_syntax_grammar.specs.Lines.{is_run_place, pieces_at}
+use Rattle.fluent_syntax_grammar.specs.Lines.{is_run_place, next_piece_at}
 use Rattle.fluent_syntax_grammar.specs.Grammar.{family}
 use Rattle.fluent_syntax_grammar.specs.Grammar as grammar
 use Rattle.fluent_syntax_grammar.specs.Written.{Text, is_last, last_of}
 use Rattle.fluent_syntax_grammar.proofs.Facts.{left_true}
-use Rattle.fluent_syntax_grammar.proofs.Nesting.{into_more_pieces}
 use Rattle.fluent_syntax_grammar.proofs.Left.{Left, left_first, left_next, left_past, left_no_eol}
 use Rattle.fluent_syntax_grammar.proofs.forward.Reading.{Reads}
 use Rattle.fluent_syntax_grammar.proofs.forward.Spells.{Spells, nothing, last_text, text_first, placed_first}
@@ -37,9 +36,9 @@ pub record Mid (edition : Edition) (t : List ℕ) (common : Option ℕ) (es : Pa
   pub after : List ℕ
   pub lines : List Line
   pub end : ℕ
-  pub reads_pieces : (family edition t).more_pieces i (Read pieces at)
+  pub reads_pieces : grammar.more_pieces edition t i (Read pieces at)
   pub ends : Left t at (lf ∷ after)
-  pub reads_lines : (family edition t).more_lines (at + 1) (Read lines end)
+  pub reads_lines : grammar.more_lines edition t (at + 1) (Read lines end)
   pub left : Left t end rest
   pub spells : Spells t (with_ending pieces (lf_at at) ++ flat_map (line_items edition common) lines) es
   pub counts : flat_map (counted edition) lines ≡ numbers
@@ -49,7 +48,7 @@ pub record Starts (edition : Edition) (t : List ℕ) (common : Option ℕ) (es :
     (i : ℕ) (rest : List ℕ) : Type 0 where
   pub lines : List Line
   pub end : ℕ
-  pub reads : (family edition t).more_lines i (Read lines end)
+  pub reads : grammar.more_lines edition t i (Read lines end)
   pub left : Left t end rest
   pub spells : Spells t (flat_map (line_items edition common) lines) es
   pub counts : flat_map (counted edition) lines ≡ numbers
@@ -64,9 +63,9 @@ pub record Run (edition : Edition) (t : List ℕ) (common : Option ℕ) (v : Tex
   pub after : List ℕ
   pub lines : List Line
   pub end : ℕ
-  pub reads_pieces : (family edition t).more_pieces i (Read (run i to ∷ pieces) at)
+  pub reads_pieces : grammar.more_pieces edition t i (Read (run i to ∷ pieces) at)
   pub ends : Left t at (lf ∷ after)
-  pub reads_lines : (family edition t).more_lines (at + 1) (Read lines end)
+  pub reads_lines : grammar.more_lines edition t (at + 1) (Read lines end)
   pub left : Left t end rest
   pub spells : (kept : ℕ) → Left t kept (v ++ source) →
       Spells t (with_ending (run kept to ∷ pieces) (lf_at at) ++ flat_map (line_items edition common) lines)
@@ -95,12 +94,12 @@ module _ (edition : Edition) (t : List ℕ) where
 
   -- a placeable within a line
   reads_placed : {i j : ℕ} {bs : List ℕ} (x : ExpressionTree Span) (ps : List Piece) (at : ℕ) → Left t i (123 ∷ bs) →
-      grammar.placeable edition t i (Read x j) → (family edition t).more_pieces j (Read ps at) →
-      (family edition t).more_pieces i (Read (placed x ∷ ps) at)
-  reads_placed {i = i} x ps at l p q =
-      into_more_pieces edition t i
-      _ (chosen (subst (λ o. pieces_at t (family edition t) o i (Read (placed x ∷ ps) at)) (sym (left_first l))
-      (chosen (second (left_no_eol l refl refl) (second refl (first_of refl (goes_on p (goes_on q given))))))))
+      grammar.placeable edition t i (Read x j) → grammar.more_pieces edition t j (Read ps at) →
+      grammar.more_pieces edition t i (Read (placed x ∷ ps) at)
+  reads_placed {i = i} {j = j} x ps at l p q =
+      item_and_more (chosen (subst (λ o. next_piece_at t (family edition t) o i (Read (item (placed x) tt) j))
+      (sym (left_first l))
+      (chosen (second (left_no_eol l refl refl) (second refl (first_of refl (goes_on p given))))))) q
 
   pub mid_placeable :
       (common : Option ℕ) (e : ExpressionTree Text) (es : PatternTree Text) (numbers : List ℕ) (i : ℕ)
@@ -133,15 +132,15 @@ module _ (edition : Edition) (t : List ℕ) where
   third_false false false true e = absurd cc
 
   reads_run : {i j b : ℕ} {bs : List ℕ} (ps : List Piece) (at : ℕ) → is_run_byte b ≡ true → Left t i (b ∷ bs) → i < j →
-      Stretch (is_run_place t) i j → (family edition t).more_pieces j (Read ps at) →
-      (family edition t).more_pieces i (Read (run i j ∷ ps) at)
+      Stretch (is_run_place t) i j → grammar.more_pieces edition t j (Read ps at) →
+      grammar.more_pieces edition t i (Read (run i j ∷ ps) at)
   reads_run {i = i} {j = j} {b = b} ps at e l m w q =
       let f = third_false (b == lf) (b == 123) (b == 125) e in
       let no_eol : has_eol t i ≡ false = without _ (has_eol t i) (w.each i (omega arith) m) in
-      into_more_pieces edition t i
-      _ (chosen (subst (λ o. pieces_at t (family edition t) o i (Read (run i j ∷ ps) at)) (sym (left_first l))
-      (chosen (second no_eol
-      (second f.1 (second f.0 (goes_on at_place (goes_on (passed w) (goes_on at_place (goes_on q given))))))))))
+      item_and_more (chosen (subst (λ o. next_piece_at t (family edition t) o i (Read (item (run i j) tt) j))
+      (sym (left_first l))
+      (chosen (second no_eol (second f.1 (second f.0
+      (goes_on (goes_on at_place (goes_on (passed w) (goes_on at_place given))) given))))))) q
 
   -- a text that ends the pattern
   pub run_end : (common : Option ℕ) (v tail rest : List ℕ) (i b : ℕ) (bs : List ℕ) → ends_plainly v ≡ true →

@@ -5,27 +5,27 @@ use Rattle.std.specs.Prelude.{◌==◌, ◌||◌, ◌&&◌, option_map, is_none}
 use Rattle.std.specs.List.{list_all}
 use Rattle.fluent_syntax_tree.specs.Tree.{KeyTree, key_map, name_key, number_key, select, expression_map, InlineTree}
 use Rattle.fluent_syntax_tree.specs.Tree.{inline_map, PatternTree, pattern_map, VariantTrees, variants_map, no_variants}
-use Rattle.fluent_syntax_tree.specs.Tree.{variants, variant}
+use Rattle.fluent_syntax_tree.specs.Tree.{variants, variant, VariantTree, variant_map}
 use Rattle.fluent_syntax_tree.specs.Spans.{bytes_at}
 use Rattle.fluent_syntax_tree.specs.declared.spans.Span.{Span}
 use Rattle.fluent_syntax_tree.specs.declared.edition.Edition.{Edition}
 use Rattle.fluent_syntax_tree.specs.declared.edition.Edition.TheVariants.{One, Two}
 use Rattle.fluent_syntax_grammar.specs.Bytes.{lf, cr, space, is_space, is_letter, is_digit, is_name_byte}
 use Rattle.fluent_syntax_grammar.specs.Places.{after_eol}
-use Rattle.fluent_syntax_grammar.specs.Construct.{at_each}
+use Rattle.fluent_syntax_grammar.specs.Construct.{at_each, More, no_item, item}
 use Rattle.fluent_syntax_grammar.specs.Written.{Text, indent, short_indent, key_text}
 use Rattle.fluent_syntax_grammar.specs.Spellings.{is_name, is_number, is_number_rest, is_unsigned}
 use Rattle.fluent_syntax_grammar.specs.Placeables.{arrow_line_end, has_arrow, selector_fault, select_with}
-use Rattle.fluent_syntax_grammar.specs.Variants.{is_number_start, variant_key, variants_end, variant_and_more}
+use Rattle.fluent_syntax_grammar.specs.Variants.{is_number_start, variant_key, variants_end, variant_of}
 use Rattle.fluent_syntax_grammar.specs.Variants.{variant_after}
+use Rattle.fluent_syntax_grammar.specs.Grammar as grammar
 use Rattle.fluent_syntax_grammar.specs.Grammar.{family}
 use Rattle.fluent_syntax_grammar.proofs.Facts.{left_true, right_true, equal, some_same}
 use Rattle.fluent_syntax_grammar.proofs.Tests.{both, or_cases, differ}
-use Rattle.fluent_syntax_grammar.proofs.Nesting.{into_inline_expression, into_more_variants}
 use Rattle.fluent_syntax_grammar.proofs.Left.{Left, left_as, left_first, left_next, left_has}
 use Rattle.fluent_syntax_grammar.proofs.forward.Reading.{Reads, Passes, reads_bind, reads_gives, passes_nothing}
 use Rattle.fluent_syntax_grammar.proofs.forward.Reading.{passes_then, passes_over, reads_at_each, reads_look}
-use Rattle.fluent_syntax_grammar.proofs.forward.Reading.{reads_first, reads_second, reads_into, reads_present}
+use Rattle.fluent_syntax_grammar.proofs.forward.Reading.{reads_first, reads_second, reads_present, more_map, reads_end, reads_item}
 use Rattle.fluent_syntax_grammar.proofs.forward.Reading.{reads_absent, passes_token, passes_two, passes_inline_blank}
 use Rattle.fluent_syntax_grammar.proofs.forward.Words.{reads_name, reads_number}
 use Rattle.fluent_syntax_grammar.proofs.marks.WrittenBytes.{inline_bytes, variants_bytes, pattern_bytes}
@@ -79,7 +79,7 @@ pub record VariantsBack (edition : Edition) (t : List ℕ) (level : ℕ) (starre
     Type 0 where
   pub back : (i : ℕ) (close more : List ℕ) → list_all is_space close ≡ true →
       Left t i (bare_bytes level vs close more) →
-      Reads t ((family edition t).more_variants starred) (variants_map (bytes_at t)) i vs (125 ∷ more)
+      Reads t (grammar.more_variants edition t starred) (variants_map (bytes_at t)) i vs (125 ∷ more)
 
 abbrev pub key_obeys' : KeyTree Text → Bool
 key_obeys' (name_key v) = is_name v
@@ -98,22 +98,36 @@ module _ (edition : Edition) (t : List ℕ) where
   passes_indent level (variants (variant key value false) vs) close more i a l =
       passes_blanks (indent level) _ (spaces_blank (indent level) (spaces_of (4 * level))) refl refl refl l
 
+  -- what an item says
+  abbrev said : More (VariantTree Span) Bool → More (VariantTree Text) Bool
+  said = more_map (variant_map (bytes_at t)) (λ b. b)
+
+  -- the rest of the list, behind an item
+  after_item : (level : ℕ) (starred : Bool) (vs : VariantTrees Text) (q : Bool) → q ≡ starred →
+      VariantsBack edition t level starred vs → VariantsBack edition t level q vs
+  after_item level starred vs q e h = subst (λ b. VariantsBack edition t level b vs) (sym e) h
+
+  added : (v : VariantTree Span) (ws : VariantTrees Span) (x : VariantTree Text) (vs : VariantTrees Text) →
+      variant_map (bytes_at t) v ≡ x → variants_map (bytes_at t) ws ≡ vs →
+      variants_map (bytes_at t) (variants v ws) ≡ variants x vs
+  added v ws x vs f g = cc
+
   -- the end of the list, which has a default
   pub variants_end_back : (level : ℕ) → VariantsBack edition t level true no_variants
   variants_end_back level =
       record {
         back =
             λ i close more a l.
-            reads_into (λ o x. into_more_variants edition t true i o x)
+            reads_end {f = variant_map (bytes_at t)} {g = λ b. b}
             (reads_bind (reads_absent 42 refl l)
             (λ b j e m. rw e
             (passes_then (reads_second refl (passes_nothing m))
             (λ k n. reads_bind (reads_absent 91 refl n)
-            (λ c p f o. rw f (reads_second refl (ends_with edition o)))))));
+            (λ c p f o. rw f (reads_second refl (ends_with edition o))))))) refl;
       }
     where
       ends_with : (d : Edition) {p : ℕ} {left : List ℕ} → Left t p left →
-          Reads t (variants_end d true false) (variants_map (bytes_at t)) p no_variants left
+          Reads t (variants_end d true false) said p no_item left
       ends_with One o = reads_first refl (reads_gives refl o)
       ends_with Two o = reads_first refl (reads_gives refl o)
 
@@ -150,31 +164,29 @@ module _ (edition : Edition) (t : List ℕ) where
       (level : ℕ) (starred star : Bool) (key : KeyTree Text) (value : PatternTree Text) (vs : VariantTrees Text)
       (k : KeyTree Span) (v : Option (PatternTree Span)) (i : ℕ) (close more : Text) →
       list_all is_space close ≡ true → key_map (bytes_at t) k ≡ key →
-      option_map (pattern_map (bytes_at t)) v ≡ Some value →
-      VariantsBack edition t level (starred || star) vs → Left t i (variants_bytes level vs (close ++ (125 ∷ more))) →
-      Reads t (variant_and_more edition t (family edition t) starred star k v) (variants_map (bytes_at t)) i
-      (variants (variant key value star) vs) (125 ∷ more)
-  after_value level starred star key value vs k None i close more a e f h l = absurd cc
-  after_value level starred star key value vs k (Some v) i close more a e f h l =
+      option_map (pattern_map (bytes_at t)) v ≡ Some value → Left t i (variants_bytes level vs (close ++ (125 ∷ more))) →
+      Reads t (variant_of t starred star k v) said i (item (variant key value star) (starred || star))
+      (bare_bytes level vs close more)
+  after_value level starred star key value vs k None i close more a e f l = absurd cc
+  after_value level starred star key value vs k (Some v) i close more a e f l =
       passes_then (passes_indent level vs close more i a l)
-      (λ j m. reads_bind (h.back j close more a m)
-      (λ ws q g n. reads_gives (same_variants k v ws e (some_same f) g) n))
+      (λ j m. reads_gives (same_variant k v e (some_same f)) m)
     where
-      same_variants : (k : KeyTree Span) (v : PatternTree Span) (ws : VariantTrees Span) →
-          key_map (bytes_at t) k ≡ key → pattern_map (bytes_at t) v ≡ value → variants_map (bytes_at t) ws ≡ vs →
-          variants_map (bytes_at t) (variants (variant k v star) ws) ≡ variants (variant key value star) vs
-      same_variants k v ws e f g = cc
+      same_variant : (k : KeyTree Span) (v : PatternTree Span) → key_map (bytes_at t) k ≡ key →
+          pattern_map (bytes_at t) v ≡ value →
+          said (item (variant k v star) (starred || star)) ≡ item (variant key value star) (starred || star)
+      same_variant k v e f = cc
 
   -- a variant from its key on
   from_bracket :
       (level : ℕ) (starred star : Bool) (key : KeyTree Text) (value : PatternTree Text) (vs : VariantTrees Text) (i : ℕ)
       (close more : Text) → list_all is_space close ≡ true → key_obeys' key ≡ true →
-      PatternBack edition t level value → VariantsBack edition t level (starred || star) vs →
+      PatternBack edition t level value →
       Left t i (key_text key ++
       (93 ∷ pattern_bytes level value (lf ∷ variants_bytes level vs (close ++ (125 ∷ more))))) →
-      Reads t (variant_after edition t (family edition t) starred star) (variants_map (bytes_at t)) i
-      (variants (variant key value star) vs) (125 ∷ more)
-  from_bracket level starred star key value vs i close more a o p h l =
+      Reads t (variant_after edition t (family edition t) starred star) said i
+      (item (variant key value star) (starred || star)) (bare_bytes level vs close more)
+  from_bracket level starred star key value vs i close more a o p l =
       let b =
       key_begins key (93 ∷ pattern_bytes level value (lf ∷ variants_bytes level vs (close ++ (125 ∷ more)))) o in
       passes_then (passes_blanks [] _ refl (begins_other 32 b refl) (begins_other lf b refl) (begins_other cr b refl) l)
@@ -182,7 +194,7 @@ module _ (edition : Edition) (t : List ℕ) where
       passes_then (passes_blanks [] _ refl refl refl refl n) (λ r x. passes_then (passes_token 93 refl x) (λ y z.
       reads_bind (p.back y (variants_bytes level vs (close ++ (125 ∷ more)))
       (variants_bytes level vs (close ++ (125 ∷ more))) (stop (variants_stop level vs close more a)) z)
-      (λ v w f u. after_value level starred star key value vs k v w close more a e f h u)))))
+      (λ v w f u. after_value level starred star key value vs k v w close more a e f u)))))
 
   -- one more variant, which is not the default
   pub variant_back :
@@ -190,35 +202,34 @@ module _ (edition : Edition) (t : List ℕ) where
       key_obeys' key ≡ true → PatternBack edition t level value → VariantsBack edition t level starred vs →
       VariantsBack edition t level starred (variants (variant key value false) vs)
   variant_back level starred key value vs o p h = record {
-    back = λ i close more a l. reads_into (λ o x. into_more_variants edition t starred i o x)
+    back = λ i close more a l. reads_item {c = variant key value false} {q = starred || false}
         (reads_bind (reads_absent 42 refl l)
         (λ b j e m. rw e
         (passes_then (reads_second (and_false starred) (passes_nothing m))
         (λ k n. reads_bind (reads_present 91 refl n)
         (λ c q f x. rw f
-        (reads_first refl
-        (from_bracket level starred false key value vs q close more a o p (same_starred h) x)))))));
+        (reads_first refl (from_bracket level starred false key value vs q close more a o p x)))))))
+        (λ q j e m. (after_item level starred vs q (e ∙ or_false starred) h).back j close more a m)
+        (λ v ws f g. added v ws (variant key value false) vs f g);
   }
     where
-      or_false : (b : Bool) → b ≡ (b || false)
+      or_false : (b : Bool) → (b || false) ≡ b
       or_false true = refl
       or_false false = refl
-
-      same_starred : VariantsBack edition t level starred vs → VariantsBack edition t level (starred || false) vs
-      same_starred h = subst (λ b. VariantsBack edition t level b vs) (or_false starred) h
 
   -- the default
   pub default_back : (level : ℕ) (key : KeyTree Text) (value : PatternTree Text) (vs : VariantTrees Text) →
       key_obeys' key ≡ true → PatternBack edition t level value → VariantsBack edition t level true vs →
       VariantsBack edition t level false (variants (variant key value true) vs)
   default_back level key value vs o p h = record {
-    back = λ i close more a l. reads_into (λ o x. into_more_variants edition t false i o x)
+    back = λ i close more a l. reads_item {c = variant key value true} {q = true}
         (reads_bind (reads_present 42 refl l)
         (λ b j e m. rw e
         (passes_then (reads_second refl (passes_nothing m))
         (λ k n. reads_bind (reads_present 91 refl n)
-        (λ c q f x. rw f
-        (reads_first refl (from_bracket level false true key value vs q close more a o p h x)))))));
+        (λ c q f x. rw f (reads_first refl (from_bracket level false true key value vs q close more a o p x)))))))
+        (λ q j e m. (after_item level true vs q e h).back j close more a m)
+        (λ v ws f g. added v ws (variant key value true) vs f g);
   }
 
   -- ---- the select
@@ -250,7 +261,7 @@ module _ (edition : Edition) (t : List ℕ) where
       list_all is_space close ≡ true → inline_map (bytes_at t) v ≡ e → is_none (selector_fault e) ≡ true →
       VariantsBack edition t (level + 1) false vs →
       Left t i (45 ∷ 62 ∷ lf ∷ variants_bytes (level + 1) vs (close ++ (125 ∷ more))) →
-      Reads t (select_with t (family edition t) v (selector_fault v)) (expression_map (bytes_at t)) i (select e vs)
+      Reads t (select_with edition t (family edition t) v (selector_fault v)) (expression_map (bytes_at t)) i (select e vs)
       (125 ∷ more)
   from_arrow level e vs v i close more a f g h l =
       let none : selector_fault v ≡ None =
@@ -283,9 +294,8 @@ module _ (edition : Edition) (t : List ℕ) where
         let m =
         left_as (ap (λ x. inline_bytes level e (32 ∷ 45 ∷ 62 ∷ lf ∷ variants_bytes (level + 1) vs x))
         (sym (append_assoc (indent level) gap (125 ∷ more)))) l in
-        reads_bind (reads_into (λ o x. into_inline_expression edition t i o x)
-        (h.back i (32 ∷ []) (45 ∷ 62 ∷ lf ∷ variants_bytes (level + 1) vs (close ++ (125 ∷ more)))
-        (follows_arrow _) m)) (λ v j f n.
+        reads_bind (h.back i (32 ∷ []) (45 ∷ 62 ∷ lf ∷ variants_bytes (level + 1) vs (close ++ (125 ∷ more)))
+        (follows_arrow _) m) (λ v j f n.
         passes_then (passes_after edition t e (32 ∷ []) _ j (follows_arrow _) n)
         (λ p o. reads_look true (arrow_there p _ o)
         (reads_first refl (from_arrow level e vs v p close more spaces f g k o))));

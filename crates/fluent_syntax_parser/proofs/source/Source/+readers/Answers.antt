@@ -3,7 +3,7 @@ use Rattle.std.specs.Prelude.{◌==◌, ◌⊎◌}
 use Rattle.std.proofs.lemmas.Option.{gets}
 use Rattle.std.proofs.lemmas.Result.{err_from_is_err_and}
 use Rattle.fluent_syntax_tree.specs.Spans.{bytes_at}
-use Rattle.fluent_syntax_tree.specs.Tree.{variants}
+use Rattle.fluent_syntax_tree.specs.Tree.{no_variants, variants}
 use Rattle.fluent_syntax_tree.specs.View.{inline_view, variant_view}
 use Rattle.fluent_syntax_tree.specs.declared.ast.NamedArgument.{NamedArgument, roll-NamedArgument}
 use Rattle.fluent_syntax_tree.specs.declared.ast.Identifier.{Identifier}
@@ -15,15 +15,18 @@ use Rattle.fluent_syntax_tree.proofs.Views.{view-Variant, view-roll-CallArgument
 use Rattle.fluent_syntax_grammar.specs.Arguments.{argument_name, argument_value}
 use Rattle.fluent_syntax_grammar.specs.Bytes.{colon, greater_than}
 use Rattle.fluent_syntax_grammar.specs.Construct.{stops, goes_on, given, failed, passed, chosen, first, second}
-use Rattle.fluent_syntax_grammar.specs.Construct.{at_place, at_each}
-use Rattle.fluent_syntax_grammar.specs.Grammar.{family, call_arguments, expression, pattern, placeable}
-use Rattle.fluent_syntax_grammar.specs.Lines.{no_byte, other_line}
+use Rattle.fluent_syntax_grammar.specs.Construct.{at_place, at_each, list_ends, list_stops}
+use Rattle.fluent_syntax_grammar.specs.Grammar.{call_arguments, expression, family, inline_expression}
+use Rattle.fluent_syntax_grammar.specs.Grammar.{more_arguments, more_lines, more_pieces, more_variants, pattern}
+use Rattle.fluent_syntax_grammar.specs.Grammar.{placeable}
+use Rattle.fluent_syntax_grammar.specs.Lines.{next_line, next_piece, no_byte, other_line, own_line}
 use Rattle.fluent_syntax_grammar.specs.Patterns.{layout_at}
 use Rattle.fluent_syntax_grammar.specs.Places.{after_eol, has_byte}
 use Rattle.fluent_syntax_grammar.specs.Starts as starts
 use Rattle.fluent_syntax_grammar.specs.Starts.{start}
+use Rattle.fluent_syntax_grammar.specs.Variants.{next_variant}
 use Rattle.fluent_syntax_grammar.proofs.Facts.{has_inside, right_true}
-use Rattle.fluent_syntax_grammar.proofs.Nesting.{into_more_lines, into_more_variants}
+use Rattle.fluent_syntax_grammar.proofs.Nesting.{into_argument_list, into_expression}
 use Rattle.fluent_syntax_grammar.proofs.Shallow.{arguments_closed, arguments_stuck, block_led, brace_led, call_led}
 use Rattle.fluent_syntax_grammar.proofs.Shallow.{call_stuck, duplicate_led, expression_stuck, late_led, letter_led}
 use Rattle.fluent_syntax_grammar.proofs.Shallow.{letter_stuck, lines_led, lines_none, lines_other, lines_stuck}
@@ -52,7 +55,7 @@ use Rattle.fluent_syntax_parser.proofs.InlineStarts.{by_number, by_start, by_val
 use Rattle.fluent_syntax_parser.proofs.InlineStarts.{value_begins_not}
 use Rattle.fluent_syntax_parser.proofs.LineEndings.{by_eol, ends_line, ends_text}
 use Rattle.fluent_syntax_parser.proofs.Names.{none_named, some_named, some_names, used_in_order}
-use Rattle.fluent_syntax_parser.proofs.Pieces.{bare_brace, end_pieces, line_read, no_lines, no_pieces, own_lines}
+use Rattle.fluent_syntax_parser.proofs.Pieces.{bare_brace, end_pieces, line_read, no_lines, no_pieces}
 use Rattle.fluent_syntax_parser.proofs.Pieces.{placed_piece, run_piece, brace_stands, run_there}
 use Rattle.fluent_syntax_parser.proofs.Puts.{one_put}
 use Rattle.fluent_syntax_parser.proofs.Selects.{is_selector, no_selector}
@@ -266,7 +269,8 @@ get_placeable-returns-in_err-expression-clause-meets m c =
     rw (p.1, p.2) (λ k from to h.
     goes_on c.in_ok-start.ensures.meets
     (goes_on (passed c.skip_blank-start.ensures.blank)
-    (stops (c.in_err-expression.ensures.meets k from to h))))
+    (stops (into_expression c.args.edition c.args.self.now.bytes.now _ _
+    (c.in_err-expression.ensures.meets k from to h)))))
 
 pub get_placeable-returns-in_err-ptr-clause-meets : goal.get_placeable-returns-in_err-ptr-clause-meets
 get_placeable-returns-in_err-ptr-clause-meets m c =
@@ -274,7 +278,7 @@ get_placeable-returns-in_err-ptr-clause-meets m c =
     rw (p.1, p.2) (λ k from to h.
     goes_on c.in_ok-start.ensures.meets
     (goes_on (passed c.skip_blank-start.ensures.blank)
-    (goes_on c.in_ok-expression.ensures.meets
+    (goes_on (into_expression c.args.edition c.args.self.now.bytes.now _ _ c.in_ok-expression.ensures.meets)
     (goes_on (passed c.skip_blank_inline-ptr.ensures.blank)
     (stops (c.in_err-ptr.ensures.meets k from to h))))))
 
@@ -282,7 +286,7 @@ pub get_placeable-returns-clause-meets : goal.get_placeable-returns-clause-meets
 get_placeable-returns-clause-meets m c =
     goes_on c.in_ok-start.ensures.meets
     (goes_on (passed c.skip_blank-start.ensures.blank)
-    (goes_on c.in_ok-expression.ensures.meets
+    (goes_on (into_expression c.args.edition c.args.self.now.bytes.now _ _ c.in_ok-expression.ensures.meets)
     (goes_on (passed c.skip_blank_inline-ptr.ensures.blank)
     (goes_on c.in_ok-ptr.ensures.meets
     given))))
@@ -324,7 +328,7 @@ get_expression-returns-in-Some-clause-meets m c =
     (goes_on (passed c.skip_blank-ptr.ensures.blank)
     (goes_on (chosen given)
     (first (sym c.if-not-is_arrow.ensures)
-    (no_selector c.args.self.now.bytes.now (family c.args.edition c.args.self.now.bytes.now) _ _ _ is.0)))))
+    (no_selector c.args.edition c.args.self.now.bytes.now (family c.args.edition c.args.self.now.bytes.now) _ _ _ is.0)))))
 
 pub get_expression-returns-in_err-ptr-in-None-clause-meets : goal.get_expression-returns-in_err-ptr-in-None-clause-meets
 get_expression-returns-in_err-ptr-in-None-clause-meets m c =
@@ -336,7 +340,7 @@ get_expression-returns-in_err-ptr-in-None-clause-meets m c =
     (goes_on (passed c.skip_blank-ptr.ensures.blank)
     (goes_on (chosen given)
     (first (sym c.if-not-is_arrow.ensures)
-    (is_selector c.args.self.now.bytes.now (family c.args.edition c.args.self.now.bytes.now) _ _ _ is
+    (is_selector c.args.edition c.args.self.now.bytes.now (family c.args.edition c.args.self.now.bytes.now) _ _ _ is
     (stops
     (goes_on (passed (record { by = refl }))
     (goes_on (passed c.skip_blank_inline-ptr.ensures.blank)
@@ -353,7 +357,7 @@ get_expression-returns-in_err-variants-in-None-clause-meets m c =
     (goes_on (passed c.skip_blank-ptr.ensures.blank)
     (goes_on (chosen given)
     (first (sym c.if-not-is_arrow.ensures)
-    (is_selector c.args.self.now.bytes.now (family c.args.edition c.args.self.now.bytes.now) _ _ _ is
+    (is_selector c.args.edition c.args.self.now.bytes.now (family c.args.edition c.args.self.now.bytes.now) _ _ _ is
     (stops
     (goes_on (passed (record { by = refl }))
     (goes_on (passed c.skip_blank_inline-ptr.ensures.blank)
@@ -370,7 +374,7 @@ get_expression-returns-in_ok-variants-in-None-clause-meets m c =
     (goes_on (passed c.skip_blank-ptr.ensures.blank)
     (goes_on (chosen given)
     (first (sym c.if-not-is_arrow.ensures)
-    (is_selector c.args.self.now.bytes.now (family c.args.edition c.args.self.now.bytes.now) _ _ _ is
+    (is_selector c.args.edition c.args.self.now.bytes.now (family c.args.edition c.args.self.now.bytes.now) _ _ _ is
     (goes_on
     (goes_on (passed (record { by = refl }))
     (goes_on (passed c.skip_blank_inline-ptr.ensures.blank)
@@ -397,14 +401,16 @@ get_call_arguments-returns-in_err-arguments-clause-meets m c =
     (first c.if-not-bracket.false
     (stops
     (goes_on (passed c.skip_blank-start-2.ensures.blank)
-    (c.in_err-arguments.ensures.meets k from to h))))))
+    (into_argument_list c.args.edition c.args.self.now.bytes.now _ _
+    (c.in_err-arguments.ensures.meets k from to h)))))))
 
 pub get_call_arguments-returns-clause-meets : goal.get_call_arguments-returns-clause-meets
 get_call_arguments-returns-clause-meets m c =
     goes_on (passed c.skip_blank-start.ensures.blank)
     (goes_on c.take_byte_if-bracket.ensures.meets
     (first c.if-not-bracket.false
-    (goes_on (goes_on (passed c.skip_blank-start-2.ensures.blank) c.in_ok-arguments.ensures.meets)
+    (goes_on (goes_on (passed c.skip_blank-start-2.ensures.blank)
+    (into_argument_list c.args.edition c.args.self.now.bytes.now _ _ c.in_ok-arguments.ensures.meets))
     given)))
 
 -- ---- the value of a named argument
@@ -443,7 +449,7 @@ get_argument_value-returns-in_default m c = record {
 pub get_arguments-returns-then-place-self-clause-meets : goal.get_arguments-returns-then-place-self-clause-meets
 get_arguments-returns-then-place-self-clause-meets m c = λ k from to (a, b, d).
     rw (a, b, d) (c.loop-alloc.invariant.gathered.refused _ _ _
-    (list_open c.args.edition c.args.self.now.bytes.now _ _ (omega (arith, c.if-place-self.true))))
+    (list_stops (list_open c.args.edition c.args.self.now.bytes.now _ _ (omega (arith, c.if-place-self.true)))))
 
 pub get_arguments-returns-in_err-expression-clause-meets : goal.get_arguments-returns-in_err-expression-clause-meets
 get_arguments-returns-in_err-expression-clause-meets m c =
@@ -451,8 +457,9 @@ get_arguments-returns-in_err-expression-clause-meets m c =
     let p = err_from_is_err_and c.from_residual.result c.from_residual.ensures.1 in
     rw (p.1, p.2) (λ k from to h.
     c.loop-alloc.invariant.gathered.refused k from to
-    (inline_fails c.args.edition t _ _ (omega (arith, c.if-place-self.false, c.loop-alloc.invariant.within))
-    (sym c.loop-alloc-test.ensures) k from to (c.in_err-expression.ensures.meets k from to h)))
+    (list_stops (inline_fails c.args.edition t _ _
+    (omega (arith, c.if-place-self.false, c.loop-alloc.invariant.within)) (sym c.loop-alloc-test.ensures) k from to
+    (c.in_err-expression.ensures.meets k from to h))))
 
 pub get_arguments-returns-then-has_name-clause-meets : goal.get_arguments-returns-then-has_name-clause-meets
 get_arguments-returns-then-has_name-clause-meets m c =
@@ -462,10 +469,10 @@ get_arguments-returns-then-has_name-clause-meets m c =
     let used = used_in_order t (bytes_at t c.in-Some.name) names ∙ sym found in
     λ k from to (a, b, d).
     rw (a, b, d) (c.loop-alloc.invariant.gathered.refused _ _ _
-    (named c.args.edition t (names_in t names) _
+    (list_stops (named c.args.edition t (names_in t names) _
     (omega (arith, c.if-place-self.false, c.loop-alloc.invariant.within)) (sym c.loop-alloc-test.ensures) _ _
     c.in_ok-expression.ensures.meets c.in-Some.name (sym c.in-Some.ensures) (sym c.if-is_byte_at.ensures) _
-    (first used (failed refl))))
+    (first used (failed refl)))))
 
 pub get_arguments-skip_blank-start-requires : goal.get_arguments-skip_blank-start-requires
 get_arguments-skip_blank-start-requires m c = grind (arith, gets)
@@ -482,13 +489,13 @@ get_arguments-returns-in_err-value-in-Some-clause-meets m c =
     c.from_residual-in_err-value-in-Some.ensures.1 in
     rw (p.1, p.2) (λ k from to h.
     c.loop-alloc.invariant.gathered.refused k from to
-    (named c.args.edition t (names_in t names) _
+    (list_stops (named c.args.edition t (names_in t names) _
     (omega (arith, c.if-place-self.false, c.loop-alloc.invariant.within)) (sym c.loop-alloc-test.ensures) _ _
     c.in_ok-expression.ensures.meets c.in-Some.name (sym c.in-Some.ensures) mark _
     (second new
     (goes_on (token_there t colon _ mark)
     (goes_on (passed c.skip_blank-start.ensures.blank)
-    (stops (c.in_err-value-in-Some.ensures.meets k from to h)))))))
+    (stops (c.in_err-value-in-Some.ensures.meets k from to h))))))))
 
 pub get_arguments-returns-clause-meets : goal.get_arguments-returns-clause-meets
 unfolding family
@@ -503,7 +510,7 @@ get_arguments-returns-clause-meets m c =
       named = c.loop-alloc.named;
     })) in
     rw (← whole) (c.loop-alloc.invariant.gathered.read _ _
-    (list_closed c.args.edition c.args.self.now.bytes.now _ _ (sym c.loop-alloc-test.ensures)))
+    (list_ends (list_closed c.args.edition c.args.self.now.bytes.now _ _ (sym c.loop-alloc-test.ensures))))
 
 pub get_arguments-loop-alloc-preserved-then-is_byte_at : goal.get_arguments-loop-alloc-preserved-then-is_byte_at
 get_arguments-loop-alloc-preserved-then-is_byte_at m c =
@@ -562,10 +569,10 @@ get_arguments-returns-then-not-is_empty-clause-meets m c =
     let some = some_named _ old.named.items old.named.ok.0 c.if-not-is_empty.ensures in
     λ k from to (a, b, d).
     rw (a, b, d) (old.invariant.gathered.refused _ _ _
-    (positional c.args.edition t (names_in t old.named.items) old.place
+    (list_stops (positional c.args.edition t (names_in t old.named.items) old.place
     (omega (arith, c.if-place-self.false, old.invariant.within)) (sym c.loop-alloc-test.ensures) e _
     c.in_ok-expression.ensures.meets is _
-    (late c.args.edition t (names_in t old.named.items) e _ (some_names t old.named.items some))))
+    (late c.args.edition t (names_in t old.named.items) e _ (some_names t old.named.items some)))))
 
 pub get_arguments-loop-alloc-preserved : goal.get_arguments-loop-alloc-preserved
 get_arguments-loop-alloc-preserved m c =
@@ -677,7 +684,7 @@ pub get_variants-returns-then-star-clause-meets : goal.get_variants-returns-then
 get_variants-returns-then-star-clause-meets m c =
     λ k from to (a, b, d). rw (a, b, d)
     (c.loop-starred.invariant.gathered.refused _ _ _
-    (into_more_variants c.args.edition c.args.self.now.bytes.now c.loop-starred.starred _ _
+    (list_stops
     (goes_on c.take_byte_if-star.ensures.meets
     (stops
     (first (both c.if-starred.true c.if-star.true)
@@ -688,7 +695,7 @@ unfolding family
 get_variants-returns-then-has_default-clause-meets m c =
     rw (← put_all c.loop-starred.variants.items)
     (c.loop-starred.invariant.gathered.read _ _
-    (into_more_variants c.args.edition c.args.self.now.bytes.now c.loop-starred.starred _ _
+    (list_ends
     (goes_on c.take_byte_if-star.ensures.meets
     (goes_on (second (one_false _ _ c.else-starred.either) given)
     (goes_on c.take_byte_if-bracket.ensures.meets
@@ -700,7 +707,7 @@ pub get_variants-returns-then-not-bracket-clause-meets : goal.get_variants-retur
 get_variants-returns-then-not-bracket-clause-meets m c =
     λ k from to (a, b, d). rw (a, b, d)
     (c.loop-starred.invariant.gathered.refused _ _ _
-    (into_more_variants c.args.edition c.args.self.now.bytes.now c.loop-starred.starred _ _
+    (list_stops
     (goes_on c.take_byte_if-star.ensures.meets
     (goes_on (second (one_false _ _ c.else-starred.either) given)
     (goes_on c.take_byte_if-bracket.ensures.meets
@@ -713,7 +720,7 @@ get_variants-returns-in_err-key-clause-meets m c =
     let p = err_from_is_err_and c.from_residual.result c.from_residual.ensures.1 in
     rw (p.1, p.2) (λ k from to h.
     c.loop-starred.invariant.gathered.refused k from to
-    (into_more_variants c.args.edition c.args.self.now.bytes.now c.loop-starred.starred _ _
+    (list_stops
     (goes_on c.take_byte_if-star.ensures.meets
     (goes_on (second (one_false _ _ c.else-starred.either) given)
     (goes_on c.take_byte_if-bracket.ensures.meets
@@ -726,7 +733,7 @@ get_variants-returns-in_err-next-clause-meets m c =
     let p = err_from_is_err_and c.from_residual-in_err-next.result c.from_residual-in_err-next.ensures.1 in
     rw (p.1, p.2) (λ k from to h.
     c.loop-starred.invariant.gathered.refused k from to
-    (into_more_variants c.args.edition c.args.self.now.bytes.now c.loop-starred.starred _ _
+    (list_stops
     (goes_on c.take_byte_if-star.ensures.meets
     (goes_on (second (one_false _ _ c.else-starred.either) given)
     (goes_on c.take_byte_if-bracket.ensures.meets
@@ -741,7 +748,7 @@ get_variants-returns-in_err-value-clause-meets m c =
     let p = err_from_is_err_and c.from_residual-in_err-value.result c.from_residual-in_err-value.ensures.1 in
     rw (p.1, p.2) (λ k from to h.
     c.loop-starred.invariant.gathered.refused k from to
-    (into_more_variants c.args.edition c.args.self.now.bytes.now c.loop-starred.starred _ _
+    (list_stops
     (goes_on c.take_byte_if-star.ensures.meets
     (goes_on (second (one_false _ _ c.else-starred.either) given)
     (goes_on c.take_byte_if-bracket.ensures.meets
@@ -757,7 +764,7 @@ get_variants-returns-in_default-clause-meets m c =
     let none = rw c.in_default.is at c.in_ok-value.ensures.meets in
     λ k from to (a, b, d). rw (a, b, d)
     (c.loop-starred.invariant.gathered.refused _ _ _
-    (into_more_variants c.args.edition c.args.self.now.bytes.now c.loop-starred.starred _ _
+    (list_stops
     (goes_on c.take_byte_if-star.ensures.meets
     (goes_on (second (one_false _ _ c.else-starred.either) given)
     (goes_on c.take_byte_if-bracket.ensures.meets
@@ -793,11 +800,10 @@ get_variants-loop-starred-preserved m c =
           );
       within = c.skip_blank-place.ensures.within;
       gathered =
-          one_put (R.more_variants false) c.args.ptr (R.more_variants old.starred) _ (put_variants old.variants.items) _
-          (variants (variant_view (λ s. s) new)) old.place _ old.invariant.gathered
-          (put_added _ _ new c.in_ok-push.ensures.items)
-          (λ more end h. rw (view-Variant (λ x. x) new)
-          (into_more_variants c.args.edition c.args.self.now.bytes.now c.loop-starred.starred _ _
+          one_put (next_variant c.args.edition t R) variants no_variants (more_variants c.args.edition t false)
+          c.args.ptr (put_variants old.variants.items) _ (variant_view (λ s. s) new) old.starred _ old.place _
+          old.invariant.gathered (put_added _ _ new c.in_ok-push.ensures.items)
+          (rw (view-Variant (λ x. x) new)
           (goes_on c.take_byte_if-star.ensures.meets
           (goes_on (second (one_false _ _ c.else-starred.either) given)
           (goes_on c.take_byte_if-bracket.ensures.meets
@@ -808,21 +814,7 @@ get_variants-loop-starred-preserved m c =
           (goes_on c.in_ok-next.ensures.meets
           (goes_on value
           (goes_on (passed c.skip_blank-place.ensures.blank)
-          (goes_on h
-          given)))))))))))))
-          (λ k from to h.
-          into_more_variants c.args.edition c.args.self.now.bytes.now c.loop-starred.starred _ _
-          (goes_on c.take_byte_if-star.ensures.meets
-          (goes_on (second (one_false _ _ c.else-starred.either) given)
-          (goes_on c.take_byte_if-bracket.ensures.meets
-          (first c.if-not-bracket.false
-          (goes_on (passed c.skip_blank-start.ensures.blank)
-          (goes_on c.in_ok-key.ensures.meets
-          (goes_on (passed c.skip_blank-next.ensures.blank)
-          (goes_on c.in_ok-next.ensures.meets
-          (goes_on value
-          (goes_on (passed c.skip_blank-place.ensures.blank)
-          (stops h))))))))))));
+          given)))))))))));
       deeper = λ h. old.invariant.deeper
           (behind_variant
           (goes_on c.take_byte_if-star.ensures.meets
@@ -852,23 +844,22 @@ get_variants-loop-starred-preserved m c =
 pub get_pieces-returns-in-None-clause-meets : goal.get_pieces-returns-in-None-clause-meets
 get_pieces-returns-in-None-clause-meets m c =
     let t = c.args.self.now.bytes.now in
-    gathers.all (family c.args.edition t).more_pieces piece_view c.args.ptr _ _ _ c.loop-pieces.invariant.gathered
-    (end_pieces c.args.edition t _
-    (sym c.in-None.ensures))
+    gathers.all (more_pieces c.args.edition t) piece_view c.args.ptr _ _ _ c.loop-pieces.invariant.gathered
+    (list_ends (end_pieces c.args.edition t _ (sym c.in-None.ensures)))
 
 pub get_pieces-returns-then-is_eol_at-clause-meets : goal.get_pieces-returns-then-is_eol_at-clause-meets
 get_pieces-returns-then-is_eol_at-clause-meets m c =
     let t = c.args.self.now.bytes.now in
-    gathers.all (family c.args.edition t).more_pieces piece_view c.args.ptr _ _ _ c.loop-pieces.invariant.gathered
-    (no_pieces c.args.edition t _ _ (sym c.in-Some.ensures) (λ e. cc)
-    (sym c.if-is_eol_at.ensures))
+    gathers.all (more_pieces c.args.edition t) piece_view c.args.ptr _ _ _ c.loop-pieces.invariant.gathered
+    (list_ends (no_pieces c.args.edition t _ _ (sym c.in-Some.ensures) (λ e. cc) (sym c.if-is_eol_at.ensures)))
 
 pub get_pieces-returns-then-byte-eq125-clause-meets : goal.get_pieces-returns-then-byte-eq125-clause-meets
 get_pieces-returns-then-byte-eq125-clause-meets m c =
     let t = c.args.self.now.bytes.now in
     λ k from to (a, b, d). rw (a, b, d)
     (c.loop-pieces.invariant.gathered.refused _ _ _
-    (bare_brace c.args.edition t _ _ (sym c.in-Some.ensures) (sym c.if-is_eol_at.ensures) c.if-byte-eq125.true))
+    (list_stops (bare_brace c.args.edition t _ _ (sym c.in-Some.ensures) (sym c.if-is_eol_at.ensures)
+    c.if-byte-eq125.true)))
 
 pub get_pieces-returns-in_err-expression-in-Some-clause-meets :
     goal.get_pieces-returns-in_err-expression-in-Some-clause-meets
@@ -877,9 +868,10 @@ get_pieces-returns-in_err-expression-in-Some-clause-meets m c =
     let p = err_from_is_err_and c.from_residual.result c.from_residual.ensures.1 in
     rw (p.1, p.2) (λ k from to h.
     c.loop-pieces.invariant.gathered.refused k from to
-    (placed_piece c.args.edition t _ _ (sym c.in-Some.ensures) (sym c.if-is_eol_at.ensures) c.if-byte-eq123.true _
+    (list_stops (placed_piece c.args.edition t _ _ (sym c.in-Some.ensures) (sym c.if-is_eol_at.ensures)
+    c.if-byte-eq123.true _
     (stops
-    (c.in_err-expression-in-Some.ensures.meets k from to h))))
+    (c.in_err-expression-in-Some.ensures.meets k from to h)))))
 
 pub get_pieces-loop-pieces-preserved-then-byte-eq123 : goal.get_pieces-loop-pieces-preserved-then-byte-eq123
 get_pieces-loop-pieces-preserved-then-byte-eq123 m c =
@@ -889,16 +881,10 @@ get_pieces-loop-pieces-preserved-then-byte-eq123 m c =
       forward = omega (arith, c.loop-pieces.invariant.forward, read.within.0);
       within = read.within.1;
       gathered =
-          gathers.one_more (family c.args.edition t).more_pieces piece_view c.args.ptr _ _ _ _ _
+          gathers.one_item (next_piece t (family c.args.edition t)) piece_view c.args.ptr _ _ _ _ _
           c.in_ok-push-in-Some.ensures.items c.loop-pieces.invariant.gathered
-          (λ more end h. placed_piece c.args.edition t _ _ (sym c.in-Some.ensures) (sym c.if-is_eol_at.ensures)
-          c.if-byte-eq123.true _
-          (goes_on read.meets
-          (goes_on h given)))
-          (λ k from to h. placed_piece c.args.edition t _ _ (sym c.in-Some.ensures) (sym c.if-is_eol_at.ensures)
-          c.if-byte-eq123.true _
-          (goes_on read.meets
-          (stops h)));
+          (placed_piece c.args.edition t _ _ (sym c.in-Some.ensures) (sym c.if-is_eol_at.ensures) c.if-byte-eq123.true
+          _ (goes_on read.meets given));
       deeper = λ h. c.loop-pieces.invariant.deeper (behind_placeable read.meets h);
       shallow = λ h. not_first read.shallow
           (placed_led c.args.edition t _ _ read.meets (c.loop-pieces.invariant.shallow h));
@@ -912,20 +898,10 @@ get_pieces-loop-pieces-preserved m c =
       forward = omega (arith, c.loop-pieces.invariant.forward, run.forward);
       within = c.run_end-to.ensures.within;
       gathered =
-          gathers.one_more (family c.args.edition t).more_pieces piece_view c.args.ptr _ _ _ _ _
+          gathers.one_item (next_piece t (family c.args.edition t)) piece_view c.args.ptr _ _ _ _ _
           c.in_ok-push-in-Some-2.ensures.items c.loop-pieces.invariant.gathered
-          (λ more end h. run_piece c.args.edition t _ _ (sym c.in-Some.ensures) (sym c.if-is_eol_at.ensures)
-          c.if-byte-eq125.false c.if-byte-eq123.false _
-          (goes_on at_place
-          (goes_on (passed run)
-          (goes_on at_place
-          (goes_on h given)))))
-          (λ k from to h. run_piece c.args.edition t _ _ (sym c.in-Some.ensures) (sym c.if-is_eol_at.ensures)
-          c.if-byte-eq125.false c.if-byte-eq123.false _
-          (goes_on at_place
-          (goes_on (passed run)
-          (goes_on at_place
-          (stops h)))));
+          (run_piece c.args.edition t _ _ (sym c.in-Some.ensures) (sym c.if-is_eol_at.ensures) c.if-byte-eq125.false
+          c.if-byte-eq123.false _ run);
       deeper = λ h. c.loop-pieces.invariant.deeper
           (behind_run (run_there c.args.edition t _ _ (sym c.in-Some.ensures) (sym c.if-is_eol_at.ensures)
           c.if-byte-eq125.false c.if-byte-eq123.false) run h);
@@ -939,17 +915,14 @@ get_pieces-loop-pieces-preserved m c =
 pub get_lines-returns-in-None-clause-meets : goal.get_lines-returns-in-None-clause-meets
 get_lines-returns-in-None-clause-meets m c =
     let t = c.args.self.now.bytes.now in
-    gathers.all (family c.args.edition t).more_lines line_view c.args.ptr _ _ _ c.loop-lines.invariant.gathered
-    (into_more_lines c.args.edition t _ _
-    (no_byte c.skip_blank_inline-first.ensures.blank
-    (sym c.in-None.ensures)))
+    gathers.all (more_lines c.args.edition t) line_view c.args.ptr _ _ _ c.loop-lines.invariant.gathered
+    (list_ends (no_byte c.skip_blank_inline-first.ensures.blank (sym c.in-None.ensures)))
 
 pub get_lines-returns-then-not-belongs-clause-meets : goal.get_lines-returns-then-not-belongs-clause-meets
 get_lines-returns-then-not-belongs-clause-meets m c =
     let t = c.args.self.now.bytes.now in
-    gathers.all (family c.args.edition t).more_lines line_view c.args.ptr _ _ _ c.loop-lines.invariant.gathered
-    (into_more_lines c.args.edition t _ _
-    (other_line c.skip_blank_inline-first.ensures.blank (sym c.in-Some.ensures)
+    gathers.all (more_lines c.args.edition t) line_view c.args.ptr _ _ _ c.loop-lines.invariant.gathered
+    (list_ends (other_line c.skip_blank_inline-first.ensures.blank (sym c.in-Some.ensures)
     (sym c.if-not-belongs.ensures)))
 
 pub get_lines-returns-in_err-pieces-in-Some-clause-meets : goal.get_lines-returns-in_err-pieces-in-Some-clause-meets
@@ -959,33 +932,25 @@ get_lines-returns-in_err-pieces-in-Some-clause-meets m c =
     let blank = c.skip_blank_inline-first.ensures.blank in
     rw (p.1, p.2) (λ k from to h.
     c.loop-lines.invariant.gathered.refused k from to
-    (own_lines c.args.edition t _ _ _ blank (sym c.in-Some.ensures) (sym c.if-not-belongs.ensures) _
+    (list_stops (own_line blank (sym c.in-Some.ensures) (sym c.if-not-belongs.ensures)
     (stops
     (goes_on at_place
     (goes_on (passed blank)
     (goes_on at_place
     (stops
-    (c.in_err-pieces-in-Some.ensures.meets k from to h))))))))
+    (c.in_err-pieces-in-Some.ensures.meets k from to h)))))))))
 
 pub get_lines-returns-in-None-eol_end-clause-meets : goal.get_lines-returns-in-None-eol_end-clause-meets
 get_lines-returns-in-None-eol_end-clause-meets m c =
     let t = c.args.self.now.bytes.now in
-    let list = (family c.args.edition t).more_lines in
     let blank = c.skip_blank_inline-first.ensures.blank in
     let pieces = c.in_ok-pieces-in-Some.ensures in
     let none = sym c.in-None-eol_end.ensures.eol in
-    let read = line_read c.args.edition t _ _ _ blank (sym c.in-Some.ensures) (sym c.if-not-belongs.ensures) _ _ _ _
-    pieces.meets
-    (ends_text t _ none) in
-    let gathered = gathers.one_more list line_view c.args.ptr _ _ _ _ _ c.in_ok-push-in-None-eol_end.ensures.items
-    c.loop-lines.invariant.gathered
-    (λ more end h. own_lines c.args.edition t _ _ _ blank (sym c.in-Some.ensures) (sym c.if-not-belongs.ensures) _
-    (goes_on read
-    (goes_on h given)))
-    (λ k from to h. own_lines c.args.edition t _ _ _ blank (sym c.in-Some.ensures) (sym c.if-not-belongs.ensures) _
-    (goes_on read
-    (stops h))) in
-    gathers.all list line_view c.args.ptr _ _ _ gathered
+    let read = line_read c.args.edition t _ _ blank _ _ _ _ pieces.meets (ends_text t _ none) in
+    let gathered = gathers.one_item (next_line t (family c.args.edition t)) line_view c.args.ptr _ _ _ _ _
+    c.in_ok-push-in-None-eol_end.ensures.items c.loop-lines.invariant.gathered
+    (own_line blank (sym c.in-Some.ensures) (sym c.if-not-belongs.ensures) (goes_on read given)) in
+    gathers.all (more_lines c.args.edition t) line_view c.args.ptr _ _ _ gathered
     (no_lines c.args.edition t _
     (pieces.stops
     (after_none t _ none)))
@@ -993,28 +958,18 @@ get_lines-returns-in-None-eol_end-clause-meets m c =
 pub get_lines-loop-lines-preserved : goal.get_lines-loop-lines-preserved
 get_lines-loop-lines-preserved m c =
     let t = c.args.self.now.bytes.now in
-    let list = (family c.args.edition t).more_lines in
     let blank = c.skip_blank_inline-first.ensures.blank in
     let pieces = c.in_ok-pieces-in-Some.ensures in
     let eol = c.in-Some-eol_end.ensures in
-    let read = line_read c.args.edition t _ _ _ blank (sym c.in-Some.ensures) (sym c.if-not-belongs.ensures) _ _ _ _
-    pieces.meets
-    (ends_line t _ _
-    (sym eol.eol)) in
+    let read = line_read c.args.edition t _ _ blank _ _ _ _ pieces.meets (ends_line t _ _ (sym eol.eol)) in
     record {
       forward = omega (arith, c.loop-lines.invariant.forward, blank.forward, pieces.within.0, eol.within.0);
       within = eol.within.1;
       gathered =
-          gathers.one_more list line_view c.args.ptr _ _ _ _ _ c.in_ok-push-in-Some-eol_end.ensures.items
-          c.loop-lines.invariant.gathered
-          (λ more end h. rw c.ending_at-ending.ensures
-          (own_lines c.args.edition t _ _ _ blank (sym c.in-Some.ensures) (sym c.if-not-belongs.ensures) _
-          (goes_on read
-          (goes_on h given))))
-          (λ k from to h. own_lines c.args.edition t _ _ _ blank (sym c.in-Some.ensures) (sym c.if-not-belongs.ensures)
-          _
-          (goes_on read
-          (stops h)));
+          gathers.one_item (next_line t (family c.args.edition t)) line_view c.args.ptr _ _ _ _ _
+          c.in_ok-push-in-Some-eol_end.ensures.items c.loop-lines.invariant.gathered
+          (rw c.ending_at-ending.ensures
+          (own_line blank (sym c.in-Some.ensures) (sym c.if-not-belongs.ensures) (goes_on read given)));
       deeper = λ h. c.loop-lines.invariant.deeper
           (behind_line _ (record {
             byte = _;
@@ -1438,7 +1393,7 @@ get_expression-returns-in_err-expression-clause-shallow m c =
     let t = c.args.self.now.bytes.now in
     let edition = c.args.edition in
     let p = err_from_is_err_and c.from_residual.result c.from_residual.ensures.1 in
-    rw (p.1, p.2) (falls t (family edition t).inline_expression _ _ _ _ c.in_err-expression.ensures.meets
+    rw (p.1, p.2) (falls t (inline_expression edition t) _ _ _ _ c.in_err-expression.ensures.meets
     (λ k from to r e. expression_stuck edition t k from to r e)
     c.in_err-expression.ensures.shallow)
 
@@ -1489,7 +1444,7 @@ get_expression-returns-in_err-variants-in-None-clause-shallow m c =
     let edition = c.args.edition in
     let p = err_from_is_err_and c.from_residual-in_err-variants-in-None.result
     c.from_residual-in_err-variants-in-None.ensures.1 in
-    rw (p.1, p.2) (falls t ((family edition t).more_variants false) _ _ _ _ c.in_err-variants-in-None.ensures.meets
+    rw (p.1, p.2) (falls t (more_variants edition t false) _ _ _ _ c.in_err-variants-in-None.ensures.meets
     (λ k from to r e. not_first c.in_ok-expression.ensures.shallow
     (select_led edition t _ _ _ c.in_ok-expression.ensures.meets c.skip_blank-ptr.ensures.blank
     (goes_on (passed (record { by = refl }))
@@ -1527,7 +1482,7 @@ get_call_arguments-returns-in_err-arguments-clause-shallow m c =
     let t = c.args.self.now.bytes.now in
     let edition = c.args.edition in
     let p = err_from_is_err_and c.from_residual.result c.from_residual.ensures.1 in
-    rw (p.1, p.2) (falls t ((family edition t).more_arguments []) _ _ _ _ c.in_err-arguments.ensures.meets
+    rw (p.1, p.2) (falls t (more_arguments edition t []) _ _ _ _ c.in_err-arguments.ensures.meets
     (λ k from to r e. (call_led edition t {n = c.args.nesting} {m = c.args.nesting - 1} (omega (
       arith,
       c.if-nesting-eq0.false,
@@ -1555,7 +1510,7 @@ get_argument_value-returns-in_err-value-in-Quote-clause-shallow m c =
     let t = c.args.self.now.bytes.now in
     let edition = c.args.edition in
     let p = err_from_is_err_and c.from_residual.result c.from_residual.ensures.1 in
-    rw (p.1, p.2) (falls t (family edition t).inline_expression _ _ _ _ c.in_err-value-in-Quote.ensures.meets
+    rw (p.1, p.2) (falls t (inline_expression edition t) _ _ _ _ c.in_err-value-in-Quote.ensures.meets
     (λ k from to r e. value_led edition t e)
     c.in_err-value-in-Quote.ensures.shallow)
 
@@ -1578,7 +1533,7 @@ get_arguments-returns-in_err-expression-clause-shallow m c =
     let t = c.args.self.now.bytes.now in
     let edition = c.args.edition in
     let p = err_from_is_err_and c.from_residual.result c.from_residual.ensures.1 in
-    rw (p.1, p.2) (falls t (family edition t).inline_expression _ _ _ _ c.in_err-expression.ensures.meets
+    rw (p.1, p.2) (falls t (inline_expression edition t) _ _ _ _ c.in_err-expression.ensures.meets
     (λ k from to r e. arguments_stuck edition t k from to _ r (c.loop-alloc.invariant.shallow e))
     c.in_err-expression.ensures.shallow)
 
@@ -1636,7 +1591,7 @@ get_layout-returns-in_err-lines-in-Some-clause-shallow m c =
     let t = c.args.self.now.bytes.now in
     let edition = c.args.edition in
     let p = err_from_is_err_and c.from_residual.result c.from_residual.ensures.1 in
-    rw (p.1, p.2) (falls t (family edition t).more_lines _ _ _ _ c.in_err-lines-in-Some.ensures.meets
+    rw (p.1, p.2) (falls t (more_lines edition t) _ _ _ _ c.in_err-lines-in-Some.ensures.meets
     (λ k from to r e. block_led edition t _ _ (sym c.in-Some.ensures.eol) c.skip_blank_block-first.ensures.blank e)
     c.in_err-lines-in-Some.ensures.shallow)
 
@@ -1654,7 +1609,7 @@ get_layout-returns-in_err-pieces-in-None-clause-shallow m c =
     let edition = c.args.edition in
     let p = err_from_is_err_and c.from_residual-in_err-pieces-in-None.result
     c.from_residual-in_err-pieces-in-None.ensures.1 in
-    rw (p.1, p.2) (falls t (family edition t).more_pieces _ _ _ _ c.in_err-pieces-in-None.ensures.meets
+    rw (p.1, p.2) (falls t (more_pieces edition t) _ _ _ _ c.in_err-pieces-in-None.ensures.meets
     (λ k from to r e. opening_stuck edition t k from to (sym c.in-None.ensures.eol) r e)
     c.in_err-pieces-in-None.ensures.shallow)
 
@@ -1665,7 +1620,7 @@ get_layout-returns-in_err-lines-in-None-clause-shallow m c =
     let edition = c.args.edition in
     let p = err_from_is_err_and c.from_residual-in_err-lines-in-None.result
     c.from_residual-in_err-lines-in-None.ensures.1 in
-    rw (p.1, p.2) (falls t (family edition t).more_lines _ _ _ _ c.in_err-lines-in-None.ensures.meets
+    rw (p.1, p.2) (falls t (more_lines edition t) _ _ _ _ c.in_err-lines-in-None.ensures.meets
     (λ k from to r e. not_first c.in_ok-pieces-in-None.ensures.shallow
     (opening_led edition t _ _ _ _ (sym c.in-None.ensures.eol) c.in_ok-pieces-in-None.ensures.meets
     c.get_ending-ending.ensures.meets e))
@@ -1847,7 +1802,7 @@ get_lines-returns-in_err-pieces-in-Some-clause-shallow m c =
     let t = c.args.self.now.bytes.now in
     let edition = c.args.edition in
     let p = err_from_is_err_and c.from_residual.result c.from_residual.ensures.1 in
-    rw (p.1, p.2) (falls t (family edition t).more_pieces _ _ _ _ c.in_err-pieces-in-Some.ensures.meets
+    rw (p.1, p.2) (falls t (more_pieces edition t) _ _ _ _ c.in_err-pieces-in-Some.ensures.meets
     (λ k from to r e. lines_stuck edition t _ c.skip_blank_inline-first.ensures.blank k from to r
     (c.loop-lines.invariant.shallow e))
     c.in_err-pieces-in-Some.ensures.shallow)

@@ -1,5 +1,5 @@
 use Rattle.std.proofs.Common.{◌+◌, ◌*◌, length, ◌-◌, ◌≤◌, [], false}
-use Rattle.fluent_syntax_grammar.specs.Grammar.{family}
+use Rattle.fluent_syntax_grammar.specs.Grammar.{more_arguments, more_lines, more_pieces, more_variants}
 use Rattle.fluent_syntax_grammar.specs.Nesting.{Deeper, in_arguments, in_lines, in_pieces, in_variants}
 use Rattle.fluent_syntax_parser.specs.Lines.{line_view, piece_view}
 use Rattle.fluent_syntax_parser.specs.Gathered.{names_in}
@@ -59,7 +59,7 @@ invariant-get_arguments-loop-alloc l =
       forward : l.ptr ≤ l.place;
       within : l.place ≤ length t;
       gathered :
-          Puts ((family l.edition t).more_arguments (names_in t l.named.items)) ((family l.edition t).more_arguments [])
+          Puts (more_arguments l.edition t (names_in t l.named.items)) (more_arguments l.edition t [])
           (put_arguments l.positional.items l.named.items) l.ptr l.place;
       deeper : Deeper l.edition t (in_arguments (names_in t l.named.items)) l.nesting l.place →
           Deeper l.edition t (in_arguments []) l.nesting l.ptr;
@@ -77,7 +77,7 @@ invariant-get_variants-loop-starred l =
       forward : l.ptr ≤ l.place;
       within : l.place ≤ length t;
       gathered :
-          Puts ((family l.edition t).more_variants l.starred) ((family l.edition t).more_variants false)
+          Puts (more_variants l.edition t l.starred) (more_variants l.edition t false)
           (put_variants l.variants.items) l.ptr l.place;
       deeper : Deeper l.edition t (in_variants l.starred) l.nesting l.place →
           Deeper l.edition t (in_variants false) l.nesting l.ptr;
@@ -94,7 +94,7 @@ invariant-get_pieces-loop-pieces l =
     record {
       forward : l.ptr ≤ l.place;
       within : l.place ≤ length t;
-      gathered : Gathers (family l.edition t).more_pieces piece_view l.ptr l.pieces.items l.place;
+      gathered : Gathers (more_pieces l.edition t) piece_view l.ptr l.pieces.items l.place;
       deeper : Deeper l.edition t in_pieces l.nesting l.place → Deeper l.edition t in_pieces l.nesting l.ptr;
       shallow : Deeper l.edition t in_pieces l.nesting l.ptr → Deeper l.edition t in_pieces l.nesting l.place;
     }
@@ -108,7 +108,7 @@ invariant-get_lines-loop-lines l =
     record {
       forward : l.ptr ≤ l.start;
       within : l.start ≤ length t;
-      gathered : Gathers (family l.edition t).more_lines line_view l.ptr l.lines.items l.start;
+      gathered : Gathers (more_lines l.edition t) line_view l.ptr l.lines.items l.start;
       deeper : Deeper l.edition t in_lines l.nesting l.start → Deeper l.edition t in_lines l.nesting l.ptr;
       shallow : Deeper l.edition t in_lines l.nesting l.ptr → Deeper l.edition t in_lines l.nesting l.start;
     }

@@ -1,6 +1,6 @@
 use Rattle.std.proofs.Common.{[], ◌∙◌, subst, sym}
 use Rattle.fluent_syntax_grammar.specs.Construct.{Read}
-use Rattle.fluent_syntax_grammar.specs.Grammar.{family}
+use Rattle.fluent_syntax_grammar.specs.Grammar.{more_lines}
 use Rattle.fluent_syntax_grammar.specs.Places.{BlankBlock}
 use Rattle.fluent_syntax_grammar.proofs.Facts.{some_same}
 use Rattle.fluent_syntax_grammar.proofs.Functional.{single_block}
@@ -28,7 +28,7 @@ returns-in_err-end-clause-stands c = λ next first end eol block lines.
     let there = subst (λ k. BlankBlock t k first) here block in
     let same = single_block.same _ _ _ there c.skip_blank_block.ensures.blank in
     absurd (c.in_err-end.ensures.stands end
-    (subst (λ k. (family c.args.edition t).more_lines k (Read [] end)) same lines))
+    (subst (λ k. more_lines c.args.edition t k (Read [] end)) same lines))
 
 pub returns-clause-stands : goal.returns-clause-stands
 returns-clause-stands c = λ next first end eol block lines.
@@ -37,4 +37,4 @@ returns-clause-stands c = λ next first end eol block lines.
     let there = subst (λ k. BlankBlock t k first) here block in
     let same = single_block.same _ _ _ there c.skip_blank_block.ensures.blank in
     c.in_ok-end.ensures.stands end
-    (subst (λ k. (family c.args.edition t).more_lines k (Read [] end)) same lines)
+    (subst (λ k. more_lines c.args.edition t k (Read [] end)) same lines)
