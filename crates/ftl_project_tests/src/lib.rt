@@ -1,0 +1,5 @@
+//! Tests of runs over files: what is shown of an error, what becomes of a file, and what a run tells.
+#![tactic(auto)]
+
+#[cfg(test)]
+mod excerpts;
