@@ -18,11 +18,13 @@ say() { printf 'ftl: %s\n' "$*" >&2; }
 # Says why there is no program, and ends with a status of its own.
 fail() { say "$*"; exit 70; }
 
-# The sources of the crates, which are set, each with its size and the time of its last change.
+# The sources of the crates, which are set, each with its size and the time of its last change; for a shell of its own.
 listing() {
-    local crate folders=()
-    for crate in "${crates[@]}"; do folders+=("$top/crates/$crate"/{src,specs,proofs}); done
-    find "$top/crates.txt" "${folders[@]}" -type f -printf '%P %s %C@\n' 2>/dev/null || true
+    local crate part folders=()
+    for crate in "${crates[@]}"; do
+        for part in src specs proofs; do [ ! -d "$top/crates/$crate/$part" ] || folders+=("$top/crates/$crate/$part"); done
+    done
+    exec find "$top/crates.txt" "${folders[@]}" -type f -printf '%P %s %C@\n'
 }
 
 # Whether the program was built from sources of the sizes and times of those that are there.
