@@ -11,5 +11,5 @@ mod watched;
 pub use answers::{answer, answer_within};
 pub use command::{Command, usage};
 pub use outcome::{Outcome, RunFault};
-pub use runs::run;
+pub use runs::{run, run_within};
 pub use watched::Watched;

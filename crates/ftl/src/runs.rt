@@ -2,13 +2,15 @@
 ghost use Rattle.std.specs.Prelude.{◌≡◌, ◌⊎◌, ◌++◌, ℕ, List, true, false, IfOk, IfErr, OnOk, OnErr, IfSome, Err, ◌≢◌};
 ghost use Rattle.std.specs.Prelude.{◌<◌, length, vec_len};
 ghost use Rattle.std.specs.Io.KnownBytes.{Appends};
+ghost use Rattle.ftl.specs.Answer.{ReadsDeeper};
 ghost use Rattle.ftl.specs.Watched.{inner_of, has_failed};
 ghost use Rattle.ftl.specs.Run.{FailsAs, AppendsBeginning, WritesAnswer};
 
-use crate::answers::answer;
+use crate::answers::{answer, answer_within};
 use crate::command::Command;
 use crate::outcome::{Outcome, RunFault};
 use crate::watched::Watched;
+use fluent_syntax::parser::TooDeep;
 use std::alloc::Global;
 use std::io::{Read, Write};
 
@@ -38,6 +40,42 @@ pub fn run<R: Read, W: Write>(
     let (text, outcome) = answer(alloc, command, input.as_slice())?;
     write_all(writer, text.as_bytes())?;
     Ok(outcome)
+}
+
+/// What `run` does, if the placeables and argument lists of the input nest at most `nesting` deep.
+///
+/// `TooDeep` where they nest deeper; then nothing was written. The stack that reading takes is bounded by `nesting`.
+pub fn run_within<R: Read, W: Write>(
+    alloc: Global,
+    command: Command,
+    nesting: usize,
+    reader: &mut Watched<R>,
+    writer: &mut Watched<W>,
+) -> Result<Result<Outcome, RunFault>, TooDeep>
+    requires reader { has_failed reader.old ≡ false }
+    requires writer { has_failed writer.old ≡ false }
+    ensures text { IfOk result (λ ended. WritesAnswer command (R.remaining (inner_of reader.old))
+        (W.contents (inner_of writer.old)) (W.contents (inner_of writer.new)) ended) }
+    ensures faults { IfOk result (λ ended. FailsAs (R.remaining (inner_of reader.old)) (has_failed reader.new)
+        (has_failed writer.new) ended) }
+    ensures unwritten { IfOk result (λ ended. (ended ≡ Err RunFault.Input) ⊎ (ended ≡ Err RunFault.Memory)
+        → writer.new ≡ writer.old) }
+    ensures deep { OnErr result (writer.new ≡ writer.old) }
+    ensures deeper { OnErr result (IfSome (R.remaining (inner_of reader.old)) (λ bytes. ReadsDeeper command bytes nesting)) }
+    ensures shallow { IfOk result (λ ended. IfOk ended (λ _. IfSome (R.remaining (inner_of reader.old))
+        (λ bytes. ReadsDeeper command bytes nesting → ⊥))) }
+{
+    let input = match read_all(alloc, reader) {
+        Ok(input) => input,
+        Err(fault) => return Ok(Err(fault)),
+    };
+    match answer_within(alloc, command, input.as_slice(), nesting)? {
+        Ok((text, outcome)) => match write_all(writer, text.as_bytes()) {
+            Ok(()) => Ok(Ok(outcome)),
+            Err(fault) => Ok(Err(fault)),
+        },
+        Err(fault) => Ok(Err(fault)),
+    }
 }
 
 /// All that the reader gives, up to its end.

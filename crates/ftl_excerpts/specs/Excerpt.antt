@@ -69,7 +69,11 @@ abbrev pub below_char : ℕ → List ℕ
 below_char c =
     if c == 9 then 9 ∷ [] else if is_hidden c then 32 ∷ [] else replicate (unwrap_or (char_width false c) 0) 32
 
--- the same of the characters of a text that are shown
+-- a whole text, as it is shown
+abbrev pub shown_text : List ℕ → List ℕ
+shown_text t = flat_map shown_char (chars t)
+
+-- the same of the characters of a text that are in its window
 abbrev pub shown : (start : ℕ) → List ℕ → List ℕ
 shown start t = flat_map shown_char (windowed start t)
 

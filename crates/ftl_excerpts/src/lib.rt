@@ -6,3 +6,4 @@ mod line;
 mod shown;
 
 pub use excerpt::push_excerpt;
+pub use shown::push_shown_text;

@@ -1,6 +1,6 @@
 //! How a text is shown in a terminal, and what stands below it.
 ghost use Rattle.std.specs.Prelude.{◌≡◌, ◌++◌, ◌≤◌, OnOk, chars, length, replicate, string_bytes};
-ghost use Rattle.ftl_excerpts.specs.Excerpt.{below, below_char, is_hidden, shown, shown_char, window, window_start};
+ghost use Rattle.ftl_excerpts.specs.Excerpt.{below, below_char, is_hidden, shown, shown_char, shown_text, window, window_start};
 
 use std::alloc::AllocError;
 use unicode_width::UnicodeWidthChar;
@@ -20,6 +20,19 @@ pub(crate) fn push_shown(out: &mut String, text: &str, start: usize) -> Result<(
     ensures { OnOk result (string_bytes out.new ≡ string_bytes out.old ++ shown start text.now) }
 {
     for c in text.chars().skip(start).take(WINDOW) {
+        push_shown_char(out, c)?;
+    }
+    Ok(())
+}
+
+/// Adds the whole text, with U+FFFD for each control character but the tab, line ends among them: a name of a file may have
+/// any.
+///
+/// `AllocError`: a growth was refused; what was added until then stays.
+pub fn push_shown_text(out: &mut String, text: &str) -> Result<(), AllocError>
+    ensures { OnOk result (string_bytes out.new ≡ string_bytes out.old ++ shown_text text.now) }
+{
+    for c in text.chars() {
         push_shown_char(out, c)?;
     }
     Ok(())

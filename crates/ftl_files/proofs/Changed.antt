@@ -1,0 +1,47 @@
+-- One change more in memory.
+use Rattle.std.proofs.Common.{◌≡◌, ◌⊎◌, ◌∙◌, ◌≤◌, ℕ, zero, suc, List, ◌∷◌, Option, Some, Bool, true, false, Decides, arith, bytes_eq, inl, inr, ⊎_elim, length, refl, string_bytes, subst, sym, if◌then◌else◌}
+use Rattle.std.proofs.lemmas.Slice.Eq.{bytes_eq-Decides}
+use Rattle.ftl_files.specs.Files.{Changes, GoesOn}
+use Rattle.ftl_files.specs.Memory.{bytes_at, bytes_of, files_of}
+use Rattle.ftl_files.specs.declared.memory.Change.{Change}
+
+by_test : (test : Bool) (path at : List ℕ) (came was : Option (List ℕ)) → Decides test (path ≡ at) →
+    ((path ≡ at) × ((if test then came else was) ≡ came)) ⊎ ((if test then came else was) ≡ was)
+by_test true path at came was is = inl (is.0 refl, refl)
+by_test false path at came was is = inr refl
+
+module _ (change : Change) (before : List Change) where
+  -- what stands at a path is what the change has left there, or what stood there
+  pub newest : (path : List ℕ) → ((path ≡ string_bytes change.path) × (bytes_at (change ∷ before) path ≡ bytes_of change.bytes))
+      ⊎ (bytes_at (change ∷ before) path ≡ bytes_at before path)
+  newest path = by_test (bytes_eq path (string_bytes change.path)) path (string_bytes change.path) (bytes_of change.bytes)
+      (bytes_at before path) (bytes_eq-Decides path (string_bytes change.path))
+
+  module _ (changes : Changes)
+      (comes : (path : List ℕ) (left : Option (List ℕ)) → path ≡ string_bytes change.path → left ≡ bytes_of change.bytes →
+      changes path left) where
+    since : (t : ℕ) (path : List ℕ) (left : Option (List ℕ)) → t ≤ length before →
+        (files_of (change ∷ before)).left_since t path left → (files_of before).left_since t path left ⊎ changes path left
+    since t path left le (zero, within, is) = ⊎_elim
+        (λ came. inr (comes path left came.0 (is ∙ came.1)))
+        (λ same. inl (0, omega (arith, le), is ∙ same)) (newest path)
+    since t path left le (suc undone, within, is) = inl (undone, omega (arith, within), is)
+
+    pub changed : GoesOn (files_of before) (files_of (change ∷ before)) changes
+    changed = record {
+      later = omega arith;
+      bytes = λ path. ⊎_elim (λ came. inr (comes path _ came.0 came.1)) inl (newest path);
+      hold = λ path bytes held. ⊎_elim
+          (λ came. inr (comes path (Some bytes) came.0 (sym held ∙ came.1))) (λ same. inl (sym same ∙ held)) (newest path);
+      leave = λ path left is. ⊎_elim
+          (λ came. inr (comes path left came.0 (is ∙ came.1))) (λ same. inl (is ∙ same)) (newest path);
+      since = since;
+      keeps = λ t path left le is. (suc is.0, omega (arith, is.1), is.2);
+    }
+
+-- the same, of what a call has left
+pub to_changed : (before after : List Change) (change : Change) (changes : Changes) → after ≡ change ∷ before →
+    ((path : List ℕ) (left : Option (List ℕ)) → path ≡ string_bytes change.path → left ≡ bytes_of change.bytes →
+    changes path left) → GoesOn (files_of before) (files_of after) changes
+to_changed before after change changes is comes =
+    subst (λ l. GoesOn (files_of before) (files_of l) changes) (sym is) (changed change before changes comes)

@@ -1,0 +1,111 @@
+//! The files of the system.
+ghost use Rattle.std.specs.Prelude.{string_bytes};
+ghost use Rattle.ftl_files.specs.Files.{unknown};
+
+use crate::attributes::{keep_attributes, replaceable};
+use crate::file_system::FileSystem;
+use crate::replacing::replace_file;
+use crate::store::Store;
+use std::fs::{OpenFile, OpenOptions};
+use std::io::{ErrorKind, Write};
+use std::os::unix::fs::OpenOptionsExt;
+use std::path::Path;
+use std::rt::Files;
+use std::{fs, io};
+
+/// The files that a runtime reaches. What they hold is known to no clause.
+#[derive(Drop)]
+pub struct Disk<'r, R> {
+    rt: &'r R,
+}
+
+impl<'r, R> Disk<'r, R> {
+    /// The files that this runtime reaches.
+    pub fn new(rt: &'r R) -> Self {
+        Disk { rt }
+    }
+}
+
+/// A file that is being written, and the path that it was made at.
+#[derive(Drop)]
+pub struct DiskFile<F> {
+    file: F,
+    path: String,
+}
+
+impl<R: Files + AllocGlobal> FileSystem for Disk<'_, R> {
+    type File = DiskFile<R::File>;
+
+    ghost files = { λ _. unknown };
+
+    ghost path_of = { λ file. string_bytes file.path };
+
+    ghost counts_now = { λ system t path left le now. now };
+
+    ghost only_now = { λ system path left since. since };
+
+    fn read_file(&mut self, path: &str) -> io::Result<Vec<u8>> {
+        fs::read(self.rt, path)
+    }
+
+    /// Nobody else reads the file before it has the mode of the old one. Where it can't be given the mode and the owner, it
+    /// is removed.
+    fn create(&mut self, path: &str, like: &str) -> io::Result<DiskFile<R::File>> {
+        let old = replaceable(self.rt, like)?;
+        let name = String::from_str(self.rt.alloc(), path)?;
+        let file = OpenOptions::new()
+            .write(true)
+            .create_new(true)
+            .mode(0o600)
+            .open(self.rt, path)?;
+        match keep_attributes(self.rt, &file, path, &old) {
+            Ok(()) => Ok(DiskFile { file, path: name }),
+            Err(error) => {
+                // the first failure is the one to tell
+                let _ = fs::remove_file(self.rt, path);
+                Err(error)
+            }
+        }
+    }
+
+    fn write(&mut self, file: &mut DiskFile<R::File>, bytes: &[u8]) -> io::Result<()> {
+        file.file.write_all(bytes)
+    }
+
+    fn sync(&mut self, file: &mut DiskFile<R::File>) -> io::Result<()> {
+        file.file.sync_all()
+    }
+
+    fn rename(&mut self, from: &str, to: &str) -> io::Result<()> {
+        fs::rename(self.rt, from, to)
+    }
+
+    /// Syncs the folder that the path is in. A system that syncs no folders is taken at its word.
+    fn sync_name(&mut self, path: &str) -> io::Result<()> {
+        let folder = match Path::new(path).parent() {
+            Some(folder) => folder.as_str(),
+            None => "/",
+        };
+        let folder = OpenOptions::new().read(true).open(self.rt, folder)?;
+        match folder.sync_all() {
+            Err(error) if error.kind() == ErrorKind::InvalidInput => Ok(()),
+            synced => synced,
+        }
+    }
+
+    fn remove(&mut self, path: &str) -> io::Result<()> {
+        fs::remove_file(self.rt, path)
+    }
+}
+
+impl<R: Files + AllocGlobal> Store for Disk<'_, R> {
+    fn read(&mut self, path: &str) -> io::Result<Vec<u8>> {
+        fs::read(self.rt, path)
+    }
+
+    /// Where the path is a symlink, it stays one: what it leads to is replaced.
+    fn replace(&mut self, path: &str, text: &[u8]) -> io::Result<()> {
+        let target = fs::canonicalize(self.rt, path)?.into_string();
+        replace_file(self.rt.alloc(), self, target.as_str(), text)
+    }
+}
