@@ -56,6 +56,8 @@ mod texts;
 #[cfg(test)]
 mod trees;
 #[cfg(test)]
+mod uncanonical;
+#[cfg(test)]
 mod unescaped;
 #[cfg(test)]
 mod written;
