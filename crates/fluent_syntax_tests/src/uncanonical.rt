@@ -1,7 +1,7 @@
 //! Which entry of a tree is the first that is not canonical, and which rule it breaks: for each rule the smallest trees
 //! that break it.
 
-use crate::alike::assert_same;
+use crate::alike::{assert_same, assert_same_text};
 use crate::made::{
     Made, Text, comment, id, lent_tree, message, message_with_placeable, message_with_value,
     number, one, reference, variable,
@@ -41,26 +41,78 @@ const PATTERNS: [PatternRow; 26] = [
     (&[], Some(Rule::EmptyPattern), Some(Rule::EmptyPattern)),
     (&[""], Some(Rule::EmptyText), Some(Rule::EmptyText)),
     (&["}"], Some(Rule::BraceInText), Some(Rule::BraceInText)),
-    (&["a\r\n", "b"], Some(Rule::CrBeforeLf), Some(Rule::CrBeforeLf)),
-    (&["a\nb"], Some(Rule::LfWithinText), Some(Rule::LfWithinText)),
-    (&["a", "b"], Some(Rule::TextAfterText), Some(Rule::TextAfterText)),
-    (&[" ", "$x"], Some(Rule::BlankFirstText), Some(Rule::BlankFirstText)),
-    (&["\n", "b"], Some(Rule::BlankFirstText), Some(Rule::BlankFirstText)),
+    (
+        &["a\r\n", "b"],
+        Some(Rule::CrBeforeLf),
+        Some(Rule::CrBeforeLf),
+    ),
+    (
+        &["a\nb"],
+        Some(Rule::LfWithinText),
+        Some(Rule::LfWithinText),
+    ),
+    (
+        &["a", "b"],
+        Some(Rule::TextAfterText),
+        Some(Rule::TextAfterText),
+    ),
+    (
+        &[" ", "$x"],
+        Some(Rule::BlankFirstText),
+        Some(Rule::BlankFirstText),
+    ),
+    (
+        &["\n", "b"],
+        Some(Rule::BlankFirstText),
+        Some(Rule::BlankFirstText),
+    ),
     (&[" a"], Some(Rule::LeadingSpace), Some(Rule::LeadingSpace)),
     (&["a "], Some(Rule::BlankEnd), Some(Rule::BlankEnd)),
     (&["a\n"], Some(Rule::BlankEnd), Some(Rule::BlankEnd)),
     (&["a\n", "  ", "$x"], Some(Rule::LineOfSpaces), None),
     (&["a\n", "  "], Some(Rule::BlankEnd), Some(Rule::BlankEnd)),
-    (&["a\n", "  ", "b"], Some(Rule::TextAfterText), Some(Rule::TextAfterText)),
-    (&["a\n", ".b"], Some(Rule::MarkedLine), Some(Rule::MarkedLine)),
-    (&["a\n", "  *b"], Some(Rule::MarkedLine), Some(Rule::MarkedLine)),
-    (&[" .a\n", "b"], Some(Rule::HiddenMark), Some(Rule::HiddenMark)),
-    (&[" a\n", " b"], Some(Rule::CommonIndent), Some(Rule::CommonIndent)),
-    (&["[a\n", " b"], Some(Rule::CommonIndent), Some(Rule::CommonIndent)),
+    (
+        &["a\n", "  ", "b"],
+        Some(Rule::TextAfterText),
+        Some(Rule::TextAfterText),
+    ),
+    (
+        &["a\n", ".b"],
+        Some(Rule::MarkedLine),
+        Some(Rule::MarkedLine),
+    ),
+    (
+        &["a\n", "  *b"],
+        Some(Rule::MarkedLine),
+        Some(Rule::MarkedLine),
+    ),
+    (
+        &[" .a\n", "b"],
+        Some(Rule::HiddenMark),
+        Some(Rule::HiddenMark),
+    ),
+    (
+        &[" a\n", " b"],
+        Some(Rule::CommonIndent),
+        Some(Rule::CommonIndent),
+    ),
+    (
+        &["[a\n", " b"],
+        Some(Rule::CommonIndent),
+        Some(Rule::CommonIndent),
+    ),
     (&["$x", "\n", "  b"], Some(Rule::CommonIndent), None),
-    (&["$x", "\n", " \n", "$x"], Some(Rule::SpacesOnBlankLine), None),
+    (
+        &["$x", "\n", " \n", "$x"],
+        Some(Rule::SpacesOnBlankLine),
+        None,
+    ),
     (&["  ", "$x", "\n", "b"], Some(Rule::BlankFirstText), None),
-    (&["  ", "$x", "\n", " b"], Some(Rule::BlankFirstText), Some(Rule::CommonIndent)),
+    (
+        &["  ", "$x", "\n", " b"],
+        Some(Rule::BlankFirstText),
+        Some(Rule::CommonIndent),
+    ),
 ];
 
 fn assert_pattern_broken(alloc: Global, row: &PatternRow) -> Result<(), Fail> {
@@ -105,7 +157,13 @@ fn entries(rt: HostRuntime) -> Result<(), Fail> {
     let junk = Ok(Entry::Junk { content: "x" });
     assert_broken(alloc, "junk", junk, Edition::One, Some(Rule::Junk))?;
     let empty = Ok(Entry::Message(message(alloc, "k", None)));
-    assert_broken(alloc, "no field", empty, Edition::One, Some(Rule::EmptyMessage))?;
+    assert_broken(
+        alloc,
+        "no field",
+        empty,
+        Edition::One,
+        Some(Rule::EmptyMessage),
+    )?;
     for row in &COMMENTS {
         assert_comment_broken(alloc, row)?;
     }
@@ -128,7 +186,12 @@ fn spellings(rt: HostRuntime) -> Result<(), Fail> {
     let alloc = rt.alloc();
     let string = InlineExpression::StringLiteral { value: "a\"b" };
     assert_inline_broken(alloc, "a string", string, Some(Rule::MisspelledString))?;
-    assert_inline_broken(alloc, "a number", number("1."), Some(Rule::MisspelledNumber))?;
+    assert_inline_broken(
+        alloc,
+        "a number",
+        number("1."),
+        Some(Rule::MisspelledNumber),
+    )?;
     assert_inline_broken(alloc, "a name", variable("1"), Some(Rule::MisspelledName))
 }
 
@@ -151,12 +214,22 @@ fn selects(rt: HostRuntime) -> Result<(), Fail> {
     assert_select_broken(alloc, variable("x"), &[false, true], None)?;
     assert_select_broken(alloc, variable("x"), &[], Some(Rule::NoDefault))?;
     assert_select_broken(alloc, variable("x"), &[false], Some(Rule::NoDefault))?;
-    assert_select_broken(alloc, variable("x"), &[true, true], Some(Rule::SecondDefault))?;
+    assert_select_broken(
+        alloc,
+        variable("x"),
+        &[true, true],
+        Some(Rule::SecondDefault),
+    )?;
     let message = reference("m", None);
     assert_select_broken(alloc, message, &[true], Some(Rule::ForbiddenSelector))?;
     assert_select_broken(alloc, term(None), &[true], Some(Rule::ForbiddenSelector))?;
     assert_select_broken(alloc, term(Some("a")), &[true], None)?;
-    assert_inline_broken(alloc, "in braces", term(Some("a")), Some(Rule::TermAttribute))
+    assert_inline_broken(
+        alloc,
+        "in braces",
+        term(Some("a")),
+        Some(Rule::TermAttribute),
+    )
 }
 
 /// The name of a function, the names and values of its named arguments, where `$` is a variable, and the rule that the
@@ -168,7 +241,11 @@ const CALLS: [Call; 5] = [
     ("f", &[], Some(Rule::ForbiddenCallee)),
     ("F", &[("a", "$")], Some(Rule::ForbiddenArgument)),
     ("F", &[("a", "-1")], Some(Rule::ForbiddenArgument)),
-    ("F", &[("a", "1"), ("b", "1"), ("a", "2")], Some(Rule::RepeatedArgument)),
+    (
+        "F",
+        &[("a", "1"), ("b", "1"), ("a", "2")],
+        Some(Rule::RepeatedArgument),
+    ),
 ];
 
 fn assert_call_broken(alloc: Global, row: &Call) -> Result<(), Fail> {
@@ -193,12 +270,36 @@ type TextRow = (Text, Option<(usize, Rule)>, Option<(usize, Rule)>);
 
 const TEXTS: [TextRow; 8] = [
     ("a = { $x }\n", None, None),
-    ("a = { $x ->\n *}\n", Some((0, Rule::NoDefault)), Some((0, Rule::NoDefault))),
-    ("key =\n{$x}\n    b\n", Some((0, Rule::CommonIndent)), Some((0, Rule::CommonIndent))),
-    ("#", Some((0, Rule::EmptyComment)), Some((0, Rule::EmptyComment))),
-    ("#  \n", Some((0, Rule::BlankCommentLine)), Some((0, Rule::BlankCommentLine))),
-    ("a = b\nc = d\n\n#", Some((2, Rule::EmptyComment)), Some((2, Rule::EmptyComment))),
-    ("a = b\n?\n#", Some((1, Rule::Junk)), Some((1, Rule::EmptyComment))),
+    (
+        "a = { $x ->\n *}\n",
+        Some((0, Rule::NoDefault)),
+        Some((0, Rule::NoDefault)),
+    ),
+    (
+        "key =\n{$x}\n    b\n",
+        Some((0, Rule::CommonIndent)),
+        Some((0, Rule::CommonIndent)),
+    ),
+    (
+        "#",
+        Some((0, Rule::EmptyComment)),
+        Some((0, Rule::EmptyComment)),
+    ),
+    (
+        "#  \n",
+        Some((0, Rule::BlankCommentLine)),
+        Some((0, Rule::BlankCommentLine)),
+    ),
+    (
+        "a = b\nc = d\n\n#",
+        Some((2, Rule::EmptyComment)),
+        Some((2, Rule::EmptyComment)),
+    ),
+    (
+        "a = b\n?\n#",
+        Some((1, Rule::Junk)),
+        Some((1, Rule::EmptyComment)),
+    ),
     ("a = b\r\n    c\r\n", Some((0, Rule::TextAfterText)), None),
 ];
 
@@ -220,6 +321,36 @@ fn assert_text_broken(alloc: Global, row: &TextRow) -> Result<(), Fail> {
 fn texts(rt: HostRuntime) -> Result<(), Fail> {
     for row in &TEXTS {
         assert_text_broken(rt.alloc(), row)?;
+    }
+    Ok(())
+}
+
+/// A rule, and the sentence that is shown of it.
+type Sentence = (Rule, Text);
+
+const SENTENCES: [Sentence; 4] = [
+    (
+        Rule::NoDefault,
+        "a select expression has no default variant",
+    ),
+    (
+        Rule::CommonIndent,
+        "all lines of a pattern begin with spaces, which would be read as its indent",
+    ),
+    (Rule::EmptyComment, "a comment has no line"),
+    (Rule::BraceInText, "a text of a pattern holds a brace"),
+];
+
+fn assert_shown(alloc: Global, row: &Sentence) -> Result<(), Fail> {
+    let (rule, sentence) = row;
+    let shown = format!(in alloc; "{rule}")?;
+    assert_same_text(alloc, *sentence, &shown, *sentence)
+}
+
+#[test]
+fn sentences(rt: HostRuntime) -> Result<(), Fail> {
+    for row in &SENTENCES {
+        assert_shown(rt.alloc(), row)?;
     }
     Ok(())
 }
