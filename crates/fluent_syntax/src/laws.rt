@@ -14,7 +14,9 @@ pub use fluent_syntax_grammar::{
     formats_again, reads_back, reads_readable, unique_reading, written_apart,
 };
 pub use fluent_syntax_joined::joined;
-pub use fluent_syntax_rules::{is_canonical, is_readable};
+pub use fluent_syntax_rules::{
+    Rule, Uncanonical, broken_rule, first_uncanonical, is_canonical, is_readable,
+};
 use fluent_syntax_tree::ast::Resource;
 pub use fluent_syntax_tree::laws::same_texts;
 use fluent_syntax_writer::serializer::serialize;

@@ -1,7 +1,10 @@
 pub mod Bytes
+pub mod EveryRule
+pub mod FirstBroken
 pub mod Lines
 pub mod Named
 pub mod Nodes
+pub mod Stands
 pub mod Steps
 pub mod Strings
-pub mod Stands
+pub mod Together

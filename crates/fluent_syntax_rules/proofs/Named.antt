@@ -11,6 +11,7 @@ use Rattle.fluent_syntax_tree.proofs.Views.{view-NamedArgument}
 use Rattle.fluent_syntax_grammar.specs.Arguments.{is_used}
 use Rattle.fluent_syntax_grammar.specs.Readable.{is_argument_value, are_named_well}
 use Rattle.fluent_syntax_grammar.specs.Written.{Text}
+use Rattle.fluent_syntax_rules.specs.Alone.{have_values, have_new_names}
 use Rattle.fluent_syntax_rules.specs.Names.{name_of, is_named_well}
 
 is_used-reversed : (name : Text) (names : List Text) → is_used name names ≡ is_used name (reverse names)
@@ -55,3 +56,35 @@ module _ {S : Type 0} (text : S → Text) where
       let value = is_argument_value (inline_view text n.value) in
       ap (λ v. are_named_well names (nameds v (nameds_of (map (named_view text) ns)))) (view-NamedArgument text n)
       ∙ and_assoc (not (is_used (name_of text n) names)) value (named_well (with_name names n) ns)
+
+  -- ---- values alone, and names alone
+
+  abbrev pub values : Unit {0} → List (NamedArgument S) → Bool
+  values u ns = have_values (nameds_of (map (named_view text) ns))
+
+  abbrev pub one_value : Unit {0} → NamedArgument S → List (NamedArgument S) → Bool
+  one_value u n ns = is_argument_value (inline_view text n.value)
+
+  abbrev pub no_state : Unit {0} → NamedArgument S → Unit {0}
+  no_state u n = u
+
+  pub first_value : (u : Unit {0}) (n : NamedArgument S) (ns : List (NamedArgument S))
+      → values u (n ∷ ns) ≡ (one_value u n ns && values (no_state u n) ns)
+  first_value u n ns =
+      ap (λ v. have_values (nameds v (nameds_of (map (named_view text) ns)))) (view-NamedArgument text n)
+
+  abbrev pub new_names : List Text → List (NamedArgument S) → Bool
+  new_names names ns = have_new_names names (nameds_of (map (named_view text) ns))
+
+  abbrev pub one_new_name : List Text → NamedArgument S → List (NamedArgument S) → Bool
+  one_new_name names n ns = not (is_used (name_of text n) names)
+
+  pub first_new_name : (names : List Text) (n : NamedArgument S) (ns : List (NamedArgument S))
+      → new_names names (n ∷ ns) ≡ (one_new_name names n ns && new_names (with_name names n) ns)
+  first_new_name names n ns =
+      ap (λ v. have_new_names names (nameds v (nameds_of (map (named_view text) ns)))) (view-NamedArgument text n)
+
+  -- whether a name is used among the earlier ones, in either order
+  pub new_name-used : (earlier : List (NamedArgument S)) (n : NamedArgument S)
+      → is_used (name_of text n) (map (name_of text) earlier) ≡ is_used (name_of text n) (used earlier)
+  new_name-used earlier n = is_used-reversed (name_of text n) (map (name_of text) earlier)

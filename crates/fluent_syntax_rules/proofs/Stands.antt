@@ -1,6 +1,7 @@
 -- The elements of a pattern, one by one.
 use Rattle.std.proofs.Common.{◌≡◌, ◌≤◌, List, [], ◌∷◌, length, map, Bool, true, false, ◌&&◌}
-use Rattle.std.proofs.Common.{◌||◌, ◌==◌, not, Some, None, refl, ap, ◌∙◌, arith}
+use Rattle.std.proofs.Common.{◌||◌, ◌==◌, not, Some, None, refl, sym, ap, ◌∙◌, arith}
+use Rattle.std.proofs.lemmas.Bool.{eqb-true}
 use Rattle.std.specs.Prelude.{slice_get}
 use Rattle.std.specs.List.{list_any}
 use Rattle.fluent_syntax_tree.specs.Tree.{ElementTree, text_element, placeable, PatternTree, no_elements, elements}
@@ -11,7 +12,10 @@ use Rattle.fluent_syntax_grammar.specs.Readable.{are_elements}
 use Rattle.fluent_syntax_grammar.specs.Readable.{Stand, opening, is_line_start, is_pattern}
 use Rattle.fluent_syntax_grammar.specs.Canonical.{hides_mark, are_lone}
 use Rattle.fluent_syntax_grammar.specs.Written.{Text, is_multiline, spans_lines}
-use Rattle.fluent_syntax_rules.specs.Places.{stand_past, is_element, is_placeable, element_hides_mark, stands_lone}
+use Rattle.fluent_syntax_rules.specs.Alone.{has_element, texts_keep}
+use Rattle.fluent_syntax_rules.specs.Places.{stand_past, is_element, element_keeps, is_placeable, element_hides_mark}
+use Rattle.fluent_syntax_rules.specs.Places.{stands_lone}
+use Rattle.fluent_syntax_rules.specs.declared.rules.Rule.{Rule}
 
 pub is_multiline-list : {E : Type 0} (view : E → ElementTree Text) (es : List E)
     → is_multiline (elements_of (map view es)) ≡ list_any (λ e. spans_lines (view e)) es
@@ -77,6 +81,23 @@ module _ {E : Type 0} (view : E → ElementTree Text) where
         (are_elements edition multiline (stand_after v) es)
     by_form s (placeable e) es = refl
 
+    -- the same by one rule alone
+    module _ (rule : Rule) where
+      abbrev pub keep : Stand → List E → Bool
+      keep s es = texts_keep edition rule multiline s (tree es)
+
+      abbrev pub keeps : Stand → E → List E → Bool
+      keeps s e es = element_keeps edition rule multiline s (view e) (tree es)
+
+      keep_by_form : (s : Stand) (e : ElementTree Text) (es : PatternTree Text)
+          → texts_keep edition rule multiline s (elements e es)
+          ≡ (element_keeps edition rule multiline s e es && texts_keep edition rule multiline (stand_past e) es)
+      keep_by_form s (text_element v) es = refl
+      keep_by_form s (placeable e) es = refl
+
+      pub first_keeps : (s : Stand) (e : E) (es : List E) → keep s (e ∷ es) ≡ (keeps s e es && keep (past s e) es)
+      first_keeps s e es = keep_by_form s (view e) (tree es)
+
     pub first_obeys : (s : Stand) (e : E) (es : List E) → obey s (e ∷ es) ≡ (obeys s e es && obey (past s e) es)
     first_obeys s e es = by_form s (view e) (tree es)
 
@@ -112,3 +133,11 @@ pub is_pattern-none : {E : Type 0} (view : E → ElementTree Text) (edition : Ed
     → is_pattern edition (elements_of (map view es)) ≡ false
 is_pattern-none view edition [] none = refl
 is_pattern-none view edition (e ∷ es) none = absurd (omega arith)
+
+pub has_element-list : {E : Type 0} (view : E → ElementTree Text) (es : List E) (none : Bool)
+    → none ≡ (length es == 0) → not none ≡ has_element (elements_of (map view es))
+has_element-list view [] none is = ap not is
+has_element-list view (e ∷ es) true is =
+    let empty : length (e ∷ es) ≡ 0 = eqb-true _ _ (sym is) in
+    absurd (omega arith)
+has_element-list view (e ∷ es) false is = refl

@@ -7,6 +7,8 @@ use Rattle.fluent_syntax_grammar.specs.Readable.{is_text, stands_well, ends_well
 use Rattle.fluent_syntax_grammar.specs.Canonical.{text_numbers, placeable_numbers}
 use Rattle.fluent_syntax_grammar.specs.PatternTexts.{is_lone_lf, begins_with_space, after_spaces}
 use Rattle.fluent_syntax_grammar.specs.Written.{Text, begins_with_mark}
+use Rattle.fluent_syntax_rules.specs.Alone.{text_keeps}
+use Rattle.fluent_syntax_rules.specs.declared.rules.Rule.{Rule}
 use Rattle.fluent_syntax_rules.specs.declared.elements.Stand.{Stand}
 use Rattle.fluent_syntax_rules.specs.declared.elements.Stand.TheVariants as code
 
@@ -31,6 +33,12 @@ abbrev pub is_element :
 is_element edition multiline s (text_element v) rest =
     is_text v && (stands_well edition multiline s v rest && ends_well v rest)
 is_element edition multiline s (placeable e) rest = true
+
+-- one rule of one element, by those that follow it
+abbrev pub element_keeps :
+    Edition → Rule → (multiline : Bool) → grammar.Stand → ElementTree Text → (rest : PatternTree Text) → Bool
+element_keeps edition rule multiline s (text_element v) rest = text_keeps edition rule multiline s v rest
+element_keeps edition rule multiline s (placeable e) rest = true
 
 -- the numbers of a line that begins with the element
 abbrev pub element_numbers : Edition → ElementTree Text → List ℕ

@@ -4,6 +4,7 @@ ghost use Rattle.fluent_syntax_tree.specs.Tree.{nameds_of};
 ghost use Rattle.fluent_syntax_tree.specs.View.{inline_view, arguments_view, named_view};
 ghost use Rattle.fluent_syntax_grammar.specs.Arguments.{is_used};
 ghost use Rattle.fluent_syntax_grammar.specs.Readable.{is_argument_value, are_named_well, are_arguments};
+ghost use Rattle.fluent_syntax_rules.specs.Alone.{have_values, have_new_names};
 ghost use Rattle.fluent_syntax_rules.specs.Names.{name_of, is_named_well};
 
 use crate::spellings::is_unsigned;
@@ -22,6 +23,30 @@ fn are_named_well<X, T: ReadTexts<X>>(named: &[NamedArgument<X>]) -> bool
 {
     for (index, argument) in named.iter().enumerate() {
         if !is_named_well::<X, T>(argument, &named[..index]) {
+            return false;
+        }
+    }
+    true
+}
+
+/// Whether each value is one that a named argument may have.
+pub fn have_values<X, T: ReadTexts<X>>(named: &[NamedArgument<X>]) -> bool
+    ensures { result ≡ have_values (nameds_of (map (named_view T.text) named.now)) }
+{
+    for argument in named {
+        if !is_argument_value::<X, T>(&argument.value) {
+            return false;
+        }
+    }
+    true
+}
+
+/// Whether the names are distinct.
+pub fn have_new_names<X, T: ReadTexts<X>>(named: &[NamedArgument<X>]) -> bool
+    ensures { result ≡ have_new_names [] (nameds_of (map (named_view T.text) named.now)) }
+{
+    for (index, argument) in named.iter().enumerate() {
+        if is_used::<X, T>(T::as_str(&argument.name.name), &named[..index]) {
             return false;
         }
     }

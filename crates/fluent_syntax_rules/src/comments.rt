@@ -1,31 +1,15 @@
 //! Comments.
 ghost use Rattle.std.specs.Prelude.{◌≡◌, map, not};
 ghost use Rattle.std.specs.List.{list_all};
-ghost use Rattle.fluent_syntax_tree.specs.View.{comment_view};
 ghost use Rattle.fluent_syntax_grammar.specs.Canonical.{is_plain_comment, is_plain_line};
 ghost use Rattle.fluent_syntax_grammar.specs.Readable.{are_lines};
 ghost use Rattle.fluent_syntax_grammar.specs.Written.{has_lf};
-ghost use Rattle.fluent_syntax_rules.specs.Standards.{comment_rule};
 
-use crate::standard::Standard;
 use crate::texts::{has_lf, is_shown};
-use fluent_syntax_tree::ast::Comment;
 use fluent_syntax_tree::texts::ReadTexts;
 
-/// Whether the comment obeys the rules of comments.
-pub fn is_comment<X, T: ReadTexts<X>>(standard: Standard, comment: &Comment<X>) -> bool
-    ensures { result ≡ comment_rule standard (comment_view T.text comment.now) }
-{
-    match standard {
-        Standard::Readable(_) => are_lines::<X, T>(&comment.content),
-        Standard::Canonical(_) => {
-            are_lines::<X, T>(&comment.content) && is_plain_comment::<X, T>(&comment.content)
-        }
-    }
-}
-
 /// Whether no line holds an LF.
-fn are_lines<X, T: ReadTexts<X>>(content: &[X]) -> bool
+pub fn are_lines<X, T: ReadTexts<X>>(content: &[X]) -> bool
     ensures { result ≡ are_lines (map T.text content.now) }
 {
     content.iter().all(|line| is_line(T::as_str(line)))
@@ -38,13 +22,13 @@ fn is_line(line: &str) -> bool
 }
 
 /// Whether there is a line, and each is plain.
-fn is_plain_comment<X, T: ReadTexts<X>>(content: &[X]) -> bool
+pub fn is_plain_comment<X, T: ReadTexts<X>>(content: &[X]) -> bool
     ensures { result ≡ is_plain_comment (map T.text content.now) }
 {
     !content.is_empty() && are_plain_lines::<X, T>(content)
 }
 
-fn are_plain_lines<X, T: ReadTexts<X>>(content: &[X]) -> bool
+pub fn are_plain_lines<X, T: ReadTexts<X>>(content: &[X]) -> bool
     ensures { result ≡ list_all is_plain_line (map T.text content.now) }
 {
     content.iter().all(|line| is_plain_line(T::as_str(line)))

@@ -151,7 +151,7 @@ fn opens_well<X, T: ReadTexts<X>>(
 }
 
 /// Whether the text is the indent of a placeable: in edition two, spaces that a placeable directly follows.
-fn indents<X, T: ReadTexts<X>>(edition: Edition, text: &str, rest: &[PatternElement<X>]) -> bool
+pub fn indents<X, T: ReadTexts<X>>(edition: Edition, text: &str, rest: &[PatternElement<X>]) -> bool
     ensures { result ≡ indents edition text.now (elements_of (map (element_view T.text) rest.now)) }
 {
     match edition {
@@ -179,7 +179,7 @@ fn is_placeable<X, T: ReadTexts<X>>(element: &PatternElement<X>) -> bool
 }
 
 /// Whether the text may have `rest` after it: a last text ends plainly.
-fn ends_well<X, T: ReadTexts<X>>(text: &str, rest: &[PatternElement<X>]) -> bool
+pub fn ends_well<X, T: ReadTexts<X>>(text: &str, rest: &[PatternElement<X>]) -> bool
     ensures { result ≡ ends_well text.now (elements_of (map (element_view T.text) rest.now)) }
 {
     !rest.is_empty() || ends_plainly(text)

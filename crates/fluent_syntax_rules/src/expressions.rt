@@ -5,27 +5,13 @@ ghost use Rattle.fluent_syntax_tree.specs.View.{expression_view, inline_view, va
 ghost use Rattle.fluent_syntax_grammar.specs.Placeables.{selector_fault, is_term_attribute};
 ghost use Rattle.fluent_syntax_grammar.specs.Readable.{is_expression, defaults};
 ghost use Rattle.fluent_syntax_grammar.specs.Canonical.{has_one_default};
-ghost use Rattle.fluent_syntax_rules.specs.Standards.{expression_rule};
 
-use crate::standard::Standard;
 use fluent_syntax_tree::ast::*;
 use fluent_syntax_tree::texts::ReadTexts;
 
-/// Whether the expression obeys the rules of selects and of placeables.
-pub fn is_expression_by<X, T: ReadTexts<X>>(standard: Standard, expression: &Expression<X>) -> bool
-    ensures { result ≡ expression_rule standard (expression_view T.text expression.now) }
-{
-    match standard {
-        Standard::Readable(_) => is_expression::<X, T>(expression),
-        Standard::Canonical(_) => {
-            is_expression::<X, T>(expression) && has_one_default::<X, T>(expression)
-        }
-    }
-}
-
 /// Whether a select has a selector and at most one default, and an inline expression is no term reference with
 /// attribute.
-fn is_expression<X, T: ReadTexts<X>>(expression: &Expression<X>) -> bool
+pub fn is_expression<X, T: ReadTexts<X>>(expression: &Expression<X>) -> bool
     ensures { result ≡ is_expression (expression_view T.text expression.now) }
 {
     match expression {
@@ -37,7 +23,7 @@ fn is_expression<X, T: ReadTexts<X>>(expression: &Expression<X>) -> bool
 }
 
 /// Whether the expression is a string, a number, a variable, a function, or a term reference with attribute.
-fn is_selector<X, T: ReadTexts<X>>(selector: &InlineExpression<X>) -> bool
+pub fn is_selector<X, T: ReadTexts<X>>(selector: &InlineExpression<X>) -> bool
     ensures { result ≡ is_none (selector_fault (inline_view T.text selector.now)) }
 {
     match selector {
@@ -51,7 +37,7 @@ fn is_selector<X, T: ReadTexts<X>>(selector: &InlineExpression<X>) -> bool
     }
 }
 
-fn is_term_attribute<X, T: ReadTexts<X>>(content: &InlineExpression<X>) -> bool
+pub fn is_term_attribute<X, T: ReadTexts<X>>(content: &InlineExpression<X>) -> bool
     ensures { result ≡ is_term_attribute (inline_view T.text content.now) }
 {
     match content {
@@ -66,7 +52,7 @@ fn is_term_attribute<X, T: ReadTexts<X>>(content: &InlineExpression<X>) -> bool
 }
 
 /// Whether a select has exactly one default variant.
-fn has_one_default<X, T: ReadTexts<X>>(expression: &Expression<X>) -> bool
+pub fn has_one_default<X, T: ReadTexts<X>>(expression: &Expression<X>) -> bool
     ensures { result ≡ has_one_default (expression_view T.text expression.now) }
 {
     match expression {
@@ -76,7 +62,7 @@ fn has_one_default<X, T: ReadTexts<X>>(expression: &Expression<X>) -> bool
 }
 
 /// How many of the variants are defaults.
-fn defaults<X, T: ReadTexts<X>>(variants: &[Variant<X>]) -> usize
+pub fn defaults<X, T: ReadTexts<X>>(variants: &[Variant<X>]) -> usize
     ensures { result ≡ defaults (variants_of (map (variant_view T.text) variants.now)) }
 {
     let mut count = 0;

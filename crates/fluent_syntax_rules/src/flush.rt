@@ -30,7 +30,7 @@ pub fn is_flush<X, T: ReadTexts<X>>(edition: Edition, pattern: &Pattern<X>) -> b
 
 /// Where the first element of a multiline pattern stands: at the beginning of a line, unless it would be read as
 /// something else there.
-fn first_stand<X, T: ReadTexts<X>>(pattern: &Pattern<X>) -> Stand
+pub fn first_stand<X, T: ReadTexts<X>>(pattern: &Pattern<X>) -> Stand
     ensures { stand_of result ≡ first_stand (pattern_view T.text pattern.now) }
 {
     if is_multiline::<X, T>(pattern) && !has_leading_mark::<X, T>(pattern) {
@@ -41,7 +41,7 @@ fn first_stand<X, T: ReadTexts<X>>(pattern: &Pattern<X>) -> Stand
 }
 
 /// Whether the first element is a text that begins with spaces and then `.`, `[` or `*`.
-fn hides_mark<X, T: ReadTexts<X>>(pattern: &Pattern<X>) -> bool
+pub fn hides_mark<X, T: ReadTexts<X>>(pattern: &Pattern<X>) -> bool
     ensures { result ≡ hides_mark (pattern_view T.text pattern.now) }
 {
     match pattern.elements.first() {
@@ -82,7 +82,7 @@ fn are_flush<X, T: ReadTexts<X>>(
 }
 
 /// The least number of the lines that begin at these elements, if a line has one.
-fn least_number<X, T: ReadTexts<X>>(
+pub fn least_number<X, T: ReadTexts<X>>(
     edition: Edition,
     first: Stand,
     elements: &[PatternElement<X>],
@@ -159,7 +159,7 @@ fn placeable_number(edition: Edition) -> Option<usize>
 }
 
 /// Whether each text that begins a line is one LF.
-fn are_lone<X, T: ReadTexts<X>>(first: Stand, elements: &[PatternElement<X>]) -> bool
+pub fn are_lone<X, T: ReadTexts<X>>(first: Stand, elements: &[PatternElement<X>]) -> bool
     ensures { result ≡ are_lone (stand_of first) (elements_of (map (element_view T.text) elements.now)) }
 {
     let mut stand = first;

@@ -3,26 +3,34 @@
 //! No test takes memory.
 #![tactic(auto)]
 
-ghost use Rattle.std.specs.Prelude.{◌≡◌};
-ghost use Rattle.fluent_syntax_tree.specs.View.{resource_view};
+ghost use Rattle.std.specs.Prelude.{◌≡◌, is_none, IfSome};
+ghost use Rattle.fluent_syntax_tree.specs.View.{resource_view, entry_view};
 ghost use Rattle.fluent_syntax_grammar.specs.Readable.{is_readable};
-ghost use Rattle.fluent_syntax_grammar.specs.Canonical.{is_canonical};
+ghost use Rattle.fluent_syntax_grammar.specs.Canonical.{is_canonical, canonical_rules};
+ghost use Rattle.fluent_syntax_grammar.specs.Rules.{entry_obeys};
+ghost use Rattle.fluent_syntax_rules.specs.Uncanonical.{broken_rule, first_uncanonical, IsFirstBroken};
 
+mod alone;
 mod arguments;
 mod comments;
 mod elements;
+mod entries;
 mod expressions;
+mod first;
 mod flush;
 pub mod patterns;
+mod rules;
 mod spellings;
 mod standard;
 pub mod texts;
 mod walk;
 
-use fluent_syntax_tree::ast::Resource;
+pub use first::Uncanonical;
+use fluent_syntax_tree::ast::{Entry, Resource};
 use fluent_syntax_tree::edition::Edition;
 use fluent_syntax_tree::slice::Slice;
 use fluent_syntax_tree::texts::BySlice;
+pub use rules::Rule;
 use standard::Standard;
 use walk::body_obeys;
 
@@ -43,4 +51,36 @@ pub fn is_readable<'s, S: Slice<'s>>(r: &Resource<S>, edition: Edition) -> bool
     ensures exact { result ≡ is_readable edition (resource_view S.text r.now) }
 {
     body_obeys::<S, BySlice<'s>>(Standard::Readable(edition), &r.body)
+}
+
+/// The first entry of the tree that is not canonical in the edition, and the first rule that it breaks, in the order of
+/// `Rule`; `None` where the tree is canonical.
+///
+/// - `exact`: so the answer depends on the tree's texts and the edition alone.
+/// - `none`: it is `None` exactly where `is_canonical` returns `true`.
+/// - `first`: the entries before it are canonical, and it breaks that rule, and none before that one.
+///
+/// Takes no memory. The time is that of a walk over the tree, and of one walk more over that entry for each rule; and
+/// quadratic in the named arguments of one list.
+pub fn first_uncanonical<'s, S: Slice<'s>>(
+    tree: &Resource<S>,
+    edition: Edition,
+) -> Option<Uncanonical>
+    ensures exact { result ≡ first_uncanonical edition (resource_view S.text tree.now) }
+    ensures none { is_none result ≡ is_canonical edition (resource_view S.text tree.now) }
+    ensures first { IfSome result (λ found. IsFirstBroken edition (resource_view S.text tree.now) found) }
+{
+    first::first_uncanonical::<S, BySlice<'s>>(edition, &tree.body)
+}
+
+/// The first rule of canonical trees that the entry breaks in the edition; `None` where it breaks none. A tree is
+/// canonical where each of its entries is by itself, so this tells a caller who has one entry at a time.
+///
+/// Takes no memory. The time is that of a walk over the entry for each rule, and quadratic in the named arguments of
+/// one list.
+pub fn broken_rule<'s, S: Slice<'s>>(entry: &Entry<S>, edition: Edition) -> Option<Rule>
+    ensures exact { result ≡ broken_rule edition (entry_view S.text entry.now) }
+    ensures none { is_none result ≡ entry_obeys (canonical_rules edition) (entry_view S.text entry.now) }
+{
+    first::broken_rule::<S, BySlice<'s>>(edition, entry)
 }

@@ -19,7 +19,7 @@ pub(crate) fn is_text(text: &str) -> bool
     !bytes.is_empty() && !has_brace(bytes) && !has_crlf(bytes) && !has_lf(without_last_lf(bytes))
 }
 
-fn has_brace(bytes: &[u8]) -> bool
+pub(crate) fn has_brace(bytes: &[u8]) -> bool
     ensures { result ≡ list_any is_brace bytes.now }
 {
     bytes.iter().any(|byte| is_brace(*byte))
@@ -32,7 +32,7 @@ fn is_brace(byte: u8) -> bool
 }
 
 /// Whether a CR stands directly before an LF.
-fn has_crlf(bytes: &[u8]) -> bool
+pub(crate) fn has_crlf(bytes: &[u8]) -> bool
     ensures { result ≡ has_crlf bytes.now }
 {
     let mut after_cr = false;

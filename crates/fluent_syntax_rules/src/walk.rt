@@ -5,22 +5,14 @@ ghost use Rattle.fluent_syntax_tree.specs.Tree.{arguments_of, elements_of, inlin
 ghost use Rattle.fluent_syntax_tree.specs.View.{identifier_view, key_view, expression_view, inline_view};
 ghost use Rattle.fluent_syntax_tree.specs.View.{arguments_view, named_view, element_view, pattern_view, variant_view};
 ghost use Rattle.fluent_syntax_tree.specs.View.{comment_view, attribute_view, message_view, term_view, entry_view};
-ghost use Rattle.fluent_syntax_grammar.specs.Readable.{is_message, is_callee};
-ghost use Rattle.fluent_syntax_grammar.specs.Spellings.{is_name};
 ghost use Rattle.fluent_syntax_grammar.specs.Rules.{option_obeys, key_obeys, expression_obeys, inline_obeys};
 ghost use Rattle.fluent_syntax_grammar.specs.Rules.{maybe_obeys, arguments_obey, inlines_obey, nameds_obey};
 ghost use Rattle.fluent_syntax_grammar.specs.Rules.{named_obeys, pattern_obeys, elements_obey, element_obeys};
 ghost use Rattle.fluent_syntax_grammar.specs.Rules.{variants_obey, variant_obeys, attribute_obeys, message_obeys};
 ghost use Rattle.fluent_syntax_grammar.specs.Rules.{term_obeys, entry_obeys, body_obeys};
-ghost use Rattle.fluent_syntax_rules.specs.Standards.{comment_rule, pattern_rule, rules_of, parts_obey};
+ghost use Rattle.fluent_syntax_rules.specs.Standards.{comment_rule, callee_rule, name_rule, rules_of, parts_obey};
 
-use crate::arguments::are_arguments;
-use crate::comments::is_comment;
-use crate::elements::is_pattern;
-use crate::expressions::is_expression_by;
-use crate::flush::is_flush;
-use crate::spellings::{is_callee, is_name, is_number, is_string};
-use crate::standard::Standard;
+use crate::standard::*;
 use fluent_syntax_tree::ast::*;
 use fluent_syntax_tree::texts::ReadTexts;
 
@@ -35,41 +27,34 @@ pub fn body_obeys<X, T: ReadTexts<X>>(standard: Standard, entries: &[Entry<X>]) 
     true
 }
 
-fn entry_obeys<X, T: ReadTexts<X>>(standard: Standard, entry: &Entry<X>) -> bool
+pub fn entry_obeys<X, T: ReadTexts<X>>(standard: Standard, entry: &Entry<X>) -> bool
     ensures { result ≡ entry_obeys (rules_of standard) (entry_view T.text entry.now) }
 {
     match entry {
         Entry::Message(message) => message_obeys::<X, T>(standard, message),
         Entry::Term(term) => term_obeys::<X, T>(standard, term),
-        Entry::Comment(comment) => is_comment::<X, T>(standard, comment),
-        Entry::GroupComment(comment) => is_comment::<X, T>(standard, comment),
-        Entry::ResourceComment(comment) => is_comment::<X, T>(standard, comment),
-        Entry::Junk { .. } => false,
+        Entry::Comment(comment) => is_comment_by::<X, T>(standard, comment),
+        Entry::GroupComment(comment) => is_comment_by::<X, T>(standard, comment),
+        Entry::ResourceComment(comment) => is_comment_by::<X, T>(standard, comment),
+        Entry::Junk { .. } => allows_junk(standard),
     }
 }
 
 fn message_obeys<X, T: ReadTexts<X>>(standard: Standard, message: &Message<X>) -> bool
     ensures { result ≡ message_obeys (rules_of standard) (message_view T.text message.now) }
 {
-    is_message::<X, T>(message)
+    is_message_by::<X, T>(standard, message)
         && comment_obeys::<X, T>(standard, &message.comment)
-        && is_name(T::as_str(&message.id.name))
+        && is_name_by(standard, T::as_str(&message.id.name))
         && value_obeys::<X, T>(standard, &message.value)
         && attributes_obey::<X, T>(standard, &message.attributes)
-}
-
-/// Whether the message has a value or an attribute.
-fn is_message<X, T: ReadTexts<X>>(message: &Message<X>) -> bool
-    ensures { result ≡ is_message (message_view T.text message.now) }
-{
-    message.value.is_some() || !message.attributes.is_empty()
 }
 
 fn term_obeys<X, T: ReadTexts<X>>(standard: Standard, term: &Term<X>) -> bool
     ensures { result ≡ term_obeys (rules_of standard) (term_view T.text term.now) }
 {
     comment_obeys::<X, T>(standard, &term.comment)
-        && is_name(T::as_str(&term.id.name))
+        && is_name_by(standard, T::as_str(&term.id.name))
         && pattern_obeys::<X, T>(standard, &term.value)
         && attributes_obey::<X, T>(standard, &term.attributes)
 }
@@ -78,7 +63,7 @@ fn comment_obeys<X, T: ReadTexts<X>>(standard: Standard, comment: &Option<Commen
     ensures { result ≡ option_obeys (comment_rule standard) (option_map (comment_view T.text) comment.now) }
 {
     match comment {
-        Some(comment) => is_comment::<X, T>(standard, comment),
+        Some(comment) => is_comment_by::<X, T>(standard, comment),
         None => true,
     }
 }
@@ -106,7 +91,8 @@ fn attributes_obey<X, T: ReadTexts<X>>(standard: Standard, attributes: &[Attribu
 fn attribute_obeys<X, T: ReadTexts<X>>(standard: Standard, attribute: &Attribute<X>) -> bool
     ensures { result ≡ attribute_obeys (rules_of standard) (attribute_view T.text attribute.now) }
 {
-    is_name(T::as_str(&attribute.id.name)) && pattern_obeys::<X, T>(standard, &attribute.value)
+    is_name_by(standard, T::as_str(&attribute.id.name))
+        && pattern_obeys::<X, T>(standard, &attribute.value)
 }
 
 #[cycle(obeys)]
@@ -114,18 +100,6 @@ fn pattern_obeys<X, T: ReadTexts<X>>(standard: Standard, pattern: &Pattern<X>) -
     ensures { result ≡ pattern_obeys (rules_of standard) (pattern_view T.text pattern.now) }
 {
     is_pattern_by::<X, T>(standard, pattern) && elements_obey::<X, T>(standard, &pattern.elements)
-}
-
-/// Whether the pattern obeys the rules of patterns.
-fn is_pattern_by<X, T: ReadTexts<X>>(standard: Standard, pattern: &Pattern<X>) -> bool
-    ensures { result ≡ pattern_rule standard (pattern_view T.text pattern.now) }
-{
-    match standard {
-        Standard::Readable(edition) => is_pattern::<X, T>(edition, pattern),
-        Standard::Canonical(edition) => {
-            is_pattern::<X, T>(edition, pattern) && is_flush::<X, T>(edition, pattern)
-        }
-    }
 }
 
 #[cycle(obeys)]
@@ -195,8 +169,8 @@ fn key_obeys<X, T: ReadTexts<X>>(standard: Standard, key: &VariantKey<X>) -> boo
     ensures { result ≡ key_obeys (rules_of standard) (key_view T.text key.now) }
 {
     match key {
-        VariantKey::Identifier { name } => is_name(T::as_str(name)),
-        VariantKey::NumberLiteral { value } => is_number(T::as_str(value)),
+        VariantKey::Identifier { name } => is_name_by(standard, T::as_str(name)),
+        VariantKey::NumberLiteral { value } => is_number_by(standard, T::as_str(value)),
     }
 }
 
@@ -205,48 +179,56 @@ fn inline_obeys<X, T: ReadTexts<X>>(standard: Standard, inline: &InlineExpressio
     ensures { result ≡ inline_obeys (rules_of standard) (inline_view T.text inline.now) }
 {
     match inline {
-        InlineExpression::StringLiteral { value } => is_string(T::as_str(value)),
-        InlineExpression::NumberLiteral { value } => is_number(T::as_str(value)),
+        InlineExpression::StringLiteral { value } => is_string_by(standard, T::as_str(value)),
+        InlineExpression::NumberLiteral { value } => is_number_by(standard, T::as_str(value)),
         InlineExpression::FunctionReference { id, arguments } => {
-            is_function_name(T::as_str(&id.name)) && arguments_obey::<X, T>(standard, arguments)
+            is_function_name(standard, T::as_str(&id.name))
+                && arguments_obey::<X, T>(standard, arguments)
         }
         InlineExpression::MessageReference { id, attribute } => {
-            reference_obeys::<X, T>(id, attribute)
+            reference_obeys::<X, T>(standard, id, attribute)
         }
         InlineExpression::TermReference {
             id,
             attribute,
             arguments,
-        } => { reference_obeys::<X, T>(id, attribute) && maybe_obeys::<X, T>(standard, arguments) }
-        InlineExpression::VariableReference { id } => is_name(T::as_str(&id.name)),
+        } => {
+            reference_obeys::<X, T>(standard, id, attribute)
+                && maybe_obeys::<X, T>(standard, arguments)
+        }
+        InlineExpression::VariableReference { id } => is_name_by(standard, T::as_str(&id.name)),
         InlineExpression::Placeable { expression } => {
             expression_obeys::<X, T>(standard, expression)
         }
     }
 }
 
-fn is_function_name(name: &str) -> bool
-    ensures { result ≡ (is_name name.now && is_callee name.now) }
+fn is_function_name(standard: Standard, name: &str) -> bool
+    ensures { result ≡ (name_rule standard name.now && callee_rule standard name.now) }
 {
-    is_name(name) && is_callee(name)
+    is_name_by(standard, name) && is_callee_by(standard, name)
 }
 
 /// Whether the name, and that of the attribute, are names.
 fn reference_obeys<X, T: ReadTexts<X>>(
+    standard: Standard,
     id: &Identifier<X>,
     attribute: &Option<Identifier<X>>,
 ) -> bool
-    ensures { result ≡ (is_name (T.text id.now.name)
-        && option_obeys is_name (option_map (identifier_view T.text) attribute.now)) }
+    ensures { result ≡ (name_rule standard (T.text id.now.name)
+        && option_obeys (name_rule standard) (option_map (identifier_view T.text) attribute.now)) }
 {
-    is_name(T::as_str(&id.name)) && attribute_name_obeys::<X, T>(attribute)
+    is_name_by(standard, T::as_str(&id.name)) && attribute_name_obeys::<X, T>(standard, attribute)
 }
 
-fn attribute_name_obeys<X, T: ReadTexts<X>>(attribute: &Option<Identifier<X>>) -> bool
-    ensures { result ≡ option_obeys is_name (option_map (identifier_view T.text) attribute.now) }
+fn attribute_name_obeys<X, T: ReadTexts<X>>(
+    standard: Standard,
+    attribute: &Option<Identifier<X>>,
+) -> bool
+    ensures { result ≡ option_obeys (name_rule standard) (option_map (identifier_view T.text) attribute.now) }
 {
     match attribute {
-        Some(id) => is_name(T::as_str(&id.name)),
+        Some(id) => is_name_by(standard, T::as_str(&id.name)),
         None => true,
     }
 }
@@ -266,7 +248,7 @@ fn maybe_obeys<X, T: ReadTexts<X>>(standard: Standard, arguments: &Option<CallAr
 fn arguments_obey<X, T: ReadTexts<X>>(standard: Standard, arguments: &CallArguments<X>) -> bool
     ensures { result ≡ arguments_obey (rules_of standard) (arguments_view T.text arguments.now) }
 {
-    if !are_arguments::<X, T>(arguments) {
+    if !are_arguments_by::<X, T>(standard, arguments) {
         return false;
     }
     inlines_obey::<X, T>(standard, &arguments.positional)
@@ -301,5 +283,6 @@ fn nameds_obey<X, T: ReadTexts<X>>(standard: Standard, nameds: &[NamedArgument<X
 fn named_obeys<X, T: ReadTexts<X>>(standard: Standard, named: &NamedArgument<X>) -> bool
     ensures { result ≡ named_obeys (rules_of standard) (named_view T.text named.now) }
 {
-    is_name(T::as_str(&named.name.name)) && inline_obeys::<X, T>(standard, &named.value)
+    is_name_by(standard, T::as_str(&named.name.name))
+        && inline_obeys::<X, T>(standard, &named.value)
 }

@@ -13,6 +13,8 @@ mod rules;
 #[cfg(test)]
 mod serialized;
 #[cfg(test)]
+mod uncanonical;
+#[cfg(test)]
 mod unescaped;
 #[cfg(test)]
 mod written;

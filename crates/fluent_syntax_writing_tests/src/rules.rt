@@ -254,7 +254,7 @@ fn spellings(rt: HostRuntime) -> Result<(), Fail> {
     Ok(())
 }
 
-fn variants(alloc: Global, defaults: &[bool]) -> Made<Vec<Variant<Text>>> {
+pub(crate) fn variants(alloc: Global, defaults: &[bool]) -> Made<Vec<Variant<Text>>> {
     let mut variants = Vec::new(alloc);
     for default in defaults {
         variants.push(Variant {
@@ -267,7 +267,7 @@ fn variants(alloc: Global, defaults: &[bool]) -> Made<Vec<Variant<Text>>> {
 }
 
 /// A reference to the term `t`.
-fn term(attribute: Option<Text>) -> InlineExpression<Text> {
+pub(crate) fn term(attribute: Option<Text>) -> InlineExpression<Text> {
     let attribute = match attribute {
         Some(name) => Some(id(name)),
         None => None,
@@ -369,7 +369,7 @@ fn named_arguments(alloc: Global, rows: &[(Text, Text)]) -> Made<Vec<NamedArgume
 }
 
 /// The arguments of a call, with a variable before those that have names.
-fn arguments(alloc: Global, rows: &[(Text, Text)]) -> Made<CallArguments<Text>> {
+pub(crate) fn arguments(alloc: Global, rows: &[(Text, Text)]) -> Made<CallArguments<Text>> {
     let mut positional = Vec::new(alloc);
     positional.push(variable("x"))?;
     let named = named_arguments(alloc, rows)?;

@@ -6,10 +6,8 @@ use Rattle.fluent_syntax_tree.proofs.Views.{view-FunctionReference, view-Message
 use Rattle.fluent_syntax_tree.proofs.Views.{view-VariableReference, view-InlinePlaceable, view-TextElement}
 use Rattle.fluent_syntax_tree.proofs.Views.{view-Placeable, view-Pattern, view-Variant, view-NamedArgument}
 use Rattle.fluent_syntax_tree.proofs.Views.{view-CallArguments}
-use Rattle.fluent_syntax_grammar.specs.Readable.{is_callee}
 use Rattle.fluent_syntax_grammar.specs.Rules.{option_obeys, maybe_obeys, arguments_obey}
-use Rattle.fluent_syntax_grammar.specs.Spellings.{is_name}
-use Rattle.fluent_syntax_rules.specs.Standards.{rules_of}
+use Rattle.fluent_syntax_rules.specs.Standards.{rules_of, name_rule, callee_rule}
 use Rattle.fluent_syntax_rules.proofs.Nodes.{pattern_parts}
 use Rattle.fluent_syntax_rules.proofs.Steps.{three_hold, three_fail}
 use Rattle.fluent_syntax_rules.proofs.walk.+obeys.Goals as goal
@@ -52,11 +50,11 @@ variant_obeys-returns-else-key_obeys g t c =
 
 pub inline_obeys-returns-in-StringLiteral : goal.inline_obeys-returns-in-StringLiteral
 inline_obeys-returns-in-StringLiteral g t c =
-    rw (c.in-StringLiteral.is, view-StringLiteral, c.is_string.ensures, c.as_str.ensures)
+    rw (c.in-StringLiteral.is, view-StringLiteral, c.is_string_by.ensures, c.as_str.ensures)
 
 pub inline_obeys-returns-in-NumberLiteral : goal.inline_obeys-returns-in-NumberLiteral
 inline_obeys-returns-in-NumberLiteral g t c =
-    rw (c.in-NumberLiteral.is, view-NumberLiteral, c.is_number.ensures, c.as_str-in-NumberLiteral.ensures)
+    rw (c.in-NumberLiteral.is, view-NumberLiteral, c.is_number_by.ensures, c.as_str-in-NumberLiteral.ensures)
 
 pub inline_obeys-returns-then-is_function_name : goal.inline_obeys-returns-then-is_function_name
 inline_obeys-returns-then-is_function_name g t c =
@@ -64,7 +62,7 @@ inline_obeys-returns-then-is_function_name g t c =
     let tested = rw c.as_str-in-FunctionReference.ensures at c.is_function_name.ensures in
     let both = sym tested ∙ c.if-is_function_name.true in
     rw (c.in-FunctionReference.is, view-FunctionReference)
-    (three_hold (is_name name) (is_callee name) _ _ both c.arguments_obey.ensures)
+    (three_hold (name_rule c.args.standard name) (callee_rule c.args.standard name) _ _ both c.arguments_obey.ensures)
 
 pub inline_obeys-returns-else-is_function_name : goal.inline_obeys-returns-else-is_function_name
 inline_obeys-returns-else-is_function_name g t c =
@@ -74,7 +72,8 @@ inline_obeys-returns-else-is_function_name g t c =
     let both = sym tested ∙ c.if-is_function_name.false in
     rw (c.in-FunctionReference.is, view-FunctionReference)
     (c.if-is_function_name.false
-    ∙ three_fail (is_name name) (is_callee name) (arguments_obey (rules_of c.args.standard) given) both)
+    ∙ three_fail (name_rule c.args.standard name) (callee_rule c.args.standard name)
+    (arguments_obey (rules_of c.args.standard) given) both)
 
 pub inline_obeys-returns-in-MessageReference : goal.inline_obeys-returns-in-MessageReference
 inline_obeys-returns-in-MessageReference g t c =
@@ -84,25 +83,26 @@ pub inline_obeys-returns-then-reference_obeys : goal.inline_obeys-returns-then-r
 inline_obeys-returns-then-reference_obeys g t c =
     let f = g.T.ReadTexts.text in
     let reference = c.in-TermReference in
-    let named = option_obeys is_name (option_map (identifier_view f) reference.attribute) in
+    let named = option_obeys (name_rule c.args.standard) (option_map (identifier_view f) reference.attribute) in
     let both = sym c.reference_obeys-in-TermReference.ensures ∙ c.if-reference_obeys.true in
     rw (reference.is, view-TermReference)
-    (three_hold (is_name (f reference.id.name)) named _ _ both c.maybe_obeys.ensures)
+    (three_hold (name_rule c.args.standard (f reference.id.name)) named _ _ both c.maybe_obeys.ensures)
 
 pub inline_obeys-returns-else-reference_obeys : goal.inline_obeys-returns-else-reference_obeys
 inline_obeys-returns-else-reference_obeys g t c =
     let f = g.T.ReadTexts.text in
     let reference = c.in-TermReference in
-    let named = option_obeys is_name (option_map (identifier_view f) reference.attribute) in
+    let named = option_obeys (name_rule c.args.standard) (option_map (identifier_view f) reference.attribute) in
     let given = arguments_of (option_map (arguments_view f) reference.arguments) in
     let both = sym c.reference_obeys-in-TermReference.ensures ∙ c.if-reference_obeys.false in
     rw (reference.is, view-TermReference)
     (c.if-reference_obeys.false
-    ∙ three_fail (is_name (f reference.id.name)) named (maybe_obeys (rules_of c.args.standard) given) both)
+    ∙ three_fail (name_rule c.args.standard (f reference.id.name)) named
+    (maybe_obeys (rules_of c.args.standard) given) both)
 
 pub inline_obeys-returns-in-VariableReference : goal.inline_obeys-returns-in-VariableReference
 inline_obeys-returns-in-VariableReference g t c =
-    rw (c.in-VariableReference.is, view-VariableReference, c.is_name.ensures, c.as_str-in-VariableReference.ensures)
+    rw (c.in-VariableReference.is, view-VariableReference, c.is_name_by.ensures, c.as_str-in-VariableReference.ensures)
 
 pub inline_obeys-returns-in-Placeable : goal.inline_obeys-returns-in-Placeable
 inline_obeys-returns-in-Placeable g t c =
@@ -110,7 +110,7 @@ inline_obeys-returns-in-Placeable g t c =
 
 pub arguments_obey-returns-then-inlines_obey : goal.arguments_obey-returns-then-inlines_obey
 arguments_obey-returns-then-inlines_obey g t c =
-    let allowed = sym c.are_arguments.ensures ∙ c.if-not-are_arguments.false in
+    let allowed = sym c.are_arguments_by.ensures ∙ c.if-not-are_arguments_by.false in
     let inlines = rw c.deref.ensures.value at c.inlines_obey.ensures in
     let holds = sym inlines ∙ c.if-inlines_obey.true in
     let parts = view-CallArguments g.T.ReadTexts.text c.args.arguments.now in
@@ -118,20 +118,20 @@ arguments_obey-returns-then-inlines_obey g t c =
 
 pub arguments_obey-returns-else-inlines_obey : goal.arguments_obey-returns-else-inlines_obey
 arguments_obey-returns-else-inlines_obey g t c =
-    let allowed = sym c.are_arguments.ensures ∙ c.if-not-are_arguments.false in
+    let allowed = sym c.are_arguments_by.ensures ∙ c.if-not-are_arguments_by.false in
     let inlines = rw c.deref.ensures.value at c.inlines_obey.ensures in
     let fails = sym inlines ∙ c.if-inlines_obey.false in
     let parts = view-CallArguments g.T.ReadTexts.text c.args.arguments.now in
     rw (parts, rw parts at allowed, fails) c.if-inlines_obey.false
 
-pub named_obeys-returns-then-is_name : goal.named_obeys-returns-then-is_name
-named_obeys-returns-then-is_name g t c =
-    let tested = rw c.as_str.ensures at c.is_name.ensures in
-    let holds = sym tested ∙ c.if-is_name.true in
+pub named_obeys-returns-then-is_name_by : goal.named_obeys-returns-then-is_name_by
+named_obeys-returns-then-is_name_by g t c =
+    let tested = rw c.as_str.ensures at c.is_name_by.ensures in
+    let holds = sym tested ∙ c.if-is_name_by.true in
     rw (view-NamedArgument, holds) c.inline_obeys.ensures
 
-pub named_obeys-returns-else-is_name : goal.named_obeys-returns-else-is_name
-named_obeys-returns-else-is_name g t c =
-    let tested = rw c.as_str.ensures at c.is_name.ensures in
-    let fails = sym tested ∙ c.if-is_name.false in
-    rw (view-NamedArgument, fails) c.if-is_name.false
+pub named_obeys-returns-else-is_name_by : goal.named_obeys-returns-else-is_name_by
+named_obeys-returns-else-is_name_by g t c =
+    let tested = rw c.as_str.ensures at c.is_name_by.ensures in
+    let fails = sym tested ∙ c.if-is_name_by.false in
+    rw (view-NamedArgument, fails) c.if-is_name_by.false
