@@ -3,3 +3,9 @@
 
 #[cfg(test)]
 mod excerpts;
+#[cfg(test)]
+mod files;
+#[cfg(test)]
+mod reports;
+#[cfg(test)]
+mod runs;

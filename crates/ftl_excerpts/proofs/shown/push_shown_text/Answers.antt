@@ -10,4 +10,4 @@ returns c =
     let chars = YieldsList-from_chars c.args.text.now c.utf8.text cc in
     let end = YieldsList-end chars c.loop-c.yielded _ c.loop-c.yielded_by _ _ c.in-None.is c.next.ensures.steps in
     c.loop-c.invariant
-        ∙ ap (λ cs. string_bytes c.args.out.now ++ flat_map shown_char cs) (sym (map-id c.loop-c.yielded) ∙ end.0)
+    ∙ ap (λ cs. string_bytes c.args.out.now ++ flat_map shown_char cs) (sym (map-id c.loop-c.yielded) ∙ end.0)
