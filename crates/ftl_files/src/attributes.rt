@@ -7,8 +7,8 @@ use std::rt::Files;
 
 /// What the system tells of a file that may be replaced.
 ///
-/// `InvalidInput`: it is no regular file, or has other names, which would keep the old bytes. `PermissionDenied`: nobody
-/// may write it, which a rename would not ask.
+/// `InvalidInput`: it is no regular file, or has other names, which would keep the old bytes. `PermissionDenied`:
+/// nobody may write it, which a rename would not ask.
 pub(crate) fn replaceable<R: Files>(rt: &R, path: &str) -> io::Result<Metadata> {
     let file = fs::metadata(rt, path)?;
     if !file.is_file() {

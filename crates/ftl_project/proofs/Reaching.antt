@@ -11,7 +11,8 @@ module _ (edition : Edition) where
   same : (old new : Option (List ℕ)) → new ≡ old → Reaches edition old new
   same old new e = subst (λ bytes. Reaches edition old bytes) (sym e) stays
 
-  further : {old now new : Option (List ℕ)} → Reaches edition old now → Reaches edition now new → Reaches edition old new
+  further : {old now new : Option (List ℕ)} → Reaches edition old now → Reaches edition now new →
+      Reaches edition old new
   further first stays = first
   further first (goes more step) = goes (further first more) step
 

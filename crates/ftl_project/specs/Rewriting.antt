@@ -42,7 +42,8 @@ Rewrites edition path old new (Err fault) =
 -- A file stands as it was, or has become a rewriting of what it was, once or more often where a run came to it so.
 pub data Reaches (edition : Edition) : (old new : Option (List ℕ)) → Type 0 where
   stays : {bytes : Option (List ℕ)} → Reaches edition bytes bytes
-  goes : {old now new : Option (List ℕ)} → Reaches edition old now → BecomesRewriting edition now new → Reaches edition old new
+  goes : {old now new : Option (List ℕ)} → Reaches edition old now → BecomesRewriting edition now new →
+      Reaches edition old new
 
 -- so does each file
 abbrev pub AllReach : Edition → (old new : List ℕ → Option (List ℕ)) → Type 0

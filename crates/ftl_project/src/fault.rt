@@ -20,8 +20,8 @@ pub enum Fault {
 }
 
 impl Fault {
-    /// The exit status: 3 where it was not read, 4 where memory was wanted, 5 where it was not written, and 6 where it nests
-    /// too deep.
+    /// The exit status: 3 where it was not read, 4 where memory was wanted, 5 where it was not written, and 6 where it
+    /// nests too deep.
     pub fn status(&self) -> u8
         ensures least { 3 ≤ result }
         ensures greatest { result ≤ 6 }

@@ -17,8 +17,8 @@ use ftl_files::Store;
 use std::alloc::{AllocError, Global};
 use std::io::Write;
 
-/// Puts the normal form in the place of each file that has no syntax error and whose normal form reads back. However the
-/// run ends, each file stands as it was, or is its normal form.
+/// Puts the normal form in the place of each file that has no syntax error and whose normal form reads back. However
+/// the run ends, each file stands as it was, or is its normal form.
 ///
 /// `Err` where the run stopped: `Memory`, or `Output`.
 pub fn write_files<S: Store, O: Write, E: Write>(

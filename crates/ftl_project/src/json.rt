@@ -5,7 +5,8 @@ use fluent_syntax::parser::{ErrorKind, ParserError};
 use std::alloc::AllocError;
 use std::fmt::Write;
 
-/// Adds the object and a line end. Its places are in bytes, counted from 0; the column too is in bytes, and counted from 1.
+/// Adds the object and a line end. Its places are in bytes, counted from 0; the column too is in bytes, and counted
+/// from 1.
 pub(crate) fn push_json_line(
     out: &mut String,
     place: &Place<'_>,

@@ -28,7 +28,8 @@ pub enum Replacement {
 
 /// What is to stand in the place of the text: its normal form, where it has no error and reads back.
 ///
-/// `Memory`: a growth was refused, or the text is as long as the greatest `usize`. `TooDeep`: it nests deeper than it may.
+/// `Memory`: a growth was refused, or the text is as long as the greatest `usize`. `TooDeep`: it nests deeper than it
+/// may.
 pub fn replacement_for(alloc: Global, text: &str, reading: Reading) -> Result<Replacement, Fault>
     ensures is { IfOk result (IsReplacement reading.edition text.now) }
     ensures places { IfOk result (ErrorsIn text.now) }

@@ -23,8 +23,8 @@ pub enum Rewriting {
     Unsafe,
 }
 
-/// Puts the file's normal form in its place, if it has no syntax error and the normal form reads back. After a fault the old
-/// bytes stand, or the normal form does.
+/// Puts the file's normal form in its place, if it has no syntax error and the normal form reads back. After a fault
+/// the old bytes stand, or the normal form does.
 pub fn rewrite<S: Store>(
     alloc: Global,
     store: &mut S,

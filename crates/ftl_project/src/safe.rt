@@ -8,8 +8,8 @@ use fluent_syntax::laws::{is_canonical, joined};
 use fluent_syntax::parser::{Edition, Slice};
 use std::alloc::{AllocError, Global};
 
-/// Whether the tree of a text is safe to write in the text's place: its written text reads back, by edition one as the joined
-/// tree, which has the same messages and terms, by edition two as the tree itself.
+/// Whether the tree of a text is safe to write in the text's place: its written text reads back, by edition one as the
+/// joined tree, which has the same messages and terms, by edition two as the tree itself.
 ///
 /// `AllocError`: a growth was refused.
 pub fn is_safe_to_write<'s, S: Slice<'s>>(

@@ -44,7 +44,8 @@ impl Tally {
     /// One file more was answered, with so many errors. It is concerned if it has some, or is not as it is to be.
     pub fn count(&mut self, errors: usize, is_concerned: bool)
         ensures files { self.new.files ≡ min (self.old.files + 1) (2 ^ 64 - 1) }
-        ensures concerned { self.new.concerned ≡ min (self.old.concerned + (if is_concerned then 1 else 0)) (2 ^ 64 - 1) }
+        ensures concerned { self.new.concerned
+            ≡ min (self.old.concerned + (if is_concerned then 1 else 0)) (2 ^ 64 - 1) }
         ensures errors { self.new.errors ≡ min (self.old.errors + errors) (2 ^ 64 - 1) }
         ensures fault { self.new.fault ≡ self.old.fault }
     {
