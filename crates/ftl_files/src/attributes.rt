@@ -14,7 +14,7 @@ pub(crate) fn replaceable<R: Files>(rt: &R, path: &str) -> io::Result<Metadata> 
     if !file.is_file() {
         return Err(io::Error::new(ErrorKind::InvalidInput, "not a regular file"));
     }
-    if file.nlink() != 1 {
+    if file.nlink() > 1 {
         return Err(io::Error::new(ErrorKind::InvalidInput, "it has several hard links"));
     }
     if file.permissions().readonly() {

@@ -2,6 +2,8 @@
 #![tactic(auto)]
 
 #[cfg(test)]
+mod disk;
+#[cfg(test)]
 mod excerpts;
 #[cfg(test)]
 mod files;
@@ -9,3 +11,5 @@ mod files;
 mod reports;
 #[cfg(test)]
 mod runs;
+#[cfg(test)]
+mod shelf;
