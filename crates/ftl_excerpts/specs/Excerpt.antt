@@ -1,5 +1,6 @@
 -- The two lines that show a place of a source: its line, cut to a window around the place, and a caret below the place.
-use Rattle.std.specs.Prelude.{ℕ, ◌-◌, ◌<◌, ◌≤◌, ◌≡◌, List, [], ◌∷◌, ◌++◌, Bool, ◌==◌, ◌||◌, ◌&&◌, false, not, nat_lt, if◌then◌else◌, chars, codes, drop, encode_utf8, length, replicate, take, unwrap_or}
+use Rattle.std.specs.Prelude.{ℕ, ◌-◌, ◌<◌, ◌≤◌, ◌≡◌, List, [], ◌∷◌, ◌++◌, Bool, ◌==◌, ◌||◌, ◌&&◌, false, not, nat_lt}
+use Rattle.std.specs.Prelude.{if◌then◌else◌, chars, codes, drop, encode_utf8, length, replicate, take, unwrap_or}
 use Rattle.std.specs.List.{flat_map, suffix_len, before_first}
 use Rattle.std.specs.Str.{IsCharBoundary}
 use Rattle.std.specs.Str.Lines.{strip_carriage_return}
@@ -22,11 +23,12 @@ abbrev pub begins_with_line_feed : List ℕ → Bool
 begins_with_line_feed [] = false
 begins_with_line_feed (b ∷ rest) = is_line_feed b
 
--- What stands on the line before a place. Where the place is that of a line feed, a carriage return before it belongs to
--- the line's end.
+-- What stands on the line before a place. Where the place is that of a line feed, a carriage return before it belongs
+-- to the line's end.
 abbrev pub front : (t : List ℕ) (cut : ℕ) → List ℕ
 front t cut =
-    if begins_with_line_feed (drop cut t) then strip_carriage_return (last_line (take cut t)) else last_line (take cut t)
+    if begins_with_line_feed (drop cut t) then strip_carriage_return (last_line (take cut t))
+    else last_line (take cut t)
 
 -- what stands on it from the place on, without the line's end
 abbrev pub back : (t : List ℕ) (cut : ℕ) → List ℕ

@@ -1,6 +1,7 @@
 //! How a text is shown in a terminal, and what stands below it.
 ghost use Rattle.std.specs.Prelude.{◌≡◌, ◌++◌, ◌≤◌, OnOk, chars, length, replicate, string_bytes};
-ghost use Rattle.ftl_excerpts.specs.Excerpt.{below, below_char, is_hidden, shown, shown_char, shown_text, window, window_start};
+ghost use Rattle.ftl_excerpts.specs.Excerpt.{below, below_char, is_hidden, shown, shown_char, shown_text, window};
+ghost use Rattle.ftl_excerpts.specs.Excerpt.{window_start};
 
 use std::alloc::AllocError;
 use unicode_width::UnicodeWidthChar;
@@ -25,8 +26,8 @@ pub(crate) fn push_shown(out: &mut String, text: &str, start: usize) -> Result<(
     Ok(())
 }
 
-/// Adds the whole text, with U+FFFD for each control character but the tab, line ends among them: a name of a file may have
-/// any.
+/// Adds the whole text, with U+FFFD for each control character but the tab, line ends among them: a name of a file may
+/// have any.
 ///
 /// `AllocError`: a growth was refused; what was added until then stays.
 pub fn push_shown_text(out: &mut String, text: &str) -> Result<(), AllocError>

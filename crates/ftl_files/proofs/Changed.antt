@@ -1,5 +1,6 @@
 -- One change more in memory.
-use Rattle.std.proofs.Common.{◌≡◌, ◌⊎◌, ◌∙◌, ◌≤◌, ℕ, zero, suc, List, ◌∷◌, Option, Some, Bool, true, false, Decides, arith, bytes_eq, inl, inr, ⊎_elim, length, refl, string_bytes, subst, sym, if◌then◌else◌}
+use Rattle.std.proofs.Common.{◌≡◌, ◌⊎◌, ◌∙◌, ◌≤◌, ℕ, zero, suc, List, ◌∷◌, Option, Some, Bool, true, false, Decides}
+use Rattle.std.proofs.Common.{arith, bytes_eq, inl, inr, ⊎_elim, length, refl, string_bytes, subst, sym, if◌then◌else◌}
 use Rattle.std.proofs.lemmas.Slice.Eq.{bytes_eq-Decides}
 use Rattle.ftl_files.specs.Files.{Changes, GoesOn}
 use Rattle.ftl_files.specs.Memory.{bytes_at, bytes_of, files_of}
@@ -12,16 +13,20 @@ by_test false path at came was is = inr refl
 
 module _ (change : Change) (before : List Change) where
   -- what stands at a path is what the change has left there, or what stood there
-  pub newest : (path : List ℕ) → ((path ≡ string_bytes change.path) × (bytes_at (change ∷ before) path ≡ bytes_of change.bytes))
+  pub newest : (path : List ℕ) → ((path ≡ string_bytes change.path)
+      × (bytes_at (change ∷ before) path ≡ bytes_of change.bytes))
       ⊎ (bytes_at (change ∷ before) path ≡ bytes_at before path)
-  newest path = by_test (bytes_eq path (string_bytes change.path)) path (string_bytes change.path) (bytes_of change.bytes)
+  newest path = by_test (bytes_eq path (string_bytes change.path)) path (string_bytes change.path)
+      (bytes_of change.bytes)
       (bytes_at before path) (bytes_eq-Decides path (string_bytes change.path))
 
   module _ (changes : Changes)
-      (comes : (path : List ℕ) (left : Option (List ℕ)) → path ≡ string_bytes change.path → left ≡ bytes_of change.bytes →
+      (comes : (path : List ℕ) (left : Option (List ℕ)) → path ≡ string_bytes change.path →
+      left ≡ bytes_of change.bytes →
       changes path left) where
     since : (t : ℕ) (path : List ℕ) (left : Option (List ℕ)) → t ≤ length before →
-        (files_of (change ∷ before)).left_since t path left → (files_of before).left_since t path left ⊎ changes path left
+        (files_of (change ∷ before)).left_since t path left → (files_of before).left_since t path left
+        ⊎ changes path left
     since t path left le (zero, within, is) = ⊎_elim
         (λ came. inr (comes path left came.0 (is ∙ came.1)))
         (λ same. inl (0, omega (arith, le), is ∙ same)) (newest path)
@@ -32,7 +37,8 @@ module _ (change : Change) (before : List Change) where
       later = omega arith;
       bytes = λ path. ⊎_elim (λ came. inr (comes path _ came.0 came.1)) inl (newest path);
       hold = λ path bytes held. ⊎_elim
-          (λ came. inr (comes path (Some bytes) came.0 (sym held ∙ came.1))) (λ same. inl (sym same ∙ held)) (newest path);
+          (λ came. inr (comes path (Some bytes) came.0 (sym held ∙ came.1)))
+          (λ same. inl (sym same ∙ held)) (newest path);
       leave = λ path left is. ⊎_elim
           (λ came. inr (comes path left came.0 (is ∙ came.1))) (λ same. inl (is ∙ same)) (newest path);
       since = since;

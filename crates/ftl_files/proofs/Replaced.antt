@@ -1,7 +1,9 @@
 -- How a file takes another's name, step by step.
-use Rattle.std.proofs.Common.{◌≡◌, ◌⊎◌, ◌∙◌, ◌++◌, ℕ, List, [], Option, None, Some, IfSome, OnOk, Result, Ok, Err, inl, inr, ⊎_elim, refl, sym, ap}
+use Rattle.std.proofs.Common.{◌≡◌, ◌⊎◌, ◌∙◌, ◌++◌, ℕ, List, [], Option, None, Some, IfSome, OnOk, Result, Ok, Err, inl}
+use Rattle.std.proofs.Common.{inr, ⊎_elim, refl, sym, ap}
 use Rattle.std.proofs.lemmas.Option.{MatchOption-at_some}
-use Rattle.ftl_files.specs.Files.{Changes, Files, GoesOn, IsDurable, IsNamed, IsSynced, at_free_path, at_free_paths, at_path, filled, nowhere, renamed, replaced}
+use Rattle.ftl_files.specs.Files.{Changes, Files, GoesOn, IsDurable, IsNamed, IsSynced, at_free_path, at_free_paths}
+use Rattle.ftl_files.specs.Files.{at_path, filled, nowhere, renamed, replaced}
 use Rattle.ftl_files.specs.Store.{AllStand, Becomes}
 use Rattle.ftl_files.proofs.Steps.{IsPartOf, then}
 
@@ -19,7 +21,8 @@ each_known (Some bytes) P Q is so = so is
 
 module _ (old synced : Files) (beside path text : List ℕ) where
   -- what a rename brings is the text, behind the bytes that were known
-  pub renamed_part : ((bytes : List ℕ) → old.bytes_at beside ≡ Some bytes → synced.bytes_at beside ≡ Some (bytes ++ text)) →
+  pub renamed_part : ((bytes : List ℕ) → old.bytes_at beside ≡ Some bytes → synced.bytes_at beside ≡ Some (bytes
+      ++ text)) →
       IsSynced synced beside → IsPartOf (renamed synced beside path) (filled old beside path text)
   renamed_part written is_synced at left (inl same) = inl same
   renamed_part written is_synced at left (inr (same, (bytes, is, inl stood))) =
@@ -37,7 +40,8 @@ filling old written synced new beside path text write sync rename has_text is_sy
     (λ bytes known. stands written synced sync beside ∙ has_text bytes known) is_synced in
     let two = then old written synced (at_path beside) nowhere (filled old beside path text) write sync
     (λ p left is. inl is) (λ p left none. absurd none) in
-    then old synced new (filled old beside path text) (renamed synced beside path) (filled old beside path text) two rename
+    then old synced new (filled old beside path text)
+    (renamed synced beside path) (filled old beside path text) two rename
     (λ p left is. is) part
 
 -- a name that was free stays free as long as all stands

@@ -71,18 +71,21 @@ replaced old only text path left = (old.bytes_at path ≡ None) ⊎ ((path ≡ o
 -- The file is filled and takes the name: its bytes were known, and then the text behind them comes to the name.
 abbrev pub filled : (old : Files) → (beside only text : List ℕ) → Changes
 filled old beside only text path left =
-    (path ≡ beside) ⊎ ((path ≡ only) × ((bytes : List ℕ) → old.bytes_at beside ≡ Some bytes → left ≡ Some (bytes ++ text)))
+    (path ≡ beside) ⊎
+    ((path ≡ only) × ((bytes : List ℕ) → old.bytes_at beside ≡ Some bytes → left ≡ Some (bytes ++ text)))
 
 -- where the file's bytes are known, these are all that a crash may leave in it
 abbrev pub IsSynced : (now : Files) → (path : List ℕ) → Type 0
-IsSynced now path = (bytes : List ℕ) → now.bytes_at path ≡ Some bytes → (left : List ℕ) → now.may_hold path left → left ≡ bytes
+IsSynced now path = (bytes : List ℕ) → now.bytes_at path ≡ Some bytes → (left : List ℕ) → now.may_hold path left →
+    left ≡ bytes
 
 -- where the file's bytes are known, a crash leaves a file of them at the path
 abbrev pub IsDurable : (now : Files) → (path : List ℕ) → Type 0
 IsDurable now path =
-    (bytes : List ℕ) → now.bytes_at path ≡ Some bytes → (left : Option (List ℕ)) → now.may_leave path left → left ≡ Some bytes
+    (bytes : List ℕ) → now.bytes_at path ≡ Some bytes → (left : Option (List ℕ)) → now.may_leave path left →
+    left ≡ Some bytes
 
 -- where the file's bytes are known, a crash leaves at the path what it may leave in the file
 abbrev pub IsNamed : (now : Files) → (path : List ℕ) → Type 0
-IsNamed now path = (bytes : List ℕ) → now.bytes_at path ≡ Some bytes → (left : Option (List ℕ)) → now.may_leave path left →
-    (kept : List ℕ) × (left ≡ Some kept) × now.may_hold path kept
+IsNamed now path = (bytes : List ℕ) → now.bytes_at path ≡ Some bytes → (left : Option (List ℕ)) →
+    now.may_leave path left → (kept : List ℕ) × (left ≡ Some kept) × now.may_hold path kept

@@ -1,5 +1,6 @@
 -- The files that a store in memory has: what the changes so far have left, the newest first.
-use Rattle.std.specs.Prelude.{◌≡◌, ◌≤◌, ◌+◌, ℕ, List, [], ◌∷◌, Option, None, Some, Vec, zero, suc, drop, length, option_map, string_bytes, if◌then◌else◌}
+use Rattle.std.specs.Prelude.{◌≡◌, ◌≤◌, ◌+◌, ℕ, List, [], ◌∷◌, Option, None, Some, Vec, zero, suc, drop, length}
+use Rattle.std.specs.Prelude.{option_map, string_bytes, if◌then◌else◌}
 use Rattle.std.specs.Str.{bytes_eq}
 use Rattle.std.proofs.Common.{subst, sym}
 use Rattle.std.proofs.Math.Arith.{add-le_cancel_left}
@@ -19,15 +20,16 @@ bytes_at [] path = None
 bytes_at (change ∷ before) path =
     if bytes_eq path (string_bytes change.path) then bytes_of change.bytes else bytes_at before path
 
--- Each change is done at once and for good: a crash leaves what stands there, and has left since a moment what stood there
--- after some of the changes behind it.
+-- Each change is done at once and for good: a crash leaves what stands there, and has left since a moment what stood
+-- there after some of the changes behind it.
 abbrev pub files_of : List Change → Files
 files_of changes = record {
   bytes_at = bytes_at changes;
   may_hold = λ path bytes. bytes_at changes path ≡ Some bytes;
   may_leave = λ path left. left ≡ bytes_at changes path;
   moment = length changes;
-  left_since = λ t path left. (undone : ℕ) × (t + undone ≤ length changes) × (left ≡ bytes_at (drop undone changes) path);
+  left_since = λ t path left. (undone : ℕ) × (t + undone ≤ length changes)
+      × (left ≡ bytes_at (drop undone changes) path);
 }
 
 -- ---- this moment

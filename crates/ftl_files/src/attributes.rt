@@ -7,14 +7,14 @@ use std::rt::Files;
 
 /// What the system tells of a file that may be replaced.
 ///
-/// `InvalidInput`: it is no regular file, or has other names, which would keep the old bytes. `PermissionDenied`: nobody
-/// may write it, which a rename would not ask.
+/// `InvalidInput`: it is no regular file, or has other names, which would keep the old bytes. `PermissionDenied`:
+/// nobody may write it, which a rename would not ask.
 pub(crate) fn replaceable<R: Files>(rt: &R, path: &str) -> io::Result<Metadata> {
     let file = fs::metadata(rt, path)?;
     if !file.is_file() {
         return Err(io::Error::new(ErrorKind::InvalidInput, "not a regular file"));
     }
-    if file.nlink() != 1 {
+    if file.nlink() > 1 {
         return Err(io::Error::new(ErrorKind::InvalidInput, "it has several hard links"));
     }
     if file.permissions().readonly() {

@@ -48,8 +48,8 @@ impl<R: Files + AllocGlobal> FileSystem for Disk<'_, R> {
         fs::read(self.rt, path)
     }
 
-    /// Nobody else reads the file before it has the mode of the old one. Where it can't be given the mode and the owner, it
-    /// is removed.
+    /// Nobody else reads the file before it has the mode of the old one. Where it can't be given the mode and the
+    /// owner, it is removed.
     fn create(&mut self, path: &str, like: &str) -> io::Result<DiskFile<R::File>> {
         let old = replaceable(self.rt, like)?;
         let name = String::from_str(self.rt.alloc(), path)?;

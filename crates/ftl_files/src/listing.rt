@@ -14,9 +14,9 @@ pub struct Listing {
     pub faults: Vec<(String, io::Error)>,
 }
 
-/// The path itself, if it names no folder; else each file below the folder whose name ends in `.ftl`. Below the folder no
-/// symlink is followed. An entry whose name is not UTF-8, or that vanishes meanwhile, is told as a fault, and the others
-/// are listed.
+/// The path itself, if it names no folder; else each file below the folder whose name ends in `.ftl`. Below the folder
+/// no symlink is followed. An entry whose name is not UTF-8, or that vanishes meanwhile, is told as a fault, and the
+/// others are listed.
 pub fn list<R: Files + AllocGlobal + Clone + Drop>(
     rt: &R,
     path: &str,

@@ -69,7 +69,8 @@ impl Memory {
 
 /// What the newest change of the path has left there.
 fn latest<'a>(changes: &'a [Change], path: &str) -> Option<&'a [u8]>
-    ensures { MatchOption result (bytes_at changes.now path.now ≡ None) (λ bytes. bytes_at changes.now path.now ≡ Some bytes.now) }
+    ensures { MatchOption result (bytes_at changes.now path.now ≡ None)
+        (λ bytes. bytes_at changes.now path.now ≡ Some bytes.now) }
 {
     for change in changes {
         if path == change.path.as_str() {

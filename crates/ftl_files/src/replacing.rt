@@ -13,9 +13,9 @@ const NAMES: u8 = 100;
 
 /// Puts the text in the place of the bytes of the file at a path.
 ///
-/// The text is written to a file beside, with the mode and the owner of the old one, which then takes the old one's name
-/// in one step. At any failure before that step the file beside is removed, and the old bytes stand. At a failure behind
-/// it the text stands, and a crash may still bring the old bytes back.
+/// The text is written to a file beside, with the mode and the owner of the old one, which then takes the old one's
+/// name in one step. At any failure before that step the file beside is removed, and the old bytes stand. At a failure
+/// behind it the text stands, and a crash may still bring the old bytes back.
 pub fn replace_file<F: FileSystem>(
     alloc: Global,
     system: &mut F,
@@ -23,12 +23,14 @@ pub fn replace_file<F: FileSystem>(
     text: &[u8],
 ) -> io::Result<()>
     // whatever a read gives or a crash leaves, at any moment of the call
-    ensures any_moment { GoesOn (F.files system.old) (F.files system.new) (replaced (F.files system.old) path.now text.now) }
+    ensures any_moment { GoesOn (F.files system.old) (F.files system.new)
+        (replaced (F.files system.old) path.now text.now) }
     ensures replaced { OnOk result (Becomes ((F.files system.old).bytes_at path.now)
         ((F.files system.new).bytes_at path.now) text.now) }
     ensures others { OnOk result ((other : List ℕ)
         → ((F.files system.new).bytes_at other ≡ (F.files system.old).bytes_at other) ⊎ (other ≡ path.now)) }
-    ensures durable { OnOk result (IfSome ((F.files system.old).bytes_at path.now) (λ _. IsDurable (F.files system.new) path.now)) }
+    ensures durable { OnOk result (IfSome ((F.files system.old).bytes_at path.now)
+        (λ _. IsDurable (F.files system.new) path.now)) }
 {
     let (beside, file) = create_beside(alloc, system, path)?;
     match fill_and_rename(system, file, beside.as_str(), path, text) {
@@ -83,7 +85,8 @@ fn fill_and_rename<F: FileSystem>(
         (filled (F.files system.old) beside.now path.now text.now) }
     ensures came { OnOk result (IfSome ((F.files system.old).bytes_at beside.now)
         (λ bytes. (F.files system.new).bytes_at path.now ≡ Some (bytes ++ text.now))) }
-    ensures synced { OnOk result (IfSome ((F.files system.old).bytes_at beside.now) (λ _. IsSynced (F.files system.new) path.now)) }
+    ensures synced { OnOk result (IfSome ((F.files system.old).bytes_at beside.now)
+        (λ _. IsSynced (F.files system.new) path.now)) }
     ensures gone { OnOk result ((F.files system.new).bytes_at beside.now ≡ None) }
 {
     system.write(&mut file, text)?;

@@ -1,7 +1,8 @@
 //! Readers and writers that fail, and how a run meets them.
 
+use fluent_syntax::parser::TooDeep;
 use fluent_syntax_tests::alike::{assert_holds, assert_same};
-use ftl::{Command, Outcome, RunFault, Watched, run};
+use ftl::{Command, Outcome, RunFault, Watched, run, run_within};
 use std::alloc::Global;
 use std::io::{self, Read, Write};
 use std::test::Fail;
@@ -111,6 +112,19 @@ pub(crate) fn ends_so(
 ) -> bool {
     let (ended, written) = end_of_run(alloc, command, reader, writer);
     ended == end && written.as_slice() == bytes
+}
+
+/// How the command ends within a bound on nesting over a whole input, and what was written.
+pub(crate) fn end_within(
+    alloc: Global,
+    command: Command,
+    nesting: usize,
+    input: &str,
+) -> (Result<Result<Outcome, RunFault>, TooDeep>, Vec<u8>) {
+    let mut reader = Watched::new(Drip::whole(input.as_bytes()));
+    let mut writer = Watched::new(Narrow::wide(alloc));
+    let ended = run_within(alloc, command, nesting, &mut reader, &mut writer);
+    (ended, writer.into_inner().taken)
 }
 
 const INPUT: &str = "\nkey1 = Value 1\n\ng@Rb@ge = #2y ds\n\nkey2 = Value 2\n\n";

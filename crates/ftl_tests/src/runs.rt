@@ -1,6 +1,6 @@
 //! What each command writes of a text, as an answer and over a reader and a writer.
 
-use crate::ends::{Drip, Narrow, ends_so};
+use crate::ends::{Drip, Narrow, end_within, ends_so};
 use fluent_syntax_tests::alike::{assert_holds, assert_same, assert_same_text};
 use ftl::{Command, Outcome, answer, answer_within};
 use serde_json::Value;
@@ -147,6 +147,28 @@ fn answers_within_a_bound(rt: HostRuntime) -> Result<(), Fail> {
         assert_too_deep_for_1(rt.alloc(), row.0)?;
     }
     assert_too_deep_for_1(rt.alloc(), Command::Json)
+}
+
+fn assert_run_within(alloc: Global, row: &OfNested) -> Result<(), Fail> {
+    let (command, expected) = row;
+    let (ended, written) = end_within(alloc, *command, 2, NESTED);
+    assert_holds(alloc, "an end within 2", ended == Ok(Ok(Outcome::Clean)))?;
+    assert_holds(
+        alloc,
+        "written within 2",
+        written.as_slice() == expected.as_bytes(),
+    )?;
+    let (refused, none) = end_within(alloc, *command, 1, NESTED);
+    assert_holds(alloc, "an end within 1", refused.is_err())?;
+    assert_holds(alloc, "nothing is written within 1", none.is_empty())
+}
+
+#[test]
+fn runs_within_a_bound(rt: HostRuntime) -> Result<(), Fail> {
+    for row in &OF_NESTED {
+        assert_run_within(rt.alloc(), row)?;
+    }
+    Ok(())
 }
 
 fn assert_run(alloc: Global, row: &Row) -> Result<(), Fail> {

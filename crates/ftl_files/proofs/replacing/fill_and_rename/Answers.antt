@@ -10,7 +10,8 @@ returns-clause-any_moment g c =
     let written = files c.write.new.self in
     let write = subst (λ p. GoesOn (files c.args.system.now) written (at_path p)) c.requires c.write.ensures.changes in
     let had = subst
-    (λ p. (bytes : List ℕ) → (files c.args.system.now).bytes_at p ≡ Some bytes → written.bytes_at p ≡ Some (bytes ++ c.args.text.now))
+    (λ p. (bytes : List ℕ) → (files c.args.system.now).bytes_at p ≡ Some bytes → written.bytes_at p ≡ Some (bytes
+    ++ c.args.text.now))
     c.requires (λ bytes is. MatchOption-at_some _ _ bytes is c.in_ok-write.ensures.written) in
     let synced = subst (λ p. IsSynced (files c.sync.new.self) p) (c.write.ensures.path ∙ c.requires)
     c.in_ok-sync.ensures.synced in

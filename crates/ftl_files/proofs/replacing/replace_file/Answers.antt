@@ -28,7 +28,8 @@ returns-clause-any_moment g c =
     (λ b. GoesOn (files c.fill_and_rename.new.system) (files c.remove.new.self) (at_path b))
     c.as_str-in-Err.ensures.value c.remove.ensures.changes in
     replacing _ _ _ _ _ path text _ c.create_beside.ensures.any_moment fill remove
-    (removed_part (files c.args.system.now) _ path text c.in_ok-beside.ensures.free) c.in_ok-beside.ensures.free c.in_ok-beside.ensures.empty
+    (removed_part (files c.args.system.now) _ path text c.in_ok-beside.ensures.free)
+    c.in_ok-beside.ensures.free c.in_ok-beside.ensures.empty
 
 pub returns-in-Ok-clause-durable : goal.returns-in-Ok-clause-durable
 returns-in-Ok-clause-durable g c =

@@ -1,0 +1,3 @@
+pub mod Rewriting
+pub mod Safe
+pub mod Tally

@@ -1,0 +1,49 @@
+//! Why a file was not answered.
+ghost use Rattle.std.specs.Prelude.{◌≤◌};
+
+use std::io::ErrorKind;
+use std::{fmt, io};
+
+/// Why a file was not answered.
+#[derive(Debug, Drop)]
+pub enum Fault {
+    /// It could not be read.
+    Read(io::Error),
+    /// It is not UTF-8 from that byte on, counted from 0.
+    NotText(usize),
+    /// A growth was refused.
+    Memory,
+    /// It could not be written: its old bytes stand, or the new ones.
+    Write(io::Error),
+    /// It nests deeper than it may.
+    TooDeep,
+}
+
+impl Fault {
+    /// The exit status: 3 where it was not read, 4 where memory was wanted, 5 where it was not written, and 6 where it
+    /// nests too deep.
+    pub fn status(&self) -> u8
+        ensures least { 3 ≤ result }
+        ensures greatest { result ≤ 6 }
+    {
+        match self {
+            Fault::Memory => 4,
+            Fault::Read(error) | Fault::Write(error) if error.kind() == ErrorKind::OutOfMemory => 4,
+            Fault::Read(_) | Fault::NotText(_) => 3,
+            Fault::Write(_) => 5,
+            Fault::TooDeep => 6,
+        }
+    }
+}
+
+impl fmt::Display for Fault {
+    fn fmt<W: fmt::Write>(&self, f: &mut fmt::Formatter<W>) -> fmt::Result {
+        match self {
+            Fault::Read(error) => write!(f, "can't be read: {error}"),
+            Fault::NotText(place) => write!(f, "is not UTF-8 from byte {place} on"),
+            Fault::Memory => f.write_str("no memory"),
+            Fault::Write(error) => write!(f, "can't be written: {error}"),
+            Fault::TooDeep => f.write_str("nests deeper than it may"),
+        }
+    }
+}

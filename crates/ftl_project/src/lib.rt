@@ -1,0 +1,30 @@
+//! Runs over the files of a project: they are checked, or formatted in place.
+#![tactic(auto)]
+
+mod checking;
+mod fault;
+mod form;
+mod formatting;
+mod github;
+mod json;
+mod reading;
+mod refused;
+mod replacement;
+mod reporting;
+mod rewriting;
+mod safe;
+mod streams;
+mod tally;
+
+pub use checking::check_files;
+pub use fault::Fault;
+pub use form::Form;
+pub use formatting::{name_files, write_files};
+pub use reading::Reading;
+pub use refused::Refused;
+pub use replacement::{Replacement, replacement_for};
+pub use reporting::report;
+pub use rewriting::{Rewriting, rewrite};
+pub use safe::is_safe_to_write;
+pub use streams::Streams;
+pub use tally::Tally;

@@ -1,0 +1,71 @@
+//! What is to stand in the place of a file's text.
+ghost use Rattle.std.specs.Prelude.{◌+◌, ◌<◌, ◌^◌, ◌≤◌, All, IfOk, length};
+ghost use Rattle.fluent_syntax_grammar.specs.RoundTrip.{ReadsAs};
+ghost use Rattle.fluent_syntax_tree.specs.View.{resource_view};
+ghost use Rattle.ftl_project.specs.Rewriting.{ErrorsIn, IsReplacement};
+
+use crate::fault::Fault;
+use crate::reading::Reading;
+use crate::safe::is_safe_to_write;
+use fluent_syntax::ast::Resource;
+use fluent_syntax::parser::{Edition, ParseFault, ParserError, parse_within};
+use fluent_syntax::serializer::serialize;
+use ftl::laws::formats_again;
+use std::alloc::{AllocError, Global};
+
+/// What is to stand in the place of a file's text.
+#[derive(Debug, Drop)]
+pub enum Replacement {
+    /// The text itself.
+    Same,
+    /// This text.
+    Text(String),
+    /// The text: it has these syntax errors, and its normal form would lack their junk.
+    Errors(Vec<ParserError>),
+    /// The text: its normal form would not read back.
+    Unsafe,
+}
+
+/// What is to stand in the place of the text: its normal form, where it has no error and reads back.
+///
+/// `Memory`: a growth was refused, or the text is as long as the greatest `usize`. `TooDeep`: it nests deeper than it
+/// may.
+pub fn replacement_for(alloc: Global, text: &str, reading: Reading) -> Result<Replacement, Fault>
+    ensures is { IfOk result (IsReplacement reading.edition text.now) }
+    ensures places { IfOk result (ErrorsIn text.now) }
+    ensures short { IfOk result (λ _. length text.now + 1 < 2 ^ 64) }
+{
+    if text.len() == usize::MAX {
+        return Err(Fault::Memory);
+    }
+    match parse_within(alloc, text, reading.edition, reading.nesting) {
+        Ok(Ok(tree)) => rewritten(alloc, text, &tree, reading.edition),
+        Ok(Err(ParseFault::Syntax(_, errors))) => Ok(Replacement::Errors(errors)),
+        Ok(Err(ParseFault::Memory)) => Err(Fault::Memory),
+        Err(_) => Err(Fault::TooDeep),
+    }
+}
+
+/// What is to stand in the place of the text that was read as the tree, without errors.
+fn rewritten(
+    alloc: Global,
+    text: &str,
+    tree: &Resource<&str>,
+    edition: Edition,
+) -> Result<Replacement, Fault>
+    requires { ReadsAs edition text.now (resource_view (λ s. s.now) tree.now) }
+    ensures is { IfOk result (IsReplacement edition text.now) }
+    ensures no_errors { IfOk result (ErrorsIn text.now) }
+{
+    formats_again(text.as_bytes());
+    match is_safe_to_write(alloc, tree, edition) {
+        Ok(true) => (),
+        Ok(false) => return Ok(Replacement::Unsafe),
+        Err(AllocError) => return Err(Fault::Memory),
+    }
+    match serialize(alloc, tree) {
+        Ok(formatted) if formatted.as_str() == text => Ok(Replacement::Same),
+        Ok(formatted) => Ok(Replacement::Text(formatted)),
+        Err(AllocError) => Err(Fault::Memory),
+    }
+}

@@ -1,0 +1,72 @@
+//! The errors of a text, told for people or for tools.
+ghost use Rattle.std.specs.Prelude.{◌≡◌, string_bytes};
+
+use crate::form::Form;
+use crate::github::push_github_line;
+use crate::json::push_json_line;
+use crate::refused::Refused;
+use fluent_syntax::parser::ParserError;
+use fluent_syntax::spans::Lines;
+use ftl_excerpts::{push_excerpt, push_shown_text};
+use std::alloc::{AllocError, Global};
+use std::fmt::Write;
+
+/// Where an error is: its file, and its line and column, both from 1 and the column in bytes.
+#[derive(Clone, Copy)]
+pub(crate) struct Place<'a> {
+    pub(crate) path: &'a str,
+    pub(crate) line: usize,
+    pub(crate) column: usize,
+}
+
+/// What is told of the errors of a file's text, in the order of the errors.
+///
+/// `AllocError`: a growth was refused.
+pub fn report(
+    alloc: Global,
+    path: &str,
+    refused: &Refused,
+    form: Form,
+) -> Result<String, AllocError> {
+    let text = refused.text.as_str();
+    let mut out = String::new(alloc);
+    let mut lines = Lines::new(text);
+    for error in &refused.errors {
+        let (line, column) = lines.line_column(error.pos.start);
+        let place = Place { path, line, column };
+        match form {
+            Form::Lines => push_line(&mut out, &place, error)?,
+            Form::Full => push_in_full(&mut out, text, &place, error)?,
+            Form::Json => push_json_line(&mut out, &place, error)?,
+            Form::Github => push_github_line(&mut out, &place, error)?,
+        }
+    }
+    Ok(out)
+}
+
+/// `PATH:LINE:COLUMN: KIND`
+fn push_line(out: &mut String, place: &Place<'_>, error: &ParserError) -> Result<(), AllocError> {
+    push_place(out, place)?;
+    writeln!(out, ": {}", error.kind.name())
+}
+
+/// The place with the message, the line of the source, and a caret below.
+fn push_in_full(
+    out: &mut String,
+    text: &str,
+    place: &Place<'_>,
+    error: &ParserError,
+) -> Result<(), AllocError> {
+    push_place(out, place)?;
+    let message = format!(in out.allocator().clone()?; "{error}")?;
+    write!(out, ": error[{}]: ", error.kind.name())?;
+    push_shown_text(out, message.as_str())?;
+    out.push('\n')?;
+    push_excerpt(out, text, error.pos.start)
+}
+
+/// `PATH:LINE:COLUMN`
+fn push_place(out: &mut String, place: &Place<'_>) -> Result<(), AllocError> {
+    push_shown_text(out, place.path)?;
+    write!(out, ":{}:{}", place.line, place.column)
+}

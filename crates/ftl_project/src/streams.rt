@@ -1,0 +1,49 @@
+//! What a run writes to.
+
+use crate::fault::Fault;
+use crate::tally::Tally;
+use ftl::RunFault;
+use ftl_excerpts::push_shown_text;
+use std::alloc::{AllocError, Global};
+use std::fmt::Write as _;
+use std::io::Write;
+
+/// What a run writes to.
+#[derive(Drop)]
+pub struct Streams<'w, O, E> {
+    /// What was asked for.
+    pub out: &'w mut O,
+    /// Faults, and why files were left as they are.
+    pub err: &'w mut E,
+}
+
+/// Tells why a file was not answered, and counts it.
+pub(crate) fn tell<O: Write, E: Write>(
+    alloc: Global,
+    tally: &mut Tally,
+    path: &str,
+    fault: &Fault,
+    streams: &mut Streams<'_, O, E>,
+) -> Result<(), RunFault> {
+    tally.add_fault(fault.status());
+    match fault_line(alloc, path, fault) {
+        Ok(line) => put(streams.err, line.as_str()),
+        Err(AllocError) => Err(RunFault::Memory),
+    }
+}
+
+/// `ftl: PATH: FAULT`, on a line.
+fn fault_line(alloc: Global, path: &str, fault: &Fault) -> Result<String, AllocError> {
+    let mut line = String::from_str(alloc, "ftl: ")?;
+    push_shown_text(&mut line, path)?;
+    writeln!(line, ": {fault}")?;
+    Ok(line)
+}
+
+/// Writes the text.
+pub(crate) fn put<W: Write>(writer: &mut W, text: &str) -> Result<(), RunFault> {
+    match writer.write_all(text.as_bytes()) {
+        Ok(()) => Ok(()),
+        Err(_) => Err(RunFault::Output),
+    }
+}

@@ -1,0 +1,63 @@
+//! What a run met.
+ghost use Rattle.std.specs.Prelude.{◌≡◌, ◌+◌, ◌-◌, ◌^◌, max, min, if◌then◌else◌};
+ghost use Rattle.ftl_project.specs.Tally.{status_of};
+
+/// What a run met.
+#[derive(Clone, Copy, Debug, PartialEq, Eq)]
+pub struct Tally {
+    /// Files that were answered.
+    pub files: usize,
+    /// Files with syntax errors, or that are not as they are to be.
+    pub concerned: usize,
+    /// Syntax errors in all.
+    pub errors: usize,
+    /// The greatest status of a fault, or 0.
+    pub fault: u8,
+}
+
+impl Tally {
+    /// A run that met nothing.
+    pub fn new() -> Self
+        ensures { result ≡ record { files = 0; concerned = 0; errors = 0; fault = 0 } }
+    {
+        Tally {
+            files: 0,
+            concerned: 0,
+            errors: 0,
+            fault: 0,
+        }
+    }
+
+    /// The exit status: that of the gravest fault, else 1 where a file has errors or changes, else 0.
+    pub fn status(&self) -> u8
+        ensures { result ≡ status_of self.now }
+    {
+        if self.fault != 0 {
+            self.fault
+        } else if self.concerned != 0 {
+            1
+        } else {
+            0
+        }
+    }
+
+    /// One file more was answered, with so many errors. It is concerned if it has some, or is not as it is to be.
+    pub fn count(&mut self, errors: usize, is_concerned: bool)
+        ensures files { self.new.files ≡ min (self.old.files + 1) (2 ^ 64 - 1) }
+        ensures concerned { self.new.concerned
+            ≡ min (self.old.concerned + (if is_concerned then 1 else 0)) (2 ^ 64 - 1) }
+        ensures errors { self.new.errors ≡ min (self.old.errors + errors) (2 ^ 64 - 1) }
+        ensures fault { self.new.fault ≡ self.old.fault }
+    {
+        self.files = self.files.saturating_add(1);
+        self.errors = self.errors.saturating_add(errors);
+        self.concerned = self.concerned.saturating_add(usize::from(is_concerned));
+    }
+
+    /// A file was not answered, with a fault of that status.
+    pub fn add_fault(&mut self, status: u8)
+        ensures { self.new ≡ record self.old { fault = max self.old.fault status } }
+    {
+        self.fault = self.fault.max(status);
+    }
+}

@@ -1,0 +1,72 @@
+//! How errors are told.
+
+use fluent_syntax::parser::{Edition, parse_within, recovered};
+use fluent_syntax_tests::alike::assert_same_text;
+use ftl_project::{Form, Refused, report};
+use std::alloc::Global;
+use std::test::Fail;
+
+/// What is shown, the file's name, its text, the form, and what is told.
+type Row = (&'static str, &'static str, &'static str, Form, &'static str);
+
+const BROKEN: &str = "a = b\nbro ken\n";
+
+const ROWS: [Row; 6] = [
+    (
+        "a line",
+        "a.ftl",
+        BROKEN,
+        Form::Lines,
+        "a.ftl:2:5: ExpectedToken\n",
+    ),
+    (
+        "a line and a caret",
+        "a.ftl",
+        BROKEN,
+        Form::Full,
+        "a.ftl:2:5: error[ExpectedToken]: Expected a token starting with \"=\"\nbro ken\n    ^\n",
+    ),
+    (
+        "a name with a line end",
+        "a\nb.ftl",
+        BROKEN,
+        Form::Lines,
+        "a\u{FFFD}b.ftl:2:5: ExpectedToken\n",
+    ),
+    (
+        "an object",
+        "a\"\n.ftl",
+        BROKEN,
+        Form::Json,
+        "{\"path\":\"a\\\"\\u000a.ftl\",\"line\":2,\"column\":5,\"start\":10,\"end\":11,\"junk\":{\"start\":6,\"end\":14},\
+        \"kind\":\"ExpectedToken\",\"payload\":\"=\",\"message\":\"Expected a token starting with \\\"=\\\"\"}\n",
+    ),
+    (
+        "an annotation",
+        "a:b,c%.ftl",
+        BROKEN,
+        Form::Github,
+        "::error file=a%3Ab%2Cc%25.ftl,line=2,col=5,title=ExpectedToken::Expected a token starting with \"=\"\n",
+    ),
+    ("no error", "a.ftl", "a = b\n", Form::Full, ""),
+];
+
+fn assert_told(alloc: Global, row: &Row) -> Result<(), Fail> {
+    let (shows, path, text, form, expected) = row;
+    let Ok(answer) = parse_within(alloc, *text, Edition::One, 10) else {
+        return Err("too deep".into());
+    };
+    let (_, errors) = recovered(alloc, answer)?;
+    let text = String::from_str(alloc, *text)?;
+    let refused = Refused { text, errors };
+    let told = report(alloc, *path, &refused, *form)?;
+    assert_same_text(alloc, *shows, told.as_str(), *expected)
+}
+
+#[test]
+fn reports(rt: HostRuntime) -> Result<(), Fail> {
+    for row in &ROWS {
+        assert_told(rt.alloc(), row)?;
+    }
+    Ok(())
+}
