@@ -88,8 +88,10 @@ pub enum Rule {
     /// In a multiline pattern the first text begins with spaces and then `.`, `[` or `*`.
     #[error("a pattern of several lines begins with spaces and then `.`, `[` or `*`")]
     HiddenMark,
-    /// In a multiline pattern all lines that count for the indent begin with spaces, which would be read as indent.
-    #[error("all lines of a pattern begin with spaces, which would be read as its indent")]
+    /// In a multiline pattern each line that counts for the common indent begins with spaces, which would be read as
+    /// indent. In edition one the lines that begin with text count, in edition two also those that begin with a
+    /// placeable.
+    #[error("the lines of a pattern that begin with text begin with spaces, which would be read as its indent")]
     CommonIndent,
     /// In a multiline pattern no line counts for the indent, and a text that begins a line is more than one LF.
     #[error("no line of a pattern begins with text, and a blank line of it holds spaces")]

@@ -335,7 +335,7 @@ const SENTENCES: [Sentence; 4] = [
     ),
     (
         Rule::CommonIndent,
-        "all lines of a pattern begin with spaces, which would be read as its indent",
+        "the lines of a pattern that begin with text begin with spaces, which would be read as its indent",
     ),
     (Rule::EmptyComment, "a comment has no line"),
     (Rule::BraceInText, "a text of a pattern holds a brace"),
