@@ -45,7 +45,14 @@ fn format(alloc: Global, state: &State) -> Result<Tally, Fail> {
         err: &mut err,
     };
     let files = listing.files.as_slice();
-    match write_files(alloc, &mut Disk::new(&rt), files, reading, &mut tally, &mut streams) {
+    match write_files(
+        alloc,
+        &mut Disk::new(&rt),
+        files,
+        reading,
+        &mut tally,
+        &mut streams,
+    ) {
         Ok(()) => Ok(tally),
         Err(_) => Err("the run stopped".into()),
     }
