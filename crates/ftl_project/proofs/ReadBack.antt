@@ -1,7 +1,9 @@
 -- What was read without errors, and is safe to write, is rewritten by its normal form.
-use Rattle.std.proofs.Common.{◌≡◌, ◌∙◌, IsUtf8, ap, false, sym, true}
-use Rattle.fluent_syntax_grammar.specs.RoundTrip.{ReadsAs}
+use Rattle.std.proofs.Common.{◌≡◌, ◌∙◌, IsUtf8, ap, false, subst, sym, true}
+use Rattle.fluent_syntax_grammar.specs.Body.{faults}
+use Rattle.fluent_syntax_grammar.specs.RoundTrip.{ReadsAs, ReadsBack, tree_of}
 use Rattle.fluent_syntax_grammar.specs.Written.{Text, written}
+use Rattle.fluent_syntax_grammar.proofs.OneTiling.{one_tiling}
 use Rattle.fluent_syntax_tree.specs.Entry.{BodyTree}
 use Rattle.fluent_syntax_tree.specs.declared.edition.Edition.{Edition}
 use Rattle.fluent_syntax_tree.specs.declared.edition.Edition.TheVariants.{One, Two}
@@ -9,11 +11,23 @@ use Rattle.ftl.specs.Answer.{IsAnswer, outcome_with}
 use Rattle.ftl.specs.Formatted.{FormatsAgain}
 use Rattle.ftl.specs.declared.command.Command.TheVariants.{Format, FormatTwo}
 use Rattle.ftl.specs.declared.outcome.Outcome.TheVariants.{Clean}
-use Rattle.ftl_project.specs.Safe.{IsRewriting, is_safe}
+use Rattle.ftl_project.specs.Safe.{IsRewriting, Settles, is_safe}
+
+-- a text that reads as the tree, and is its text, stays so
+settled : (text : Text) (tree : BodyTree Text) → ReadsAs Two text tree → text ≡ written false tree →
+    Settles Two tree text
+settled text tree reads is_written again next second =
+    let same = one_tiling Two text second.tiles reads.tiles second.has_tiles reads.tiling in
+    let same_tree = ap (tree_of text) same ∙ reads.same in (
+      second.outcome_is ∙ ap outcome_with (ap faults same ∙ reads.no_faults),
+      same_tree,
+      second.text_is ∙ ap (written false) same_tree ∙ sym is_written,
+    )
 
 pub rewriting : (edition : Edition) (t text : Text) (tree : BodyTree Text) → IsUtf8 t → ReadsAs edition t tree →
-    text ≡ written false tree → is_safe edition tree ≡ true → FormatsAgain t → IsRewriting edition t text
-rewriting One t text tree utf8 reads is_written safe law =
+    text ≡ written false tree → is_safe edition tree ≡ true → FormatsAgain t → ReadsBack Two tree →
+    IsRewriting edition t text
+rewriting One t text tree utf8 reads is_written safe law back =
     let first : IsAnswer Format t text Clean = record {
       is_utf8 = utf8;
       tiles = reads.tiles;
@@ -25,9 +39,9 @@ rewriting One t text tree utf8 reads is_written safe law =
     record {
       answer = first;
       safe = is_canonical;
-      reads_back = λ again next second. law text again Clean next first second is_canonical;
+      settles = λ again next second. law text again Clean next first second is_canonical;
     }
-rewriting Two t text tree utf8 reads is_written safe law =
+rewriting Two t text tree utf8 reads is_written safe law back =
     let first : IsAnswer FormatTwo t text Clean = record {
       is_utf8 = utf8;
       tiles = reads.tiles;
@@ -35,8 +49,9 @@ rewriting Two t text tree utf8 reads is_written safe law =
       text_is = is_written ∙ ap (written false) (sym reads.same);
       outcome_is = ap outcome_with (sym reads.no_faults);
     } in
+    let reads_back = subst (λ x. ReadsAs Two x tree) (sym is_written) (back false safe) in
     record {
       answer = first;
       safe = ap (is_safe Two) reads.same ∙ safe;
-      reads_back = tt;
+      settles = subst (λ r. Settles Two r text) (sym reads.same) (settled text tree reads_back is_written);
     }

@@ -24,15 +24,16 @@ abbrev pub is_safe : Edition → BodyTree Text → Bool
 is_safe One tree = is_canonical One (joined_body tree)
 is_safe Two tree = is_canonical Two tree
 
--- What the formatted text reads as, and what formatting it again gives.
-abbrev pub ReadsBack : Edition → (tree : BodyTree Text) → (text : Text) → Type 0
-ReadsBack One tree text = (again : Text) (next : Outcome) → (second : IsAnswer Format text again next) →
+-- What the formatted text of a tree reads as, and what formatting it again gives. By edition two it is the tree itself.
+abbrev pub Settles : Edition → (tree : BodyTree Text) → (text : Text) → Type 0
+Settles One tree text = (again : Text) (next : Outcome) → (second : IsAnswer Format text again next) →
     IsFormattedAgain tree text again (tree_of text second.tiles) Clean next
-ReadsBack Two tree text = Unit {0}
+Settles Two tree text = (again : Text) (next : Outcome) → (second : IsAnswer FormatTwo text again next) →
+    (next ≡ Clean) × (tree_of text second.tiles ≡ tree) × (again ≡ text)
 
 -- The text is the normal text of the bytes, which have no error, and are safe to write.
 pub record IsRewriting (edition : Edition) (bytes text : Text) : Type 0 where
   pub answer : IsAnswer (format_of edition) bytes text Clean
   pub safe : is_safe edition (tree_of bytes answer.tiles) ≡ true
   -- it reads as the same messages and terms, and formatting it again changes nothing
-  pub reads_back : ReadsBack edition (tree_of bytes answer.tiles) text
+  pub settles : Settles edition (tree_of bytes answer.tiles) text

@@ -8,6 +8,7 @@ use crate::fault::Fault;
 use crate::reading::Reading;
 use crate::safe::is_safe_to_write;
 use fluent_syntax::ast::Resource;
+use fluent_syntax::laws::reads_back;
 use fluent_syntax::parser::{Edition, ParseFault, ParserError, parse_within};
 use fluent_syntax::serializer::serialize;
 use ftl::laws::formats_again;
@@ -58,6 +59,7 @@ fn rewritten(
     ensures no_errors { IfOk result (ErrorsIn text.now) }
 {
     formats_again(text.as_bytes());
+    reads_back(tree);
     match is_safe_to_write(alloc, tree, edition) {
         Ok(true) => (),
         Ok(false) => return Ok(Replacement::Unsafe),

@@ -1,4 +1,5 @@
 use Rattle.std.proofs.Common.{◌≡◌, ◌∙◌, rules, string_bytes, subst, sym}
+use Rattle.fluent_syntax_tree.specs.declared.edition.Edition.TheVariants.{Two}
 use Rattle.ftl.specs.Formatted.{FormatsAgain}
 use Rattle.ftl_project.specs.Safe.{IsRewriting}
 use Rattle.ftl_project.proofs.ReadBack.{rewriting}
@@ -8,14 +9,16 @@ pub returns-in-Ok-clause-is : goal.returns-in-Ok-clause-is
 returns-in-Ok-clause-is c =
     let text = c.args.text.now in
     let law = subst (λ t. FormatsAgain t) c.as_bytes.ensures.value c.formats_again.ensures in
+    let back = c.reads_back.ensures.back Two in
     let safe = sym c.in-Ok-true.ensures ∙ c.in-Ok-true.field-0-test in
     let same : string_bytes c.in-Ok.formatted ≡ text = search rules in
     subst (λ t. IsRewriting c.args.edition text t) same
-    (rewriting c.args.edition text (string_bytes c.in-Ok.formatted) _ c.utf8.text c.requires c.in-Ok.ensures safe law)
+    (rewriting c.args.edition text (string_bytes c.in-Ok.formatted) _ c.utf8.text c.requires c.in-Ok.ensures safe law back)
 
 pub returns-in-Ok-2-clause-is : goal.returns-in-Ok-2-clause-is
 returns-in-Ok-2-clause-is c =
     let text = c.args.text.now in
     let law = subst (λ t. FormatsAgain t) c.as_bytes.ensures.value c.formats_again.ensures in
+    let back = c.reads_back.ensures.back Two in
     let safe = sym c.in-Ok-true.ensures ∙ c.in-Ok-true.field-0-test in
-    rewriting c.args.edition text (string_bytes c.in-Ok.formatted) _ c.utf8.text c.requires c.in-Ok.ensures safe law
+    rewriting c.args.edition text (string_bytes c.in-Ok.formatted) _ c.utf8.text c.requires c.in-Ok.ensures safe law back
