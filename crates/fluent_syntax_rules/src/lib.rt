@@ -60,9 +60,9 @@ pub fn is_readable<'s, S: Slice<'s>>(r: &Resource<S>, edition: Edition) -> bool
 /// - `none`: it is `None` exactly where `is_canonical` returns `true`.
 /// - `first`: the entries before it are canonical, and it breaks that rule, and none before that one.
 ///
-/// Whether a tree reads back once it is formatted is asked of its joined tree. The entries of that are those of the tree
-/// without its junk, in their order: the entry is, in the tree, the one before which so many entries stand that are no
-/// junk. The tree of a text without errors has no junk, so there both numbers are one.
+/// Whether a tree reads back once it is formatted is asked of its joined tree. The entries of that are those of the
+/// tree without its junk, in their order: the entry is, in the tree, the one before which so many entries stand that
+/// are no junk. The tree of a text without errors has no junk, so there both numbers are one.
 ///
 /// Takes no memory. The time is that of a walk over the tree, and of one walk more over that entry for each rule; and
 /// quadratic in the named arguments of one list.
