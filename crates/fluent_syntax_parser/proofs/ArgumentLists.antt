@@ -95,7 +95,7 @@ module _ (edition : Edition) (t : List ℕ) where
 
   module _ (ps : List (InlineExpression Span)) (ns : List (NamedArgument Span)) (from i : ℕ)
       (gathered : Puts (more_arguments edition t (names_in t ns)) (more_arguments edition t []) (put_arguments ps ns)
-          from i)
+      from i)
       (within : i < length t) (no_end : has_byte t right_parenthesis i ≡ false)
       (e : InlineExpression Span) (j : ℕ) (read : inline_expression edition t i (Read (inline_view (λ s. s) e) j)) where
     -- one more named argument
