@@ -113,7 +113,8 @@ module _ {A S B : Type 0} (next : S → Construct (More A S)) (add : A → B →
   computed_many zero s = record { run = λ i. None; sound = λ i o x. none_some x }
   computed_many (suc n) s = record {
     run = λ i. (computed_bind (g s) (computed_rest (computed_many n))).run i;
-    sound = λ i o x. into_list next add none s i o ((computed_bind (g s) (computed_rest (computed_many n))).sound i o x);
+    sound = λ i o x. into_list next add none s i o
+        ((computed_bind (g s) (computed_rest (computed_many n))).sound i o x);
   }
 
 -- ---- words

@@ -1,8 +1,9 @@
 -- What nests computes.
 use Rattle.std.proofs.Common.{◌≡◌, ℕ, zero, suc, List, [], ◌∷◌, Option, Some, None, Bool, true, false, refl, subst}
-use Rattle.std.specs.Prelude.{slice_get, nat_lt, ◌||◌}
+use Rattle.std.specs.Prelude.{slice_get, nat_lt}
 use Rattle.fluent_syntax_tree.specs.Kind.{Kind}
-use Rattle.fluent_syntax_tree.specs.Tree.{ArgumentsTree, ExpressionTree, InlineTree, KeyTree, PatternTree, MaybeArguments}
+use Rattle.fluent_syntax_tree.specs.Tree.{ArgumentsTree, ExpressionTree, InlineTree, KeyTree, PatternTree}
+use Rattle.fluent_syntax_tree.specs.Tree.{MaybeArguments}
 use Rattle.fluent_syntax_tree.specs.Tree.{no_arguments}
 use Rattle.fluent_syntax_tree.specs.Tree.{some_arguments}
 use Rattle.fluent_syntax_grammar.specs.Bytes.{is_space}

@@ -3,7 +3,8 @@ use Rattle.std.proofs.Common.{◌≡◌, ℕ, Bool, refl, sym, ◌∙◌, subst,
 use Rattle.fluent_syntax_grammar.specs.Places.{Stretch, Steps, Reaches, BlankBlock, no_line, line}
 use Rattle.std.proofs.Common.{List}
 use Rattle.fluent_syntax_tree.specs.Kind.{Kind}
-use Rattle.fluent_syntax_grammar.specs.Construct.{Outcome, Read, Refused, Construct, ◌>>=◌, stops, goes_on, gives, given, here}
+use Rattle.fluent_syntax_grammar.specs.Construct.{Outcome, Read, Refused, Construct, ◌>>=◌, stops, goes_on, gives}
+use Rattle.fluent_syntax_grammar.specs.Construct.{given, here}
 use Rattle.fluent_syntax_grammar.specs.Construct.{at_place, fails, failed, fails_from, failed_from, over, passed}
 use Rattle.fluent_syntax_grammar.specs.Construct.{at_each, chosen, either, first, second, More, many, list_ends}
 use Rattle.fluent_syntax_grammar.specs.Construct.{list_stops, item_and_more, stops_later}
@@ -96,24 +97,28 @@ module _ {A S B : Type 0} (next : S → Construct (More A S)) (add : A → B →
   many_same s i o p (list_stops x) (stops_later y z) = let e = (f s).same i _ _ x y in cc
   many_same s i o p (item_and_more x y) (list_ends z) = let e = (f s).same i _ _ x z in cc
   many_same s i o p (item_and_more x y) (list_stops z) = let e = (f s).same i _ _ x z in cc
-  many_same s i o p (item_and_more {later = r} {j = j} {end = m} {rest = xs} x y) (item_and_more {later = q} {j = h} {end = u} {rest = ys} z w) =
+  many_same s i o p (item_and_more {later = r} {j = j} {end = m} {rest = xs} x y)
+      (item_and_more {later = q} {j = h} {end = u} {rest = ys} z w) =
       let e = (f s).same i _ _ x z in
       let same_r : q ≡ r = cc in
       let same_j : h ≡ j = cc in
       let same : Read xs m ≡ Read ys u = many_same r j _ _ y (list_moved q r h j _ same_r same_j w) in cc
-  many_same s i o p (item_and_more {later = r} {j = j} {end = m} {rest = xs} x y) (stops_later {later = q} {j = h} {from = u} {to = v} {k = l} z w) =
+  many_same s i o p (item_and_more {later = r} {j = j} {end = m} {rest = xs} x y)
+      (stops_later {later = q} {j = h} {from = u} {to = v} {k = l} z w) =
       let e = (f s).same i _ _ x z in
       let same_r : q ≡ r = cc in
       let same_j : h ≡ j = cc in
       let same : Read xs m ≡ Refused l u v = many_same r j _ _ y (list_moved q r h j _ same_r same_j w) in cc
   many_same s i o p (stops_later x y) (list_ends z) = let e = (f s).same i _ _ x z in cc
   many_same s i o p (stops_later x y) (list_stops z) = let e = (f s).same i _ _ x z in cc
-  many_same s i o p (stops_later {later = r} {j = j} {from = m} {to = n} {k = k} x y) (item_and_more {later = q} {j = h} {end = u} {rest = ys} z w) =
+  many_same s i o p (stops_later {later = r} {j = j} {from = m} {to = n} {k = k} x y)
+      (item_and_more {later = q} {j = h} {end = u} {rest = ys} z w) =
       let e = (f s).same i _ _ x z in
       let same_r : q ≡ r = cc in
       let same_j : h ≡ j = cc in
       let same : Refused k m n ≡ Read ys u = many_same r j _ _ y (list_moved q r h j _ same_r same_j w) in cc
-  many_same s i o p (stops_later {later = r} {j = j} {from = m} {to = n} {k = k} x y) (stops_later {later = q} {j = h} {from = u} {to = v} {k = l} z w) =
+  many_same s i o p (stops_later {later = r} {j = j} {from = m} {to = n} {k = k} x y)
+      (stops_later {later = q} {j = h} {from = u} {to = v} {k = l} z w) =
       let e = (f s).same i _ _ x z in
       let same_r : q ≡ r = cc in
       let same_j : h ≡ j = cc in

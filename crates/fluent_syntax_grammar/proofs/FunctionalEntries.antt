@@ -2,6 +2,11 @@
 use Rattle.std.proofs.Common.{◌≡◌, ℕ, List, [], ◌∷◌, Option, Some, None, Bool, true, false, refl, sym, subst}
 use Rattle.fluent_syntax_tree.specs.Tree.{PatternTree}
 use Rattle.fluent_syntax_tree.specs.Entry.{AttributeTree}
+use Rattle.fluent_syntax_grammar.specs.Family.{Family}
+use Rattle.fluent_syntax_grammar.specs.Patterns as patterns
+use Rattle.fluent_syntax_grammar.specs.Entries.{attribute_of, attributes_of, message_of, term_of}
+use Rattle.fluent_syntax_grammar.specs.Tiling.{entry_in}
+use Rattle.fluent_syntax_grammar.proofs.FunctionalRules.{IsFunctionalFamily}
 use Rattle.fluent_syntax_grammar.specs.Construct.{Outcome, Read}
 use Rattle.fluent_syntax_grammar.specs.Grammar.{pattern, family}
 use Rattle.fluent_syntax_grammar.specs.Entries.{attribute_with, message_with, term_with, attribute, attributes, no_more}
@@ -38,35 +43,36 @@ functional_term_with :
 functional_term_with t start id None rest = search words depth 30
 functional_term_with t start id (Some value) rest = search words depth 30
 
-module _ (edition : Edition) (t : List ℕ) where
-  pub functional_pattern : IsFunctional (pattern edition t)
-  functional_pattern = rules.functional_pattern edition t (family edition t) (functional_family edition t)
+module _ (edition : Edition) (t : List ℕ) (R : Family) (h : IsFunctionalFamily R) where
+  functional_pattern_of : IsFunctional (patterns.pattern edition t R)
+  functional_pattern_of = rules.functional_pattern edition t R h
 
-  pub functional_attribute : IsFunctional (attribute edition t)
-  functional_attribute = search (words, functional_attribute_with, functional_pattern) depth 30
+  functional_attribute_of : IsFunctional (attribute_of edition t R)
+  functional_attribute_of = search (words, functional_attribute_with, functional_pattern_of) depth 30
 
-  attributes_same : (i : ℕ) (o p : Outcome (List (AttributeTree Span))) → attributes edition t i o →
-      attributes edition t i p → o ≡ p
+  attributes_same : (i : ℕ) (o p : Outcome (List (AttributeTree Span))) → attributes_of edition t R i o →
+      attributes_of edition t R i p → o ≡ p
   attributes_same i o p (no_more a) (no_more b) = refl
-  attributes_same i o p (no_more a) (one_more b c) = let h = functional_attribute.same i _ _ a b in cc
-  attributes_same i o p (one_more a b) (no_more c) = let h = functional_attribute.same i _ _ a c in cc
+  attributes_same i o p (no_more a) (one_more b c) = let h = functional_attribute_of.same i _ _ a b in cc
+  attributes_same i o p (one_more a b) (no_more c) = let h = functional_attribute_of.same i _ _ a c in cc
   attributes_same i o p (one_more {j = j} {end = e} {a = x} {rest = xs} a b)
       (one_more {j = k} {end = f} {a = y} {rest = ys} c d) =
-      let h = functional_attribute.same i _ _ a c in
+      let h = functional_attribute_of.same i _ _ a c in
       let same_j : j ≡ k = cc in
       let same_x : x ≡ y = cc in
       let rest : Read xs e ≡ Read ys f =
-      attributes_same j _ _ b (subst (λ k. attributes edition t k (Read ys f)) (sym same_j) d) in
+      attributes_same j _ _ b (subst (λ k. attributes_of edition t R k (Read ys f)) (sym same_j) d) in
       cc
 
-  pub functional_attributes : IsFunctional (attributes edition t)
-  functional_attributes = record { same = attributes_same }
+  functional_attributes_of : IsFunctional (attributes_of edition t R)
+  functional_attributes_of = record { same = attributes_same }
 
-  pub functional_message : IsFunctional (message_entry edition t)
-  functional_message = search (words, functional_message_with, functional_pattern, functional_attributes) depth 30
+  functional_message_of : IsFunctional (message_of edition t R)
+  functional_message_of =
+      search (words, functional_message_with, functional_pattern_of, functional_attributes_of) depth 30
 
-  pub functional_term : IsFunctional (term_entry edition t)
-  functional_term = search (words, functional_term_with, functional_pattern, functional_attributes) depth 30
+  functional_term_of : IsFunctional (term_of edition t R)
+  functional_term_of = search (words, functional_term_with, functional_pattern_of, functional_attributes_of) depth 30
 
 module _ (t : List ℕ) where
   functional_comment_text : (eol : Bool) → IsFunctional (comment_text t eol)
@@ -110,10 +116,31 @@ module _ (t : List ℕ) where
   pub functional_comment : IsFunctional (comment_entry t)
   functional_comment = search (words, functional_comment_of) depth 30
 
+module _ (edition : Edition) (t : List ℕ) (R : Family) (h : IsFunctionalFamily R) where
+  functional_entry_of : (b : Option ℕ) → IsFunctional (entry_of edition t R b)
+  functional_entry_of None = functional_message_of edition t R h
+  functional_entry_of (Some b) =
+      search (words, functional_comment, functional_term_of, functional_message_of) depth 30
+
+  -- the entries over a family whose constructs have at most one outcome
+  pub functional_entry_in : IsFunctional (entry_in edition t R)
+  functional_entry_in = search (words, functional_entry_of) depth 30
+
 module _ (edition : Edition) (t : List ℕ) where
-  functional_entry_of : (b : Option ℕ) → IsFunctional (entry_of edition t (family edition t) b)
-  functional_entry_of None = functional_message edition t
-  functional_entry_of (Some b) = search (words, functional_comment, functional_term, functional_message) depth 30
+  pub functional_pattern : IsFunctional (pattern edition t)
+  functional_pattern = functional_pattern_of edition t (family edition t) (functional_family edition t)
+
+  pub functional_attribute : IsFunctional (attribute edition t)
+  functional_attribute = functional_attribute_of edition t (family edition t) (functional_family edition t)
+
+  pub functional_attributes : IsFunctional (attributes edition t)
+  functional_attributes = functional_attributes_of edition t (family edition t) (functional_family edition t)
+
+  pub functional_message : IsFunctional (message_entry edition t)
+  functional_message = functional_message_of edition t (family edition t) (functional_family edition t)
+
+  pub functional_term : IsFunctional (term_entry edition t)
+  functional_term = functional_term_of edition t (family edition t) (functional_family edition t)
 
   pub functional_entry : IsFunctional (entry_at edition t)
-  functional_entry = search (words, functional_entry_of) depth 30
+  functional_entry = functional_entry_in edition t (family edition t) (functional_family edition t)

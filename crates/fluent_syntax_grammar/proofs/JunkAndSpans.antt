@@ -186,7 +186,8 @@ module _ (edition : Edition) (t : List ℕ) where
   comment_is i j e (chosen (goes_on {a = c} x (goes_on {j = m} {a = more} y z))) =
       subst IsEntry (gave (comment (level_of (hashes t i)) (c ++ more)) e m j z).0 tt
 
-  entry_is : (i j : ℕ) (e : EntryTree Span) (o : Option ℕ) → entry_of edition t (family edition t) o i (Read e j) → IsEntry e
+  entry_is : (i j : ℕ) (e : EntryTree Span) (o : Option ℕ) → entry_of edition t (family edition t) o i (Read e j) →
+      IsEntry e
   entry_is i j e None x = bare_is e ((message_bare edition t).on_read i j e tt x)
   entry_is i j e (Some b) (first f x) = comment_is i j e x
   entry_is i j e (Some b) (second f (first g x)) = bare_is e ((term_bare edition t).on_read i j e tt x)

@@ -1,6 +1,6 @@
 -- A list is its first item and, where there is one, the rest of the list.
 use Rattle.std.proofs.Common.{ℕ}
-use Rattle.fluent_syntax_grammar.specs.Construct.{Outcome, Read, Refused, Construct, ◌>>=◌, stops, goes_on, gives, given}
+use Rattle.fluent_syntax_grammar.specs.Construct.{Outcome, Read, Construct, ◌>>=◌, stops, goes_on, gives, given}
 use Rattle.fluent_syntax_grammar.specs.Construct.{More, no_item, item, many, list_ends, list_stops, item_and_more}
 use Rattle.fluent_syntax_grammar.specs.Construct.{stops_later}
 

@@ -1,13 +1,18 @@
 -- A text has at most one tiling and at most one tiling without comments.
 use Rattle.std.proofs.Common.{◌≡◌, ℕ, ◌<◌, List, refl, sym, ◌∙◌, subst, arith, inl, inr}
 use Rattle.std.proofs.lemmas.Bool.{false≢true}
+use Rattle.fluent_syntax_grammar.specs.Family.{Family}
+use Rattle.fluent_syntax_grammar.specs.Grammar.{family}
+use Rattle.fluent_syntax_grammar.specs.Tiling.{TileIn, RuntimeTileIn}
+use Rattle.fluent_syntax_grammar.proofs.FunctionalRules.{IsFunctionalFamily}
+use Rattle.fluent_syntax_grammar.proofs.Nesting.{functional_family}
 use Rattle.fluent_syntax_grammar.specs.Tiling.{Tile, failing_place, JunkEnd, whole_line, Tiled, done, next, TileAt}
 use Rattle.fluent_syntax_grammar.specs.Tiling.{reads, refuses, RuntimeTileAt, drops, stands, Tiling, RuntimeTiling}
 use Rattle.fluent_syntax_tree.specs.declared.edition.Edition.{Edition}
 use Rattle.fluent_syntax_grammar.specs.Laws.{IsFunctional}
 use Rattle.fluent_syntax_grammar.proofs.Functional.{functional, single_block}
 use Rattle.fluent_syntax_grammar.proofs.FunctionalWords.{functional_rest_of_line, functional_optional_eol}
-use Rattle.fluent_syntax_grammar.proofs.FunctionalEntries.{functional_entry}
+use Rattle.fluent_syntax_grammar.proofs.FunctionalEntries.{functional_entry_in}
 
 module _ (t : List ℕ) where
   not_before : (place end other : ℕ) → JunkEnd t place end → JunkEnd t place other → end < other → ⊥
@@ -41,46 +46,53 @@ tiled_same t at one i xs ys (next {start = start} {end = j} {tile = x} {tiles = 
     tiled_same t at one j more others c (subst (λ k. Tiled t at k others) (sym same_end) f) in
     cc
 
-module _ (edition : Edition) (t : List ℕ) where
-  tile_end : (i j k : ℕ) (x y : Tile) → TileAt edition t i j x → TileAt edition t i k y → j ≡ k
-  tile_end i j k x y (reads a) (reads b) = let h = (functional_entry edition t).same i _ _ a b in cc
-  tile_end i j k x y (reads a) (refuses b c) = let h = (functional_entry edition t).same i _ _ a b in cc
-  tile_end i j k x y (refuses a b) (reads c) = let h = (functional_entry edition t).same i _ _ a c in cc
+module _ (edition : Edition) (t : List ℕ) (R : Family) (h : IsFunctionalFamily R) where
+  tile_end : (i j k : ℕ) (x y : Tile) → TileIn edition t R i j x → TileIn edition t R i k y → j ≡ k
+  tile_end i j k x y (reads a) (reads b) = let g = (functional_entry_in edition t R h).same i _ _ a b in cc
+  tile_end i j k x y (reads a) (refuses b c) = let g = (functional_entry_in edition t R h).same i _ _ a b in cc
+  tile_end i j k x y (refuses a b) (reads c) = let g = (functional_entry_in edition t R h).same i _ _ a c in cc
   tile_end i j k x y (refuses {from = from} {to = to} {k = kind} a b)
       (refuses {from = from'} {to = to'} {k = kind'} c d) =
-      let h = (functional_entry edition t).same i _ _ a c in
+      let g = (functional_entry_in edition t R h).same i _ _ a c in
       let same_kind : kind ≡ kind' = cc in
       let same_from : from ≡ from' = cc in
       let same_to : to ≡ to' = cc in
       let place : failing_place kind from to ≡ failing_place kind' from' to' = cc in
       junk_same t _ j k b (subst (λ p. JunkEnd t p k) (sym place) d)
 
-  tile_same : (i j k : ℕ) (x y : Tile) → TileAt edition t i j x → TileAt edition t i k y → x ≡ y
-  tile_same i j k x y (reads a) (reads b) = let h = (functional_entry edition t).same i _ _ a b in cc
-  tile_same i j k x y (reads a) (refuses b c) = let h = (functional_entry edition t).same i _ _ a b in cc
-  tile_same i j k x y (refuses a b) (reads c) = let h = (functional_entry edition t).same i _ _ a c in cc
+  tile_same : (i j k : ℕ) (x y : Tile) → TileIn edition t R i j x → TileIn edition t R i k y → x ≡ y
+  tile_same i j k x y (reads a) (reads b) = let g = (functional_entry_in edition t R h).same i _ _ a b in cc
+  tile_same i j k x y (reads a) (refuses b c) = let g = (functional_entry_in edition t R h).same i _ _ a b in cc
+  tile_same i j k x y (refuses a b) (reads c) = let g = (functional_entry_in edition t R h).same i _ _ a c in cc
   tile_same i j k x y (refuses a b) (refuses c d) =
-      let h = (functional_entry edition t).same i _ _ a c in
+      let g = (functional_entry_in edition t R h).same i _ _ a c in
       let same_end : j ≡ k = tile_end i j k _ _ (refuses a b) (refuses c d) in
       cc
 
-  pub one_tile : IsOneTile (TileAt edition t)
-  one_tile = record { same_end = tile_end; same_tile = tile_same }
+  pub one_tile_in : IsOneTile (TileIn edition t R)
+  one_tile_in = record { same_end = tile_end; same_tile = tile_same }
 
-  runtime_end : (i j k : ℕ) (x y : Tile) → RuntimeTileAt edition t i j x → RuntimeTileAt edition t i k y → j ≡ k
-  runtime_end i j k x y (drops a b) (drops c d) = let h = (functional_whole_line t).same i _ _ b d in cc
+  runtime_end : (i j k : ℕ) (x y : Tile) → RuntimeTileIn edition t R i j x → RuntimeTileIn edition t R i k y → j ≡ k
+  runtime_end i j k x y (drops a b) (drops c d) = let g = (functional_whole_line t).same i _ _ b d in cc
   runtime_end i j k x y (drops a b) (stands c d) = cc
   runtime_end i j k x y (stands a b) (drops c d) = cc
   runtime_end i j k x y (stands a b) (stands c d) = tile_end i j k _ _ b d
 
-  runtime_same : (i j k : ℕ) (x y : Tile) → RuntimeTileAt edition t i j x → RuntimeTileAt edition t i k y → x ≡ y
+  runtime_same : (i j k : ℕ) (x y : Tile) → RuntimeTileIn edition t R i j x → RuntimeTileIn edition t R i k y → x ≡ y
   runtime_same i j k x y (drops a b) (drops c d) = refl
   runtime_same i j k x y (drops a b) (stands c d) = cc
   runtime_same i j k x y (stands a b) (drops c d) = cc
   runtime_same i j k x y (stands a b) (stands c d) = tile_same i j k _ _ b d
 
+  pub one_runtime_tile_in : IsOneTile (RuntimeTileIn edition t R)
+  one_runtime_tile_in = record { same_end = runtime_end; same_tile = runtime_same }
+
+module _ (edition : Edition) (t : List ℕ) where
+  pub one_tile : IsOneTile (TileAt edition t)
+  one_tile = one_tile_in edition t (family edition t) (functional_family edition t)
+
   pub one_runtime_tile : IsOneTile (RuntimeTileAt edition t)
-  one_runtime_tile = record { same_end = runtime_end; same_tile = runtime_same }
+  one_runtime_tile = one_runtime_tile_in edition t (family edition t) (functional_family edition t)
 
   -- a text has at most one tiling
   pub one_tiling : (xs ys : List Tile) → Tiling edition t xs → Tiling edition t ys → xs ≡ ys

@@ -15,7 +15,8 @@ use Rattle.fluent_syntax_grammar.specs.Construct.{Construct, Outcome, Read, Refu
 use Rattle.fluent_syntax_grammar.specs.Construct.{first, second, failed, at_place}
 use Rattle.fluent_syntax_grammar.specs.Entries.{attribute}
 use Rattle.fluent_syntax_grammar.specs.Family.{Family}
-use Rattle.fluent_syntax_grammar.specs.Grammar.{family, inline_expression, more_pieces, more_lines as grammar_lines, pattern, placeable}
+use Rattle.fluent_syntax_grammar.specs.Grammar.{family, inline_expression, more_pieces, more_lines as grammar_lines}
+use Rattle.fluent_syntax_grammar.specs.Grammar.{pattern, placeable}
 use Rattle.fluent_syntax_grammar.specs.Construct.{no_item, many, list_ends}
 use Rattle.fluent_syntax_grammar.specs.Laws.{IsFunctional}
 use Rattle.fluent_syntax_grammar.specs.Layout.{Piece, Ending}
@@ -150,7 +151,8 @@ module _ (edition : Edition) (t : List ℕ) where
   move : {part : _} {n j k : ℕ} → j ≡ k → Deeper edition t part n j → Deeper edition t part n k
   move {part = part} {n = n} same d = subst (λ k. Deeper edition t part n k) same d
 
-  arrow_same : (i : ℕ) (e : InlineTree Span) (j k : ℕ) → inline_expression edition t i (Read e j) → Blank t j k → {m : ℕ} →
+  arrow_same : (i : ℕ) (e : InlineTree Span) (j k : ℕ) → inline_expression edition t i (Read e j) → Blank t j k →
+      {m : ℕ} →
       (x : Selects edition t i m) → x.arrow ≡ k
   arrow_same i e j k read blank x =
       let same = read_at (rules.functional_inline t R h) i x.read read in
@@ -248,7 +250,8 @@ module _ (edition : Edition) (t : List ℕ) where
     expression_stuck k from to r (its_selector d) = d
     expression_stuck k from to r (its_variants x d) = absurd (clash (rules.functional_inline t R h) i x.read r)
 
-    module _ (e : InlineTree Span) (j k : ℕ) (read : inline_expression edition t i (Read e j)) (blank : Blank t j k) where
+    module _ (e : InlineTree Span) (j k : ℕ) (read : inline_expression edition t i (Read e j))
+        (blank : Blank t j k) where
       pub no_arrow : has_arrow t k ≡ false → Deeper edition t in_expression n i →
           Deeper edition t in_inline_expression n i
       no_arrow none (its_selector d) = d
@@ -305,12 +308,16 @@ module _ (edition : Edition) (t : List ℕ) where
     arguments_closed names there (behind_named x v s d) = differs there x.argument.other
     arguments_closed names there (behind_positional x is s d) = differs there x.other
 
-    pub arguments_stuck : (k : Kind) (from to : ℕ) (names : List (List ℕ)) → inline_expression edition t i (Refused k from to) →
+    pub arguments_stuck : (k : Kind) (from to : ℕ) (names : List (List ℕ)) →
+        inline_expression edition t i (Refused k from to) →
         Deeper edition t (in_arguments names) n i → Deeper edition t in_inline_expression n i
     arguments_stuck k from to names r (its_argument o d) = d
-    arguments_stuck k from to names r (its_named_value x d) = absurd (clash (rules.functional_inline t R h) i x.argument.read r)
-    arguments_stuck k from to names r (behind_named x v s d) = absurd (clash (rules.functional_inline t R h) i x.argument.read r)
-    arguments_stuck k from to names r (behind_positional x is s d) = absurd (clash (rules.functional_inline t R h) i x.read r)
+    arguments_stuck k from to names r (its_named_value x d) =
+        absurd (clash (rules.functional_inline t R h) i x.argument.read r)
+    arguments_stuck k from to names r (behind_named x v s d) =
+        absurd (clash (rules.functional_inline t R h) i x.argument.read r)
+    arguments_stuck k from to names r (behind_positional x is s d) =
+        absurd (clash (rules.functional_inline t R h) i x.read r)
 
     module _ (e : InlineTree Span) (j : ℕ) (read : inline_expression edition t i (Read e j)) where
       pub duplicate_led : (names : List (List ℕ)) (name : Span) → argument_name e ≡ Some name →

@@ -132,7 +132,8 @@ good_more Good no_item = Unit {0}
 good_more Good (item a s) = Good a
 
 pub sound_many :
-    {A S B : Type 0} {t : List ℕ} {P : ℕ → Type 0} {s : ℕ} {next : S → Construct (More A S)} {add : A → B → B} {none : B}
+    {A S B : Type 0} {t : List ℕ} {P : ℕ → Type 0} {s : ℕ} {next : S → Construct (More A S)} {add : A → B → B}
+    {none : B}
     {r : S} {Good : A → Type 0} {All : B → Type 0} → ((r : S) → Sound t P s (next r) (good_more Good)) → All none →
     ((a : A) (b : B) → Good a → All b → All (add a b)) → Sound t P s (many next add none r) All
 sound_many {Good = Good} h e g =

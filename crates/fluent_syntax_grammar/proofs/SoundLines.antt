@@ -1,7 +1,8 @@
 -- Lines, patterns and variants over a sound family are sound.
-use Rattle.std.proofs.Common.{◌≡◌, ℕ, zero, suc, ◌+◌, ◌-◌, ◌≤◌, List, [], ◌∷◌, Option, Some, None, Bool, true, false, refl}
+use Rattle.std.proofs.Common.{◌≡◌, ℕ, zero, suc, ◌+◌, ◌-◌, ◌≤◌, List, [], ◌∷◌, Option, Some, None, Bool, true, false}
+use Rattle.std.proofs.Common.{refl}
 use Rattle.std.proofs.Common.{sym, ◌∙◌, subst, arith, inl, inr}
-use Rattle.std.specs.Prelude.{slice_get, ◌==◌, ◌||◌, if◌then◌else◌}
+use Rattle.std.specs.Prelude.{slice_get, ◌==◌, if◌then◌else◌}
 use Rattle.fluent_syntax_tree.specs.Kind.{Kind, TermAttributeAsPlaceable}
 use Rattle.fluent_syntax_grammar.specs.Meaning.{kind_means}
 use Rattle.fluent_syntax_tree.specs.Tree.{inline, InlineTree, KeyTree, PatternTree}
@@ -10,7 +11,7 @@ use Rattle.fluent_syntax_tree.specs.Every.{list_every, variant_every, inline_eve
 use Rattle.fluent_syntax_grammar.specs.Bytes.{lf, is_space}
 use Rattle.fluent_syntax_grammar.specs.Places.{has, after_eol, InlineBlank}
 use Rattle.fluent_syntax_grammar.specs.Construct.{Read, Refused, ◌>>=◌, stops, goes_on, gives, given}
-use Rattle.fluent_syntax_grammar.specs.Construct.{at_place, passed, at_each, chosen, either, fails, More, no_item, item}
+use Rattle.fluent_syntax_grammar.specs.Construct.{at_place, passed, chosen, either, fails, More, no_item, item}
 use Rattle.fluent_syntax_grammar.specs.Construct.{many, list_ends, list_stops, item_and_more, stops_later}
 use Rattle.fluent_syntax_grammar.specs.Family.{Family}
 use Rattle.fluent_syntax_grammar.specs.Layout.{Piece, Ending, lf_at, crlf_at, Line}
@@ -28,7 +29,8 @@ use Rattle.fluent_syntax_grammar.proofs.Holds.{holds_over, holds_at_each, holds_
 use Rattle.fluent_syntax_grammar.proofs.Cuts.{IsCuts, ascii_byte, ascii_has, ascii_space, eol_cases, eol_forward}
 use Rattle.fluent_syntax_grammar.proofs.Cuts.{eol_place, stretch_places, word_place}
 use Rattle.fluent_syntax_grammar.proofs.Sound.{IsSpan, Inside, Ended, IsFault, Sound, weaker_fault, sound_bind}
-use Rattle.fluent_syntax_grammar.proofs.Sound.{sound_gives, sound_fails, sound_either, sound_here, known, IsPlain, good_more, sound_many}
+use Rattle.fluent_syntax_grammar.proofs.Sound.{sound_gives, sound_fails, sound_either, sound_here, known, IsPlain}
+use Rattle.fluent_syntax_grammar.proofs.Sound.{good_more, sound_many}
 use Rattle.fluent_syntax_grammar.proofs.Sound.{sound_inline_blank, sound_blank, sound_blank_block, onward_run}
 use Rattle.fluent_syntax_grammar.proofs.SoundWords.{sound_optional, sound_token}
 use Rattle.fluent_syntax_grammar.proofs.GoodLayout.{GoodPiece, GoodEnding, GoodLine, GoodLayout, later_piece}
@@ -325,7 +327,8 @@ module _ (edition : Edition) (t : List ℕ) (P : ℕ → Type 0) (cuts : IsCuts 
     sound_variants starred = sound_many sound_next_variant tt (λ v vs g k. (g, k))
 
     variants_holds : (s : ℕ) →
-        Holds (AtArrow t P cuts s true) (variants_of_select edition t R) (Ended P s (variants_every (IsSpan P))) (IsFault t s)
+        Holds (AtArrow t P cuts s true) (variants_of_select edition t R) (Ended P s (variants_every (IsSpan P)))
+        (IsFault t s)
     variants_holds s = holds_bind {mid = λ u. Inside P s} (holds_over (after_arrow t P cuts s))
         (λ u. (sound_bind (sound_inline_blank t P cuts)
         (λ u v. sound_bind (sound_arrow t P cuts)
@@ -333,7 +336,8 @@ module _ (edition : Edition) (t : List ℕ) (P : ℕ → Type 0) (cuts : IsCuts 
 
     select_holds : (s : ℕ) (e : InlineTree Span) → inline_every (IsSpan P) e → (o : Option Kind) →
         ((k : Kind) → o ≡ Some k → (i : ℕ) → IsPlain k × kind_means t k i) →
-        Holds (AtArrow t P cuts s true) (select_with edition t R e o) (Ended P s (expression_every (IsSpan P))) (IsFault t s)
+        Holds (AtArrow t P cuts s true) (select_with edition t R e o) (Ended P s (expression_every (IsSpan P)))
+        (IsFault t s)
     select_holds s e g None m =
         holds_bind (variants_holds s)
         (λ vs. holds_gives (λ i p. record { late = p.late; place = p.place; good = (g, p.good) }))

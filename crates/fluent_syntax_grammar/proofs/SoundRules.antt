@@ -1,10 +1,9 @@
 -- The rules over a sound family are sound.
-use Rattle.std.proofs.Common.{◌≡◌, ℕ, ◌+◌, ◌≤◌, List, [], ◌∷◌, Option, Some, None, Bool, true, false, refl, sym}
-use Rattle.std.proofs.Common.{◌∙◌, subst, arith}
+use Rattle.std.proofs.Common.{◌≡◌, ℕ, ◌+◌, List, [], ◌∷◌, Option, Some, None, Bool, true, false, refl, sym}
+use Rattle.std.proofs.Common.{subst, arith}
 use Rattle.std.specs.Prelude.{slice_get, ◌==◌}
 use Rattle.fluent_syntax_tree.specs.Kind.{Kind, MessageReferenceAsSelector, MessageAttributeAsSelector}
 use Rattle.fluent_syntax_tree.specs.Kind.{TermReferenceAsSelector, ExpectedSimpleExpressionAsSelector}
-use Rattle.fluent_syntax_tree.specs.Spans.{bytes_at}
 use Rattle.fluent_syntax_grammar.specs.Meaning.{kind_means}
 use Rattle.fluent_syntax_tree.specs.Tree.{InlineTree, string_literal, number_literal, function_reference}
 use Rattle.fluent_syntax_tree.specs.Tree.{message_reference, term_reference, variable_reference, inline_placeable}
@@ -23,8 +22,8 @@ use Rattle.fluent_syntax_grammar.specs.Inline.{named_reference, inline_of, inlin
 use Rattle.fluent_syntax_grammar.specs.Variants.{variant_key, only_star, variants_end}
 use Rattle.fluent_syntax_tree.specs.declared.edition.Edition.{Edition}
 use Rattle.fluent_syntax_tree.specs.declared.spans.Span.{Span}
-use Rattle.fluent_syntax_grammar.proofs.Holds.{Holds, holds_weaker, holds_bind, holds_gives, holds_fails, holds_over}
-use Rattle.fluent_syntax_grammar.proofs.Holds.{holds_at_each, holds_either}
+use Rattle.fluent_syntax_grammar.proofs.Holds.{Holds, holds_weaker, holds_fails, holds_over}
+use Rattle.fluent_syntax_grammar.proofs.Holds.{holds_at_each}
 use Rattle.fluent_syntax_grammar.proofs.Cuts.{IsCuts, ascii_byte, eol_forward, eol_place}
 use Rattle.fluent_syntax_grammar.proofs.Sound.{IsSpan, IsPlain, Inside, Ended, IsFault, Sound, sound_bind, sound_gives}
 use Rattle.fluent_syntax_grammar.proofs.Sound.{sound_fails, sound_at_each, sound_either, sound_inline_blank}

@@ -15,7 +15,8 @@ use Rattle.fluent_syntax_grammar.specs.Grammar as grammar
 use Rattle.fluent_syntax_grammar.specs.Layout.{Line, Layout}
 use Rattle.fluent_syntax_grammar.specs.Lines.{belongs, line, next_line, more_lines, no_byte, other_line, own_line}
 use Rattle.fluent_syntax_grammar.specs.Patterns.{layout_at, layout, pattern}
-use Rattle.fluent_syntax_grammar.specs.Placeables.{arrow_line_end, expression, has_arrow, is_term_attribute, select_with}
+use Rattle.fluent_syntax_grammar.specs.Placeables.{arrow_line_end, expression, has_arrow, is_term_attribute}
+use Rattle.fluent_syntax_grammar.specs.Placeables.{select_with}
 use Rattle.fluent_syntax_grammar.specs.Placeables.{selector_fault, variants_of_select}
 use Rattle.fluent_syntax_grammar.specs.Variants.{only_star, variants_end, variant_of, variant_after, next_variant}
 use Rattle.fluent_syntax_grammar.specs.Variants.{more_variants}
@@ -68,7 +69,8 @@ module _ (edition : Edition) (t : List ℕ) (R : Family) (low : ℕ) (h : (s : �
   own_total : (s : ℕ) → low ≤ s + 1 → (i : ℕ) → From t s i → (o : Outcome (More Line (Unit {0}))) ×
       (line t R >>= λ x. gives (item x tt)) i o
   own_total s l i p =
-      let whole = total_bind (both_line s l).total (both_line s l).on (λ x. total_gives {a = item x tt}) in whole.has i p
+      let whole = total_bind (both_line s l).total (both_line s l).on (λ x. total_gives {a = item x tt}) in
+      whole.has i p
 
   lines_own : (s : ℕ) → low ≤ s + 1 → (i k b : ℕ) (own : Bool) → From t s i → InlineBlank t i k →
       slice_get t k ≡ Some b → belongs t (nat_lt i k) k ≡ own → (o : Outcome (More Line (Unit {0}))) × next_line t R i o
@@ -80,7 +82,8 @@ module _ (edition : Edition) (t : List ℕ) (R : Family) (low : ℕ) (h : (s : �
   lines_byte s l i k None p w e = (Read no_item k, no_byte w e)
   lines_byte s l i k (Some b) p w e = lines_own s l i k b (belongs t (nat_lt i k) k) p w e refl
 
-  next_line_on : (s : ℕ) → low ≤ s + 1 → (i j : ℕ) (x : More Line (Unit {0})) → From t s i → next_line t R i (Read x j) →
+  next_line_on : (s : ℕ) → low ≤ s + 1 → (i j : ℕ) (x : More Line (Unit {0})) → From t s i →
+      next_line t R i (Read x j) →
       more_on t s x j
   next_line_on s l i j x p (no_byte w e) = let late = p.late in let forward = w.forward in
       record { late = omega arith; in_text = (word_of t is_space).in_text i j p.in_text w }
@@ -186,7 +189,8 @@ module _ (edition : Edition) (t : List ℕ) (R : Family) (low : ℕ) (h : (s : �
 
   both_variants : (s : ℕ) → low ≤ s + 1 → (starred : Bool) → Both t s (more_variants edition t R starred)
   both_variants s l starred =
-      both_many t (next_variant edition t R) _ _ s (λ m k starred. going_variant m (omega arith) starred) s (omega arith)
+      both_many t (next_variant edition t R) _ _ s (λ m k starred. going_variant m (omega arith) starred) s
+      (omega arith)
       starred
 
   -- ---- expressions
@@ -272,7 +276,8 @@ module _ (edition : Edition) (t : List ℕ) where
     argument_list = both_arguments t (within edition t n) (s + 1) h s (omega arith) [];
   }
 
-  -- What nests no deeper than a number has an outcome at each place behind which no more bytes are left than the number.
+  -- What nests no deeper than a number has an outcome at each place behind which no more bytes are left than the
+  -- number.
   pub within_has : (n s : ℕ) → length t < s + n → BothFamily t s (within edition t n)
   within_has zero s l = nothing_left s (omega arith)
   within_has (suc n) s l = next_has n s (λ m k. within_has n m (omega arith))

@@ -2,15 +2,14 @@
 use Rattle.std.proofs.Common.{◌≡◌, ℕ, ◌+◌, ◌≤◌, List, [], ◌∷◌, Option, Some, None, Bool, true, false, refl, ◌∙◌}
 use Rattle.std.proofs.Common.{subst, arith, inl, inr}
 use Rattle.std.specs.Prelude.{slice_get, ◌⊎◌, ◌==◌, ◌||◌, ◌&&◌, not, if◌then◌else◌}
-use Rattle.fluent_syntax_tree.specs.Kind.{Kind, TermAttributeAsPlaceable, UnbalancedClosingBrace}
-use Rattle.fluent_syntax_tree.specs.Tree.{inline, InlineTree, ExpressionTree, MaybeArguments, no_arguments}
+use Rattle.fluent_syntax_tree.specs.Kind.{UnbalancedClosingBrace}
+use Rattle.fluent_syntax_tree.specs.Tree.{InlineTree, MaybeArguments, no_arguments}
 use Rattle.fluent_syntax_tree.specs.Tree.{some_arguments}
 use Rattle.fluent_syntax_grammar.specs.Bytes.{lf, cr}
-use Rattle.fluent_syntax_grammar.specs.Places.{holds, Stretch, Steps, has_byte, has_eol, after_eol}
-use Rattle.fluent_syntax_grammar.specs.Construct.{Read, Construct, ◌>>=◌, ◌>>◌, goes_on, gives, here, at_place, over}
+use Rattle.fluent_syntax_grammar.specs.Places.{holds, Stretch, has_byte, has_eol, after_eol}
+use Rattle.fluent_syntax_grammar.specs.Construct.{Read, Construct, ◌>>=◌, goes_on, gives, here, at_place}
 use Rattle.fluent_syntax_grammar.specs.Construct.{passed, at_each, chosen, either, first, second, fails, More, no_item}
 use Rattle.fluent_syntax_grammar.specs.Construct.{item, many, list_ends, item_and_more}
-use Rattle.fluent_syntax_grammar.specs.Words.{inline_blank, blank}
 use Rattle.fluent_syntax_grammar.specs.Family.{Family}
 use Rattle.fluent_syntax_grammar.specs.Starts.{Start, quote, digit, term, minus, dollar, letter, brace, other}
 use Rattle.fluent_syntax_grammar.specs.Arguments.{accessor, separator, call_arguments, argument_value, named_rest}
@@ -29,14 +28,14 @@ use Rattle.fluent_syntax_grammar.proofs.Cuts.{eol_forward, eol_text}
 use Rattle.fluent_syntax_grammar.proofs.SoundStrings.{InText}
 use Rattle.fluent_syntax_grammar.proofs.SoundLines.{ending_holds}
 use Rattle.fluent_syntax_grammar.proofs.Boundaries.{text_cuts}
-use Rattle.fluent_syntax_grammar.proofs.Total.{From, AnyFault, Total, Both, Strict, total_bind, total_weaker, earlier}
+use Rattle.fluent_syntax_grammar.proofs.Total.{From, AnyFault, Total, Both, Strict, total_bind, total_weaker}
 use Rattle.fluent_syntax_grammar.proofs.Total.{total_gives, total_here, total_fails, total_over, total_at_each}
 use Rattle.fluent_syntax_grammar.proofs.Total.{total_either, both_bind, both_gives, both_here, both_fails, both_at_each}
 use Rattle.fluent_syntax_grammar.proofs.Total.{both_either, both_strict, strict_first, strict_fails, strict_at_each}
 use Rattle.fluent_syntax_grammar.proofs.Total.{strict_either, Going, more_on, more_earlier, going_strict, both_many}
 use Rattle.fluent_syntax_grammar.proofs.TotalWords.{both_blank, both_inline_blank, both_optional, run_word}
 use Rattle.fluent_syntax_grammar.proofs.TotalWords.{strict_identifier, strict_number, strict_string, strict_token}
-use Rattle.fluent_syntax_grammar.proofs.Facts.{differs, right_true, stretch_onward, has_inside}
+use Rattle.fluent_syntax_grammar.proofs.Facts.{differs, stretch_onward}
 
 -- each construct of the family has an outcome at each place from s on
 pub record BothFamily (t : List ℕ) (s : ℕ) (R : Family) : Type 0 where

@@ -1,15 +1,16 @@
 -- A rule over the union of families that grow is the union of the rules over them.
-use Rattle.std.proofs.Common.{ℕ, ◌+◌, ◌≤◌, arith, List, [], ◌∷◌, Option, Some, None, Bool, true, false}
+use Rattle.std.proofs.Common.{ℕ, ◌+◌, ◌≤◌, arith, List, Option, Some, None, Bool, true, false}
 use Rattle.fluent_syntax_tree.specs.Kind.{Kind}
-use Rattle.fluent_syntax_tree.specs.Tree.{InlineTree, KeyTree, PatternTree}
-use Rattle.fluent_syntax_grammar.specs.Construct.{Outcome, Construct, ◌>>=◌, stops, goes_on, gives, at_each, chosen, either}
+use Rattle.fluent_syntax_tree.specs.Tree.{InlineTree}
+use Rattle.fluent_syntax_grammar.specs.Construct.{Outcome, Construct, ◌>>=◌, stops, goes_on, gives, at_each, chosen}
+use Rattle.fluent_syntax_grammar.specs.Construct.{either}
 use Rattle.fluent_syntax_grammar.specs.Construct.{first, second, More, item, many, list_ends, list_stops}
 use Rattle.fluent_syntax_grammar.specs.Construct.{item_and_more, stops_later}
 use Rattle.fluent_syntax_grammar.specs.Family.{Family}
 use Rattle.fluent_syntax_grammar.specs.Starts.{Start, quote, digit, term, minus, dollar, letter, brace, other}
 use Rattle.fluent_syntax_grammar.specs.Arguments.{call_arguments, argument_value, named_rest}
 use Rattle.fluent_syntax_grammar.specs.Arguments.{argument_rest, next_argument_at, next_argument, more_arguments}
-use Rattle.fluent_syntax_grammar.specs.Placeables.{variants_of_select, select_with, expression, placeable}
+use Rattle.fluent_syntax_grammar.specs.Placeables.{select_with, expression, placeable}
 use Rattle.fluent_syntax_grammar.specs.Inline.{inline_of, inline_expression}
 use Rattle.fluent_syntax_grammar.specs.Lines.{next_piece_at, next_piece, more_pieces, line, next_line, more_lines}
 use Rattle.fluent_syntax_grammar.specs.Lines.{no_byte, other_line, own_line}

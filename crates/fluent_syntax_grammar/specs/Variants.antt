@@ -57,8 +57,8 @@ module _ (edition : Edition) (t : List ℕ) (R : Family) where
     value ← pattern edition t R
     variant_of t starred star key value
 
-  -- The next variant of a list, if it has one more: an optional `*`, and where `[` follows a variant; else the list ends
-  -- there.
+  -- The next variant of a list, if it has one more: an optional `*`, and where `[` follows a variant; else the list
+  -- ends there.
   abbrev pub next_variant : (starred : Bool) → Construct (More (VariantTree Span) Bool)
   next_variant starred = do
     star ← optional t asterisk

@@ -8,7 +8,8 @@ use Rattle.std.proofs.lemmas.Bool.Decides.{nat_tests}
 use Rattle.std.proofs.lemmas.Option.{slice_get-get_or, slice_get_within}
 use Rattle.fluent_syntax_tree.specs.declared.edition.Edition.{Edition}
 use Rattle.fluent_syntax_grammar.specs.Bytes.{lf, cr, space}
-use Rattle.fluent_syntax_grammar.specs.Construct.{Read, at_place, chosen, first, given, goes_on, item_and_more, list_ends, passed}
+use Rattle.fluent_syntax_grammar.specs.Construct.{Read, at_place, chosen, first, given, goes_on, item_and_more}
+use Rattle.fluent_syntax_grammar.specs.Construct.{list_ends, passed}
 use Rattle.fluent_syntax_grammar.specs.Elements.{Item, cut, is_nonblank, line_items}
 use Rattle.fluent_syntax_grammar.specs.Grammar.{more_lines, more_pieces}
 use Rattle.fluent_syntax_grammar.specs.Layout.{Line, crlf_at, lf_at}

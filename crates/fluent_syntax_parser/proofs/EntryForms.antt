@@ -48,7 +48,8 @@ module _ (edition : Edition) (t : List ℕ) (content : List Span) (i j : ℕ) (e
   comment_hangs_not : comment_entry t i (Read e j) → hung content e ≡ None
   comment_hangs_not (chosen (goes_on x (goes_on {j = m} y z))) = rw (← (gave _ e m j z).0) refl
 
-  hash_of_byte : (here : Option ℕ) → holds (λ b. b == hash) here ≡ true → entry_of edition t (family edition t) here i (Read e j) →
+  hash_of_byte : (here : Option ℕ) → holds (λ b. b == hash) here ≡ true →
+      entry_of edition t (family edition t) here i (Read e j) →
       hung content e ≡ None
   hash_of_byte None there x = cc
   hash_of_byte (Some b) there (first f x) = comment_hangs_not x

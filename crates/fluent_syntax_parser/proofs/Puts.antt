@@ -2,7 +2,8 @@
 -- gathered put before it.
 use Rattle.std.proofs.Common.{◌≡◌, ℕ, subst, sym}
 use Rattle.fluent_syntax_tree.specs.Kind.{Kind}
-use Rattle.fluent_syntax_grammar.specs.Construct.{Construct, Read, Refused, More, item, many, item_and_more, stops_later}
+use Rattle.fluent_syntax_grammar.specs.Construct.{Construct, Read, Refused, More, item, many, item_and_more}
+use Rattle.fluent_syntax_grammar.specs.Construct.{stops_later}
 
 pub record Puts {A : Type 0} (rest whole : Construct A) (put : A → A) (i j : ℕ) : Type 0 where
   pub read : (more : A) (end : ℕ) → rest j (Read more end) → whole i (Read (put more) end)

@@ -10,7 +10,8 @@ use Rattle.fluent_syntax_grammar.specs.Placeables.{select_with, selector_fault, 
 
 module _ (edition : Edition) (t : List ℕ) (R : Family) (e : InlineTree Span) (i : ℕ) where
   pub is_selector : (o : Outcome (ExpressionTree Span)) → selector_fault e ≡ None →
-      (variants_of_select edition t R >>= λ vs. gives (select e vs)) i o → select_with edition t R e (selector_fault e) i o
+      (variants_of_select edition t R >>= λ vs. gives (select e vs)) i o →
+      select_with edition t R e (selector_fault e) i o
   is_selector o is h = subst (λ x. select_with edition t R e x i o) (sym is) h
 
   pub no_selector : (kind : Kind) → selector_fault e ≡ Some kind →

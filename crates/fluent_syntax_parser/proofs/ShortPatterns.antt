@@ -129,7 +129,8 @@ module _ (edition : Edition) (t : List ℕ) where
   -- ---- a pattern whose later lines are blank
 
   module _ (start : ℕ) (opens : after_eol t start ≡ None) (ps : List Piece) (to : ℕ)
-      (pieces : more_pieces edition t start (Read ps to)) (e : Ending) (next : ℕ) (ends : ending t to (Read e next)) where
+      (pieces : more_pieces edition t start (Read ps to)) (e : Ending) (next : ℕ)
+      (ends : ending t to (Read e next)) where
     abbrev opened : List Line → Layout
     opened ls = record { opening = Some (record { start = start; spaces = 0; pieces = ps; ending = e }); lines = ls }
 
@@ -142,7 +143,8 @@ module _ (edition : Edition) (t : List ℕ) where
         (goes_on ends
         (goes_on behind.read given))) in
         let whole : layout t (family edition t) ptr (Read (opened behind.lines) end) = goes_on (passed blank)
-        (chosen (subst (λ o. layout_at t (family edition t) o start (Read (opened behind.lines) end)) (sym opens) laid)) in
+        (chosen (subst (λ o. layout_at t (family edition t) o start (Read (opened behind.lines) end))
+        (sym opens) laid)) in
         let cut_off = cut_behind t (with_ending ps e)
         (flat_map (line_items edition (common_indent edition (opened behind.lines))) behind.lines) (behind.blank _) in
         let same : pattern_of edition t (opened behind.lines) ≡ if_any (spelled t (cut t (with_ending ps e))) =
@@ -200,7 +202,8 @@ module _ (edition : Edition) (t : List ℕ) where
     pub empty_read : (ptr : ℕ) → InlineBlank t ptr start → pattern edition t ptr (Read None end)
     empty_read ptr blank =
         let empty : Layout = record { opening = None; lines = [] } in
-        let laid : layout_at t (family edition t) (Some next) start (Read empty end) = goes_on (passed (record { there = refl }))
+        let laid : layout_at t (family edition t) (Some next) start (Read empty end) =
+        goes_on (passed (record { there = refl }))
         (goes_on (passed block)
         (goes_on lines given)) in
         let whole : layout t (family edition t) ptr (Read empty end) = goes_on (passed blank)

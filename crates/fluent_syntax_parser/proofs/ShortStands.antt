@@ -96,7 +96,8 @@ module _ (edition : Edition) (t : List ℕ) where
       ((slice_get t k ≡ None) × (k ≡ end)) ⊎
       ((b : ℕ) × (slice_get t k ≡ Some b) × (belongs t (nat_lt i k) k ≡ false) × (i ≡ end))
 
-  by_rule : (i k end : ℕ) → InlineBlank t i k → lines.next_line t (family edition t) i (Read no_item end) → NoLine i k end
+  by_rule : (i k end : ℕ) → InlineBlank t i k → lines.next_line t (family edition t) i (Read no_item end) →
+      NoLine i k end
   by_rule i k end blank (no_byte {k = m} other none) =
       let same = single_stretch.same i m k other blank in
       inl (subst (λ p. slice_get t p ≡ None) same none, sym same)

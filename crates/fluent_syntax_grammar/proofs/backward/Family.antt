@@ -20,7 +20,8 @@ use Rattle.fluent_syntax_grammar.specs.Family.{Family}
 use Rattle.fluent_syntax_grammar.specs.Layout.{Piece, run, placed, Ending, lf_at, crlf_at, Line, Layout}
 use Rattle.fluent_syntax_grammar.specs.Elements.{Item, text, filled, items, cut, spelled, if_any, pattern_of}
 use Rattle.fluent_syntax_grammar.specs.Lines as lines
-use Rattle.fluent_syntax_grammar.specs.Lines.{is_run_place, belongs, ending_of, ending, next_piece_at, next_piece, next_line}
+use Rattle.fluent_syntax_grammar.specs.Lines.{is_run_place, belongs, ending_of, ending, next_piece_at, next_piece}
+use Rattle.fluent_syntax_grammar.specs.Lines.{next_line}
 use Rattle.fluent_syntax_grammar.specs.Lines.{no_byte, other_line, own_line}
 use Rattle.fluent_syntax_grammar.specs.Placeables.{selector_fault, variants_of_select, select_with, expression}
 use Rattle.fluent_syntax_grammar.specs.Patterns.{layout_at, layout, pattern}
@@ -49,7 +50,8 @@ use Rattle.fluent_syntax_grammar.proofs.backward.Words.{number_was}
 use Rattle.fluent_syntax_grammar.proofs.backward.Rules.{Ensures, ensures_bind, ensures_then, ensures_gives}
 use Rattle.fluent_syntax_grammar.proofs.backward.Rules.{ensures_fails, ensures_at_each, ensures_either, Fine, IsPattern}
 use Rattle.fluent_syntax_grammar.proofs.backward.Rules.{IsKey, IsVariants, IsFineFamily, ensures_name, IsInline}
-use Rattle.fluent_syntax_grammar.proofs.backward.Rules.{ensures_placeable, inline_was, ensures_arguments, Adds, ensures_many}
+use Rattle.fluent_syntax_grammar.proofs.backward.Rules.{ensures_placeable, inline_was, ensures_arguments, Adds}
+use Rattle.fluent_syntax_grammar.proofs.backward.Rules.{ensures_many}
 use Rattle.fluent_syntax_grammar.proofs.backward.Rules.{fine_select, fine_inline}
 use Rattle.fluent_syntax_grammar.proofs.backward.Shapes.{IsRead}
 use Rattle.fluent_syntax_tree.specs.Tree.{InlineTree, VariantTree}
@@ -365,7 +367,8 @@ module _ (t : List ℕ) (bare : HasNoBareCr t) (Joins : Type 0) (crs : (i : ℕ)
 
   ensures_select : (e : InlineTree Span) (o : Option Kind) → IsInline t Joins e → selector_fault e ≡ o →
       Ensures (select_with One t R e o) (IsRead t Joins)
-  ensures_select e None f k = ensures_bind ensures_variants_of (λ vs g. ensures_gives (fine_select t Joins R h e vs f k g))
+  ensures_select e None f k =
+      ensures_bind ensures_variants_of (λ vs g. ensures_gives (fine_select t Joins R h e vs f k g))
   ensures_select e (Some x) f k = ensures_fails
 
   pub ensures_expression : Ensures (expression One t R) (IsRead t Joins)

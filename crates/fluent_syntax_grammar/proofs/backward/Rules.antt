@@ -15,15 +15,18 @@ use Rattle.fluent_syntax_tree.specs.Tree.{option_texts, no_inlines, no_named}
 use Rattle.fluent_syntax_grammar.specs.Bytes.{is_digit, is_letter}
 use Rattle.fluent_syntax_grammar.specs.Places.{holds, has}
 use Rattle.fluent_syntax_grammar.specs.Construct.{Read, Construct, ◌>>=◌, goes_on, gives, given, fails, at_each, chosen}
-use Rattle.fluent_syntax_grammar.specs.Construct.{either, first, second, More, no_item, item, many, list_ends, item_and_more}
+use Rattle.fluent_syntax_grammar.specs.Construct.{either, first, second, More, no_item, item, many, list_ends}
+use Rattle.fluent_syntax_grammar.specs.Construct.{item_and_more}
 use Rattle.fluent_syntax_grammar.specs.Words.{identifier, number}
 use Rattle.fluent_syntax_grammar.specs.Strings as strings
 use Rattle.fluent_syntax_grammar.specs.Family.{Family}
 use Rattle.fluent_syntax_grammar.specs.Starts.{Start, quote, digit, term, minus, dollar, letter, brace, other, start_of}
 use Rattle.fluent_syntax_grammar.specs.Starts.{start}
-use Rattle.fluent_syntax_grammar.specs.Arguments.{accessor, Argument, add_argument, add_positional, add_named, call_arguments}
+use Rattle.fluent_syntax_grammar.specs.Arguments.{accessor, Argument, add_argument, add_positional, add_named}
+use Rattle.fluent_syntax_grammar.specs.Arguments.{call_arguments}
 use Rattle.fluent_syntax_grammar.specs.Arguments.{argument_value, named_rest, positional_rest, argument_name}
-use Rattle.fluent_syntax_grammar.specs.Arguments.{argument_rest, next_argument_at, next_argument, more_arguments, is_used}
+use Rattle.fluent_syntax_grammar.specs.Arguments.{argument_rest, next_argument_at, next_argument, more_arguments}
+use Rattle.fluent_syntax_grammar.specs.Arguments.{is_used}
 use Rattle.fluent_syntax_grammar.specs.Placeables.{selector_fault, is_term_attribute, placeable}
 use Rattle.fluent_syntax_grammar.specs.Inline.{named_reference, inline_of, inline_expression, is_callee_byte}
 use Rattle.fluent_syntax_grammar.specs.Written.{Text}

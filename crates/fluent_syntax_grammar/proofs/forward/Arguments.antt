@@ -1,5 +1,6 @@
 -- Argument lists, read forwards: a list is read if its arguments are.
-use Rattle.std.proofs.Common.{◌≡◌, ℕ, List, [], ◌∷◌, ◌++◌, Option, Some, None, Bool, true, false, refl, sym, ◌∙◌, subst, ap, inl}
+use Rattle.std.proofs.Common.{◌≡◌, ℕ, List, [], ◌∷◌, ◌++◌, Option, Some, None, Bool, true, false, refl, sym, ◌∙◌, subst}
+use Rattle.std.proofs.Common.{ap, inl}
 use Rattle.std.proofs.Common.{inr}
 use Rattle.std.specs.Prelude.{◌==◌, ◌||◌, ◌&&◌, ◌⊎◌, if◌then◌else◌}
 use Rattle.std.specs.List.{list_all}
@@ -32,7 +33,8 @@ use Rattle.fluent_syntax_grammar.proofs.Nesting.{into_argument_list}
 use Rattle.fluent_syntax_grammar.proofs.Left.{Left, left_as, first, left_first, left_has}
 use Rattle.fluent_syntax_grammar.proofs.forward.Reading.{Reads, Passes, reads_bind, reads_gives, passes_then}
 use Rattle.fluent_syntax_grammar.proofs.forward.Reading.{reads_at_each, reads_look, reads_first, reads_second}
-use Rattle.fluent_syntax_grammar.proofs.forward.Reading.{reads_into, reads_present, reads_absent, passes_token, more_map, reads_end, reads_item}
+use Rattle.fluent_syntax_grammar.proofs.forward.Reading.{reads_into, reads_present, reads_absent, passes_token}
+use Rattle.fluent_syntax_grammar.proofs.forward.Reading.{more_map, reads_end, reads_item}
 use Rattle.fluent_syntax_grammar.proofs.marks.WrittenBytes.{inline_bytes, arguments_bytes, positional_bytes}
 use Rattle.fluent_syntax_grammar.proofs.marks.WrittenBytes.{named_bytes, is_none_of}
 use Rattle.fluent_syntax_grammar.proofs.forward.Inline.{Follows, past, passes_blank, passes_blanks, starts_with}

@@ -25,7 +25,8 @@ use Rattle.fluent_syntax_grammar.proofs.Tests.{both, or_cases, differ}
 use Rattle.fluent_syntax_grammar.proofs.Left.{Left, left_as, left_first, left_next, left_has}
 use Rattle.fluent_syntax_grammar.proofs.forward.Reading.{Reads, Passes, reads_bind, reads_gives, passes_nothing}
 use Rattle.fluent_syntax_grammar.proofs.forward.Reading.{passes_then, passes_over, reads_at_each, reads_look}
-use Rattle.fluent_syntax_grammar.proofs.forward.Reading.{reads_first, reads_second, reads_present, more_map, reads_end, reads_item}
+use Rattle.fluent_syntax_grammar.proofs.forward.Reading.{reads_first, reads_second, reads_present, more_map, reads_end}
+use Rattle.fluent_syntax_grammar.proofs.forward.Reading.{reads_item}
 use Rattle.fluent_syntax_grammar.proofs.forward.Reading.{reads_absent, passes_token, passes_two, passes_inline_blank}
 use Rattle.fluent_syntax_grammar.proofs.forward.Words.{reads_name, reads_number}
 use Rattle.fluent_syntax_grammar.proofs.marks.WrittenBytes.{inline_bytes, variants_bytes, pattern_bytes}
@@ -164,7 +165,8 @@ module _ (edition : Edition) (t : List ℕ) where
       (level : ℕ) (starred star : Bool) (key : KeyTree Text) (value : PatternTree Text) (vs : VariantTrees Text)
       (k : KeyTree Span) (v : Option (PatternTree Span)) (i : ℕ) (close more : Text) →
       list_all is_space close ≡ true → key_map (bytes_at t) k ≡ key →
-      option_map (pattern_map (bytes_at t)) v ≡ Some value → Left t i (variants_bytes level vs (close ++ (125 ∷ more))) →
+      option_map (pattern_map (bytes_at t)) v ≡ Some value →
+      Left t i (variants_bytes level vs (close ++ (125 ∷ more))) →
       Reads t (variant_of t starred star k v) said i (item (variant key value star) (starred || star))
       (bare_bytes level vs close more)
   after_value level starred star key value vs k None i close more a e f l = absurd cc
@@ -261,7 +263,8 @@ module _ (edition : Edition) (t : List ℕ) where
       list_all is_space close ≡ true → inline_map (bytes_at t) v ≡ e → is_none (selector_fault e) ≡ true →
       VariantsBack edition t (level + 1) false vs →
       Left t i (45 ∷ 62 ∷ lf ∷ variants_bytes (level + 1) vs (close ++ (125 ∷ more))) →
-      Reads t (select_with edition t (family edition t) v (selector_fault v)) (expression_map (bytes_at t)) i (select e vs)
+      Reads t (select_with edition t (family edition t) v (selector_fault v)) (expression_map (bytes_at t)) i
+      (select e vs)
       (125 ∷ more)
   from_arrow level e vs v i close more a f g h l =
       let none : selector_fault v ≡ None =

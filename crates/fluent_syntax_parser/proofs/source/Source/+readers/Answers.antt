@@ -328,7 +328,8 @@ get_expression-returns-in-Some-clause-meets m c =
     (goes_on (passed c.skip_blank-ptr.ensures.blank)
     (goes_on (chosen given)
     (first (sym c.if-not-is_arrow.ensures)
-    (no_selector c.args.edition c.args.self.now.bytes.now (family c.args.edition c.args.self.now.bytes.now) _ _ _ is.0)))))
+    (no_selector c.args.edition c.args.self.now.bytes.now
+    (family c.args.edition c.args.self.now.bytes.now) _ _ _ is.0)))))
 
 pub get_expression-returns-in_err-ptr-in-None-clause-meets : goal.get_expression-returns-in_err-ptr-in-None-clause-meets
 get_expression-returns-in_err-ptr-in-None-clause-meets m c =
