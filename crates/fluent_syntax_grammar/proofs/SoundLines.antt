@@ -328,7 +328,7 @@ module _ (edition : Edition) (t : List ℕ) (P : ℕ → Type 0) (cuts : IsCuts 
 
     variants_holds : (s : ℕ) →
         Holds (AtArrow t P cuts s true) (variants_of_select edition t R) (Ended P s (variants_every (IsSpan P)))
-            (IsFault t s)
+        (IsFault t s)
     variants_holds s = holds_bind {mid = λ u. Inside P s} (holds_over (after_arrow t P cuts s))
         (λ u. (sound_bind (sound_inline_blank t P cuts)
         (λ u v. sound_bind (sound_arrow t P cuts)
@@ -337,7 +337,7 @@ module _ (edition : Edition) (t : List ℕ) (P : ℕ → Type 0) (cuts : IsCuts 
     select_holds : (s : ℕ) (e : InlineTree Span) → inline_every (IsSpan P) e → (o : Option Kind) →
         ((k : Kind) → o ≡ Some k → (i : ℕ) → IsPlain k × kind_means t k i) →
         Holds (AtArrow t P cuts s true) (select_with edition t R e o) (Ended P s (expression_every (IsSpan P)))
-            (IsFault t s)
+        (IsFault t s)
     select_holds s e g None m =
         holds_bind (variants_holds s)
         (λ vs. holds_gives (λ i p. record { late = p.late; place = p.place; good = (g, p.good) }))

@@ -190,7 +190,7 @@ module _ (edition : Edition) (t : List ℕ) (R : Family) (low : ℕ) (h : (s : �
   both_variants : (s : ℕ) → low ≤ s + 1 → (starred : Bool) → Both t s (more_variants edition t R starred)
   both_variants s l starred =
       both_many t (next_variant edition t R) _ _ s (λ m k starred. going_variant m (omega arith) starred) s
-          (omega arith)
+      (omega arith)
       starred
 
   -- ---- expressions

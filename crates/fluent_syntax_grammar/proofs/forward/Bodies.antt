@@ -260,7 +260,7 @@ module _ (edition : Edition) (t : List ℕ) where
   minus_reads i bs e rest l r =
       reads_into (λ o x.
       chosen (subst (λ b. entry_of edition t (family edition t) b i o) (sym (left_first l))
-          (second refl (first_of refl x)))) r
+      (second refl (first_of refl x)))) r
 
   -- The text from here on is tiled into these entries, after blank lines.
   pub record BodyBack (es : BodyTree Text) (tail : List ℕ) : Type 0 where

@@ -166,7 +166,7 @@ module _ (edition : Edition) (t : List ℕ) where
       (k : KeyTree Span) (v : Option (PatternTree Span)) (i : ℕ) (close more : Text) →
       list_all is_space close ≡ true → key_map (bytes_at t) k ≡ key →
       option_map (pattern_map (bytes_at t)) v ≡ Some value →
-          Left t i (variants_bytes level vs (close ++ (125 ∷ more))) →
+      Left t i (variants_bytes level vs (close ++ (125 ∷ more))) →
       Reads t (variant_of t starred star k v) said i (item (variant key value star) (starred || star))
       (bare_bytes level vs close more)
   after_value level starred star key value vs k None i close more a e f l = absurd cc
@@ -264,7 +264,7 @@ module _ (edition : Edition) (t : List ℕ) where
       VariantsBack edition t (level + 1) false vs →
       Left t i (45 ∷ 62 ∷ lf ∷ variants_bytes (level + 1) vs (close ++ (125 ∷ more))) →
       Reads t (select_with edition t (family edition t) v (selector_fault v)) (expression_map (bytes_at t)) i
-          (select e vs)
+      (select e vs)
       (125 ∷ more)
   from_arrow level e vs v i close more a f g h l =
       let none : selector_fault v ≡ None =
