@@ -15,6 +15,14 @@ module _ {A S B : Type 0} (t : List ℕ) (next : S → Construct (More A S)) (ad
       pub read : (b : B) (end : ℕ) → many next add none r j (Read b end) → many next add none s i (Read (put b) end)
       pub fails : (f : ReadFault) → Fails t (many next add none r) j f → Fails t (many next add none s) i f
 
+-- where what stands behind an item fails, so does the list
+behind_item : {A S B : Type 0} (t : List ℕ) (next : S → Construct (More A S)) (add : A → B → B) (none : B) (r q : S)
+    (j m : ℕ) (a : A) → IsFunctional (next r) → next r j (Read (item a q) m) → (f : ReadFault) →
+    Fails t (many next add none q) m f → Fails t (many next add none r) j f
+behind_item t next add none r q j m a h x f (refused n) = refused (λ k from to e. stops_later x (n k from to e))
+behind_item t next add none r q j m a h x f (too_deep n) = too_deep (deeper_later h a q m x n)
+behind_item t next add none r q j m a h x f no_memory = no_memory
+
 module _ {A S B : Type 0} {t : List ℕ} {next : S → Construct (More A S)} {add : A → B → B} {none : B} {s : S} {i : ℕ}
     {put : B → B} {r : S} {j : ℕ} where
   -- an item was refused, or nests too deeply
@@ -24,12 +32,6 @@ module _ {A S B : Type 0} {t : List ℕ} {next : S → Construct (More A S)} {ad
   item_fails g (too_deep h) = g.fails _ (too_deep (deeper_item h))
   item_fails g no_memory = no_memory
 
-  later : {a : A} {q : S} {m : ℕ} → IsFunctional (next r) → next r j (Read (item a q) m) → (f : ReadFault) →
-      Fails t (many next add none q) m f → Fails t (many next add none r) j f
-  later h x f (refused n) = refused (λ k from to e. stops_later x (n k from to e))
-  later {a = a} {q = q} {m = m} h x f (too_deep n) = too_deep (deeper_later h a q m x n)
-  later h x f no_memory = no_memory
-
   -- one more item
   pub one_behind : (more_put : B → B) (a : A) (q : S) (m : ℕ) → Behind t next add none s i put r j →
       IsFunctional (next r) → ((b : B) → more_put b ≡ put (add a b)) → next r j (Read (item a q) m) →
@@ -37,7 +39,7 @@ module _ {A S B : Type 0} {t : List ℕ} {next : S → Construct (More A S)} {ad
   one_behind more_put a q m g h same x = record {
     read = λ b end y.
         subst (λ b. many next add none s i (Read b end)) (sym (same b)) (g.read (add a b) end (item_and_more x y));
-    fails = λ f y. g.fails f (later h x f y);
+    fails = λ f y. g.fails f (behind_item t next add none r q j m a h x f y);
   }
 
   -- the list ends
@@ -53,7 +55,7 @@ abbrev pub BehindItems : {A X : Type 0} → List ℕ → Construct (More A (Unit
 BehindItems t next view i xs j =
     Behind t (λ u. next) (λ a rest. a ∷ rest) [] tt i (λ more. map view xs ++ more) tt j
 
-module _ {A X : Type 0} {t : List ℕ} {next : Construct (More A (Unit {0}))} {view : X → A} {i j m : ℕ} where
+module _ {A X : Type 0} {t : List ℕ} {next : Construct (More A (Unit {0}))} (view : X → A) {i j m : ℕ} where
   -- one more item
   pub item_behind : (xs ys : List X) (x : X) → ys ≡ xs ++ x ∷ [] → BehindItems t next view i xs j →
       IsFunctional next → next j (Read (item (view x) tt) m) → BehindItems t next view i ys m
@@ -62,6 +64,6 @@ module _ {A X : Type 0} {t : List ℕ} {next : Construct (More A (Unit {0}))} {v
       (λ more. ap (λ zs. map view zs ++ more) same ∙ map_more view xs x more) read
 
   -- the list ends
-  pub all_behind : {xs : List X} → BehindItems t next view i xs j → next j (Read no_item m) →
+  pub all_behind : (xs : List X) → BehindItems t next view i xs j → next j (Read no_item m) →
       list_of next i (Read (map view xs) m)
-  all_behind {xs = xs} g x = list_read (map view xs) m g (append_nothing (map view xs)) x
+  all_behind xs g x = list_read (map view xs) m g (append_nothing (map view xs)) x

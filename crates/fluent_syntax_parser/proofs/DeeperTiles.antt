@@ -73,8 +73,8 @@ module _ (edition : Edition) (t : List ℕ) (n : ℕ) where
   entry_deeper Kept i none inside d tiles (at_tile l (reads x) rest) = d _ x
   entry_deeper Kept i none inside d tiles (at_tile l (refuses x end) rest) = d _ x
   entry_deeper Dropped i none inside d tiles (at_tile l (drops there line) rest) = let f = none refl in cc
-  entry_deeper Dropped i none inside d tiles (at_tile l (stands no (reads x)) rest) = d _ x
-  entry_deeper Dropped i none inside d tiles (at_tile l (stands no (refuses x end)) rest) = d _ x
+  entry_deeper Dropped i none inside d tiles (at_tile l (stands bare (reads x)) rest) = d _ x
+  entry_deeper Dropped i none inside d tiles (at_tile l (stands bare (refuses x end)) rest) = d _ x
 
   -- tiles stand at the text's end: none
   pub tile_at_end : (comments : Comments) (i : ℕ) → i ≡ length t →

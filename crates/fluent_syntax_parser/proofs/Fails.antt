@@ -59,11 +59,11 @@ fails_as into from (refused h) = refused (λ k a b s. into (Refused k a b) (h k 
 fails_as into from (too_deep h) = too_deep (λ o x. h o (from o x))
 fails_as into from no_memory = no_memory
 
-pub meets_as : {A X : Type 0} {t : List ℕ} {c d : Construct A} {view : X → A} {i : ℕ} →
+pub meets_as : {A X : Type 0} {t : List ℕ} {c d : Construct A} (view : X → A) {i : ℕ} →
     ((o : Outcome A) → c i o → d i o) → ((f : ReadFault) → Fails t c i f → Fails t d i f) →
     (r : Result (X × ℕ) ReadFault) → Meets t c view i r → Meets t d view i r
-meets_as read fails (Ok x) h = read _ h
-meets_as read fails (Err f) h = fails f h
+meets_as view read fails (Ok x) h = read _ h
+meets_as view read fails (Err f) h = fails f h
 
 pub fails_yes : {A : Type 0} {t : List ℕ} {test : Bool} {c d : Construct A} {i : ℕ} {f : ReadFault} → test ≡ true →
     Fails t c i f → Fails t (either test c d) i f
@@ -102,8 +102,8 @@ functional_steps = search functional depth 30
 pub functional_reaches : {k : ℕ} → IsFunctional (over (Reaches k))
 functional_reaches = search functional depth 30
 
-pub functional_star : {starred star : Bool} → IsFunctional (only_star starred star)
-functional_star = search functional depth 30
+pub functional_star : (starred star : Bool) → IsFunctional (only_star starred star)
+functional_star starred star = search functional depth 30
 
 pub functional_arrow_end : (t : List ℕ) → IsFunctional (at_each (after_eol t) arrow_line_end)
 functional_arrow_end t = functional_at_each functional_arrow

@@ -7,7 +7,8 @@ use Rattle.fluent_syntax_tree.specs.declared.edition.Edition.{Edition}
 use Rattle.fluent_syntax_grammar.specs.Bytes.{equals_sign, full_stop, left_brace, lf}
 use Rattle.fluent_syntax_grammar.specs.Construct.{Read, Refused, goes_on, no_item, list_ends}
 use Rattle.fluent_syntax_grammar.specs.Grammar.{family, more_lines}
-use Rattle.fluent_syntax_grammar.specs.Lines.{belongs, is_run_place, next_line, no_byte, other_line, own_line}
+use Rattle.fluent_syntax_grammar.specs.Lines.{belongs, is_run_place, no_byte, other_line, own_line}
+use Rattle.fluent_syntax_grammar.specs.Lines as lines
 use Rattle.fluent_syntax_grammar.specs.Places.{BlankBlock, InlineBlank, Stretch, after_eol, has_byte, has_eol}
 use Rattle.fluent_syntax_grammar.specs.Places.{is_line_place}
 use Rattle.fluent_syntax_grammar.proofs.Facts.{has_inside, differs, lt_or_same}
@@ -95,7 +96,8 @@ module _ (edition : Edition) (t : List ℕ) where
       ((slice_get t k ≡ None) × (k ≡ end)) ⊎
       ((b : ℕ) × (slice_get t k ≡ Some b) × (belongs t (nat_lt i k) k ≡ false) × (i ≡ end))
 
-  by_rule : (i k end : ℕ) → InlineBlank t i k → next_line t (family edition t) i (Read no_item end) → NoLine i k end
+  by_rule : (i k end : ℕ) → InlineBlank t i k → lines.next_line t (family edition t) i (Read no_item end) →
+      NoLine i k end
   by_rule i k end blank (no_byte {k = m} other none) =
       let same = single_stretch.same i m k other blank in
       inl (subst (λ p. slice_get t p ≡ None) same none, sym same)

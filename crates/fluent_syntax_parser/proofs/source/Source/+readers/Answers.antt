@@ -39,6 +39,7 @@ use Rattle.fluent_syntax_grammar.proofs.FunctionalWords.{functional_blank, funct
 use Rattle.fluent_syntax_grammar.proofs.FunctionalWords.{functional_identifier}
 use Rattle.fluent_syntax_grammar.proofs.FunctionalWords.{functional_inline_blank, functional_optional, functional_token}
 use Rattle.fluent_syntax_grammar.proofs.Nesting.{functional_within}
+use Rattle.fluent_syntax_parser.specs.Lines.{line_view, piece_view}
 use Rattle.fluent_syntax_parser.specs.Meets.{refused, too_deep}
 use Rattle.fluent_syntax_parser.proofs.ArgumentLists.{inline_fails, late, list_closed, list_open, named, named_fails}
 use Rattle.fluent_syntax_parser.proofs.ArgumentLists.{one_named, one_positional, positional, token_there}
@@ -692,7 +693,7 @@ pub get_variants-returns-in_err-key-clause-meets : goal.get_variants-returns-in_
 get_variants-returns-in_err-key-clause-meets m c =
     let p = err_from_is_err_and c.from_residual.result c.from_residual.ensures.1 in
     rw (p.1, p.2) (item_fails c.loop-starred.invariant.gathered (refused (λ k from to h.
-    goes_on c.take_byte_if-star.ensures.meets
+    (goes_on c.take_byte_if-star.ensures.meets
     (goes_on (second (one_false _ _ c.else-starred.either) given)
     (goes_on c.take_byte_if-bracket.ensures.meets
     (first c.if-not-bracket.false
@@ -703,7 +704,7 @@ pub get_variants-returns-in_err-next-clause-meets : goal.get_variants-returns-in
 get_variants-returns-in_err-next-clause-meets m c =
     let p = err_from_is_err_and c.from_residual-in_err-next.result c.from_residual-in_err-next.ensures.1 in
     rw (p.1, p.2) (item_fails c.loop-starred.invariant.gathered (refused (λ k from to h.
-    goes_on c.take_byte_if-star.ensures.meets
+    (goes_on c.take_byte_if-star.ensures.meets
     (goes_on (second (one_false _ _ c.else-starred.either) given)
     (goes_on c.take_byte_if-bracket.ensures.meets
     (first c.if-not-bracket.false
@@ -720,7 +721,7 @@ get_variants-returns-in_err-value-clause-meets m c =
     rw (p.1, p.2)
     (item_fails c.loop-starred.invariant.gathered
     (fails_next (functional_optional t asterisk) c.take_byte_if-star.ensures.meets
-    (fails_next functional_star (second (one_false _ _ c.else-starred.either) given)
+    (fails_next (functional_star _ _) (second (one_false _ _ c.else-starred.either) given)
     (fails_next (functional_optional t left_bracket) c.take_byte_if-bracket.ensures.meets
     (fails_yes c.if-not-bracket.false
     (fails_next (functional_blank t) (passed c.skip_blank-start.ensures.blank)
@@ -788,11 +789,11 @@ get_variants-loop-starred-preserved m c =
 
 pub get_pieces-returns-in-None-clause-meets : goal.get_pieces-returns-in-None-clause-meets
 get_pieces-returns-in-None-clause-meets m c =
-    all_behind c.loop-pieces.invariant.gathered (end_pieces c.args.self.now.bytes.now _ _ (sym c.in-None.ensures))
+    all_behind piece_view _ c.loop-pieces.invariant.gathered (end_pieces c.args.self.now.bytes.now _ _ (sym c.in-None.ensures))
 
 pub get_pieces-returns-then-is_eol_at-clause-meets : goal.get_pieces-returns-then-is_eol_at-clause-meets
 get_pieces-returns-then-is_eol_at-clause-meets m c =
-    all_behind c.loop-pieces.invariant.gathered
+    all_behind piece_view _ c.loop-pieces.invariant.gathered
     (no_pieces c.args.self.now.bytes.now _ _ _ (sym c.in-Some.ensures) (λ e. cc) (sym c.if-is_eol_at.ensures))
 
 pub get_pieces-returns-then-byte-eq125-clause-meets : goal.get_pieces-returns-then-byte-eq125-clause-meets
@@ -818,7 +819,7 @@ get_pieces-loop-pieces-preserved-then-byte-eq123 m c =
       forward = omega (arith, c.loop-pieces.invariant.forward, read.within.0);
       within = read.within.1;
       gathered =
-          item_behind _ _ _ c.in_ok-push-in-Some.ensures.items c.loop-pieces.invariant.gathered
+          item_behind piece_view _ _ _ c.in_ok-push-in-Some.ensures.items c.loop-pieces.invariant.gathered
           (functional_next_piece t _ (functional_within c.args.edition t _))
           (placed_piece t _ _ _ (sym c.in-Some.ensures) (sym c.if-is_eol_at.ensures) c.if-byte-eq123.true _
           (goes_on read.meets given));
@@ -832,7 +833,7 @@ get_pieces-loop-pieces-preserved m c =
       forward = omega (arith, c.loop-pieces.invariant.forward, run.forward);
       within = c.run_end-to.ensures.within;
       gathered =
-          item_behind _ _ _ c.in_ok-push-in-Some-2.ensures.items c.loop-pieces.invariant.gathered
+          item_behind piece_view _ _ _ c.in_ok-push-in-Some-2.ensures.items c.loop-pieces.invariant.gathered
           (functional_next_piece t _ (functional_within c.args.edition t _))
           (run_piece t _ _ _ (sym c.in-Some.ensures) (sym c.if-is_eol_at.ensures) c.if-byte-eq125.false
           c.if-byte-eq123.false _ run);
@@ -842,12 +843,12 @@ get_pieces-loop-pieces-preserved m c =
 
 pub get_lines-returns-in-None-clause-meets : goal.get_lines-returns-in-None-clause-meets
 get_lines-returns-in-None-clause-meets m c =
-    all_behind c.loop-lines.invariant.gathered
+    all_behind line_view _ c.loop-lines.invariant.gathered
     (no_byte c.skip_blank_inline-first.ensures.blank (sym c.in-None.ensures))
 
 pub get_lines-returns-then-not-belongs-clause-meets : goal.get_lines-returns-then-not-belongs-clause-meets
 get_lines-returns-then-not-belongs-clause-meets m c =
-    all_behind c.loop-lines.invariant.gathered
+    all_behind line_view _ c.loop-lines.invariant.gathered
     (other_line c.skip_blank_inline-first.ensures.blank (sym c.in-Some.ensures) (sym c.if-not-belongs.ensures))
 
 pub get_lines-returns-in_err-pieces-in-Some-clause-meets :
@@ -872,8 +873,8 @@ get_lines-returns-in-None-eol_end-clause-meets m c =
     let pieces = c.in_ok-pieces-in-Some.ensures in
     let none = sym c.in-None-eol_end.ensures.eol in
     let read = line_read t _ _ _ blank _ _ _ _ pieces.meets (ends_text t _ none) in
-    all_behind
-    (item_behind _ _ _ c.in_ok-push-in-None-eol_end.ensures.items c.loop-lines.invariant.gathered
+    all_behind line_view _
+    (item_behind line_view _ _ _ c.in_ok-push-in-None-eol_end.ensures.items c.loop-lines.invariant.gathered
     (functional_next_line t _ (functional_within c.args.edition t _))
     (own_line blank (sym c.in-Some.ensures) (sym c.if-not-belongs.ensures) (goes_on read given)))
     (no_lines t _ _ (pieces.stops (after_none t _ none)))
@@ -889,7 +890,7 @@ get_lines-loop-lines-preserved m c =
       forward = omega (arith, c.loop-lines.invariant.forward, blank.forward, pieces.within.0, eol.within.0);
       within = eol.within.1;
       gathered =
-          item_behind _ _ _ c.in_ok-push-in-Some-eol_end.ensures.items c.loop-lines.invariant.gathered
+          item_behind line_view _ _ _ c.in_ok-push-in-Some-eol_end.ensures.items c.loop-lines.invariant.gathered
           (functional_next_line t _ (functional_within c.args.edition t _))
           (rw c.ending_at-ending.ensures
           (own_line blank (sym c.in-Some.ensures) (sym c.if-not-belongs.ensures) (goes_on read given)));

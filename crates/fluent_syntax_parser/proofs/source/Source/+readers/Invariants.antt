@@ -1,7 +1,7 @@
 use Rattle.std.proofs.Common.{◌+◌, ◌*◌, length, ◌-◌, ◌≤◌, [], false}
 use Rattle.fluent_syntax_tree.specs.Tree.{arguments, no_inlines, no_named, no_variants, variants}
 use Rattle.fluent_syntax_grammar.specs.Arguments.{add_argument, next_argument}
-use Rattle.fluent_syntax_grammar.specs.Grammar.{within}
+use Rattle.fluent_syntax_grammar.specs.Grammar as grammar
 use Rattle.fluent_syntax_grammar.specs.Lines.{next_line, next_piece}
 use Rattle.fluent_syntax_grammar.specs.Variants.{next_variant}
 use Rattle.fluent_syntax_parser.specs.Lines.{line_view, piece_view}
@@ -61,7 +61,7 @@ invariant-get_arguments-loop-alloc l =
       forward : l.ptr ≤ l.place;
       within : l.place ≤ length t;
       gathered :
-          Behind t (next_argument t (within l.edition t l.nesting)) add_argument
+          Behind t (next_argument t (grammar.within l.edition t l.nesting)) add_argument
               (arguments no_inlines no_named) [] l.ptr
           (put_arguments l.positional.items l.named.items) (names_in t l.named.items) l.place;
     }
@@ -76,7 +76,7 @@ invariant-get_variants-loop-starred l =
       forward : l.ptr ≤ l.place;
       within : l.place ≤ length t;
       gathered :
-          Behind t (next_variant l.edition t (within l.edition t l.nesting)) variants no_variants false l.ptr
+          Behind t (next_variant l.edition t (grammar.within l.edition t l.nesting)) variants no_variants false l.ptr
           (put_variants l.variants.items) l.starred l.place;
     }
 
@@ -89,7 +89,7 @@ invariant-get_pieces-loop-pieces l =
     record {
       forward : l.ptr ≤ l.place;
       within : l.place ≤ length t;
-      gathered : BehindItems t (next_piece t (within l.edition t l.nesting)) piece_view l.ptr l.pieces.items l.place;
+      gathered : BehindItems t (next_piece t (grammar.within l.edition t l.nesting)) piece_view l.ptr l.pieces.items l.place;
     }
 
 abbrev pub decreases-get_pieces-loop-pieces : goal.decreases-get_pieces-loop-pieces
@@ -101,7 +101,7 @@ invariant-get_lines-loop-lines l =
     record {
       forward : l.ptr ≤ l.start;
       within : l.start ≤ length t;
-      gathered : BehindItems t (next_line t (within l.edition t l.nesting)) line_view l.ptr l.lines.items l.start;
+      gathered : BehindItems t (next_line t (grammar.within l.edition t l.nesting)) line_view l.ptr l.lines.items l.start;
     }
 
 abbrev pub decreases-get_lines-loop-lines : goal.decreases-get_lines-loop-lines

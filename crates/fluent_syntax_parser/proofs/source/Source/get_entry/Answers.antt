@@ -11,7 +11,7 @@ pub returns-then-is_byte_at-clause-meets : goal.returns-then-is_byte_at-clause-m
 returns-then-is_byte_at-clause-meets c =
     let t = c.args.self.now.bytes.now in
     let edition = c.args.options.edition in
-    meets_as (λ o h. comment_there edition t _ _ o (sym c.if-is_byte_at.ensures) h)
+    meets_as (entry_view (λ s. s)) (λ o h. comment_there edition t _ _ o (sym c.if-is_byte_at.ensures) h)
     (λ f h. comment_fails edition t _ _ (sym c.if-is_byte_at.ensures) h) _ c.get_comment.ensures.meets
 
 pub returns-in_err-term-clause-meets : goal.returns-in_err-term-clause-meets
