@@ -27,6 +27,7 @@ use Rattle.fluent_syntax_grammar.specs.Bytes.{asterisk, colon, greater_than, hyp
 use Rattle.fluent_syntax_grammar.specs.Bytes.{left_parenthesis, right_bracket}
 use Rattle.fluent_syntax_grammar.specs.Construct.{stops, goes_on, given, failed, passed, chosen, first, second}
 use Rattle.fluent_syntax_grammar.specs.Construct.{at_place}
+use Rattle.fluent_syntax_grammar.specs.Grammar.{within}
 use Rattle.fluent_syntax_grammar.specs.Inline.{inline_of}
 use Rattle.fluent_syntax_grammar.specs.Lines.{no_byte, other_line, own_line}
 use Rattle.fluent_syntax_grammar.specs.Patterns.{layout_at}
@@ -40,7 +41,7 @@ use Rattle.fluent_syntax_grammar.proofs.FunctionalWords.{functional_identifier}
 use Rattle.fluent_syntax_grammar.proofs.FunctionalWords.{functional_inline_blank, functional_optional, functional_token}
 use Rattle.fluent_syntax_grammar.proofs.Nesting.{functional_within}
 use Rattle.fluent_syntax_parser.specs.Lines.{line_view, piece_view}
-use Rattle.fluent_syntax_parser.specs.Meets.{refused, too_deep}
+use Rattle.fluent_syntax_parser.specs.Meets.{no_memory, refused, too_deep}
 use Rattle.fluent_syntax_parser.proofs.ArgumentLists.{inline_fails, late, list_closed, list_open, named, named_fails}
 use Rattle.fluent_syntax_parser.proofs.ArgumentLists.{one_named, one_positional, positional, token_there}
 use Rattle.fluent_syntax_parser.proofs.Behind.{all_behind, item_behind, item_fails, list_read, one_behind}
@@ -318,7 +319,8 @@ get_expression-returns-then-not-is_arrow-clause-meets m c =
 pub get_expression-returns-in-Some-clause-meets : goal.get_expression-returns-in-Some-clause-meets
 get_expression-returns-in-Some-clause-meets m c =
     let is = c.in-Some.ensures c.args.self.now.bytes.now c.skip_blank-ptr.result in
-    refused (λ k from to (a, b, d). rw (a, b ∙ is.1, d ∙ is.2)
+    refused {r = record { fault = c.in-Some.fault; place = c.skip_blank-ptr.result }} (λ k from to (a, b, d).
+    rw (a, b ∙ is.1, d ∙ is.2)
     (goes_on c.in_ok-expression.ensures.meets
     (goes_on (passed c.skip_blank-ptr.ensures.blank)
     (goes_on (chosen given)
@@ -551,7 +553,7 @@ get_arguments-returns-then-not-is_empty-clause-meets m c =
     (positional t _ (names_in t old.named.items) old.place
     (omega (arith, c.if-place-self.false, old.invariant.within)) (sym c.loop-alloc-test.ensures) e _
     c.in_ok-expression.ensures.meets is _
-    (late t (names_in t old.named.items) e _ (some_names t old.named.items some)))))
+    (late t (within c.args.edition t c.args.nesting) (names_in t old.named.items) e _ (some_names t old.named.items some)))))
 
 pub get_arguments-loop-alloc-preserved : goal.get_arguments-loop-alloc-preserved
 get_arguments-loop-alloc-preserved m c =
@@ -721,7 +723,8 @@ get_variants-returns-in_err-value-clause-meets m c =
     rw (p.1, p.2)
     (item_fails c.loop-starred.invariant.gathered
     (fails_next (functional_optional t asterisk) c.take_byte_if-star.ensures.meets
-    (fails_next (functional_star _ _) (second (one_false _ _ c.else-starred.either) given)
+    (fails_next (functional_star c.loop-starred.starred c.take_byte_if-star.result.0)
+    (second (one_false _ _ c.else-starred.either) given)
     (fails_next (functional_optional t left_bracket) c.take_byte_if-bracket.ensures.meets
     (fails_yes c.if-not-bracket.false
     (fails_next (functional_blank t) (passed c.skip_blank-start.ensures.blank)
@@ -789,17 +792,17 @@ get_variants-loop-starred-preserved m c =
 
 pub get_pieces-returns-in-None-clause-meets : goal.get_pieces-returns-in-None-clause-meets
 get_pieces-returns-in-None-clause-meets m c =
-    all_behind piece_view _ c.loop-pieces.invariant.gathered (end_pieces c.args.self.now.bytes.now _ _ (sym c.in-None.ensures))
+    all_behind piece_view _ c.loop-pieces.invariant.gathered (end_pieces c.args.self.now.bytes.now (within c.args.edition c.args.self.now.bytes.now c.args.nesting) _ (sym c.in-None.ensures))
 
 pub get_pieces-returns-then-is_eol_at-clause-meets : goal.get_pieces-returns-then-is_eol_at-clause-meets
 get_pieces-returns-then-is_eol_at-clause-meets m c =
     all_behind piece_view _ c.loop-pieces.invariant.gathered
-    (no_pieces c.args.self.now.bytes.now _ _ _ (sym c.in-Some.ensures) (λ e. cc) (sym c.if-is_eol_at.ensures))
+    (no_pieces c.args.self.now.bytes.now (within c.args.edition c.args.self.now.bytes.now c.args.nesting) _ _ (sym c.in-Some.ensures) (λ e. cc) (sym c.if-is_eol_at.ensures))
 
 pub get_pieces-returns-then-byte-eq125-clause-meets : goal.get_pieces-returns-then-byte-eq125-clause-meets
 get_pieces-returns-then-byte-eq125-clause-meets m c =
     item_fails c.loop-pieces.invariant.gathered (refused (λ k from to (a, b, d). rw (a, b, d)
-    (bare_brace c.args.self.now.bytes.now _ _ _ (sym c.in-Some.ensures) (sym c.if-is_eol_at.ensures)
+    (bare_brace c.args.self.now.bytes.now (within c.args.edition c.args.self.now.bytes.now c.args.nesting) _ _ (sym c.in-Some.ensures) (sym c.if-is_eol_at.ensures)
     c.if-byte-eq125.true)))
 
 pub get_pieces-returns-in_err-expression-in-Some-clause-meets :
@@ -808,7 +811,7 @@ get_pieces-returns-in_err-expression-in-Some-clause-meets m c =
     let p = err_from_is_err_and c.from_residual.result c.from_residual.ensures.1 in
     rw (p.1, p.2)
     (item_fails c.loop-pieces.invariant.gathered
-    (placed_fails c.args.self.now.bytes.now _ _ _ (sym c.in-Some.ensures) (sym c.if-is_eol_at.ensures)
+    (placed_fails c.args.self.now.bytes.now (within c.args.edition c.args.self.now.bytes.now c.args.nesting) _ _ (sym c.in-Some.ensures) (sym c.if-is_eol_at.ensures)
     c.if-byte-eq123.true (fails_first c.in_err-expression-in-Some.ensures.meets)))
 
 pub get_pieces-loop-pieces-preserved-then-byte-eq123 : goal.get_pieces-loop-pieces-preserved-then-byte-eq123
@@ -820,8 +823,8 @@ get_pieces-loop-pieces-preserved-then-byte-eq123 m c =
       within = read.within.1;
       gathered =
           item_behind piece_view _ _ _ c.in_ok-push-in-Some.ensures.items c.loop-pieces.invariant.gathered
-          (functional_next_piece t _ (functional_within c.args.edition t _))
-          (placed_piece t _ _ _ (sym c.in-Some.ensures) (sym c.if-is_eol_at.ensures) c.if-byte-eq123.true _
+          (functional_next_piece t (within c.args.edition t c.args.nesting) (functional_within c.args.edition t _))
+          (placed_piece t (within c.args.edition t c.args.nesting) _ _ (sym c.in-Some.ensures) (sym c.if-is_eol_at.ensures) c.if-byte-eq123.true _
           (goes_on read.meets given));
     }
 
@@ -834,8 +837,8 @@ get_pieces-loop-pieces-preserved m c =
       within = c.run_end-to.ensures.within;
       gathered =
           item_behind piece_view _ _ _ c.in_ok-push-in-Some-2.ensures.items c.loop-pieces.invariant.gathered
-          (functional_next_piece t _ (functional_within c.args.edition t _))
-          (run_piece t _ _ _ (sym c.in-Some.ensures) (sym c.if-is_eol_at.ensures) c.if-byte-eq125.false
+          (functional_next_piece t (within c.args.edition t c.args.nesting) (functional_within c.args.edition t _))
+          (run_piece t (within c.args.edition t c.args.nesting) _ _ (sym c.in-Some.ensures) (sym c.if-is_eol_at.ensures) c.if-byte-eq125.false
           c.if-byte-eq123.false _ run);
     }
 
@@ -859,7 +862,7 @@ get_lines-returns-in_err-pieces-in-Some-clause-meets m c =
     let blank = c.skip_blank_inline-first.ensures.blank in
     rw (p.1, p.2)
     (item_fails c.loop-lines.invariant.gathered
-    (own_line_fails t _ blank (sym c.in-Some.ensures) (sym c.if-not-belongs.ensures)
+    (own_line_fails t (within c.args.edition t c.args.nesting) blank (sym c.in-Some.ensures) (sym c.if-not-belongs.ensures)
     (fails_first
     (fails_next functional_here at_place
     (fails_next (functional_inline_blank t) (passed blank)
@@ -872,12 +875,12 @@ get_lines-returns-in-None-eol_end-clause-meets m c =
     let blank = c.skip_blank_inline-first.ensures.blank in
     let pieces = c.in_ok-pieces-in-Some.ensures in
     let none = sym c.in-None-eol_end.ensures.eol in
-    let read = line_read t _ _ _ blank _ _ _ _ pieces.meets (ends_text t _ none) in
+    let read = line_read t (within c.args.edition t c.args.nesting) _ _ blank _ _ _ _ pieces.meets (ends_text t _ none) in
     all_behind line_view _
     (item_behind line_view _ _ _ c.in_ok-push-in-None-eol_end.ensures.items c.loop-lines.invariant.gathered
-    (functional_next_line t _ (functional_within c.args.edition t _))
+    (functional_next_line t (within c.args.edition t c.args.nesting) (functional_within c.args.edition t _))
     (own_line blank (sym c.in-Some.ensures) (sym c.if-not-belongs.ensures) (goes_on read given)))
-    (no_lines t _ _ (pieces.stops (after_none t _ none)))
+    (no_lines t (within c.args.edition t c.args.nesting) _ (pieces.stops (after_none t _ none)))
 
 pub get_lines-loop-lines-preserved : goal.get_lines-loop-lines-preserved
 get_lines-loop-lines-preserved m c =
@@ -885,13 +888,13 @@ get_lines-loop-lines-preserved m c =
     let blank = c.skip_blank_inline-first.ensures.blank in
     let pieces = c.in_ok-pieces-in-Some.ensures in
     let eol = c.in-Some-eol_end.ensures in
-    let read = line_read t _ _ _ blank _ _ _ _ pieces.meets (ends_line t _ _ (sym eol.eol)) in
+    let read = line_read t (within c.args.edition t c.args.nesting) _ _ blank _ _ _ _ pieces.meets (ends_line t _ _ (sym eol.eol)) in
     record {
       forward = omega (arith, c.loop-lines.invariant.forward, blank.forward, pieces.within.0, eol.within.0);
       within = eol.within.1;
       gathered =
           item_behind line_view _ _ _ c.in_ok-push-in-Some-eol_end.ensures.items c.loop-lines.invariant.gathered
-          (functional_next_line t _ (functional_within c.args.edition t _))
+          (functional_next_line t (within c.args.edition t c.args.nesting) (functional_within c.args.edition t _))
           (rw c.ending_at-ending.ensures
           (own_line blank (sym c.in-Some.ensures) (sym c.if-not-belongs.ensures) (goes_on read given)));
     }
@@ -903,3 +906,65 @@ get_expression-skip_blank_inline-ptr-requires m c =
     let mark = right_true _ _ (sym c.if-not-is_arrow.ensures) in
     let inside = has_inside (λ b. b == greater_than) t (i + 1) mark in
     omega (arith, inside)
+
+-- ---- out of memory
+
+pub get_arguments-returns-in_err-push-in-Some-clause-meets :
+    goal.get_arguments-returns-in_err-push-in-Some-clause-meets
+get_arguments-returns-in_err-push-in-Some-clause-meets m c =
+    let p = err_from_is_err_and c.from_residual-in_err-push-in-Some.result c.from_residual-in_err-push-in-Some.ensures.1 in
+    rw (p.1, p.2) no_memory
+
+pub get_arguments-returns-in_err-push-in_default-clause-meets :
+    goal.get_arguments-returns-in_err-push-in_default-clause-meets
+get_arguments-returns-in_err-push-in_default-clause-meets m c =
+    let p = err_from_is_err_and c.from_residual-in_err-push-in_default.result c.from_residual-in_err-push-in_default.ensures.1 in
+    rw (p.1, p.2) no_memory
+
+pub get_inline_expression-returns-in_err-expression-in-Brace-2-clause-meets :
+    goal.get_inline_expression-returns-in_err-expression-in-Brace-2-clause-meets
+get_inline_expression-returns-in_err-expression-in-Brace-2-clause-meets m c =
+    let p = err_from_is_err_and c.from_residual-in_err-expression-in-Brace-2.result c.from_residual-in_err-expression-in-Brace-2.ensures.1 in
+    rw (p.1, p.2) no_memory
+
+pub get_lines-returns-in_err-push-in-None-eol_end-clause-meets :
+    goal.get_lines-returns-in_err-push-in-None-eol_end-clause-meets
+get_lines-returns-in_err-push-in-None-eol_end-clause-meets m c =
+    let p = err_from_is_err_and c.from_residual-in_err-push-in-None-eol_end.result c.from_residual-in_err-push-in-None-eol_end.ensures.1 in
+    rw (p.1, p.2) no_memory
+
+pub get_lines-returns-in_err-push-in-Some-eol_end-clause-meets :
+    goal.get_lines-returns-in_err-push-in-Some-eol_end-clause-meets
+get_lines-returns-in_err-push-in-Some-eol_end-clause-meets m c =
+    let p = err_from_is_err_and c.from_residual-in_err-push-in-Some-eol_end.result c.from_residual-in_err-push-in-Some-eol_end.ensures.1 in
+    rw (p.1, p.2) no_memory
+
+pub get_pattern-returns-in_err-short-clause-meets :
+    goal.get_pattern-returns-in_err-short-clause-meets
+get_pattern-returns-in_err-short-clause-meets m c =
+    let p = err_from_is_err_and c.from_residual-in_err-short.result c.from_residual-in_err-short.ensures.1 in
+    rw (p.1, p.2) no_memory
+
+pub get_pattern-returns-in_err-pattern-in-None-clause-meets :
+    goal.get_pattern-returns-in_err-pattern-in-None-clause-meets
+get_pattern-returns-in_err-pattern-in-None-clause-meets m c =
+    let p = err_from_is_err_and c.from_residual-in_err-pattern-in-None.result c.from_residual-in_err-pattern-in-None.ensures.1 in
+    rw (p.1, p.2) no_memory
+
+pub get_pieces-returns-in_err-push-in-Some-clause-meets :
+    goal.get_pieces-returns-in_err-push-in-Some-clause-meets
+get_pieces-returns-in_err-push-in-Some-clause-meets m c =
+    let p = err_from_is_err_and c.from_residual-in_err-push-in-Some.result c.from_residual-in_err-push-in-Some.ensures.1 in
+    rw (p.1, p.2) no_memory
+
+pub get_pieces-returns-in_err-push-in-Some-2-clause-meets :
+    goal.get_pieces-returns-in_err-push-in-Some-2-clause-meets
+get_pieces-returns-in_err-push-in-Some-2-clause-meets m c =
+    let p = err_from_is_err_and c.from_residual-in_err-push-in-Some-2.result c.from_residual-in_err-push-in-Some-2.ensures.1 in
+    rw (p.1, p.2) no_memory
+
+pub get_variants-returns-in_err-push-clause-meets :
+    goal.get_variants-returns-in_err-push-clause-meets
+get_variants-returns-in_err-push-clause-meets m c =
+    let p = err_from_is_err_and c.from_residual-in_err-push.result c.from_residual-in_err-push.ensures.1 in
+    rw (p.1, p.2) no_memory

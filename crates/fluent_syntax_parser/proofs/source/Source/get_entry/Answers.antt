@@ -1,3 +1,4 @@
+use Rattle.fluent_syntax_grammar.specs.Grammar.{within}
 use Rattle.std.proofs.Common.{sym}
 use Rattle.std.proofs.lemmas.Result.{err_from_is_err_and}
 use Rattle.fluent_syntax_tree.specs.View.{entry_view}
@@ -11,8 +12,9 @@ pub returns-then-is_byte_at-clause-meets : goal.returns-then-is_byte_at-clause-m
 returns-then-is_byte_at-clause-meets c =
     let t = c.args.self.now.bytes.now in
     let edition = c.args.options.edition in
-    meets_as (entry_view (λ s. s)) (λ o h. comment_there edition t _ _ o (sym c.if-is_byte_at.ensures) h)
-    (λ f h. comment_fails edition t _ _ (sym c.if-is_byte_at.ensures) h) _ c.get_comment.ensures.meets
+    let R = within edition t c.args.options.nesting in
+    meets_as (entry_view (λ s. s)) (λ o h. comment_there edition t R _ o (sym c.if-is_byte_at.ensures) h)
+    (λ f h. comment_fails edition t R _ (sym c.if-is_byte_at.ensures) h) _ c.get_comment.ensures.meets
 
 pub returns-in_err-term-clause-meets : goal.returns-in_err-term-clause-meets
 returns-in_err-term-clause-meets c =

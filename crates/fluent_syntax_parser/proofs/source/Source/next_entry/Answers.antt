@@ -32,7 +32,7 @@ returns-in-Err-clause-next c =
     let inside : start.result < length t = omega (arith, read.ensures.within.0, read.ensures.within.1) in
     λ entries errors rest. start.ensures.rest options.edition _ _
     (rest_tile options.edition t _ _ inside options.comments start.ensures.dropped c.in-Err.entry read.error
-    _ (rw other.0 read.ensures.gives) other.1 entries errors rest)
+    options.nesting (rw other.0 read.ensures.gives) other.1 entries errors rest)
 
 -- ---- how deeply it nests
 
