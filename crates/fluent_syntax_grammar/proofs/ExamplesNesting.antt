@@ -1,22 +1,29 @@
 -- Texts that nest deeper than a number.
-use Rattle.std.proofs.Common.{◌≡◌, ℕ, zero, suc, ◌+◌, List, [], ◌∷◌, Bool, true, false, refl, arith}
-use Rattle.std.specs.Prelude.{codes, ◌==◌}
-use Rattle.std.specs.List.{list_any}
+use Rattle.std.proofs.Common.{◌≡◌, ℕ, ◌+◌, List, Bool, true, false, refl, arith}
+use Rattle.std.specs.Prelude.{codes}
 use Rattle.fluent_syntax_tree.specs.declared.edition.Edition.TheVariants.{One}
-use Rattle.fluent_syntax_grammar.specs.Bytes.{equals_sign, hyphen, is_letter, is_name_byte, is_space, left_brace}
-use Rattle.fluent_syntax_grammar.specs.Bytes.{left_parenthesis}
-use Rattle.fluent_syntax_grammar.specs.Construct.{Read, goes_on, given, passed, chosen, first, second, failed, at_place}
-use Rattle.fluent_syntax_grammar.specs.Nesting.{Deeper, TextDeeper, list_head, placeable_head, in_expression}
-use Rattle.fluent_syntax_grammar.specs.Nesting.{in_inline_expression, in_placeable, opens_placeable, in_braces}
-use Rattle.fluent_syntax_grammar.specs.Nesting.{opens_list, in_list, its_arguments, its_placeable, its_selector}
-use Rattle.fluent_syntax_grammar.specs.Nesting.{its_variants, its_argument, its_piece, its_opening, its_layout}
-use Rattle.fluent_syntax_grammar.specs.Nesting.{its_field, its_message_fields, its_message, its_entry}
-use Rattle.fluent_syntax_grammar.specs.Places.{Stretch, has, has_byte, is_blank_place, no_line}
-use Rattle.fluent_syntax_grammar.specs.Tiling.{TileAt}
-use Rattle.fluent_syntax_grammar.specs.Words.{identifier, token}
-use Rattle.fluent_syntax_grammar.proofs.Facts.{differs, left_true}
-use Rattle.fluent_syntax_grammar.proofs.Shallow.{brace_led, call_stuck, letter_led, placeable_led}
-use Rattle.fluent_syntax_grammar.proofs.Tests.{neither_left, neither_right}
+use Rattle.fluent_syntax_grammar.specs.Bytes.{is_letter, is_name_byte, left_brace, left_parenthesis}
+use Rattle.fluent_syntax_grammar.specs.Construct.{Outcome, Read, goes_on, given, passed, chosen, first, at_place}
+use Rattle.fluent_syntax_grammar.specs.Grammar.{within}
+use Rattle.fluent_syntax_grammar.specs.Nesting.{TooDeep}
+use Rattle.fluent_syntax_grammar.specs.Placeables.{placeable}
+use Rattle.fluent_syntax_grammar.specs.Places.{Stretch, has, has_byte, is_blank_place}
+use Rattle.fluent_syntax_grammar.specs.Bytes.{equals_sign, is_space}
+use Rattle.fluent_syntax_grammar.specs.Nesting.{NestsDeeper}
+use Rattle.fluent_syntax_grammar.specs.Patterns.{pattern}
+use Rattle.fluent_syntax_grammar.specs.Places.{no_line}
+use Rattle.fluent_syntax_grammar.specs.Tiling.{TileIn, entry_in}
+use Rattle.fluent_syntax_grammar.proofs.Deeper.{deeper_yes}
+use Rattle.fluent_syntax_grammar.proofs.DeeperEntries.{no_tile, none_here}
+use Rattle.fluent_syntax_grammar.proofs.Functional.{functional_here}
+use Rattle.fluent_syntax_grammar.proofs.FunctionalWords.{functional_inline_blank, functional_token}
+use Rattle.fluent_syntax_grammar.specs.Words.{identifier, optional, token}
+use Rattle.fluent_syntax_grammar.proofs.ComputedFamily.{computed_within, computed_placeable}
+use Rattle.fluent_syntax_grammar.proofs.Deeper.{deeper_first, deeper_next, deeper_at_each, deeper_no, deeper_item}
+use Rattle.fluent_syntax_grammar.proofs.Deeper.{none_inside, no_list_inside, one_inside, one_list_inside}
+use Rattle.fluent_syntax_grammar.proofs.Deeper.{deeper_placeable}
+use Rattle.fluent_syntax_grammar.proofs.Deeper.{deeper_call}
+use Rattle.fluent_syntax_grammar.proofs.FunctionalWords.{functional_identifier}
 
 -- ---- what stands in them
 
@@ -31,6 +38,9 @@ one_there test i there e = record {
 }
 
 module _ (t : List ℕ) where
+  byte : (b i : ℕ) → has_byte t b i ≡ true → optional t b i (Read true (i + 1))
+  byte b i there = chosen (first there (goes_on (passed (record { by = refl })) given))
+
   mark : (b i : ℕ) → has_byte t b i ≡ true → token t b i (Read tt (i + 1))
   mark b i there = goes_on (chosen (first there (goes_on (passed (record { by = refl })) given))) (first refl given)
 
@@ -42,83 +52,76 @@ module _ (t : List ℕ) where
       (first letter
       (goes_on (passed (one_there (has t is_name_byte) i there behind)) (goes_on at_place given))))
 
-  opening : (i : ℕ) → has_byte t left_brace i ≡ true → is_blank_place t (i + 1) ≡ false →
-      placeable_head t i (Read tt (i + 1))
-  opening i there behind = goes_on (mark left_brace i there) (passed (none_there (is_blank_place t) (i + 1) behind))
-
-  list : (i : ℕ) → is_blank_place t i ≡ false → has_byte t left_parenthesis i ≡ true → list_head t i (Read tt (i + 1))
-  list i here there = goes_on (passed (none_there (is_blank_place t) i here)) (mark left_parenthesis i there)
-
 -- ---- placeables in one another
 
 abbrev braces : List ℕ
 braces = codes "{{{a}}}"
 
-three_braces : Deeper One braces in_placeable 2 0
+three_braces : TooDeep (placeable braces (within One braces 2)) 0
 three_braces =
-    in_braces {m = 1} refl (opening braces 0 refl refl)
-    (its_selector (its_placeable refl
-    (in_braces {m = 0} refl (opening braces 1 refl refl)
-    (its_selector (its_placeable refl
-    (opens_placeable refl (mark braces left_brace 2 refl)))))))
+    deeper_placeable braces (within One braces 2) (mark braces left_brace 0 refl)
+        (none_there (is_blank_place braces) 1 refl)
+    (one_inside One braces 1 1 (deeper_first (deeper_at_each (deeper_first
+    (deeper_placeable braces (within One braces 1) (mark braces left_brace 1 refl)
+        (none_there (is_blank_place braces) 2 refl)
+    (one_inside One braces 0 2 (deeper_first (deeper_at_each (deeper_first
+    (deeper_placeable braces (within One braces 0) (mark braces left_brace 2 refl)
+        (none_there (is_blank_place braces) 3 refl)
+    (none_inside One braces 3)))))))))))
 
--- a byte that is not in the text stands nowhere
-absent : (t : List ℕ) (b : ℕ) → list_any (λ c. c == b) t ≡ false → (i : ℕ) → has_byte t b i ≡ false
-absent [] b e i = refl
-absent (c ∷ t) b e zero = neither_left (c == b) (list_any (λ c. c == b) t) e
-absent (c ∷ t) b e (suc i) = absent t b (neither_right (c == b) (list_any (λ c. c == b) t) e) i
-
-no_select : {n i : ℕ} → Deeper One braces in_expression n i → Deeper One braces in_inline_expression n i
-no_select (its_selector d) = d
-no_select (its_variants x d) = differs (left_true _ _ x.there) (absent braces hyphen refl x.arrow)
-
-no_fourth : Deeper One braces in_placeable 3 0 → ⊥
-no_fourth d =
-    let second_open = brace_led One braces refl (no_select (placeable_led One braces {m = 2} refl
-    (opening braces 0 refl refl) d)) in
-    let third_open = brace_led One braces refl (no_select (placeable_led One braces {m = 1} refl
-    (opening braces 1 refl refl) second_open)) in
-    let inner = no_select (placeable_led One braces {m = 0} refl (opening braces 2 refl refl) third_open) in
-    call_stuck One braces _ _ _
-    (goes_on (passed (none_there (is_blank_place braces) 4 refl))
-    (goes_on (chosen (second refl given)) (second refl (failed refl))))
-    (letter_led One braces refl (name braces 3 refl refl refl) inner)
+-- they nest no deeper than three
+no_fourth : (o : Outcome _) × placeable braces (within One braces 3) 0 o
+no_fourth = (_, (computed_placeable braces 9 (within One braces 3) (computed_within One braces 9 3)).sound 0 _ refl)
 
 -- ---- argument lists in one another
 
 abbrev calls : List ℕ
 calls = codes "{F(F())}"
 
-two_lists : Deeper One calls in_placeable 2 0
+two_lists : TooDeep (placeable calls (within One calls 2)) 0
 two_lists =
-    in_braces {m = 1} refl (opening calls 0 refl refl)
-    (its_selector (its_arguments refl (name calls 1 refl refl refl)
-    (in_list {m = 0} refl (list calls 2 refl refl) (none_there (is_blank_place calls) 3 refl)
-    (its_argument refl (its_arguments refl (name calls 3 refl refl refl)
-    (opens_list refl (list calls 4 refl refl)))))))
+    deeper_placeable calls (within One calls 2) (mark calls left_brace 0 refl)
+        (none_there (is_blank_place calls) 1 refl)
+    (one_inside One calls 1 1 (deeper_first (deeper_at_each
+    (deeper_next (functional_identifier calls) _ 2 (name calls 1 refl refl refl) (deeper_first
+    (deeper_call calls (within One calls 1) (none_there (is_blank_place calls) 2 refl)
+        (byte calls left_parenthesis 2 refl)
+    (none_there (is_blank_place calls) 3 refl)
+    (one_list_inside One calls 0 3 (deeper_item (deeper_at_each (deeper_no refl (deeper_first (deeper_at_each
+    (deeper_next (functional_identifier calls) _ 4 (name calls 3 refl refl refl) (deeper_first
+    (deeper_call calls (within One calls 0) (none_there (is_blank_place calls) 4 refl)
+        (byte calls left_parenthesis 4 refl)
+    (none_there (is_blank_place calls) 5 refl) (no_list_inside One calls 5))))))))))))))))
 
 -- ---- junk
 
 abbrev junk : List ℕ
 junk = codes "a = {{{{"
 
-four_open : TextDeeper One junk (TileAt One junk) 3 0
-four_open = (
-  0,
-  no_line (none_there (has junk is_space) 0 refl) refl,
-  its_entry
-      (its_message refl refl
-      (its_message_fields (name junk 0 refl refl refl)
-      (its_field
-      (goes_on (passed (one_there (has junk is_space) 1 refl refl)) (mark junk equals_sign 2 refl))
-      (its_layout (one_there (has junk is_space) 3 refl refl)
-      (its_opening refl
-      (its_piece
-      (in_braces {m = 2} refl (opening junk 4 refl refl)
-      (its_selector (its_placeable refl
-      (in_braces {m = 1} refl (opening junk 5 refl refl)
-      (its_selector (its_placeable refl
-      (in_braces {m = 0} refl (opening junk 6 refl refl)
-      (its_selector (its_placeable refl
-      (opens_placeable refl (mark junk left_brace 7 refl))))))))))))))))),
-)
+its_pattern : TooDeep (pattern One junk (within One junk 3)) 3
+its_pattern =
+    deeper_first (deeper_next (functional_inline_blank junk) tt 4 (passed (one_there (has junk is_space) 3 refl refl))
+    (deeper_at_each (deeper_next functional_here 4 4 at_place (deeper_first (deeper_item (deeper_at_each
+    (deeper_at_each (deeper_no refl (deeper_no refl (deeper_yes refl (deeper_first
+    (deeper_placeable junk (within One junk 3) (mark junk left_brace 4 refl) (none_there (is_blank_place junk) 5 refl)
+    (one_inside One junk 2 5 (deeper_first (deeper_at_each (deeper_first
+    (deeper_placeable junk (within One junk 2) (mark junk left_brace 5 refl) (none_there (is_blank_place junk) 6 refl)
+    (one_inside One junk 1 6 (deeper_first (deeper_at_each (deeper_first
+    (deeper_placeable junk (within One junk 1) (mark junk left_brace 6 refl) (none_there (is_blank_place junk) 7 refl)
+    (one_inside One junk 0 7 (deeper_first (deeper_at_each (deeper_first
+    (deeper_placeable junk (within One junk 0) (mark junk left_brace 7 refl) (none_there (is_blank_place junk) 8 refl)
+    (none_inside One junk 8))))))))))))))))))))))))))))
+
+its_entry : TooDeep (entry_in One junk (within One junk 3)) 0
+its_entry =
+    deeper_at_each (deeper_no refl (deeper_no refl
+    (deeper_next functional_here 0 0 at_place
+    (deeper_next (functional_identifier junk) _ 1 (name junk 0 refl refl refl)
+    (deeper_next (functional_inline_blank junk) tt 2 (passed (one_there (has junk is_space) 1 refl refl))
+    (deeper_next (functional_token junk equals_sign) tt 3 (mark junk equals_sign 2 refl)
+    (deeper_first its_pattern)))))))
+
+four_open : NestsDeeper One junk 3
+four_open =
+    none_here junk (TileIn One junk (within One junk 3)) 0 0 (no_line (none_there (has junk is_space) 0 refl) refl)
+    (omega arith) (λ j x. no_tile One junk (within One junk 3) 0 j x its_entry)

@@ -47,7 +47,7 @@ module _ (edition : Edition) (t : List ℕ) (R : Family) (h : IsFunctionalFamily
   functional_pattern_of : IsFunctional (patterns.pattern edition t R)
   functional_pattern_of = rules.functional_pattern edition t R h
 
-  functional_attribute_of : IsFunctional (attribute_of edition t R)
+  pub functional_attribute_of : IsFunctional (attribute_of edition t R)
   functional_attribute_of = search (words, functional_attribute_with, functional_pattern_of) depth 30
 
   attributes_same : (i : ℕ) (o p : Outcome (List (AttributeTree Span))) → attributes_of edition t R i o →

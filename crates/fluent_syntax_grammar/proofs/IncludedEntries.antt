@@ -18,10 +18,10 @@ module _ (edition : Edition) (t : List ℕ) (R S : Family) (h : IsIncludedFamily
   attributes_part i o (no_more x) = no_more (included_attribute.part i _ x)
   attributes_part i o (one_more {j = j} x y) = one_more (included_attribute.part i _ x) (attributes_part j _ y)
 
-  included_attributes : IsIncluded (attributes_of edition t R) (attributes_of edition t S)
+  pub included_attributes : IsIncluded (attributes_of edition t R) (attributes_of edition t S)
   included_attributes = record { part = attributes_part }
 
-  included_message : IsIncluded (message_of edition t R) (message_of edition t S)
+  pub included_message : IsIncluded (message_of edition t R) (message_of edition t S)
   included_message = search (inclusions, included_pattern, included_attributes) depth 30
 
   included_term : IsIncluded (term_of edition t R) (term_of edition t S)

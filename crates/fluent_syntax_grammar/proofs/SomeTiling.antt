@@ -37,145 +37,10 @@ use Rattle.fluent_syntax_grammar.proofs.TotalWords.{both_blank_block, both_optio
 use Rattle.fluent_syntax_grammar.proofs.TotalWords.{both_rest_of_line, strict_token, strict_identifier}
 use Rattle.fluent_syntax_grammar.proofs.TotalFamily.{pattern_everywhere}
 use Rattle.fluent_syntax_grammar.proofs.Facts.{equal, lt_or_same, unequal}
-
-both_with : {t : List ℕ} {s : ℕ} (id : Span) (value : Option (PatternTree Span)) → Both t s (attribute_with id value)
-both_with id None = both_fails
-both_with id (Some value) = both_gives
-
-both_message_with :
-    {s : ℕ} (t : List ℕ) (start : ℕ) (id : Span) (value : Option (PatternTree Span))
-    (rest : List (AttributeTree Span)) → Both t s (message_with t start id value rest)
-both_message_with t start id None [] = both_fails_from
-both_message_with t start id None (a ∷ rest) = both_gives
-both_message_with t start id (Some value) rest = both_gives
-
-both_term_with :
-    {s : ℕ} (t : List ℕ) (start : ℕ) (id : Span) (value : Option (PatternTree Span))
-    (rest : List (AttributeTree Span)) → Both t s (term_with t start id value rest)
-both_term_with t start id None rest = both_fails_from
-both_term_with t start id (Some value) rest = both_gives
-
-module _ (edition : Edition) (t : List ℕ) where
-  strict_attribute : {s : ℕ} → Strict t s (attribute edition t)
-  strict_attribute =
-      strict_then (both_inline_blank t)
-      (λ u. strict_first (strict_token t 46)
-      (λ u. both_bind (both_strict (strict_identifier t)) (λ id. both_bind (both_inline_blank t) (λ u.
-      both_bind (both_strict (strict_token t 61))
-      (λ u. both_bind (pattern_everywhere edition t) (λ value. both_with id value))))))
-
-  -- a list of attributes, and where it ends
-  record Attributes (i : ℕ) : Type 0 where
-    list : List (AttributeTree Span)
-    end : ℕ
-    read : attributes edition t i (Read list end)
-
-  attributes_at : (i : ℕ) → i ≤ length t → ((j : ℕ) → i < j → j ≤ length t → Attributes j) →
-      (o : Outcome (AttributeTree Span)) → attribute edition t i o → Attributes i
-  attributes_at i l more (Refused k from to) x = record { list = []; end = i; read = no_more x }
-  attributes_at i l more (Read a j) x =
-      let p = (strict_attribute {s = i}).on.on_read i j a (record { late = omega arith; in_text = l }) x in
-      let late = p.late in
-      let r = more j (omega arith) p.in_text in
-      record { list = a ∷ r.list; end = r.end; read = one_more x r.read }
-
-  attributes_exist : (m i : ℕ) → length t ≤ i + m → i ≤ length t → Attributes i
-  attributes_exist zero i a l =
-      let x = (strict_attribute {s = i}).total.has i (record { late = omega arith; in_text = l }) in
-      attributes_at i l (λ j b c. absurd (omega arith)) x.0 x.1
-  attributes_exist (suc m) i a l =
-      let x = (strict_attribute {s = i}).total.has i (record { late = omega arith; in_text = l }) in
-      attributes_at i l (λ j b c. attributes_exist m j (omega arith) c) x.0 x.1
-
-  both_attributes : {s : ℕ} → Both t s (attributes edition t)
-  both_attributes {s = s} = record {
-    total =
-        record {
-          has =
-              λ i p. (let r = attributes_exist (length t) i (omega arith) p.in_text in (Read r.list r.end, r.read));
-        };
-    on = on_sound (sound_attributes edition t (InText t) (text_cuts t) {s = s});
-  }
-
-  both_message : {s : ℕ} → Both t s (message_entry edition t)
-  both_message =
-      both_bind both_here
-      (λ start. both_bind (both_strict (strict_identifier t))
-      (λ id. both_bind (both_inline_blank t) (λ u. both_bind (both_strict (strict_token t 61)) (λ u.
-      both_bind (pattern_everywhere edition t)
-      (λ value. both_bind (both_blank_block t)
-      (λ u. both_bind both_attributes (λ rest. both_message_with t start id value rest)))))))
-
-  both_term : {s : ℕ} → Both t s (term_entry edition t)
-  both_term =
-      both_bind both_here
-      (λ start. both_bind (both_strict (strict_token t 45))
-      (λ u. both_bind (both_strict (strict_identifier t))
-      (λ id. both_bind (both_inline_blank t) (λ u. both_bind (both_strict (strict_token t 61)) (λ u.
-      both_bind (pattern_everywhere edition t)
-      (λ value. both_bind (both_blank_block t)
-      (λ u. both_bind both_attributes (λ rest. both_term_with t start id value rest))))))))
+use Rattle.fluent_syntax_grammar.proofs.Included.{IsIncludedFamily, included_same}
+use Rattle.fluent_syntax_grammar.proofs.TotalEntries.{entry_has}
 
 module _ (t : List ℕ) where
-  both_text : {s : ℕ} (eol : Bool) → Both t s (comment_text t eol)
-  both_text true = both_bind both_here (λ i. both_spanned t)
-  both_text false = both_bind (both_strict (strict_token t 32)) (λ u. both_rest_of_line t)
-
-  both_rest : {s : ℕ} (b : Option ℕ) → Both t s (comment_rest t b)
-  both_rest None = both_gives
-  both_rest (Some b) = both_bind (both_at_each both_text) (λ content. both_bind (both_optional_eol t) (λ u. both_gives))
-
-  line_has : (i level : ℕ) → i ≤ length t → hashes t i ≡ level → (o : Outcome (List Span)) × comment_line t level i o
-  line_has i level l e =
-      let inside = after_hashes t (InText t) (text_cuts t) i l in
-      let whole =
-      total_bind {pre = λ j. j ≡ i} {mid = λ u. From t 0} (total_over (λ j p. (j + level, record { by = refl })))
-      (holds_over (λ j m p w. let by = w.by in record { late = omega arith; in_text = omega arith }))
-      (λ u. (both_at_each both_rest).total) in
-      whole.has i refl
-
-  record Lines (level i : ℕ) : Type 0 where
-    list : List Span
-    end : ℕ
-    read : comment_lines t level i (Read list end)
-
-  lines_at : (level i : ℕ) → 1 ≤ level → i ≤ length t → hashes t i ≡ level →
-      ((j : ℕ) → i < j → j ≤ length t → Lines level j) → (o : Outcome (List Span)) → comment_line t level i o →
-      Lines level i
-  lines_at level i one l e more (Refused k from to) x = record { list = []; end = i; read = no_comment_line e x }
-  lines_at level i one l e more (Read c j) x =
-      let p = (line_from t (InText t) (text_cuts t) (i + level) i level (omega arith) l e).on_read i j c refl x in
-      let late = p.late in
-      let r = more j (omega arith) p.place in
-      record { list = c ++ r.list; end = r.end; read = comments.one_more e x r.read }
-
-  lines_level : (level i : ℕ) (b : Bool) → (hashes t i == level) ≡ b → 1 ≤ level → i ≤ length t →
-      ((j : ℕ) → i < j → j ≤ length t → Lines level j) → Lines level i
-  lines_level level i false e one l more =
-      record { list = []; end = i; read = other_level (unequal (hashes t i) level e) }
-  lines_level level i true e one l more = let x = line_has i level l (equal (hashes t i) level e) in
-      lines_at level i one l (equal (hashes t i) level e) more x.0 x.1
-
-  lines_exist : (level m i : ℕ) → 1 ≤ level → length t ≤ i + m → i ≤ length t → Lines level i
-  lines_exist level zero i one a l =
-      lines_level level i (hashes t i == level) refl one l (λ j b c. absurd (omega arith))
-  lines_exist level (suc m) i one a l =
-      lines_level level i (hashes t i == level) refl one l (λ j b c. lines_exist level m j one (omega arith) c)
-
-  comment_at : (level i : ℕ) → 1 ≤ level → i ≤ length t → hashes t i ≡ level → (o : Outcome (List Span)) →
-      comment_line t level i o → (o : Outcome (EntryTree Span)) × comment_of t level i o
-  comment_at level i one l e (Refused k from to) x = (Refused k from to, stops x)
-  comment_at level i one l e (Read c j) x =
-      let p = (line_from t (InText t) (text_cuts t) i i level (omega arith) l e).on_read i j c refl x in
-      let r = lines_exist level (length t) j one (omega arith) p.place in
-      (Read _ r.end, goes_on x (goes_on r.read given))
-
-  comment_has : (i : ℕ) → i ≤ length t → has_byte t 35 i ≡ true → (o : Outcome (EntryTree Span)) × comment_entry t i o
-  comment_has i l h =
-      let x = line_has i (hashes t i) l refl in
-      let y = comment_at (hashes t i) i (some_hash t i h) l refl x.0 x.1 in
-      (y.0, chosen y.1)
-
   -- ---- junk and dropped lines
 
   end_at : (k : ℕ) → k ≤ length t → (b : Bool) → starts_entry t k ≡ b → (k < length t → (j : ℕ) × JunkEnd t (k + 1) j) →
@@ -198,30 +63,8 @@ module _ (t : List ℕ) where
       line_end i w.0 w.1 (after_eol t w.0) refl
 
 module _ (edition : Edition) (t : List ℕ) where
-  hash_stands : (i b : ℕ) → slice_get t i ≡ Some b → (b == 35) ≡ true → has_byte t 35 i ≡ true
-  hash_stands i b e f = rw e f
-
-  entry_other : (i b : ℕ) (minus : Bool) → i ≤ length t → (b == 45) ≡ minus → (o : Outcome (EntryTree Span)) ×
-      either (b == 45) (term_entry edition t) (message_entry edition t) i o
-  entry_other i b true l e =
-      let x = (both_term edition t {s = i}).total.has i (record { late = omega arith; in_text = l }) in
-      (x.0, first e x.1)
-  entry_other i b false l e =
-      let x = (both_message edition t {s = i}).total.has i (record { late = omega arith; in_text = l }) in
-      (x.0, second e x.1)
-
-  entry_choice : (i b : ℕ) (hash : Bool) → i ≤ length t → slice_get t i ≡ Some b → (b == 35) ≡ hash →
-      (o : Outcome (EntryTree Span)) × entry_of edition t (family edition t) (Some b) i o
-  entry_choice i b true l e f = let x = comment_has t i l (hash_stands i b e f) in (x.0, first f x.1)
-  entry_choice i b false l e f = let x = entry_other i b (b == 45) l refl in (x.0, second f x.1)
-
-  entry_has_of : (i : ℕ) (o : Option ℕ) → i ≤ length t → slice_get t i ≡ o → (p : Outcome (EntryTree Span)) ×
-      entry_of edition t (family edition t) o i p
-  entry_has_of i None l e = (both_message edition t {s = i}).total.has i (record { late = omega arith; in_text = l })
-  entry_has_of i (Some b) l e = entry_choice i b (b == 35) l e refl
-
-  entry_has : (i : ℕ) → i ≤ length t → (o : Outcome (EntryTree Span)) × entry_at edition t i o
-  entry_has i l = let x = entry_has_of i (slice_get t i) l refl in (x.0, chosen x.1)
+  every : IsIncludedFamily (family edition t) (family edition t)
+  every = record { expression = included_same; argument_list = included_same }
 
   -- a tile that stands at a place, and goes on
   record TileThere (i : ℕ) : Type 0 where
@@ -248,7 +91,10 @@ module _ (edition : Edition) (t : List ℕ) where
       record { tile = _; end = e.0; stands_there = refuses x e.1; on = q.onward; in_text = q.place }
 
   tile_exists : (i : ℕ) → i < length t → TileThere i
-  tile_exists i l = let x = entry_has i (omega arith) in tile_of i l x.0 x.1
+  tile_exists i l =
+      let x = entry_has edition t (family edition t) every 0 (λ s g. pattern_everywhere edition t) i (omega arith)
+      (omega arith) in
+      tile_of i l x.0 x.1
 
   record RuntimeTileThere (i : ℕ) : Type 0 where
     tile : Tile

@@ -9,37 +9,35 @@ use Rattle.fluent_syntax_tree.specs.Tree.{InlineTree, arguments, no_inlines, no_
 use Rattle.fluent_syntax_tree.specs.View.{inline_view}
 use Rattle.fluent_syntax_tree.specs.declared.ast.InlineExpression.{InlineExpression}
 use Rattle.fluent_syntax_tree.specs.declared.ast.NamedArgument.{NamedArgument}
-use Rattle.fluent_syntax_tree.specs.declared.edition.Edition.{Edition}
 use Rattle.fluent_syntax_tree.specs.declared.spans.Span.{Span}
 use Rattle.fluent_syntax_grammar.specs.Arguments as rules
 use Rattle.fluent_syntax_grammar.specs.Arguments.{Argument, add_argument, argument_name, argument_rest, argument_value}
-use Rattle.fluent_syntax_grammar.specs.Arguments.{is_used, named_rest, next_argument, positional_rest, separator}
+use Rattle.fluent_syntax_grammar.specs.Arguments.{is_used, named_rest, next_argument, next_argument_at, positional_rest}
+use Rattle.fluent_syntax_grammar.specs.Arguments.{separator}
 use Rattle.fluent_syntax_grammar.specs.Bytes.{colon, right_parenthesis}
 use Rattle.fluent_syntax_grammar.specs.Construct.{Outcome, Read, Refused, ◌>>=◌, gives, at_each, goes_on, stops, given}
 use Rattle.fluent_syntax_grammar.specs.Construct.{failed, passed, chosen, first, second, More, no_item, item}
 use Rattle.fluent_syntax_grammar.specs.Family.{Family}
-use Rattle.fluent_syntax_grammar.specs.Grammar.{family, inline_expression, more_arguments}
-use Rattle.fluent_syntax_grammar.specs.Nesting.{Deeper, IsArgument, behind_positional, in_arguments}
-use Rattle.fluent_syntax_grammar.specs.Nesting.{in_inline_expression}
+use Rattle.fluent_syntax_grammar.specs.Inline.{inline_expression}
 use Rattle.fluent_syntax_grammar.specs.Places.{Blank, has_byte}
-use Rattle.fluent_syntax_grammar.specs.Starts.{other, start}
+use Rattle.fluent_syntax_grammar.specs.Starts.{start}
 use Rattle.fluent_syntax_grammar.specs.Words.{token}
 use Rattle.fluent_syntax_grammar.proofs.Facts.{byte_found}
-use Rattle.fluent_syntax_grammar.proofs.Shallow.{arguments_stuck, plain_start, positional_led}
+use Rattle.fluent_syntax_grammar.proofs.FunctionalRules.{IsFunctionalFamily, functional_inline}
+use Rattle.fluent_syntax_grammar.proofs.FunctionalRules.{functional_next_argument}
 use Rattle.fluent_syntax_parser.specs.Gathered.{names_in}
 use Rattle.fluent_syntax_parser.proofs.GatheredArguments.{put_arguments, put_named, put_positional}
-use Rattle.fluent_syntax_parser.proofs.InlineStarts.{by_start}
 use Rattle.fluent_syntax_parser.proofs.Names.{names_added}
-use Rattle.fluent_syntax_parser.proofs.Puts.{Puts, one_put}
+use Rattle.fluent_syntax_parser.specs.Meets.{Fails}
+use Rattle.fluent_syntax_parser.specs.declared.fault.ReadFault.{ReadFault}
+use Rattle.fluent_syntax_parser.proofs.Behind.{Behind, one_behind}
+use Rattle.fluent_syntax_parser.proofs.Fails.{fails_first, fails_next, fails_no, fails_seen, functional_look}
 
 pub token_there : (t : List ℕ) (b i : ℕ) → has_byte t b i ≡ true → token t b i (Read tt (i + 1))
 token_there t b i there =
     goes_on (chosen (first there (goes_on (passed (record { by = refl })) given))) (first refl given)
 
-module _ (edition : Edition) (t : List ℕ) where
-  abbrev R : Family
-  R = family edition t
-
+module _ (t : List ℕ) (R : Family) where
   -- the text's end
   pub list_open : (names : List (List ℕ)) (i : ℕ) → length t ≤ i →
       next_argument t R names i (Refused (ExpectedToken right_parenthesis) i (i + 1))
@@ -58,7 +56,7 @@ module _ (edition : Edition) (t : List ℕ) where
   module _ (names : List (List ℕ)) (i : ℕ) (within : i < length t) (no_end : has_byte t right_parenthesis i ≡ false)
     where
       begins : (o : Outcome (More Argument (List (List ℕ)))) →
-          (inline_expression edition t >>= λ e.
+          (inline_expression t R >>= λ e.
           at_each (has_byte t colon) gives >>= λ is_named. argument_rest t R names e (argument_name e) is_named) i o
           →
           next_argument t R names i o
@@ -67,14 +65,30 @@ module _ (edition : Edition) (t : List ℕ) where
           let test = rw byte at no_end in
           chosen {o = o} (rw byte (second test h))
 
-      pub inline_fails : (k : Kind) (from to : ℕ) → inline_expression edition t i (Refused k from to) →
-          next_argument t R names i (Refused k from to)
-      inline_fails k from to h = begins _ (stops h)
+      begins_fails : {f : ReadFault} →
+          Fails t (inline_expression t R >>= λ e.
+          at_each (has_byte t colon) gives >>= λ is_named. argument_rest t R names e (argument_name e) is_named) i f
+          →
+          Fails t (next_argument t R names) i f
+      begins_fails h =
+          let byte = slice_get-get_or t i 0 within in
+          let test = rw byte at no_end in
+          fails_seen (next_argument_at t R names) _ (sym byte) (fails_no test h)
 
-      module _ (e : InlineTree Span) (j : ℕ) (read : inline_expression edition t i (Read e j)) where
+      pub inline_fails : {f : ReadFault} → Fails t (inline_expression t R) i f → Fails t (next_argument t R names) i f
+      inline_fails h = begins_fails (fails_first h)
+
+      module _ (e : InlineTree Span) (j : ℕ) (read : inline_expression t R i (Read e j)) where
         pub named : (name : Span) → argument_name e ≡ Some name → has_byte t colon j ≡ true →
             (o : Outcome (More Argument (List (List ℕ)))) → named_rest t R names name j o → next_argument t R names i o
         named name is mark o h = begins o (goes_on read (goes_on (chosen given) (rw (is, mark) h)))
+
+        pub named_fails : IsFunctionalFamily R → (name : Span) → argument_name e ≡ Some name →
+            has_byte t colon j ≡ true → {f : ReadFault} → Fails t (named_rest t R names name) j f →
+            Fails t (next_argument t R names) i f
+        named_fails g name is mark {f = f} h =
+            begins_fails (fails_next (functional_inline t R g) read
+            (fails_next (functional_look (has_byte t colon)) (chosen given) (rw (is, mark) h)))
 
         unmarked : (name : Option Span) (o : Outcome (More Argument (List (List ℕ)))) →
             positional_rest t names e j o → argument_rest t R names e name false j o
@@ -93,29 +107,29 @@ module _ (edition : Edition) (t : List ℕ) where
   late [] e j some = absurd (some refl)
   late (name ∷ names) e j some = failed refl
 
-  module _ (ps : List (InlineExpression Span)) (ns : List (NamedArgument Span)) (from i : ℕ)
-      (gathered : Puts (more_arguments edition t (names_in t ns)) (more_arguments edition t []) (put_arguments ps ns)
-      from i)
-      (within : i < length t) (no_end : has_byte t right_parenthesis i ≡ false)
-      (e : InlineExpression Span) (j : ℕ) (read : inline_expression edition t i (Read (inline_view (λ s. s) e) j)) where
+module _ (t : List ℕ) (R : Family) (h : IsFunctionalFamily R) (ps : List (InlineExpression Span))
+    (ns : List (NamedArgument Span)) (from i : ℕ) where
+  abbrev Gathered : List (InlineExpression Span) → List (NamedArgument Span) → List (List ℕ) → ℕ → Type 0
+  Gathered ps ns names j =
+      Behind t (next_argument t R) add_argument (arguments no_inlines no_named) [] from (put_arguments ps ns) names j
+
+  module _ (gathered : Gathered ps ns (names_in t ns) i) (within : i < length t)
+      (no_end : has_byte t right_parenthesis i ≡ false) (e : InlineExpression Span) (j : ℕ)
+      (read : inline_expression t R i (Read (inline_view (λ s. s) e) j)) where
     -- one more named argument
     pub one_named : (x : NamedArgument Span) → argument_name (inline_view (λ s. s) e) ≡ Some x.name.name →
         has_byte t colon j ≡ true → is_used (bytes_at t x.name.name) (names_in t ns) ≡ false →
         (more : List (NamedArgument Span)) → more ≡ ns ++ x ∷ [] → (m end next : ℕ) → Blank t (j + 1) m →
         at_each (start t) (argument_value t R) m (Read (inline_view (λ s. s) x.value) end) →
-        separator t end (Read tt next) →
-        Puts (more_arguments edition t (names_in t more)) (more_arguments edition t []) (put_arguments ps more)
-        from next
+        separator t end (Read tt next) → Gathered ps more (names_in t more) next
     one_named x is mark new more pushed m end next blank value after =
         let names : names_in t more ≡ bytes_at t x.name.name ∷ names_in t ns =
         ap (names_in t) pushed ∙ names_added t ns x in
         let added = rules.named x.name.name (inline_view (λ s. s) x.value) in
-        subst (λ xs. Puts (more_arguments edition t xs) (more_arguments edition t []) (put_arguments ps more) from next)
-        (sym names)
-        (one_put (next_argument t R) add_argument (arguments no_inlines no_named) (more_arguments edition t []) from
-        (put_arguments ps ns) (put_arguments ps more) added (names_in t ns) (bytes_at t x.name.name ∷ names_in t ns)
-        i next gathered (put_named ps ns more x pushed)
-        (named (names_in t ns) i within no_end (inline_view (λ s. s) e) j read x.name.name is mark
+        subst (λ xs. Gathered ps more xs next) (sym names)
+        (one_behind (put_arguments ps more) added (bytes_at t x.name.name ∷ names_in t ns) next gathered
+        (functional_next_argument t R h (names_in t ns)) (put_named ps ns more x pushed)
+        (named t R (names_in t ns) i within no_end (inline_view (λ s. s) e) j read x.name.name is mark
         (Read (item added (bytes_at t x.name.name ∷ names_in t ns)) next)
         (second new
         (goes_on (token_there t colon j mark)
@@ -126,44 +140,13 @@ module _ (edition : Edition) (t : List ℕ) where
     -- one more positional argument
     pub one_positional : (argument_name (inline_view (λ s. s) e) ≡ None) ⊎ (has_byte t colon j ≡ false) → ns ≡ [] →
         (more : List (InlineExpression Span)) → more ≡ ps ++ e ∷ [] → (next : ℕ) → separator t j (Read tt next) →
-        Puts (more_arguments edition t (names_in t ns)) (more_arguments edition t []) (put_arguments more ns) from next
+        Gathered more ns (names_in t ns) next
     one_positional is none more pushed next after =
         let names : names_in t ns ≡ [] = rw none refl in
         let added = rules.positional (inline_view (λ s. s) e) in
-        subst (λ xs. Puts (more_arguments edition t xs) (more_arguments edition t []) (put_arguments more ns) from next)
-        (sym names)
-        (one_put (next_argument t R) add_argument (arguments no_inlines no_named) (more_arguments edition t []) from
-        (put_arguments ps ns) (put_arguments more ns) added (names_in t ns) [] i next gathered
+        subst (λ xs. Gathered more ns xs next) (sym names)
+        (one_behind (put_arguments more ns) added [] next gathered (functional_next_argument t R h (names_in t ns))
         (put_positional ps more ns e pushed)
-        (positional (names_in t ns) i within no_end (inline_view (λ s. s) e) j read is (Read (item added []) next)
+        (positional t R (names_in t ns) i within no_end (inline_view (λ s. s) e) j read is (Read (item added []) next)
         (subst (λ xs. positional_rest t xs (inline_view (λ s. s) e) j (Read (item added []) next)) (sym names)
         (goes_on after given))))
-
--- the names of named arguments with one more
-pub one_name_more : (t : List ℕ) (ns : List (NamedArgument Span)) (x : NamedArgument Span)
-    (more : List (NamedArgument Span)) → more ≡ ns ++ x ∷ [] →
-    names_in t more ≡ bytes_at t x.name.name ∷ names_in t ns
-one_name_more t ns x more pushed = ap (names_in t) pushed ∙ names_added t ns x
-
-module _ (edition : Edition) (t : List ℕ) (ns : List (NamedArgument Span)) (none : ns ≡ []) where
-  -- what nests behind a positional argument, where no named one stands before it
-  pub behind_only_positional : {i end next n : ℕ} {e : InlineTree Span} → IsArgument edition t i e end →
-      (argument_name e ≡ None) ⊎ (has_byte t colon end ≡ false) → separator t end (Read tt next) →
-      Deeper edition t (in_arguments (names_in t ns)) n next → Deeper edition t (in_arguments (names_in t ns)) n i
-  behind_only_positional argument is after h = rw none (behind_positional argument is after (rw none at h))
-
-  pub only_positional_led : {i n : ℕ} (e : InlineTree Span) (j next : ℕ) →
-      inline_expression edition t i (Read e j) → (argument_name e ≡ None) ⊎ (has_byte t colon j ≡ false) →
-      separator t j (Read tt next) → Deeper edition t (in_arguments (names_in t ns)) n i →
-      Deeper edition t in_inline_expression n i ⊎ Deeper edition t (in_arguments (names_in t ns)) n next
-  only_positional_led e j next read is after h =
-      rw none (positional_led edition t e j read next is after (rw none at h))
-
--- the text's end holds no opening
-pub end_flat : (edition : Edition) (t : List ℕ) {n : ℕ} (names : List (List ℕ)) (i : ℕ) → length t ≤ i →
-    Deeper edition t (in_arguments names) n i → ⊥
-end_flat edition t names i past h =
-    let none = slice_get_past t i past in
-    let at_end : other ≡ start t i = rw none refl in
-    plain_start edition t at_end (λ e. cc) (λ e. cc) (λ e. cc)
-    (arguments_stuck edition t _ _ _ names (by_start edition t i other _ at_end (failed refl)) h)

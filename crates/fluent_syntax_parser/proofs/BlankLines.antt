@@ -11,15 +11,17 @@ use Rattle.fluent_syntax_grammar.specs.Bytes.{lf, cr, space}
 use Rattle.fluent_syntax_grammar.specs.Construct.{Read, at_place, chosen, first, given, goes_on, item_and_more}
 use Rattle.fluent_syntax_grammar.specs.Construct.{list_ends, passed}
 use Rattle.fluent_syntax_grammar.specs.Elements.{Item, cut, is_nonblank, line_items}
-use Rattle.fluent_syntax_grammar.specs.Grammar.{more_lines, more_pieces}
+use Rattle.fluent_syntax_grammar.specs.Family.{Family}
+use Rattle.fluent_syntax_grammar.specs.Grammar as grammar
+use Rattle.fluent_syntax_grammar.specs.Grammar.{family, within}
 use Rattle.fluent_syntax_grammar.specs.Layout.{Line, crlf_at, lf_at}
-use Rattle.fluent_syntax_grammar.specs.Lines.{belongs, own_line}
-use Rattle.fluent_syntax_grammar.specs.Nesting.{Deeper, in_lines}
+use Rattle.fluent_syntax_grammar.specs.Lines.{belongs, more_lines, more_pieces, own_line}
 use Rattle.fluent_syntax_grammar.specs.Places.{BlankBlock, InlineBlank, after_eol, has_byte, has_eol, line, no_line}
 use Rattle.fluent_syntax_grammar.proofs.Facts.{byte_found, equal}
-use Rattle.fluent_syntax_grammar.proofs.Shallow.{lines_led, no_lines_led, pieces_eol}
+use Rattle.fluent_syntax_grammar.proofs.Included.{included_lines}
+use Rattle.fluent_syntax_grammar.proofs.Nesting.{within_family}
 use Rattle.fluent_syntax_parser.proofs.LineEndings.{ends_line}
-use Rattle.fluent_syntax_parser.specs.ShortPatterns.{AreBlank}
+use Rattle.fluent_syntax_parser.specs.ShortPatterns.{AreBlank, EndsBlank, NoLines}
 
 -- ---- line ends
 
@@ -125,11 +127,12 @@ module _ (edition : Edition) (t : List ℕ) (common : Option ℕ) (i k m : ℕ) 
   blank_items : cut t (line_items edition common (blank_line i k m) ++ rest) ≡ []
   blank_items = by_test (m == k + 1) refl
 
-module _ (edition : Edition) (t : List ℕ) where
-  pub no_piece : (i : ℕ) (o : Option ℕ) → slice_get t i ≡ o → has_eol t i ≡ true → more_pieces edition t i (Read [] i)
+module _ (t : List ℕ) (R : Family) where
+  pub no_piece : (i : ℕ) (o : Option ℕ) → slice_get t i ≡ o → has_eol t i ≡ true → more_pieces t R i (Read [] i)
   no_piece i None e eol = list_ends (chosen (rw e given))
   no_piece i (Some b) e eol = list_ends (chosen (rw e (chosen (first eol given))))
 
+module _ (edition : Edition) (t : List ℕ) where
   byte_there : (k : ℕ) (o : Option ℕ) → slice_get t k ≡ o → has_eol t k ≡ true → (b : ℕ) × (slice_get t k ≡ Some b)
   byte_there k None e eol = let f = rw e at eol in cc
   byte_there k (Some b) e eol = (b, e)
@@ -138,36 +141,46 @@ module _ (edition : Edition) (t : List ℕ) where
   owned k true eol = rw eol refl
   owned k false eol = rw eol refl
 
-  module _ (j end : ℕ) (last : more_lines edition t j (Read [] end)) where
-    -- the blank lines of a blank block, where no line of a pattern follows them
-    pub blank_lines : (i : ℕ) → BlankBlock t i j →
-        (ls : List Line) × more_lines edition t i (Read ls end) × AreBlank edition t ls
-    blank_lines i (no_line blank none) = ([], last, λ common. refl)
-    blank_lines i (line {k = k} {m = m} blank eol more) =
-        let found = blank_lines m more in
-        let there = eol_there (has_byte t lf k) _ k m eol in
-        let byte = byte_there k (slice_get t k) refl there in (
-          blank_line i k m ∷ found.0,
-          item_and_more
-              (own_line blank byte.1 (owned k (nat_lt i k) there)
-              (goes_on
-              (goes_on at_place
-              (goes_on (passed blank)
-              (goes_on at_place
-              (goes_on (no_piece k (slice_get t k) refl there)
-              (goes_on (ends_line t k m eol)
-              given)))))
-              given))
-              found.1,
-          λ common. blank_items edition t common i k m blank eol (flat_map (line_items edition common) found.0)
-              (found.2 common),
-        )
+  -- the lines of a blank block
+  blanks : (i j : ℕ) → BlankBlock t i j → List Line
+  blanks i j (no_line blank none) = []
+  blanks i j (line {k = k} {m = m} blank eol more) = blank_line i k m ∷ blanks m j more
 
-    pub blank_shallow : (n i : ℕ) → BlankBlock t i j → Deeper edition t in_lines n i → ⊥
-    blank_shallow n i (no_line blank none) d = no_lines_led edition t end last d
-    blank_shallow n i (line {k = k} {m = m} blank eol more) d =
-        let there = eol_there (has_byte t lf k) _ k m eol in
-        elim (lines_led edition t k blank [] k _ m (no_piece k (slice_get t k) refl there) (ends_line t k m eol) d) [
-          | inl d ↦ pieces_eol edition t there d
-          | inr d ↦ blank_shallow n m more d
-        ]
+  blanks_read : (R : Family) (i j end : ℕ) (block : BlankBlock t i j) → more_lines t R j (Read [] end) →
+      more_lines t R i (Read (blanks i j block) end)
+  unfolding blanks
+  blanks_read R i j end (no_line blank none) last = last
+  blanks_read R i j end (line {k = k} {m = m} blank eol more) last =
+      let there = eol_there (has_byte t lf k) _ k m eol in
+      let byte = byte_there k (slice_get t k) refl there in
+      item_and_more
+      (own_line blank byte.1 (owned k (nat_lt i k) there)
+      (goes_on
+      (goes_on at_place
+      (goes_on (passed blank)
+      (goes_on at_place
+      (goes_on (no_piece t R k (slice_get t k) refl there)
+      (goes_on (ends_line t k m eol)
+      given)))))
+      given))
+      (blanks_read R m j end more last)
+
+  blanks_blank : (i j : ℕ) (block : BlankBlock t i j) → AreBlank edition t (blanks i j block)
+  unfolding blanks
+  blanks_blank i j (no_line blank none) = λ common. refl
+  blanks_blank i j (line {k = k} {m = m} blank eol more) = λ common.
+      blank_items edition t common i k m blank eol (flat_map (line_items edition common) (blanks m j more))
+      (blanks_blank m j more common)
+
+  -- the blank lines of a blank block, where no line of a pattern follows them
+  pub blank_lines : (i j end : ℕ) → BlankBlock t i j → NoLines edition t j end → EndsBlank edition t i end
+  blank_lines i j end block last = record {
+    lines = blanks i j block;
+    read = λ n. blanks_read (within edition t n) i j end block (last n);
+    blank = blanks_blank i j block;
+  }
+
+  -- where none stands within any depth, none stands
+  pub no_lines_anywhere : (i end : ℕ) → NoLines edition t i end → grammar.more_lines edition t i (Read [] end)
+  no_lines_anywhere i end none =
+      (included_lines t (within edition t 0) (family edition t) (within_family edition t 0)).part i _ (none 0)

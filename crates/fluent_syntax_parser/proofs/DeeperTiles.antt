@@ -1,5 +1,5 @@
 -- Texts that nest deeper, from tile to tile.
-use Rattle.std.proofs.Common.{◌≡◌, ℕ, ◌<◌, List, length, Option, true, false, subst, refl}
+use Rattle.std.proofs.Common.{◌≡◌, ℕ, ◌<◌, List, [], ◌∷◌, length, Option, true, false, refl, subst, arith}
 use Rattle.fluent_syntax_tree.specs.Entry.{EntryTree, comment, regular}
 use Rattle.fluent_syntax_tree.specs.declared.ast.Entry.{Entry}
 use Rattle.fluent_syntax_tree.specs.declared.edition.Edition.{Edition}
@@ -7,100 +7,119 @@ use Rattle.fluent_syntax_tree.specs.declared.errors.ParserError.{ParserError}
 use Rattle.fluent_syntax_tree.specs.declared.spans.Span.{Span}
 use Rattle.fluent_syntax_grammar.specs.Bytes.{hash}
 use Rattle.fluent_syntax_grammar.specs.Construct.{Read}
-use Rattle.fluent_syntax_grammar.specs.Nesting.{Deeper, TextDeeper, TileDeeper, behind_tile, in_entry}
-use Rattle.fluent_syntax_grammar.specs.Places.{has_byte}
-use Rattle.fluent_syntax_grammar.specs.Tiling.{Tile, TileAt, drops, entry_at, reads, whole_line}
-use Rattle.fluent_syntax_grammar.proofs.BareEntries.{bare_tile_at}
-use Rattle.fluent_syntax_grammar.proofs.OneTiling.{IsOneTile, one_runtime_tile, one_tile}
+use Rattle.fluent_syntax_grammar.specs.Grammar.{within}
+use Rattle.fluent_syntax_grammar.specs.Nesting.{TextDeeper, TooDeep}
+use Rattle.fluent_syntax_grammar.specs.Places.{BlankBlock, has_byte}
+use Rattle.fluent_syntax_grammar.specs.Tiling as tiling
+use Rattle.fluent_syntax_grammar.specs.Tiling.{Tile, Tiled, done, next, drops, entry_in, reads, refuses, stands}
+use Rattle.fluent_syntax_grammar.specs.Tiling.{whole_line}
+use Rattle.fluent_syntax_grammar.proofs.Functional.{single_block}
+use Rattle.fluent_syntax_grammar.proofs.Nesting.{functional_within}
+use Rattle.fluent_syntax_grammar.proofs.OneTiling.{IsOneTile, one_runtime_tile_in, one_tile_in}
 use Rattle.fluent_syntax_grammar.proofs.Runtime.{IsBareTile}
-use Rattle.fluent_syntax_grammar.proofs.Shallow.{entry_comment, tile_led}
-use Rattle.fluent_syntax_parser.proofs.Rests.{in_mode, is_comment}
-use Rattle.fluent_syntax_parser.specs.Rest.{GivesTile, TileIn, are_dropped, tree_of}
+use Rattle.fluent_syntax_parser.specs.Rest.{GivesTile, Standing, TileDeeper, TileIn, are_dropped, at_end, at_tile}
+use Rattle.fluent_syntax_parser.specs.Rest.{tree_of}
 use Rattle.fluent_syntax_parser.specs.declared.options.Comments.{Comments}
 use Rattle.fluent_syntax_parser.specs.declared.options.Comments.TheVariants.{Kept, Dropped}
+use Rattle.fluent_syntax_parser.proofs.Rests.{behind_block, in_mode, is_comment, is_no_bare_comment}
 
--- what a text holds behind a tile
-module _ (edition : Edition) (t : List ℕ) (at : (i j : ℕ) → Tile → Type 0) (i j n : ℕ) (inside : i < length t) where
-  pub behind_one : (tile : Tile) → at i j tile → TextDeeper edition t at n j → TileDeeper edition t at n i
-  behind_one tile stands (next, block, h) = behind_tile inside stands block h
+-- ---- tiles of whatever kind
 
-module _ (edition : Edition) (t : List ℕ) (i j n : ℕ) (inside : i < length t) where
-  -- behind a line that is dropped
-  pub behind_dropped : (comments : Comments) → are_dropped comments ≡ true → has_byte t hash i ≡ true →
-      whole_line t i (Read tt j) → TextDeeper edition t (TileIn comments edition t) n j →
+module _ (t : List ℕ) (at : (i j : ℕ) → Tile → Type 0) where
+  -- behind a blank block the tiles are those from its end on
+  standing_there : (i start : ℕ) (tiles : List Tile) → BlankBlock t i start → Tiled t at i tiles →
+      Standing t at start tiles
+  standing_there i start tiles block (done all) = at_end (single_block.same i start (length t) block all)
+  standing_there i start tiles block (next {start = s} {end = end} {tile = tile} {tiles = more} other l x rest) =
+      let same = single_block.same i s start other block in
+      at_tile (subst (λ k. k < length t) same l) (subst (λ k. at k end tile) same x) rest
+
+module _ (edition : Edition) (t : List ℕ) (n : ℕ) where
+  one_within : (comments : Comments) → IsOneTile (TileIn comments edition t (within edition t n))
+  one_within Kept = one_tile_in edition t (within edition t n) (functional_within edition t n)
+  one_within Dropped = one_runtime_tile_in edition t (within edition t n) (functional_within edition t n)
+
+  module _ (comments : Comments) (i j : ℕ) where
+    -- a blank block holds no entry
+    pub text_deeper : BlankBlock t i j → TileDeeper edition t (TileIn comments edition t) n j →
+        TextDeeper edition t (TileIn comments edition t) n i
+    text_deeper block d tiles tiled =
+        d tiles (standing_there t (TileIn comments edition t (within edition t n)) i j tiles block tiled)
+
+    pub tile_deeper : BlankBlock t i j → TextDeeper edition t (TileIn comments edition t) n i →
+        TileDeeper edition t (TileIn comments edition t) n j
+    tile_deeper block d tiles standing =
+        d tiles (behind_block t (TileIn comments edition t (within edition t n)) i j tiles block standing)
+
+    module _ (inside : i < length t) (tile : Tile)
+        (there : TileIn comments edition t (within edition t n) i j tile) where
+      -- behind a tile that stands
+      pub behind_one : TextDeeper edition t (TileIn comments edition t) n j →
+          TileDeeper edition t (TileIn comments edition t) n i
+      behind_one d tiles (at_end e) = omega (arith, e, inside)
+      behind_one d tiles (at_tile {end = k} {tile = x} {tiles = more} l y rest) =
+          let same : k ≡ j = (one_within comments).same_end i k j x tile y there in
+          d more (subst (λ k. Tiled t (TileIn comments edition t (within edition t n)) k more) same rest)
+
+      pub one_led : TileDeeper edition t (TileIn comments edition t) n i →
+          TextDeeper edition t (TileIn comments edition t) n j
+      one_led d more rest = d (_ ∷ more) (at_tile inside there rest)
+
+  -- no tile stands where the entry nests too deeply
+  pub entry_deeper : (comments : Comments) (i : ℕ) → (are_dropped comments ≡ true → has_byte t hash i ≡ false) →
+      i < length t → TooDeep (entry_in edition t (within edition t n)) i →
       TileDeeper edition t (TileIn comments edition t) n i
-  behind_dropped Kept no_drop there line h = cc
-  behind_dropped Dropped drop there line h =
-      behind_one edition t (TileIn Dropped edition t) i j n inside _ (drops there line) h
+  entry_deeper comments i none inside d tiles (at_end e) = omega (arith, e, inside)
+  entry_deeper Kept i none inside d tiles (at_tile l (reads x) rest) = d _ x
+  entry_deeper Kept i none inside d tiles (at_tile l (refuses x end) rest) = d _ x
+  entry_deeper Dropped i none inside d tiles (at_tile l (drops there line) rest) = let f = none refl in cc
+  entry_deeper Dropped i none inside d tiles (at_tile l (stands bare (reads x)) rest) = d _ x
+  entry_deeper Dropped i none inside d tiles (at_tile l (stands bare (refuses x end)) rest) = d _ x
 
-  module _ (comments : Comments) (none : are_dropped comments ≡ true → has_byte t hash i ≡ false) where
-    -- behind an entry or junk
-    pub behind_given : (e : Entry Span) (error : Option ParserError) (tile : GivesTile edition t i j e error) →
-        TextDeeper edition t (TileIn comments edition t) n j → TileDeeper edition t (TileIn comments edition t) n i
-    behind_given e error tile h =
-        behind_one edition t (TileIn comments edition t) i j n inside tile.tile
-        (in_mode comments edition t i j tile.tile none tile.stands) h
+  -- tiles stand at the text's end: none
+  pub tile_at_end : (comments : Comments) (i : ℕ) → i ≡ length t →
+      TileDeeper edition t (TileIn comments edition t) n i → ⊥
+  tile_at_end comments i end d = d [] (at_end end)
 
-    pub behind_entry : (e : EntryTree Span) → entry_at edition t i (Read e j) →
-        TextDeeper edition t (TileIn comments edition t) n j → TileDeeper edition t (TileIn comments edition t) n i
-    behind_entry e read h =
-        behind_one edition t (TileIn comments edition t) i j n inside _
-        (in_mode comments edition t i j _ none (reads read)) h
+  -- ---- behind a line that is dropped
 
-  module _ (e : Entry Span) (error : Option ParserError) (tile : GivesTile edition t i j e error)
-      (content : List Span) (same : tree_of e ≡ comment regular content) where
-    -- behind a comment of level 1, which is read where comments are kept
+  module _ (i j : ℕ) (inside : i < length t) (comments : Comments) (dropped : are_dropped comments ≡ true)
+      (there : has_byte t hash i ≡ true) (line : whole_line t i (Read tt j)) where
+    dropped_there : (comments : Comments) → are_dropped comments ≡ true →
+        TileIn comments edition t (within edition t n) i j tiling.dropped
+    dropped_there Kept no_drop = cc
+    dropped_there Dropped drop = drops there line
+
+    pub behind_dropped : TextDeeper edition t (TileIn comments edition t) n j →
+        TileDeeper edition t (TileIn comments edition t) n i
+    behind_dropped = behind_one comments i j inside _ (dropped_there comments dropped)
+
+    pub dropped_led : TileDeeper edition t (TileIn comments edition t) n i →
+        TextDeeper edition t (TileIn comments edition t) n j
+    dropped_led = one_led comments i j inside _ (dropped_there comments dropped)
+
+  -- ---- behind a comment of level 1, which is read where comments are kept
+
+  module _ (i j : ℕ) (inside : i < length t) (e : Entry Span) (error : Option ParserError)
+      (tile : GivesTile edition t n i j e error) (content : List Span)
+      (same : tree_of e ≡ comment regular content) where
     pub behind_comment : (comments : Comments) → (are_dropped comments ≡ true → has_byte t hash i ≡ false) →
-        TextDeeper edition t (TileAt edition t) n j → TileDeeper edition t (TileIn comments edition t) n i
-    behind_comment Kept none h = behind_given Kept none e error tile h
+        TextDeeper edition t (tiling.TileIn edition t) n j → TileDeeper edition t (TileIn comments edition t) n i
+    behind_comment Kept none h = behind_one Kept i j inside tile.tile tile.stands h
     behind_comment Dropped none h =
-        absurd (subst IsBareTile (is_comment edition t i j inside e error tile content same)
-        (bare_tile_at edition t i j tile.tile (none refl) tile.stands))
+        absurd (is_no_bare_comment edition t n i j inside e error tile content same (none refl))
 
     -- behind what may hang on it
     pub behind_hung : (comments : Comments) → (are_dropped comments ≡ true → has_byte t hash i ≡ false) → (k : ℕ) →
-        (TextDeeper edition t (TileAt edition t) n k → TextDeeper edition t (TileAt edition t) n j) →
+        (TextDeeper edition t (tiling.TileIn edition t) n k → TextDeeper edition t (tiling.TileIn edition t) n j) →
         TextDeeper edition t (TileIn comments edition t) n k → TileDeeper edition t (TileIn comments edition t) n i
-    behind_hung Kept none k through h = behind_given Kept none e error tile (through h)
+    behind_hung Kept none k through h = behind_one Kept i j inside tile.tile tile.stands (through h)
     behind_hung Dropped none k through h =
-        absurd (subst IsBareTile (is_comment edition t i j inside e error tile content same)
-        (bare_tile_at edition t i j tile.tile (none refl) tile.stands))
+        absurd (is_no_bare_comment edition t n i j inside e error tile content same (none refl))
 
--- ---- where the first tile nests no deeper
-
-one_in : (comments : Comments) (edition : Edition) (t : List ℕ) → IsOneTile (TileIn comments edition t)
-one_in Kept edition t = one_tile edition t
-one_in Dropped edition t = one_runtime_tile edition t
-
-module _ (edition : Edition) (t : List ℕ) (i j n : ℕ) where
-  pub dropped_led : (comments : Comments) → are_dropped comments ≡ true → has_byte t hash i ≡ true →
-      whole_line t i (Read tt j) → TileDeeper edition t (TileIn comments edition t) n i →
-      TextDeeper edition t (TileIn comments edition t) n j
-  dropped_led Kept no_drop there line h = cc
-  dropped_led Dropped drop there line h =
-      tile_led edition t (TileIn Dropped edition t) (one_in Dropped edition t) j _ (drops there line)
-      (entry_comment edition t there) h
-
-  module _ (e : Entry Span) (error : Option ParserError) (tile : GivesTile edition t i j e error)
-      (none : Deeper edition t in_entry n i → ⊥) where
-    pub given_led : (comments : Comments) → (are_dropped comments ≡ true → has_byte t hash i ≡ false) →
-        TileDeeper edition t (TileIn comments edition t) n i → TextDeeper edition t (TileIn comments edition t) n j
-    given_led comments other h =
-        tile_led edition t (TileIn comments edition t) (one_in comments edition t) j tile.tile
-        (in_mode comments edition t i j tile.tile other tile.stands) none h
-
-    pub hung_led : i < length t → (content : List Span) → tree_of e ≡ comment regular content →
-        (comments : Comments) → (are_dropped comments ≡ true → has_byte t hash i ≡ false) → (k : ℕ) →
-        (TextDeeper edition t (TileAt edition t) n j → TextDeeper edition t (TileAt edition t) n k) →
+    pub hung_led : (comments : Comments) → (are_dropped comments ≡ true → has_byte t hash i ≡ false) → (k : ℕ) →
+        (TextDeeper edition t (tiling.TileIn edition t) n j → TextDeeper edition t (tiling.TileIn edition t) n k) →
         TileDeeper edition t (TileIn comments edition t) n i → TextDeeper edition t (TileIn comments edition t) n k
-    hung_led inside content same Kept other k through h = through (given_led Kept other h)
-    hung_led inside content same Dropped other k through h =
-        absurd (subst IsBareTile (is_comment edition t i j inside e error tile content same)
-        (bare_tile_at edition t i j tile.tile (other refl) tile.stands))
-
-  pub entry_led : (comments : Comments) → (are_dropped comments ≡ true → has_byte t hash i ≡ false) →
-      (e : EntryTree Span) → entry_at edition t i (Read e j) → (Deeper edition t in_entry n i → ⊥) →
-      TileDeeper edition t (TileIn comments edition t) n i → TextDeeper edition t (TileIn comments edition t) n j
-  entry_led comments other e read none h =
-      tile_led edition t (TileIn comments edition t) (one_in comments edition t) j _
-      (in_mode comments edition t i j _ other (reads read)) none h
+    hung_led Kept none k through h = through (one_led Kept i j inside tile.tile tile.stands h)
+    hung_led Dropped none k through h =
+        absurd (is_no_bare_comment edition t n i j inside e error tile content same (none refl))

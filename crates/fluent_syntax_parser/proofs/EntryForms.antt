@@ -8,39 +8,90 @@ use Rattle.fluent_syntax_grammar.specs.Body.{hung}
 use Rattle.fluent_syntax_grammar.specs.Bytes.{hash, hyphen}
 use Rattle.fluent_syntax_grammar.specs.Comments.{comment_entry}
 use Rattle.fluent_syntax_grammar.specs.Construct.{Outcome, Read, goes_on, chosen, first, second}
-use Rattle.fluent_syntax_grammar.specs.Entries.{message_entry, term_entry}
+use Rattle.fluent_syntax_grammar.specs.Entries.{message_of, term_of}
+use Rattle.fluent_syntax_grammar.specs.Family.{Family}
 use Rattle.fluent_syntax_grammar.specs.Grammar.{family}
 use Rattle.fluent_syntax_grammar.specs.Places.{holds, has_byte}
-use Rattle.fluent_syntax_grammar.specs.Tiling.{entry_at, entry_of}
+use Rattle.fluent_syntax_grammar.specs.Tiling.{entry_at, entry_in, entry_of}
 use Rattle.fluent_syntax_grammar.proofs.Facts.{differs}
 use Rattle.fluent_syntax_grammar.proofs.Holds.{gave}
+use Rattle.fluent_syntax_parser.specs.Meets.{Fails}
+use Rattle.fluent_syntax_parser.specs.declared.fault.ReadFault.{ReadFault}
+use Rattle.fluent_syntax_parser.proofs.Fails.{fails_as}
 
-module _ (edition : Edition) (t : List ℕ) (i : ℕ) (o : Outcome (EntryTree Span)) where
+module _ (edition : Edition) (t : List ℕ) (R : Family) (i : ℕ) (o : Outcome (EntryTree Span)) where
   comment_of_byte : (here : Option ℕ) → holds (λ b. b == hash) here ≡ true → comment_entry t i o →
-      entry_of edition t (family edition t) here i o
+      entry_of edition t R here i o
   comment_of_byte None there h = cc
   comment_of_byte (Some b) there h = first there h
 
   term_of_byte : (here : Option ℕ) → holds (λ b. b == hash) here ≡ false → holds (λ b. b == hyphen) here ≡ true →
-      term_entry edition t i o → entry_of edition t (family edition t) here i o
+      term_of edition t R i o → entry_of edition t R here i o
   term_of_byte None none there h = cc
   term_of_byte (Some b) none there h = second none (first there h)
 
   message_of_byte : (here : Option ℕ) → holds (λ b. b == hash) here ≡ false → holds (λ b. b == hyphen) here ≡ false →
-      message_entry edition t i o → entry_of edition t (family edition t) here i o
+      message_of edition t R i o → entry_of edition t R here i o
   message_of_byte None none other h = h
   message_of_byte (Some b) none other h = second none (second other h)
 
-  pub comment_there : has_byte t hash i ≡ true → comment_entry t i o → entry_at edition t i o
+  pub comment_there : has_byte t hash i ≡ true → comment_entry t i o → entry_in edition t R i o
   comment_there there h = chosen (comment_of_byte (slice_get t i) there h)
 
-  pub term_there : has_byte t hash i ≡ false → has_byte t hyphen i ≡ true → term_entry edition t i o →
-      entry_at edition t i o
+  pub term_there : has_byte t hash i ≡ false → has_byte t hyphen i ≡ true → term_of edition t R i o →
+      entry_in edition t R i o
   term_there none there h = chosen (term_of_byte (slice_get t i) none there h)
 
-  pub message_there : has_byte t hash i ≡ false → has_byte t hyphen i ≡ false → message_entry edition t i o →
-      entry_at edition t i o
+  pub message_there : has_byte t hash i ≡ false → has_byte t hyphen i ≡ false → message_of edition t R i o →
+      entry_in edition t R i o
   message_there none other h = chosen (message_of_byte (slice_get t i) none other h)
+
+-- ---- and the other way round
+
+module _ (edition : Edition) (t : List ℕ) (R : Family) (i : ℕ) (o : Outcome (EntryTree Span)) where
+  of_hash : (here : Option ℕ) → holds (λ b. b == hash) here ≡ true → entry_of edition t R here i o →
+      comment_entry t i o
+  of_hash None there x = cc
+  of_hash (Some b) there (first f x) = x
+  of_hash (Some b) there (second f x) = differs there f
+
+  of_hyphen : (here : Option ℕ) → holds (λ b. b == hash) here ≡ false → holds (λ b. b == hyphen) here ≡ true →
+      entry_of edition t R here i o → term_of edition t R i o
+  of_hyphen None none there x = cc
+  of_hyphen (Some b) none there (first f x) = differs f none
+  of_hyphen (Some b) none there (second f (first g x)) = x
+  of_hyphen (Some b) none there (second f (second g x)) = differs there g
+
+  of_other : (here : Option ℕ) → holds (λ b. b == hash) here ≡ false → holds (λ b. b == hyphen) here ≡ false →
+      entry_of edition t R here i o → message_of edition t R i o
+  of_other None none other x = x
+  of_other (Some b) none other (first f x) = differs f none
+  of_other (Some b) none other (second f (first g x)) = differs g other
+  of_other (Some b) none other (second f (second g x)) = x
+
+module _ (edition : Edition) (t : List ℕ) (R : Family) (i : ℕ) {f : ReadFault} where
+  pub comment_fails : has_byte t hash i ≡ true → Fails t (comment_entry t) i f → Fails t (entry_in edition t R) i f
+  comment_fails there h =
+      fails_as (λ o x. comment_there edition t R i o there x) (λ o x. of_chosen o x) h
+    where
+      of_chosen : (o : Outcome (EntryTree Span)) → entry_in edition t R i o → comment_entry t i o
+      of_chosen o (chosen x) = of_hash edition t R i o (slice_get t i) there x
+
+  pub term_fails : has_byte t hash i ≡ false → has_byte t hyphen i ≡ true → Fails t (term_of edition t R) i f →
+      Fails t (entry_in edition t R) i f
+  term_fails none there h =
+      fails_as (λ o x. term_there edition t R i o none there x) (λ o x. of_chosen o x) h
+    where
+      of_chosen : (o : Outcome (EntryTree Span)) → entry_in edition t R i o → term_of edition t R i o
+      of_chosen o (chosen x) = of_hyphen edition t R i o (slice_get t i) none there x
+
+  pub message_fails : has_byte t hash i ≡ false → has_byte t hyphen i ≡ false → Fails t (message_of edition t R) i f →
+      Fails t (entry_in edition t R) i f
+  message_fails none other h =
+      fails_as (λ o x. message_there edition t R i o none other x) (λ o x. of_chosen o x) h
+    where
+      of_chosen : (o : Outcome (EntryTree Span)) → entry_in edition t R i o → message_of edition t R i o
+      of_chosen o (chosen x) = of_other edition t R i o (slice_get t i) none other x
 
 -- ---- where no entry hangs
 

@@ -14,29 +14,33 @@ use Rattle.fluent_syntax_tree.specs.declared.spans.Span.{Span}
 use Rattle.fluent_syntax_grammar.specs.Bytes.{equals_sign}
 use Rattle.fluent_syntax_grammar.specs.Construct.{Outcome, Construct, Read, Refused, ◌>>=◌, ◌>>◌, stops, goes_on, given}
 use Rattle.fluent_syntax_grammar.specs.Construct.{failed_from}
-use Rattle.fluent_syntax_grammar.specs.Entries.{attributes, message_with}
-use Rattle.fluent_syntax_grammar.specs.Grammar.{pattern}
+use Rattle.fluent_syntax_grammar.specs.Entries.{attributes_of, message_with}
+use Rattle.fluent_syntax_grammar.specs.Family.{Family}
+use Rattle.fluent_syntax_grammar.specs.Nesting.{TooDeep}
+use Rattle.fluent_syntax_grammar.specs.Patterns.{pattern}
+use Rattle.fluent_syntax_parser.specs.Meets.{Fails, no_memory, refused, too_deep}
+use Rattle.fluent_syntax_parser.specs.declared.fault.ReadFault.{ReadFault}
 use Rattle.fluent_syntax_grammar.specs.Words.{blank_block, inline_blank, token}
 use Rattle.fluent_syntax_parser.specs.Fields.{FieldTrees, fields}
 
-module _ (edition : Edition) (t : List ℕ)
+module _ (edition : Edition) (t : List ℕ) (R : Family)
     (last : Option (PatternTree Span) → List (AttributeTree Span) → Construct (EntryTree Span)) where
   -- an entry behind its name
   abbrev pub BehindName : Construct (EntryTree Span)
   BehindName = do
     inline_blank t
     token t equals_sign
-    value ← pattern edition t
+    value ← pattern edition t R
     blank_block t
-    rest ← attributes edition t
+    rest ← attributes_of edition t R
     last value rest
 
-  pub fields_then : (i j : ℕ) (f : FieldTrees) (o : Outcome (EntryTree Span)) → fields edition t i (Read f j) →
+  pub fields_then : (i j : ℕ) (f : FieldTrees) (o : Outcome (EntryTree Span)) → fields edition t R i (Read f j) →
       last f.0 f.1 j o → BehindName i o
   fields_then i j f o (goes_on blank (goes_on equals (goes_on value (goes_on block (goes_on rest given))))) end =
       goes_on blank (goes_on equals (goes_on value (goes_on block (goes_on rest end))))
 
-  pub fields_refused : (i from to : ℕ) (k : Kind) → fields edition t i (Refused k from to) →
+  pub fields_refused : (i from to : ℕ) (k : Kind) → fields edition t R i (Refused k from to) →
       BehindName i (Refused k from to)
   fields_refused i from to k (stops x) = stops x
   fields_refused i from to k (goes_on blank (stops x)) = goes_on blank (stops x)
@@ -47,6 +51,23 @@ module _ (edition : Edition) (t : List ℕ)
       goes_on blank (goes_on equals (goes_on value (goes_on block (stops x))))
   fields_refused i from to k (goes_on blank (goes_on equals (goes_on value (goes_on block (goes_on rest x))))) =
       elim x [ ]
+
+  -- where what stands behind the name nests too deeply
+  fields_deeper : (i : ℕ) → TooDeep (fields edition t R) i → TooDeep BehindName i
+  fields_deeper i h o (stops x) = h _ (stops x)
+  fields_deeper i h o (goes_on blank (stops x)) = h _ (goes_on blank (stops x))
+  fields_deeper i h o (goes_on blank (goes_on equals (stops x))) = h _ (goes_on blank (goes_on equals (stops x)))
+  fields_deeper i h o (goes_on blank (goes_on equals (goes_on value (stops x)))) =
+      h _ (goes_on blank (goes_on equals (goes_on value (stops x))))
+  fields_deeper i h o (goes_on blank (goes_on equals (goes_on value (goes_on block (stops x))))) =
+      h _ (goes_on blank (goes_on equals (goes_on value (goes_on block (stops x)))))
+  fields_deeper i h o (goes_on blank (goes_on equals (goes_on value (goes_on block (goes_on rest x))))) =
+      h _ (goes_on blank (goes_on equals (goes_on value (goes_on block (goes_on rest given)))))
+
+  pub fields_fail : {i : ℕ} {f : ReadFault} → Fails t (fields edition t R) i f → Fails t BehindName i f
+  fields_fail (refused h) = refused (λ k from to s. fields_refused _ from to k (h k from to s))
+  fields_fail (too_deep h) = too_deep (fields_deeper _ h)
+  fields_fail no_memory = no_memory
 
 -- ---- the last part of a message
 

@@ -2,8 +2,7 @@
 -- gathered.
 use Rattle.std.proofs.Common.{◌≡◌, ℕ, List, [], ◌∷◌, ◌++◌, map, refl, ap}
 use Rattle.fluent_syntax_tree.specs.Kind.{Kind}
-use Rattle.fluent_syntax_grammar.specs.Construct.{Construct, Read, Refused, More, item, list_of, item_and_more}
-use Rattle.fluent_syntax_grammar.specs.Construct.{stops_later}
+use Rattle.fluent_syntax_grammar.specs.Construct.{Construct, Read, Refused}
 use Rattle.fluent_syntax_grammar.proofs.Facts.{append_nothing}
 
 pub map_more : {A X : Type 0} (v : X → A) (xs : List X) (x : X) (more : List A) →
@@ -31,11 +30,3 @@ module _ {A X : Type 0} (c : Construct (List A)) (v : X → A) (i : ℕ) where
   -- the list ends
   pub all : (xs : List X) (j end : ℕ) → Gathers c v i xs j → c j (Read [] end) → c i (Read (map v xs) end)
   all xs j end g h = rw (← append_nothing (map v xs)) (g.read [] end h)
-
-module _ {A X : Type 0} (next : Construct (More A (Unit {0}))) (v : X → A) (i : ℕ) where
-  -- one more item of a plain list
-  pub one_item : (xs ys : List X) (x : X) (j m : ℕ) → ys ≡ xs ++ x ∷ [] → Gathers (list_of next) v i xs j →
-      next j (Read (item (v x) tt) m) → Gathers (list_of next) v i ys m
-  one_item xs ys x j m same g read =
-      one_more (list_of next) v i xs ys x j m same g (λ more end h. item_and_more read h)
-      (λ k from to h. stops_later read h)

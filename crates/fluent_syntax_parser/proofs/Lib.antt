@@ -1,5 +1,6 @@
 pub mod AnswerOf
 pub mod ArgumentLists
+pub mod Behind
 pub mod BlankLines
 pub mod Carried
 pub mod CommentEntries
@@ -7,6 +8,7 @@ pub mod Cut
 pub mod DeeperTiles
 pub mod EntryForms
 pub mod ErrorPlaces
+pub mod Fails
 pub mod FieldForms
 pub mod GatheredArguments
 pub mod GatheredVariants
@@ -22,13 +24,11 @@ pub mod NextStarts
 pub mod PartsOfEntries
 pub mod PartsOfTiling
 pub mod Pieces
-pub mod Puts
 pub mod Ranges
 pub mod Rests
 pub mod Runs
 pub mod Scans
 pub mod Selects
-pub mod Shallows
 pub mod ShortExamples
 pub mod ShortGrammar
 pub mod ShortLines

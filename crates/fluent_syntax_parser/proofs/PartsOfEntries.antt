@@ -7,6 +7,7 @@ use Rattle.fluent_syntax_tree.specs.Spans.{IsPart}
 use Rattle.fluent_syntax_tree.specs.declared.edition.Edition.{Edition}
 use Rattle.fluent_syntax_tree.specs.declared.spans.Span.{Span}
 use Rattle.fluent_syntax_grammar.specs.Body.{body, faults}
+use Rattle.fluent_syntax_grammar.specs.Grammar.{family}
 use Rattle.fluent_syntax_grammar.specs.Tiling.{Fault, Tile, Tiled}
 use Rattle.fluent_syntax_grammar.proofs.JunkAndSpans.{body_in_text, runtime_body_in_text}
 use Rattle.fluent_syntax_grammar.proofs.SomeTiling.{some_runtime_tiles, some_tiles}
@@ -29,7 +30,8 @@ module _ (t : List ℕ) (edition : Edition) where
   some_rest Dropped i inside = let some = some_runtime_tiles edition t i inside in
       (body some.0, map Some (faults some.0), record { tiles = some.0; tiled = some.1; gives = refl; tells = refl })
 
-  pub body_parts : (comments : Comments) (tiles : List Tile) → IsUtf8 t → Tiled t (TileIn comments edition t) 0 tiles →
+  pub body_parts : (comments : Comments) (tiles : List Tile) → IsUtf8 t →
+      Tiled t (TileIn comments edition t (family edition t)) 0 tiles →
       body_every (IsPart t) (body tiles)
   body_parts Kept tiles utf8 tiled = body_in_text edition t tiles utf8 tiled
   body_parts Dropped tiles utf8 tiled = runtime_body_in_text edition t tiles utf8 tiled

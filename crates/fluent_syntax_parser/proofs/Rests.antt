@@ -8,13 +8,18 @@ use Rattle.fluent_syntax_tree.specs.declared.errors.ParserError.{ParserError}
 use Rattle.fluent_syntax_tree.specs.declared.spans.Span.{Span}
 use Rattle.fluent_syntax_grammar.specs.Body.{alone, body, faults, hangs}
 use Rattle.fluent_syntax_grammar.specs.Bytes.{hash}
-use Rattle.fluent_syntax_grammar.specs.Construct.{Read}
+use Rattle.fluent_syntax_grammar.specs.Construct.{Outcome, Read}
 use Rattle.fluent_syntax_grammar.specs.Places.{BlankBlock, has_byte}
+use Rattle.fluent_syntax_grammar.specs.Family.{Family}
+use Rattle.fluent_syntax_grammar.specs.Grammar.{family, within}
+use Rattle.fluent_syntax_grammar.specs.Tiling as tiling
 use Rattle.fluent_syntax_grammar.specs.Tiling.{Fault, Tile, entry, refused, dropped, Tiled, done, next, TileAt}
-use Rattle.fluent_syntax_grammar.specs.Tiling.{entry_at, reads}
+use Rattle.fluent_syntax_grammar.specs.Tiling.{entry_at, entry_in, reads}
 use Rattle.fluent_syntax_grammar.specs.Tiling.{refuses, drops, stands, whole_line}
 use Rattle.fluent_syntax_grammar.proofs.BareEntries.{bare_tile_at}
 use Rattle.fluent_syntax_grammar.proofs.Runtime.{IsBareTile}
+use Rattle.fluent_syntax_grammar.proofs.IncludedEntries.{included_entry, tile_part}
+use Rattle.fluent_syntax_grammar.proofs.Nesting.{within_family}
 use Rattle.fluent_syntax_parser.specs.Rest.{Hangs, GivesTile, Rest, RestAt, Standing, TileIn, are_dropped, at_end}
 use Rattle.fluent_syntax_parser.specs.Rest.{at_tile, faults_of, may_hang, tree_of}
 use Rattle.fluent_syntax_parser.specs.declared.options.Comments.{Comments}
@@ -53,7 +58,7 @@ faults_then dropped more = refl
 -- ---- the rest from place to place
 
 module _ (t : List ℕ) (at : (i j : ℕ) → Tile → Type 0) where
-  behind_block : (i j : ℕ) (tiles : List Tile) → BlankBlock t i j → Standing t at j tiles → Tiled t at i tiles
+  pub behind_block : (i j : ℕ) (tiles : List Tile) → BlankBlock t i j → Standing t at j tiles → Tiled t at i tiles
   behind_block i j tiles block (at_end e) = done (subst (BlankBlock t i) e block)
   behind_block i j tiles block (at_tile l x more) = next block l x more
 
@@ -65,16 +70,26 @@ module _ (comments : Comments) (edition : Edition) (t : List ℕ) where
       RestAt comments edition t j entries errors → Rest comments edition t i entries errors
   rest_behind i j entries errors block rest = record {
     tiles = rest.tiles;
-    tiled = behind_block t (TileIn comments edition t) i j rest.tiles block rest.standing;
+    tiled = behind_block t (TileIn comments edition t (family edition t)) i j rest.tiles block rest.standing;
     gives = rest.gives;
     tells = rest.tells;
   }
 
-pub in_mode : (comments : Comments) (edition : Edition) (t : List ℕ) (i j : ℕ) (tile : Tile) →
-    (are_dropped comments ≡ true → has_byte t hash i ≡ false) → TileAt edition t i j tile →
-    TileIn comments edition t i j tile
-in_mode Kept edition t i j tile none x = x
-in_mode Dropped edition t i j tile none x = stands (none refl) x
+pub in_mode : (comments : Comments) (edition : Edition) (t : List ℕ) (R : Family) (i j : ℕ) (tile : Tile) →
+    (are_dropped comments ≡ true → has_byte t hash i ≡ false) → tiling.TileIn edition t R i j tile →
+    TileIn comments edition t R i j tile
+in_mode Kept edition t R i j tile none x = x
+in_mode Dropped edition t R i j tile none x = stands (none refl) x
+
+-- the tile at whatever depth
+pub at_any_depth : (edition : Edition) (t : List ℕ) (n i j : ℕ) (tile : Tile) →
+    tiling.TileIn edition t (within edition t n) i j tile → TileAt edition t i j tile
+at_any_depth edition t n = tile_part edition t (within edition t n) (family edition t) (within_family edition t n)
+
+pub at_any_depth_entry : (edition : Edition) (t : List ℕ) (n i : ℕ) {o : Outcome (EntryTree Span)} →
+    entry_in edition t (within edition t n) i o → entry_at edition t i o
+at_any_depth_entry edition t n i x =
+    (included_entry edition t (within edition t n) (family edition t) (within_family edition t n)).part i _ x
 
 module _ (edition : Edition) (t : List ℕ) (i j : ℕ) (inside : i < length t) where
   pub rest_dropped : (comments : Comments) → are_dropped comments ≡ true → has_byte t hash i ≡ true →
@@ -89,13 +104,14 @@ module _ (edition : Edition) (t : List ℕ) (i j : ℕ) (inside : i < length t) 
   }
 
   module _ (comments : Comments) (none : are_dropped comments ≡ true → has_byte t hash i ≡ false) (e : Entry Span)
-      (error : Option ParserError) (tile : GivesTile edition t i j e error) where
+      (error : Option ParserError) (n : ℕ) (tile : GivesTile edition t n i j e error) where
     pub rest_tile : may_hang (tree_of e) ≡ false → (entries : BodyTree Span) (errors : List (Option Fault)) →
         Rest comments edition t j entries errors →
         RestAt comments edition t i (tree_of e ∷ entries) (faults_of error ++ errors)
     rest_tile other entries errors rest = record {
       tiles = tile.tile ∷ rest.tiles;
-      standing = at_tile inside (in_mode comments edition t i j tile.tile none tile.stands) rest.tiled;
+      standing = at_tile inside (in_mode comments edition t (family edition t) i j tile.tile none
+          (at_any_depth edition t n i j tile.tile tile.stands)) rest.tiled;
       gives = body_then tile.tile rest.tiles (tree_of e) tile.entry other ∙ ap (λ b. tree_of e ∷ b) rest.gives;
       tells = rw (faults_then tile.tile rest.tiles, tile.errors, rest.tells) refl;
     }
@@ -109,7 +125,8 @@ module _ (edition : Edition) (t : List ℕ) (i j : ℕ) (inside : i < length t) 
         let tile = entry (record { start = i; end = j }) e in
         record {
           tiles = tile ∷ rest.tiles;
-          standing = at_tile inside (in_mode comments edition t i j tile none (reads read)) rest.tiled;
+          standing = at_tile inside
+              (in_mode comments edition t (family edition t) i j tile none (reads read)) rest.tiled;
           gives = body_then tile rest.tiles e refl other ∙ ap (λ b. e ∷ b) rest.gives;
           tells = rest.tells;
         }
@@ -124,11 +141,18 @@ comment_tile edition t i j tile content (reads {e = e} read) same =
     ap (λ x. entry (record { start = i; end = j }) x) is_comment
 comment_tile edition t i j tile content (refuses read end) same = cc
 
-module _ (edition : Edition) (t : List ℕ) (i j : ℕ) (inside : i < length t) (e : Entry Span)
-    (error : Option ParserError) (tile : GivesTile edition t i j e error) (content : List Span)
+module _ (edition : Edition) (t : List ℕ) (n i j : ℕ) (inside : i < length t) (e : Entry Span)
+    (error : Option ParserError) (tile : GivesTile edition t n i j e error) (content : List Span)
     (same : tree_of e ≡ comment regular content) where
+  stands_there : TileAt edition t i j tile.tile
+  stands_there = at_any_depth edition t n i j tile.tile tile.stands
+
   pub is_comment : tile.tile ≡ entry (record { start = i; end = j }) (comment regular content)
-  is_comment = comment_tile edition t i j tile.tile content tile.stands (tile.entry ∙ ap (λ x. x ∷ []) same)
+  is_comment = comment_tile edition t i j tile.tile content stands_there (tile.entry ∙ ap (λ x. x ∷ []) same)
+
+  -- a comment begins with `#`
+  pub is_no_bare_comment : has_byte t hash i ≡ false → ⊥
+  is_no_bare_comment none = subst IsBareTile is_comment (bare_tile_at edition t i j tile.tile none stands_there)
 
   pub rest_comment : (comments : Comments) → (are_dropped comments ≡ true → has_byte t hash i ≡ false) →
       (with_comment : Entry Span) (k : ℕ) → Hangs edition t content j with_comment k →
@@ -138,9 +162,8 @@ module _ (edition : Edition) (t : List ℕ) (i j : ℕ) (inside : i < length t) 
       let behind = after i entries errors rest in
       record {
         tiles = tile.tile ∷ behind.0;
-        standing = at_tile inside tile.stands behind.1;
+        standing = at_tile inside stands_there behind.1;
         gives = ap (λ x. body (x ∷ behind.0)) is_comment ∙ behind.2;
         tells = rw (faults_then tile.tile behind.0, tile.errors, behind.3) refl;
       }
-  rest_comment Dropped none with_comment k after entries errors rest =
-      absurd (subst IsBareTile is_comment (bare_tile_at edition t i j tile.tile (none refl) tile.stands))
+  rest_comment Dropped none with_comment k after entries errors rest = absurd (is_no_bare_comment (none refl))

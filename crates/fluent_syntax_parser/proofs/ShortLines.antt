@@ -9,14 +9,15 @@ use Rattle.fluent_syntax_tree.specs.declared.spans.Span.{Span}
 use Rattle.fluent_syntax_grammar.specs.Construct.{Read}
 use Rattle.fluent_syntax_grammar.specs.Elements.{Item, filled, text, cut, if_any, is_nonblank, spelled, trimmed_end}
 use Rattle.fluent_syntax_grammar.specs.Elements.{with_ending}
-use Rattle.fluent_syntax_grammar.specs.Grammar.{more_pieces, pattern}
+use Rattle.fluent_syntax_grammar.specs.Family.{Family}
+use Rattle.fluent_syntax_grammar.specs.Grammar.{within}
+use Rattle.fluent_syntax_grammar.specs.Lines.{more_pieces}
+use Rattle.fluent_syntax_grammar.specs.Patterns.{pattern}
 use Rattle.fluent_syntax_grammar.specs.Layout.{Ending, Piece, placed, run as run'}
 use Rattle.fluent_syntax_grammar.specs.Lines.{is_run_place}
-use Rattle.fluent_syntax_grammar.specs.Nesting.{Deeper, in_layout, in_lines, in_pieces}
 use Rattle.fluent_syntax_grammar.specs.Places.{InlineBlank, Stretch, after_eol}
-use Rattle.fluent_syntax_grammar.proofs.Shallow.{pattern_led, run_led}
 use Rattle.fluent_syntax_parser.proofs.ShortPieces.{more_items}
-use Rattle.fluent_syntax_parser.proofs.ShortPatterns.{line_ended, opening_flat, opening_read, run_before}
+use Rattle.fluent_syntax_parser.proofs.ShortPatterns.{line_ended, opening_read, run_before}
 use Rattle.fluent_syntax_parser.specs.ShortMessages.{short_element}
 use Rattle.fluent_syntax_parser.specs.ShortPatterns.{EndsBlank, EndsLine, OpensAs}
 use Rattle.fluent_syntax_parser.specs.ShortPieces.{AddsLastText, NoTextIsLast, GathersPieces, ReadsShort, short_item}
@@ -89,123 +90,113 @@ spelled_placed t es (inr (before, x, expression, is, is_placed)) ps e nothing =
 
 module _ (edition : Edition) (t : List ℕ) (start : ℕ) (opens : after_eol t start ≡ None) (old new : List ShortPart)
     (place to stop next end : ℕ) (g : GathersPieces t old start new place) (line : EndsLine t to stop next) where
+  abbrev R : ℕ → Family
+  R n = within edition t (suc n)
+
   abbrev elements : List (ElementTree Span)
   elements = map (short_element (λ s. s)) g.elements
 
   module _ (w : Stretch (is_run_place t) place to) (some : place < to) where
-    text_pieces : more_pieces edition t start (Read (map short_piece g.elements ++ run' place to ∷ []) to)
-    text_pieces =
-        g.read edition _ _ (run_before edition t place to w some [] to (line_ended edition t to stop next line).pieces)
+    text_pieces : (n : ℕ) → more_pieces t (R n) start (Read (map short_piece g.elements ++ run' place to ∷ []) to)
+    text_pieces n =
+        g.read edition n _ _ (run_before t (R n) place to w some [] to
+        (line_ended t (R n) to stop next line).pieces)
 
     -- with a text behind them
-    text_read : (ptr : ℕ) → InlineBlank t ptr start → EndsBlank edition t next end →
+    text_read : (n ptr : ℕ) → InlineBlank t ptr start → EndsBlank edition t next end →
         is_nonblank (slice_range t place stop) ≡ true →
-        pattern edition t ptr (Read (if_any (elements ++
+        pattern edition t (R n) ptr (Read (if_any (elements ++
         text_element (record { start = place; end = trimmed_end t place stop }) ∷ [])) end)
-    text_read ptr blank lines nonblank =
-        let ended = line_ended edition t to stop next line in
+    text_read n ptr blank lines nonblank =
+        let ended = line_ended t (R n) to stop next line in
         let stays = ended.text_stays place nonblank in
         let read =
-        opening_read edition t start opens _ to text_pieces ended.ends_by next ended.ends ptr end blank lines in
+        opening_read edition t (suc n) start opens _ to (text_pieces n) ended.ends_by next ended.ends ptr end
+        blank lines in
         let same = spelled_line t g.elements (run' place to) [] ended.ends_by _ [] stays in
         let f = rw same at read in f
 
-    text_flat : (n : ℕ) → (Deeper edition t in_lines (suc n) next → ⊥) → Deeper edition t in_layout (suc n) start → ⊥
-    text_flat n lines =
-        let ended = line_ended edition t to stop next line in
-        opening_flat edition t start opens _ to text_pieces ended.ends_by next ended.ends (suc n)
-        (λ d. ended.flat (suc n) (run_led edition t to (w.each place (omega arith) some) w (g.flat edition n d))) lines
-
     text_reads : (ptr : ℕ) (longer : List ShortPart) → InlineBlank t ptr start → EndsBlank edition t next end →
-        ((n : ℕ) → Deeper edition t in_lines n next → ⊥) → is_nonblank (slice_range t place stop) ≡ true →
+        is_nonblank (slice_range t place stop) ≡ true →
         longer ≡ new ++ Element (Text (record { start = place; end = trimmed_end t place stop })) ∷ [] →
         ReadsShort edition t old ptr longer end
-    text_reads ptr longer blank lines shallow nonblank items =
+    text_reads ptr longer blank lines nonblank items =
         let last : ShortElement = Text (record { start = place; end = trimmed_end t place stop }) in
         record {
           elements = g.elements ++ last ∷ [];
           items = more_items old new longer g.elements last g.items items;
-          read =
-              rw (map-append (short_element (λ s. s)) g.elements (last ∷ [])) (text_read ptr blank lines nonblank);
-          flat = λ n d. text_flat n (shallow (suc n)) (pattern_led edition t start blank d);
+          read = λ n.
+              rw (map-append (short_element (λ s. s)) g.elements (last ∷ [])) (text_read n ptr blank lines nonblank);
         }
 
     -- with spaces behind them
-    blank_read : (ptr : ℕ) → InlineBlank t ptr start → EndsBlank edition t next end →
+    blank_read : (n ptr : ℕ) → InlineBlank t ptr start → EndsBlank edition t next end →
         is_nonblank (slice_range t place stop) ≡ false →
-        pattern edition t ptr (Read (if_any elements) end)
-    blank_read ptr blank lines falls =
-        let ended = line_ended edition t to stop next line in
+        pattern edition t (R n) ptr (Read (if_any elements) end)
+    blank_read n ptr blank lines falls =
+        let ended = line_ended t (R n) to stop next line in
         let read =
-        opening_read edition t start opens _ to text_pieces ended.ends_by next ended.ends ptr end blank lines in
+        opening_read edition t (suc n) start opens _ to (text_pieces n) ended.ends_by next ended.ends ptr end
+        blank lines in
         let falls = ended.text_falls place falls in
         let same = spelled_placed t g.elements g.ends (run' place to ∷ []) ended.ends_by falls in
         let f = rw same at read in f
 
     blank_reads : (ptr : ℕ) → InlineBlank t ptr start → EndsBlank edition t next end →
-        ((n : ℕ) → Deeper edition t in_lines n next → ⊥) → is_nonblank (slice_range t place stop) ≡ false →
+        is_nonblank (slice_range t place stop) ≡ false →
         ReadsShort edition t old ptr new end
-    blank_reads ptr blank lines shallow falls = record {
+    blank_reads ptr blank lines falls = record {
       elements = g.elements;
       items = g.items;
-      read = blank_read ptr blank lines falls;
-      flat = λ n d. text_flat n (shallow (suc n)) (pattern_led edition t start blank d);
+      read = λ n. blank_read n ptr blank lines falls;
     }
 
   module _ (same : place ≡ to) where
-    placed_pieces : more_pieces edition t start (Read (map short_piece g.elements ++ []) to)
-    placed_pieces =
-        g.read edition [] to
-        (subst (λ k. more_pieces edition t k (Read [] to)) (sym same) (line_ended edition t to stop next line).pieces)
+    placed_pieces : (n : ℕ) → more_pieces t (R n) start (Read (map short_piece g.elements ++ []) to)
+    placed_pieces n =
+        g.read edition n [] to
+        (subst (λ k. more_pieces t (R n) k (Read [] to)) (sym same)
+        (line_ended t (R n) to stop next line).pieces)
 
     -- with nothing behind them
-    placed_read : (ptr : ℕ) → InlineBlank t ptr start → EndsBlank edition t next end →
-        pattern edition t ptr (Read (if_any elements) end)
-    placed_read ptr blank lines =
-        let ended = line_ended edition t to stop next line in
+    placed_read : (n ptr : ℕ) → InlineBlank t ptr start → EndsBlank edition t next end →
+        pattern edition t (R n) ptr (Read (if_any elements) end)
+    placed_read n ptr blank lines =
+        let ended = line_ended t (R n) to stop next line in
         let read =
-        opening_read edition t start opens _ to placed_pieces ended.ends_by next ended.ends ptr end blank lines in
+        opening_read edition t (suc n) start opens _ to (placed_pieces n) ended.ends_by next ended.ends ptr end
+        blank lines in
         let same = spelled_placed t g.elements g.ends [] ended.ends_by ended.none_stays in
         let f = rw same at read in f
 
-    placed_flat : (n : ℕ) → (Deeper edition t in_lines (suc n) next → ⊥) →
-        Deeper edition t in_layout (suc n) start → ⊥
-    placed_flat n lines =
-        let ended = line_ended edition t to stop next line in
-        opening_flat edition t start opens _ to placed_pieces ended.ends_by next ended.ends (suc n)
-        (λ d. ended.flat (suc n) (subst (λ k. Deeper edition t in_pieces (suc n) k) same (g.flat edition n d))) lines
-
     placed_reads : (ptr : ℕ) → InlineBlank t ptr start → EndsBlank edition t next end →
-        ((n : ℕ) → Deeper edition t in_lines n next → ⊥) → ReadsShort edition t old ptr new end
-    placed_reads ptr blank lines shallow = record {
+        ReadsShort edition t old ptr new end
+    placed_reads ptr blank lines = record {
       elements = g.elements;
       items = g.items;
-      read = placed_read ptr blank lines;
-      flat = λ n d. placed_flat n (shallow (suc n)) (pattern_led edition t start blank d);
+      read = λ n. placed_read n ptr blank lines;
     }
 
   -- with what a reader has added of its last text
   pub line_reads : (ptr : ℕ) (longer : List ShortPart) → InlineBlank t ptr start → EndsBlank edition t next end →
-      ((n : ℕ) → Deeper edition t in_lines n next → ⊥) → Stretch (is_run_place t) place to →
+      Stretch (is_run_place t) place to →
       AddsLastText t place to stop new longer → ReadsShort edition t old ptr longer end
-  line_reads ptr longer blank lines shallow w (text_added some nonblank items) =
-      text_reads w some ptr longer blank lines shallow nonblank items
-  line_reads ptr longer blank lines shallow w (text_blank some falls same) =
-      subst (λ ps. ReadsShort edition t old ptr ps end) (sym same) (blank_reads w some ptr blank lines shallow falls)
-  line_reads ptr longer blank lines shallow w (text_empty none same) =
-      subst (λ ps. ReadsShort edition t old ptr ps end) (sym same) (placed_reads none ptr blank lines shallow)
+  line_reads ptr longer blank lines w (text_added some nonblank items) =
+      text_reads w some ptr longer blank lines nonblank items
+  line_reads ptr longer blank lines w (text_blank some falls same) =
+      subst (λ ps. ReadsShort edition t old ptr ps end) (sym same) (blank_reads w some ptr blank lines falls)
+  line_reads ptr longer blank lines w (text_empty none same) =
+      subst (λ ps. ReadsShort edition t old ptr ps end) (sym same) (placed_reads none ptr blank lines)
 
 -- ---- a pattern that holds nothing
 
 module _ (edition : Edition) (t : List ℕ) (parts : List ShortPart) (ptr start : ℕ) (blank : InlineBlank t ptr start)
   where
     pub empty_reads : (found : Option ℕ) → IfSome found (OpensAs edition t start None) →
-        IfSome found (λ _. (n : ℕ) → Deeper edition t in_layout n start → ⊥) →
         IfSome found (λ end. ReadsShort edition t parts ptr parts end)
-    empty_reads None opens shallow = tt
-    empty_reads (Some end) opens shallow = record {
+    empty_reads None opens = tt
+    empty_reads (Some end) opens = record {
       elements = [];
       items = sym (append-nil parts);
-      read = opens ptr blank;
-      flat = λ n d. shallow (suc n) (pattern_led edition t start blank d);
+      read = λ n. opens (suc n) ptr blank;
     }

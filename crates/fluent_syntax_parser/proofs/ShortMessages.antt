@@ -11,13 +11,12 @@ use Rattle.fluent_syntax_tree.specs.declared.edition.Edition.{Edition}
 use Rattle.fluent_syntax_grammar.specs.Bytes.{hash, hyphen, is_letter}
 use Rattle.fluent_syntax_grammar.specs.Construct.{Outcome, Read, ◌>>=◌, given, goes_on}
 use Rattle.fluent_syntax_grammar.specs.Elements.{if_any}
-use Rattle.fluent_syntax_grammar.specs.Entries.{attribute, attribute_with, attributes, message_with, one_more}
-use Rattle.fluent_syntax_grammar.specs.Grammar.{pattern}
-use Rattle.fluent_syntax_grammar.specs.Nesting.{Deeper, attribute_head, in_attributes}
+use Rattle.fluent_syntax_grammar.specs.Entries as entries
+use Rattle.fluent_syntax_grammar.specs.Entries.{attribute_with, message_with, one_more}
+use Rattle.fluent_syntax_grammar.specs.Grammar.{within}
+use Rattle.fluent_syntax_grammar.specs.Patterns.{pattern}
 use Rattle.fluent_syntax_grammar.specs.Places.{has, has_byte}
 use Rattle.fluent_syntax_grammar.proofs.Facts.{excludes}
-use Rattle.fluent_syntax_grammar.proofs.Shallow.{attribute_led, attributes_led}
-use Rattle.fluent_syntax_parser.proofs.Shallows.{not_first}
 use Rattle.fluent_syntax_parser.specs.ShortMessages.{GathersAttributes, ReadsAttribute, ReadsAttributes}
 use Rattle.fluent_syntax_parser.specs.ShortMessages.{leading_elements, short_attributes}
 use Rattle.fluent_syntax_parser.specs.ShortMessages.{short_element, short_message}
@@ -70,12 +69,13 @@ some_pattern [] some = absurd (some refl)
 some_pattern (e ∷ es) some = refl
 
 module _ (edition : Edition) (t : List ℕ) (i behind end : ℕ) (name : Span) (old mid new : List ShortPart) where
-  pub attribute_of : attribute_head t i (Read tt behind) →
-      ((o : Outcome (AttributeTree Span)) → (pattern edition t >>= λ value. attribute_with name value) behind o →
-      attribute edition t i o) →
+  pub attribute_of :
+      ((n : ℕ) (o : Outcome (AttributeTree Span)) →
+      (pattern edition t (within edition t (suc n)) >>= λ value. attribute_with name value) behind o →
+      entries.attribute_of edition t (within edition t (suc n)) i o) →
       ReadsShort edition t mid behind new end → mid ≡ old ++ Attribute name ∷ [] → (new ≡ mid → ⊥) →
       ReadsAttribute edition t old i new end
-  attribute_of head whole r named longer =
+  attribute_of whole r named longer =
       let some : r.elements ≡ [] → ⊥ = λ none.
       longer (r.items ∙ (ap (λ es. mid ++ map Element es) none ∙ append-nil mid)) in
       record {
@@ -85,8 +85,7 @@ module _ (edition : Edition) (t : List ℕ) (i behind end : ℕ) (name : Span) (
             r.items
             ∙ (ap (λ ps. ps ++ map Element r.elements) named
             ∙ append_assoc old (Attribute name ∷ []) (map Element r.elements));
-        read = let value = rw (some_pattern r.elements some) at r.read in whole _ (goes_on value given);
-        flat = λ n d. r.flat n (attribute_led edition t behind head d);
+        read = λ n. let value = rw (some_pattern r.elements some) at (r.read n) in whole n _ (goes_on value given);
       }
 
 -- ---- attributes, one after the other
@@ -101,7 +100,7 @@ module _ (edition : Edition) (t : List ℕ) (old : List ShortPart) (i : ℕ) whe
           added = g.added ++ behind;
           items = a.items ∙ (ap (λ ps. ps ++ behind) g.items ∙ append_assoc old g.added behind);
           named = elements_to_name (λ s. s) g.added a.name (map Element a.elements) ∙ g.named;
-          read = λ rest end h.
+          read = λ n rest end h.
               rw (
                 one_attribute_more (λ s. s) g.added a.name a.elements,
                 append_assoc (short_attributes (λ s. s) g.added) (record {
@@ -109,18 +108,16 @@ module _ (edition : Edition) (t : List ℕ) (old : List ShortPart) (i : ℕ) whe
                   value = elements_of (map (short_element (λ s. s)) a.elements);
                 } ∷ []) rest,
               )
-              (g.read _ end (one_more a.read h));
-          flat = λ n d. not_first (a.flat n) (attributes_led edition t _ k a.read (g.flat n d));
+              (g.read n _ end (one_more (a.read n) h));
         }
 
-    pub no_attribute_more : attributes edition t j (Read [] j) → ((n : ℕ) → Deeper edition t in_attributes n j → ⊥) →
+    pub no_attribute_more : ((n : ℕ) → entries.attributes_of edition t (within edition t (suc n)) j (Read [] j)) →
         ReadsAttributes edition t old i mid j
-    no_attribute_more none shallow = record {
+    no_attribute_more none = record {
       added = g.added;
       items = g.items;
       named = g.named;
-      read = rw (← append-nil (short_attributes (λ s. s) g.added)) (g.read [] j none);
-      flat = λ n d. shallow (suc n) (g.flat n d);
+      read = λ n. rw (← append-nil (short_attributes (λ s. s) g.added)) (g.read n [] j (none n));
     }
 
 -- ---- the last part of such a message

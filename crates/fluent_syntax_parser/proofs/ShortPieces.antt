@@ -9,13 +9,12 @@ use Rattle.fluent_syntax_tree.specs.declared.edition.Edition.{Edition}
 use Rattle.fluent_syntax_tree.specs.declared.spans.Span.{Span}
 use Rattle.fluent_syntax_grammar.specs.Bytes.{left_brace}
 use Rattle.fluent_syntax_grammar.specs.Construct.{Read, given, goes_on, item_and_more}
-use Rattle.fluent_syntax_grammar.specs.Grammar.{more_pieces, placeable}
+use Rattle.fluent_syntax_grammar.specs.Family.{Family, placeable}
+use Rattle.fluent_syntax_grammar.specs.Grammar.{within}
 use Rattle.fluent_syntax_grammar.specs.Layout.{Piece, placed}
-use Rattle.fluent_syntax_grammar.specs.Lines.{is_run_place}
-use Rattle.fluent_syntax_grammar.specs.Nesting.{Deeper, in_pieces}
+use Rattle.fluent_syntax_grammar.specs.Lines.{is_run_place, more_pieces}
 use Rattle.fluent_syntax_grammar.specs.Places.{Stretch, has_byte}
 use Rattle.fluent_syntax_grammar.proofs.Facts.{byte_found, equal}
-use Rattle.fluent_syntax_grammar.proofs.Shallow.{placed_led, run_led}
 use Rattle.fluent_syntax_parser.proofs.Gathers.{map_more}
 use Rattle.fluent_syntax_parser.proofs.Pieces.{placed_piece}
 use Rattle.fluent_syntax_parser.proofs.ShortPatterns.{run_before}
@@ -84,12 +83,12 @@ module _ (t : List ℕ) (m : ℕ) (brace : has_byte t left_brace m ≡ true) whe
       let f = byte_found (λ b. b == left_brace) (slice_get t m) brace in
       f.1 ∙ ap Some (equal f.0 left_brace f.2)
 
-  placed_before : (edition : Edition) (e : ExpressionTree Span) (k : ℕ) → placeable edition t m (Read e k) →
-      (more : List Piece) (end : ℕ) → more_pieces edition t k (Read more end) →
-      more_pieces edition t m (Read (placed e ∷ more) end)
-  placed_before edition e k read more end h =
+  placed_before : (R : Family) (e : ExpressionTree Span) (k : ℕ) → placeable t R m (Read e k) →
+      (more : List Piece) (end : ℕ) → more_pieces t R k (Read more end) →
+      more_pieces t R m (Read (placed e ∷ more) end)
+  placed_before R e k read more end h =
       item_and_more
-      (placed_piece edition t m left_brace brace_byte (begins_no_line_end t m left_brace refl refl brace) refl _
+      (placed_piece t R m left_brace brace_byte (begins_no_line_end t m left_brace refl refl brace) refl _
       (goes_on read given))
       h
 
@@ -100,9 +99,8 @@ module _ (t : List ℕ) (old : List ShortPart) (i : ℕ) where
   no_pieces = record {
     elements = [];
     items = sym (append-nil old);
-    read = λ edition more end h. h;
+    read = λ edition n more end h. h;
     ends = inl refl;
-    flat = λ edition n d. d;
   }
 
   module _ (mid new : List ShortPart) (j m k : ℕ) (g : GathersPieces t old i mid j)
@@ -112,17 +110,11 @@ module _ (t : List ℕ) (old : List ShortPart) (i : ℕ) where
     and_placed same longer = record {
       elements = g.elements ++ x ∷ [];
       items = more_items old mid new g.elements x g.items longer;
-      read = λ edition more end h. rw (map_more short_piece g.elements x more, p.is)
-          (g.read edition _ _
-          (subst (λ a. more_pieces edition t a (Read (placed p.expression ∷ more) end)) (sym same)
-          (placed_before t m brace edition p.expression k (p.read edition) more end h)));
+      read = λ edition n more end h. rw (map_more short_piece g.elements x more, p.is)
+          (g.read edition n _ _
+          (subst (λ a. more_pieces t (within edition t (suc n)) a (Read (placed p.expression ∷ more) end)) (sym same)
+          (placed_before t m brace (within edition t (suc n)) p.expression k (p.read edition n) more end h)));
       ends = inr (g.elements, x, p.expression, refl, p.is);
-      flat = λ edition n d.
-          elim (placed_led edition t p.expression k (p.read edition)
-          (subst (λ a. Deeper edition t in_pieces (suc n) a) same (g.flat edition n d))) [
-            | inl f ↦ absurd (p.flat edition n f)
-            | inr f ↦ f
-          ];
     }
 
     module _ (run : Stretch (is_run_place t) j m) (some : j < m) where
@@ -135,21 +127,14 @@ module _ (t : List ℕ) (old : List ShortPart) (i : ℕ) where
         elements = (g.elements ++ text ∷ []) ++ x ∷ [];
         items = more_items old (mid ++ Element text ∷ []) new (g.elements ++ text ∷ []) x
             (more_items old mid (mid ++ Element text ∷ []) g.elements text g.items refl) longer;
-        read = λ edition more end h.
+        read = λ edition n more end h.
             rw (
               map_more short_piece (g.elements ++ text ∷ []) x more,
               map_more short_piece g.elements text (short_piece x ∷ more),
               p.is,
             )
-            (g.read edition _ _
-            (run_before edition t j m run some _ _
-            (placed_before t m brace edition p.expression k (p.read edition) more end h)));
+            (g.read edition n _ _
+            (run_before t (within edition t (suc n)) j m run some _ _
+            (placed_before t m brace (within edition t (suc n)) p.expression k (p.read edition n) more end h)));
         ends = inr (g.elements ++ text ∷ [], x, p.expression, refl, p.is);
-        flat = λ edition n d.
-            let first = run.each j (omega arith) some in
-            elim (placed_led edition t p.expression k (p.read edition)
-            (run_led edition t m first run (g.flat edition n d))) [
-              | inl f ↦ absurd (p.flat edition n f)
-              | inr f ↦ f
-            ];
       }

@@ -11,15 +11,15 @@ use Rattle.fluent_syntax_grammar.specs.Arguments.{accessor, call_arguments}
 use Rattle.fluent_syntax_grammar.specs.Bytes.{cr, dollar_sign, full_stop, hyphen, left_brace, left_parenthesis, lf}
 use Rattle.fluent_syntax_grammar.specs.Bytes.{right_brace, space}
 use Rattle.fluent_syntax_grammar.specs.Construct.{Read, chosen, given, goes_on, passed, first, second, failed}
-use Rattle.fluent_syntax_grammar.specs.Grammar.{family, inline_expression, placeable}
-use Rattle.fluent_syntax_grammar.specs.Nesting.{Deeper, in_call, in_inline_expression, in_placeable}
+use Rattle.fluent_syntax_grammar.specs.Family.{Family, placeable}
+use Rattle.fluent_syntax_grammar.specs.Grammar.{within}
+use Rattle.fluent_syntax_grammar.specs.Inline.{inline_expression}
 use Rattle.fluent_syntax_grammar.specs.Placeables.{has_arrow, is_term_attribute}
 use Rattle.fluent_syntax_grammar.specs.Places.{Blank, InlineBlank, has_byte, has_eol, holds, is_blank_place}
 use Rattle.fluent_syntax_grammar.specs.Starts.{dollar, letter, start, term}
 use Rattle.fluent_syntax_grammar.specs.Words.{identifier, optional, token}
 use Rattle.fluent_syntax_grammar.proofs.Facts.{excludes, lt_or_same}
-use Rattle.fluent_syntax_grammar.proofs.Nesting.{into_expression}
-use Rattle.fluent_syntax_grammar.proofs.Shallow.{call_stuck, letter_led, no_arrow, placeable_led, plain_start, term_led}
+use Rattle.fluent_syntax_parser.proofs.Fails.{inside_suc}
 use Rattle.fluent_syntax_parser.proofs.InlineStarts.{by_start}
 use Rattle.fluent_syntax_parser.specs.ShortPieces.{Closes, ReadsPlaced}
 use Rattle.fluent_syntax_parser.specs.declared.short.ShortElement.TheVariants.{Variable, Message, Term}
@@ -76,7 +76,7 @@ byte_is_no_stop (Some c) false e = grind (arith, nat_tests)
 blank_is_no_stop : (t : List ℕ) (i : ℕ) → is_blank_place t i ≡ true → has_byte t full_stop i ≡ false
 blank_is_no_stop t i blank = byte_is_no_stop (slice_get t i) _ blank
 
-module _ (edition : Edition) (t : List ℕ) (i j : ℕ) (c : Closes t i j) where
+module _ (t : List ℕ) (R : Family) (i j : ℕ) (c : Closes t i j) where
   no_accessor_before : accessor t i (Read None i)
   no_accessor_before =
       let none : has_byte t full_stop i ≡ false = elim (lt_or_same i c.close c.blank.forward) [
@@ -91,30 +91,24 @@ module _ (edition : Edition) (t : List ℕ) (i j : ℕ) (c : Closes t i j) where
       goes_on (absent t c.close full_stop (no_other_byte t c.close right_brace full_stop refl c.there))
       (second refl given)
 
-  no_call : call_arguments t (family edition t) i (Read no_arguments c.close)
+  no_call : call_arguments t R i (Read no_arguments c.close)
   no_call =
       goes_on (passed c.blank)
       (goes_on (absent t c.close left_parenthesis (no_other_byte t c.close right_brace left_parenthesis refl c.there))
       (second refl given))
 
-  call_flat : (n : ℕ) → Deeper edition t in_call n i → ⊥
-  call_flat n = call_stuck edition t _ _ _
-      (goes_on (passed c.blank)
-      (goes_on (absent t c.close left_parenthesis (no_other_byte t c.close right_brace left_parenthesis refl c.there))
-      (second refl (failed refl))))
-
 -- ---- the placeable of an inline expression
 
-module _ (edition : Edition) (t : List ℕ) (i inside mark : ℕ) (brace : token t left_brace i (Read tt inside))
+module _ (edition : Edition) (t : List ℕ) (n i inside mark : ℕ) (brace : token t left_brace i (Read tt inside))
     (blank : Blank t inside mark) (e : InlineTree Span) (plain : is_term_attribute e ≡ false) (end close : ℕ)
-    (read : inline_expression edition t mark (Read e end)) (after : Blank t end close)
+    (read : inline_expression t (within edition t n) mark (Read e end)) (after : Blank t end close)
     (there : has_byte t right_brace close ≡ true) where
-  placed_read : placeable edition t i (Read (inline e) (close + 1))
+  placed_read : placeable t (within edition t (suc n)) i (Read (inline e) (close + 1))
   placed_read =
       goes_on brace
       (goes_on (passed blank)
       (goes_on
-      (into_expression edition t mark _
+      (inside_suc edition t n mark _
       (goes_on read
       (goes_on (passed after)
       (goes_on (chosen given)
@@ -123,12 +117,6 @@ module _ (edition : Edition) (t : List ℕ) (i inside mark : ℕ) (brace : token
       (goes_on (passed (inline_blank_at_close t close there))
       (goes_on (present t close right_brace there)
       given))))
-
-  placed_flat : (n : ℕ) → (Deeper edition t in_inline_expression n mark → ⊥) →
-      Deeper edition t in_placeable (suc n) i → ⊥
-  placed_flat n none d =
-      none (no_arrow edition t e end close read after (no_arrow_at_close t close there)
-      (placeable_led edition t (omega arith) (goes_on brace (passed blank)) d))
 
 -- ---- by its mark
 
@@ -143,52 +131,34 @@ module _ (t : List ℕ) (i inside mark : ℕ) (brace : token t left_brace i (Rea
   reads_variable is sign = record {
     expression = inline (variable_reference span);
     is = refl;
-    read = λ edition.
-        let read = by_start edition t mark dollar _ is (goes_on sign (goes_on name given)) in
-        rw c.behind (placed_read edition t i inside mark brace blank _ refl end c.close read c.blank c.there);
-    flat = λ edition n.
-        let read = by_start edition t mark dollar _ is (goes_on sign (goes_on name given)) in
-        placed_flat edition t i inside mark brace blank _ refl end c.close read c.blank c.there n
-        (plain_start edition t is (λ f. cc) (λ f. cc) (λ f. cc));
+    read = λ edition n.
+        let read = by_start t (within edition t n) mark dollar _ is (goes_on sign (goes_on name given)) in
+        rw c.behind (placed_read edition t n i inside mark brace blank _ refl end c.close read c.blank c.there);
   }
 
   pub reads_message : letter ≡ start t mark → from ≡ mark → ReadsPlaced t i (Message span) j
   reads_message is same = record {
     expression = inline (message_reference span None);
     is = refl;
-    read = λ edition.
+    read = λ edition n.
         let word = subst (λ k. identifier t k (Read span end)) same name in
-        let read = by_start edition t mark letter _ is
-        (goes_on word (goes_on (no_call edition t end j c) (goes_on (no_accessor_behind edition t end j c) given))) in
-        rw c.behind (placed_read edition t i inside mark brace blank _ refl c.close c.close read
+        let read = by_start t (within edition t n) mark letter _ is
+        (goes_on word (goes_on (no_call t (within edition t n) end j c)
+            (goes_on (no_accessor_behind t (within edition t n) end j c) given))) in
+        rw c.behind (placed_read edition t n i inside mark brace blank _ refl c.close c.close read
         (blank_at_close t c.close c.there) c.there);
-    flat = λ edition n.
-        let word = subst (λ k. identifier t k (Read span end)) same name in
-        let read = by_start edition t mark letter _ is
-        (goes_on word (goes_on (no_call edition t end j c) (goes_on (no_accessor_behind edition t end j c) given))) in
-        placed_flat edition t i inside mark brace blank _ refl c.close c.close read
-        (blank_at_close t c.close c.there) c.there n
-        (λ d. call_flat edition t end j c n (letter_led edition t is word d));
   }
 
   pub reads_term : term ≡ start t mark → token t hyphen mark (Read tt from) → ReadsPlaced t i (Term span) j
   reads_term is sign = record {
     expression = inline (term_reference span None no_arguments);
     is = refl;
-    read = λ edition.
-        let read = by_start edition t mark term _ is
+    read = λ edition n.
+        let read = by_start t (within edition t n) mark term _ is
         (goes_on sign
         (goes_on name
-        (goes_on (no_accessor_before edition t end j c) (goes_on (no_call edition t end j c) given)))) in
-        rw c.behind (placed_read edition t i inside mark brace blank _ refl c.close c.close read
+        (goes_on (no_accessor_before t (within edition t n) end j c)
+            (goes_on (no_call t (within edition t n) end j c) given)))) in
+        rw c.behind (placed_read edition t n i inside mark brace blank _ refl c.close c.close read
         (blank_at_close t c.close c.there) c.there);
-    flat = λ edition n.
-        let read = by_start edition t mark term _ is
-        (goes_on sign
-        (goes_on name
-        (goes_on (no_accessor_before edition t end j c) (goes_on (no_call edition t end j c) given)))) in
-        placed_flat edition t i inside mark brace blank _ refl c.close c.close read
-        (blank_at_close t c.close c.there) c.there n
-        (λ d. call_flat edition t end j c n
-        (term_led edition t is (goes_on sign (goes_on name (no_accessor_before edition t end j c))) d));
   }

@@ -144,7 +144,7 @@ module _ (t : List ℕ) (start place to stop : ℕ) (forward : start ≤ place) 
     | inl before ↦ before
     | inr e ↦
         let here = subst (λ p. InlineBlank t ptr p) e blank in
-        differs (run_nonblank edition t place to run some ptr stop here l within) falls
+        differs (run_nonblank t place to run some ptr stop here l within) falls
   ]
 
   -- So does the end of a line that holds something, if no text stands before it.

@@ -6,10 +6,13 @@ use Rattle.fluent_syntax_tree.specs.declared.edition.Edition.{Edition}
 use Rattle.fluent_syntax_tree.specs.declared.errors.ParserError.{ParserError}
 use Rattle.fluent_syntax_tree.specs.declared.spans.Span.{Span}
 use Rattle.fluent_syntax_grammar.specs.Construct.{Read}
-use Rattle.fluent_syntax_grammar.specs.Tiling.{Tile, JunkEnd, failing_place, entry_at, TileAt, reads, refuses}
+use Rattle.fluent_syntax_grammar.specs.Grammar.{family, within}
+use Rattle.fluent_syntax_grammar.specs.Tiling.{entry_in, Tile, JunkEnd, failing_place, entry_at, TileAt, reads, refuses}
 use Rattle.fluent_syntax_grammar.proofs.Boundaries.{text_cuts}
 use Rattle.fluent_syntax_grammar.proofs.SoundStrings.{InText}
 use Rattle.fluent_syntax_grammar.proofs.SoundTiling.{entry_refused, tile_good}
+use Rattle.fluent_syntax_grammar.proofs.IncludedEntries.{included_entry}
+use Rattle.fluent_syntax_grammar.proofs.Nesting.{within_family}
 use Rattle.fluent_syntax_parser.specs.Faults.{fault_of, refused_as}
 use Rattle.fluent_syntax_parser.specs.Meets.{Refuses, kind_at, from_of, to_of}
 use Rattle.fluent_syntax_parser.specs.Rest.{GivesTile, tree_of}
@@ -29,20 +32,22 @@ module _ (edition : Edition) (t : List ℕ) (i j : ℕ) (inside : i < length t) 
       let ended = tile_good edition t (InText t) (text_cuts t) i j tile (omega (arith, inside)) inside stands in
       (ended.onward, ended.place)
 
-  pub gives_entry : (e : Entry Span) → entry_at edition t i (Read (tree_of e) j) → GivesTile edition t i j e None
-  gives_entry e read = record { tile = _; stands = reads read; entry = refl; errors = refl }
+  pub gives_entry : (n : ℕ) (e : Entry Span) → entry_in edition t (within edition t n) i (Read (tree_of e) j) →
+      GivesTile edition t n i j e None
+  gives_entry n e read = record { tile = _; stands = reads read; entry = refl; errors = refl }
 
-  module _ (r : Refusal) (refused : Refuses t (entry_at edition t) i r) where
+  module _ (n : ℕ) (r : Refusal) (refused : Refuses t (entry_in edition t (within edition t n)) i r) where
     pub refused_in_text : r.place ≤ length t
     refused_in_text =
         let same = fails_there t r.fault r.place in
         let here = entry_refused edition t (InText t) (text_cuts t) i _ _ _ (omega (arith, inside))
-        (refused _ _ _ (refl, refl, refl)) in
+        ((included_entry edition t (within edition t n) (family edition t) (within_family edition t n)).part i _
+        (refused _ _ _ (refl, refl, refl))) in
         omega (arith, same, here.in_text)
 
     pub gives_junk : (error : ParserError) → JunkEnd t r.place j →
         fault_of error ≡ Some (refused_as t r (record { start = i; end = j })) →
-        GivesTile edition t i j (Junk (record { start = i; end = j })) (Some error)
+        GivesTile edition t n i j (Junk (record { start = i; end = j })) (Some error)
     gives_junk error end told =
         let there = subst (λ place. JunkEnd t place j) (sym (fails_there t r.fault r.place)) end in
         record {

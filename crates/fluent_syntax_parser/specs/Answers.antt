@@ -5,6 +5,7 @@ use Rattle.fluent_syntax_tree.specs.View.{resource_view}
 use Rattle.fluent_syntax_tree.specs.declared.ast.Resource.{Resource}
 use Rattle.fluent_syntax_tree.specs.declared.edition.Edition.{Edition}
 use Rattle.fluent_syntax_tree.specs.declared.spans.Span.{Span}
+use Rattle.fluent_syntax_grammar.specs.Grammar.{family}
 use Rattle.fluent_syntax_grammar.specs.Tiling.{Tile, Tiled, Tiling, RuntimeTiling}
 use Rattle.fluent_syntax_grammar.specs.Body.{faults, body}
 use Rattle.fluent_syntax_parser.specs.Faults.{fault_of}
@@ -34,7 +35,7 @@ module _ {S X : Type 0} (text : S → X) (whole : BodyTree Span → BodyTree X) 
   -- The answer is that of a tiling of the text, with comments or without.
   abbrev pub AnswersIn : Comments → Edition → List ℕ → Result (Resource S) (ParseFault S) → Type 0
   AnswersIn comments edition t result =
-      (tiles : List Tile) × Tiled t (TileIn comments edition t) 0 tiles × Answers tiles result
+      (tiles : List Tile) × Tiled t (TileIn comments edition t (family edition t)) 0 tiles × Answers tiles result
 
 -- The answer is that of a tiling of the text, with the ranges of its texts as they are.
 abbrev pub AnswersSpans : Edition → List ℕ → Result (Resource Span) (ParseFault Span) → Type 0

@@ -7,6 +7,7 @@ use Rattle.fluent_syntax_tree.specs.declared.spans.Span.{Span}
 use Rattle.fluent_syntax_tree.specs.Spans.{bytes_at}
 use Rattle.fluent_syntax_grammar.specs.Bytes.{lf, cr, space, vertical_bar}
 use Rattle.fluent_syntax_grammar.specs.Construct.{Construct, Read, Refused}
+use Rattle.fluent_syntax_grammar.specs.Nesting.{TooDeep}
 use Rattle.fluent_syntax_grammar.specs.Strings.{after_character}
 use Rattle.fluent_syntax_parser.specs.declared.fault.Fault.{Fault}
 use Rattle.fluent_syntax_parser.specs.declared.fault.Fault.TheVariants as fault
@@ -57,18 +58,9 @@ abbrev pub Shows : List ℕ → Refusal → Kind → ℕ → ℕ → Type 0
 Shows t r k from to =
     (k ≡ kind_at t r.fault r.place) × (from ≡ from_of r.fault r.place) × (to ≡ to_of r.fault r.place)
 
-abbrev pub FaultShows : List ℕ → ReadFault → Kind → ℕ → ℕ → Type 0
-FaultShows t (faults.Refused r) k from to = Shows t r k from to
-FaultShows t faults.TooDeep k from to = ⊥
-FaultShows t faults.Memory k from to = ⊥
-
 -- A construct is refused at i as the refusal shows.
 abbrev pub Refuses : {A : Type 0} → List ℕ → Construct A → ℕ → Refusal → Type 0
 Refuses t c i r = (k : Kind) (from to : ℕ) → Shows t r k from to → c i (Refused k from to)
-
--- the same of a fault, if it shows a refusal
-abbrev pub FaultRefuses : {A : Type 0} → List ℕ → Construct A → ℕ → ReadFault → Type 0
-FaultRefuses t c i f = (k : Kind) (from to : ℕ) → FaultShows t f k from to → c i (Refused k from to)
 
 -- What a reader answers that began at i, and takes no memory, is an outcome of the construct at i. `view` is the value
 -- that an answer stands for.
@@ -76,10 +68,18 @@ abbrev pub Answers : {A X : Type 0} → List ℕ → Construct A → (X → A) �
 Answers t c view i (Ok x) = c i (Read (view x.0) x.1)
 Answers t c view i (Err r) = Refuses t c i r
 
--- the same of a reader that nests or takes memory
+-- A construct is refused at i as the fault shows; or it nests too deeply there, and has no outcome. Of memory nothing
+-- is said.
+pub data Fails {A : Type 0} (t : List ℕ) (c : Construct A) (i : ℕ) : ReadFault → Type 0 where
+  refused : {r : Refusal} → Refuses t c i r → Fails t c i (faults.Refused r)
+  too_deep : TooDeep c i → Fails t c i faults.TooDeep
+  no_memory : Fails t c i faults.Memory
+
+-- The same of a reader that nests or takes memory. Where it says that the construct nests too deeply, that has no
+-- outcome.
 abbrev pub Meets : {A X : Type 0} → List ℕ → Construct A → (X → A) → ℕ → Result (X × ℕ) ReadFault → Type 0
 Meets t c view i (Ok x) = c i (Read (view x.0) x.1)
-Meets t c view i (Err f) = FaultRefuses t c i f
+Meets t c view i (Err f) = Fails t c i f
 
 -- the same of a reader of what has no value
 abbrev pub MeetsEnd : List ℕ → Construct (Unit {0}) → ℕ → Result ℕ Refusal → Type 0
@@ -90,24 +90,6 @@ MeetsEnd t c i (Err r) = Refuses t c i r
 abbrev pub MeetsText : List ℕ → Construct Span → ℕ → Result ℕ Refusal → Type 0
 MeetsText t c i (Ok j) = c i (Read (record { start = i; end = j }) j)
 MeetsText t c i (Err r) = Refuses t c i r
-
--- It nests too deeply only where more bytes are left than it may nest.
-abbrev pub NestsWithin : (nesting left : ℕ) → ReadFault → Type 0
-NestsWithin nesting left f = f ≡ faults.TooDeep → nesting < left
-
--- Where it nests too deeply, this holds.
-abbrev pub OnTooDeep : Type 0 → ReadFault → Type 0
-OnTooDeep deeper f = f ≡ faults.TooDeep → deeper
-
--- Where it is read or refused, this doesn't hold.
-abbrev pub FaultShallow : Type 0 → ReadFault → Type 0
-FaultShallow deeper (faults.Refused r) = deeper → ⊥
-FaultShallow deeper faults.TooDeep = Unit {0}
-FaultShallow deeper faults.Memory = Unit {0}
-
-abbrev pub Shallow : {A : Type 0} → Type 0 → Result A ReadFault → Type 0
-Shallow deeper (Ok x) = deeper → ⊥
-Shallow deeper (Err f) = FaultShallow deeper f
 
 -- The fault is one of the kind, and lies at its place; or there is none.
 abbrev pub FaultIs : List ℕ → ℕ → Option Fault → Option Kind → Type 0

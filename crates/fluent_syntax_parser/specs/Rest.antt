@@ -7,7 +7,10 @@ use Rattle.fluent_syntax_tree.specs.declared.edition.Edition.{Edition}
 use Rattle.fluent_syntax_tree.specs.declared.errors.ParserError.{ParserError}
 use Rattle.fluent_syntax_tree.specs.declared.spans.Span.{Span}
 use Rattle.fluent_syntax_grammar.specs.Body.{alone, body, faults}
-use Rattle.fluent_syntax_grammar.specs.Tiling.{Fault, Tile, entry, Tiled, TileAt, RuntimeTileAt}
+use Rattle.fluent_syntax_grammar.specs.Family.{Family}
+use Rattle.fluent_syntax_grammar.specs.Grammar.{family, within}
+use Rattle.fluent_syntax_grammar.specs.Tiling as tiling
+use Rattle.fluent_syntax_grammar.specs.Tiling.{Fault, Tile, entry, Tiled, TileAt, RuntimeTileIn}
 use Rattle.fluent_syntax_parser.specs.Faults.{fault_of}
 use Rattle.fluent_syntax_parser.specs.declared.options.Comments.{Comments}
 use Rattle.fluent_syntax_parser.specs.declared.options.Comments.TheVariants.{Kept, Dropped}
@@ -31,16 +34,16 @@ abbrev pub are_dropped : Comments → Bool
 are_dropped Kept = false
 are_dropped Dropped = true
 
--- the tile that stands somewhere, with comments or without
-abbrev pub TileIn : Comments → Edition → List ℕ → (i j : ℕ) → Tile → Type 0
-TileIn Kept edition t = TileAt edition t
-TileIn Dropped edition t = RuntimeTileAt edition t
+-- the tile that stands somewhere, with comments or without, over a family
+abbrev pub TileIn : Comments → Edition → List ℕ → Family → (i j : ℕ) → Tile → Type 0
+TileIn Kept edition t R = tiling.TileIn edition t R
+TileIn Dropped edition t R = RuntimeTileIn edition t R
 
--- A tile stands from i to j, and gives that entry and that error, if there is one.
-pub record GivesTile (edition : Edition) (t : List ℕ) (i j : ℕ) (e : Entry Span) (error : Option ParserError) :
+-- A tile that nests no deeper than n stands from i to j, and gives that entry and that error, if there is one.
+pub record GivesTile (edition : Edition) (t : List ℕ) (n i j : ℕ) (e : Entry Span) (error : Option ParserError) :
     Type 0 where
   pub tile : Tile
-  pub stands : TileAt edition t i j tile
+  pub stands : tiling.TileIn edition t (within edition t n) i j tile
   pub entry : alone tile ≡ tree_of e ∷ []
   pub errors : map Some (faults (tile ∷ [])) ≡ faults_of error
 
@@ -48,7 +51,7 @@ pub record GivesTile (edition : Edition) (t : List ℕ) (i j : ℕ) (e : Entry S
 pub record Rest (comments : Comments) (edition : Edition) (t : List ℕ) (i : ℕ) (entries : BodyTree Span)
     (errors : List (Option Fault)) : Type 0 where
   pub tiles : List Tile
-  pub tiled : Tiled t (TileIn comments edition t) i tiles
+  pub tiled : Tiled t (TileIn comments edition t (family edition t)) i tiles
   pub gives : body tiles ≡ entries
   pub tells : map Some (faults tiles) ≡ errors
 
@@ -58,11 +61,15 @@ pub data Standing (t : List ℕ) (at : (i j : ℕ) → Tile → Type 0) : ℕ �
   at_tile : {i end : ℕ} {tile : Tile} {tiles : List Tile} → i < length t → at i end tile → Tiled t at end tiles →
       Standing t at i (tile ∷ tiles)
 
--- The same from a place on, at which no blank block is left.
+-- From a place on, at which no blank block is left, the tiles nest deeper than n.
+abbrev pub TileDeeper : Edition → (t : List ℕ) → (at : Family → (i j : ℕ) → Tile → Type 0) → (n i : ℕ) → Type 0
+TileDeeper edition t at n i = (tiles : List Tile) → Standing t (at (within edition t n)) i tiles → ⊥
+
+-- The rest from a place on, at which no blank block is left.
 pub record RestAt (comments : Comments) (edition : Edition) (t : List ℕ) (i : ℕ) (entries : BodyTree Span)
     (errors : List (Option Fault)) : Type 0 where
   pub tiles : List Tile
-  pub standing : Standing t (TileIn comments edition t) i tiles
+  pub standing : Standing t (TileIn comments edition t (family edition t)) i tiles
   pub gives : body tiles ≡ entries
   pub tells : map Some (faults tiles) ≡ errors
 

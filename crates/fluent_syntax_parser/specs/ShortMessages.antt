@@ -7,8 +7,8 @@ use Rattle.fluent_syntax_tree.specs.declared.edition.Edition.{Edition}
 use Rattle.fluent_syntax_tree.specs.declared.spans.Span.{Span}
 use Rattle.fluent_syntax_grammar.specs.Construct.{Read}
 use Rattle.fluent_syntax_grammar.specs.Elements.{if_any}
-use Rattle.fluent_syntax_grammar.specs.Entries.{attribute, attributes}
-use Rattle.fluent_syntax_grammar.specs.Nesting.{Deeper, in_attribute, in_attributes}
+use Rattle.fluent_syntax_grammar.specs.Entries.{attribute_of, attributes_of}
+use Rattle.fluent_syntax_grammar.specs.Grammar.{within}
 use Rattle.fluent_syntax_parser.specs.declared.short.ShortElement.{ShortElement}
 use Rattle.fluent_syntax_parser.specs.declared.short.ShortElement.TheVariants.{Text, Variable, Message, Term}
 use Rattle.fluent_syntax_parser.specs.declared.short.ShortPart.{ShortPart}
@@ -50,10 +50,8 @@ pub record ReadsAttribute (edition : Edition) (t : List ℕ) (old : List ShortPa
   pub name : Span
   pub elements : List ShortElement
   pub items : new ≡ old ++ Attribute name ∷ map Element elements
-  pub read :
-      attribute edition t i
+  pub read : (n : ℕ) → attribute_of edition t (within edition t (suc n)) i
       (Read (record { id = name; value = elements_of (map (short_element (λ s. s)) elements) }) j)
-  pub flat : (n : ℕ) → Deeper edition t in_attribute (suc n) i → ⊥
 
 -- From the one place to the other stand the attributes that the list holds behind the parts that were there, before
 -- those that follow; likewise.
@@ -62,9 +60,9 @@ pub record GathersAttributes (edition : Edition) (t : List ℕ) (old : List Shor
   pub added : List ShortPart
   pub items : new ≡ old ++ added
   pub named : leading_elements (λ s. s) added ≡ []
-  pub read : (rest : List (AttributeTree Span)) (end : ℕ) → attributes edition t j (Read rest end) →
-      attributes edition t i (Read (short_attributes (λ s. s) added ++ rest) end)
-  pub flat : (n : ℕ) → Deeper edition t in_attributes (suc n) i → Deeper edition t in_attributes (suc n) j
+  pub read : (n : ℕ) (rest : List (AttributeTree Span)) (end : ℕ) →
+      attributes_of edition t (within edition t (suc n)) j (Read rest end) →
+      attributes_of edition t (within edition t (suc n)) i (Read (short_attributes (λ s. s) added ++ rest) end)
 
 -- The same where none follows.
 pub record ReadsAttributes (edition : Edition) (t : List ℕ) (old : List ShortPart) (i : ℕ) (new : List ShortPart)
@@ -72,5 +70,5 @@ pub record ReadsAttributes (edition : Edition) (t : List ℕ) (old : List ShortP
   pub added : List ShortPart
   pub items : new ≡ old ++ added
   pub named : leading_elements (λ s. s) added ≡ []
-  pub read : attributes edition t i (Read (short_attributes (λ s. s) added) j)
-  pub flat : (n : ℕ) → Deeper edition t in_attributes (suc n) i → ⊥
+  pub read : (n : ℕ) →
+      attributes_of edition t (within edition t (suc n)) i (Read (short_attributes (λ s. s) added) j)

@@ -6,7 +6,9 @@ use Rattle.fluent_syntax_tree.specs.declared.edition.Edition.{Edition}
 use Rattle.fluent_syntax_tree.specs.declared.spans.Span.{Span}
 use Rattle.fluent_syntax_grammar.specs.Construct.{Read}
 use Rattle.fluent_syntax_grammar.specs.Elements.{cut, line_items}
-use Rattle.fluent_syntax_grammar.specs.Grammar.{more_lines, pattern}
+use Rattle.fluent_syntax_grammar.specs.Grammar.{within}
+use Rattle.fluent_syntax_grammar.specs.Lines.{more_lines}
+use Rattle.fluent_syntax_grammar.specs.Patterns.{pattern}
 use Rattle.fluent_syntax_grammar.specs.Layout.{Line}
 use Rattle.fluent_syntax_grammar.specs.Places.{after_eol, InlineBlank}
 
@@ -17,18 +19,23 @@ pub data EndsLine (t : List ℕ) (to : ℕ) : ℕ → ℕ → Type 0 where
   with_crlf : {next : ℕ} → after_eol t to ≡ Some next → (next ≡ to + 1 → ⊥) → EndsLine t to to next
   with_text : after_eol t to ≡ None → to ≡ length t → EndsLine t to to to
 
--- The pattern that opens with an inline blank up to the place is that one or none, and ends there.
+-- The pattern that opens with an inline blank up to the place is that one or none, and ends there. Nothing nests in it.
 abbrev pub OpensAs : Edition → List ℕ → ℕ → Option (PatternTree Span) → ℕ → Type 0
-OpensAs edition t start value end = (i : ℕ) → InlineBlank t i start → pattern edition t i (Read value end)
+OpensAs edition t start value end =
+    (n i : ℕ) → InlineBlank t i start → pattern edition t (within edition t n) i (Read value end)
+
+-- No line of a pattern stands from the line's start on, and it ends at the other place.
+abbrev pub NoLines : Edition → List ℕ → (i end : ℕ) → Type 0
+NoLines edition t i end = (n : ℕ) → more_lines t (within edition t n) i (Read [] end)
 
 -- None of the items of the lines stays under any common indent, where nothing follows them.
 abbrev pub AreBlank : Edition → List ℕ → List Line → Type 0
 AreBlank edition t ls = (common : Option ℕ) → cut t (flat_map (line_items edition common) ls) ≡ []
 
--- All lines of the pattern that are left from the place on are blank, and it ends there.
+-- All lines of the pattern that are left from the place on are blank, and it ends there. So nothing nests in them.
 pub record EndsBlank (edition : Edition) (t : List ℕ) (i end : ℕ) : Type 0 where
   pub lines : List Line
-  pub read : more_lines edition t i (Read lines end)
+  pub read : (n : ℕ) → more_lines t (within edition t n) i (Read lines end)
   pub blank : AreBlank edition t lines
 
 -- the pattern of one text

@@ -8,9 +8,11 @@ use Rattle.fluent_syntax_tree.specs.declared.spans.Span.{Span}
 use Rattle.fluent_syntax_grammar.specs.Bytes.{right_brace}
 use Rattle.fluent_syntax_grammar.specs.Construct.{Read}
 use Rattle.fluent_syntax_grammar.specs.Elements.{Item, filled, if_any, is_nonblank, text, trimmed_end}
-use Rattle.fluent_syntax_grammar.specs.Grammar.{more_pieces, pattern, placeable}
+use Rattle.fluent_syntax_grammar.specs.Family.{placeable}
+use Rattle.fluent_syntax_grammar.specs.Grammar.{within}
 use Rattle.fluent_syntax_grammar.specs.Layout.{Piece, run, placed}
-use Rattle.fluent_syntax_grammar.specs.Nesting.{Deeper, in_pattern, in_pieces, in_placeable}
+use Rattle.fluent_syntax_grammar.specs.Lines.{more_pieces}
+use Rattle.fluent_syntax_grammar.specs.Patterns.{pattern}
 use Rattle.fluent_syntax_grammar.specs.Places.{Blank, has_byte}
 use Rattle.fluent_syntax_parser.specs.ShortMessages.{short_element}
 use Rattle.fluent_syntax_parser.specs.declared.short.ShortElement.{ShortElement}
@@ -38,12 +40,12 @@ pub record Closes (t : List ℕ) (i j : ℕ) : Type 0 where
   pub there : has_byte t right_brace close ≡ true
   pub behind : j ≡ close + 1
 
--- The element is a placeable that is read from the one place to the other, in which nothing else opens.
+-- The element is a placeable that is read from the one place to the other, where one may stand: nothing else opens in
+-- it.
 pub record ReadsPlaced (t : List ℕ) (i : ℕ) (x : ShortElement) (j : ℕ) : Type 0 where
   pub expression : ExpressionTree Span
   pub is : short_piece x ≡ placed expression
-  pub read : (edition : Edition) → placeable edition t i (Read expression j)
-  pub flat : (edition : Edition) (n : ℕ) → Deeper edition t in_placeable (suc n) i → ⊥
+  pub read : (edition : Edition) (n : ℕ) → placeable t (within edition t (suc n)) i (Read expression j)
 
 -- The list grew where the condition holds, and is as it was where it does not.
 pub data GrowsWhere (P : Type 0) (old new : List ShortPart) : Type 0 where
@@ -67,15 +69,14 @@ NoTextIsLast es =
     (es ≡ before ++ x ∷ []) × (short_piece x ≡ placed e))
 
 -- Behind the parts that were there the list holds the elements of a line from the one place up to the other, which no
--- text ends, and in which no placeable holds another.
+-- text ends. No placeable in it holds another.
 pub record GathersPieces (t : List ℕ) (old : List ShortPart) (i : ℕ) (new : List ShortPart) (j : ℕ) : Type 0 where
   pub elements : List ShortElement
   pub items : new ≡ old ++ map Element elements
-  pub read : (edition : Edition) (more : List Piece) (end : ℕ) →
-      more_pieces edition t j (Read more end) →
-      more_pieces edition t i (Read (map short_piece elements ++ more) end)
+  pub read : (edition : Edition) (n : ℕ) (more : List Piece) (end : ℕ) →
+      more_pieces t (within edition t (suc n)) j (Read more end) →
+      more_pieces t (within edition t (suc n)) i (Read (map short_piece elements ++ more) end)
   pub ends : NoTextIsLast elements
-  pub flat : (edition : Edition) (n : ℕ) → Deeper edition t in_pieces (suc n) i → Deeper edition t in_pieces (suc n) j
 
 -- A pattern from the one place to the other has the elements that the list holds behind the parts that were there, and
 -- no placeable in it holds another.
@@ -83,5 +84,5 @@ pub record ReadsShort (edition : Edition) (t : List ℕ) (old : List ShortPart) 
     Type 0 where
   pub elements : List ShortElement
   pub items : new ≡ old ++ map Element elements
-  pub read : pattern edition t i (Read (if_any (map (short_element (λ s. s)) elements)) j)
-  pub flat : (n : ℕ) → Deeper edition t in_pattern (suc n) i → ⊥
+  pub read : (n : ℕ) →
+      pattern edition t (within edition t (suc n)) i (Read (if_any (map (short_element (λ s. s)) elements)) j)

@@ -2,13 +2,13 @@
 ghost use Rattle.std.specs.Prelude.{◌≡◌, ◌-◌, ◌<◌, ◌≤◌, [], length, IfErr, IfOk};
 ghost use Rattle.fluent_syntax_tree.specs.Spans.{bytes_at};
 ghost use Rattle.fluent_syntax_tree.specs.View.{arguments_view, inline_view};
-ghost use Rattle.fluent_syntax_grammar.specs.Arguments.{argument_value, is_used, separator};
+ghost use Rattle.fluent_syntax_grammar.specs.Arguments.{argument_value, is_used, more_arguments, separator};
 ghost use Rattle.fluent_syntax_grammar.specs.Construct.{Read, at_each};
-ghost use Rattle.fluent_syntax_grammar.specs.Grammar.{call_arguments, family, more_arguments};
-ghost use Rattle.fluent_syntax_grammar.specs.Nesting.{Deeper, in_arguments, in_call, in_value};
+ghost use Rattle.fluent_syntax_grammar.specs.Family.{call_arguments};
+ghost use Rattle.fluent_syntax_grammar.specs.Grammar.{within};
 ghost use Rattle.fluent_syntax_grammar.specs.Starts.{start};
 ghost use Rattle.fluent_syntax_parser.specs.Gathered.{maybe_view, names_in_order};
-ghost use Rattle.fluent_syntax_parser.specs.Meets.{Meets, NestsWithin, OnTooDeep, Shallow};
+ghost use Rattle.fluent_syntax_parser.specs.Meets.{Meets};
 
 use crate::fault::{Fault, ReadFault, Refusal};
 use crate::forms::argument_name;
@@ -55,13 +55,9 @@ impl<'s> Source<'s> {
     ) -> Result<(InlineExpression<Span>, usize), ReadFault>
         requires { ptr ≤ length self.now.bytes.now }
         ensures meets { let t = self.now.bytes.now in
-            Meets t (at_each (start t) (argument_value t (family edition t))) (inline_view (λ s. s)) ptr result }
+            Meets t (at_each (start t) (argument_value t (within edition t nesting)))
+                (inline_view (λ s. s)) ptr result }
         ensures within { IfOk result (λ read. (ptr < read.1) × (read.1 ≤ length self.now.bytes.now)) }
-        ensures nests { IfErr result (NestsWithin nesting (length self.now.bytes.now - ptr)) }
-        ensures deeper { let t = self.now.bytes.now in
-            IfErr result (OnTooDeep (Deeper edition t in_value nesting ptr)) }
-        ensures shallow { let t = self.now.bytes.now in
-            Shallow (Deeper edition t in_value nesting ptr) result }
     {
         match self.start(ptr) {
             Start::Quote | Start::Digit | Start::Letter => {
@@ -86,13 +82,8 @@ impl<'s> Source<'s> {
     ) -> Result<(CallArguments<Span>, usize), ReadFault>
         requires { ptr ≤ length self.now.bytes.now }
         ensures meets { let t = self.now.bytes.now in
-            Meets t (more_arguments edition t []) (arguments_view (λ s. s)) ptr result }
+            Meets t (more_arguments t (within edition t nesting) []) (arguments_view (λ s. s)) ptr result }
         ensures within { IfOk result (λ read. (ptr < read.1) × (read.1 ≤ length self.now.bytes.now)) }
-        ensures nests { IfErr result (NestsWithin nesting (length self.now.bytes.now - ptr)) }
-        ensures deeper { let t = self.now.bytes.now in
-            IfErr result (OnTooDeep (Deeper edition t (in_arguments []) nesting ptr)) }
-        ensures shallow { let t = self.now.bytes.now in
-            Shallow (Deeper edition t (in_arguments []) nesting ptr) result }
     {
         let mut positional = Vec::new(alloc);
         let mut named = Vec::new(alloc);
@@ -143,13 +134,8 @@ impl<'s> Source<'s> {
     ) -> Result<(Option<CallArguments<Span>>, usize), ReadFault>
         requires { ptr ≤ length self.now.bytes.now }
         ensures meets { let t = self.now.bytes.now in
-            Meets t (call_arguments edition t) maybe_view ptr result }
+            Meets t (call_arguments t (within edition t nesting)) maybe_view ptr result }
         ensures within { IfOk result (λ read. (ptr ≤ read.1) × (read.1 ≤ length self.now.bytes.now)) }
-        ensures nests { IfErr result (NestsWithin nesting (length self.now.bytes.now - ptr)) }
-        ensures deeper { let t = self.now.bytes.now in
-            IfErr result (OnTooDeep (Deeper edition t in_call nesting ptr)) }
-        ensures shallow { let t = self.now.bytes.now in
-            Shallow (Deeper edition t in_call nesting ptr) result }
     {
         let start = self.skip_blank(ptr);
         let (bracket, start) = self.take_byte_if(b'(', start);

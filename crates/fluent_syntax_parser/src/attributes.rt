@@ -1,9 +1,9 @@
 //! Attributes.
 ghost use Rattle.std.specs.Prelude.{◌-◌, ◌<◌, ◌≤◌, length, map, IfErr, IfOk};
 ghost use Rattle.fluent_syntax_tree.specs.View.{attribute_view};
-ghost use Rattle.fluent_syntax_grammar.specs.Entries.{attribute, attributes};
-ghost use Rattle.fluent_syntax_grammar.specs.Nesting.{Deeper, in_attribute, in_attributes};
-ghost use Rattle.fluent_syntax_parser.specs.Meets.{Meets, NestsWithin, OnTooDeep, Shallow};
+ghost use Rattle.fluent_syntax_grammar.specs.Entries.{attribute_of, attributes_of};
+ghost use Rattle.fluent_syntax_grammar.specs.Grammar.{within};
+ghost use Rattle.fluent_syntax_parser.specs.Meets.{Meets};
 
 use crate::fault::{Fault, ReadFault, Refusal};
 use crate::source::Source;
@@ -22,13 +22,8 @@ impl<'s> Source<'s> {
     ) -> Result<(Attribute<Span>, usize), ReadFault>
         requires { ptr ≤ length self.now.bytes.now }
         ensures meets { let t = self.now.bytes.now in
-            Meets t (attribute edition t) (attribute_view (λ s. s)) ptr result }
+            Meets t (attribute_of edition t (within edition t nesting)) (attribute_view (λ s. s)) ptr result }
         ensures within { IfOk result (λ read. (ptr < read.1) × (read.1 ≤ length self.now.bytes.now)) }
-        ensures nests { IfErr result (NestsWithin nesting (length self.now.bytes.now - ptr)) }
-        ensures deeper { let t = self.now.bytes.now in
-            IfErr result (OnTooDeep (Deeper edition t in_attribute nesting ptr)) }
-        ensures shallow { let t = self.now.bytes.now in
-            Shallow (Deeper edition t in_attribute nesting ptr) result }
     {
         let dot = self.skip_blank_inline(ptr);
         let start = self.expect_byte(b'.', dot)?;
@@ -59,13 +54,9 @@ impl<'s> Source<'s> {
     ) -> Result<(Vec<Attribute<Span>>, usize), ReadFault>
         requires { ptr ≤ length self.now.bytes.now }
         ensures meets { let t = self.now.bytes.now in
-            Meets t (attributes edition t) (λ found. map (attribute_view (λ s. s)) found.items) ptr result }
+            Meets t (attributes_of edition t (within edition t nesting))
+            (λ found. map (attribute_view (λ s. s)) found.items) ptr result }
         ensures within { IfOk result (λ read. (ptr ≤ read.1) × (read.1 ≤ length self.now.bytes.now)) }
-        ensures nests { IfErr result (NestsWithin nesting (length self.now.bytes.now - ptr)) }
-        ensures deeper { let t = self.now.bytes.now in
-            IfErr result (OnTooDeep (Deeper edition t in_attributes nesting ptr)) }
-        ensures shallow { let t = self.now.bytes.now in
-            Shallow (Deeper edition t in_attributes nesting ptr) result }
     {
         let mut attributes = Vec::new(alloc);
         let mut place = ptr;

@@ -1,6 +1,5 @@
 //! Comments.
 ghost use Rattle.std.specs.Prelude.{◌≡◌, ◌+◌, ◌++◌, ◌<◌, ◌≤◌, length, IfErr, IfOk, OnOk};
-ghost use Rattle.fluent_syntax_parser.specs.declared.fault.ReadFault.TheVariants.{TooDeep};
 ghost use Rattle.fluent_syntax_tree.specs.Entry.{comment};
 ghost use Rattle.fluent_syntax_tree.specs.View.{entry_view};
 ghost use Rattle.fluent_syntax_grammar.specs.Comments.{comment_entry, comment_line, comment_of, hashes, level_of};
@@ -34,7 +33,6 @@ impl<'s> Source<'s> {
         requires hash { 0 < hashes self.now.bytes.now ptr }
         ensures meets { let t = self.now.bytes.now in Meets t (comment_entry t) (entry_view (λ s. s)) ptr result }
         ensures within { IfOk result (λ read. (ptr < read.1) × (read.1 ≤ length self.now.bytes.now)) }
-        ensures shallow { IfErr result (λ fault. fault ≡ TooDeep → ⊥) }
     {
         let level = self.comment_level(ptr);
         let (content, end) = self.get_comment_content(alloc, level, ptr)?;
@@ -76,7 +74,6 @@ impl<'s> Source<'s> {
         ensures meets { let t = self.now.bytes.now in
             Meets t (comment_of t level) (λ lines. comment (level_of level) lines.items) ptr result }
         ensures within { IfOk result (λ read. (ptr < read.1) × (read.1 ≤ length self.now.bytes.now)) }
-        ensures shallow { IfErr result (λ fault. fault ≡ TooDeep → ⊥) }
     {
         let (first, mut end) = self.get_comment_line(level, ptr)?;
         let mut content = Vec::new(alloc);

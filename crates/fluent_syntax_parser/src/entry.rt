@@ -1,9 +1,9 @@
 //! Entries.
 ghost use Rattle.std.specs.Prelude.{◌-◌, ◌<◌, ◌≤◌, length, IfErr, IfOk};
 ghost use Rattle.fluent_syntax_tree.specs.View.{entry_view};
-ghost use Rattle.fluent_syntax_grammar.specs.Nesting.{Deeper, in_entry};
-ghost use Rattle.fluent_syntax_grammar.specs.Tiling.{entry_at};
-ghost use Rattle.fluent_syntax_parser.specs.Meets.{Meets, NestsWithin, OnTooDeep, Shallow};
+ghost use Rattle.fluent_syntax_grammar.specs.Grammar.{within};
+ghost use Rattle.fluent_syntax_grammar.specs.Tiling.{entry_in};
+ghost use Rattle.fluent_syntax_parser.specs.Meets.{Meets};
 
 use crate::fault::ReadFault;
 use crate::options::Options;
@@ -22,13 +22,9 @@ impl<'s> Source<'s> {
     ) -> Result<(Entry<Span>, usize), ReadFault>
         requires { start ≤ length self.now.bytes.now }
         ensures meets { let t = self.now.bytes.now in
-            Meets t (entry_at options.edition t) (entry_view (λ s. s)) start result }
+            Meets t (entry_in options.edition t (within options.edition t options.nesting)) (entry_view (λ s. s)) start
+            result }
         ensures within { IfOk result (λ read. (start < read.1) × (read.1 ≤ length self.now.bytes.now)) }
-        ensures nests { IfErr result (NestsWithin options.nesting (length self.now.bytes.now - start)) }
-        ensures deeper { let t = self.now.bytes.now in
-            IfErr result (OnTooDeep (Deeper options.edition t in_entry options.nesting start)) }
-        ensures shallow { let t = self.now.bytes.now in
-            Shallow (Deeper options.edition t in_entry options.nesting start) result }
     {
         if self.is_byte_at(b'#', start) {
             self.get_comment(alloc, start)

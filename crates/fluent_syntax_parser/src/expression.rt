@@ -2,12 +2,13 @@
 ghost use Rattle.std.specs.Prelude.{◌≡◌, ◌-◌, ◌<◌, ◌≤◌, length, IfErr, IfOk};
 ghost use Rattle.fluent_syntax_tree.specs.View.{expression_view, inline_view};
 ghost use Rattle.fluent_syntax_grammar.specs.Construct.{at_each};
-ghost use Rattle.fluent_syntax_grammar.specs.Grammar.{expression, inline_expression, placeable};
-ghost use Rattle.fluent_syntax_grammar.specs.Nesting.{Deeper, in_expression, in_inline_expression, in_placeable};
-ghost use Rattle.fluent_syntax_grammar.specs.Placeables.{arrow_line_end, has_arrow};
+ghost use Rattle.fluent_syntax_grammar.specs.Family.{placeable};
+ghost use Rattle.fluent_syntax_grammar.specs.Grammar.{within};
+ghost use Rattle.fluent_syntax_grammar.specs.Inline.{inline_expression};
+ghost use Rattle.fluent_syntax_grammar.specs.Placeables.{arrow_line_end, expression, has_arrow};
 ghost use Rattle.fluent_syntax_grammar.specs.Places.{after_eol};
 ghost use Rattle.fluent_syntax_grammar.specs.Starts.{letter, start, term};
-ghost use Rattle.fluent_syntax_parser.specs.Meets.{Meets, MeetsEnd, NestsWithin, OnTooDeep, Shallow};
+ghost use Rattle.fluent_syntax_parser.specs.Meets.{Meets, MeetsEnd};
 
 use crate::fault::{Fault, ReadFault, Refusal};
 use crate::forms::{is_term_attribute, selector_fault};
@@ -31,13 +32,8 @@ impl<'s> Source<'s> {
         requires within { ptr ≤ length self.now.bytes.now }
         requires starts { term ≡ start self.now.bytes.now ptr }
         ensures meets { let t = self.now.bytes.now in
-            Meets t (inline_expression edition t) (inline_view (λ s. s)) ptr result }
+            Meets t (inline_expression t (within edition t nesting)) (inline_view (λ s. s)) ptr result }
         ensures within { IfOk result (λ read. (ptr < read.1) × (read.1 ≤ length self.now.bytes.now)) }
-        ensures nests { IfErr result (NestsWithin nesting (length self.now.bytes.now - ptr)) }
-        ensures deeper { let t = self.now.bytes.now in
-            IfErr result (OnTooDeep (Deeper edition t in_inline_expression nesting ptr)) }
-        ensures shallow { let t = self.now.bytes.now in
-            Shallow (Deeper edition t in_inline_expression nesting ptr) result }
     {
         let start = self.expect_byte(b'-', ptr)?;
         let end = self.identifier_end(start)?;
@@ -68,13 +64,8 @@ impl<'s> Source<'s> {
         requires within { ptr ≤ length self.now.bytes.now }
         requires starts { letter ≡ start self.now.bytes.now ptr }
         ensures meets { let t = self.now.bytes.now in
-            Meets t (inline_expression edition t) (inline_view (λ s. s)) ptr result }
+            Meets t (inline_expression t (within edition t nesting)) (inline_view (λ s. s)) ptr result }
         ensures within { IfOk result (λ read. (ptr < read.1) × (read.1 ≤ length self.now.bytes.now)) }
-        ensures nests { IfErr result (NestsWithin nesting (length self.now.bytes.now - ptr)) }
-        ensures deeper { let t = self.now.bytes.now in
-            IfErr result (OnTooDeep (Deeper edition t in_inline_expression nesting ptr)) }
-        ensures shallow { let t = self.now.bytes.now in
-            Shallow (Deeper edition t in_inline_expression nesting ptr) result }
     {
         let end = self.identifier_end(ptr)?;
         let id = Identifier {
@@ -96,13 +87,8 @@ impl<'s> Source<'s> {
     ) -> Result<(InlineExpression<Span>, usize), ReadFault>
         requires { ptr ≤ length self.now.bytes.now }
         ensures meets { let t = self.now.bytes.now in
-            Meets t (inline_expression edition t) (inline_view (λ s. s)) ptr result }
+            Meets t (inline_expression t (within edition t nesting)) (inline_view (λ s. s)) ptr result }
         ensures within { IfOk result (λ read. (ptr < read.1) × (read.1 ≤ length self.now.bytes.now)) }
-        ensures nests { IfErr result (NestsWithin nesting (length self.now.bytes.now - ptr)) }
-        ensures deeper { let t = self.now.bytes.now in
-            IfErr result (OnTooDeep (Deeper edition t in_inline_expression nesting ptr)) }
-        ensures shallow { let t = self.now.bytes.now in
-            Shallow (Deeper edition t in_inline_expression nesting ptr) result }
     {
         match self.start(ptr) {
             Start::Quote => {
@@ -171,13 +157,8 @@ impl<'s> Source<'s> {
     ) -> Result<(Expression<Span>, usize), ReadFault>
         requires { ptr ≤ length self.now.bytes.now }
         ensures meets { let t = self.now.bytes.now in
-            Meets t (expression edition t) (expression_view (λ s. s)) ptr result }
+            Meets t (expression edition t (within edition t nesting)) (expression_view (λ s. s)) ptr result }
         ensures within { IfOk result (λ read. (ptr < read.1) × (read.1 ≤ length self.now.bytes.now)) }
-        ensures nests { IfErr result (NestsWithin nesting (length self.now.bytes.now - ptr)) }
-        ensures deeper { let t = self.now.bytes.now in
-            IfErr result (OnTooDeep (Deeper edition t in_expression nesting ptr)) }
-        ensures shallow { let t = self.now.bytes.now in
-            Shallow (Deeper edition t in_expression nesting ptr) result }
     {
         let (expression, ptr) = self.get_inline_expression(alloc, edition, nesting, ptr)?;
         let ptr = self.skip_blank(ptr);
@@ -214,13 +195,8 @@ impl<'s> Source<'s> {
     ) -> Result<(Expression<Span>, usize), ReadFault>
         requires { ptr ≤ length self.now.bytes.now }
         ensures meets { let t = self.now.bytes.now in
-            Meets t (placeable edition t) (expression_view (λ s. s)) ptr result }
+            Meets t (placeable t (within edition t nesting)) (expression_view (λ s. s)) ptr result }
         ensures within { IfOk result (λ read. (ptr < read.1) × (read.1 ≤ length self.now.bytes.now)) }
-        ensures nests { IfErr result (NestsWithin nesting (length self.now.bytes.now - ptr)) }
-        ensures deeper { let t = self.now.bytes.now in
-            IfErr result (OnTooDeep (Deeper edition t in_placeable nesting ptr)) }
-        ensures shallow { let t = self.now.bytes.now in
-            Shallow (Deeper edition t in_placeable nesting ptr) result }
     {
         let start = self.expect_byte(b'{', ptr)?;
         if nesting == 0 {

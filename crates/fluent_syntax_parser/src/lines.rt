@@ -2,12 +2,11 @@
 ghost use Rattle.std.specs.Prelude.{◌≡◌, ◌+◌, ◌-◌, ◌<◌, ◌≤◌, length, map, slice_get, IfErr, IfOk, None, Some, false};
 ghost use Rattle.std.specs.Prelude.{◌==◌, if◌then◌else◌};
 ghost use Rattle.fluent_syntax_grammar.specs.Construct.{Read};
-ghost use Rattle.fluent_syntax_grammar.specs.Grammar.{more_lines, more_pieces};
+ghost use Rattle.fluent_syntax_grammar.specs.Grammar.{within};
 ghost use Rattle.fluent_syntax_grammar.specs.Layout.{crlf_at, lf_at};
-ghost use Rattle.fluent_syntax_grammar.specs.Lines.{belongs, ending, is_run_place};
+ghost use Rattle.fluent_syntax_grammar.specs.Lines.{belongs, ending, is_run_place, more_lines, more_pieces};
 ghost use Rattle.fluent_syntax_grammar.specs.Places.{has_eol, Stretch, Word};
-ghost use Rattle.fluent_syntax_parser.specs.Meets.{Meets, NestsWithin, OnTooDeep, Shallow};
-ghost use Rattle.fluent_syntax_grammar.specs.Nesting.{Deeper, in_lines, in_pieces};
+ghost use Rattle.fluent_syntax_parser.specs.Meets.{Meets};
 ghost use Rattle.fluent_syntax_parser.specs.Endings.{EndsWithin};
 ghost use Rattle.fluent_syntax_parser.specs.Lanes.{is_passed};
 ghost use Rattle.fluent_syntax_parser.specs.Lines.{ending_view, line_view, piece_view};
@@ -109,15 +108,10 @@ impl<'s> Source<'s> {
     ) -> Result<(Vec<Piece>, usize), ReadFault>
         requires { ptr ≤ length self.now.bytes.now }
         ensures meets { let t = self.now.bytes.now in
-            Meets t (more_pieces edition t) (λ pieces. map piece_view pieces.items) ptr result }
+            Meets t (more_pieces t (within edition t nesting)) (λ pieces. map piece_view pieces.items) ptr result }
         ensures within { IfOk result (λ read. (ptr ≤ read.1) × (read.1 ≤ length self.now.bytes.now)) }
         ensures stops { let t = self.now.bytes.now in
             IfOk result (λ read. has_eol t read.1 ≡ false → slice_get t read.1 ≡ None) }
-        ensures nests { IfErr result (NestsWithin nesting (length self.now.bytes.now - ptr)) }
-        ensures deeper { let t = self.now.bytes.now in
-            IfErr result (OnTooDeep (Deeper edition t in_pieces nesting ptr)) }
-        ensures shallow { let t = self.now.bytes.now in
-            Shallow (Deeper edition t in_pieces nesting ptr) result }
     {
         let mut pieces = Vec::new(alloc);
         let mut place = ptr;
@@ -161,13 +155,8 @@ impl<'s> Source<'s> {
     ) -> Result<(Vec<Line>, usize), ReadFault>
         requires { ptr ≤ length self.now.bytes.now }
         ensures meets { let t = self.now.bytes.now in
-            Meets t (more_lines edition t) (λ lines. map line_view lines.items) ptr result }
+            Meets t (more_lines t (within edition t nesting)) (λ lines. map line_view lines.items) ptr result }
         ensures within { IfOk result (λ read. (ptr ≤ read.1) × (read.1 ≤ length self.now.bytes.now)) }
-        ensures nests { IfErr result (NestsWithin nesting (length self.now.bytes.now - ptr)) }
-        ensures deeper { let t = self.now.bytes.now in
-            IfErr result (OnTooDeep (Deeper edition t in_lines nesting ptr)) }
-        ensures shallow { let t = self.now.bytes.now in
-            Shallow (Deeper edition t in_lines nesting ptr) result }
     {
         let mut lines = Vec::new(alloc);
         let mut start = ptr;

@@ -2,10 +2,10 @@
 ghost use Rattle.std.specs.Prelude.{◌-◌, ◌<◌, ◌≤◌, length, IfErr, IfOk};
 ghost use Rattle.fluent_syntax_tree.specs.Entry.{message, term};
 ghost use Rattle.fluent_syntax_tree.specs.View.{message_view, term_view};
-ghost use Rattle.fluent_syntax_grammar.specs.Entries.{message_entry, term_entry};
-ghost use Rattle.fluent_syntax_grammar.specs.Nesting.{Deeper, in_fields, in_message, in_term};
+ghost use Rattle.fluent_syntax_grammar.specs.Entries.{message_of, term_of};
+ghost use Rattle.fluent_syntax_grammar.specs.Grammar.{within};
 ghost use Rattle.fluent_syntax_parser.specs.Fields.{fields, fields_view};
-ghost use Rattle.fluent_syntax_parser.specs.Meets.{Meets, NestsWithin, OnTooDeep, Shallow};
+ghost use Rattle.fluent_syntax_parser.specs.Meets.{Meets};
 
 use crate::fault::{Fault, ReadFault, Refusal};
 use crate::source::Source;
@@ -31,13 +31,9 @@ impl<'s> Source<'s> {
         ptr: usize,
     ) -> Result<(Fields, usize), ReadFault>
         requires { ptr ≤ length self.now.bytes.now }
-        ensures meets { let t = self.now.bytes.now in Meets t (fields edition t) fields_view ptr result }
+        ensures meets { let t = self.now.bytes.now in
+            Meets t (fields edition t (within edition t nesting)) fields_view ptr result }
         ensures within { IfOk result (λ read. (ptr < read.1) × (read.1 ≤ length self.now.bytes.now)) }
-        ensures nests { IfErr result (NestsWithin nesting (length self.now.bytes.now - ptr)) }
-        ensures deeper { let t = self.now.bytes.now in
-            IfErr result (OnTooDeep (Deeper edition t in_fields nesting ptr)) }
-        ensures shallow { let t = self.now.bytes.now in
-            Shallow (Deeper edition t in_fields nesting ptr) result }
     {
         let equals = self.skip_blank_inline(ptr);
         let start = self.expect_byte(b'=', equals)?;
@@ -56,13 +52,9 @@ impl<'s> Source<'s> {
     ) -> Result<(Message<Span>, usize), ReadFault>
         requires { start ≤ length self.now.bytes.now }
         ensures meets { let t = self.now.bytes.now in
-            Meets t (message_entry edition t) (λ m. message (message_view (λ s. s) m)) start result }
+            Meets t (message_of edition t (within edition t nesting)) (λ m. message (message_view (λ s. s) m)) start
+            result }
         ensures within { IfOk result (λ read. (start < read.1) × (read.1 ≤ length self.now.bytes.now)) }
-        ensures nests { IfErr result (NestsWithin nesting (length self.now.bytes.now - start)) }
-        ensures deeper { let t = self.now.bytes.now in
-            IfErr result (OnTooDeep (Deeper edition t in_message nesting start)) }
-        ensures shallow { let t = self.now.bytes.now in
-            Shallow (Deeper edition t in_message nesting start) result }
     {
         let end = self.identifier_end(start)?;
         let name = Span { start, end };
@@ -92,13 +84,8 @@ impl<'s> Source<'s> {
     ) -> Result<(Term<Span>, usize), ReadFault>
         requires { start ≤ length self.now.bytes.now }
         ensures meets { let t = self.now.bytes.now in
-            Meets t (term_entry edition t) (λ m. term (term_view (λ s. s) m)) start result }
+            Meets t (term_of edition t (within edition t nesting)) (λ m. term (term_view (λ s. s) m)) start result }
         ensures within { IfOk result (λ read. (start < read.1) × (read.1 ≤ length self.now.bytes.now)) }
-        ensures nests { IfErr result (NestsWithin nesting (length self.now.bytes.now - start)) }
-        ensures deeper { let t = self.now.bytes.now in
-            IfErr result (OnTooDeep (Deeper edition t in_term nesting start)) }
-        ensures shallow { let t = self.now.bytes.now in
-            Shallow (Deeper edition t in_term nesting start) result }
     {
         let letter = self.expect_byte(b'-', start)?;
         let end = self.identifier_end(letter)?;

@@ -4,11 +4,11 @@ ghost use Rattle.std.specs.Prelude.{List, Option, IsSomeAnd};
 ghost use Rattle.fluent_syntax_tree.specs.Entry.{BodyTree};
 ghost use Rattle.fluent_syntax_tree.specs.declared.edition.Edition.{Edition};
 ghost use Rattle.fluent_syntax_grammar.specs.Bytes.{hash};
-ghost use Rattle.fluent_syntax_grammar.specs.Nesting.{TextDeeper, TileDeeper};
+ghost use Rattle.fluent_syntax_grammar.specs.Nesting.{TextDeeper};
 ghost use Rattle.fluent_syntax_grammar.specs.Places.{BlankBlock, has_byte};
 ghost use Rattle.fluent_syntax_grammar.specs.Tiling.{Fault};
 ghost use Rattle.fluent_syntax_parser.specs.Halts.{ComesNext, HaltsWithin, OnHalt};
-ghost use Rattle.fluent_syntax_parser.specs.Rest.{EntryTo, Next, Rest, RestAt, TileIn, are_dropped};
+ghost use Rattle.fluent_syntax_parser.specs.Rest.{EntryTo, Next, Rest, RestAt, TileDeeper, TileIn, are_dropped};
 ghost use Rattle.fluent_syntax_parser.specs.ShortGrammar.{NextStart, ShortMessage};
 ghost use Rattle.fluent_syntax_parser.specs.ShortMessages.{short_message};
 

@@ -3,13 +3,12 @@ ghost use Rattle.std.specs.Prelude.{◌≡◌, ◌-◌, ◌≤◌, ℕ, length, 
 ghost use Rattle.std.specs.Prelude.{[]};
 ghost use Rattle.fluent_syntax_tree.specs.View.{pattern_view};
 ghost use Rattle.fluent_syntax_grammar.specs.Construct.{Read, at_each};
-ghost use Rattle.fluent_syntax_grammar.specs.Grammar.{family, more_lines, pattern};
-ghost use Rattle.fluent_syntax_grammar.specs.Nesting.{Deeper, in_layout, in_lines, in_pattern};
-ghost use Rattle.fluent_syntax_grammar.specs.Patterns.{layout_at};
+ghost use Rattle.fluent_syntax_grammar.specs.Grammar.{more_lines, within};
+ghost use Rattle.fluent_syntax_grammar.specs.Patterns.{layout_at, pattern};
 ghost use Rattle.fluent_syntax_grammar.specs.Places.{BlankBlock, after_eol};
 ghost use Rattle.fluent_syntax_parser.specs.Elements.{layout_view};
-ghost use Rattle.fluent_syntax_parser.specs.Meets.{Meets, NestsWithin, OnTooDeep, Shallow};
-ghost use Rattle.fluent_syntax_parser.specs.ShortPatterns.{EndsBlank, EndsLine, OpensAs, text_pattern};
+ghost use Rattle.fluent_syntax_parser.specs.Meets.{Meets};
+ghost use Rattle.fluent_syntax_parser.specs.ShortPatterns.{EndsBlank, EndsLine, NoLines, OpensAs, text_pattern};
 
 use crate::elements::Layout;
 use crate::fault::ReadFault;
@@ -24,7 +23,7 @@ impl<'s> Source<'s> {
     /// Where a pattern ends that has no line from a line's start on.
     fn end_without_lines(&self, edition: Edition, ptr: usize) -> Option<usize>
         requires { ptr ≤ length self.now.bytes.now }
-        ensures lines { IfSome result (λ end. more_lines edition self.now.bytes.now ptr (Read [] end)) }
+        ensures lines { IfSome result (NoLines edition self.now.bytes.now ptr) }
         ensures stands { (end : ℕ) → more_lines edition self.now.bytes.now ptr (Read [] end) →
             IsSomeAnd result (λ found. found ≡ end) }
         ensures within { IfSome result (λ end. (ptr ≤ end) × (end ≤ length self.now.bytes.now)) }
@@ -79,8 +78,6 @@ impl<'s> Source<'s> {
         ensures stands { let t = self.now.bytes.now in (first end : ℕ) → BlankBlock t ptr first →
             more_lines edition t first (Read [] end) → IsSomeAnd result (λ found. found ≡ end) }
         ensures within { IfSome result (λ end. (ptr ≤ end) × (end ≤ length self.now.bytes.now)) }
-        ensures shallow { IfSome result
-            (λ _. (n : ℕ) → Deeper edition self.now.bytes.now in_lines n ptr → ⊥) }
     {
         let end = self.end_without_lines(edition, self.skip_blank_block(ptr))?;
         Some(end)
@@ -93,8 +90,6 @@ impl<'s> Source<'s> {
         ensures opens { IfSome result
             (λ read. OpensAs edition self.now.bytes.now start (Some (text_pattern read.0)) read.1) }
         ensures within { IfSome result (λ read. (start ≤ read.1) × (read.1 ≤ length self.now.bytes.now)) }
-        ensures shallow { IfSome result
-            (λ _. (n : ℕ) → Deeper edition self.now.bytes.now in_layout n start → ⊥) }
     {
         let to = self.run_end(start);
         if start < to {
@@ -123,8 +118,6 @@ impl<'s> Source<'s> {
             (λ read. OpensAs edition self.now.bytes.now start (Some (pattern_view (λ s. s) read.0)) read.1)) }
         ensures within { IfOk result (λ short. IfSome short
             (λ read. (start ≤ read.1) × (read.1 ≤ length self.now.bytes.now))) }
-        ensures shallow { let t = self.now.bytes.now in IfOk result (λ short. IfSome short
-            (λ _. (n : ℕ) → Deeper edition t in_layout n start → ⊥)) }
     {
         let Some((value, end)) = self.short_text(edition, start) else {
             return Ok(None);
@@ -145,8 +138,6 @@ impl<'s> Source<'s> {
             BlankBlock t next first → more_lines edition t first (Read [] end) →
             IsSomeAnd result (λ found. found ≡ end) }
         ensures within { IfSome result (λ end. (start ≤ end) × (end ≤ length self.now.bytes.now)) }
-        ensures shallow { IfSome result
-            (λ _. (n : ℕ) → Deeper edition self.now.bytes.now in_layout n start → ⊥) }
     {
         let next = self.eol_end(start)?;
         let end = self.end_without_lines(edition, self.skip_blank_block(next))?;
@@ -164,13 +155,8 @@ impl<'s> Source<'s> {
     ) -> Result<(Layout, usize), ReadFault>
         requires { ptr ≤ length self.now.bytes.now }
         ensures meets { let t = self.now.bytes.now in
-            Meets t (at_each (after_eol t) (layout_at t (family edition t))) layout_view ptr result }
+            Meets t (at_each (after_eol t) (layout_at t (within edition t nesting))) layout_view ptr result }
         ensures within { IfOk result (λ read. (ptr ≤ read.1) × (read.1 ≤ length self.now.bytes.now)) }
-        ensures nests { IfErr result (NestsWithin nesting (length self.now.bytes.now - ptr)) }
-        ensures deeper { let t = self.now.bytes.now in
-            IfErr result (OnTooDeep (Deeper edition t in_layout nesting ptr)) }
-        ensures shallow { let t = self.now.bytes.now in
-            Shallow (Deeper edition t in_layout nesting ptr) result }
     {
         match self.eol_end(ptr) {
             Some(next) => {
@@ -211,13 +197,8 @@ impl<'s> Source<'s> {
     ) -> Result<(Option<Pattern<Span>>, usize), ReadFault>
         requires { ptr ≤ length self.now.bytes.now }
         ensures meets { let t = self.now.bytes.now in
-            Meets t (pattern edition t) (option_map (pattern_view (λ s. s))) ptr result }
+            Meets t (pattern edition t (within edition t nesting)) (option_map (pattern_view (λ s. s))) ptr result }
         ensures within { IfOk result (λ read. (ptr ≤ read.1) × (read.1 ≤ length self.now.bytes.now)) }
-        ensures nests { IfErr result (NestsWithin nesting (length self.now.bytes.now - ptr)) }
-        ensures deeper { let t = self.now.bytes.now in
-            IfErr result (OnTooDeep (Deeper edition t in_pattern nesting ptr)) }
-        ensures shallow { let t = self.now.bytes.now in
-            Shallow (Deeper edition t in_pattern nesting ptr) result }
     {
         let start = self.skip_blank_inline(ptr);
         let short = self.get_short_pattern(alloc, edition, start)?;

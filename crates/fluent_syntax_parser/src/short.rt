@@ -3,8 +3,8 @@
 ghost use Rattle.std.specs.Prelude.{◌≡◌, ◌<◌, ◌≤◌, ℕ, suc, length, true, IfOk, IfSome, IsSomeAnd};
 ghost use Rattle.fluent_syntax_grammar.specs.Bytes.{full_stop};
 ghost use Rattle.fluent_syntax_grammar.specs.Construct.{Read};
-ghost use Rattle.fluent_syntax_grammar.specs.Entries.{message_entry};
-ghost use Rattle.fluent_syntax_grammar.specs.Nesting.{Deeper, in_message};
+ghost use Rattle.fluent_syntax_grammar.specs.Entries.{message_of};
+ghost use Rattle.fluent_syntax_grammar.specs.Grammar.{within};
 ghost use Rattle.fluent_syntax_grammar.specs.Places.{InlineBlank};
 ghost use Rattle.fluent_syntax_grammar.specs.Words.{token};
 ghost use Rattle.fluent_syntax_parser.specs.ShortGrammar.{ShortAttributes, ShortField, ShortMessage};
@@ -140,8 +140,8 @@ impl<'s> Source<'s> {
         start: usize,
     ) -> Result<Option<(Span, usize)>, AllocError>
         requires { start ≤ length self.now.bytes.now }
-        ensures meets { IfOk result (λ found. IfSome found (λ read.
-            message_entry edition self.now.bytes.now start
+        ensures meets { let t = self.now.bytes.now in IfOk result (λ found. IfSome found (λ read. (n : ℕ) →
+            message_of edition t (within edition t (suc n)) start
             (Read (short_message (λ s. s) read.0 parts.new.items) read.1))) }
         ensures within { IfOk result (λ found. IfSome found
             (λ read. (start < read.1) × (read.1 ≤ length self.now.bytes.now))) }
@@ -149,8 +149,6 @@ impl<'s> Source<'s> {
             (λ read. ShortMessage edition self.now.bytes.now start read.1)) }
         ensures stands { IfOk result (λ found. (end : ℕ) → ShortMessage edition self.now.bytes.now start end →
             IsSomeAnd found (λ read. read.1 ≡ end)) }
-        ensures flat { IfOk result (λ found. IfSome found
-            (λ _. (n : ℕ) → Deeper edition self.now.bytes.now in_message (suc n) start → ⊥)) }
     {
         let Ok(end) = self.identifier_end(start) else {
             return Ok(None);

@@ -3,8 +3,9 @@ ghost use Rattle.std.specs.Prelude.{◌≡◌, ◌-◌, ◌<◌, ◌≤◌, leng
 ghost use Rattle.fluent_syntax_tree.specs.Entry.{comment, regular};
 ghost use Rattle.fluent_syntax_tree.specs.View.{comment_view};
 ghost use Rattle.fluent_syntax_grammar.specs.Body as bodies;
-ghost use Rattle.fluent_syntax_grammar.specs.Nesting.{Deeper, TextDeeper, in_entry};
-ghost use Rattle.fluent_syntax_grammar.specs.Tiling.{TileAt};
+ghost use Rattle.fluent_syntax_grammar.specs.Grammar.{within};
+ghost use Rattle.fluent_syntax_grammar.specs.Nesting.{TextDeeper, TooDeep};
+ghost use Rattle.fluent_syntax_grammar.specs.Tiling.{TileIn, entry_in};
 ghost use Rattle.fluent_syntax_parser.specs.Halts.{HaltsWithin, OnHalt};
 ghost use Rattle.fluent_syntax_parser.specs.Rest.{GivesTile, Hangs, may_hang, tree_of};
 
@@ -57,13 +58,12 @@ impl<'s> Source<'s> {
     ) -> Result<(Entry<Span>, Option<ParserError>, usize), Halt>
         requires { start < length self.now.bytes.now }
         ensures gives { let t = self.now.bytes.now in
-            IfOk result (λ read. GivesTile options.edition t start read.2 read.0 read.1) }
+            IfOk result (λ read. GivesTile options.edition t options.nesting start read.2 read.0 read.1) }
         ensures within { IfOk result (λ read. (start < read.2) × (read.2 ≤ length self.now.bytes.now)) }
         ensures nests { IfErr result (HaltsWithin options.nesting (length self.now.bytes.now - start)) }
         ensures deeper { let t = self.now.bytes.now in
-            IfErr result (OnHalt (Deeper options.edition t in_entry options.nesting start)) }
-        ensures shallow { let t = self.now.bytes.now in
-            IfOk result (λ _. Deeper options.edition t in_entry options.nesting start → ⊥) }
+            let R = within options.edition t options.nesting in
+            IfErr result (OnHalt (TooDeep (entry_in options.edition t R) start)) }
     {
         match self.get_entry(alloc, options, start) {
             Ok((entry, end)) => Ok((entry, None, end)),
@@ -93,12 +93,12 @@ impl<'s> Source<'s> {
         ensures within { IfOk result (λ read. (ptr ≤ read.1) × (read.1 ≤ length self.now.bytes.now)) }
         ensures nests { IfErr result (HaltsWithin options.nesting (length self.now.bytes.now - ptr)) }
         ensures deeper { let t = self.now.bytes.now in let edition = options.edition in
-            IfErr result (OnHalt (TextDeeper edition t (TileAt edition t) options.nesting ptr)) }
+            IfErr result (OnHalt (TextDeeper edition t (TileIn edition t) options.nesting ptr)) }
         ensures behind { let t = self.now.bytes.now in let edition = options.edition in
-            let deeper = TextDeeper edition t (TileAt edition t) options.nesting in
+            let deeper = TextDeeper edition t (TileIn edition t) options.nesting in
             IfOk result (λ read. deeper read.1 → deeper ptr) }
         ensures shallow { let t = self.now.bytes.now in let edition = options.edition in
-            let deeper = TextDeeper edition t (TileAt edition t) options.nesting in
+            let deeper = TextDeeper edition t (TileIn edition t) options.nesting in
             IfOk result (λ read. deeper ptr → deeper read.1) }
     {
         if self.is_byte_at(b'#', ptr) || self.skip_blank_block(ptr) != ptr {

@@ -1,12 +1,11 @@
 //! The variants of a select.
 ghost use Rattle.std.specs.Prelude.{◌≡◌, ◌-◌, ◌<◌, ◌≤◌, false, length, IfErr, IfOk};
 ghost use Rattle.fluent_syntax_tree.specs.View.{key_view};
-ghost use Rattle.fluent_syntax_grammar.specs.Grammar.{more_variants};
-ghost use Rattle.fluent_syntax_grammar.specs.Nesting.{Deeper, in_variants};
+ghost use Rattle.fluent_syntax_grammar.specs.Grammar.{within};
 ghost use Rattle.fluent_syntax_grammar.specs.Places.{has};
-ghost use Rattle.fluent_syntax_grammar.specs.Variants.{has_default, is_number_start, variant_key};
+ghost use Rattle.fluent_syntax_grammar.specs.Variants.{has_default, is_number_start, more_variants, variant_key};
 ghost use Rattle.fluent_syntax_parser.specs.Gathered.{variants_view};
-ghost use Rattle.fluent_syntax_parser.specs.Meets.{Answers, Meets, NestsWithin, OnTooDeep, Shallow};
+ghost use Rattle.fluent_syntax_parser.specs.Meets.{Answers, Meets};
 
 use crate::fault::{Fault, ReadFault, Refusal};
 use crate::source::Source;
@@ -60,14 +59,9 @@ impl<'s> Source<'s> {
     ) -> Result<(Vec<Variant<Span>>, usize), ReadFault>
         requires { ptr ≤ length self.now.bytes.now }
         ensures meets { let t = self.now.bytes.now in
-            Meets t (more_variants edition t false)
+            Meets t (more_variants edition t (within edition t nesting) false)
             (λ variants. variants_view variants.items) ptr result }
         ensures within { IfOk result (λ read. (ptr ≤ read.1) × (read.1 ≤ length self.now.bytes.now)) }
-        ensures nests { IfErr result (NestsWithin nesting (length self.now.bytes.now - ptr)) }
-        ensures deeper { let t = self.now.bytes.now in
-            IfErr result (OnTooDeep (Deeper edition t (in_variants false) nesting ptr)) }
-        ensures shallow { let t = self.now.bytes.now in
-            Shallow (Deeper edition t (in_variants false) nesting ptr) result }
     {
         let mut variants = Vec::new(alloc);
         let mut starred = false;

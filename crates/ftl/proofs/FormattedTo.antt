@@ -10,6 +10,7 @@ use Rattle.fluent_syntax_tree.specs.declared.ast.Entry.{Entry}
 use Rattle.fluent_syntax_tree.specs.declared.edition.Edition.{Edition}
 use Rattle.fluent_syntax_tree.specs.declared.errors.ParserError.{ParserError}
 use Rattle.fluent_syntax_tree.specs.declared.spans.Span.{Span}
+use Rattle.fluent_syntax_grammar.specs.Grammar.{family}
 use Rattle.fluent_syntax_grammar.specs.Body.{body, faults}
 use Rattle.fluent_syntax_grammar.specs.Tiling.{Fault, Tile, Tiled}
 use Rattle.fluent_syntax_grammar.specs.Written.{Text, written}
@@ -61,7 +62,7 @@ module _ (comments : Comments) (edition : Edition) (t : List ℕ) where
   module _ (i : ℕ) (tree : BodyTree Text) (outcome : Outcome) (formatted : FormattedTo i tree outcome) where
     -- with nothing left, this is the tree of the text
     pub all_formatted : Rest comments edition t i [] [] →
-        (tiles : List Tile) × Tiled t (TileIn comments edition t) 0 tiles ×
+        (tiles : List Tile) × Tiled t (TileIn comments edition t (family edition t)) 0 tiles ×
         (tree ≡ body_map (bytes_at t) (body tiles)) × (outcome ≡ outcome_of tiles)
     all_formatted none =
         let whole = formatted.rest [] [] none in

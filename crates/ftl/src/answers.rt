@@ -6,6 +6,7 @@ ghost use Rattle.fluent_syntax_tree.specs.Entry.{body_map, entry_map};
 ghost use Rattle.fluent_syntax_tree.specs.Every.{entry_every};
 ghost use Rattle.fluent_syntax_tree.specs.Spans.{IsPart, bytes_at};
 ghost use Rattle.fluent_syntax_tree.specs.View.{resource_view};
+ghost use Rattle.fluent_syntax_grammar.specs.Grammar.{family};
 ghost use Rattle.fluent_syntax_grammar.specs.Nesting.{NestsDeeper, TextDeeper};
 ghost use Rattle.fluent_syntax_grammar.specs.Tiling.{Tile, Tiled, Tiling};
 ghost use Rattle.fluent_syntax_json.specs.Form.{body_form};
@@ -211,7 +212,7 @@ fn format(
     nesting: usize,
 ) -> Result<Result<(String, Outcome), RunFault>, TooDeep>
     ensures text { IfOk result (λ answer. IfOk answer (λ given. (tiles : List Tile)
-        × Tiled text.now (TileIn comments edition text.now) 0 tiles
+        × Tiled text.now (TileIn comments edition text.now (family edition text.now)) 0 tiles
         × (string_bytes given.0 ≡ normal_text text.now tiles) × (given.1 ≡ outcome_of tiles))) }
     ensures err { IfOk result (λ answer. IfErr answer (λ fault. fault ≡ RunFault.Memory)) }
     ensures deep { OnErr result (nesting < length text.now) }
@@ -234,7 +235,7 @@ fn format(
 /// The same, written as the entries come: none of them is kept.
 fn normal(alloc: Global, text: &str, options: Options) -> Result<(String, Outcome), Halt>
     ensures text { let t = text.now in IfOk result (λ given. (tiles : List Tile)
-        × Tiled t (TileIn options.comments options.edition t) 0 tiles
+        × Tiled t (TileIn options.comments options.edition t (family options.edition t)) 0 tiles
         × (string_bytes given.0 ≡ normal_text t tiles) × (given.1 ≡ outcome_of tiles)) }
     ensures nests { IfErr result (HaltsWithin options.nesting (length text.now)) }
     ensures deeper { let t = text.now in let at = TileIn options.comments options.edition t in

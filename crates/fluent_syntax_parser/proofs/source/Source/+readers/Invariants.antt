@@ -1,12 +1,14 @@
 use Rattle.std.proofs.Common.{◌+◌, ◌*◌, length, ◌-◌, ◌≤◌, [], false}
-use Rattle.fluent_syntax_grammar.specs.Grammar.{more_arguments, more_lines, more_pieces, more_variants}
-use Rattle.fluent_syntax_grammar.specs.Nesting.{Deeper, in_arguments, in_lines, in_pieces, in_variants}
+use Rattle.fluent_syntax_tree.specs.Tree.{arguments, no_inlines, no_named, no_variants, variants}
+use Rattle.fluent_syntax_grammar.specs.Arguments.{add_argument, next_argument}
+use Rattle.fluent_syntax_grammar.specs.Grammar as grammar
+use Rattle.fluent_syntax_grammar.specs.Lines.{next_line, next_piece}
+use Rattle.fluent_syntax_grammar.specs.Variants.{next_variant}
 use Rattle.fluent_syntax_parser.specs.Lines.{line_view, piece_view}
 use Rattle.fluent_syntax_parser.specs.Gathered.{names_in}
+use Rattle.fluent_syntax_parser.proofs.Behind.{Behind, BehindItems}
 use Rattle.fluent_syntax_parser.proofs.GatheredArguments.{put_arguments}
 use Rattle.fluent_syntax_parser.proofs.GatheredVariants.{put_variants}
-use Rattle.fluent_syntax_parser.proofs.Gathers.{Gathers}
-use Rattle.fluent_syntax_parser.proofs.Puts.{Puts}
 use Rattle.fluent_syntax_parser.proofs.source.Source.+readers.Given as goal
 
 -- how much deeper it may nest, times the number of ranks, and the reader's rank
@@ -59,12 +61,9 @@ invariant-get_arguments-loop-alloc l =
       forward : l.ptr ≤ l.place;
       within : l.place ≤ length t;
       gathered :
-          Puts (more_arguments l.edition t (names_in t l.named.items)) (more_arguments l.edition t [])
-          (put_arguments l.positional.items l.named.items) l.ptr l.place;
-      deeper : Deeper l.edition t (in_arguments (names_in t l.named.items)) l.nesting l.place →
-          Deeper l.edition t (in_arguments []) l.nesting l.ptr;
-      shallow : Deeper l.edition t (in_arguments []) l.nesting l.ptr →
-          Deeper l.edition t (in_arguments (names_in t l.named.items)) l.nesting l.place;
+          Behind t (next_argument t (grammar.within l.edition t l.nesting)) add_argument
+              (arguments no_inlines no_named) [] l.ptr
+          (put_arguments l.positional.items l.named.items) (names_in t l.named.items) l.place;
     }
 
 abbrev pub decreases-get_arguments-loop-alloc : goal.decreases-get_arguments-loop-alloc
@@ -77,12 +76,8 @@ invariant-get_variants-loop-starred l =
       forward : l.ptr ≤ l.place;
       within : l.place ≤ length t;
       gathered :
-          Puts (more_variants l.edition t l.starred) (more_variants l.edition t false)
-          (put_variants l.variants.items) l.ptr l.place;
-      deeper : Deeper l.edition t (in_variants l.starred) l.nesting l.place →
-          Deeper l.edition t (in_variants false) l.nesting l.ptr;
-      shallow : Deeper l.edition t (in_variants false) l.nesting l.ptr →
-          Deeper l.edition t (in_variants l.starred) l.nesting l.place;
+          Behind t (next_variant l.edition t (grammar.within l.edition t l.nesting)) variants no_variants false l.ptr
+          (put_variants l.variants.items) l.starred l.place;
     }
 
 abbrev pub decreases-get_variants-loop-starred : goal.decreases-get_variants-loop-starred
@@ -94,9 +89,7 @@ invariant-get_pieces-loop-pieces l =
     record {
       forward : l.ptr ≤ l.place;
       within : l.place ≤ length t;
-      gathered : Gathers (more_pieces l.edition t) piece_view l.ptr l.pieces.items l.place;
-      deeper : Deeper l.edition t in_pieces l.nesting l.place → Deeper l.edition t in_pieces l.nesting l.ptr;
-      shallow : Deeper l.edition t in_pieces l.nesting l.ptr → Deeper l.edition t in_pieces l.nesting l.place;
+      gathered : BehindItems t (next_piece t (grammar.within l.edition t l.nesting)) piece_view l.ptr l.pieces.items l.place;
     }
 
 abbrev pub decreases-get_pieces-loop-pieces : goal.decreases-get_pieces-loop-pieces
@@ -108,9 +101,7 @@ invariant-get_lines-loop-lines l =
     record {
       forward : l.ptr ≤ l.start;
       within : l.start ≤ length t;
-      gathered : Gathers (more_lines l.edition t) line_view l.ptr l.lines.items l.start;
-      deeper : Deeper l.edition t in_lines l.nesting l.start → Deeper l.edition t in_lines l.nesting l.ptr;
-      shallow : Deeper l.edition t in_lines l.nesting l.ptr → Deeper l.edition t in_lines l.nesting l.start;
+      gathered : BehindItems t (next_line t (grammar.within l.edition t l.nesting)) line_view l.ptr l.lines.items l.start;
     }
 
 abbrev pub decreases-get_lines-loop-lines : goal.decreases-get_lines-loop-lines

@@ -6,11 +6,12 @@ use Rattle.fluent_syntax_parser.proofs.source.Source.end_without_lines.Goals as 
 
 pub returns-in-None-clause-lines : goal.returns-in-None-clause-lines
 returns-in-None-clause-lines c =
-    list_ends (no_byte c.skip_blank_inline-first.ensures.blank (sym c.in-None.ensures))
+    λ n. list_ends (no_byte c.skip_blank_inline-first.ensures.blank (sym c.in-None.ensures))
 
 pub returns-else-belongs-clause-lines : goal.returns-else-belongs-clause-lines
 returns-else-belongs-clause-lines c =
-    list_ends (other_line c.skip_blank_inline-first.ensures.blank (sym c.in-Some.ensures) (sym c.if-belongs.ensures))
+    λ n. list_ends (other_line c.skip_blank_inline-first.ensures.blank (sym c.in-Some.ensures)
+        (sym c.if-belongs.ensures))
 
 pub returns-in-None-clause-stands : goal.returns-in-None-clause-stands
 returns-in-None-clause-stands c = λ end lines.

@@ -4,22 +4,24 @@ use Rattle.fluent_syntax_grammar.specs.Grammar.{more_lines}
 use Rattle.fluent_syntax_grammar.specs.Places.{BlankBlock}
 use Rattle.fluent_syntax_grammar.proofs.Facts.{some_same}
 use Rattle.fluent_syntax_grammar.proofs.Functional.{single_block}
-use Rattle.fluent_syntax_parser.proofs.ShortPatterns.{empty_read, empty_shallow}
+use Rattle.fluent_syntax_parser.proofs.BlankLines.{no_lines_anywhere}
+use Rattle.fluent_syntax_parser.proofs.ShortPatterns.{empty_read}
 use Rattle.fluent_syntax_parser.proofs.source.Source.end_without_text.Goals as goal
 
 pub returns-clause-opens : goal.returns-clause-opens
-returns-clause-opens c = λ i blank.
-    empty_read c.args.edition c.args.self.now.bytes.now _ _ _ _ (sym c.in_ok-next.ensures.eol)
-    c.skip_blank_block.ensures.blank c.in_ok-end.ensures.lines i blank
+returns-clause-opens c = λ n i blank.
+    empty_read c.args.edition c.args.self.now.bytes.now n _ _ _ _ (sym c.in_ok-next.ensures.eol)
+    c.skip_blank_block.ensures.blank (c.in_ok-end.ensures.lines n) i blank
 
 pub returns-clause-left : goal.returns-clause-left
 returns-clause-left c =
-    (_, _, sym c.in_ok-next.ensures.eol, c.skip_blank_block.ensures.blank, c.in_ok-end.ensures.lines)
-
-pub returns-clause-shallow : goal.returns-clause-shallow
-returns-clause-shallow c = λ n.
-    empty_shallow c.args.edition c.args.self.now.bytes.now _ _ _ _ (sym c.in_ok-next.ensures.eol)
-    c.skip_blank_block.ensures.blank c.in_ok-end.ensures.lines n
+    (
+      _,
+      _,
+      sym c.in_ok-next.ensures.eol,
+      c.skip_blank_block.ensures.blank,
+      no_lines_anywhere c.args.edition c.args.self.now.bytes.now _ _ c.in_ok-end.ensures.lines,
+    )
 
 pub returns-in_err-end-clause-stands : goal.returns-in_err-end-clause-stands
 returns-in_err-end-clause-stands c = λ next first end eol block lines.

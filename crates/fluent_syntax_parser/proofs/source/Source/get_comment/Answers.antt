@@ -1,16 +1,18 @@
 use Rattle.std.proofs.Common.{refl, sym, arith}
 use Rattle.std.proofs.lemmas.Result.{err_from_is_err_and}
 use Rattle.fluent_syntax_tree.specs.Entry.{group, regular, resource}
-use Rattle.fluent_syntax_grammar.specs.Construct.{Refused, chosen}
+use Rattle.fluent_syntax_grammar.specs.Comments.{comment_of}
 use Rattle.fluent_syntax_parser.proofs.CommentEntries.{comment_read, level_other}
+use Rattle.fluent_syntax_parser.proofs.Fails.{fails_seen}
 use Rattle.fluent_syntax_parser.proofs.source.Source.get_comment.Goals as goal
 use Rattle.fluent_syntax_parser.proofs.source.Source.get_comment.Goals.{in-1, in-2, in_default}
 
 pub returns-in_err-content-clause-meets : goal.returns-in_err-content-clause-meets
 returns-in_err-content-clause-meets c =
+    let t = c.args.self.now.bytes.now in
     let p = err_from_is_err_and c.from_residual.result c.from_residual.ensures.1 in
-    rw (p.1, p.2) (λ k from to h. chosen {i = c.args.ptr} {o = Refused k from to}
-    (rw (← c.comment_level-level.ensures.level) (c.in_err-content.ensures.meets k from to h)))
+    rw (p.1, p.2)
+    (fails_seen (comment_of t) _ c.comment_level-level.ensures.level c.in_err-content.ensures.meets)
 
 pub returns-clause-meets : goal.returns-clause-meets
 returns-clause-meets c =

@@ -4,12 +4,13 @@ use Rattle.fluent_syntax_grammar.specs.Comments.{one_more, other_level, no_comme
 use Rattle.fluent_syntax_grammar.specs.Construct.{stops, goes_on, given}
 use Rattle.fluent_syntax_grammar.proofs.Facts.{append_nothing}
 use Rattle.fluent_syntax_parser.specs.CommentLines.{line_of}
+use Rattle.fluent_syntax_parser.specs.Meets.{refused}
 use Rattle.fluent_syntax_parser.proofs.source.Source.get_comment_content.Goals as goal
 
 pub returns-in_err-first-clause-meets : goal.returns-in_err-first-clause-meets
 returns-in_err-first-clause-meets c =
     let p = err_from_is_err_and c.from_residual.result c.from_residual.ensures.1 in
-    rw (p.1, p.2) (λ k from to h. stops (c.in_err-first.ensures.meets k from to h))
+    rw (p.1, p.2) (refused (λ k from to h. stops (c.in_err-first.ensures.meets k from to h)))
 
 pub loop-line-init : goal.loop-line-init
 loop-line-init c =

@@ -4,31 +4,30 @@ use Rattle.std.proofs.lemmas.Result.{err_from_is_err_and}
 use Rattle.fluent_syntax_tree.specs.declared.spans.Span.{Span}
 use Rattle.fluent_syntax_grammar.specs.Construct.{stops, goes_on, at_place}
 use Rattle.fluent_syntax_grammar.specs.Entries.{message_with}
-use Rattle.fluent_syntax_parser.proofs.FieldForms.{fields_refused, fields_then, message_of_attributes, message_of_value}
+use Rattle.fluent_syntax_parser.proofs.FieldForms.{fields_fail, fields_then, message_of_attributes, message_of_value}
 use Rattle.fluent_syntax_parser.proofs.FieldForms.{message_without, no_items, some_items}
 use Rattle.fluent_syntax_parser.proofs.source.Source.get_message.Goals.{else-is_none-via-then-is_none+else-is_empty}
 use Rattle.fluent_syntax_parser.proofs.source.Source.get_message.Goals.{else-is_none-via-else-is_none}
-use Rattle.fluent_syntax_grammar.specs.Nesting.{its_message_fields}
-use Rattle.fluent_syntax_grammar.proofs.Shallow.{message_led, message_stuck}
 use Rattle.fluent_syntax_parser.specs.Fields.{fields}
-use Rattle.fluent_syntax_parser.proofs.Shallows.{falls}
+use Rattle.fluent_syntax_grammar.proofs.FunctionalWords.{functional_identifier}
+use Rattle.fluent_syntax_parser.specs.Meets.{refused}
+use Rattle.fluent_syntax_parser.proofs.Fails.{fails_next, functional_here}
 use Rattle.fluent_syntax_parser.proofs.source.Source.get_message.Goals as goal
 
 pub returns-in_err-end-clause-meets : goal.returns-in_err-end-clause-meets
 returns-in_err-end-clause-meets c =
     let p = err_from_is_err_and c.from_residual.result c.from_residual.ensures.1 in
-    rw (p.1, p.2) (λ k from to h. goes_on at_place (stops (c.in_err-end.ensures.meets k from to h)))
+    rw (p.1, p.2) (refused (λ k from to h. goes_on at_place (stops (c.in_err-end.ensures.meets k from to h))))
 
 pub returns-in_err-fields-clause-meets : goal.returns-in_err-fields-clause-meets
 returns-in_err-fields-clause-meets c =
     let t = c.args.self.now.bytes.now in
     let name : Span = record { start = c.args.start; end = c.in_ok-end.end } in
     let p = err_from_is_err_and c.from_residual-in_err-fields.result c.from_residual-in_err-fields.ensures.1 in
-    rw (p.1, p.2) (λ k from to h.
-    goes_on at_place
-    (goes_on c.in_ok-end.ensures.meets
-    (fields_refused c.args.edition t (message_with t c.args.start name) _ _ _ _
-    (c.in_err-fields.ensures.meets k from to h))))
+    rw (p.1, p.2)
+    (fails_next functional_here at_place
+    (fails_next (functional_identifier t) c.in_ok-end.ensures.meets
+    (fields_fail c.args.edition t _ (message_with t c.args.start name) c.in_err-fields.ensures.meets)))
 
 pub returns-then-is_empty-clause-meets : goal.returns-then-is_empty-clause-meets
 returns-then-is_empty-clause-meets c =
@@ -37,11 +36,11 @@ returns-then-is_empty-clause-meets c =
     let found = c.in_ok-fields.fields in
     let size : length found.attributes.items ≡ vec_len found.attributes = omega (arith, found.attributes.ok.0) in
     let none = no_items found.attributes.items _ size c.if-is_empty.ensures in
-    λ k from to (a, b, d). rw (a, b, d)
+    refused (λ k from to (a, b, d). rw (a, b, d)
     (goes_on at_place
     (goes_on c.in_ok-end.ensures.meets
-    (fields_then c.args.edition t (message_with t c.args.start name) _ _ _ _ c.in_ok-fields.ensures.meets
-    (message_without t c.args.start _ name found.value found.attributes.items c.if-is_none.ensures none))))
+    (fields_then c.args.edition t _ (message_with t c.args.start name) _ _ _ _ c.in_ok-fields.ensures.meets
+    (message_without t c.args.start _ name found.value found.attributes.items c.if-is_none.ensures none)))))
 
 pub returns-clause-meets : goal.returns-clause-meets
 returns-clause-meets c =
@@ -53,7 +52,7 @@ returns-clause-meets c =
     let size : length rest ≡ vec_len found.attributes = omega (arith, found.attributes.ok.0) in
     goes_on at_place
     (goes_on c.in_ok-end.ensures.meets
-    (fields_then c.args.edition t (message_with t c.args.start name) _ _ _ _ c.in_ok-fields.ensures.meets
+    (fields_then c.args.edition t _ (message_with t c.args.start name) _ _ _ _ c.in_ok-fields.ensures.meets
     (elim c.else-is_none.branch [
       | else-is_none-via-then-is_none+else-is_empty w ↦
           message_of_attributes t c.args.start place name found.value rest
@@ -62,36 +61,3 @@ returns-clause-meets c =
           message_of_value t c.args.start place name found.value rest w.if-is_none.ensures
     ])))
 
-pub returns-in_err-fields-clause-deeper :
-    goal.returns-in_err-fields-clause-deeper
-returns-in_err-fields-clause-deeper c =
-    let p = err_from_is_err_and c.from_residual-in_err-fields.result c.from_residual-in_err-fields.ensures.1 in
-    rw (p.1, p.2) (λ e. its_message_fields c.in_ok-end.ensures.meets (c.in_err-fields.ensures.deeper e))
-
-pub returns-in_err-end-clause-shallow : goal.returns-in_err-end-clause-shallow
-returns-in_err-end-clause-shallow c =
-    let t = c.args.self.now.bytes.now in
-    let edition = c.args.edition in
-    let p = err_from_is_err_and c.from_residual.result c.from_residual.ensures.1 in
-    rw (p.1, p.2) (message_stuck edition t _ _ _ (c.in_err-end.ensures.meets _ _ _ (refl, refl, refl)))
-
-pub returns-in_err-fields-clause-shallow : goal.returns-in_err-fields-clause-shallow
-returns-in_err-fields-clause-shallow c =
-    let t = c.args.self.now.bytes.now in
-    let edition = c.args.edition in
-    let p = err_from_is_err_and c.from_residual-in_err-fields.result c.from_residual-in_err-fields.ensures.1 in
-    rw (p.1, p.2) (falls t (fields edition t) _ _ _ _ c.in_err-fields.ensures.meets
-    (λ k from to r e. message_led edition t _ _ c.in_ok-end.ensures.meets e)
-    c.in_err-fields.ensures.shallow)
-
-pub returns-then-is_empty-clause-shallow : goal.returns-then-is_empty-clause-shallow
-returns-then-is_empty-clause-shallow c =
-    let t = c.args.self.now.bytes.now in
-    let edition = c.args.edition in
-    λ e. c.in_ok-fields.ensures.shallow (message_led edition t _ _ c.in_ok-end.ensures.meets e)
-
-pub returns-clause-shallow : goal.returns-clause-shallow
-returns-clause-shallow c =
-    let t = c.args.self.now.bytes.now in
-    let edition = c.args.edition in
-    λ e. c.in_ok-fields.ensures.shallow (message_led edition t _ _ c.in_ok-end.ensures.meets e)

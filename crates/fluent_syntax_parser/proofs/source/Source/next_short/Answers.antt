@@ -1,13 +1,17 @@
 use Rattle.std.proofs.Common.{◌<◌, arith, length, refl, subst, sym}
-use Rattle.fluent_syntax_grammar.specs.Nesting.{Deeper, in_message}
-use Rattle.fluent_syntax_grammar.proofs.Shallow.{entry_message}
 use Rattle.fluent_syntax_parser.specs.ShortMessages.{short_message}
-use Rattle.fluent_syntax_parser.proofs.DeeperTiles.{behind_entry, entry_led}
 use Rattle.fluent_syntax_parser.proofs.EntryForms.{message_there}
-use Rattle.fluent_syntax_parser.proofs.Rests.{rest_entry}
+use Rattle.fluent_syntax_parser.proofs.Rests.{in_mode, rest_entry}
 use Rattle.fluent_syntax_parser.proofs.ShortMessages.{above_zero, no_hash, no_hyphen}
 use Rattle.fluent_syntax_parser.proofs.ShortGrammar.{no_letter_no_name}
 use Rattle.fluent_syntax_parser.specs.ShortGrammar.{ShortMessage}
+use Rattle.fluent_syntax_grammar.specs.Construct.{Read}
+use Rattle.fluent_syntax_grammar.specs.Entries.{message_of}
+use Rattle.fluent_syntax_grammar.specs.Grammar.{family, within}
+use Rattle.fluent_syntax_grammar.specs.Tiling.{reads}
+use Rattle.fluent_syntax_grammar.proofs.IncludedEntries.{included_message}
+use Rattle.fluent_syntax_grammar.proofs.Nesting.{within_family}
+use Rattle.fluent_syntax_parser.proofs.DeeperTiles.{behind_one, one_led}
 use Rattle.fluent_syntax_parser.proofs.source.Source.next_short.Goals as goal
 
 pub returns-clause-next : goal.returns-clause-next
@@ -18,7 +22,10 @@ returns-clause-next c =
     let letter = sym c.if-not-is_letter_at.ensures in
     let found = rw c.in-Some.is at c.in_ok-name.ensures in
     let inside : start.result < length t = omega (arith, found.within.0, found.within.1) in
-    let read = message_there options.edition t _ _ (no_hash t _ letter) (no_hyphen t _ letter) found.meets in
+    let read = message_there options.edition t (family options.edition t) _ _ (no_hash t _ letter)
+        (no_hyphen t _ letter)
+    ((included_message options.edition t (within options.edition t 1) (family options.edition t)
+    (within_family options.edition t 1)).part _ _ (found.meets 0)) in
     λ entries errors rest. start.ensures.rest options.edition _ _
     (rest_entry options.edition t _ _ inside options.comments start.ensures.dropped
     (short_message (λ s. s) c.in-Some.name c.get_short_message.new.parts.items) read refl entries errors rest)
@@ -31,9 +38,14 @@ returns-clause-behind c =
     let letter = sym c.if-not-is_letter_at.ensures in
     let found = rw c.in-Some.is at c.in_ok-name.ensures in
     let inside : start.result < length t = omega (arith, found.within.0, found.within.1) in
-    let read = message_there options.edition t _ _ (no_hash t _ letter) (no_hyphen t _ letter) found.meets in
+    let message = above_zero
+    (λ n. message_of options.edition t (within options.edition t n) start.result
+    (Read (short_message (λ s. s) c.in-Some.name c.get_short_message.new.parts.items) c.in-Some.end))
+    found.meets options.nesting (omega (arith, c.if-not-may_nest)) in
+    let read = message_there options.edition t _ _ _ (no_hash t _ letter) (no_hyphen t _ letter) message in
+    let tile = in_mode options.comments options.edition t _ _ _ _ start.ensures.dropped (reads read) in
     λ h. start.ensures.deeper options.edition options.nesting
-    (behind_entry options.edition t _ _ options.nesting inside options.comments start.ensures.dropped _ read h)
+    (behind_one options.edition t options.nesting options.comments _ _ inside _ tile h)
 
 pub returns-clause-shallow : goal.returns-clause-shallow
 returns-clause-shallow c =
@@ -42,10 +54,14 @@ returns-clause-shallow c =
     let start = c.tile_start-start in
     let letter = sym c.if-not-is_letter_at.ensures in
     let found = rw c.in-Some.is at c.in_ok-name.ensures in
-    let read = message_there options.edition t _ _ (no_hash t _ letter) (no_hyphen t _ letter) found.meets in
-    λ h. entry_led options.edition t _ _ options.nesting options.comments start.ensures.dropped _ read
-    (λ d. above_zero (λ n. Deeper options.edition t in_message n start.result → ⊥) found.flat options.nesting
-    (omega (arith, c.if-not-may_nest)) (entry_message options.edition t (no_hyphen t _ letter) d))
+    let inside : start.result < length t = omega (arith, found.within.0, found.within.1) in
+    let message = above_zero
+    (λ n. message_of options.edition t (within options.edition t n) start.result
+    (Read (short_message (λ s. s) c.in-Some.name c.get_short_message.new.parts.items) c.in-Some.end))
+    found.meets options.nesting (omega (arith, c.if-not-may_nest)) in
+    let read = message_there options.edition t _ _ _ (no_hash t _ letter) (no_hyphen t _ letter) message in
+    let tile = in_mode options.comments options.edition t _ _ _ _ start.ensures.dropped (reads read) in
+    λ h. one_led options.edition t options.nesting options.comments _ _ inside _ tile
     (start.ensures.shallow options.edition options.nesting h)
 
 pub returns-clause-short : goal.returns-clause-short

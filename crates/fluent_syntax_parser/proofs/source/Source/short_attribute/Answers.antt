@@ -25,12 +25,7 @@ returns-clause-reads c =
     let read = rw c.in-Some.is at c.in_ok-place.ensures.reads in
     λ i dot blank mark.
     attribute_of c.args.edition t i _ _ _ c.args.parts.now.items mid new
-    (goes_on (passed blank)
-    (goes_on mark
-    (goes_on c.in-Ok.ensures.meets
-    (goes_on (passed c.skip_blank_inline.ensures.blank)
-    c.in-Ok-expect_byte.ensures.meets))))
-    (λ o h. goes_on (passed blank)
+    (λ n o h. goes_on (passed blank)
     (goes_on mark
     (goes_on c.in-Ok.ensures.meets
     (goes_on (passed c.skip_blank_inline.ensures.blank)

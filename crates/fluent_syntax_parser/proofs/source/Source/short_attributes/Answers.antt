@@ -2,7 +2,6 @@ use Rattle.std.proofs.Common.{ℕ, arith, refl, subst, sym}
 use Rattle.fluent_syntax_grammar.specs.Bytes.{full_stop}
 use Rattle.fluent_syntax_grammar.specs.Construct.{goes_on, passed, stops}
 use Rattle.fluent_syntax_grammar.specs.Entries as entries
-use Rattle.fluent_syntax_grammar.proofs.Shallow.{attribute_stuck, attributes_stuck}
 use Rattle.fluent_syntax_parser.proofs.ShortGrammar.{byte_refused}
 use Rattle.fluent_syntax_parser.proofs.ShortMessages.{and_attribute, no_attribute_more}
 use Rattle.fluent_syntax_parser.proofs.ShortPieces.{grows_more}
@@ -17,10 +16,7 @@ returns-in_default-clause-reads c =
     let mark = c.in_default.ensures.meets _ _ _ (refl, refl, refl) in
     let blank = c.skip_blank_inline.ensures.blank in
     no_attribute_more edition t _ _ _ _ c.loop-start.invariant.gathered
-    (entries.no_more (goes_on (passed blank) (stops mark)))
-    (λ n d.
-    attribute_stuck edition t _ _ _ (goes_on (passed blank) (stops mark))
-    (attributes_stuck edition t _ _ _ (goes_on (passed blank) (stops mark)) d))
+    (λ n. entries.no_more (goes_on (passed blank) (stops mark)))
 
 pub loop-start-preserved : goal.loop-start-preserved
 loop-start-preserved c =

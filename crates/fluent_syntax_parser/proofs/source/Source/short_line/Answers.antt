@@ -12,7 +12,7 @@ returns-clause-reads c =
     line_reads c.args.edition c.args.self.now.bytes.now c.args.start c.requires.opens c.args.parts.now.items
     c.short_pieces.new.parts.items c.in-Some.place c.in-Some.to c.in-Some-line_ending.stop c.in-Some-line_ending.next
     c.in-Some-end_behind_blank_lines.end found.pieces c.in-Some-line_ending.ensures.ending ptr
-    c.push_last_text.new.parts.items blank behind.lines behind.shallow found.last c.in_ok-push_last_text.ensures
+    c.push_last_text.new.parts.items blank behind.lines found.last c.in_ok-push_last_text.ensures
 
 pub returns-clause-rest : goal.returns-clause-rest
 returns-clause-rest c =

@@ -1,19 +1,14 @@
 use Rattle.std.proofs.Common.{◌≤◌, arith, length}
-use Rattle.fluent_syntax_parser.proofs.ShortPatterns.{short_read, short_shallow}
+use Rattle.fluent_syntax_parser.proofs.ShortPatterns.{short_read}
 use Rattle.fluent_syntax_parser.proofs.source.Source.short_text.Goals as goal
 
 pub returns-in-Some-end_behind_blank_lines-clause-opens : goal.returns-in-Some-end_behind_blank_lines-clause-opens
-returns-in-Some-end_behind_blank_lines-clause-opens c = λ i blank.
+returns-in-Some-end_behind_blank_lines-clause-opens c = λ n i blank.
     let a = c.in-Some in
     let within : a.text_end ≤ length c.args.self.now.bytes.now =
     omega (arith, a.ensures.within.1, a.ensures.within.2) in
     rw c.trimmed_end.ensures
-    (short_read c.args.edition c.args.self.now.bytes.now _ _ c.run_end-to.ensures.run c.if-start-to.true i a.text_end
+    (short_read c.args.edition c.args.self.now.bytes.now n _ _ c.run_end-to.ensures.run c.if-start-to.true i a.text_end
     a.next c.in-Some-end_behind_blank_lines.end blank a.ensures.ending a.ensures.within.0 within
     c.in-Some-end_behind_blank_lines.ensures.lines)
 
-pub returns-in-Some-end_behind_blank_lines-clause-shallow : goal.returns-in-Some-end_behind_blank_lines-clause-shallow
-returns-in-Some-end_behind_blank_lines-clause-shallow c = λ n.
-    let a = c.in-Some in
-    short_shallow c.args.edition c.args.self.now.bytes.now _ _ c.run_end-to.ensures.run c.if-start-to.true n
-    a.text_end a.next a.ensures.ending (c.in-Some-end_behind_blank_lines.ensures.shallow n)

@@ -1,9 +1,7 @@
 use Rattle.std.proofs.Common.{◌<◌, inr, length, sym, arith}
 use Rattle.fluent_syntax_grammar.proofs.Functional.{single_block}
-use Rattle.fluent_syntax_grammar.proofs.Shallow.{block_behind}
 use Rattle.fluent_syntax_grammar.proofs.Tests.{both}
-use Rattle.fluent_syntax_parser.specs.Rest.{TileIn}
-use Rattle.fluent_syntax_parser.proofs.DeeperTiles.{behind_dropped, dropped_led}
+use Rattle.fluent_syntax_parser.proofs.DeeperTiles.{behind_dropped, dropped_led, text_deeper, tile_deeper}
 use Rattle.fluent_syntax_parser.proofs.NextStarts.{next_behind, starts_behind, starts_behind_comment}
 use Rattle.fluent_syntax_parser.proofs.Rests.{rest_behind, rest_dropped}
 use Rattle.fluent_syntax_parser.proofs.source.Source.tile_start.Goals as goal
@@ -17,8 +15,8 @@ loop-comments-init c =
       within = block.within;
       rest = λ edition entries errors rest.
           rest_behind c.args.comments edition t _ _ entries errors block.blank rest;
-      deeper = λ edition n h. (_, block.blank, h);
-      shallow = λ edition n h. block_behind edition t (TileIn c.args.comments edition t) _ block.blank h;
+      deeper = λ edition n h. text_deeper edition t n c.args.comments _ _ block.blank h;
+      shallow = λ edition n h. tile_deeper edition t n c.args.comments _ _ block.blank h;
       next = λ start found. next_behind c.args.comments t _ _ start block.blank found;
       starts = λ start next. starts_behind c.args.comments t _ _ start block.blank next;
       blank = λ all. single_block.same c.args.ptr _ _ block.blank all;
@@ -39,10 +37,10 @@ loop-comments-preserved c =
           (sym c.if-is_byte_at.ensures) line.line entries errors
           (rest_behind c.args.comments edition t _ _ entries errors block.blank rest));
       deeper = λ edition n h. inv.deeper edition n
-          (behind_dropped edition t _ _ n inside c.args.comments (sym c.loop-comments-test.ensures)
-          (sym c.if-is_byte_at.ensures) line.line (_, block.blank, h));
-      shallow = λ edition n h. block_behind edition t (TileIn c.args.comments edition t) _ block.blank
-          (dropped_led edition t _ _ n c.args.comments (sym c.loop-comments-test.ensures)
+          (behind_dropped edition t n _ _ inside c.args.comments (sym c.loop-comments-test.ensures)
+          (sym c.if-is_byte_at.ensures) line.line (text_deeper edition t n c.args.comments _ _ block.blank h));
+      shallow = λ edition n h. tile_deeper edition t n c.args.comments _ _ block.blank
+          (dropped_led edition t n _ _ inside c.args.comments (sym c.loop-comments-test.ensures)
           (sym c.if-is_byte_at.ensures) line.line (inv.shallow edition n h));
       next = λ start found. inv.next start
           (inr (

@@ -2,11 +2,11 @@ use Rattle.std.proofs.Common.{length, ◌-◌, ◌≡◌, ◌≤◌, ℕ, List, 
 use Rattle.fluent_syntax_tree.specs.Entry.{BodyTree}
 use Rattle.fluent_syntax_tree.specs.declared.edition.Edition.{Edition}
 use Rattle.fluent_syntax_tree.specs.declared.spans.Span.{Span}
-use Rattle.fluent_syntax_grammar.specs.Nesting.{TextDeeper, TileDeeper}
+use Rattle.fluent_syntax_grammar.specs.Nesting.{TextDeeper}
 use Rattle.fluent_syntax_grammar.specs.Places.{BlankBlock}
 use Rattle.fluent_syntax_grammar.specs.Tiling.{Fault}
 use Rattle.fluent_syntax_parser.proofs.NextStarts.{StartsAt}
-use Rattle.fluent_syntax_parser.specs.Rest.{Rest, RestAt, TileIn}
+use Rattle.fluent_syntax_parser.specs.Rest.{Rest, RestAt, TileDeeper, TileIn}
 use Rattle.fluent_syntax_parser.specs.ShortGrammar.{NextStart}
 use Rattle.fluent_syntax_parser.proofs.source.Source.tile_start.Given as goal
 

@@ -1,0 +1,119 @@
+-- Where a part nests too deeply, so does the whole.
+use Rattle.std.proofs.Common.{◌≡◌, ℕ, zero, suc, ◌-◌, ◌<◌, ◌≤◌, List, [], length, Bool, true, false}
+use Rattle.std.proofs.Common.{refl, subst, arith, inl, inr}
+use Rattle.fluent_syntax_grammar.specs.Construct.{Outcome, Construct, Read, Refused, ◌>>=◌, stops, goes_on, at_each}
+use Rattle.fluent_syntax_grammar.specs.Construct.{chosen, either, first, second, More, item, many, list_ends}
+use Rattle.fluent_syntax_grammar.specs.Construct.{list_stops}
+use Rattle.fluent_syntax_grammar.specs.Construct.{item_and_more, stops_later, passed}
+use Rattle.std.specs.Prelude.{◌⊎◌}
+use Rattle.fluent_syntax_tree.specs.declared.edition.Edition.{Edition}
+use Rattle.fluent_syntax_grammar.specs.Arguments.{call_arguments, more_arguments}
+use Rattle.fluent_syntax_grammar.specs.Bytes.{left_brace, left_parenthesis}
+use Rattle.fluent_syntax_grammar.specs.Family.{Family}
+use Rattle.fluent_syntax_grammar.specs.Grammar.{within}
+use Rattle.fluent_syntax_grammar.specs.Patterns.{pattern}
+use Rattle.fluent_syntax_grammar.specs.Placeables.{expression, placeable}
+use Rattle.fluent_syntax_grammar.specs.Places.{Blank}
+use Rattle.fluent_syntax_grammar.specs.Words.{optional, token}
+use Rattle.fluent_syntax_grammar.proofs.FunctionalWords.{functional_blank, functional_optional, functional_token}
+use Rattle.fluent_syntax_grammar.proofs.TotalFamily.{pattern_within}
+use Rattle.fluent_syntax_grammar.specs.Laws.{IsFunctional}
+use Rattle.fluent_syntax_grammar.specs.Nesting.{TooDeep}
+
+-- ---- the formers
+
+module _ {A B : Type 0} {c : Construct A} {f : A → Construct B} {i : ℕ} where
+  -- the first part
+  pub deeper_first : TooDeep c i → TooDeep (c >>= f) i
+  deeper_first d o (stops x) = d _ x
+  deeper_first d o (goes_on x y) = d _ x
+
+  -- the next one, behind a first part that is read
+  pub deeper_next : IsFunctional c → (a : A) (j : ℕ) → c i (Read a j) → TooDeep (f a) j → TooDeep (c >>= f) i
+  deeper_next h a j x d o (stops y) = let e = h.same i _ _ x y in cc
+  deeper_next h a j x d o (goes_on {j = k} {a = b} y z) =
+      let e = h.same i _ _ y x in
+      let place : k ≡ j = cc in
+      let value : b ≡ a = cc in
+      d o (subst (λ k. f a k o) place (subst (λ b. f b k o) value z))
+
+pub deeper_at_each : {A B : Type 0} {look : ℕ → A} {part : A → Construct B} {i : ℕ} → TooDeep (part (look i)) i →
+    TooDeep (at_each look part) i
+deeper_at_each d o (chosen x) = d o x
+
+module _ {A : Type 0} {test : Bool} {c d : Construct A} {i : ℕ} where
+  pub deeper_yes : test ≡ true → TooDeep c i → TooDeep (either test c d) i
+  deeper_yes e h o (first f x) = h o x
+  deeper_yes e h o (second f x) = cc
+
+  pub deeper_no : test ≡ false → TooDeep d i → TooDeep (either test c d) i
+  deeper_no e h o (first f x) = cc
+  deeper_no e h o (second f x) = h o x
+
+module _ {A S B : Type 0} {next : S → Construct (More A S)} {add : A → B → B} {none : B} where
+  list_moved : (q r : S) (k j : ℕ) (o : Outcome B) → q ≡ r → k ≡ j → many next add none q k o →
+      many next add none r j o
+  list_moved q r k j o e f x =
+      subst (λ r. many next add none r j o) e (subst (λ j. many next add none q j o) f x)
+
+  -- the item at the place
+  pub deeper_item : {s : S} {i : ℕ} → TooDeep (next s) i → TooDeep (many next add none s) i
+  deeper_item d o (list_ends x) = d _ x
+  deeper_item d o (list_stops x) = d _ x
+  deeper_item d o (item_and_more x y) = d _ x
+  deeper_item d o (stops_later x y) = d _ x
+
+  -- a later one, behind an item that is read
+  pub deeper_later : {s : S} {i : ℕ} → IsFunctional (next s) → (a : A) (r : S) (j : ℕ) → next s i (Read (item a r) j) →
+      TooDeep (many next add none r) j → TooDeep (many next add none s) i
+  deeper_later {i = i} h a r j x d o (list_ends y) = let e = h.same i _ _ x y in cc
+  deeper_later {i = i} h a r j x d o (list_stops y) = let e = h.same i _ _ x y in cc
+  deeper_later {i = i} h a r j x d o (item_and_more {later = q} {j = k} {end = m} {rest = rest} y z) =
+      let e = h.same i _ _ y x in
+      let place : k ≡ j = cc in
+      let state : q ≡ r = cc in
+      d (Read rest m) (list_moved q r k j (Read rest m) state place z)
+  deeper_later {i = i} h a r j x d o (stops_later {later = q} {j = k} {from = m} {to = n} {k = l} y z) =
+      let e = h.same i _ _ y x in
+      let place : k ≡ j = cc in
+      let state : q ≡ r = cc in
+      d (Refused l m n) (list_moved q r k j (Refused l m n) state place z)
+
+-- ---- what opens
+
+module _ (edition : Edition) (t : List ℕ) where
+  -- inside none that are open nothing opens
+  pub none_inside : (i : ℕ) → TooDeep (within edition t zero).expression i
+  unfolding within
+  none_inside i o x = x
+
+  pub no_list_inside : (i : ℕ) → TooDeep (within edition t zero).argument_list i
+  unfolding within
+  no_list_inside i o x = x
+
+  -- inside one more that is open
+  pub one_inside : (n i : ℕ) → TooDeep (expression edition t (within edition t n)) i →
+      TooDeep (within edition t (suc n)).expression i
+  unfolding within
+  one_inside n i d = d
+
+  pub one_list_inside : (n i : ℕ) → TooDeep (more_arguments t (within edition t n) []) i →
+      TooDeep (within edition t (suc n)).argument_list i
+  unfolding within
+  one_list_inside n i d = d
+
+module _ (t : List ℕ) (R : Family) where
+  -- a placeable, whose expression nests too deeply
+  pub deeper_placeable : {i j k : ℕ} → token t left_brace i (Read tt j) → Blank t j k → TooDeep R.expression k →
+      TooDeep (placeable t R) i
+  deeper_placeable {j = j} {k = k} x w d =
+      deeper_next (functional_token t left_brace) tt j x
+      (deeper_next (functional_blank t) tt k (passed w) (deeper_first d))
+
+  -- arguments, whose list nests too deeply
+  pub deeper_call : {i j k m : ℕ} → Blank t i j → optional t left_parenthesis j (Read true k) → Blank t k m →
+      TooDeep R.argument_list m → TooDeep (call_arguments t R) i
+  deeper_call {j = j} {k = k} {m = m} v x w d =
+      deeper_next (functional_blank t) tt j (passed v)
+      (deeper_next (functional_optional t left_parenthesis) true k x
+      (deeper_yes refl (deeper_first (deeper_next (functional_blank t) tt m (passed w) d))))

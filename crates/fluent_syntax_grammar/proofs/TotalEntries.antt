@@ -1,0 +1,252 @@
+-- An entry has an outcome at each place from which on patterns have one.
+use Rattle.std.proofs.Common.{◌≡◌, ℕ, zero, suc, ◌+◌, ◌<◌, ◌≤◌, List, [], ◌∷◌, ◌++◌, length, Option, Some, None, Bool}
+use Rattle.std.proofs.Common.{true, false, refl, subst, arith, inl, inr}
+use Rattle.std.specs.Prelude.{slice_get, ◌==◌}
+use Rattle.fluent_syntax_tree.specs.Tree.{PatternTree}
+use Rattle.fluent_syntax_tree.specs.Entry.{AttributeTree, EntryTree}
+use Rattle.fluent_syntax_grammar.specs.Grammar.{family}
+use Rattle.fluent_syntax_grammar.specs.Places.{Stretch, has_byte, after_eol, is_line_place, BlankBlock}
+use Rattle.fluent_syntax_grammar.specs.Construct.{Outcome, Read, Refused, stops, goes_on, given, chosen, either, first}
+use Rattle.fluent_syntax_grammar.specs.Construct.{second}
+use Rattle.fluent_syntax_grammar.specs.Entries.{attribute_with, message_with, term_with, attribute, attributes, no_more}
+use Rattle.fluent_syntax_grammar.specs.Entries.{one_more, message_entry, term_entry}
+use Rattle.fluent_syntax_grammar.specs.Comments as comments
+use Rattle.fluent_syntax_grammar.specs.Comments.{hashes, comment_text, comment_rest, comment_line, comment_lines}
+use Rattle.fluent_syntax_grammar.specs.Comments.{other_level, no_comment_line, comment_of, comment_entry}
+use Rattle.fluent_syntax_grammar.specs.Tiling.{Tile, entry, dropped, failing_place, starts_entry, JunkEnd, Tiled, done}
+use Rattle.fluent_syntax_grammar.specs.Tiling.{next, entry_of, entry_at, TileAt, reads, refuses, RuntimeTileAt, drops}
+use Rattle.fluent_syntax_grammar.specs.Tiling.{stands}
+use Rattle.fluent_syntax_grammar.specs.Laws.{SomeTiling, SomeRuntimeTiling}
+use Rattle.fluent_syntax_tree.specs.declared.edition.Edition.{Edition}
+use Rattle.fluent_syntax_tree.specs.declared.spans.Span.{Span}
+use Rattle.fluent_syntax_grammar.proofs.Holds.{holds_over}
+use Rattle.fluent_syntax_grammar.proofs.Cuts.{block_forward, line_inside}
+use Rattle.fluent_syntax_grammar.proofs.SoundStrings.{InText}
+use Rattle.fluent_syntax_grammar.proofs.SoundEntries.{sound_attributes}
+use Rattle.fluent_syntax_grammar.proofs.SoundComments.{after_hashes, line_from}
+use Rattle.fluent_syntax_grammar.proofs.SoundTiling.{entry_refused, tile_good}
+use Rattle.fluent_syntax_grammar.proofs.Boundaries.{text_cuts}
+use Rattle.fluent_syntax_grammar.proofs.WholeLines.{IsLine, line_to, line_in_text, hashes_onward}
+use Rattle.fluent_syntax_grammar.proofs.CommentFaults.{some_hash}
+use Rattle.fluent_syntax_grammar.proofs.ComputedTiling.{end_start, end_text, end_on}
+use Rattle.fluent_syntax_grammar.proofs.Total.{From, Both, Strict, total_bind, total_over, both_bind, both_gives}
+use Rattle.fluent_syntax_grammar.proofs.Total.{both_here, both_fails, both_fails_from, both_at_each, both_strict}
+use Rattle.fluent_syntax_grammar.proofs.Total.{strict_first, strict_then}
+use Rattle.fluent_syntax_grammar.proofs.TotalWords.{on_sound, stretch_word, block_word, both_inline_blank}
+use Rattle.fluent_syntax_grammar.proofs.TotalWords.{both_blank_block, both_optional_eol, both_spanned}
+use Rattle.fluent_syntax_grammar.proofs.TotalWords.{both_rest_of_line, strict_token, strict_identifier}
+use Rattle.fluent_syntax_grammar.proofs.TotalFamily.{pattern_everywhere}
+use Rattle.fluent_syntax_grammar.proofs.Facts.{equal, lt_or_same, unequal}
+use Rattle.std.proofs.Common.{◌-◌}
+use Rattle.std.specs.Prelude.{◌⊎◌}
+use Rattle.fluent_syntax_grammar.specs.Entries.{attribute_of, attributes_of, message_of, term_of}
+use Rattle.fluent_syntax_grammar.specs.Family.{Family}
+use Rattle.fluent_syntax_grammar.specs.Grammar.{within}
+use Rattle.fluent_syntax_grammar.specs.Nesting.{TooDeep}
+use Rattle.fluent_syntax_grammar.specs.Patterns.{pattern}
+use Rattle.fluent_syntax_grammar.specs.Tiling.{entry_in}
+use Rattle.fluent_syntax_grammar.proofs.Holds.{Holds}
+use Rattle.fluent_syntax_grammar.proofs.Included.{IsIncludedFamily}
+use Rattle.fluent_syntax_grammar.proofs.IncludedEntries.{included_attributes}
+use Rattle.fluent_syntax_grammar.proofs.Nesting.{within_family}
+use Rattle.fluent_syntax_grammar.proofs.Total.{AnyFault}
+use Rattle.fluent_syntax_grammar.proofs.TotalFamily.{pattern_within}
+
+both_with : {t : List ℕ} {s : ℕ} (id : Span) (value : Option (PatternTree Span)) → Both t s (attribute_with id value)
+both_with id None = both_fails
+both_with id (Some value) = both_gives
+
+both_message_with :
+    {s : ℕ} (t : List ℕ) (start : ℕ) (id : Span) (value : Option (PatternTree Span))
+    (rest : List (AttributeTree Span)) → Both t s (message_with t start id value rest)
+both_message_with t start id None [] = both_fails_from
+both_message_with t start id None (a ∷ rest) = both_gives
+both_message_with t start id (Some value) rest = both_gives
+
+both_term_with :
+    {s : ℕ} (t : List ℕ) (start : ℕ) (id : Span) (value : Option (PatternTree Span))
+    (rest : List (AttributeTree Span)) → Both t s (term_with t start id value rest)
+both_term_with t start id None rest = both_fails_from
+both_term_with t start id (Some value) rest = both_gives
+
+module _ (edition : Edition) (t : List ℕ) (R : Family) (h : IsIncludedFamily R (family edition t)) (low : ℕ)
+    (patterns : (s : ℕ) → low ≤ s → Both t s (pattern edition t R)) where
+  strict_attribute : (s : ℕ) → low ≤ s → Strict t s (attribute_of edition t R)
+  strict_attribute s l =
+      strict_then (both_inline_blank t)
+      (λ u. strict_first (strict_token t 46)
+      (λ u. both_bind (both_strict (strict_identifier t)) (λ id. both_bind (both_inline_blank t) (λ u.
+      both_bind (both_strict (strict_token t 61))
+      (λ u. both_bind (patterns (s + 1) (omega arith)) (λ value. both_with id value))))))
+
+  -- a list of attributes, and where it ends
+  record Attributes (i : ℕ) : Type 0 where
+    list : List (AttributeTree Span)
+    end : ℕ
+    read : attributes_of edition t R i (Read list end)
+
+  attributes_at : (i : ℕ) → low ≤ i → i ≤ length t → ((j : ℕ) → i < j → j ≤ length t → Attributes j) →
+      (o : Outcome (AttributeTree Span)) → attribute_of edition t R i o → Attributes i
+  attributes_at i b l more (Refused k from to) x = record { list = []; end = i; read = no_more x }
+  attributes_at i b l more (Read a j) x =
+      let p = (strict_attribute i b).on.on_read i j a (record { late = omega arith; in_text = l }) x in
+      let late = p.late in
+      let r = more j (omega arith) p.in_text in
+      record { list = a ∷ r.list; end = r.end; read = one_more x r.read }
+
+  attributes_exist : (m i : ℕ) → length t ≤ i + m → low ≤ i → i ≤ length t → Attributes i
+  attributes_exist zero i a b l =
+      let x = (strict_attribute i b).total.has i (record { late = omega arith; in_text = l }) in
+      attributes_at i b l (λ j d c. absurd (omega arith)) x.0 x.1
+  attributes_exist (suc m) i a b l =
+      let x = (strict_attribute i b).total.has i (record { late = omega arith; in_text = l }) in
+      attributes_at i b l (λ j d c. attributes_exist m j (omega arith) (omega arith) c) x.0 x.1
+
+  -- the list goes on as that of the grammar does
+  attributes_on : (s : ℕ) → Holds (From t s) (attributes_of edition t R) (λ a j. From t s j) AnyFault
+  attributes_on s =
+      let part = included_attributes edition t R (family edition t) h in
+      let whole = on_sound (sound_attributes edition t (InText t) (text_cuts t) {s = s}) in
+      record {
+        on_read = λ i j a p x. whole.on_read i j a p (part.part i _ x);
+        on_refused = λ i from to k p x. whole.on_refused i from to k p (part.part i _ x);
+      }
+
+  both_attributes : (s : ℕ) → low ≤ s → Both t s (attributes_of edition t R)
+  both_attributes s l = record {
+    total =
+        record {
+          has = λ i p. (let late = p.late in let r =
+              attributes_exist (length t) i (omega arith) (omega arith) p.in_text in
+              (Read r.list r.end, r.read));
+        };
+    on = attributes_on s;
+  }
+
+  both_message : (s : ℕ) → low ≤ s → Both t s (message_of edition t R)
+  both_message s l =
+      both_bind both_here
+      (λ start. both_bind (both_strict (strict_identifier t))
+      (λ id. both_bind (both_inline_blank t) (λ u. both_bind (both_strict (strict_token t 61)) (λ u.
+      both_bind (patterns s l)
+      (λ value. both_bind (both_blank_block t)
+      (λ u. both_bind (both_attributes s l) (λ rest. both_message_with t start id value rest)))))))
+
+  both_term : (s : ℕ) → low ≤ s → Both t s (term_of edition t R)
+  both_term s l =
+      both_bind both_here
+      (λ start. both_bind (both_strict (strict_token t 45))
+      (λ u. both_bind (both_strict (strict_identifier t))
+      (λ id. both_bind (both_inline_blank t) (λ u. both_bind (both_strict (strict_token t 61)) (λ u.
+      both_bind (patterns s l)
+      (λ value. both_bind (both_blank_block t)
+      (λ u. both_bind (both_attributes s l) (λ rest. both_term_with t start id value rest))))))))
+
+module _ (t : List ℕ) where
+  both_text : {s : ℕ} (eol : Bool) → Both t s (comment_text t eol)
+  both_text true = both_bind both_here (λ i. both_spanned t)
+  both_text false = both_bind (both_strict (strict_token t 32)) (λ u. both_rest_of_line t)
+
+  both_rest : {s : ℕ} (b : Option ℕ) → Both t s (comment_rest t b)
+  both_rest None = both_gives
+  both_rest (Some b) = both_bind (both_at_each both_text) (λ content. both_bind (both_optional_eol t) (λ u. both_gives))
+
+  line_has : (i level : ℕ) → i ≤ length t → hashes t i ≡ level → (o : Outcome (List Span)) × comment_line t level i o
+  line_has i level l e =
+      let inside = after_hashes t (InText t) (text_cuts t) i l in
+      let whole =
+      total_bind {pre = λ j. j ≡ i} {mid = λ u. From t 0} (total_over (λ j p. (j + level, record { by = refl })))
+      (holds_over (λ j m p w. let by = w.by in record { late = omega arith; in_text = omega arith }))
+      (λ u. (both_at_each both_rest).total) in
+      whole.has i refl
+
+  record Lines (level i : ℕ) : Type 0 where
+    list : List Span
+    end : ℕ
+    read : comment_lines t level i (Read list end)
+
+  lines_at : (level i : ℕ) → 1 ≤ level → i ≤ length t → hashes t i ≡ level →
+      ((j : ℕ) → i < j → j ≤ length t → Lines level j) → (o : Outcome (List Span)) → comment_line t level i o →
+      Lines level i
+  lines_at level i one l e more (Refused k from to) x = record { list = []; end = i; read = no_comment_line e x }
+  lines_at level i one l e more (Read c j) x =
+      let p = (line_from t (InText t) (text_cuts t) (i + level) i level (omega arith) l e).on_read i j c refl x in
+      let late = p.late in
+      let r = more j (omega arith) p.place in
+      record { list = c ++ r.list; end = r.end; read = comments.one_more e x r.read }
+
+  lines_level : (level i : ℕ) (b : Bool) → (hashes t i == level) ≡ b → 1 ≤ level → i ≤ length t →
+      ((j : ℕ) → i < j → j ≤ length t → Lines level j) → Lines level i
+  lines_level level i false e one l more =
+      record { list = []; end = i; read = other_level (unequal (hashes t i) level e) }
+  lines_level level i true e one l more = let x = line_has i level l (equal (hashes t i) level e) in
+      lines_at level i one l (equal (hashes t i) level e) more x.0 x.1
+
+  lines_exist : (level m i : ℕ) → 1 ≤ level → length t ≤ i + m → i ≤ length t → Lines level i
+  lines_exist level zero i one a l =
+      lines_level level i (hashes t i == level) refl one l (λ j b c. absurd (omega arith))
+  lines_exist level (suc m) i one a l =
+      lines_level level i (hashes t i == level) refl one l (λ j b c. lines_exist level m j one (omega arith) c)
+
+  comment_at : (level i : ℕ) → 1 ≤ level → i ≤ length t → hashes t i ≡ level → (o : Outcome (List Span)) →
+      comment_line t level i o → (o : Outcome (EntryTree Span)) × comment_of t level i o
+  comment_at level i one l e (Refused k from to) x = (Refused k from to, stops x)
+  comment_at level i one l e (Read c j) x =
+      let p = (line_from t (InText t) (text_cuts t) i i level (omega arith) l e).on_read i j c refl x in
+      let r = lines_exist level (length t) j one (omega arith) p.place in
+      (Read _ r.end, goes_on x (goes_on r.read given))
+
+  pub comment_has : (i : ℕ) → i ≤ length t → has_byte t 35 i ≡ true →
+      (o : Outcome (EntryTree Span)) × comment_entry t i o
+  comment_has i l h =
+      let x = line_has i (hashes t i) l refl in
+      let y = comment_at (hashes t i) i (some_hash t i h) l refl x.0 x.1 in
+      (y.0, chosen y.1)
+
+module _ (edition : Edition) (t : List ℕ) (R : Family) (h : IsIncludedFamily R (family edition t)) (low : ℕ)
+    (patterns : (s : ℕ) → low ≤ s → Both t s (pattern edition t R)) where
+  hash_stands : (i b : ℕ) → slice_get t i ≡ Some b → (b == 35) ≡ true → has_byte t 35 i ≡ true
+  hash_stands i b e f = rw e f
+
+  entry_other : (i b : ℕ) (minus : Bool) → low ≤ i → i ≤ length t → (b == 45) ≡ minus → (o : Outcome (EntryTree Span)) ×
+      either (b == 45) (term_of edition t R) (message_of edition t R) i o
+  entry_other i b true g l e =
+      let x = (both_term edition t R h low patterns i g).total.has i (record { late = omega arith; in_text = l }) in
+      (x.0, first e x.1)
+  entry_other i b false g l e =
+      let x = (both_message edition t R h low patterns i g).total.has i (record { late = omega arith; in_text = l }) in
+      (x.0, second e x.1)
+
+  entry_choice : (i b : ℕ) (hash : Bool) → low ≤ i → i ≤ length t → slice_get t i ≡ Some b → (b == 35) ≡ hash →
+      (o : Outcome (EntryTree Span)) × entry_of edition t R (Some b) i o
+  entry_choice i b true g l e f = let x = comment_has t i l (hash_stands i b e f) in (x.0, first f x.1)
+  entry_choice i b false g l e f = let x = entry_other i b (b == 45) g l refl in (x.0, second f x.1)
+
+  entry_has_of : (i : ℕ) (o : Option ℕ) → low ≤ i → i ≤ length t → slice_get t i ≡ o → (p : Outcome (EntryTree Span)) ×
+      entry_of edition t R o i p
+  entry_has_of i None g l e =
+      (both_message edition t R h low patterns i g).total.has i (record { late = omega arith; in_text = l })
+  entry_has_of i (Some b) g l e = entry_choice i b (b == 35) g l e refl
+
+  pub entry_has : (i : ℕ) → low ≤ i → i ≤ length t → (o : Outcome (EntryTree Span)) × entry_in edition t R i o
+  entry_has i g l = let x = entry_has_of i (slice_get t i) g l refl in (x.0, chosen x.1)
+
+-- Where an entry nests deeper than n, more bytes are left than n.
+pub too_deep_left : (edition : Edition) (t : List ℕ) (n i : ℕ) → i ≤ length t →
+    TooDeep (entry_in edition t (within edition t n)) i → n < length t - i
+too_deep_left edition t n i l d =
+    elim (below n (length t - i)) [
+      | inl e ↦ e
+      | inr e ↦ (
+          let patterns : (s : ℕ) → i ≤ s → Both t s (pattern edition t (within edition t n)) =
+          λ s g. pattern_within edition t n s (omega arith) in
+          let has = entry_has edition t (within edition t n) (within_family edition t n) i patterns i (omega arith) l in
+          absurd (d has.0 has.1)
+          )
+    ]
+  where
+    below : (a b : ℕ) → (a < b) ⊎ (b ≤ a)
+    below zero zero = inr (omega arith)
+    below zero (suc b) = inl (omega arith)
+    below (suc a) zero = inr (omega arith)
+    below (suc a) (suc b) = elim (below a b) [ inl e ↦ inl (omega arith) | inr e ↦ inr (omega arith) ]

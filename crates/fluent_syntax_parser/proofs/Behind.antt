@@ -1,0 +1,69 @@
+-- Lists that a loop gathers: what stands where the loop is, stands where it began, behind what was gathered.
+use Rattle.std.proofs.Common.{◌≡◌, ℕ, List, [], ◌∷◌, ◌++◌, map, ap, subst, sym, ◌∙◌}
+use Rattle.fluent_syntax_grammar.specs.Construct.{Construct, Read, More, no_item, item, many, list_ends, list_stops}
+use Rattle.fluent_syntax_grammar.specs.Construct.{item_and_more, list_of, stops_later}
+use Rattle.fluent_syntax_grammar.specs.Laws.{IsFunctional}
+use Rattle.fluent_syntax_grammar.proofs.Facts.{append_nothing}
+use Rattle.fluent_syntax_grammar.proofs.Deeper.{deeper_item, deeper_later}
+use Rattle.fluent_syntax_parser.specs.declared.fault.ReadFault.{ReadFault}
+use Rattle.fluent_syntax_parser.specs.Meets.{Fails, refused, too_deep, no_memory}
+use Rattle.fluent_syntax_parser.proofs.Gathers.{map_more}
+
+module _ {A S B : Type 0} (t : List ℕ) (next : S → Construct (More A S)) (add : A → B → B) (none : B) (s : S) (i : ℕ)
+  where
+    pub record Behind (put : B → B) (r : S) (j : ℕ) : Type 0 where
+      pub read : (b : B) (end : ℕ) → many next add none r j (Read b end) → many next add none s i (Read (put b) end)
+      pub fails : (f : ReadFault) → Fails t (many next add none r) j f → Fails t (many next add none s) i f
+
+-- where what stands behind an item fails, so does the list
+behind_item : {A S B : Type 0} (t : List ℕ) (next : S → Construct (More A S)) (add : A → B → B) (none : B) (r q : S)
+    (j m : ℕ) (a : A) → IsFunctional (next r) → next r j (Read (item a q) m) → (f : ReadFault) →
+    Fails t (many next add none q) m f → Fails t (many next add none r) j f
+behind_item t next add none r q j m a h x f (refused n) = refused (λ k from to e. stops_later x (n k from to e))
+behind_item t next add none r q j m a h x f (too_deep n) = too_deep (deeper_later h a q m x n)
+behind_item t next add none r q j m a h x f no_memory = no_memory
+
+module _ {A S B : Type 0} {t : List ℕ} {next : S → Construct (More A S)} {add : A → B → B} {none : B} {s : S} {i : ℕ}
+    {put : B → B} {r : S} {j : ℕ} where
+  -- an item was refused, or nests too deeply
+  pub item_fails : {f : ReadFault} → Behind t next add none s i put r j → Fails t (next r) j f →
+      Fails t (many next add none s) i f
+  item_fails g (refused h) = g.fails _ (refused (λ k from to e. list_stops (h k from to e)))
+  item_fails g (too_deep h) = g.fails _ (too_deep (deeper_item h))
+  item_fails g no_memory = no_memory
+
+  -- one more item
+  pub one_behind : (more_put : B → B) (a : A) (q : S) (m : ℕ) → Behind t next add none s i put r j →
+      IsFunctional (next r) → ((b : B) → more_put b ≡ put (add a b)) → next r j (Read (item a q) m) →
+      Behind t next add none s i more_put q m
+  one_behind more_put a q m g h same x = record {
+    read = λ b end y.
+        subst (λ b. many next add none s i (Read b end)) (sym (same b)) (g.read (add a b) end (item_and_more x y));
+    fails = λ f y. g.fails f (behind_item t next add none r q j m a h x f y);
+  }
+
+  -- the list ends
+  pub list_read : (whole : B) (m : ℕ) → Behind t next add none s i put r j → put none ≡ whole →
+      next r j (Read no_item m) → many next add none s i (Read whole m)
+  list_read whole m g same x =
+      subst (λ b. many next add none s i (Read b m)) same (g.read none m (list_ends x))
+
+-- ---- plain lists
+
+abbrev pub BehindItems : {A X : Type 0} → List ℕ → Construct (More A (Unit {0})) → (X → A) → (i : ℕ) → List X →
+    (j : ℕ) → Type 0
+BehindItems t next view i xs j =
+    Behind t (λ u. next) (λ a rest. a ∷ rest) [] tt i (λ more. map view xs ++ more) tt j
+
+module _ {A X : Type 0} {t : List ℕ} {next : Construct (More A (Unit {0}))} (view : X → A) {i j m : ℕ} where
+  -- one more item
+  pub item_behind : (xs ys : List X) (x : X) → ys ≡ xs ++ x ∷ [] → BehindItems t next view i xs j →
+      IsFunctional next → next j (Read (item (view x) tt) m) → BehindItems t next view i ys m
+  item_behind xs ys x same g h read =
+      one_behind (λ more. map view ys ++ more) (view x) tt m g h
+      (λ more. ap (λ zs. map view zs ++ more) same ∙ map_more view xs x more) read
+
+  -- the list ends
+  pub all_behind : (xs : List X) → BehindItems t next view i xs j → next j (Read no_item m) →
+      list_of next i (Read (map view xs) m)
+  all_behind xs g x = list_read (map view xs) m g (append_nothing (map view xs)) x
