@@ -942,7 +942,7 @@ get_lines-returns-in_err-push-in-Some-eol_end-clause-meets m c =
 pub get_pattern-returns-in_err-short-clause-meets :
     goal.get_pattern-returns-in_err-short-clause-meets
 get_pattern-returns-in_err-short-clause-meets m c =
-    let p = err_from_is_err_and c.from_residual-in_err-short.result c.from_residual-in_err-short.ensures.1 in
+    let p = err_from_is_err_and c.from_residual.result c.from_residual.ensures.1 in
     rw (p.1, p.2) no_memory
 
 pub get_pattern-returns-in_err-pattern-in-None-clause-meets :

@@ -1,4 +1,5 @@
 use Rattle.std.proofs.Common.{refl, arith}
+use Rattle.std.proofs.lemmas.Result.{err_from_is_err_and}
 use Rattle.fluent_syntax_tree.specs.View.{attribute_view}
 use Rattle.fluent_syntax_grammar.specs.Entries.{attributes, no_more, one_more}
 use Rattle.fluent_syntax_parser.proofs.Gathers as gathers
@@ -6,7 +7,7 @@ use Rattle.fluent_syntax_grammar.specs.Entries.{attributes_of}
 use Rattle.fluent_syntax_grammar.specs.Grammar.{within}
 use Rattle.fluent_syntax_grammar.proofs.DeeperEntries.{deeper_attribute, deeper_attributes}
 use Rattle.fluent_syntax_grammar.proofs.Nesting.{functional_within}
-use Rattle.fluent_syntax_parser.specs.Meets.{too_deep}
+use Rattle.fluent_syntax_parser.specs.Meets.{no_memory, too_deep}
 use Rattle.fluent_syntax_parser.proofs.Fails.{shown, too_deep_there}
 use Rattle.fluent_syntax_parser.proofs.source.Source.get_attributes.Goals as goal
 
@@ -41,3 +42,11 @@ returns-in-Err-TooDeep-clause-meets c =
     let found = rw c.in-Err-TooDeep.field-0-is at c.in-Err-TooDeep.ensures.meets in
     too_deep (c.loop-attribute.invariant.deeper
     (deeper_attribute c.args.edition t (within c.args.edition t c.args.nesting) (too_deep_there found)))
+
+pub returns-in_err-push-in-Ok-clause-meets : goal.returns-in_err-push-in-Ok-clause-meets
+returns-in_err-push-in-Ok-clause-meets c =
+    let p = err_from_is_err_and c.from_residual.result c.from_residual.ensures.1 in
+    rw (p.1, p.2) no_memory
+
+pub returns-in-Err-Memory-clause-meets : goal.returns-in-Err-Memory-clause-meets
+returns-in-Err-Memory-clause-meets c = no_memory

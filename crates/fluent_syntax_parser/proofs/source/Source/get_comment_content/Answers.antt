@@ -4,7 +4,7 @@ use Rattle.fluent_syntax_grammar.specs.Comments.{one_more, other_level, no_comme
 use Rattle.fluent_syntax_grammar.specs.Construct.{stops, goes_on, given}
 use Rattle.fluent_syntax_grammar.proofs.Facts.{append_nothing}
 use Rattle.fluent_syntax_parser.specs.CommentLines.{line_of}
-use Rattle.fluent_syntax_parser.specs.Meets.{refused}
+use Rattle.fluent_syntax_parser.specs.Meets.{no_memory, refused}
 use Rattle.fluent_syntax_parser.proofs.source.Source.get_comment_content.Goals as goal
 
 pub returns-in_err-first-clause-meets : goal.returns-in_err-first-clause-meets
@@ -46,3 +46,14 @@ returns-clause-meets c =
     rw (← append_nothing c.loop-line.content.items)
     (c.loop-line.invariant.lines _ _
     (other_level (λ level. c.loop-line-test.false (c.comment_level.ensures.level ∙ level))))
+
+pub returns-in_err-add_line-clause-meets : goal.returns-in_err-add_line-clause-meets
+returns-in_err-add_line-clause-meets c =
+    let p = err_from_is_err_and c.from_residual-in_err-add_line.result c.from_residual-in_err-add_line.ensures.1 in
+    rw (p.1, p.2) no_memory
+
+pub returns-in_err-add_line-in-Ok-clause-meets : goal.returns-in_err-add_line-in-Ok-clause-meets
+returns-in_err-add_line-in-Ok-clause-meets c =
+    let p = err_from_is_err_and c.from_residual-in_err-add_line-in-Ok.result
+    c.from_residual-in_err-add_line-in-Ok.ensures.1 in
+    rw (p.1, p.2) no_memory
