@@ -48,7 +48,7 @@ use Rattle.fluent_syntax_parser.proofs.Behind.{all_behind, item_behind, item_fai
 use Rattle.fluent_syntax_parser.proofs.Fails.{braces, fails_braces, fails_first, fails_list, fails_next, fails_no}
 use Rattle.fluent_syntax_parser.proofs.Fails.{fails_seen, fails_yes, functional_arrow_end, functional_here}
 use Rattle.fluent_syntax_parser.proofs.Fails.{functional_look, functional_reaches, functional_star, functional_steps}
-use Rattle.fluent_syntax_parser.proofs.Fails.{list, no_call, no_placeable}
+use Rattle.fluent_syntax_parser.proofs.Fails.{list, no_call, no_placeable, out_of_memory}
 use Rattle.fluent_syntax_parser.proofs.GatheredVariants.{put_added, put_all}
 use Rattle.fluent_syntax_parser.proofs.InlineStarts.{by_number, by_start, by_value, no_value, value_fails}
 use Rattle.fluent_syntax_parser.proofs.Pieces.{bare_brace, end_pieces, line_read, no_lines, no_pieces, own_line_fails}
@@ -553,7 +553,8 @@ get_arguments-returns-then-not-is_empty-clause-meets m c =
     (positional t _ (names_in t old.named.items) old.place
     (omega (arith, c.if-place-self.false, old.invariant.within)) (sym c.loop-alloc-test.ensures) e _
     c.in_ok-expression.ensures.meets is _
-    (late t (within c.args.edition t c.args.nesting) (names_in t old.named.items) e _ (some_names t old.named.items some)))))
+    (late t (within c.args.edition t c.args.nesting) (names_in t old.named.items) e _
+    (some_names t old.named.items some)))))
 
 pub get_arguments-loop-alloc-preserved : goal.get_arguments-loop-alloc-preserved
 get_arguments-loop-alloc-preserved m c =
@@ -792,17 +793,20 @@ get_variants-loop-starred-preserved m c =
 
 pub get_pieces-returns-in-None-clause-meets : goal.get_pieces-returns-in-None-clause-meets
 get_pieces-returns-in-None-clause-meets m c =
-    all_behind piece_view _ c.loop-pieces.invariant.gathered (end_pieces c.args.self.now.bytes.now (within c.args.edition c.args.self.now.bytes.now c.args.nesting) _ (sym c.in-None.ensures))
+    all_behind piece_view _ c.loop-pieces.invariant.gathered (end_pieces c.args.self.now.bytes.now
+    (within c.args.edition c.args.self.now.bytes.now c.args.nesting) _ (sym c.in-None.ensures))
 
 pub get_pieces-returns-then-is_eol_at-clause-meets : goal.get_pieces-returns-then-is_eol_at-clause-meets
 get_pieces-returns-then-is_eol_at-clause-meets m c =
     all_behind piece_view _ c.loop-pieces.invariant.gathered
-    (no_pieces c.args.self.now.bytes.now (within c.args.edition c.args.self.now.bytes.now c.args.nesting) _ _ (sym c.in-Some.ensures) (λ e. cc) (sym c.if-is_eol_at.ensures))
+    (no_pieces c.args.self.now.bytes.now (within c.args.edition c.args.self.now.bytes.now c.args.nesting) _ _
+    (sym c.in-Some.ensures) (λ e. cc) (sym c.if-is_eol_at.ensures))
 
 pub get_pieces-returns-then-byte-eq125-clause-meets : goal.get_pieces-returns-then-byte-eq125-clause-meets
 get_pieces-returns-then-byte-eq125-clause-meets m c =
     item_fails c.loop-pieces.invariant.gathered (refused (λ k from to (a, b, d). rw (a, b, d)
-    (bare_brace c.args.self.now.bytes.now (within c.args.edition c.args.self.now.bytes.now c.args.nesting) _ _ (sym c.in-Some.ensures) (sym c.if-is_eol_at.ensures)
+    (bare_brace c.args.self.now.bytes.now (within c.args.edition c.args.self.now.bytes.now c.args.nesting) _ _
+    (sym c.in-Some.ensures) (sym c.if-is_eol_at.ensures)
     c.if-byte-eq125.true)))
 
 pub get_pieces-returns-in_err-expression-in-Some-clause-meets :
@@ -811,7 +815,8 @@ get_pieces-returns-in_err-expression-in-Some-clause-meets m c =
     let p = err_from_is_err_and c.from_residual.result c.from_residual.ensures.1 in
     rw (p.1, p.2)
     (item_fails c.loop-pieces.invariant.gathered
-    (placed_fails c.args.self.now.bytes.now (within c.args.edition c.args.self.now.bytes.now c.args.nesting) _ _ (sym c.in-Some.ensures) (sym c.if-is_eol_at.ensures)
+    (placed_fails c.args.self.now.bytes.now (within c.args.edition c.args.self.now.bytes.now c.args.nesting) _ _
+    (sym c.in-Some.ensures) (sym c.if-is_eol_at.ensures)
     c.if-byte-eq123.true (fails_first c.in_err-expression-in-Some.ensures.meets)))
 
 pub get_pieces-loop-pieces-preserved-then-byte-eq123 : goal.get_pieces-loop-pieces-preserved-then-byte-eq123
@@ -824,7 +829,8 @@ get_pieces-loop-pieces-preserved-then-byte-eq123 m c =
       gathered =
           item_behind piece_view _ _ _ c.in_ok-push-in-Some.ensures.items c.loop-pieces.invariant.gathered
           (functional_next_piece t (within c.args.edition t c.args.nesting) (functional_within c.args.edition t _))
-          (placed_piece t (within c.args.edition t c.args.nesting) _ _ (sym c.in-Some.ensures) (sym c.if-is_eol_at.ensures) c.if-byte-eq123.true _
+          (placed_piece t (within c.args.edition t c.args.nesting) _ _ (sym c.in-Some.ensures)
+          (sym c.if-is_eol_at.ensures) c.if-byte-eq123.true _
           (goes_on read.meets given));
     }
 
@@ -838,7 +844,8 @@ get_pieces-loop-pieces-preserved m c =
       gathered =
           item_behind piece_view _ _ _ c.in_ok-push-in-Some-2.ensures.items c.loop-pieces.invariant.gathered
           (functional_next_piece t (within c.args.edition t c.args.nesting) (functional_within c.args.edition t _))
-          (run_piece t (within c.args.edition t c.args.nesting) _ _ (sym c.in-Some.ensures) (sym c.if-is_eol_at.ensures) c.if-byte-eq125.false
+          (run_piece t (within c.args.edition t c.args.nesting) _ _ (sym c.in-Some.ensures)
+          (sym c.if-is_eol_at.ensures) c.if-byte-eq125.false
           c.if-byte-eq123.false _ run);
     }
 
@@ -862,7 +869,8 @@ get_lines-returns-in_err-pieces-in-Some-clause-meets m c =
     let blank = c.skip_blank_inline-first.ensures.blank in
     rw (p.1, p.2)
     (item_fails c.loop-lines.invariant.gathered
-    (own_line_fails t (within c.args.edition t c.args.nesting) blank (sym c.in-Some.ensures) (sym c.if-not-belongs.ensures)
+    (own_line_fails t (within c.args.edition t c.args.nesting) blank (sym c.in-Some.ensures)
+    (sym c.if-not-belongs.ensures)
     (fails_first
     (fails_next functional_here at_place
     (fails_next (functional_inline_blank t) (passed blank)
@@ -875,7 +883,8 @@ get_lines-returns-in-None-eol_end-clause-meets m c =
     let blank = c.skip_blank_inline-first.ensures.blank in
     let pieces = c.in_ok-pieces-in-Some.ensures in
     let none = sym c.in-None-eol_end.ensures.eol in
-    let read = line_read t (within c.args.edition t c.args.nesting) _ _ blank _ _ _ _ pieces.meets (ends_text t _ none) in
+    let read = line_read t (within c.args.edition t c.args.nesting) _ _ blank _ _ _ _ pieces.meets
+    (ends_text t _ none) in
     all_behind line_view _
     (item_behind line_view _ _ _ c.in_ok-push-in-None-eol_end.ensures.items c.loop-lines.invariant.gathered
     (functional_next_line t (within c.args.edition t c.args.nesting) (functional_within c.args.edition t _))
@@ -888,7 +897,8 @@ get_lines-loop-lines-preserved m c =
     let blank = c.skip_blank_inline-first.ensures.blank in
     let pieces = c.in_ok-pieces-in-Some.ensures in
     let eol = c.in-Some-eol_end.ensures in
-    let read = line_read t (within c.args.edition t c.args.nesting) _ _ blank _ _ _ _ pieces.meets (ends_line t _ _ (sym eol.eol)) in
+    let read = line_read t (within c.args.edition t c.args.nesting) _ _ blank _ _ _ _ pieces.meets
+    (ends_line t _ _ (sym eol.eol)) in
     record {
       forward = omega (arith, c.loop-lines.invariant.forward, blank.forward, pieces.within.0, eol.within.0);
       within = eol.within.1;
@@ -912,59 +922,57 @@ get_expression-skip_blank_inline-ptr-requires m c =
 pub get_arguments-returns-in_err-push-in-Some-clause-meets :
     goal.get_arguments-returns-in_err-push-in-Some-clause-meets
 get_arguments-returns-in_err-push-in-Some-clause-meets m c =
-    let p = err_from_is_err_and c.from_residual-in_err-push-in-Some.result c.from_residual-in_err-push-in-Some.ensures.1 in
-    rw (p.1, p.2) no_memory
+    rw (out_of_memory c.from_residual-in_err-push-in-Some.result
+    c.from_residual-in_err-push-in-Some.ensures.1) no_memory
 
 pub get_arguments-returns-in_err-push-in_default-clause-meets :
     goal.get_arguments-returns-in_err-push-in_default-clause-meets
 get_arguments-returns-in_err-push-in_default-clause-meets m c =
-    let p = err_from_is_err_and c.from_residual-in_err-push-in_default.result c.from_residual-in_err-push-in_default.ensures.1 in
-    rw (p.1, p.2) no_memory
+    rw (out_of_memory c.from_residual-in_err-push-in_default.result
+    c.from_residual-in_err-push-in_default.ensures.1) no_memory
 
 pub get_inline_expression-returns-in_err-expression-in-Brace-2-clause-meets :
     goal.get_inline_expression-returns-in_err-expression-in-Brace-2-clause-meets
 get_inline_expression-returns-in_err-expression-in-Brace-2-clause-meets m c =
-    let p = err_from_is_err_and c.from_residual-in_err-expression-in-Brace-2.result c.from_residual-in_err-expression-in-Brace-2.ensures.1 in
-    rw (p.1, p.2) no_memory
+    rw (out_of_memory c.from_residual-in_err-expression-in-Brace-2.result
+    c.from_residual-in_err-expression-in-Brace-2.ensures.1) no_memory
 
 pub get_lines-returns-in_err-push-in-None-eol_end-clause-meets :
     goal.get_lines-returns-in_err-push-in-None-eol_end-clause-meets
 get_lines-returns-in_err-push-in-None-eol_end-clause-meets m c =
-    let p = err_from_is_err_and c.from_residual-in_err-push-in-None-eol_end.result c.from_residual-in_err-push-in-None-eol_end.ensures.1 in
-    rw (p.1, p.2) no_memory
+    rw (out_of_memory c.from_residual-in_err-push-in-None-eol_end.result
+    c.from_residual-in_err-push-in-None-eol_end.ensures.1) no_memory
 
 pub get_lines-returns-in_err-push-in-Some-eol_end-clause-meets :
     goal.get_lines-returns-in_err-push-in-Some-eol_end-clause-meets
 get_lines-returns-in_err-push-in-Some-eol_end-clause-meets m c =
-    let p = err_from_is_err_and c.from_residual-in_err-push-in-Some-eol_end.result c.from_residual-in_err-push-in-Some-eol_end.ensures.1 in
-    rw (p.1, p.2) no_memory
+    rw (out_of_memory c.from_residual-in_err-push-in-Some-eol_end.result
+    c.from_residual-in_err-push-in-Some-eol_end.ensures.1) no_memory
 
 pub get_pattern-returns-in_err-short-clause-meets :
     goal.get_pattern-returns-in_err-short-clause-meets
 get_pattern-returns-in_err-short-clause-meets m c =
-    let p = err_from_is_err_and c.from_residual.result c.from_residual.ensures.1 in
-    rw (p.1, p.2) no_memory
+    rw (out_of_memory c.from_residual.result c.from_residual.ensures.1) no_memory
 
 pub get_pattern-returns-in_err-pattern-in-None-clause-meets :
     goal.get_pattern-returns-in_err-pattern-in-None-clause-meets
 get_pattern-returns-in_err-pattern-in-None-clause-meets m c =
-    let p = err_from_is_err_and c.from_residual-in_err-pattern-in-None.result c.from_residual-in_err-pattern-in-None.ensures.1 in
-    rw (p.1, p.2) no_memory
+    rw (out_of_memory c.from_residual-in_err-pattern-in-None.result
+    c.from_residual-in_err-pattern-in-None.ensures.1) no_memory
 
 pub get_pieces-returns-in_err-push-in-Some-clause-meets :
     goal.get_pieces-returns-in_err-push-in-Some-clause-meets
 get_pieces-returns-in_err-push-in-Some-clause-meets m c =
-    let p = err_from_is_err_and c.from_residual-in_err-push-in-Some.result c.from_residual-in_err-push-in-Some.ensures.1 in
-    rw (p.1, p.2) no_memory
+    rw (out_of_memory c.from_residual-in_err-push-in-Some.result
+    c.from_residual-in_err-push-in-Some.ensures.1) no_memory
 
 pub get_pieces-returns-in_err-push-in-Some-2-clause-meets :
     goal.get_pieces-returns-in_err-push-in-Some-2-clause-meets
 get_pieces-returns-in_err-push-in-Some-2-clause-meets m c =
-    let p = err_from_is_err_and c.from_residual-in_err-push-in-Some-2.result c.from_residual-in_err-push-in-Some-2.ensures.1 in
-    rw (p.1, p.2) no_memory
+    rw (out_of_memory c.from_residual-in_err-push-in-Some-2.result
+    c.from_residual-in_err-push-in-Some-2.ensures.1) no_memory
 
 pub get_variants-returns-in_err-push-clause-meets :
     goal.get_variants-returns-in_err-push-clause-meets
 get_variants-returns-in_err-push-clause-meets m c =
-    let p = err_from_is_err_and c.from_residual-in_err-push.result c.from_residual-in_err-push.ensures.1 in
-    rw (p.1, p.2) no_memory
+    rw (out_of_memory c.from_residual-in_err-push.result c.from_residual-in_err-push.ensures.1) no_memory
