@@ -1,9 +1,8 @@
-use Rattle.std.proofs.Common.{◌≡◌, ◌+◌, ◌-◌, ◌∙◌, refl, sym, arith, [], false, None, inl, inr}
+use Rattle.std.proofs.Common.{◌≡◌, ◌+◌, ◌∙◌, refl, sym, arith, false, None, inl, inr}
 use Rattle.std.specs.Prelude.{◌==◌, ◌⊎◌}
 use Rattle.std.proofs.lemmas.Option.{gets}
 use Rattle.std.proofs.lemmas.Result.{err_from_is_err_and}
 use Rattle.fluent_syntax_tree.specs.Spans.{bytes_at}
-use Rattle.fluent_syntax_tree.specs.Tree.{no_variants, variants}
 use Rattle.fluent_syntax_tree.specs.View.{inline_view, variant_view}
 use Rattle.fluent_syntax_tree.specs.declared.ast.NamedArgument.{NamedArgument, roll-NamedArgument}
 use Rattle.fluent_syntax_tree.specs.declared.ast.Identifier.{Identifier}
@@ -175,7 +174,7 @@ pub get_inline_expression-returns-in_err-expression-in-Brace-clause-meets :
 get_inline_expression-returns-in_err-expression-in-Brace-clause-meets m c =
     let t = c.args.self.now.bytes.now in
     let p = err_from_is_err_and c.from_residual-in_err-expression-in-Brace.result
-        c.from_residual-in_err-expression-in-Brace.ensures.1 in
+    c.from_residual-in_err-expression-in-Brace.ensures.1 in
     rw (p.1, p.2)
     (fails_seen (inline_of t _) starts.brace c.in-Brace.ensures
     (fails_first c.in_err-expression-in-Brace.ensures.meets))
@@ -273,7 +272,7 @@ get_placeable-returns-in_err-ptr-clause-meets m c =
     goes_on c.in_ok-start.ensures.meets
     (goes_on (passed c.skip_blank-start.ensures.blank)
     (goes_on (braces c.args.edition c.args.self.now.bytes.now _ _ _ c.if-nesting-eq0.false
-        c.in_ok-expression.ensures.meets)
+    c.in_ok-expression.ensures.meets)
     (goes_on (passed c.skip_blank_inline-ptr.ensures.blank)
     (stops (c.in_err-ptr.ensures.meets k from to h)))))))
 
@@ -282,7 +281,7 @@ get_placeable-returns-clause-meets m c =
     goes_on c.in_ok-start.ensures.meets
     (goes_on (passed c.skip_blank-start.ensures.blank)
     (goes_on (braces c.args.edition c.args.self.now.bytes.now _ _ _ c.if-nesting-eq0.false
-        c.in_ok-expression.ensures.meets)
+    c.in_ok-expression.ensures.meets)
     (goes_on (passed c.skip_blank_inline-ptr.ensures.blank)
     (goes_on c.in_ok-ptr.ensures.meets
     given))))
@@ -349,7 +348,7 @@ get_expression-returns-in_err-variants-in-None-clause-meets m c =
     let t = c.args.self.now.bytes.now in
     let is = c.in-None.ensures t c.skip_blank-ptr.result in
     let p = err_from_is_err_and c.from_residual-in_err-variants-in-None.result
-        c.from_residual-in_err-variants-in-None.ensures.1 in
+    c.from_residual-in_err-variants-in-None.ensures.1 in
     rw (p.1, p.2)
     (fails_next (functional_inline t _ (functional_within c.args.edition t _)) c.in_ok-expression.ensures.meets
     (fails_next (functional_blank t) (passed c.skip_blank-ptr.ensures.blank)
@@ -484,7 +483,7 @@ get_arguments-returns-in_err-value-in-Some-clause-meets m c =
     let new = used_in_order t (bytes_at t c.in-Some.name) names ∙ sym found in
     let mark = sym c.if-is_byte_at.ensures in
     let p = err_from_is_err_and c.from_residual-in_err-value-in-Some.result
-        c.from_residual-in_err-value-in-Some.ensures.1 in
+    c.from_residual-in_err-value-in-Some.ensures.1 in
     rw (p.1, p.2)
     (item_fails c.loop-alloc.invariant.gathered
     (named_fails t _ (names_in t names) _
@@ -531,7 +530,7 @@ get_arguments-loop-alloc-preserved-then-is_byte_at m c =
       within = c.skip_separator-place.ensures.within.1;
       gathered =
           one_named t _ (functional_within c.args.edition t _) old.positional.items old.named.items c.args.ptr
-              old.place old.invariant.gathered
+          old.place old.invariant.gathered
           (omega (arith, c.if-place-self.false, old.invariant.within)) (sym c.loop-alloc-test.ensures)
           c.in_ok-expression.expression _ c.in_ok-expression.ensures.meets added (sym c.in-Some.ensures)
           (sym c.if-is_byte_at.ensures) new _ c.in_ok-push-in-Some.ensures.items _ _ _
@@ -578,7 +577,7 @@ get_arguments-loop-alloc-preserved m c =
       within = c.skip_separator-place-in_default.ensures.within.1;
       gathered =
           one_positional t _ (functional_within c.args.edition t _) old.positional.items old.named.items c.args.ptr
-              old.place
+          old.place
           old.invariant.gathered (omega (arith, c.if-place-self.false, old.invariant.within))
           (sym c.loop-alloc-test.ensures) c.in_ok-expression.expression _ c.in_ok-expression.ensures.meets is none _
           c.in_ok-push-in_default.ensures.items _ c.skip_separator-place-in_default.ensures.meets;
@@ -613,7 +612,7 @@ pub get_layout-returns-in_err-pieces-in-None-clause-meets :
 get_layout-returns-in_err-pieces-in-None-clause-meets m c =
     let t = c.args.self.now.bytes.now in
     let p = err_from_is_err_and c.from_residual-in_err-pieces-in-None.result
-        c.from_residual-in_err-pieces-in-None.ensures.1 in
+    c.from_residual-in_err-pieces-in-None.ensures.1 in
     rw (p.1, p.2)
     (fails_seen (layout_at t _) _ c.in-None.ensures.eol
     (fails_next functional_here at_place
@@ -624,7 +623,7 @@ pub get_layout-returns-in_err-lines-in-None-clause-meets :
 get_layout-returns-in_err-lines-in-None-clause-meets m c =
     let t = c.args.self.now.bytes.now in
     let p = err_from_is_err_and c.from_residual-in_err-lines-in-None.result
-        c.from_residual-in_err-lines-in-None.ensures.1 in
+    c.from_residual-in_err-lines-in-None.ensures.1 in
     rw (p.1, p.2)
     (fails_seen (layout_at t _) _ c.in-None.ensures.eol
     (fails_next functional_here at_place
@@ -646,7 +645,7 @@ pub get_pattern-returns-in_err-layout-in-None-clause-meets :
 get_pattern-returns-in_err-layout-in-None-clause-meets m c =
     let t = c.args.self.now.bytes.now in
     let p = err_from_is_err_and c.from_residual-in_err-layout-in-None.result
-        c.from_residual-in_err-layout-in-None.ensures.1 in
+    c.from_residual-in_err-layout-in-None.ensures.1 in
     rw (p.1, p.2)
     (fails_first
     (fails_next (functional_inline_blank t) (passed c.skip_blank_inline-start.ensures.blank)

@@ -62,7 +62,7 @@ invariant-get_arguments-loop-alloc l =
       within : l.place ≤ length t;
       gathered :
           Behind t (next_argument t (grammar.within l.edition t l.nesting)) add_argument
-              (arguments no_inlines no_named) [] l.ptr
+          (arguments no_inlines no_named) [] l.ptr
           (put_arguments l.positional.items l.named.items) (names_in t l.named.items) l.place;
     }
 

@@ -1,7 +1,6 @@
-use Rattle.std.proofs.Common.{refl, arith}
-use Rattle.std.proofs.lemmas.Result.{err_from_is_err_and}
+use Rattle.std.proofs.Common.{arith}
 use Rattle.fluent_syntax_tree.specs.View.{attribute_view}
-use Rattle.fluent_syntax_grammar.specs.Entries.{attributes, no_more, one_more}
+use Rattle.fluent_syntax_grammar.specs.Entries.{no_more, one_more}
 use Rattle.fluent_syntax_parser.proofs.Gathers as gathers
 use Rattle.fluent_syntax_grammar.specs.Entries.{attributes_of}
 use Rattle.fluent_syntax_grammar.specs.Grammar.{within}
