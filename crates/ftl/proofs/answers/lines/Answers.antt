@@ -1,4 +1,5 @@
 use Rattle.std.proofs.Common.{ap, ◌∙◌}
+use Rattle.std.proofs.lemmas.Result.{err_from_is_err_and}
 use Rattle.fluent_syntax_parser.specs.Rest.{tree_of}
 use Rattle.ftl.proofs.Checked.{all_checked, checked_on, checked_past, if_some, next_in_text, nothing_checked}
 use Rattle.ftl.proofs.Checked.{of_none, of_value}
@@ -93,3 +94,15 @@ returns-in_default-clause-text c =
     let none = rw (short.text, inv.text, short.options, inv.edition, inv.comments, there, c.in_default.is)
     at c.in_ok-read.ensures.next in
     all_checked c.args.edition t _ _ inv.checked none
+
+-- ---- where it nests too deeply
+
+pub returns-in_err-read-clause-deeper : goal.returns-in_err-read-clause-deeper
+returns-in_err-read-clause-deeper c =
+    let inv = c.loop-parts.invariant in
+    let short = c.in_ok-next_short.ensures in
+    let there = of_none c.in_ok-next_short.field-0 c.if-is_none.ensures short.none in
+    let deeper = rw (short.text, inv.text, short.options, inv.edition, inv.comments, inv.nesting, there)
+    at c.in_err-read.ensures.deeper in
+    let halt = err_from_is_err_and c.from_residual-in_err-read.result c.from_residual-in_err-read.ensures.1 in
+    rw (halt.1, halt.2) (λ deep. inv.deeper.0 (deeper deep))

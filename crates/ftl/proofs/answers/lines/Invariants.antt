@@ -1,13 +1,13 @@
 use Rattle.std.proofs.Common.{◌≡◌, ◌-◌, length, string_bytes}
 use Rattle.fluent_syntax_grammar.specs.Nesting.{TextDeeper}
-use Rattle.fluent_syntax_grammar.specs.Tiling.{TileAt}
+use Rattle.fluent_syntax_grammar.specs.Tiling.{TileIn}
 use Rattle.fluent_syntax_parser.specs.declared.options.Comments.TheVariants.{Kept}
 use Rattle.ftl.proofs.Checked.{CheckedTo}
 use Rattle.ftl.proofs.answers.lines.Given as goal
 
 abbrev pub invariant-loop-parts : goal.invariant-loop-parts
 invariant-loop-parts l = let t = l.text in
-    let deeper = TextDeeper l.fn.edition t (TileAt l.fn.edition t) l.fn.nesting in record {
+    let deeper = TextDeeper l.fn.edition t (TileIn l.fn.edition t) l.fn.nesting in record {
       text : l.entries.source.bytes.now ≡ t;
       edition : l.entries.options.edition ≡ l.fn.edition;
       comments : l.entries.options.comments ≡ Kept;
