@@ -3,7 +3,7 @@ use Rattle.std.proofs.Common.{◌≡◌, ℕ, ◌+◌, ◌≤◌, ◌<◌, true,
 use Rattle.std.proofs.Common.{sym, ap, ◌∙◌, subst, inl, inr}
 use Rattle.std.specs.Prelude.{◌==◌, ◌⊎◌, slice_get}
 use Rattle.std.proofs.lemmas.Option.{slice_get-get_or, slice_get_past}
-use Rattle.fluent_syntax_tree.specs.Kind.{Kind, ExpectedToken, PositionalArgumentFollowsNamed}
+use Rattle.fluent_syntax_tree.specs.Kind.{ExpectedToken, PositionalArgumentFollowsNamed}
 use Rattle.fluent_syntax_tree.specs.Spans.{bytes_at}
 use Rattle.fluent_syntax_tree.specs.Tree.{InlineTree, arguments, no_inlines, no_named}
 use Rattle.fluent_syntax_tree.specs.View.{inline_view}
@@ -15,7 +15,7 @@ use Rattle.fluent_syntax_grammar.specs.Arguments.{Argument, add_argument, argume
 use Rattle.fluent_syntax_grammar.specs.Arguments.{is_used, named_rest, next_argument, next_argument_at, positional_rest}
 use Rattle.fluent_syntax_grammar.specs.Arguments.{separator}
 use Rattle.fluent_syntax_grammar.specs.Bytes.{colon, right_parenthesis}
-use Rattle.fluent_syntax_grammar.specs.Construct.{Outcome, Read, Refused, ◌>>=◌, gives, at_each, goes_on, stops, given}
+use Rattle.fluent_syntax_grammar.specs.Construct.{Outcome, Read, Refused, ◌>>=◌, gives, at_each, goes_on, given}
 use Rattle.fluent_syntax_grammar.specs.Construct.{failed, passed, chosen, first, second, More, no_item, item}
 use Rattle.fluent_syntax_grammar.specs.Family.{Family}
 use Rattle.fluent_syntax_grammar.specs.Inline.{inline_expression}

@@ -1,6 +1,6 @@
 -- Texts that nest deeper, from tile to tile.
 use Rattle.std.proofs.Common.{◌≡◌, ℕ, ◌<◌, List, [], ◌∷◌, length, Option, true, false, refl, subst, arith}
-use Rattle.fluent_syntax_tree.specs.Entry.{EntryTree, comment, regular}
+use Rattle.fluent_syntax_tree.specs.Entry.{comment, regular}
 use Rattle.fluent_syntax_tree.specs.declared.ast.Entry.{Entry}
 use Rattle.fluent_syntax_tree.specs.declared.edition.Edition.{Edition}
 use Rattle.fluent_syntax_tree.specs.declared.errors.ParserError.{ParserError}
@@ -16,12 +16,11 @@ use Rattle.fluent_syntax_grammar.specs.Tiling.{whole_line}
 use Rattle.fluent_syntax_grammar.proofs.Functional.{single_block}
 use Rattle.fluent_syntax_grammar.proofs.Nesting.{functional_within}
 use Rattle.fluent_syntax_grammar.proofs.OneTiling.{IsOneTile, one_runtime_tile_in, one_tile_in}
-use Rattle.fluent_syntax_grammar.proofs.Runtime.{IsBareTile}
 use Rattle.fluent_syntax_parser.specs.Rest.{GivesTile, Standing, TileDeeper, TileIn, are_dropped, at_end, at_tile}
 use Rattle.fluent_syntax_parser.specs.Rest.{tree_of}
 use Rattle.fluent_syntax_parser.specs.declared.options.Comments.{Comments}
 use Rattle.fluent_syntax_parser.specs.declared.options.Comments.TheVariants.{Kept, Dropped}
-use Rattle.fluent_syntax_parser.proofs.Rests.{behind_block, in_mode, is_comment, is_no_bare_comment}
+use Rattle.fluent_syntax_parser.proofs.Rests.{behind_block, is_no_bare_comment}
 
 -- ---- tiles of whatever kind
 

@@ -1,6 +1,8 @@
 -- Where a part is refused or nests too deeply, so does the whole: one step of a reader, for each of its exits by `?`.
-use Rattle.std.proofs.Common.{◌≡◌, ℕ, zero, suc, ◌+◌, ◌-◌, List, [], Bool, true, false, refl, sym, subst, arith}
+use Rattle.std.proofs.Common.{◌≡◌, ℕ, suc, ◌-◌, List, [], Bool, true, false, refl, sym, subst, arith}
 use Rattle.std.specs.Prelude.{Result, Ok, Err}
+use Rattle.std.specs.Result.{IsErrAnd}
+use Rattle.std.proofs.lemmas.Result.{err_from_is_err_and}
 use Rattle.fluent_syntax_tree.specs.Tree.{ArgumentsTree, ExpressionTree}
 use Rattle.fluent_syntax_tree.specs.declared.edition.Edition.{Edition}
 use Rattle.fluent_syntax_tree.specs.declared.spans.Span.{Span}
@@ -64,6 +66,10 @@ pub meets_as : {A X : Type 0} {t : List ℕ} {c d : Construct A} (view : X → A
     (r : Result (X × ℕ) ReadFault) → Meets t c view i r → Meets t d view i r
 meets_as view read fails (Ok x) h = read _ h
 meets_as view read fails (Err f) h = fails f h
+
+-- the exit by `?` of what took no memory
+pub out_of_memory : {X : Type 0} (r : Result X ReadFault) → IsErrAnd r (λ f. f ≡ faults.Memory) → r ≡ Err faults.Memory
+out_of_memory r e = let p = err_from_is_err_and r e in rw (p.1, p.2)
 
 pub fails_yes : {A : Type 0} {t : List ℕ} {test : Bool} {c d : Construct A} {i : ℕ} {f : ReadFault} → test ≡ true →
     Fails t c i f → Fails t (either test c d) i f

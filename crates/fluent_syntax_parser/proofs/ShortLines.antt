@@ -1,6 +1,6 @@
 -- Patterns of one line of texts and plain references.
 use Rattle.std.proofs.Common.{◌≡◌, ℕ, suc, ◌<◌, List, [], ◌∷◌, ◌++◌, map, Option, Some, None, true}
-use Rattle.std.proofs.Common.{false, refl, sym, ap, append_assoc, arith, inl, inr, subst}
+use Rattle.std.proofs.Common.{false, refl, sym, ap, append_assoc, inl, inr, subst}
 use Rattle.std.specs.Prelude.{IfSome, slice_range}
 use Rattle.std.proofs.lemmas.List.{append-nil, map-append}
 use Rattle.fluent_syntax_tree.specs.Tree.{ElementTree, ExpressionTree, placeable, text_element}

@@ -1,6 +1,6 @@
 -- Patterns whose later lines are blank, and patterns that hold nothing.
 use Rattle.std.proofs.Common.{◌≡◌, ℕ, ◌+◌, ◌-◌, ◌<◌, ◌≤◌, List, [], ◌∷◌, length, get_or, Some}
-use Rattle.std.proofs.Common.{None, true, false, not, refl, sym, subst, arith, inl, inr, ap, ◌++◌}
+use Rattle.std.proofs.Common.{None, true, false, not, refl, sym, subst, arith, ap, ◌++◌}
 use Rattle.std.specs.List.{flat_map}
 use Rattle.std.specs.Prelude.{slice_get, slice_range, ◌==◌, ◌||◌, if◌then◌else◌}
 use Rattle.std.proofs.lemmas.Bool.Decides.{nat_tests}
@@ -62,7 +62,6 @@ module _ (t : List ℕ) where
 
     opens_there : after_eol t start ≡ None
     opens_there = eol_none (has_byte t lf start) _ _ _ (start_eol)
-
 
 module _ (t : List ℕ) (R : Family) where
   run_piece : (i j b : ℕ) (ps : List Piece) (end : ℕ) → slice_get t i ≡ Some b →
@@ -174,7 +173,7 @@ module _ (edition : Edition) (t : List ℕ) (n : ℕ) where
         let ended = line_ended t R to stop next line in
         let pieces = run_before t R start to w some [] to ended.pieces in
         let read = opening_read start (opens_there t start to w some)
-            (run' start to ∷ []) to pieces ended.ends_by next ended.ends ptr end
+        (run' start to ∷ []) to pieces ended.ends_by next ended.ends ptr end
         blank lines in
         let f = rw (ended.text_stays start stays) at read in f
 

@@ -5,7 +5,6 @@ use Rattle.std.proofs.Common.{append_assoc, arith, inl, inr}
 use Rattle.std.specs.Prelude.{slice_get, ◌==◌, ◌⊎◌}
 use Rattle.std.proofs.lemmas.List.{append-nil, length-append, map-append}
 use Rattle.fluent_syntax_tree.specs.Tree.{ExpressionTree}
-use Rattle.fluent_syntax_tree.specs.declared.edition.Edition.{Edition}
 use Rattle.fluent_syntax_tree.specs.declared.spans.Span.{Span}
 use Rattle.fluent_syntax_grammar.specs.Bytes.{left_brace}
 use Rattle.fluent_syntax_grammar.specs.Construct.{Read, given, goes_on, item_and_more}

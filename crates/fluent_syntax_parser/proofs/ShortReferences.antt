@@ -10,7 +10,7 @@ use Rattle.fluent_syntax_tree.specs.declared.spans.Span.{Span}
 use Rattle.fluent_syntax_grammar.specs.Arguments.{accessor, call_arguments}
 use Rattle.fluent_syntax_grammar.specs.Bytes.{cr, dollar_sign, full_stop, hyphen, left_brace, left_parenthesis, lf}
 use Rattle.fluent_syntax_grammar.specs.Bytes.{right_brace, space}
-use Rattle.fluent_syntax_grammar.specs.Construct.{Read, chosen, given, goes_on, passed, first, second, failed}
+use Rattle.fluent_syntax_grammar.specs.Construct.{Read, chosen, given, goes_on, passed, first, second}
 use Rattle.fluent_syntax_grammar.specs.Family.{Family, placeable}
 use Rattle.fluent_syntax_grammar.specs.Grammar.{within}
 use Rattle.fluent_syntax_grammar.specs.Inline.{inline_expression}
@@ -144,7 +144,7 @@ module _ (t : List ℕ) (i inside mark : ℕ) (brace : token t left_brace i (Rea
         let word = subst (λ k. identifier t k (Read span end)) same name in
         let read = by_start t (within edition t n) mark letter _ is
         (goes_on word (goes_on (no_call t (within edition t n) end j c)
-            (goes_on (no_accessor_behind t (within edition t n) end j c) given))) in
+        (goes_on (no_accessor_behind t (within edition t n) end j c) given))) in
         rw c.behind (placed_read edition t n i inside mark brace blank _ refl c.close c.close read
         (blank_at_close t c.close c.there) c.there);
   }
@@ -158,7 +158,7 @@ module _ (t : List ℕ) (i inside mark : ℕ) (brace : token t left_brace i (Rea
         (goes_on sign
         (goes_on name
         (goes_on (no_accessor_before t (within edition t n) end j c)
-            (goes_on (no_call t (within edition t n) end j c) given)))) in
+        (goes_on (no_call t (within edition t n) end j c) given)))) in
         rw c.behind (placed_read edition t n i inside mark brace blank _ refl c.close c.close read
         (blank_at_close t c.close c.there) c.there);
   }

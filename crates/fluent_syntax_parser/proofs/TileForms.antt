@@ -7,7 +7,7 @@ use Rattle.fluent_syntax_tree.specs.declared.errors.ParserError.{ParserError}
 use Rattle.fluent_syntax_tree.specs.declared.spans.Span.{Span}
 use Rattle.fluent_syntax_grammar.specs.Construct.{Read}
 use Rattle.fluent_syntax_grammar.specs.Grammar.{family, within}
-use Rattle.fluent_syntax_grammar.specs.Tiling.{entry_in, Tile, JunkEnd, failing_place, entry_at, TileAt, reads, refuses}
+use Rattle.fluent_syntax_grammar.specs.Tiling.{entry_in, Tile, JunkEnd, failing_place, TileAt, reads, refuses}
 use Rattle.fluent_syntax_grammar.proofs.Boundaries.{text_cuts}
 use Rattle.fluent_syntax_grammar.proofs.SoundStrings.{InText}
 use Rattle.fluent_syntax_grammar.proofs.SoundTiling.{entry_refused, tile_good}

@@ -1,5 +1,5 @@
 -- What a reader answers is an outcome of its construct.
-use Rattle.std.specs.Prelude.{◌≡◌, ℕ, ◌+◌, ◌<◌, slice_range, List, [], ◌∷◌, Option, Some, None, codes, Result, Ok, Err}
+use Rattle.std.specs.Prelude.{◌≡◌, ℕ, ◌+◌, slice_range, List, [], ◌∷◌, Option, Some, None, codes, Result, Ok, Err}
 use Rattle.std.specs.Fmt.{decimal}
 use Rattle.fluent_syntax_tree.specs.Kind as kinds
 use Rattle.fluent_syntax_tree.specs.Kind.{Kind}

@@ -56,7 +56,7 @@ impl<'s> Source<'s> {
         requires { ptr ≤ length self.now.bytes.now }
         ensures meets { let t = self.now.bytes.now in
             Meets t (at_each (start t) (argument_value t (within edition t nesting)))
-                (inline_view (λ s. s)) ptr result }
+            (inline_view (λ s. s)) ptr result }
         ensures within { IfOk result (λ read. (ptr < read.1) × (read.1 ≤ length self.now.bytes.now)) }
     {
         match self.start(ptr) {

@@ -1,9 +1,8 @@
-use Rattle.std.proofs.Common.{◌≡◌, ◌+◌, ◌-◌, ◌∙◌, refl, sym, arith, [], false, None, inl, inr}
+use Rattle.std.proofs.Common.{◌≡◌, ◌+◌, ◌∙◌, refl, sym, arith, false, None, inl, inr}
 use Rattle.std.specs.Prelude.{◌==◌, ◌⊎◌}
 use Rattle.std.proofs.lemmas.Option.{gets}
 use Rattle.std.proofs.lemmas.Result.{err_from_is_err_and}
 use Rattle.fluent_syntax_tree.specs.Spans.{bytes_at}
-use Rattle.fluent_syntax_tree.specs.Tree.{no_variants, variants}
 use Rattle.fluent_syntax_tree.specs.View.{inline_view, variant_view}
 use Rattle.fluent_syntax_tree.specs.declared.ast.NamedArgument.{NamedArgument, roll-NamedArgument}
 use Rattle.fluent_syntax_tree.specs.declared.ast.Identifier.{Identifier}
@@ -48,7 +47,7 @@ use Rattle.fluent_syntax_parser.proofs.Behind.{all_behind, item_behind, item_fai
 use Rattle.fluent_syntax_parser.proofs.Fails.{braces, fails_braces, fails_first, fails_list, fails_next, fails_no}
 use Rattle.fluent_syntax_parser.proofs.Fails.{fails_seen, fails_yes, functional_arrow_end, functional_here}
 use Rattle.fluent_syntax_parser.proofs.Fails.{functional_look, functional_reaches, functional_star, functional_steps}
-use Rattle.fluent_syntax_parser.proofs.Fails.{list, no_call, no_placeable}
+use Rattle.fluent_syntax_parser.proofs.Fails.{list, no_call, no_placeable, out_of_memory}
 use Rattle.fluent_syntax_parser.proofs.GatheredVariants.{put_added, put_all}
 use Rattle.fluent_syntax_parser.proofs.InlineStarts.{by_number, by_start, by_value, no_value, value_fails}
 use Rattle.fluent_syntax_parser.proofs.Pieces.{bare_brace, end_pieces, line_read, no_lines, no_pieces, own_line_fails}
@@ -175,7 +174,7 @@ pub get_inline_expression-returns-in_err-expression-in-Brace-clause-meets :
 get_inline_expression-returns-in_err-expression-in-Brace-clause-meets m c =
     let t = c.args.self.now.bytes.now in
     let p = err_from_is_err_and c.from_residual-in_err-expression-in-Brace.result
-        c.from_residual-in_err-expression-in-Brace.ensures.1 in
+    c.from_residual-in_err-expression-in-Brace.ensures.1 in
     rw (p.1, p.2)
     (fails_seen (inline_of t _) starts.brace c.in-Brace.ensures
     (fails_first c.in_err-expression-in-Brace.ensures.meets))
@@ -273,7 +272,7 @@ get_placeable-returns-in_err-ptr-clause-meets m c =
     goes_on c.in_ok-start.ensures.meets
     (goes_on (passed c.skip_blank-start.ensures.blank)
     (goes_on (braces c.args.edition c.args.self.now.bytes.now _ _ _ c.if-nesting-eq0.false
-        c.in_ok-expression.ensures.meets)
+    c.in_ok-expression.ensures.meets)
     (goes_on (passed c.skip_blank_inline-ptr.ensures.blank)
     (stops (c.in_err-ptr.ensures.meets k from to h)))))))
 
@@ -282,7 +281,7 @@ get_placeable-returns-clause-meets m c =
     goes_on c.in_ok-start.ensures.meets
     (goes_on (passed c.skip_blank-start.ensures.blank)
     (goes_on (braces c.args.edition c.args.self.now.bytes.now _ _ _ c.if-nesting-eq0.false
-        c.in_ok-expression.ensures.meets)
+    c.in_ok-expression.ensures.meets)
     (goes_on (passed c.skip_blank_inline-ptr.ensures.blank)
     (goes_on c.in_ok-ptr.ensures.meets
     given))))
@@ -349,7 +348,7 @@ get_expression-returns-in_err-variants-in-None-clause-meets m c =
     let t = c.args.self.now.bytes.now in
     let is = c.in-None.ensures t c.skip_blank-ptr.result in
     let p = err_from_is_err_and c.from_residual-in_err-variants-in-None.result
-        c.from_residual-in_err-variants-in-None.ensures.1 in
+    c.from_residual-in_err-variants-in-None.ensures.1 in
     rw (p.1, p.2)
     (fails_next (functional_inline t _ (functional_within c.args.edition t _)) c.in_ok-expression.ensures.meets
     (fails_next (functional_blank t) (passed c.skip_blank-ptr.ensures.blank)
@@ -484,7 +483,7 @@ get_arguments-returns-in_err-value-in-Some-clause-meets m c =
     let new = used_in_order t (bytes_at t c.in-Some.name) names ∙ sym found in
     let mark = sym c.if-is_byte_at.ensures in
     let p = err_from_is_err_and c.from_residual-in_err-value-in-Some.result
-        c.from_residual-in_err-value-in-Some.ensures.1 in
+    c.from_residual-in_err-value-in-Some.ensures.1 in
     rw (p.1, p.2)
     (item_fails c.loop-alloc.invariant.gathered
     (named_fails t _ (names_in t names) _
@@ -531,7 +530,7 @@ get_arguments-loop-alloc-preserved-then-is_byte_at m c =
       within = c.skip_separator-place.ensures.within.1;
       gathered =
           one_named t _ (functional_within c.args.edition t _) old.positional.items old.named.items c.args.ptr
-              old.place old.invariant.gathered
+          old.place old.invariant.gathered
           (omega (arith, c.if-place-self.false, old.invariant.within)) (sym c.loop-alloc-test.ensures)
           c.in_ok-expression.expression _ c.in_ok-expression.ensures.meets added (sym c.in-Some.ensures)
           (sym c.if-is_byte_at.ensures) new _ c.in_ok-push-in-Some.ensures.items _ _ _
@@ -553,7 +552,8 @@ get_arguments-returns-then-not-is_empty-clause-meets m c =
     (positional t _ (names_in t old.named.items) old.place
     (omega (arith, c.if-place-self.false, old.invariant.within)) (sym c.loop-alloc-test.ensures) e _
     c.in_ok-expression.ensures.meets is _
-    (late t (within c.args.edition t c.args.nesting) (names_in t old.named.items) e _ (some_names t old.named.items some)))))
+    (late t (within c.args.edition t c.args.nesting) (names_in t old.named.items) e _
+    (some_names t old.named.items some)))))
 
 pub get_arguments-loop-alloc-preserved : goal.get_arguments-loop-alloc-preserved
 get_arguments-loop-alloc-preserved m c =
@@ -577,7 +577,7 @@ get_arguments-loop-alloc-preserved m c =
       within = c.skip_separator-place-in_default.ensures.within.1;
       gathered =
           one_positional t _ (functional_within c.args.edition t _) old.positional.items old.named.items c.args.ptr
-              old.place
+          old.place
           old.invariant.gathered (omega (arith, c.if-place-self.false, old.invariant.within))
           (sym c.loop-alloc-test.ensures) c.in_ok-expression.expression _ c.in_ok-expression.ensures.meets is none _
           c.in_ok-push-in_default.ensures.items _ c.skip_separator-place-in_default.ensures.meets;
@@ -612,7 +612,7 @@ pub get_layout-returns-in_err-pieces-in-None-clause-meets :
 get_layout-returns-in_err-pieces-in-None-clause-meets m c =
     let t = c.args.self.now.bytes.now in
     let p = err_from_is_err_and c.from_residual-in_err-pieces-in-None.result
-        c.from_residual-in_err-pieces-in-None.ensures.1 in
+    c.from_residual-in_err-pieces-in-None.ensures.1 in
     rw (p.1, p.2)
     (fails_seen (layout_at t _) _ c.in-None.ensures.eol
     (fails_next functional_here at_place
@@ -623,7 +623,7 @@ pub get_layout-returns-in_err-lines-in-None-clause-meets :
 get_layout-returns-in_err-lines-in-None-clause-meets m c =
     let t = c.args.self.now.bytes.now in
     let p = err_from_is_err_and c.from_residual-in_err-lines-in-None.result
-        c.from_residual-in_err-lines-in-None.ensures.1 in
+    c.from_residual-in_err-lines-in-None.ensures.1 in
     rw (p.1, p.2)
     (fails_seen (layout_at t _) _ c.in-None.ensures.eol
     (fails_next functional_here at_place
@@ -645,7 +645,7 @@ pub get_pattern-returns-in_err-layout-in-None-clause-meets :
 get_pattern-returns-in_err-layout-in-None-clause-meets m c =
     let t = c.args.self.now.bytes.now in
     let p = err_from_is_err_and c.from_residual-in_err-layout-in-None.result
-        c.from_residual-in_err-layout-in-None.ensures.1 in
+    c.from_residual-in_err-layout-in-None.ensures.1 in
     rw (p.1, p.2)
     (fails_first
     (fails_next (functional_inline_blank t) (passed c.skip_blank_inline-start.ensures.blank)
@@ -792,17 +792,20 @@ get_variants-loop-starred-preserved m c =
 
 pub get_pieces-returns-in-None-clause-meets : goal.get_pieces-returns-in-None-clause-meets
 get_pieces-returns-in-None-clause-meets m c =
-    all_behind piece_view _ c.loop-pieces.invariant.gathered (end_pieces c.args.self.now.bytes.now (within c.args.edition c.args.self.now.bytes.now c.args.nesting) _ (sym c.in-None.ensures))
+    all_behind piece_view _ c.loop-pieces.invariant.gathered (end_pieces c.args.self.now.bytes.now
+    (within c.args.edition c.args.self.now.bytes.now c.args.nesting) _ (sym c.in-None.ensures))
 
 pub get_pieces-returns-then-is_eol_at-clause-meets : goal.get_pieces-returns-then-is_eol_at-clause-meets
 get_pieces-returns-then-is_eol_at-clause-meets m c =
     all_behind piece_view _ c.loop-pieces.invariant.gathered
-    (no_pieces c.args.self.now.bytes.now (within c.args.edition c.args.self.now.bytes.now c.args.nesting) _ _ (sym c.in-Some.ensures) (λ e. cc) (sym c.if-is_eol_at.ensures))
+    (no_pieces c.args.self.now.bytes.now (within c.args.edition c.args.self.now.bytes.now c.args.nesting) _ _
+    (sym c.in-Some.ensures) (λ e. cc) (sym c.if-is_eol_at.ensures))
 
 pub get_pieces-returns-then-byte-eq125-clause-meets : goal.get_pieces-returns-then-byte-eq125-clause-meets
 get_pieces-returns-then-byte-eq125-clause-meets m c =
     item_fails c.loop-pieces.invariant.gathered (refused (λ k from to (a, b, d). rw (a, b, d)
-    (bare_brace c.args.self.now.bytes.now (within c.args.edition c.args.self.now.bytes.now c.args.nesting) _ _ (sym c.in-Some.ensures) (sym c.if-is_eol_at.ensures)
+    (bare_brace c.args.self.now.bytes.now (within c.args.edition c.args.self.now.bytes.now c.args.nesting) _ _
+    (sym c.in-Some.ensures) (sym c.if-is_eol_at.ensures)
     c.if-byte-eq125.true)))
 
 pub get_pieces-returns-in_err-expression-in-Some-clause-meets :
@@ -811,7 +814,8 @@ get_pieces-returns-in_err-expression-in-Some-clause-meets m c =
     let p = err_from_is_err_and c.from_residual.result c.from_residual.ensures.1 in
     rw (p.1, p.2)
     (item_fails c.loop-pieces.invariant.gathered
-    (placed_fails c.args.self.now.bytes.now (within c.args.edition c.args.self.now.bytes.now c.args.nesting) _ _ (sym c.in-Some.ensures) (sym c.if-is_eol_at.ensures)
+    (placed_fails c.args.self.now.bytes.now (within c.args.edition c.args.self.now.bytes.now c.args.nesting) _ _
+    (sym c.in-Some.ensures) (sym c.if-is_eol_at.ensures)
     c.if-byte-eq123.true (fails_first c.in_err-expression-in-Some.ensures.meets)))
 
 pub get_pieces-loop-pieces-preserved-then-byte-eq123 : goal.get_pieces-loop-pieces-preserved-then-byte-eq123
@@ -824,7 +828,8 @@ get_pieces-loop-pieces-preserved-then-byte-eq123 m c =
       gathered =
           item_behind piece_view _ _ _ c.in_ok-push-in-Some.ensures.items c.loop-pieces.invariant.gathered
           (functional_next_piece t (within c.args.edition t c.args.nesting) (functional_within c.args.edition t _))
-          (placed_piece t (within c.args.edition t c.args.nesting) _ _ (sym c.in-Some.ensures) (sym c.if-is_eol_at.ensures) c.if-byte-eq123.true _
+          (placed_piece t (within c.args.edition t c.args.nesting) _ _ (sym c.in-Some.ensures)
+          (sym c.if-is_eol_at.ensures) c.if-byte-eq123.true _
           (goes_on read.meets given));
     }
 
@@ -838,7 +843,8 @@ get_pieces-loop-pieces-preserved m c =
       gathered =
           item_behind piece_view _ _ _ c.in_ok-push-in-Some-2.ensures.items c.loop-pieces.invariant.gathered
           (functional_next_piece t (within c.args.edition t c.args.nesting) (functional_within c.args.edition t _))
-          (run_piece t (within c.args.edition t c.args.nesting) _ _ (sym c.in-Some.ensures) (sym c.if-is_eol_at.ensures) c.if-byte-eq125.false
+          (run_piece t (within c.args.edition t c.args.nesting) _ _ (sym c.in-Some.ensures)
+          (sym c.if-is_eol_at.ensures) c.if-byte-eq125.false
           c.if-byte-eq123.false _ run);
     }
 
@@ -862,7 +868,8 @@ get_lines-returns-in_err-pieces-in-Some-clause-meets m c =
     let blank = c.skip_blank_inline-first.ensures.blank in
     rw (p.1, p.2)
     (item_fails c.loop-lines.invariant.gathered
-    (own_line_fails t (within c.args.edition t c.args.nesting) blank (sym c.in-Some.ensures) (sym c.if-not-belongs.ensures)
+    (own_line_fails t (within c.args.edition t c.args.nesting) blank (sym c.in-Some.ensures)
+    (sym c.if-not-belongs.ensures)
     (fails_first
     (fails_next functional_here at_place
     (fails_next (functional_inline_blank t) (passed blank)
@@ -875,7 +882,8 @@ get_lines-returns-in-None-eol_end-clause-meets m c =
     let blank = c.skip_blank_inline-first.ensures.blank in
     let pieces = c.in_ok-pieces-in-Some.ensures in
     let none = sym c.in-None-eol_end.ensures.eol in
-    let read = line_read t (within c.args.edition t c.args.nesting) _ _ blank _ _ _ _ pieces.meets (ends_text t _ none) in
+    let read = line_read t (within c.args.edition t c.args.nesting) _ _ blank _ _ _ _ pieces.meets
+    (ends_text t _ none) in
     all_behind line_view _
     (item_behind line_view _ _ _ c.in_ok-push-in-None-eol_end.ensures.items c.loop-lines.invariant.gathered
     (functional_next_line t (within c.args.edition t c.args.nesting) (functional_within c.args.edition t _))
@@ -888,7 +896,8 @@ get_lines-loop-lines-preserved m c =
     let blank = c.skip_blank_inline-first.ensures.blank in
     let pieces = c.in_ok-pieces-in-Some.ensures in
     let eol = c.in-Some-eol_end.ensures in
-    let read = line_read t (within c.args.edition t c.args.nesting) _ _ blank _ _ _ _ pieces.meets (ends_line t _ _ (sym eol.eol)) in
+    let read = line_read t (within c.args.edition t c.args.nesting) _ _ blank _ _ _ _ pieces.meets
+    (ends_line t _ _ (sym eol.eol)) in
     record {
       forward = omega (arith, c.loop-lines.invariant.forward, blank.forward, pieces.within.0, eol.within.0);
       within = eol.within.1;
@@ -912,59 +921,57 @@ get_expression-skip_blank_inline-ptr-requires m c =
 pub get_arguments-returns-in_err-push-in-Some-clause-meets :
     goal.get_arguments-returns-in_err-push-in-Some-clause-meets
 get_arguments-returns-in_err-push-in-Some-clause-meets m c =
-    let p = err_from_is_err_and c.from_residual-in_err-push-in-Some.result c.from_residual-in_err-push-in-Some.ensures.1 in
-    rw (p.1, p.2) no_memory
+    rw (out_of_memory c.from_residual-in_err-push-in-Some.result
+    c.from_residual-in_err-push-in-Some.ensures.1) no_memory
 
 pub get_arguments-returns-in_err-push-in_default-clause-meets :
     goal.get_arguments-returns-in_err-push-in_default-clause-meets
 get_arguments-returns-in_err-push-in_default-clause-meets m c =
-    let p = err_from_is_err_and c.from_residual-in_err-push-in_default.result c.from_residual-in_err-push-in_default.ensures.1 in
-    rw (p.1, p.2) no_memory
+    rw (out_of_memory c.from_residual-in_err-push-in_default.result
+    c.from_residual-in_err-push-in_default.ensures.1) no_memory
 
 pub get_inline_expression-returns-in_err-expression-in-Brace-2-clause-meets :
     goal.get_inline_expression-returns-in_err-expression-in-Brace-2-clause-meets
 get_inline_expression-returns-in_err-expression-in-Brace-2-clause-meets m c =
-    let p = err_from_is_err_and c.from_residual-in_err-expression-in-Brace-2.result c.from_residual-in_err-expression-in-Brace-2.ensures.1 in
-    rw (p.1, p.2) no_memory
+    rw (out_of_memory c.from_residual-in_err-expression-in-Brace-2.result
+    c.from_residual-in_err-expression-in-Brace-2.ensures.1) no_memory
 
 pub get_lines-returns-in_err-push-in-None-eol_end-clause-meets :
     goal.get_lines-returns-in_err-push-in-None-eol_end-clause-meets
 get_lines-returns-in_err-push-in-None-eol_end-clause-meets m c =
-    let p = err_from_is_err_and c.from_residual-in_err-push-in-None-eol_end.result c.from_residual-in_err-push-in-None-eol_end.ensures.1 in
-    rw (p.1, p.2) no_memory
+    rw (out_of_memory c.from_residual-in_err-push-in-None-eol_end.result
+    c.from_residual-in_err-push-in-None-eol_end.ensures.1) no_memory
 
 pub get_lines-returns-in_err-push-in-Some-eol_end-clause-meets :
     goal.get_lines-returns-in_err-push-in-Some-eol_end-clause-meets
 get_lines-returns-in_err-push-in-Some-eol_end-clause-meets m c =
-    let p = err_from_is_err_and c.from_residual-in_err-push-in-Some-eol_end.result c.from_residual-in_err-push-in-Some-eol_end.ensures.1 in
-    rw (p.1, p.2) no_memory
+    rw (out_of_memory c.from_residual-in_err-push-in-Some-eol_end.result
+    c.from_residual-in_err-push-in-Some-eol_end.ensures.1) no_memory
 
 pub get_pattern-returns-in_err-short-clause-meets :
     goal.get_pattern-returns-in_err-short-clause-meets
 get_pattern-returns-in_err-short-clause-meets m c =
-    let p = err_from_is_err_and c.from_residual.result c.from_residual.ensures.1 in
-    rw (p.1, p.2) no_memory
+    rw (out_of_memory c.from_residual.result c.from_residual.ensures.1) no_memory
 
 pub get_pattern-returns-in_err-pattern-in-None-clause-meets :
     goal.get_pattern-returns-in_err-pattern-in-None-clause-meets
 get_pattern-returns-in_err-pattern-in-None-clause-meets m c =
-    let p = err_from_is_err_and c.from_residual-in_err-pattern-in-None.result c.from_residual-in_err-pattern-in-None.ensures.1 in
-    rw (p.1, p.2) no_memory
+    rw (out_of_memory c.from_residual-in_err-pattern-in-None.result
+    c.from_residual-in_err-pattern-in-None.ensures.1) no_memory
 
 pub get_pieces-returns-in_err-push-in-Some-clause-meets :
     goal.get_pieces-returns-in_err-push-in-Some-clause-meets
 get_pieces-returns-in_err-push-in-Some-clause-meets m c =
-    let p = err_from_is_err_and c.from_residual-in_err-push-in-Some.result c.from_residual-in_err-push-in-Some.ensures.1 in
-    rw (p.1, p.2) no_memory
+    rw (out_of_memory c.from_residual-in_err-push-in-Some.result
+    c.from_residual-in_err-push-in-Some.ensures.1) no_memory
 
 pub get_pieces-returns-in_err-push-in-Some-2-clause-meets :
     goal.get_pieces-returns-in_err-push-in-Some-2-clause-meets
 get_pieces-returns-in_err-push-in-Some-2-clause-meets m c =
-    let p = err_from_is_err_and c.from_residual-in_err-push-in-Some-2.result c.from_residual-in_err-push-in-Some-2.ensures.1 in
-    rw (p.1, p.2) no_memory
+    rw (out_of_memory c.from_residual-in_err-push-in-Some-2.result
+    c.from_residual-in_err-push-in-Some-2.ensures.1) no_memory
 
 pub get_variants-returns-in_err-push-clause-meets :
     goal.get_variants-returns-in_err-push-clause-meets
 get_variants-returns-in_err-push-clause-meets m c =
-    let p = err_from_is_err_and c.from_residual-in_err-push.result c.from_residual-in_err-push.ensures.1 in
-    rw (p.1, p.2) no_memory
+    rw (out_of_memory c.from_residual-in_err-push.result c.from_residual-in_err-push.ensures.1) no_memory

@@ -62,7 +62,7 @@ invariant-get_arguments-loop-alloc l =
       within : l.place ≤ length t;
       gathered :
           Behind t (next_argument t (grammar.within l.edition t l.nesting)) add_argument
-              (arguments no_inlines no_named) [] l.ptr
+          (arguments no_inlines no_named) [] l.ptr
           (put_arguments l.positional.items l.named.items) (names_in t l.named.items) l.place;
     }
 
@@ -89,7 +89,8 @@ invariant-get_pieces-loop-pieces l =
     record {
       forward : l.ptr ≤ l.place;
       within : l.place ≤ length t;
-      gathered : BehindItems t (next_piece t (grammar.within l.edition t l.nesting)) piece_view l.ptr l.pieces.items l.place;
+      gathered : BehindItems t (next_piece t (grammar.within l.edition t l.nesting)) piece_view l.ptr l.pieces.items
+          l.place;
     }
 
 abbrev pub decreases-get_pieces-loop-pieces : goal.decreases-get_pieces-loop-pieces
@@ -101,7 +102,8 @@ invariant-get_lines-loop-lines l =
     record {
       forward : l.ptr ≤ l.start;
       within : l.start ≤ length t;
-      gathered : BehindItems t (next_line t (grammar.within l.edition t l.nesting)) line_view l.ptr l.lines.items l.start;
+      gathered : BehindItems t (next_line t (grammar.within l.edition t l.nesting)) line_view l.ptr l.lines.items
+          l.start;
     }
 
 abbrev pub decreases-get_lines-loop-lines : goal.decreases-get_lines-loop-lines

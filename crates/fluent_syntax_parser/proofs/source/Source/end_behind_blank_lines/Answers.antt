@@ -8,15 +8,14 @@ use Rattle.fluent_syntax_parser.proofs.source.Source.end_behind_blank_lines.Goal
 pub returns-clause-lines : goal.returns-clause-lines
 returns-clause-lines c =
     blank_lines c.args.edition c.args.self.now.bytes.now _ _ _ c.skip_blank_block.ensures.blank
-        c.in_ok-end.ensures.lines
+    c.in_ok-end.ensures.lines
 
 pub returns-clause-left : goal.returns-clause-left
-returns-clause-left c =
-    (
-      _,
-      c.skip_blank_block.ensures.blank,
-      no_lines_anywhere c.args.edition c.args.self.now.bytes.now _ _ c.in_ok-end.ensures.lines,
-    )
+returns-clause-left c = (
+  _,
+  c.skip_blank_block.ensures.blank,
+  no_lines_anywhere c.args.edition c.args.self.now.bytes.now _ _ c.in_ok-end.ensures.lines,
+)
 
 pub returns-in_err-end-clause-stands : goal.returns-in_err-end-clause-stands
 returns-in_err-end-clause-stands c = λ first end block lines.

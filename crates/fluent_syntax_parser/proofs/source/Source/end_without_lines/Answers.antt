@@ -11,7 +11,7 @@ returns-in-None-clause-lines c =
 pub returns-else-belongs-clause-lines : goal.returns-else-belongs-clause-lines
 returns-else-belongs-clause-lines c =
     λ n. list_ends (other_line c.skip_blank_inline-first.ensures.blank (sym c.in-Some.ensures)
-        (sym c.if-belongs.ensures))
+    (sym c.if-belongs.ensures))
 
 pub returns-in-None-clause-stands : goal.returns-in-None-clause-stands
 returns-in-None-clause-stands c = λ end lines.

@@ -14,14 +14,13 @@ returns-clause-opens c = λ n i blank.
     c.skip_blank_block.ensures.blank (c.in_ok-end.ensures.lines n) i blank
 
 pub returns-clause-left : goal.returns-clause-left
-returns-clause-left c =
-    (
-      _,
-      _,
-      sym c.in_ok-next.ensures.eol,
-      c.skip_blank_block.ensures.blank,
-      no_lines_anywhere c.args.edition c.args.self.now.bytes.now _ _ c.in_ok-end.ensures.lines,
-    )
+returns-clause-left c = (
+  _,
+  _,
+  sym c.in_ok-next.ensures.eol,
+  c.skip_blank_block.ensures.blank,
+  no_lines_anywhere c.args.edition c.args.self.now.bytes.now _ _ c.in_ok-end.ensures.lines,
+)
 
 pub returns-in_err-end-clause-stands : goal.returns-in_err-end-clause-stands
 returns-in_err-end-clause-stands c = λ next first end eol block lines.

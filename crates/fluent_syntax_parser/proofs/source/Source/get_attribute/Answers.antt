@@ -1,7 +1,6 @@
 use Rattle.std.proofs.Common.{refl}
 use Rattle.std.proofs.lemmas.Result.{err_from_is_err_and}
 use Rattle.fluent_syntax_grammar.specs.Construct.{stops, goes_on, given, failed, passed}
-use Rattle.fluent_syntax_grammar.specs.Grammar.{pattern}
 use Rattle.fluent_syntax_grammar.specs.Bytes.{equals_sign, full_stop}
 use Rattle.fluent_syntax_grammar.proofs.FunctionalWords.{functional_identifier, functional_inline_blank}
 use Rattle.fluent_syntax_grammar.proofs.FunctionalWords.{functional_token}
@@ -68,4 +67,3 @@ returns-in-None-clause-meets c =
     (goes_on c.in_ok-behind.ensures.meets
     (goes_on value
     (failed refl))))))))
-

@@ -1,14 +1,13 @@
-use Rattle.std.proofs.Common.{refl, arith}
-use Rattle.std.proofs.lemmas.Result.{err_from_is_err_and}
+use Rattle.std.proofs.Common.{arith}
 use Rattle.fluent_syntax_tree.specs.View.{attribute_view}
-use Rattle.fluent_syntax_grammar.specs.Entries.{attributes, no_more, one_more}
+use Rattle.fluent_syntax_grammar.specs.Entries.{no_more, one_more}
 use Rattle.fluent_syntax_parser.proofs.Gathers as gathers
 use Rattle.fluent_syntax_grammar.specs.Entries.{attributes_of}
 use Rattle.fluent_syntax_grammar.specs.Grammar.{within}
 use Rattle.fluent_syntax_grammar.proofs.DeeperEntries.{deeper_attribute, deeper_attributes}
 use Rattle.fluent_syntax_grammar.proofs.Nesting.{functional_within}
 use Rattle.fluent_syntax_parser.specs.Meets.{no_memory, too_deep}
-use Rattle.fluent_syntax_parser.proofs.Fails.{shown, too_deep_there}
+use Rattle.fluent_syntax_parser.proofs.Fails.{out_of_memory, shown, too_deep_there}
 use Rattle.fluent_syntax_parser.proofs.source.Source.get_attributes.Goals as goal
 
 pub loop-attribute-preserved : goal.loop-attribute-preserved
@@ -45,8 +44,7 @@ returns-in-Err-TooDeep-clause-meets c =
 
 pub returns-in_err-push-in-Ok-clause-meets : goal.returns-in_err-push-in-Ok-clause-meets
 returns-in_err-push-in-Ok-clause-meets c =
-    let p = err_from_is_err_and c.from_residual.result c.from_residual.ensures.1 in
-    rw (p.1, p.2) no_memory
+    rw (out_of_memory c.from_residual.result c.from_residual.ensures.1) no_memory
 
 pub returns-in-Err-Memory-clause-meets : goal.returns-in-Err-Memory-clause-meets
 returns-in-Err-Memory-clause-meets c = no_memory

@@ -5,6 +5,7 @@ use Rattle.fluent_syntax_grammar.specs.Construct.{stops, goes_on, given}
 use Rattle.fluent_syntax_grammar.proofs.Facts.{append_nothing}
 use Rattle.fluent_syntax_parser.specs.CommentLines.{line_of}
 use Rattle.fluent_syntax_parser.specs.Meets.{no_memory, refused}
+use Rattle.fluent_syntax_parser.proofs.Fails.{out_of_memory}
 use Rattle.fluent_syntax_parser.proofs.source.Source.get_comment_content.Goals as goal
 
 pub returns-in_err-first-clause-meets : goal.returns-in_err-first-clause-meets
@@ -49,11 +50,9 @@ returns-clause-meets c =
 
 pub returns-in_err-add_line-clause-meets : goal.returns-in_err-add_line-clause-meets
 returns-in_err-add_line-clause-meets c =
-    let p = err_from_is_err_and c.from_residual-in_err-add_line.result c.from_residual-in_err-add_line.ensures.1 in
-    rw (p.1, p.2) no_memory
+    rw (out_of_memory c.from_residual-in_err-add_line.result c.from_residual-in_err-add_line.ensures.1) no_memory
 
 pub returns-in_err-add_line-in-Ok-clause-meets : goal.returns-in_err-add_line-in-Ok-clause-meets
 returns-in_err-add_line-in-Ok-clause-meets c =
-    let p = err_from_is_err_and c.from_residual-in_err-add_line-in-Ok.result
-    c.from_residual-in_err-add_line-in-Ok.ensures.1 in
-    rw (p.1, p.2) no_memory
+    rw (out_of_memory c.from_residual-in_err-add_line-in-Ok.result
+    c.from_residual-in_err-add_line-in-Ok.ensures.1) no_memory

@@ -1,8 +1,5 @@
-use Rattle.std.proofs.Common.{refl}
 use Rattle.std.proofs.lemmas.Result.{err_from_is_err_and}
 use Rattle.fluent_syntax_grammar.specs.Construct.{stops, goes_on, given, passed}
-use Rattle.fluent_syntax_grammar.specs.Entries.{attributes}
-use Rattle.fluent_syntax_grammar.specs.Grammar.{pattern}
 use Rattle.fluent_syntax_grammar.specs.Bytes.{equals_sign}
 use Rattle.fluent_syntax_grammar.proofs.FunctionalRules.{functional_pattern}
 use Rattle.fluent_syntax_grammar.proofs.FunctionalWords.{functional_blank_block, functional_inline_blank}
@@ -48,4 +45,3 @@ returns-clause-meets c =
     (goes_on (passed c.skip_blank_block-line.ensures.blank)
     (goes_on c.in_ok-attributes.ensures.meets
     given))))
-

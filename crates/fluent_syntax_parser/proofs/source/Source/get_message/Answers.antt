@@ -1,4 +1,4 @@
-use Rattle.std.proofs.Common.{◌≡◌, length, refl, arith}
+use Rattle.std.proofs.Common.{◌≡◌, length, arith}
 use Rattle.std.specs.Vec.{vec_len}
 use Rattle.std.proofs.lemmas.Result.{err_from_is_err_and}
 use Rattle.fluent_syntax_tree.specs.declared.spans.Span.{Span}
@@ -8,7 +8,6 @@ use Rattle.fluent_syntax_parser.proofs.FieldForms.{fields_fail, fields_then, mes
 use Rattle.fluent_syntax_parser.proofs.FieldForms.{message_without, no_items, some_items}
 use Rattle.fluent_syntax_parser.proofs.source.Source.get_message.Goals.{else-is_none-via-then-is_none+else-is_empty}
 use Rattle.fluent_syntax_parser.proofs.source.Source.get_message.Goals.{else-is_none-via-else-is_none}
-use Rattle.fluent_syntax_parser.specs.Fields.{fields}
 use Rattle.fluent_syntax_grammar.proofs.FunctionalWords.{functional_identifier}
 use Rattle.fluent_syntax_parser.specs.Meets.{refused}
 use Rattle.fluent_syntax_parser.proofs.Fails.{fails_next, functional_here}
@@ -60,4 +59,3 @@ returns-clause-meets c =
       | else-is_none-via-else-is_none w ↦
           message_of_value t c.args.start place name found.value rest w.if-is_none.ensures
     ])))
-

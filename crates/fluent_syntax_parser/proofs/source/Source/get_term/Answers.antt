@@ -1,9 +1,7 @@
-use Rattle.std.proofs.Common.{refl}
 use Rattle.std.proofs.lemmas.Result.{err_from_is_err_and}
 use Rattle.fluent_syntax_tree.specs.declared.spans.Span.{Span}
 use Rattle.fluent_syntax_grammar.specs.Construct.{stops, goes_on, at_place, given, failed_from}
 use Rattle.fluent_syntax_grammar.specs.Entries.{term_with}
-use Rattle.fluent_syntax_parser.specs.Fields.{fields}
 use Rattle.fluent_syntax_parser.proofs.FieldForms.{fields_fail, fields_then}
 use Rattle.fluent_syntax_grammar.specs.Bytes.{hyphen}
 use Rattle.fluent_syntax_grammar.proofs.FunctionalWords.{functional_identifier, functional_token}
@@ -55,4 +53,3 @@ returns-in-None-clause-meets c =
     (goes_on c.in_ok-letter.ensures.meets
     (goes_on c.in_ok-end.ensures.meets
     (fields_then c.args.edition t _ (term_with t c.args.start name) _ _ _ _ fields failed_from)))))
-

@@ -1,8 +1,7 @@
 use Rattle.std.proofs.Common.{◌<◌, length, refl, sym, arith}
 use Rattle.fluent_syntax_tree.specs.View.{comment_view}
 use Rattle.fluent_syntax_tree.specs.declared.ast.Entry.TheVariants.{Comment}
-use Rattle.fluent_syntax_grammar.specs.Tiling.{TileAt, reads}
-use Rattle.fluent_syntax_grammar.proofs.OneTiling.{one_tile}
+use Rattle.fluent_syntax_grammar.specs.Tiling.{reads}
 use Rattle.fluent_syntax_parser.proofs.EntryForms.{hash_hangs_not}
 use Rattle.fluent_syntax_parser.proofs.HangsOn.{behind_blank, hangs_not, hangs_on, no_entry, other_entry}
 use Rattle.fluent_syntax_grammar.proofs.TotalEntries.{too_deep_left}

@@ -23,7 +23,7 @@ returns-clause-next c =
     let found = rw c.in-Some.is at c.in_ok-name.ensures in
     let inside : start.result < length t = omega (arith, found.within.0, found.within.1) in
     let read = message_there options.edition t (family options.edition t) _ _ (no_hash t _ letter)
-        (no_hyphen t _ letter)
+    (no_hyphen t _ letter)
     ((included_message options.edition t (within options.edition t 1) (family options.edition t)
     (within_family options.edition t 1)).part _ _ (found.meets 0)) in
     λ entries errors rest. start.ensures.rest options.edition _ _

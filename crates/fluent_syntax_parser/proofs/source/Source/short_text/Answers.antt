@@ -11,4 +11,3 @@ returns-in-Some-end_behind_blank_lines-clause-opens c = λ n i blank.
     (short_read c.args.edition c.args.self.now.bytes.now n _ _ c.run_end-to.ensures.run c.if-start-to.true i a.text_end
     a.next c.in-Some-end_behind_blank_lines.end blank a.ensures.ending a.ensures.within.0 within
     c.in-Some-end_behind_blank_lines.ensures.lines)
-
