@@ -20,3 +20,4 @@ pub mod InTiling
 pub mod ExamplesEdits
 pub mod SameTexts
 pub mod SameBefore
+pub mod Resyncs

@@ -99,6 +99,24 @@ Joins edition a r u =
     Tiling edition (a ++ u) (before ++ moved_tiles (length a) own)
     × (faults (before ++ moved_tiles (length a) own) ≡ map (moved_fault (length a)) (faults own))
 
+-- where a tile of a tiling begins; one that was dropped has no place
+abbrev pub start_of : Tile → ℕ
+start_of (entry s e) = s.start
+start_of (refused f) = f.slice.start
+start_of dropped = 0
+
+-- Two texts with the same bytes from p in the one and from q in the other, at both of which a tile begins: from there on
+-- they have the same tiles, moved, the same errors, moved, and text by text the same tree. So whoever reads a changed
+-- text anew can stop at the first tile that stands where one stood, before what wasn't changed.
+abbrev pub Resyncs : Edition → (t u : List ℕ) → Type 0
+Resyncs edition t u =
+    (before front after behind : List Tile) (x y : Tile) → Tiling edition t (before ++ (x ∷ after)) →
+    Tiling edition u (front ++ (y ∷ behind)) → drop (start_of x) t ≡ drop (start_of y) u →
+    (own : List Tile) × (x ∷ after ≡ moved_tiles (start_of x) own) × (y ∷ behind ≡ moved_tiles (start_of y) own)
+    × (faults (x ∷ after) ≡ map (moved_fault (start_of x)) (faults own))
+    × (faults (y ∷ behind) ≡ map (moved_fault (start_of y)) (faults own))
+    × (tree_of t (x ∷ after) ≡ tree_of u (y ∷ behind))
+
 -- ---- a new entry
 
 -- whether an entry may begin there, or the text ends

@@ -42,7 +42,7 @@ module _ (t : List ℕ) where
   past_text : (i : ℕ) → slice_get t i ≡ None → length t ≤ i
   past_text i e = elim (slice_get_cases t i).1 [ inl x ↦ some_none x.2 e | inr x ↦ x.0 ]
 
-  block_line : (i j : ℕ) → AtLine t i → BlankBlock t i j → AtLine t j
+  pub block_line : (i j : ℕ) → AtLine t i → BlankBlock t i j → AtLine t j
   block_line i j (inl e) b = inl (block_start t i j e b)
   block_line i j (inr l) b = let f = block_forward t i j b in inr (omega arith)
 
