@@ -21,3 +21,4 @@ pub mod ExamplesEdits
 pub mod SameTexts
 pub mod SameBefore
 pub mod Resyncs
+pub mod WholeTrees

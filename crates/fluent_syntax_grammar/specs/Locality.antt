@@ -3,6 +3,7 @@ use Rattle.std.specs.Prelude.{◌≡◌, ℕ, ◌+◌, ◌≤◌, List, [], ◌�
 use Rattle.std.specs.Prelude.{◌&&◌}
 use Rattle.std.specs.Prelude.{not, replicate}
 use Rattle.fluent_syntax_tree.specs.Entry.{EntryTree, comment, entry_map}
+use Rattle.fluent_syntax_tree.specs.Spans.{bytes_at}
 use Rattle.fluent_syntax_tree.specs.declared.spans.Span.{Span}
 use Rattle.fluent_syntax_tree.specs.declared.edition.Edition.{Edition}
 use Rattle.fluent_syntax_grammar.specs.Bytes.{lf, greater_than, hash, hyphen}
@@ -219,6 +220,28 @@ ReplacedRun edition t e blank =
     ≡ e ∷ [])
     × (tree_of (take s.start t ++ (entry_text e ++ (blank_lines blank ++ drop q.end t)))
     (moved_tiles (s.start + (length (entry_text e) + blank)) own) ≡ tree_of t after)
+
+-- ---- whole trees
+
+abbrev pub is_comment : {X : Type 0} → EntryTree X → Bool
+is_comment (comment level content) = true
+is_comment x = false
+
+-- The whole tree, as a reader of the text has it: in place of an entry that is no comment, behind which an entry may
+-- begin and right before which no comment ends, a written entry that is none. The tree of the new text is that of the
+-- text with the new entry in the old one's place, text by text: comments hang as they did, and all others stay.
+abbrev pub KeepsTree : Edition → List ℕ → EntryTree Text → (blank : ℕ) → Type 0
+KeepsTree edition t e blank =
+    (before after : List Tile) (s : Span) (old : EntryTree Span) →
+    Tiling edition t (before ++ (entry s old ∷ after)) → faults before ≡ [] →
+    ends_in_comment s.start before ≡ false → is_comment old ≡ false → is_comment e ≡ false →
+    is_canonical edition (e ∷ []) ≡ true → may_begin (drop s.end t) ≡ true →
+    (tree_of t (before ++ (entry s old ∷ after))
+    ≡ tree_of t before ++ (entry_map (bytes_at t) old ∷ tree_of t after)) ×
+    ((tiles : List Tile) ×
+    Tiling edition (take s.start t ++ (entry_text e ++ (blank_lines blank ++ drop s.end t))) tiles
+    × (tree_of (take s.start t ++ (entry_text e ++ (blank_lines blank ++ drop s.end t))) tiles
+    ≡ tree_of t before ++ (e ∷ tree_of t after)))
 
 -- The tiles before an entry, where they have no junk, give text by text the same in each text that has the same bytes
 -- before the entry.

@@ -133,13 +133,13 @@ no_tiles t at i xs l (done b) = refl
 no_tiles t at i xs l (next {start = start} b m a r) = let f = block_forward t i start b in absurd (omega arith)
 
 -- the tiles from the end of an entry on are those of the rest by itself, moved
-record RestAlone (edition : Edition) (t : List ℕ) (q : ℕ) (ys : List Tile) : Type 0 where
-  own : List Tile
-  tiling : Tiling edition (drop q t) own
-  is : ys ≡ moved_tiles q own
-  tree : tree_of t ys ≡ tree_of (drop q t) own
+pub record RestAlone (edition : Edition) (t : List ℕ) (q : ℕ) (ys : List Tile) : Type 0 where
+  pub own : List Tile
+  pub tiling : Tiling edition (drop q t) own
+  pub is : ys ≡ moved_tiles q own
+  pub tree : tree_of t ys ≡ tree_of (drop q t) own
 
-rest_alone : (edition : Edition) (t : List ℕ) (q : ℕ) (ys : List Tile) → q ≤ length t → AtLine t q →
+pub rest_alone : (edition : Edition) (t : List ℕ) (q : ℕ) (ys : List Tile) → q ≤ length t → AtLine t q →
     Tiled t (TileAt edition t) q ys → RestAlone edition t q ys
 rest_alone edition t q ys l (inl e) a =
     let x = suffix_local edition t q ys l e a in record { own = x.0; tiling = x.1; is = x.2; tree = x.4 }
@@ -201,22 +201,22 @@ standing edition t before after s old a f =
     }
 
 -- a new entry there, before what stands from q on
-record Changed (edition : Edition) (t : List ℕ) (before ys : List Tile) (s : Span) (e : EntryTree Text) (blank q : ℕ) :
+pub record Changed (edition : Edition) (t : List ℕ) (before ys : List Tile) (s : Span) (e : EntryTree Text) (blank q : ℕ) :
     Type 0 where
-  new : List Tile
-  own : List Tile
-  is : ys ≡ moved_tiles q own
-  tiling :
+  pub new : List Tile
+  pub own : List Tile
+  pub is : ys ≡ moved_tiles q own
+  pub tiling :
       Tiling edition (take s.start t ++ (entry_text e ++ (blank_lines blank ++ drop q t)))
       (before ++ (moved_tiles s.start new ++ moved_tiles (s.start + (length (entry_text e) + blank)) own))
-  entry_tree :
+  pub entry_tree :
       tree_of (take s.start t ++ (entry_text e ++ (blank_lines blank ++ drop q t))) (moved_tiles s.start new) ≡ e ∷ []
-  rest_tree :
+  pub rest_tree :
       tree_of (take s.start t ++ (entry_text e ++ (blank_lines blank ++ drop q t)))
       (moved_tiles (s.start + (length (entry_text e) + blank)) own)
       ≡ tree_of t ys
 
-changed : (edition : Edition) (t : List ℕ) (before after ys : List Tile) (s : Span) (old : EntryTree Span)
+pub changed : (edition : Edition) (t : List ℕ) (before after ys : List Tile) (s : Span) (old : EntryTree Span)
     (e : EntryTree Text) (blank q : ℕ) → Standing edition t before after s old → faults before ≡ [] →
     (ends_in_comment s.start before ≡ true → begins_comment (entry_text e) ≡ false) →
     is_canonical edition (e ∷ []) ≡ true → may_begin (drop q t) ≡ true → RestAlone edition t q ys →
