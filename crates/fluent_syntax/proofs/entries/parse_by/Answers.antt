@@ -39,3 +39,6 @@ returns-in-Ok-clause-places g c =
     let t = g.S.Slice.text c.args.input.now in
     errors_answered_in_text t g.S.Slice.text (body_map (bytes_at t)) c.args.options.edition c.answer_of.result
     c.args.options.comments (returns-in-Ok-clause-tiling g c)
+
+pub returns-in-Ok-clause-blank : goal.returns-in-Ok-clause-blank
+returns-in-Ok-clause-blank g c = λ block. let e = c.answer_of.ensures.clean (c.in-Ok.ensures.blank block) in rw e

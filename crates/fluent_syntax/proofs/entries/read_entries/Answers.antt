@@ -141,3 +141,8 @@ returns-in_err-entry-clause-deeper g c =
     let deeper = rw (short.text, inv.text, short.options, inv.options, there) at c.in_err-entry.ensures.deeper in
     let halt = err_from_is_err_and c.from_residual-in_err-entry.result c.from_residual-in_err-entry.ensures.1 in
     rw (halt.1, halt.2) (λ deep. inv.deeper.0 (deeper deep))
+
+pub returns-in_err-add_entry-clause-deeper : goal.returns-in_err-add_entry-clause-deeper
+returns-in_err-add_entry-clause-deeper g c =
+    let halt = err_from_is_err_and c.from_residual-in_err-add_entry.result c.from_residual-in_err-add_entry.ensures.1 in
+    rw (halt.1, halt.2) (λ deep. absurd cc)
