@@ -55,6 +55,11 @@ resyncs edition t u = λ before front after behind x y a b e.
     let m = p.inside in
     let n = q.inside in
     let s = same_rest edition t u (start_of x) (start_of y) (x ∷ after) (y ∷ behind) (omega arith) (omega arith) e
-    p.line q.line p.more q.more in
-    (s.0.0, s.0.1, s.0.2, ap faults s.0.1 ∙ faults_there (start_of x) s.0.0,
-    ap faults s.0.2 ∙ faults_there (start_of y) s.0.0, s.1)
+    p.line q.line p.more q.more in (
+      s.0.0,
+      s.0.1,
+      s.0.2,
+      ap faults s.0.1 ∙ faults_there (start_of x) s.0.0,
+      ap faults s.0.2 ∙ faults_there (start_of y) s.0.0,
+      s.1,
+    )

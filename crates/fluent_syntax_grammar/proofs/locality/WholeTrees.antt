@@ -200,12 +200,16 @@ keeps_tree edition t e blank = λ before after s old a f g c d h m.
     (text_begins edition e (blank_lines blank ++ drop s.end t) h) f
     (λ k. differs (subst (λ i. ends_in_comment i before ≡ true) l.size k) g) l.led) in
     let new_apart = apart_behind N O (no_comment_last v N e x.entry_tree d) in
-    let before_apart = new_behind edition v s.start before N O e g led x.tiling x.entry_tree in
-    (old_tree t before after s old g c,
-    (before ++ (N ++ O), x.tiling,
-    tree_apart v before (N ++ O) before_apart
-    ∙ (ap (λ zs. tree_of v before ++ zs) (tree_apart v N O new_apart)
-    ∙ rw (x.entry_tree, x.rest_tree, same_before edition t before after s old u a f) refl)))
+    let before_apart = new_behind edition v s.start before N O e g led x.tiling x.entry_tree in (
+      old_tree t before after s old g c,
+      (
+        before ++ (N ++ O),
+        x.tiling,
+        tree_apart v before (N ++ O) before_apart
+            ∙ (ap (λ zs. tree_of v before ++ zs) (tree_apart v N O new_apart)
+            ∙ rw (x.entry_tree, x.rest_tree, same_before edition t before after s old u a f) refl),
+      ),
+    )
   where
     old_tree : (t : List ℕ) (before after : List Tile) (s : Span) (old : EntryTree Span) →
         ends_in_comment s.start before ≡ false → is_comment old ≡ false →
