@@ -246,7 +246,8 @@ module _ (edition : Edition) (t : List ℕ) where
 
   -- ---- entries as they are written
 
-  pub letter_reads : (i b : ℕ) (bs : List ℕ) (e : EntryTree Text) (rest : List ℕ) → is_letter b ≡ true → Left t i (b ∷ bs) →
+  pub letter_reads : (i b : ℕ) (bs : List ℕ) (e : EntryTree Text) (rest : List ℕ) → is_letter b ≡ true → Left t i
+      (b ∷ bs) →
       Reads t (message_entry edition t) (entry_map (bytes_at t)) i e rest →
       Reads t (entry_at edition t) (entry_map (bytes_at t)) i e rest
   letter_reads i b bs e rest is l r =

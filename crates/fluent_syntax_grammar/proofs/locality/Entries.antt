@@ -21,7 +21,8 @@ use Rattle.fluent_syntax_grammar.specs.Comments.{comment_lines, comment_of, comm
 use Rattle.fluent_syntax_grammar.specs.Tiling.{entry_of, entry_at}
 use Rattle.fluent_syntax_grammar.specs.Locality.{moved}
 use Rattle.fluent_syntax_grammar.proofs.Facts.{two_on}
-use Rattle.fluent_syntax_grammar.proofs.locality.Moved.{moved_outcome, IsMoved, Sees, Behind, moves, bind_as, moved_bind}
+use Rattle.fluent_syntax_grammar.proofs.locality.Moved.{moved_outcome, IsMoved, Sees, Behind, moves, bind_as}
+use Rattle.fluent_syntax_grammar.proofs.locality.Moved.{moved_bind}
 use Rattle.fluent_syntax_grammar.proofs.locality.Moved.{moved_at_each, moved_either, moved_gives, moved_fails_from}
 use Rattle.fluent_syntax_grammar.proofs.locality.Moved.{on_one, has_next, sees_slice, sees_eol, leads_steps}
 use Rattle.fluent_syntax_grammar.proofs.locality.Moved.{moved_token}
@@ -56,7 +57,8 @@ module _ (edition : Edition) (n : ℕ) (t u : List ℕ) (b : Behind n t u) where
   moved_attribute_with id (Some p) = search words depth 30
 
   moved_attribute : IsMoved n (attribute_map (moved n)) (attribute edition u) (attribute edition t)
-  moved_attribute = search (words, bind_as n (option_map (pattern_map (moved n))), moved_attribute_with, moved_pattern) depth 30
+  moved_attribute = search (words, bind_as n (option_map (pattern_map (moved n))), moved_attribute_with, moved_pattern)
+      depth 30
 
   attributes_part : (i : ℕ) (o : Outcome (List (AttributeTree Span))) → attributes edition u i o →
       attributes edition t (n + i) (moved_outcome n (map (attribute_map (moved n))) o)
@@ -89,10 +91,26 @@ module _ (edition : Edition) (n : ℕ) (t u : List ℕ) (b : Behind n t u) where
   moved_term_with start id (Some p) rest = moved_gives refl
 
   moved_message : IsMoved n (entry_map (moved n)) (message_entry edition u) (message_entry edition t)
-  moved_message = search (words, bind_as n (option_map (pattern_map (moved n))), bind_as n (map (attribute_map (moved n))), moved_message_with, moved_pattern, moved_attributes) depth 30
+  moved_message = search (
+    words,
+    bind_as n (option_map (pattern_map (moved n))),
+    bind_as n
+        (map (attribute_map (moved n))),
+    moved_message_with,
+    moved_pattern,
+    moved_attributes,
+  ) depth 30
 
   moved_term : IsMoved n (entry_map (moved n)) (term_entry edition u) (term_entry edition t)
-  moved_term = search (words, bind_as n (option_map (pattern_map (moved n))), bind_as n (map (attribute_map (moved n))), moved_term_with, moved_pattern, moved_attributes) depth 30
+  moved_term = search (
+    words,
+    bind_as n (option_map (pattern_map (moved n))),
+    bind_as n
+        (map (attribute_map (moved n))),
+    moved_term_with,
+    moved_pattern,
+    moved_attributes,
+  ) depth 30
 
 module _ (n : ℕ) (t u : List ℕ) (b : Behind n t u) where
   hash_after : (i : ℕ) → has_byte t hash ((n + i) + 2) ≡ has_byte u hash (i + 2)
@@ -141,7 +159,8 @@ module _ (n : ℕ) (t u : List ℕ) (b : Behind n t u) where
   moved_comment = moved_at_each sees_hashes moved_comment_of
 
 module _ (edition : Edition) (n : ℕ) (t u : List ℕ) (b : Behind n t u) where
-  moved_entry_of : (c : Option ℕ) → IsMoved n (entry_map (moved n)) (entry_of edition u (family edition u) c) (entry_of edition t (family edition t) c)
+  moved_entry_of : (c : Option ℕ) → IsMoved n (entry_map (moved n)) (entry_of edition u (family edition u) c)
+      (entry_of edition t (family edition t) c)
   moved_entry_of None = moved_message edition n t u b
   moved_entry_of (Some c) =
       moved_either (moved_comment n t u b) (moved_either (moved_term edition n t u b) (moved_message edition n t u b))

@@ -9,7 +9,7 @@ use Rattle.fluent_syntax_tree.specs.declared.spans.Span.{Span}
 use Rattle.fluent_syntax_tree.specs.declared.edition.Edition.{Edition}
 use Rattle.fluent_syntax_grammar.specs.Places.{has_eol, after_eol, starts_line, BlankBlock}
 use Rattle.fluent_syntax_grammar.specs.Construct.{Read, goes_on, given, at_place, passed, chosen, first, second}
-use Rattle.fluent_syntax_grammar.specs.Construct.{no_item, item, list_ends, item_and_more}
+use Rattle.fluent_syntax_grammar.specs.Construct.{gives, item, item_and_more, list_ends, no_item}
 use Rattle.fluent_syntax_grammar.specs.Family.{Family}
 use Rattle.fluent_syntax_grammar.specs.Layout.{Piece, Ending, Line, Layout}
 use Rattle.fluent_syntax_grammar.specs.Lines.{ending_of, ending, next_piece_at, more_pieces, line, next_line}
@@ -35,7 +35,7 @@ use Rattle.fluent_syntax_grammar.proofs.WholeLines.{IsLine, comment_whole, line_
 abbrev pub AtLine : List ℕ → ℕ → Type 0
 AtLine t i = (starts_line t i ≡ true) ⊎ (length t ≤ i)
 
-given_at : {A : Type 0} (x a : A) (m j : ℕ) → Rattle.fluent_syntax_grammar.specs.Construct.gives x m (Read a j) → m ≡ j
+given_at : {A : Type 0} (x a : A) (m j : ℕ) → gives x m (Read a j) → m ≡ j
 given_at x a m j given = refl
 
 module _ (t : List ℕ) where
@@ -57,15 +57,15 @@ module _ (t : List ℕ) where
   ending_line_of i j e s (Some k) f (goes_on (passed w) x) = ends_there k j e (eol_start t i k f) w.there x
     where
       ends_there : (k j : ℕ) {m : ℕ} {x : Ending} (e : Ending) → starts_line t k ≡ true → m ≡ k →
-          Rattle.fluent_syntax_grammar.specs.Construct.gives x m (Read e j) → AtLine t j
+          gives x m (Read e j) → AtLine t j
       ends_there k j {m = m} {x = x} e l g y = same_place k j m x e l g y
         where
-          gives_at : (m j : ℕ) (x e : Ending) → Rattle.fluent_syntax_grammar.specs.Construct.gives x m (Read e j) →
+          gives_at : (m j : ℕ) (x e : Ending) → gives x m (Read e j) →
               m ≡ j
           gives_at m j x e given = refl
 
           same_place : (k j m : ℕ) (x e : Ending) → starts_line t k ≡ true → m ≡ k →
-              Rattle.fluent_syntax_grammar.specs.Construct.gives x m (Read e j) → AtLine t j
+              gives x m (Read e j) → AtLine t j
           same_place k j m x e l g y = inl (subst (λ j. starts_line t j ≡ true) (sym g ∙ gives_at m j x e y) l)
 
   ending_line : (i j : ℕ) (e : Ending) → Stop i → ending t i (Read e j) → AtLine t j
@@ -169,7 +169,8 @@ module _ (edition : Edition) (t : List ℕ) where
       let w = comment_whole t (hashes t i) i k v refl x in
       lines_line_of (hashes t i) k j c (line_in_text t i k l w) (whole_line i k l w) y
 
-  entry_line_of : (i j : ℕ) (e : EntryTree Span) (o : Option ℕ) → i ≤ length t → entry_of edition t (family edition t) o i (Read e j) →
+  entry_line_of : (i j : ℕ) (e : EntryTree Span) (o : Option ℕ) → i ≤ length t → entry_of edition t
+      (family edition t) o i (Read e j) →
       AtLine t j
   entry_line_of i j e None l x = message_line i j e x
   entry_line_of i j e (Some b) l (first f x) = comment_line_of i j e l x

@@ -201,7 +201,8 @@ standing edition t before after s old a f =
     }
 
 -- a new entry there, before what stands from q on
-pub record Changed (edition : Edition) (t : List ℕ) (before ys : List Tile) (s : Span) (e : EntryTree Text) (blank q : ℕ) :
+pub record Changed (edition : Edition) (t : List ℕ) (before ys : List Tile) (s : Span) (e : EntryTree Text)
+    (blank q : ℕ) :
     Type 0 where
   pub new : List Tile
   pub own : List Tile

@@ -232,7 +232,8 @@ module _ (p : ℕ) (t u : List ℕ) (s : Shared p t u) (R S : Family) (h : IsKep
       keeps_either p (keeps_bind p (keeps_bind p (keeps_blank p t u s) (λ x. h.argument_list)) (λ a. keeps_gives p))
       (keeps_gives p)))
 
-  keeps_in_braces : Keeps p (blank t >>= λ x. R.expression >>= λ e. inline_blank t >>= λ x. token t 125 >>= λ x. gives e)
+  keeps_in_braces : Keeps p (blank t >>= λ x. R.expression >>= λ e. inline_blank t >>= λ x. token t 125 >>= λ x. gives
+      e)
       (blank u >>= λ x. S.expression >>= λ e. inline_blank u >>= λ x. token u 125 >>= λ x. gives e)
   keeps_in_braces =
       keeps_bind p (keeps_blank p t u s) (λ x. keeps_bind p h.expression (λ e.
@@ -385,7 +386,8 @@ module _ (p : ℕ) (t u : List ℕ) (s : Shared p t u) (R S : Family) (h : IsKep
   -- ---- pieces and lines
 
   if_placed : KeepsIf p (Unit {0}) (good_more (PieceWithin p))
-      (placeable t R >>= λ e. gives (item (placed e) (tt {0}))) (placeable u S >>= λ e. gives (item (placed e) (tt {0})))
+      (placeable t R >>= λ e. gives (item (placed e) (tt {0})))
+      (placeable u S >>= λ e. gives (item (placed e) (tt {0})))
   if_placed = if_bind p (plain p keeps_placeable) (λ e. if_gives p (λ m. tt))
 
   if_run : KeepsIf p (Unit {0}) (good_more (PieceWithin p)) (text_run t >>= λ r. gives (item r (tt {0})))

@@ -1,15 +1,13 @@
--- Two texts with the same rest behind a tile's start have the same tiles from there on: each tile begins at the start of
--- a line.
-use Rattle.std.proofs.Common.{◌≡◌, ℕ, ◌≤◌, ◌<◌, List, [], ◌∷◌, ◌++◌, length, drop, true, refl, sym, ◌∙◌, ap, arith}
-use Rattle.std.proofs.Common.{inl, inr, subst}
-use Rattle.std.specs.Prelude.{map}
+-- Two texts with the same rest behind a tile's start have the same tiles from there on: each tile begins at the start
+-- of a line.
+use Rattle.std.proofs.Common.{◌≡◌, ℕ, ◌≤◌, ◌<◌, List, [], ◌∷◌, ◌++◌, length, true, refl, ◌∙◌, ap, arith}
+use Rattle.std.proofs.Common.{inl, inr}
 use Rattle.fluent_syntax_tree.specs.declared.edition.Edition.{Edition}
 use Rattle.fluent_syntax_grammar.specs.Places.{BlankBlock, has, no_line, line, starts_line}
 use Rattle.fluent_syntax_grammar.specs.Tiling.{Tile, Tiled, TileAt, is_entry_byte, next, reads, refuses}
 use Rattle.fluent_syntax_grammar.specs.Body.{faults}
-use Rattle.fluent_syntax_grammar.specs.Locality.{Resyncs, moved_fault, moved_tiles, start_of}
+use Rattle.fluent_syntax_grammar.specs.Locality.{Resyncs, start_of}
 use Rattle.fluent_syntax_grammar.proofs.Facts.{left_true}
-use Rattle.fluent_syntax_grammar.proofs.Cuts.{block_forward}
 use Rattle.fluent_syntax_grammar.proofs.locality.EntryEnds.{AtLine, block_line, entry_line}
 use Rattle.fluent_syntax_grammar.proofs.locality.Edits.{same_rest}
 use Rattle.fluent_syntax_grammar.proofs.locality.Tiles.{faults_there}

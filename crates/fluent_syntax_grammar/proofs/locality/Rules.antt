@@ -181,7 +181,14 @@ module _ (n : ℕ) (t u : List ℕ) (b : Behind n t u) (R S : Family) (h : IsMov
   moved_inline_of quote = search own depth 30
   moved_inline_of digit = search own depth 30
   moved_inline_of minus = search own depth 30
-  moved_inline_of term = search (own, bind_as n (option_texts (moved n)), bind_as n (maybe_map (moved n)), moved_accessor n t u b, moved_call) depth 30
+  moved_inline_of term = search (
+    own,
+    bind_as n (option_texts (moved n)),
+    bind_as n
+        (maybe_map (moved n)),
+    moved_accessor n t u b,
+    moved_call,
+  ) depth 30
   moved_inline_of dollar = search own depth 30
   moved_inline_of letter = search (own, bind_as n (maybe_map (moved n)), moved_named n t u b, moved_call) depth 30
   moved_inline_of brace = search (own, bind_as n (expression_map (moved n)), moved_placeable) depth 30
@@ -231,7 +238,8 @@ module _ (n : ℕ) (t u : List ℕ) (b : Behind n t u) (R S : Family) (h : IsMov
   moved_argument_at : (names : List (List ℕ)) (c : Option ℕ) →
       IsMoved n (more_map (moved_argument n)) (next_argument_at u R names c) (next_argument_at t S names c)
   moved_argument_at names None = search own depth 30
-  moved_argument_at names (Some c) = search (own, bind_as n (inline_map (moved n)), moved_rest_of, moved_inline) depth 30
+  moved_argument_at names (Some c) = search (own, bind_as n (inline_map (moved n)), moved_rest_of, moved_inline) depth
+      30
 
   moved_next_argument : (names : List (List ℕ)) →
       IsMoved n (more_map (moved_argument n)) (next_argument u R names) (next_argument t S names)
@@ -249,7 +257,14 @@ module _ (n : ℕ) (t u : List ℕ) (b : Behind n t u) (R S : Family) (h : IsMov
   moved_piece_at : (c : Option ℕ) →
       IsMoved n (more_map (moved_piece n)) (next_piece_at u R c) (next_piece_at t S c)
   moved_piece_at None = search own depth 30
-  moved_piece_at (Some c) = search (own, bind_as n (expression_map (moved n)), bind_as n (moved_piece n), moved_placeable, moved_run) depth 30
+  moved_piece_at (Some c) = search (
+    own,
+    bind_as n (expression_map (moved n)),
+    bind_as n
+        (moved_piece n),
+    moved_placeable,
+    moved_run,
+  ) depth 30
 
   moved_next_piece : IsMoved n (more_map (moved_piece n)) (next_piece u R) (next_piece t S)
   moved_next_piece = search (own, moved_piece_at) depth 30
@@ -268,7 +283,15 @@ module _ (n : ℕ) (t u : List ℕ) (b : Behind n t u) (R S : Family) (h : IsMov
   line_spaces s f ps e = let d : (n + f) - (n + s) ≡ f - s = omega arith in rw d refl
 
   moved_one_line : IsMoved n (moved_line n) (line u R) (line t S)
-  moved_one_line = search (own, bind_as n (map (moved_piece n)), bind_as n (moved_ending n), moved_pieces, moved_ending_at n t u b, line_spaces) depth 30
+  moved_one_line = search (
+    own,
+    bind_as n (map (moved_piece n)),
+    bind_as n
+        (moved_ending n),
+    moved_pieces,
+    moved_ending_at n t u b,
+    line_spaces,
+  ) depth 30
 
   moved_item : IsMoved n (more_map (moved_line n)) (line u R >>= λ l. gives (item l (tt {0})))
       (line t S >>= λ l. gives (item l (tt {0})))
@@ -294,7 +317,16 @@ module _ (n : ℕ) (t u : List ℕ) (b : Behind n t u) (R S : Family) (h : IsMov
 
   moved_layout_at : (o : Option ℕ) →
       IsMoved n (moved_layout n) (layout_at u R o) (layout_at t S (moved_place n o))
-  moved_layout_at None = search (own, bind_as n (map (moved_piece n)), bind_as n (moved_ending n), bind_as n (map (moved_line n)), moved_ending_at n t u b, moved_pieces, moved_lines) depth 30
+  moved_layout_at None = search (
+    own,
+    bind_as n (map (moved_piece n)),
+    bind_as n (moved_ending n),
+    bind_as n
+        (map (moved_line n)),
+    moved_ending_at n t u b,
+    moved_pieces,
+    moved_lines,
+  ) depth 30
   moved_layout_at (Some k) = search (own, bind_as n (map (moved_line n)), leads_reaches n t u b, moved_lines) depth 30
 
   moved_layouts : IsMoved n (moved_layout n) (layout u R) (layout t S)
@@ -315,7 +347,15 @@ module _ (edition : Edition) (n : ℕ) (t u : List ℕ) (b : Behind n t u) (R S 
   moved_after : (starred star : Bool) →
       IsMoved n (more_map (variant_map (moved n))) (variant_after edition u R starred star)
       (variant_after edition t S starred star)
-  moved_after starred star = search (words, bind_as n (key_map (moved n)), bind_as n (option_map (pattern_map (moved n))), moved_key n t u b, moved_pattern, moved_variant_of) depth 30
+  moved_after starred star = search (
+    words,
+    bind_as n (key_map (moved n)),
+    bind_as n
+        (option_map (pattern_map (moved n))),
+    moved_key n t u b,
+    moved_pattern,
+    moved_variant_of,
+  ) depth 30
 
   moved_next_variant : (starred : Bool) →
       IsMoved n (more_map (variant_map (moved n))) (next_variant edition u R starred) (next_variant edition t S starred)
@@ -351,7 +391,14 @@ module _ (edition : Edition) (n : ℕ) (t u : List ℕ) (b : Behind n t u) (R S 
 
   moved_expression : IsMoved n (expression_map (moved n)) (expression edition u R) (expression edition t S)
   moved_expression =
-      search (words, bind_as n (inline_map (moved n)), moved_expression_of, moved_inline n t u b R S h, arrow_there n t u b) depth 30
+      search (
+        words,
+        bind_as n (inline_map (moved n)),
+        moved_expression_of,
+        moved_inline n t u b R S h,
+        arrow_there n t
+            u b,
+      ) depth 30
 
   moved_next : IsMovedFamily n (next edition u R) (next edition t S)
   moved_next = record { expression = moved_expression; argument_list = moved_arguments n t u b R S h [] }

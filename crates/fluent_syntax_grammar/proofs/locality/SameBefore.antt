@@ -5,7 +5,7 @@
 use Rattle.std.proofs.Common.{◌≡◌, ℕ, zero, suc, ◌+◌, ◌-◌, ◌≤◌, ◌<◌, List, [], ◌∷◌, ◌++◌, length, drop, take}
 use Rattle.std.proofs.Common.{Some}
 use Rattle.std.proofs.Common.{true, false, refl, sym, ◌∙◌, subst, ap, arith, inl, inr, length-append}
-use Rattle.std.specs.Prelude.{slice_get, slice_range, ◌⊎◌}
+use Rattle.std.specs.Prelude.{slice_get, ◌==◌, ◌⊎◌}
 use Rattle.std.proofs.lemmas.List.{take-append-drop}
 use Rattle.fluent_syntax_tree.specs.Every.{list_every}
 use Rattle.fluent_syntax_tree.specs.Spans.{bytes_at}
@@ -123,9 +123,9 @@ seam_tiles edition a r us before h e f n d =
     let b = behind a u in
     let s = seam_shared a r u e f (high_head (a ++ u) us p b) in
     let z : p + 0 ≡ p = omega arith in
-    let no_hash : has (a ++ u) (λ b. Rattle.std.specs.Prelude.◌==◌ b 35) p ≡ false =
-    subst (λ k. has (a ++ u) (λ b. Rattle.std.specs.Prelude.◌==◌ b 35) k ≡ false) z
-    (ap (holds (λ b. Rattle.std.specs.Prelude.◌==◌ b 35)) (b.byte 0)) in
+    let no_hash : has (a ++ u) (λ b. b == 35) p ≡ false =
+    subst (λ k. has (a ++ u) (λ b. b == 35) k ≡ false) z
+    (ap (holds (λ b. b == 35)) (b.byte 0)) in
     every_tile edition p (a ++ u) (a ++ r) (back_shared p (a ++ r) (a ++ u) s) (Seam a u) (seam_cuts a u h)
     (λ i l. inl l) 0 before n
     (led_keep edition p (a ++ r) (a ++ u) s 0 before n (λ q. no_hash) (omega arith) d)

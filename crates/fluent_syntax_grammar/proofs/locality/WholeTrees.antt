@@ -1,15 +1,14 @@
--- The tree of tiles one after another is the tree of the first and that of the others, where nothing hangs between them.
-use Rattle.std.proofs.Common.{◌≡◌, ℕ, ◌+◌, List, [], ◌∷◌, ◌++◌, length, drop, take, map, Option, Some, None, Bool, true, false}
-use Rattle.std.proofs.Common.{refl, sym, ◌∙◌, ap, subst, append_assoc}
+-- The tree of tiles behind others is the tree of these and then theirs, where none of them hangs on the others' last.
+use Rattle.std.proofs.Common.{◌≡◌, ℕ, ◌+◌, List, [], ◌∷◌, ◌++◌, length, drop, take, map, Option, Some, None, Bool}
+use Rattle.std.proofs.Common.{true, false, refl, sym, ◌∙◌, ap, subst, append_assoc}
 use Rattle.std.specs.Prelude.{◌==◌, if◌then◌else◌}
 use Rattle.std.proofs.lemmas.List.{map-append}
 use Rattle.fluent_syntax_tree.specs.Entry.{EntryTree, comment, entry_map, group, junk, message, regular, resource, term}
 use Rattle.fluent_syntax_tree.specs.Spans.{bytes_at}
 use Rattle.fluent_syntax_tree.specs.declared.edition.Edition.{Edition}
 use Rattle.fluent_syntax_tree.specs.declared.spans.Span.{Span}
-use Rattle.fluent_syntax_grammar.specs.Places.{BlankBlock}
 use Rattle.fluent_syntax_grammar.specs.Tiling.{Tile, Tiled, TileAt, dropped, entry, next, reads, refused, refuses}
-use Rattle.fluent_syntax_grammar.specs.Body.{alone, body, faults, hangs, hung}
+use Rattle.fluent_syntax_grammar.specs.Body.{alone, body, hangs, hung}
 use Rattle.fluent_syntax_grammar.specs.RoundTrip.{tree_of}
 use Rattle.fluent_syntax_grammar.specs.Written.{Text}
 use Rattle.fluent_syntax_grammar.specs.Locality.{KeepsTree, Led, arrives, blank_lines, ends_in_comment, entry_text}
@@ -18,7 +17,7 @@ use Rattle.fluent_syntax_grammar.proofs.Facts.{differs}
 use Rattle.fluent_syntax_grammar.proofs.Functional.{single_block}
 use Rattle.fluent_syntax_grammar.proofs.OneTiling.{one_tile}
 use Rattle.fluent_syntax_grammar.proofs.locality.Edits.{prefix_local}
-use Rattle.fluent_syntax_grammar.proofs.locality.InTiling.{Changed, changed, rest_alone, standing}
+use Rattle.fluent_syntax_grammar.proofs.locality.InTiling.{changed, rest_alone, standing}
 use Rattle.fluent_syntax_grammar.proofs.locality.NewTexts.{text_begins}
 use Rattle.fluent_syntax_grammar.proofs.locality.SameBefore.{same_before}
 
