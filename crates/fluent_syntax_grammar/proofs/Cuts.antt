@@ -9,7 +9,7 @@ use Rattle.std.specs.Char.{is_ascii_hexdigit}
 use Rattle.fluent_syntax_grammar.specs.Places.{holds, Stretch, Word, has, has_byte, has_eol, after_eol, is_line_place}
 use Rattle.fluent_syntax_grammar.specs.Places.{is_blank_place, Blank, BlankBlock, no_line, line}
 use Rattle.fluent_syntax_grammar.specs.Lines.{is_run_place}
-use Rattle.fluent_syntax_grammar.proofs.Facts.{byte_found, stretch_in_text, two_on, add_one, has_inside}
+use Rattle.fluent_syntax_grammar.proofs.Facts.{byte_found, stretch_in_text, two_on, add_one, has_inside, some_none}
 use Rattle.fluent_syntax_grammar.proofs.Tests.{or_cases}
 
 -- an ASCII byte stands there
@@ -90,9 +90,6 @@ ascii_blank t i e =
     [ inl x ↦ ascii_byte t space i (omega arith) x | inr x ↦ ascii_eol t i x ]
 
 -- ---- words
-
-none_some : {o : Option ℕ} {b : ℕ} {X : Type 0} → o ≡ None → o ≡ Some b → X
-none_some e f = cc
 
 some_inside : (t : List ℕ) (k : ℕ) (o : Option ℕ) (e : Bool) → slice_get t k ≡ o → (is_some o && not e) ≡ true →
     k < length t
@@ -184,7 +181,7 @@ module _ (t : List ℕ) (P : ℕ → Type 0) (cuts : IsCuts t P) where
         | inl e ↦
             (let c = (slice_get_cases t j).1 in
             elim c [
-              | inl y ↦ absurd (none_some e y.2)
+              | inl y ↦ absurd (some_none y.2 e)
               | inr y ↦ (let same : length t ≡ j = omega arith in subst P same cuts.at_end)
             ])
         | inr a ↦ cuts.before j a

@@ -1,22 +1,19 @@
 -- Where a part nests too deeply, so does the whole.
-use Rattle.std.proofs.Common.{◌≡◌, ℕ, zero, suc, ◌-◌, ◌<◌, ◌≤◌, List, [], length, Bool, true, false}
-use Rattle.std.proofs.Common.{refl, subst, arith, inl, inr}
+use Rattle.std.proofs.Common.{◌≡◌, ℕ, zero, suc, List, [], Bool, true, false}
+use Rattle.std.proofs.Common.{refl, subst}
 use Rattle.fluent_syntax_grammar.specs.Construct.{Outcome, Construct, Read, Refused, ◌>>=◌, stops, goes_on, at_each}
 use Rattle.fluent_syntax_grammar.specs.Construct.{chosen, either, first, second, More, item, many, list_ends}
 use Rattle.fluent_syntax_grammar.specs.Construct.{list_stops}
 use Rattle.fluent_syntax_grammar.specs.Construct.{item_and_more, stops_later, passed}
-use Rattle.std.specs.Prelude.{◌⊎◌}
 use Rattle.fluent_syntax_tree.specs.declared.edition.Edition.{Edition}
 use Rattle.fluent_syntax_grammar.specs.Arguments.{call_arguments, more_arguments}
 use Rattle.fluent_syntax_grammar.specs.Bytes.{left_brace, left_parenthesis}
 use Rattle.fluent_syntax_grammar.specs.Family.{Family}
 use Rattle.fluent_syntax_grammar.specs.Grammar.{within}
-use Rattle.fluent_syntax_grammar.specs.Patterns.{pattern}
 use Rattle.fluent_syntax_grammar.specs.Placeables.{expression, placeable}
 use Rattle.fluent_syntax_grammar.specs.Places.{Blank}
 use Rattle.fluent_syntax_grammar.specs.Words.{optional, token}
 use Rattle.fluent_syntax_grammar.proofs.FunctionalWords.{functional_blank, functional_optional, functional_token}
-use Rattle.fluent_syntax_grammar.proofs.TotalFamily.{pattern_within}
 use Rattle.fluent_syntax_grammar.specs.Laws.{IsFunctional}
 use Rattle.fluent_syntax_grammar.specs.Nesting.{TooDeep}
 

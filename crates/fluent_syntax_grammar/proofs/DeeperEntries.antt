@@ -3,7 +3,7 @@ use Rattle.std.proofs.Common.{◌≡◌, ℕ, ◌<◌, List, length, subst, arit
 use Rattle.fluent_syntax_tree.specs.Entry.{AttributeTree}
 use Rattle.fluent_syntax_tree.specs.declared.edition.Edition.{Edition}
 use Rattle.fluent_syntax_tree.specs.declared.spans.Span.{Span}
-use Rattle.fluent_syntax_grammar.specs.Construct.{Outcome, Read}
+use Rattle.fluent_syntax_grammar.specs.Construct.{Read}
 use Rattle.fluent_syntax_grammar.specs.Entries.{attribute_of, attributes_of, no_more, one_more}
 use Rattle.fluent_syntax_grammar.specs.Family.{Family}
 use Rattle.fluent_syntax_grammar.specs.Nesting.{TooDeep}

@@ -60,13 +60,13 @@ braces = codes "{{{a}}}"
 three_braces : TooDeep (placeable braces (within One braces 2)) 0
 three_braces =
     deeper_placeable braces (within One braces 2) (mark braces left_brace 0 refl)
-        (none_there (is_blank_place braces) 1 refl)
+    (none_there (is_blank_place braces) 1 refl)
     (one_inside One braces 1 1 (deeper_first (deeper_at_each (deeper_first
     (deeper_placeable braces (within One braces 1) (mark braces left_brace 1 refl)
-        (none_there (is_blank_place braces) 2 refl)
+    (none_there (is_blank_place braces) 2 refl)
     (one_inside One braces 0 2 (deeper_first (deeper_at_each (deeper_first
     (deeper_placeable braces (within One braces 0) (mark braces left_brace 2 refl)
-        (none_there (is_blank_place braces) 3 refl)
+    (none_there (is_blank_place braces) 3 refl)
     (none_inside One braces 3)))))))))))
 
 -- they nest no deeper than three
@@ -81,16 +81,16 @@ calls = codes "{F(F())}"
 two_lists : TooDeep (placeable calls (within One calls 2)) 0
 two_lists =
     deeper_placeable calls (within One calls 2) (mark calls left_brace 0 refl)
-        (none_there (is_blank_place calls) 1 refl)
+    (none_there (is_blank_place calls) 1 refl)
     (one_inside One calls 1 1 (deeper_first (deeper_at_each
     (deeper_next (functional_identifier calls) _ 2 (name calls 1 refl refl refl) (deeper_first
     (deeper_call calls (within One calls 1) (none_there (is_blank_place calls) 2 refl)
-        (byte calls left_parenthesis 2 refl)
+    (byte calls left_parenthesis 2 refl)
     (none_there (is_blank_place calls) 3 refl)
     (one_list_inside One calls 0 3 (deeper_item (deeper_at_each (deeper_no refl (deeper_first (deeper_at_each
     (deeper_next (functional_identifier calls) _ 4 (name calls 3 refl refl refl) (deeper_first
     (deeper_call calls (within One calls 0) (none_there (is_blank_place calls) 4 refl)
-        (byte calls left_parenthesis 4 refl)
+    (byte calls left_parenthesis 4 refl)
     (none_there (is_blank_place calls) 5 refl) (no_list_inside One calls 5))))))))))))))))
 
 -- ---- junk

@@ -31,13 +31,13 @@ use Rattle.fluent_syntax_grammar.proofs.Facts.{append_nothing, flat_append}
 -- ---- the texts of a body
 
 module _ (P : ℕ → Type 0) where
-  abbrev GoodEntry : EntryTree Span → Type 0
+  abbrev pub GoodEntry : EntryTree Span → Type 0
   GoodEntry = entry_every (IsSpan P)
 
-  abbrev GoodBody : BodyTree Span → Type 0
+  abbrev pub GoodBody : BodyTree Span → Type 0
   GoodBody = list_every GoodEntry
 
-  abbrev GoodGiven : Tile → Type 0
+  abbrev pub GoodGiven : Tile → Type 0
   GoodGiven (entry s e) = GoodEntry e
   GoodGiven (refused f) = IsSpan P f.slice
   GoodGiven dropped = Unit {0}
@@ -82,7 +82,7 @@ module _ (P : ℕ → Type 0) where
   good_joined x y others after None e g h p q = good_append (alone x) others (good_alone x g) p
   good_joined x y others after (Some z) e g h p q = (good_hangs x y z g h e, q)
 
-  good_body : (xs : List Tile) → list_every GoodGiven xs → GoodBody (body xs)
+  pub good_body : (xs : List Tile) → list_every GoodGiven xs → GoodBody (body xs)
   good_body [] g = tt
   good_body (x ∷ []) (g, h) = good_alone x g
   good_body (x ∷ y ∷ tiles) (g, (h, k)) =

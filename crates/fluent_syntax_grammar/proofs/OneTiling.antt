@@ -31,7 +31,7 @@ pub record IsOneTile (at : (i j : ℕ) → Tile → Type 0) : Type 0 where
   pub same_end : (i j k : ℕ) (x y : Tile) → at i j x → at i k y → j ≡ k
   pub same_tile : (i j k : ℕ) (x y : Tile) → at i j x → at i k y → x ≡ y
 
-tiled_same : (t : List ℕ) (at : (i j : ℕ) → Tile → Type 0) → IsOneTile at → (i : ℕ) (xs ys : List Tile) →
+pub tiled_same : (t : List ℕ) (at : (i j : ℕ) → Tile → Type 0) → IsOneTile at → (i : ℕ) (xs ys : List Tile) →
     Tiled t at i xs → Tiled t at i ys → xs ≡ ys
 tiled_same t at one i xs ys (done a) (done b) = refl
 tiled_same t at one i xs ys (done a) (next b l c d) = let h = single_block.same i _ _ a b in absurd (omega arith)

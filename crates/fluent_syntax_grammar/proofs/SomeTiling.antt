@@ -1,42 +1,26 @@
 -- Every text has a tiling and a tiling without comments.
-use Rattle.std.proofs.Common.{◌≡◌, ℕ, zero, suc, ◌+◌, ◌<◌, ◌≤◌, List, [], ◌∷◌, ◌++◌, length, Option, Some, None, Bool}
+use Rattle.std.proofs.Common.{◌≡◌, ℕ, zero, suc, ◌+◌, ◌<◌, ◌≤◌, List, [], ◌∷◌, length, Option, Some, None, Bool}
 use Rattle.std.proofs.Common.{true, false, refl, subst, arith, inl, inr}
-use Rattle.std.specs.Prelude.{slice_get, ◌==◌}
-use Rattle.fluent_syntax_tree.specs.Tree.{PatternTree}
-use Rattle.fluent_syntax_tree.specs.Entry.{AttributeTree, EntryTree}
+use Rattle.fluent_syntax_tree.specs.Entry.{EntryTree}
 use Rattle.fluent_syntax_grammar.specs.Grammar.{family}
 use Rattle.fluent_syntax_grammar.specs.Places.{Stretch, has_byte, after_eol, is_line_place, BlankBlock}
-use Rattle.fluent_syntax_grammar.specs.Construct.{Outcome, Read, Refused, stops, goes_on, given, chosen, either, first}
-use Rattle.fluent_syntax_grammar.specs.Construct.{second}
-use Rattle.fluent_syntax_grammar.specs.Entries.{attribute_with, message_with, term_with, attribute, attributes, no_more}
-use Rattle.fluent_syntax_grammar.specs.Entries.{one_more, message_entry, term_entry}
-use Rattle.fluent_syntax_grammar.specs.Comments as comments
-use Rattle.fluent_syntax_grammar.specs.Comments.{hashes, comment_text, comment_rest, comment_line, comment_lines}
-use Rattle.fluent_syntax_grammar.specs.Comments.{other_level, no_comment_line, comment_of, comment_entry}
+use Rattle.fluent_syntax_grammar.specs.Construct.{Outcome, Read, Refused}
 use Rattle.fluent_syntax_grammar.specs.Tiling.{Tile, entry, dropped, failing_place, starts_entry, JunkEnd, Tiled, done}
-use Rattle.fluent_syntax_grammar.specs.Tiling.{next, entry_of, entry_at, TileAt, reads, refuses, RuntimeTileAt, drops}
+use Rattle.fluent_syntax_grammar.specs.Tiling.{next, entry_at, TileAt, reads, refuses, RuntimeTileAt, drops}
 use Rattle.fluent_syntax_grammar.specs.Tiling.{stands}
 use Rattle.fluent_syntax_grammar.specs.Laws.{SomeTiling, SomeRuntimeTiling}
 use Rattle.fluent_syntax_tree.specs.declared.edition.Edition.{Edition}
 use Rattle.fluent_syntax_tree.specs.declared.spans.Span.{Span}
-use Rattle.fluent_syntax_grammar.proofs.Holds.{holds_over}
 use Rattle.fluent_syntax_grammar.proofs.Cuts.{block_forward, line_inside}
 use Rattle.fluent_syntax_grammar.proofs.SoundStrings.{InText}
-use Rattle.fluent_syntax_grammar.proofs.SoundEntries.{sound_attributes}
-use Rattle.fluent_syntax_grammar.proofs.SoundComments.{after_hashes, line_from}
 use Rattle.fluent_syntax_grammar.proofs.SoundTiling.{entry_refused, tile_good}
 use Rattle.fluent_syntax_grammar.proofs.Boundaries.{text_cuts}
 use Rattle.fluent_syntax_grammar.proofs.WholeLines.{IsLine, line_to, line_in_text, hashes_onward}
 use Rattle.fluent_syntax_grammar.proofs.CommentFaults.{some_hash}
 use Rattle.fluent_syntax_grammar.proofs.ComputedTiling.{end_start, end_text, end_on}
-use Rattle.fluent_syntax_grammar.proofs.Total.{From, Both, Strict, total_bind, total_over, both_bind, both_gives}
-use Rattle.fluent_syntax_grammar.proofs.Total.{both_here, both_fails, both_fails_from, both_at_each, both_strict}
-use Rattle.fluent_syntax_grammar.proofs.Total.{strict_first, strict_then}
-use Rattle.fluent_syntax_grammar.proofs.TotalWords.{on_sound, stretch_word, block_word, both_inline_blank}
-use Rattle.fluent_syntax_grammar.proofs.TotalWords.{both_blank_block, both_optional_eol, both_spanned}
-use Rattle.fluent_syntax_grammar.proofs.TotalWords.{both_rest_of_line, strict_token, strict_identifier}
+use Rattle.fluent_syntax_grammar.proofs.TotalWords.{stretch_word, block_word}
 use Rattle.fluent_syntax_grammar.proofs.TotalFamily.{pattern_everywhere}
-use Rattle.fluent_syntax_grammar.proofs.Facts.{equal, lt_or_same, unequal}
+use Rattle.fluent_syntax_grammar.proofs.Facts.{lt_or_same}
 use Rattle.fluent_syntax_grammar.proofs.Included.{IsIncludedFamily, included_same}
 use Rattle.fluent_syntax_grammar.proofs.TotalEntries.{entry_has}
 

@@ -14,7 +14,7 @@ use Rattle.fluent_syntax_grammar.specs.Comments.{hashes, comment_text, comment_r
 use Rattle.fluent_syntax_tree.specs.declared.spans.Span.{Span}
 use Rattle.fluent_syntax_grammar.proofs.Cuts.{eol_cases, eol_forward, eol_text}
 use Rattle.fluent_syntax_grammar.proofs.LineEnds.{IsLineStart, eol_start, eol_none, after_none}
-use Rattle.fluent_syntax_grammar.proofs.Facts.{byte_found, excludes, none_holds, some_same, lt_or_le}
+use Rattle.fluent_syntax_grammar.proofs.Facts.{byte_found, excludes, lt_or_le, none_holds, some_none, some_same}
 use Rattle.fluent_syntax_grammar.proofs.Tests.{neither_left, or_none, and_left}
 
 -- a line from i on, with its line end, reaches to j
@@ -32,9 +32,6 @@ byte_stands : (o : Option ℕ) (e : Bool) → (is_some o && not e) ≡ true → 
 byte_stands None e h = cc
 byte_stands (Some b) true h = cc
 byte_stands (Some b) false h = (refl, (b, refl))
-
-some_none : {o : Option ℕ} {b : ℕ} {X : Type 0} → o ≡ Some b → o ≡ None → X
-some_none e f = cc
 
 cr_byte : (b : ℕ) → (b == cr) ≡ true → (b == lf) ≡ false
 cr_byte b e = grind (arith, nat_tests)

@@ -76,20 +76,20 @@ abbrev pub worn : {X : Type 0} → Option (List X) → EntryTree X → EntryTree
 worn None e = e
 worn (Some content) e = with_comment content e
 
-takes_map : {X Y : Type 0} (f : X → Y) (e : EntryTree X) → takes_comment (entry_map f e) ≡ takes_comment e
+pub takes_map : {X Y : Type 0} (f : X → Y) (e : EntryTree X) → takes_comment (entry_map f e) ≡ takes_comment e
 takes_map f (message m) = refl
 takes_map f (term m) = refl
 takes_map f (comment level c) = refl
 takes_map f (junk x) = refl
 
-with_map : {X Y : Type 0} (f : X → Y) (c : List X) (e : EntryTree X) →
+pub with_map : {X Y : Type 0} (f : X → Y) (c : List X) (e : EntryTree X) →
     entry_map f (with_comment c e) ≡ with_comment (map f c) (entry_map f e)
 with_map f c (message m) = refl
 with_map f c (term m) = refl
 with_map f c (comment level d) = refl
 with_map f c (junk x) = refl
 
-hung_with : (c : List Span) (e : EntryTree Span) → takes_comment e ≡ true → hung c e ≡ Some (with_comment c e)
+pub hung_with : (c : List Span) (e : EntryTree Span) → takes_comment e ≡ true → hung c e ≡ Some (with_comment c e)
 hung_with c (message m) h = refl
 hung_with c (term m) h = refl
 hung_with c (comment level d) h = cc
@@ -98,7 +98,7 @@ hung_with c (junk x) h = cc
 -- ---- what tiles give
 
 -- a message or a term gives itself
-body_alone : (s : Span) (e : EntryTree Span) (tiles : List Tile) → takes_comment e ≡ true →
+pub body_alone : (s : Span) (e : EntryTree Span) (tiles : List Tile) → takes_comment e ≡ true →
     body (entry s e ∷ tiles) ≡ e ∷ body tiles
 body_alone s e [] h = refl
 body_alone s (message m) (y ∷ tiles) h = refl
@@ -107,7 +107,7 @@ body_alone s (comment level c) (y ∷ tiles) h = cc
 body_alone s (junk x) (y ∷ tiles) h = cc
 
 -- a comment directly before it hangs on it
-body_hung : (i j k : ℕ) (c : List Span) (e : EntryTree Span) (tiles : List Tile) → takes_comment e ≡ true →
+pub body_hung : (i j k : ℕ) (c : List Span) (e : EntryTree Span) (tiles : List Tile) → takes_comment e ≡ true →
     body (entry (record { start = i; end = j }) (comment regular c) ∷ entry (record { start = j; end = k }) e ∷ tiles)
     ≡ with_comment c e ∷ body tiles
 body_hung i j k c e tiles h = rw (same_number j, hung_with c e h) refl
@@ -128,11 +128,11 @@ free_comment edition t i j k regular c (refused x ∷ tiles) n (next b l (refuse
 free_comment edition t i j k regular c (dropped ∷ tiles) n (next b l a m) = elim a [ ]
 
 module _ (edition : Edition) (t : List ℕ) where
-  entry_within : (i b : ℕ) (bs : List ℕ) → Left t i (b ∷ bs) → i < length t
+  pub entry_within : (i b : ℕ) (bs : List ℕ) → Left t i (b ∷ bs) → i < length t
   entry_within i b bs l = let n = left_end l in omega arith
 
   -- a blank line before tiles
-  line_before : (i : ℕ) (bs : List ℕ) (tiles : List Tile) → Left t i (lf ∷ bs) →
+  pub line_before : (i : ℕ) (bs : List ℕ) (tiles : List Tile) → Left t i (lf ∷ bs) →
       Tiled t (TileAt edition t) (i + 1) tiles → Tiled t (TileAt edition t) i tiles
   line_before i bs tiles l (done b) = done (line (no_spaces edition t refl l) (lf_after edition t l) b)
   line_before i bs tiles l (next b m a n) = next (line (no_spaces edition t refl l) (lf_after edition t l) b) m a n
@@ -145,7 +145,7 @@ module _ (edition : Edition) (t : List ℕ) where
       let n = tiles_after more rest es (i + 1) e (left_next l) k in
       record { tiles = n.tiles; tiled = line_before i more n.tiles l n.tiled; no_faults = n.no_faults; same = n.same }
 
-  reads_comment : (i b : ℕ) (bs : List ℕ) (e : EntryTree Span) (j : ℕ) → (b == 35) ≡ true → Left t i (b ∷ bs) →
+  pub reads_comment : (i b : ℕ) (bs : List ℕ) (e : EntryTree Span) (j : ℕ) → (b == 35) ≡ true → Left t i (b ∷ bs) →
       comment_entry t i (Read e j) → entry_at edition t i (Read e j)
   reads_comment i b bs e j is l r =
       chosen (subst (λ o. entry_of edition t (family edition t) o i (Read e j)) (sym (left_first l)) (first_of is r))
@@ -246,7 +246,8 @@ module _ (edition : Edition) (t : List ℕ) where
 
   -- ---- entries as they are written
 
-  letter_reads : (i b : ℕ) (bs : List ℕ) (e : EntryTree Text) (rest : List ℕ) → is_letter b ≡ true → Left t i (b ∷ bs) →
+  pub letter_reads : (i b : ℕ) (bs : List ℕ) (e : EntryTree Text) (rest : List ℕ) → is_letter b ≡ true → Left t i
+      (b ∷ bs) →
       Reads t (message_entry edition t) (entry_map (bytes_at t)) i e rest →
       Reads t (entry_at edition t) (entry_map (bytes_at t)) i e rest
   letter_reads i b bs e rest is l r =
@@ -254,7 +255,7 @@ module _ (edition : Edition) (t : List ℕ) where
       chosen (subst (λ b. entry_of edition t (family edition t) b i o) (sym (left_first l))
       (second (differ is_letter b 35 is refl) (second (differ is_letter b 45 is refl) x)))) r
 
-  minus_reads : (i : ℕ) (bs : List ℕ) (e : EntryTree Text) (rest : List ℕ) → Left t i (45 ∷ bs) →
+  pub minus_reads : (i : ℕ) (bs : List ℕ) (e : EntryTree Text) (rest : List ℕ) → Left t i (45 ∷ bs) →
       Reads t (term_entry edition t) (entry_map (bytes_at t)) i e rest →
       Reads t (entry_at edition t) (entry_map (bytes_at t)) i e rest
   minus_reads i bs e rest l r =
@@ -291,14 +292,14 @@ module _ (edition : Edition) (t : List ℕ) where
       (comment_back t regular (x ∷ xs) j (b ∷ bs) (right_true (are_lines (x ∷ xs)) _ o)
       (left_true (are_lines (x ∷ xs)) _ o) n l) r k)
 
-  worn_message : (m : MessageTree Text) (c : Option (List Text)) → m.comment ≡ c →
+  pub worn_message : (m : MessageTree Text) (c : Option (List Text)) → m.comment ≡ c →
       worn c (message (record { id = m.id; value = m.value; attributes = m.attributes; comment = None })) ≡ message m
   worn_message m None e =
       ap (λ c. message (record { id = m.id; value = m.value; attributes = m.attributes; comment = c })) (sym e)
   worn_message m (Some x) e =
       ap (λ c. message (record { id = m.id; value = m.value; attributes = m.attributes; comment = c })) (sym e)
 
-  worn_term : (m : TermTree Text) (c : Option (List Text)) → m.comment ≡ c →
+  pub worn_term : (m : TermTree Text) (c : Option (List Text)) → m.comment ≡ c →
       worn c (term (record { id = m.id; value = m.value; attributes = m.attributes; comment = None })) ≡ term m
   worn_term m None e =
       ap (λ c. term (record { id = m.id; value = m.value; attributes = m.attributes; comment = c })) (sym e)

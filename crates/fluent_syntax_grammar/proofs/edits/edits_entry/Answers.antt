@@ -1,0 +1,23 @@
+-- Each clause is a law of the grammar.
+use Rattle.fluent_syntax_grammar.proofs.locality.InTiling.{replaced, replaced_run, inserted, removed}
+use Rattle.fluent_syntax_grammar.proofs.locality.SameBefore.{same_before}
+use Rattle.fluent_syntax_grammar.proofs.locality.WholeTrees.{keeps_tree}
+use Rattle.fluent_syntax_grammar.proofs.edits.edits_entry.Goals as goal
+
+pub returns-clause-replaced : goal.returns-clause-replaced
+returns-clause-replaced g c = λ edition blank. replaced edition c.args.text.now _ blank
+
+pub returns-clause-inserted : goal.returns-clause-inserted
+returns-clause-inserted g c = λ edition blank. inserted edition c.args.text.now _ blank
+
+pub returns-clause-removed : goal.returns-clause-removed
+returns-clause-removed g c = λ edition. removed edition c.args.text.now
+
+pub returns-clause-run : goal.returns-clause-run
+returns-clause-run g c = λ edition blank. replaced_run edition c.args.text.now _ blank
+
+pub returns-clause-before : goal.returns-clause-before
+returns-clause-before g c = λ edition. same_before edition c.args.text.now
+
+pub returns-clause-tree : goal.returns-clause-tree
+returns-clause-tree g c = λ edition blank. keeps_tree edition c.args.text.now _ blank

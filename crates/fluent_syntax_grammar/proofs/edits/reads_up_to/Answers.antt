@@ -1,0 +1,9 @@
+-- Each clause is a law of the grammar.
+use Rattle.fluent_syntax_grammar.proofs.locality.Edits.{prefix_local, joins}
+use Rattle.fluent_syntax_grammar.proofs.edits.reads_up_to.Goals as goal
+
+pub returns-clause-prefix : goal.returns-clause-prefix
+returns-clause-prefix c = λ edition. prefix_local edition c.args.before.now c.args.rest.now c.args.other.now
+
+pub returns-clause-joins : goal.returns-clause-joins
+returns-clause-joins c = λ edition. joins edition c.args.before.now c.args.rest.now c.args.other.now

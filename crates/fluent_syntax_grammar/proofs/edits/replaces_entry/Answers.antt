@@ -1,0 +1,10 @@
+-- Each clause is a law of the grammar.
+use Rattle.fluent_syntax_grammar.proofs.locality.Replaced.{reads_first, replaces}
+use Rattle.fluent_syntax_grammar.proofs.edits.replaces_entry.Goals as goal
+
+pub returns-clause-first : goal.returns-clause-first
+returns-clause-first g c = λ edition blank. reads_first edition _ blank c.args.after.now
+
+pub returns-clause-replaces : goal.returns-clause-replaces
+returns-clause-replaces g c =
+    λ edition blank. replaces edition c.args.before.now c.args.rest.now _ blank c.args.after.now

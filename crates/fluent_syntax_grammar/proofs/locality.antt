@@ -1,0 +1,24 @@
+-- Locality: what is read from a line's start on is what is read of the rest of the text by itself, moved.
+pub mod Moved
+pub mod Strings
+pub mod Layouts
+pub mod Rules
+pub mod Entries
+pub mod Trees
+pub mod Tiles
+pub mod Kept
+pub mod KeptWords
+pub mod KeptLayouts
+pub mod KeptRules
+pub mod KeptEntries
+pub mod Edits
+pub mod NewEntries
+pub mod NewTexts
+pub mod Replaced
+pub mod EntryEnds
+pub mod InTiling
+pub mod ExamplesEdits
+pub mod SameTexts
+pub mod SameBefore
+pub mod Resyncs
+pub mod WholeTrees

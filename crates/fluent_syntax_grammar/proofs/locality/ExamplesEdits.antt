@@ -1,0 +1,85 @@
+-- Examples: an entry is replaced, with and without an error behind it.
+use Rattle.std.proofs.Common.{◌≡◌, ℕ, List, [], ◌∷◌, ◌++◌, take, drop, map, Some, None, refl}
+use Rattle.std.specs.Prelude.{codes}
+use Rattle.fluent_syntax_tree.specs.Tree.{text_element, no_elements, elements}
+use Rattle.fluent_syntax_tree.specs.Entry.{EntryTree, message, BodyTree}
+use Rattle.fluent_syntax_tree.specs.declared.spans.Span.{Span}
+use Rattle.fluent_syntax_tree.specs.declared.edition.Edition.TheVariants.{One}
+use Rattle.fluent_syntax_tree.specs.Kind.{ExpectedToken}
+use Rattle.fluent_syntax_grammar.specs.Tiling.{Tile, entry, refused, Tiling}
+use Rattle.fluent_syntax_grammar.specs.Written.{Text, written}
+use Rattle.fluent_syntax_grammar.specs.RoundTrip.{tree_of}
+use Rattle.fluent_syntax_grammar.specs.Locality.{entry_text, blank_lines, moved_tiles}
+use Rattle.fluent_syntax_grammar.proofs.ComputedTiling.{is_tiling}
+use Rattle.fluent_syntax_grammar.proofs.locality.InTiling.{replaced}
+
+-- the message `name = value` that begins at the place
+abbrev short : ℕ → EntryTree Span
+short i = message (record {
+  id = record { start = i; end = Rattle.std.proofs.Common.◌+◌ i 1 };
+  value =
+      Some (elements (text_element (record {
+        start = Rattle.std.proofs.Common.◌+◌ i 4;
+        end = Rattle.std.proofs.Common.◌+◌ i 5;
+      })) no_elements);
+  attributes = [];
+  comment = None;
+})
+
+abbrev tile : ℕ → Tile
+tile i = entry (record { start = i; end = Rattle.std.proofs.Common.◌+◌ i 6 }) (short i)
+
+-- `x = y`
+abbrev new_entry : EntryTree Text
+new_entry = message (record {
+  id = codes "x";
+  value = Some (elements (text_element (codes "y")) no_elements);
+  attributes = [];
+  comment = None;
+})
+
+-- three messages, and junk behind them
+abbrev old_text : List ℕ
+old_text = codes "a = b\nc = d\ne = f\ng@\n"
+
+abbrev junk_tile : Tile
+junk_tile = refused (record {
+  kind = ExpectedToken 61;
+  pos = record { start = 19; end = 20 };
+  slice = record { start = 18; end = 21 };
+})
+
+-- its tiling, computed
+old_tiling : Tiling One old_text ((tile 0 ∷ []) ++ (tile 6 ∷ (tile 12 ∷ junk_tile ∷ [])))
+old_tiling = is_tiling One old_text _ refl
+
+-- the text with `x = y` and a blank line in place of `c = d`
+abbrev new_text : List ℕ
+new_text = take 6 old_text ++ (entry_text new_entry ++ (blank_lines 1 ++ drop 12 old_text))
+
+-- it is this one
+spelled : new_text ≡ codes "a = b\nx = y\n\ne = f\ng@\n"
+unfolding written
+spelled = refl
+
+-- The law gives its tiling, of which nothing was computed: the first message as it was; the new one; and the others,
+-- with the error, moved by one.
+law : (new own : List Tile) × ((tile 12 ∷ junk_tile ∷ []) ≡ moved_tiles 12 own) ×
+    Tiling One new_text ((tile 0 ∷ []) ++ (moved_tiles 6 new ++ moved_tiles 13 own))
+    × (tree_of new_text (moved_tiles 6 new) ≡ new_entry ∷ [])
+    × (tree_of new_text (moved_tiles 13 own) ≡ tree_of old_text (tile 12 ∷ junk_tile ∷ []))
+unfolding written
+law =
+    replaced One old_text new_entry 1 (tile 0 ∷ []) (tile 12 ∷ junk_tile ∷ []) (record { start = 6; end = 12 })
+    (short 6)
+    old_tiling refl (λ e. cc) refl refl
+
+-- and what stands behind the new message reads as it did
+behind : tree_of old_text (tile 12 ∷ junk_tile ∷ []) ≡
+    message (record {
+      id = codes "e";
+      value = Some (elements (text_element (codes "f")) no_elements);
+      attributes = [];
+      comment = None;
+    }) ∷ Rattle.fluent_syntax_tree.specs.Entry.junk (codes "g@\n") ∷ []
+behind = refl

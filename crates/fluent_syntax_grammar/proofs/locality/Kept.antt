@@ -1,0 +1,376 @@
+-- What two texts share up to the start of a line: a construct that is read in the one up to there is read in the other.
+use Rattle.std.proofs.Common.{◌≡◌, ℕ, ◌+◌, ◌≤◌, ◌<◌, List, Option, Some, None, Bool, true, false}
+use Rattle.std.proofs.Common.{refl, subst, arith, inl, inr}
+use Rattle.std.specs.Prelude.{nat_le, ◌||◌}
+use Rattle.std.specs.Prelude.{slice_get, slice_range, ◌⊎◌}
+use Rattle.fluent_syntax_tree.specs.Kind.{Kind}
+use Rattle.fluent_syntax_tree.specs.declared.spans.Span.{Span}
+use Rattle.fluent_syntax_grammar.specs.Bytes.{lf}
+use Rattle.fluent_syntax_grammar.specs.Places.{Reaches}
+use Rattle.fluent_syntax_grammar.specs.Placeables.{has_arrow}
+use Rattle.fluent_syntax_grammar.specs.Construct.{Read, Construct, ◌>>=◌, goes_on, gives, given, here, at_place, fails}
+use Rattle.fluent_syntax_grammar.specs.Construct.{fails_from, over, passed, at_each, chosen, either, first, second}
+use Rattle.fluent_syntax_grammar.specs.Construct.{More, many, list_ends, item_and_more}
+use Rattle.fluent_syntax_grammar.specs.Tiling.{is_entry_byte}
+use Rattle.fluent_syntax_grammar.proofs.Facts.{lt_or_same}
+use Rattle.fluent_syntax_grammar.proofs.Sound.{good_more}
+
+-- a byte that begins an entry, or one that is not ASCII
+abbrev pub is_head_byte : ℕ → Bool
+is_head_byte b = is_entry_byte b || nat_le 128 b
+
+-- such a byte stands there, and no `->`
+pub record Head (t : List ℕ) (p : ℕ) : Type 0 where
+  pub byte : ℕ
+  pub stands : slice_get t p ≡ Some byte
+  pub begins : is_head_byte byte ≡ true
+  pub no_arrow : has_arrow t p ≡ false
+
+-- Before p the texts are the same; there a line starts, and in both texts a byte that begins an entry stands.
+pub record Shared (p : ℕ) (t u : List ℕ) : Type 0 where
+  pub byte : (i : ℕ) → i < p → slice_get t i ≡ slice_get u i
+  pub range : (i j : ℕ) → j ≤ p → slice_range t i j ≡ slice_range u i j
+  pub line : (i : ℕ) → i + 1 ≡ p → slice_get t i ≡ Some lf
+  pub head : Head t p
+  pub other : Head u p
+
+-- What c reads up to p, d reads; and c does not go back.
+pub record Keeps {A : Type 0} (p : ℕ) (c d : Construct A) : Type 0 where
+  pub keep : (i j : ℕ) (a : A) → i ≤ p → j ≤ p → c i (Read a j) → d i (Read a j)
+  pub forward : (i j : ℕ) (a : A) → c i (Read a j) → i ≤ j
+
+-- The same under a premise, where besides what is read is good.
+pub record KeepsIf {A : Type 0} (p : ℕ) (M : Type 0) (Good : A → Type 0) (c d : Construct A) : Type 0 where
+  pub keep : M → (i j : ℕ) (a : A) → i ≤ p → j ≤ p → c i (Read a j) → d i (Read a j)
+  pub good : M → (i j : ℕ) (a : A) → j ≤ p → c i (Read a j) → Good a
+  pub forward : (i j : ℕ) (a : A) → c i (Read a j) → i ≤ j
+
+-- nothing more of the value
+abbrev pub Any : {A : Type 0} → A → Type 0
+Any a = Unit {0}
+
+-- a range that ends at p at the latest
+abbrev pub Within : ℕ → Span → Type 0
+Within p s = s.end ≤ p
+
+-- the same is seen up to p
+pub record SameLook {A : Type 0} (p : ℕ) (look other : ℕ → A) : Type 0 where
+  pub same : (i : ℕ) → i ≤ p → look i ≡ other i
+
+-- where the one leads up to p, the other leads, and not back
+pub record KeptWord (p : ℕ) (W V : ℕ → ℕ → Type 0) : Type 0 where
+  pub leads : (i j : ℕ) → i ≤ p → j ≤ p → W i j → V i j
+  pub forward : (i j : ℕ) → W i j → i ≤ j
+
+-- a part that is chosen by a line end, which ends at k
+pub record KeepsFrom {A : Type 0} (p k : ℕ) (M : Type 0) (Good : A → Type 0) (c d : Construct A) : Type 0 where
+  pub keep : M → (i j : ℕ) (a : A) → i < k → i ≤ p → j ≤ p → c i (Read a j) → d i (Read a j)
+  pub good : M → (i j : ℕ) (a : A) → j ≤ p → c i (Read a j) → Good a
+  pub forward : (i j : ℕ) (a : A) → i < k → c i (Read a j) → i ≤ j
+
+-- ---- the formers
+
+module _ (p : ℕ) where
+  bind_forward : {A B : Type 0} (c : Construct A) (f : A → Construct B) → ((i j : ℕ) (a : A) → c i (Read a j) → i ≤ j) →
+      ((a : A) (i j : ℕ) (b : B) → f a i (Read b j) → i ≤ j) → (i j : ℕ) (b : B) → (c >>= f) i (Read b j) → i ≤ j
+  bind_forward c f w v i j b (goes_on {j = m} {a = a} x y) =
+      let l = w i m a x in let k = v a m j b y in omega arith
+
+  bind_keep : {A B : Type 0} (c d : Construct A) (f g : A → Construct B) → Keeps p c d →
+      ((a : A) → Keeps p (f a) (g a)) → (i j : ℕ) (b : B) → i ≤ p → j ≤ p → (c >>= f) i (Read b j) →
+      (d >>= g) i (Read b j)
+  bind_keep c d f g m k i j b l n (goes_on {j = q} {a = a} x y) =
+      let w = (k a).forward q j b y in
+      goes_on (m.keep i q a l (omega arith) x) ((k a).keep q j b (omega arith) n y)
+
+  pub keeps_bind : {A B : Type 0} {c d : Construct A} {f g : A → Construct B} → Keeps p c d →
+      ((a : A) → Keeps p (f a) (g a)) → Keeps p (c >>= f) (d >>= g)
+  keeps_bind m k = record {
+    keep = bind_keep _ _ _ _ m k;
+    forward = bind_forward _ _ m.forward (λ a. (k a).forward);
+  }
+
+  if_keep : {A B : Type 0} (M : Type 0) (Mid : A → Type 0) (Good : B → Type 0) (c d : Construct A)
+      (f g : A → Construct B) → KeepsIf p M Mid c d → ((a : A) → KeepsIf p (M × Mid a) Good (f a) (g a)) → M →
+      (i j : ℕ) (b : B) → i ≤ p → j ≤ p → (c >>= f) i (Read b j) → (d >>= g) i (Read b j)
+  if_keep M Mid Good c d f g m k h i j b l n (goes_on {j = q} {a = a} x y) =
+      let w = (k a).forward q j b y in
+      goes_on (m.keep h i q a l (omega arith) x)
+      ((k a).keep (h, m.good h i q a (omega arith) x) q j b (omega arith) n y)
+
+  if_good : {A B : Type 0} (M : Type 0) (Mid : A → Type 0) (Good : B → Type 0) (c d : Construct A)
+      (f g : A → Construct B) → KeepsIf p M Mid c d → ((a : A) → KeepsIf p (M × Mid a) Good (f a) (g a)) → M →
+      (i j : ℕ) (b : B) → j ≤ p → (c >>= f) i (Read b j) → Good b
+  if_good M Mid Good c d f g m k h i j b n (goes_on {j = q} {a = a} x y) =
+      let w = (k a).forward q j b y in (k a).good (h, m.good h i q a (omega arith) x) q j b n y
+
+  pub if_bind : {A B : Type 0} {M : Type 0} {Mid : A → Type 0} {Good : B → Type 0} {c d : Construct A}
+      {f g : A → Construct B} → KeepsIf p M Mid c d → ((a : A) → KeepsIf p (M × Mid a) Good (f a) (g a)) →
+      KeepsIf p M Good (c >>= f) (d >>= g)
+  if_bind {M = M} {Mid = Mid} {Good = Good} m k = record {
+    keep = if_keep M Mid Good _ _ _ _ m k;
+    good = if_good M Mid Good _ _ _ _ m k;
+    forward = bind_forward _ _ m.forward (λ a. (k a).forward);
+  }
+
+  pub plain : {A : Type 0} {M : Type 0} {c d : Construct A} → Keeps p c d → KeepsIf p M Any c d
+  plain m = record { keep = λ h. m.keep; good = λ h i j a l x. tt; forward = m.forward }
+
+  pub simple : {A : Type 0} {Good : A → Type 0} {c d : Construct A} → KeepsIf p (Unit {0}) Good c d → Keeps p c d
+  simple m = record { keep = m.keep tt; forward = m.forward }
+
+  pub under : {A : Type 0} {M : Type 0} {Good : A → Type 0} {c d : Construct A} → KeepsIf p (Unit {0}) Good c d →
+      KeepsIf p M Good c d
+  under m = record { keep = λ h. m.keep tt; good = λ h. m.good tt; forward = m.forward }
+
+  gives_forward : {A : Type 0} (a : A) (i j : ℕ) (b : A) → gives a i (Read b j) → i ≤ j
+  gives_forward a i j b given = omega arith
+
+  gives_good : {A : Type 0} (Good : A → Type 0) (a : A) → Good a → (i j : ℕ) (b : A) → gives a i (Read b j) → Good b
+  gives_good Good a g i j b given = g
+
+  pub keeps_gives : {A : Type 0} {a : A} → Keeps p (gives a) (gives a)
+  keeps_gives {a = a} = record { keep = λ i j b l n x. x; forward = gives_forward a }
+
+  pub if_gives : {A : Type 0} {M : Type 0} {Good : A → Type 0} {a : A} → (M → Good a) →
+      KeepsIf p M Good (gives a) (gives a)
+  if_gives {Good = Good} {a = a} g = record {
+    keep = λ h i j b l n x. x;
+    good = λ h i j b n x. gives_good Good a (g h) i j b x;
+    forward = gives_forward a;
+  }
+
+  here_forward : (i j a : ℕ) → here i (Read a j) → i ≤ j
+  here_forward i j a at_place = omega arith
+
+  here_good : (i j a : ℕ) → j ≤ p → here i (Read a j) → a ≤ p
+  here_good i j a l at_place = l
+
+  pub keeps_here : Keeps p here here
+  keeps_here = record { keep = λ i j b l n x. x; forward = here_forward }
+
+  pub if_here : {M : Type 0} → KeepsIf p M (λ i. i ≤ p) here here
+  if_here = record { keep = λ h i j b l n x. x; good = λ h. here_good; forward = here_forward }
+
+  pub keeps_fails : {A : Type 0} {k l : Kind} → Keeps {A = A} p (fails k) (fails l)
+  keeps_fails = record { keep = λ i j a l n x. elim x [ ]; forward = λ i j a x. elim x [ ] }
+
+  pub keeps_fails_from : {A : Type 0} {k l : Kind} {s : ℕ} → Keeps {A = A} p (fails_from k s) (fails_from l s)
+  keeps_fails_from = record { keep = λ i j a l n x. elim x [ ]; forward = λ i j a x. elim x [ ] }
+
+  over_keep : (W V : ℕ → ℕ → Type 0) → KeptWord p W V → (i j : ℕ) (a : Unit {0}) → i ≤ p → j ≤ p →
+      over W i (Read a j) → over V i (Read a j)
+  over_keep W V w i j a l n (passed x) = passed (w.leads i j l n x)
+
+  over_forward : (W V : ℕ → ℕ → Type 0) → KeptWord p W V → (i j : ℕ) (a : Unit {0}) → over W i (Read a j) → i ≤ j
+  over_forward W V w i j a (passed x) = w.forward i j x
+
+  pub keeps_over : {W V : ℕ → ℕ → Type 0} → KeptWord p W V → Keeps p (over W) (over V)
+  keeps_over w = record { keep = over_keep _ _ w; forward = over_forward _ _ w }
+
+  look_keep : {A B : Type 0} (look other : ℕ → A) (f g : A → Construct B) → SameLook p look other →
+      ((a : A) → Keeps p (f a) (g a)) → (i j : ℕ) (b : B) → i ≤ p → j ≤ p → at_each look f i (Read b j) →
+      at_each other g i (Read b j)
+  look_keep look other f g s k i j b l n (chosen x) =
+      chosen (subst (λ a. g a i (Read b j)) (s.same i l) ((k (look i)).keep i j b l n x))
+
+  look_forward : {A B : Type 0} (look : ℕ → A) (f : A → Construct B) →
+      ((a : A) (i j : ℕ) (b : B) → f a i (Read b j) → i ≤ j) → (i j : ℕ) (b : B) → at_each look f i (Read b j) → i ≤ j
+  look_forward look f w i j b (chosen x) = w (look i) i j b x
+
+  pub keeps_at_each : {A B : Type 0} {look other : ℕ → A} {f g : A → Construct B} → SameLook p look other →
+      ((a : A) → Keeps p (f a) (g a)) → Keeps p (at_each look f) (at_each other g)
+  keeps_at_each s k = record {
+    keep = look_keep _ _ _ _ s k;
+    forward = look_forward _ _ (λ a. (k a).forward);
+  }
+
+  -- where what is seen differs, the part reads on beyond p
+  late_keep : {A B : Type 0} (look other : ℕ → A) (f g : A → Construct B) →
+      ((i j : ℕ) (b : B) → i ≤ p → f (look i) i (Read b j) → (look i ≡ other i) ⊎ (p < j)) →
+      ((a : A) → Keeps p (f a) (g a)) → (i j : ℕ) (b : B) → i ≤ p → j ≤ p → at_each look f i (Read b j) →
+      at_each other g i (Read b j)
+  late_keep look other f g s k i j b l n (chosen x) = elim (s i j b l x) [
+    | inl e ↦ chosen (subst (λ a. g a i (Read b j)) e ((k (look i)).keep i j b l n x))
+    | inr m ↦ absurd (omega arith)
+  ]
+
+  pub keeps_late : {A B : Type 0} {look other : ℕ → A} {f g : A → Construct B} →
+      ((i j : ℕ) (b : B) → i ≤ p → f (look i) i (Read b j) → (look i ≡ other i) ⊎ (p < j)) →
+      ((a : A) → Keeps p (f a) (g a)) → Keeps p (at_each look f) (at_each other g)
+  keeps_late s k = record {
+    keep = late_keep _ _ _ _ s k;
+    forward = look_forward _ _ (λ a. (k a).forward);
+  }
+
+  head_late : {A B : Type 0} (look other : ℕ → A) (f : A → Construct B) → ((i : ℕ) → i < p → look i ≡ other i) →
+      ((j : ℕ) (b : B) → f (look p) p (Read b j) → p < j) → (i j : ℕ) (b : B) → i ≤ p → f (look i) i (Read b j) →
+      (look i ≡ other i) ⊎ (p < j)
+  head_late look other f s v i j b l x = elim (lt_or_same i p l) [
+    | inl m ↦ inl (s i m)
+    | inr e ↦ inr (v j b (subst (λ k. f (look k) k (Read b j)) e x))
+  ]
+
+  -- the same, where what is seen before p is the same, and from p on the part reads on
+  pub keeps_at_head : {A B : Type 0} {look other : ℕ → A} {f g : A → Construct B} →
+      ((i : ℕ) → i < p → look i ≡ other i) → ((j : ℕ) (b : B) → f (look p) p (Read b j) → p < j) →
+      ((a : A) → Keeps p (f a) (g a)) → Keeps p (at_each look f) (at_each other g)
+  keeps_at_head {f = f} s v k = keeps_late (head_late _ _ f s v) k
+
+  either_keep : {A : Type 0} (q : Bool) (c d x y : Construct A) → Keeps p c d → Keeps p x y → (i j : ℕ) (a : A) →
+      i ≤ p → j ≤ p → either q c x i (Read a j) → either q d y i (Read a j)
+  either_keep q c d x y m k i j a l n (first e z) = first e (m.keep i j a l n z)
+  either_keep q c d x y m k i j a l n (second e z) = second e (k.keep i j a l n z)
+
+  either_forward : {A : Type 0} (q : Bool) (c x : Construct A) → ((i j : ℕ) (a : A) → c i (Read a j) → i ≤ j) →
+      ((i j : ℕ) (a : A) → x i (Read a j) → i ≤ j) → (i j : ℕ) (a : A) → either q c x i (Read a j) → i ≤ j
+  either_forward q c x m k i j a (first e z) = m i j a z
+  either_forward q c x m k i j a (second e z) = k i j a z
+
+  pub keeps_either : {A : Type 0} {q : Bool} {c d x y : Construct A} → Keeps p c d → Keeps p x y →
+      Keeps p (either q c x) (either q d y)
+  keeps_either m k = record {
+    keep = either_keep _ _ _ _ _ m k;
+    forward = either_forward _ _ _ m.forward k.forward;
+  }
+
+  -- ---- lists
+
+  module _ {A S B : Type 0} (f g : S → Construct (More A S)) (add : A → B → B) (none : B)
+      (forward : (s : S) (i j : ℕ) (x : More A S) → f s i (Read x j) → i ≤ j)
+      (keep : (s : S) (i j : ℕ) (x : More A S) → i ≤ p → j ≤ p → f s i (Read x j) → g s i (Read x j)) where
+    many_forward : (s : S) (i j : ℕ) (b : B) → many f add none s i (Read b j) → i ≤ j
+    many_forward s i j b (list_ends x) = forward s i j _ x
+    many_forward s i j b (item_and_more {later = r} {j = m} x y) =
+        let l = forward s i m _ x in let k = many_forward r m j _ y in omega arith
+
+    many_keep : (s : S) (i j : ℕ) (b : B) → i ≤ p → j ≤ p → many f add none s i (Read b j) →
+        many g add none s i (Read b j)
+    many_keep s i j b l n (list_ends x) = list_ends (keep s i j _ l n x)
+    many_keep s i j b l n (item_and_more {later = r} {j = m} x y) =
+        let k = many_forward r m j _ y in
+        item_and_more (keep s i m _ l (omega arith) x) (many_keep r m j _ (omega arith) n y)
+
+    module _ (Good : A → Type 0) (All : B → Type 0) (e : All none)
+        (adds : (a : A) (b : B) → Good a → All b → All (add a b))
+        (good : (s : S) (i j : ℕ) (x : More A S) → j ≤ p → f s i (Read x j) → good_more Good x) where
+      many_good : (s : S) (i j : ℕ) (b : B) → j ≤ p → many f add none s i (Read b j) → All b
+      many_good s i j b n (list_ends x) = e
+      many_good s i j b n (item_and_more {later = r} {j = m} x y) =
+          let k = many_forward r m j _ y in
+          adds _ _ (good s i m _ (omega arith) x) (many_good r m j _ n y)
+
+  pub keeps_many : {A S B : Type 0} {f g : S → Construct (More A S)} {add : A → B → B} {none : B} {s : S} →
+      ((s : S) → Keeps p (f s) (g s)) → Keeps p (many f add none s) (many g add none s)
+  keeps_many {f = f} {g = g} {add = add} {none = none} {s = s} k = record {
+    keep = many_keep f g add none (λ r. (k r).forward) (λ r. (k r).keep) s;
+    forward = many_forward f g add none (λ r. (k r).forward) (λ r. (k r).keep) s;
+  }
+
+  -- an item's value, where there is one, is good, and added to a good list it makes a good one
+  pub if_many : {A S B : Type 0} {f g : S → Construct (More A S)} {add : A → B → B} {none : B} {s : S}
+      {Good : A → Type 0} {All : B → Type 0} → ((s : S) → KeepsIf p (Unit {0}) (good_more Good) (f s) (g s)) →
+      All none → ((a : A) (b : B) → Good a → All b → All (add a b)) →
+      KeepsIf p (Unit {0}) All (many f add none s) (many g add none s)
+  if_many {f = f} {g = g} {add = add} {none = none} {s = s} {Good = Good} {All = All} k e adds = record {
+    keep = λ m. many_keep f g add none (λ r. (k r).forward) (λ r. (k r).keep tt) s;
+    good =
+        λ m. many_good f g add none (λ r. (k r).forward) (λ r. (k r).keep tt) Good All e adds (λ r. (k r).good tt) s;
+    forward = many_forward f g add none (λ r. (k r).forward) (λ r. (k r).keep tt) s;
+  }
+
+  -- ---- parts behind a line end
+
+  from_over_keep : (k : ℕ) (i j : ℕ) (a : Unit {0}) → i < k → over (Reaches k) i (Read a j) → i ≤ j
+  from_over_keep k i j a l (passed w) = let e = w.there in omega arith
+
+  pub from_over : {M : Type 0} (k : ℕ) → KeepsFrom p k M Any (over (Reaches k)) (over (Reaches k))
+  from_over k = record {
+    keep = λ h i j a l n m x. x;
+    good = λ h i j a n x. tt;
+    forward = from_over_keep k;
+  }
+
+  from_keep : {A B : Type 0} (k : ℕ) (M : Type 0) (Mid : A → Type 0) (Good : B → Type 0) (c d : Construct A)
+      (f g : A → Construct B) → KeepsFrom p k M Mid c d → ((a : A) → KeepsIf p (M × Mid a) Good (f a) (g a)) → M →
+      (i j : ℕ) (b : B) → i < k → i ≤ p → j ≤ p → (c >>= f) i (Read b j) → (d >>= g) i (Read b j)
+  from_keep k M Mid Good c d f g m v h i j b s l n (goes_on {j = q} {a = a} x y) =
+      let w = (v a).forward q j b y in
+      goes_on (m.keep h i q a s l (omega arith) x)
+      ((v a).keep (h, m.good h i q a (omega arith) x) q j b (omega arith) n y)
+
+  from_good : {A B : Type 0} (k : ℕ) (M : Type 0) (Mid : A → Type 0) (Good : B → Type 0) (c d : Construct A)
+      (f g : A → Construct B) → KeepsFrom p k M Mid c d → ((a : A) → KeepsIf p (M × Mid a) Good (f a) (g a)) → M →
+      (i j : ℕ) (b : B) → j ≤ p → (c >>= f) i (Read b j) → Good b
+  from_good k M Mid Good c d f g m v h i j b n (goes_on {j = q} {a = a} x y) =
+      let w = (v a).forward q j b y in (v a).good (h, m.good h i q a (omega arith) x) q j b n y
+
+  from_forward : {A B : Type 0} (k : ℕ) (c : Construct A) (f : A → Construct B) →
+      ((i j : ℕ) (a : A) → i < k → c i (Read a j) → i ≤ j) → ((a : A) (i j : ℕ) (b : B) → f a i (Read b j) → i ≤ j) →
+      (i j : ℕ) (b : B) → i < k → (c >>= f) i (Read b j) → i ≤ j
+  from_forward k c f w v i j b s (goes_on {j = m} {a = a} x y) =
+      let l = w i m a s x in let q = v a m j b y in omega arith
+
+  pub from_bind : {A B : Type 0} {k : ℕ} {M : Type 0} {Mid : A → Type 0} {Good : B → Type 0} {c d : Construct A}
+      {f g : A → Construct B} → KeepsFrom p k M Mid c d → ((a : A) → KeepsIf p (M × Mid a) Good (f a) (g a)) →
+      KeepsFrom p k M Good (c >>= f) (d >>= g)
+  from_bind {k = k} {M = M} {Mid = Mid} {Good = Good} m v = record {
+    keep = from_keep k M Mid Good _ _ _ _ m v;
+    good = from_good k M Mid Good _ _ _ _ m v;
+    forward = from_forward k _ _ m.forward (λ a. (v a).forward);
+  }
+
+module _ (p : ℕ) (t u : List ℕ) (look other : ℕ → Option ℕ) where
+  -- by the line end at the place
+  pub record EolParts {B : Type 0} (M : Type 0) (Good : B → Type 0) (f g : Option ℕ → Construct B) : Type 0 where
+    pub same : SameLook p look other
+    pub ahead : (i k : ℕ) → look i ≡ Some k → i < k
+    pub none : KeepsIf p M Good (f None) (g None)
+    pub some : (k : ℕ) → KeepsFrom p k M Good (f (Some k)) (g (Some k))
+
+  eol_keep : {B : Type 0} (M : Type 0) (Good : B → Type 0) (f g : Option ℕ → Construct B) → EolParts M Good f g → M →
+      (i j : ℕ) (b : B) → i ≤ p → j ≤ p → (o : Option ℕ) → look i ≡ o → f o i (Read b j) → g o i (Read b j)
+  eol_keep M Good f g v h i j b l n None e x = v.none.keep h i j b l n x
+  eol_keep M Good f g v h i j b l n (Some k) e x = (v.some k).keep h i j b (v.ahead i k e) l n x
+
+  eol_good : {B : Type 0} (M : Type 0) (Good : B → Type 0) (f g : Option ℕ → Construct B) → EolParts M Good f g → M →
+      (i j : ℕ) (b : B) → j ≤ p → (o : Option ℕ) → f o i (Read b j) → Good b
+  eol_good M Good f g v h i j b n None x = v.none.good h i j b n x
+  eol_good M Good f g v h i j b n (Some k) x = (v.some k).good h i j b n x
+
+  eol_on : {B : Type 0} (M : Type 0) (Good : B → Type 0) (f g : Option ℕ → Construct B) → EolParts M Good f g →
+      (i j : ℕ) (b : B) → (o : Option ℕ) → look i ≡ o → f o i (Read b j) → i ≤ j
+  eol_on M Good f g v i j b None e x = v.none.forward i j b x
+  eol_on M Good f g v i j b (Some k) e x = (v.some k).forward i j b (v.ahead i k e) x
+
+  each_keep : {B : Type 0} (M : Type 0) (Good : B → Type 0) (f g : Option ℕ → Construct B) → EolParts M Good f g → M →
+      (i j : ℕ) (b : B) → i ≤ p → j ≤ p → at_each look f i (Read b j) → at_each other g i (Read b j)
+  each_keep M Good f g v h i j b l n (chosen x) =
+      chosen (subst (λ o. g o i (Read b j)) (v.same.same i l) (eol_keep M Good f g v h i j b l n (look i) refl x))
+
+  each_good : {B : Type 0} (M : Type 0) (Good : B → Type 0) (f g : Option ℕ → Construct B) → EolParts M Good f g → M →
+      (i j : ℕ) (b : B) → j ≤ p → at_each look f i (Read b j) → Good b
+  each_good M Good f g v h i j b n (chosen x) = eol_good M Good f g v h i j b n (look i) x
+
+  each_on : {B : Type 0} (M : Type 0) (Good : B → Type 0) (f g : Option ℕ → Construct B) → EolParts M Good f g →
+      (i j : ℕ) (b : B) → at_each look f i (Read b j) → i ≤ j
+  each_on M Good f g v i j b (chosen x) = eol_on M Good f g v i j b (look i) refl x
+
+  pub if_eol : {B : Type 0} {M : Type 0} {Good : B → Type 0} {f g : Option ℕ → Construct B} → EolParts M Good f g →
+      KeepsIf p M Good (at_each look f) (at_each other g)
+  if_eol {M = M} {Good = Good} {f = f} {g = g} v = record {
+    keep = each_keep M Good f g v;
+    good = each_good M Good f g v;
+    forward = each_on M Good f g v;
+  }
+
+pub ruleset keeping = (
+  keeps_bind,
+  keeps_gives,
+  keeps_here,
+  keeps_fails,
+  keeps_fails_from,
+  keeps_over,
+  keeps_at_each,
+  keeps_either,
+)

@@ -1,0 +1,653 @@
+-- The rules of what nests: what they read up to the start of a line, they read in a text that is the same up to there.
+use Rattle.std.proofs.Common.{◌≡◌, ℕ, zero, suc, ◌+◌, ◌-◌, ◌≤◌, ◌<◌, List, [], ◌∷◌, Option, Some, None, Bool, true}
+use Rattle.std.proofs.Common.{false}
+use Rattle.std.proofs.Common.{refl, sym, ◌∙◌, subst, ap, arith, inl, inr}
+use Rattle.std.specs.Prelude.{slice_get, ◌⊎◌, ◌==◌, nat_lt, if◌then◌else◌}
+use Rattle.std.specs.List.{list_all}
+use Rattle.std.proofs.lemmas.Bool.Decides.{nat_tests}
+use Rattle.fluent_syntax_tree.specs.Kind.{Kind, DuplicatedNamedArgument}
+use Rattle.fluent_syntax_tree.specs.Spans.{bytes_at}
+use Rattle.fluent_syntax_tree.specs.Every.{list_every}
+use Rattle.fluent_syntax_tree.specs.Tree.{KeyTree, ExpressionTree, InlineTree, string_literal, number_literal}
+use Rattle.fluent_syntax_tree.specs.Tree.{function_reference, message_reference, term_reference, variable_reference}
+use Rattle.fluent_syntax_tree.specs.Tree.{inline_placeable, ArgumentsTree, MaybeArguments, no_arguments, some_arguments}
+use Rattle.fluent_syntax_tree.specs.Tree.{PatternTree, VariantTrees}
+use Rattle.fluent_syntax_tree.specs.declared.spans.Span.{Span}
+use Rattle.fluent_syntax_tree.specs.declared.edition.Edition.{Edition}
+use Rattle.fluent_syntax_grammar.specs.Bytes.{is_letter, is_digit}
+use Rattle.fluent_syntax_grammar.specs.Places.{holds, Stretch, has, has_byte, has_eol, after_eol, InlineBlank}
+use Rattle.fluent_syntax_grammar.specs.Construct.{Read, Construct, ◌>>=◌, goes_on, gives, given, at_place, fails, over}
+use Rattle.fluent_syntax_grammar.specs.Construct.{passed, at_each, chosen, either, first, second, More, no_item}
+use Rattle.fluent_syntax_grammar.specs.Construct.{item}
+use Rattle.fluent_syntax_grammar.specs.Words.{token, inline_blank, blank, identifier}
+use Rattle.fluent_syntax_grammar.specs.Family.{Family}
+use Rattle.fluent_syntax_grammar.specs.Starts.{Start, quote, digit, term, minus, dollar, letter, brace, other, start}
+use Rattle.fluent_syntax_grammar.specs.Starts.{start_of}
+use Rattle.fluent_syntax_grammar.specs.Arguments.{accessor, separator, Argument, named, call_arguments}
+use Rattle.fluent_syntax_grammar.specs.Arguments.{argument_value, positional_rest, argument_name, argument_rest}
+use Rattle.fluent_syntax_grammar.specs.Arguments.{next_argument_at, more_arguments, is_used}
+use Rattle.fluent_syntax_grammar.specs.Placeables.{arrow_line_end, selector_fault}
+use Rattle.fluent_syntax_grammar.specs.Placeables.{variants_of_select, select_with, expression, placeable}
+use Rattle.fluent_syntax_grammar.specs.Inline.{is_callee_byte, named_reference, inline_of, inline_expression}
+use Rattle.fluent_syntax_grammar.specs.Layout.{Piece, placed, Ending, lf_at, crlf_at, Line}
+use Rattle.fluent_syntax_grammar.specs.Lines.{belongs, ending_of, ending, is_run_place, text_run, next_piece_at}
+use Rattle.fluent_syntax_grammar.specs.Lines.{next_piece, more_pieces, line, next_line, more_lines, no_byte, other_line}
+use Rattle.fluent_syntax_grammar.specs.Lines.{own_line}
+use Rattle.fluent_syntax_grammar.specs.Patterns.{layout, pattern}
+use Rattle.fluent_syntax_grammar.specs.Variants.{variant_key, variant_of, variant_after, next_variant}
+use Rattle.fluent_syntax_grammar.specs.Variants.{is_number_start}
+use Rattle.fluent_syntax_grammar.specs.Grammar.{next, within, family}
+use Rattle.fluent_syntax_grammar.proofs.locality.Kept.{is_head_byte}
+use Rattle.fluent_syntax_grammar.proofs.Cuts.{eol_cases, eol_forward}
+use Rattle.fluent_syntax_grammar.proofs.Facts.{lt_or_same, stretch_onward, differs, some_none}
+use Rattle.fluent_syntax_grammar.proofs.Tests.{differ}
+use Rattle.fluent_syntax_grammar.proofs.locality.Kept.{Shared, Keeps, KeepsIf, Any, Within}
+use Rattle.fluent_syntax_grammar.proofs.locality.Kept.{keeps_bind, keeps_gives, keeps_over}
+use Rattle.fluent_syntax_grammar.proofs.locality.Kept.{keeps_either, keeps_fails, keeps_at_head, keeps_at_each, if_eol}
+use Rattle.fluent_syntax_grammar.proofs.locality.Kept.{if_bind, if_gives, if_here, plain, simple, under, from_over}
+use Rattle.fluent_syntax_grammar.proofs.locality.Kept.{from_bind, keeps_many, if_many}
+use Rattle.fluent_syntax_grammar.proofs.Sound.{good_more}
+use Rattle.fluent_syntax_grammar.proofs.locality.KeptWords.{other_byte, no_space, head_has, other_has, last_has}
+use Rattle.fluent_syntax_grammar.proofs.locality.KeptWords.{same_byte, same_eol, same_after, same_arrow, same_run}
+use Rattle.fluent_syntax_grammar.proofs.locality.KeptWords.{no_eol_head, no_eol_other, run_at_head, kept_steps}
+use Rattle.fluent_syntax_grammar.proofs.locality.KeptWords.{kept_stretch, kept_inline, keeps_optional, keeps_token}
+use Rattle.fluent_syntax_grammar.proofs.locality.KeptWords.{token_forward, keeps_inline_blank, keeps_blank}
+use Rattle.fluent_syntax_grammar.proofs.locality.KeptWords.{keeps_blank_block, if_identifier, keeps_identifier}
+use Rattle.fluent_syntax_grammar.proofs.locality.KeptWords.{identifier_forward, keeps_number, number_forward}
+use Rattle.fluent_syntax_grammar.proofs.locality.KeptWords.{keeps_string}
+use Rattle.fluent_syntax_grammar.proofs.locality.KeptLayouts.{PieceWithin, EndingWithin, LineWithin, LayoutWithin}
+use Rattle.fluent_syntax_grammar.proofs.locality.KeptLayouts.{same_pattern}
+
+-- the name of an argument, if it is one, ends at p at the latest
+abbrev pub NameWithin : ℕ → InlineTree Span → Type 0
+NameWithin p e = (id : Span) → argument_name e ≡ Some id → id.end ≤ p
+
+pub record IsKeptFamily (p : ℕ) (R S : Family) : Type 0 where
+  pub expression : Keeps p R.expression S.expression
+  pub argument_list : Keeps p R.argument_list S.argument_list
+
+-- a start that may stand where an entry begins
+abbrev Late : Start → Type 0
+Late term = Unit {0}
+Late minus = Unit {0}
+Late letter = Unit {0}
+Late other = Unit {0}
+Late quote = ⊥
+Late digit = ⊥
+Late dollar = ⊥
+Late brace = ⊥
+
+late_if : (h n l : Bool) →
+    Late (if false then quote else if false then digit else if h then (if n then term else minus)
+    else if false then dollar else if l then letter else if false then brace else other)
+late_if true true l = tt
+late_if true false l = tt
+late_if false n true = tt
+late_if false n false = tt
+
+digit_fails : (b : ℕ) → is_head_byte b ≡ true → is_digit b ≡ false
+digit_fails b e = grind (arith, nat_tests)
+
+late_byte : (b : ℕ) (n : Bool) → is_head_byte b ≡ true → Late (start_of (Some b) n)
+late_byte b n e =
+    rw (
+      differ is_head_byte b 34 e refl,
+      digit_fails b e,
+      differ is_head_byte b 36 e refl,
+      differ is_head_byte b 123 e refl,
+    ) (late_if (b == 45) n (is_letter b))
+
+module _ (p : ℕ) (t u : List ℕ) (s : Shared p t u) where
+  below : (i : ℕ) → i < p → slice_get t i ≡ slice_get u i
+  below i l = s.byte i l
+
+  keeps_accessor : Keeps p (accessor t) (accessor u)
+  keeps_accessor =
+      keeps_bind p (keeps_optional p t u s 46 refl) (λ dot. keeps_either p
+      (keeps_bind p (keeps_identifier p t u s) (λ a. keeps_gives p)) (keeps_gives p))
+
+  keeps_separator : Keeps p (separator t) (separator u)
+  keeps_separator =
+      keeps_bind p (keeps_blank p t u s) (λ x. keeps_bind p (keeps_optional p t u s 44 refl)
+      (λ x. keeps_blank p t u s))
+
+  -- ---- references by name
+
+  name_message : (id : Span) (a : Option Span) → id.end ≤ p → NameWithin p (message_reference id a)
+  name_message id None l = λ d e. (let f : id ≡ d = cc in subst (λ d. d.end ≤ p) f l)
+  name_message id (Some a) l = λ d e. cc
+
+  name_call : (id : Span) (a : ArgumentsTree Span) → NameWithin p (function_reference id a)
+  name_call id a = λ d e. cc
+
+  callee_keep : (id : Span) (a : ArgumentsTree Span) → id.end ≤ p → (i j : ℕ) (e : InlineTree Span) →
+      named_reference t id (some_arguments a) i (Read e j) → named_reference u id (some_arguments a) i (Read e j)
+  callee_keep id a l i j e (first f x) =
+      first (ap (list_all is_callee_byte) (sym (s.range id.start id.end l)) ∙ f) x
+  callee_keep id a l i j e (second f x) = elim x [ ]
+
+  callee_forward : (id : Span) (a : ArgumentsTree Span) → (i j : ℕ) (e : InlineTree Span) →
+      named_reference t id (some_arguments a) i (Read e j) → i ≤ j
+  callee_forward id a i j e (first f given) = omega arith
+  callee_forward id a i j e (second f x) = elim x [ ]
+
+  callee_good : (id : Span) (a : ArgumentsTree Span) → (i j : ℕ) (e : InlineTree Span) →
+      named_reference t id (some_arguments a) i (Read e j) → NameWithin p e
+  callee_good id a i j e (first f given) = name_call id a
+  callee_good id a i j e (second f x) = elim x [ ]
+
+  if_named : {X Y : Type 0} (id : Span) (a : MaybeArguments Span) →
+      KeepsIf p ((X × Within p id) × Y) (NameWithin p) (named_reference t id a) (named_reference u id a)
+  if_named id no_arguments =
+      if_bind p (plain p keeps_accessor) (λ a. if_gives p (λ m. name_message id a m.0.0.1))
+  if_named id (some_arguments a) = record {
+    keep = λ m i j e k l x. callee_keep id a m.0.1 i j e x;
+    good = λ m i j e l x. callee_good id a i j e x;
+    forward = callee_forward id a;
+  }
+
+  -- ---- endings
+
+  keeps_arrow_end : Keeps p (at_each (after_eol t) arrow_line_end) (at_each (after_eol u) arrow_line_end)
+  keeps_arrow_end =
+      simple p (if_eol p t u (after_eol t) (after_eol u) {M = Unit {0}} {Good = Any} (record {
+        same = same_after p t u s;
+        ahead = eol_forward t;
+        none = plain p (keeps_fails p);
+        some = λ k. from_over p k;
+      }))
+
+  keeps_ending : Keeps p (ending t) (ending u)
+  keeps_ending =
+      simple p (if_bind p {M = Unit {0}} (if_here p) (λ i.
+      if_eol p t u (after_eol t) (after_eol u) {Good = Any} (record {
+        same = same_after p t u s;
+        ahead = eol_forward t;
+        none = plain p (keeps_gives p);
+        some = λ k. from_bind p (from_over p k) (λ x. plain p (keeps_gives p));
+      })))
+
+  if_ending_within : (c : Bool) (i k : ℕ) → (k == i + 1) ≡ c → (k ≡ i + 1) ⊎ (k ≡ i + 2) → k ≤ p →
+      EndingWithin p (if c then lf_at i else crlf_at i)
+  if_ending_within true i k e f l = let g : k ≡ i + 1 = grind (arith, nat_tests) in (omega arith)
+  if_ending_within false i k e (inl f) l = absurd (one_on i k f e)
+    where
+      one_on : (i k : ℕ) → k ≡ i + 1 → (k == i + 1) ≡ false → ⊥
+      one_on i k f e = grind (arith, nat_tests)
+  if_ending_within false i k e (inr f) l = (omega arith)
+
+  ending_cases : (i k : ℕ) → after_eol t i ≡ Some k → (k ≡ i + 1) ⊎ (k ≡ i + 2)
+  ending_cases i k e = elim (eol_cases t i k e) [ inl x ↦ inl x.1 | inr x ↦ inr x.2 ]
+
+  ending_at : (k i j : ℕ) (x e : Ending) → (over (Rattle.fluent_syntax_grammar.specs.Places.Reaches k) >>= λ u.
+      gives x) i (Read e j) → (x ≡ e) × (j ≡ k)
+  ending_at k i j x e (goes_on (passed w) given) = (refl, w.there)
+
+  ending_good_of : (i j : ℕ) (e : Ending) → j ≤ p → (o : Option ℕ) → after_eol t i ≡ o →
+      ending_of t i o i (Read e j) → EndingWithin p e
+  ending_good_of i j e l None f given = tt
+  ending_good_of i j e l (Some k) f x =
+      let y = ending_at k i j _ e x in
+      let g = y.1 in
+      subst (EndingWithin p) y.0 (if_ending_within (k == i + 1) i k refl (ending_cases i k f) (omega arith))
+
+  ending_good : (i j : ℕ) (e : Ending) → j ≤ p → ending t i (Read e j) → EndingWithin p e
+  ending_good i j e l (goes_on at_place (chosen x)) = ending_good_of i j e l (after_eol t i) refl x
+
+  if_ending : {M : Type 0} → KeepsIf p M (EndingWithin p) (ending t) (ending u)
+  if_ending = record {
+    keep = λ h. keeps_ending.keep;
+    good = λ h. ending_good;
+    forward = keeps_ending.forward;
+  }
+
+  -- ---- keys
+
+  key_onward : (q : Bool) (i j : ℕ) (k : KeyTree Span) →
+      either q (Rattle.fluent_syntax_grammar.specs.Words.number t >>= λ v.
+      gives (Rattle.fluent_syntax_tree.specs.Tree.number_key v))
+      (identifier t >>= λ v. gives (Rattle.fluent_syntax_tree.specs.Tree.name_key v)) i (Read k j) → i < j
+  key_onward q i j k (first e (goes_on x given)) = number_forward p t u s i j _ x
+  key_onward q i j k (second e (goes_on x given)) = identifier_forward p t u s i j _ x
+
+  keeps_key : Keeps p (variant_key t) (variant_key u)
+  keeps_key =
+      keeps_at_head p (λ i l. ap (holds is_number_start) (below i l)) (λ j k x. key_onward _ p j k x)
+      (λ q. keeps_either p (keeps_bind p (keeps_number p t u s) (λ v. keeps_gives p))
+      (keeps_bind p (keeps_identifier p t u s) (λ v. keeps_gives p)))
+
+  start_below : (i : ℕ) → i < p → start t i ≡ start u i
+  start_below i l = let m : i + 1 ≤ p = omega arith in elim (lt_or_same (i + 1) p m) [
+    | inl n ↦ rw (s.byte i l, s.byte (i + 1) n) refl
+    | inr e ↦ rw (sym (s.byte i l), s.line i e) refl
+  ]
+
+  late_at_head : Late (start t p)
+  late_at_head = let h = s.head in rw (h.stands) (late_byte h.byte (has t is_letter (p + 1)) h.begins)
+
+module _ (p : ℕ) (t u : List ℕ) (s : Shared p t u) (R S : Family) (h : IsKeptFamily p R S) where
+  keeps_call : Keeps p (call_arguments t R) (call_arguments u S)
+  keeps_call =
+      keeps_bind p (keeps_blank p t u s) (λ x. keeps_bind p (keeps_optional p t u s 40 refl) (λ bracket.
+      keeps_either p (keeps_bind p (keeps_bind p (keeps_blank p t u s) (λ x. h.argument_list)) (λ a. keeps_gives p))
+      (keeps_gives p)))
+
+  keeps_in_braces : Keeps p (blank t >>= λ x. R.expression >>= λ e. inline_blank t >>= λ x. token t 125 >>= λ x. gives
+      e)
+      (blank u >>= λ x. S.expression >>= λ e. inline_blank u >>= λ x. token u 125 >>= λ x. gives e)
+  keeps_in_braces =
+      keeps_bind p (keeps_blank p t u s) (λ x. keeps_bind p h.expression (λ e.
+      keeps_bind p (keeps_inline_blank p t u s) (λ x. keeps_bind p (keeps_token p t u s 125) (λ x. keeps_gives p))))
+
+  keeps_placeable : Keeps p (placeable t R) (placeable u S)
+  keeps_placeable = keeps_bind p (keeps_token p t u s 123) (λ x. keeps_in_braces)
+
+  keeps_behind_minus : Keeps p
+      (identifier t >>= λ id. accessor t >>= λ a. call_arguments t R >>= λ c. gives (term_reference id a c))
+      (identifier u >>= λ id. accessor u >>= λ a. call_arguments u S >>= λ c. gives (term_reference id a c))
+  keeps_behind_minus =
+      keeps_bind p (keeps_identifier p t u s) (λ id. keeps_bind p (keeps_accessor p t u s) (λ a.
+      keeps_bind p keeps_call (λ c. keeps_gives p)))
+
+  if_inline_of : (x : Start) → KeepsIf p (Unit {0}) (NameWithin p) (inline_of t R x) (inline_of u S x)
+  if_inline_of quote = if_bind p (plain p (keeps_string p t u s)) (λ v. if_gives p (λ m d e. cc))
+  if_inline_of digit = if_bind p (plain p (keeps_number p t u s)) (λ v. if_gives p (λ m d e. cc))
+  if_inline_of minus = if_bind p (plain p (keeps_number p t u s)) (λ v. if_gives p (λ m d e. cc))
+  if_inline_of term =
+      if_bind p (plain p (keeps_token p t u s 45)) (λ x. if_bind p (plain p (keeps_identifier p t u s)) (λ id.
+      if_bind p (plain p (keeps_accessor p t u s)) (λ a. if_bind p (plain p keeps_call) (λ c.
+      if_gives p (λ m d e. cc)))))
+  if_inline_of dollar =
+      if_bind p (plain p (keeps_token p t u s 36)) (λ x. if_bind p (plain p (keeps_identifier p t u s)) (λ id.
+      if_gives p (λ m d e. cc)))
+  if_inline_of letter =
+      if_bind p (if_identifier p t u s) (λ id. if_bind p (plain p keeps_call) (λ a. if_named p t u s id a))
+  if_inline_of brace = if_bind p (plain p keeps_placeable) (λ e. if_gives p (λ m d e. cc))
+  if_inline_of other = record {
+    keep = λ m i j a l n x. elim x [ ];
+    good = λ m i j a n x. elim x [ ];
+    forward = λ i j a x. elim x [ ];
+  }
+
+  late_start : (x : Start) → Late x → (i j : ℕ) (e : InlineTree Span) → inline_of t R x i (Read e j) → i < j
+  late_start term l i j e (goes_on {j = k} x y) =
+      let a = token_forward p t u s 45 i k _ x in let b = keeps_behind_minus.forward k j e y in omega arith
+  late_start minus l i j e (goes_on x given) = number_forward p t u s i j _ x
+  late_start letter l i j e (goes_on {j = k} x (goes_on {j = m} {a = c} y z)) =
+      let a = identifier_forward p t u s i k _ x in
+      let b = keeps_call.forward k m c y in
+      let d = (if_named p t u s {X = Unit {0}} {Y = Unit {0}} _ c).forward m j e z in
+      omega arith
+  late_start other l i j e x = elim x [ ]
+  late_start quote l i j e x = absurd l
+  late_start digit l i j e x = absurd l
+  late_start dollar l i j e x = absurd l
+  late_start brace l i j e x = absurd l
+
+  inline_late : (j : ℕ) (e : InlineTree Span) → inline_expression t R p (Read e j) → p < j
+  inline_late j e (chosen x) = late_start (start t p) (late_at_head p t u s) p j e x
+
+  keeps_inline : Keeps p (inline_expression t R) (inline_expression u S)
+  keeps_inline =
+      keeps_at_head p (start_below p t u s) (λ j e x. inline_late j e (chosen x)) (λ x. simple p (if_inline_of x))
+
+  inline_good : (i j : ℕ) (e : InlineTree Span) → j ≤ p → inline_expression t R i (Read e j) → NameWithin p e
+  inline_good i j e l (chosen x) = (if_inline_of (start t i)).good tt i j e l x
+
+  if_inline : KeepsIf p (Unit {0}) (NameWithin p) (inline_expression t R) (inline_expression u S)
+  if_inline = record { keep = λ m. keeps_inline.keep; good = λ m. inline_good; forward = keeps_inline.forward }
+
+  -- ---- arguments
+
+  keeps_value : (x : Start) → Keeps p (argument_value t R x) (argument_value u S x)
+  keeps_value quote = keeps_inline
+  keeps_value digit = keeps_inline
+  keeps_value letter = keeps_inline
+  keeps_value term = keeps_fails p
+  keeps_value minus = keeps_fails p
+  keeps_value dollar = keeps_fails p
+  keeps_value brace = keeps_fails p
+  keeps_value other = keeps_fails p
+
+  value_late : (x : Start) → (j : ℕ) (e : InlineTree Span) → argument_value t R x p (Read e j) → p < j
+  value_late quote j e x = inline_late j e x
+  value_late digit j e x = inline_late j e x
+  value_late letter j e x = inline_late j e x
+  value_late term j e x = elim x [ ]
+  value_late minus j e x = elim x [ ]
+  value_late dollar j e x = elim x [ ]
+  value_late brace j e x = elim x [ ]
+  value_late other j e x = elim x [ ]
+
+  keeps_value_at : Keeps p (at_each (start t) (argument_value t R)) (at_each (start u) (argument_value u S))
+  keeps_value_at = keeps_at_head p (start_below p t u s) (value_late (start t p)) keeps_value
+
+  -- a named argument, whose name has these bytes
+  abbrev named_by : List ℕ → Family → List (List ℕ) → List ℕ → Span → Construct (More Argument (List (List ℕ)))
+  named_by v F names bs name =
+      either (is_used bs names) (fails (DuplicatedNamedArgument bs)) (token v 58 >>= λ x. blank v >>= λ x.
+      at_each (start v) (argument_value v F) >>= λ e. separator v >>= λ x. gives (item (named name e) (bs ∷ names)))
+
+  keeps_by : (names : List (List ℕ)) (bs : List ℕ) (name : Span) →
+      Keeps p (named_by t R names bs name) (named_by u S names bs name)
+  keeps_by names bs name =
+      keeps_either p (keeps_fails p) (keeps_bind p (keeps_token p t u s 58) (λ x. keeps_bind p (keeps_blank p t u s)
+      (λ x. keeps_bind p keeps_value_at (λ e. keeps_bind p (keeps_separator p t u s) (λ x. keeps_gives p)))))
+
+  keeps_positional : (names : List (List ℕ)) (e : InlineTree Span) →
+      Keeps p (positional_rest t names e) (positional_rest u names e)
+  keeps_positional [] e = keeps_bind p (keeps_separator p t u s) (λ x. keeps_gives p)
+  keeps_positional (x ∷ xs) e = keeps_fails p
+
+  rest_keep : (names : List (List ℕ)) (e : InlineTree Span) (o : Option Span) (c : Bool) →
+      ((id : Span) → o ≡ Some id → id.end ≤ p) → (i j : ℕ) (a : More Argument (List (List ℕ))) → i ≤ p → j ≤ p →
+      argument_rest t R names e o c i (Read a j) → argument_rest u S names e o c i (Read a j)
+  rest_keep names e None c w i j a l n x = (keeps_positional names e).keep i j a l n x
+  rest_keep names e (Some name) false w i j a l n x = (keeps_positional names e).keep i j a l n x
+  rest_keep names e (Some name) true w i j a l n x =
+      subst (λ bs. named_by u S names bs name i (Read a j)) (s.range name.start name.end (w name refl))
+      ((keeps_by names (bytes_at t name) name).keep i j a l n x)
+
+  rest_forward : (names : List (List ℕ)) (e : InlineTree Span) (o : Option Span) (c : Bool) →
+      (i j : ℕ) (a : More Argument (List (List ℕ))) → argument_rest t R names e o c i (Read a j) → i ≤ j
+  rest_forward names e None c i j a x = (keeps_positional names e).forward i j a x
+  rest_forward names e (Some name) false i j a x = (keeps_positional names e).forward i j a x
+  rest_forward names e (Some name) true i j a x = (keeps_by names (bytes_at t name) name).forward i j a x
+
+  if_rest : {X Y : Type 0} (names : List (List ℕ)) (e : InlineTree Span) (c : Bool) →
+      KeepsIf p ((X × NameWithin p e) × Y) Any (argument_rest t R names e (argument_name e) c)
+      (argument_rest u S names e (argument_name e) c)
+  if_rest names e c = record {
+    keep = λ m. rest_keep names e (argument_name e) c m.0.1;
+    good = λ m i j a n x. tt;
+    forward = rest_forward names e (argument_name e) c;
+  }
+
+  keeps_argument_at : (names : List (List ℕ)) (o : Option ℕ) →
+      Keeps p (next_argument_at t R names o) (next_argument_at u S names o)
+  keeps_argument_at names None = keeps_fails p
+  keeps_argument_at names (Some b) =
+      keeps_either p (keeps_bind p (keeps_token p t u s 41) (λ x. keeps_gives p))
+      (simple p (if_bind p if_inline (λ e.
+      if_bind p (plain p (keeps_at_each p (same_byte p t u s 58 refl) (λ a. keeps_gives p)))
+      (λ c. if_rest names e c))))
+
+  argument_late : (names : List (List ℕ)) (o : Option ℕ) (j : ℕ) (a : More Argument (List (List ℕ))) →
+      next_argument_at t R names o p (Read a j) → p < j
+  argument_late names None j a x = elim x [ ]
+  argument_late names (Some b) j a (first f (goes_on x given)) = token_forward p t u s 41 p j _ x
+  argument_late names (Some b) j a (second f (goes_on {j = k} {a = v} x (goes_on (chosen given) y))) =
+      let l = inline_late k v x in let m = rest_forward names v (argument_name v) _ k j a y in omega arith
+
+  keeps_arguments : (names : List (List ℕ)) → Keeps p (more_arguments t R names) (more_arguments u S names)
+  keeps_arguments names =
+      keeps_many p (λ names. keeps_at_head p s.byte (argument_late names (slice_get t p)) (keeps_argument_at names))
+
+  -- ---- pieces and lines
+
+  if_placed : KeepsIf p (Unit {0}) (good_more (PieceWithin p))
+      (placeable t R >>= λ e. gives (item (placed e) (tt {0})))
+      (placeable u S >>= λ e. gives (item (placed e) (tt {0})))
+  if_placed = if_bind p (plain p keeps_placeable) (λ e. if_gives p (λ m. tt))
+
+  if_run : KeepsIf p (Unit {0}) (good_more (PieceWithin p)) (text_run t >>= λ r. gives (item r (tt {0})))
+      (text_run u >>= λ r. gives (item r (tt {0})))
+  if_run =
+      if_bind p {Mid = PieceWithin p} (if_bind p (if_here p) (λ from.
+      if_bind p (plain p (keeps_over p (kept_stretch p t u s (same_run p t u s)))) (λ x.
+      if_bind p (if_here p) (λ to. if_gives p (λ m. m.1))))) (λ r. if_gives p (λ m. m.1))
+
+  keeps_piece_at : (o : Option ℕ) → Keeps p (next_piece_at t R o) (next_piece_at u S o)
+  keeps_piece_at None = keeps_gives p
+  keeps_piece_at (Some b) =
+      keeps_at_each p (same_eol p t u s) (λ eol. keeps_either p (keeps_gives p) (keeps_either p (keeps_fails p)
+      (keeps_either p (simple p if_placed) (simple p if_run))))
+
+  piece_good_at : (o : Option ℕ) (i j : ℕ) (x : More Piece (Unit {0})) → j ≤ p → next_piece_at t R o i (Read x j) →
+      good_more (PieceWithin p) x
+  piece_good_at None i j x l given = tt
+  piece_good_at (Some b) i j x l (chosen (first e given)) = tt
+  piece_good_at (Some b) i j x l (chosen (second e (first f y))) = elim y [ ]
+  piece_good_at (Some b) i j x l (chosen (second e (second f (first g y)))) = if_placed.good tt i j x l y
+  piece_good_at (Some b) i j x l (chosen (second e (second f (second g y)))) = if_run.good tt i j x l y
+
+  piece_late : (o : Option ℕ) → slice_get t p ≡ o → (j : ℕ) (x : More Piece (Unit {0})) →
+      next_piece_at t R o p (Read x j) → p < j
+  piece_late None e j x y = let q = s.head in some_none q.stands e
+  piece_late (Some b) e j x (chosen (first f given)) = let g = no_eol_head p t u s in cc
+  piece_late (Some b) e j x (chosen (second f (first g y))) = elim y [ ]
+  piece_late (Some b) e j x (chosen (second f (second g (first k (goes_on (goes_on {j = q} y z) given))))) =
+      let a = token_forward p t u s 123 p q _ y in let b = keeps_in_braces.forward q j _ z in omega arith
+  piece_late (Some b) e j x
+      (chosen (second f (second g (second k (goes_on (goes_on at_place (goes_on (passed w) (goes_on at_place given)))
+      given))))) =
+      stretch_onward (is_run_place t) p j (run_at_head p t u s) w
+
+  keeps_piece : Keeps p (next_piece t R) (next_piece u S)
+  keeps_piece = keeps_at_head p s.byte (piece_late (slice_get t p) refl) keeps_piece_at
+
+  piece_good : (i j : ℕ) (x : More Piece (Unit {0})) → j ≤ p → next_piece t R i (Read x j) →
+      good_more (PieceWithin p) x
+  piece_good i j x l (chosen y) = piece_good_at (slice_get t i) i j x l y
+
+  if_pieces : KeepsIf p (Unit {0}) (list_every (PieceWithin p)) (more_pieces t R) (more_pieces u S)
+  if_pieces =
+      if_many p {Good = PieceWithin p} (λ r. record {
+        keep = λ m. keeps_piece.keep;
+        good = λ m. piece_good;
+        forward = keeps_piece.forward;
+      }) tt (λ a b g r. (g, r))
+
+  if_line : KeepsIf p (Unit {0}) (LineWithin p) (line t R) (line u S)
+  if_line =
+      if_bind p (if_here p) (λ a. if_bind p (plain p (keeps_inline_blank p t u s)) (λ x. if_bind p (if_here p) (λ b.
+      if_bind p (under p if_pieces) (λ ps. if_bind p (if_ending p t u s) (λ e.
+      if_gives p (λ m. (line_start a b m.0.0.0.0.1 m.0.0.1, m.0.1, m.1)))))))
+    where
+      line_start : (a b : ℕ) → a ≤ p → b ≤ p → a + (b - a) ≤ p
+      line_start a b l n = omega arith
+
+  if_item : KeepsIf p (Unit {0}) (good_more (LineWithin p)) (line t R >>= λ l. gives (item l (tt {0})))
+      (line u S >>= λ l. gives (item l (tt {0})))
+  if_item = if_bind p if_line (λ l. if_gives p (λ m. m.1))
+
+  -- leading spaces end at p at the latest, and from before p on before it
+  spaces_end : (i k : ℕ) → i ≤ p → InlineBlank t i k → k ≤ p
+  spaces_end i k l w = elim (le_or_past k) [
+    | inl a ↦ a
+    | inr a ↦ (let e = w.each p l a in let f = head_has p t u s no_space in differs e f)
+  ]
+    where
+      le_or_past : (k : ℕ) → (k ≤ p) ⊎ (p < k)
+      le_or_past k = grind arith
+
+  spaces_before : (i k : ℕ) → i < p → InlineBlank t i k → k < p
+  spaces_before i k l w =
+      let m = spaces_end i k (omega arith) w in
+      elim (lt_or_same k p m) [
+        | inl a ↦ a
+        | inr e ↦ (let q : (p - 1) + 1 ≡ p = omega arith in
+            let x = w.each (p - 1) (omega arith) (omega arith) in
+            let y = last_has p t u s (λ b. b == 32) (p - 1) q in differs x y)
+      ]
+
+  belongs_same : (q : Bool) (k : ℕ) → k < p → belongs t q k ≡ belongs u q k
+  belongs_same true k l = let m : k ≤ p = omega arith in
+      rw ((same_eol p t u s).same k m, s.byte k l) refl
+  belongs_same false k l = let m : k ≤ p = omega arith in
+      rw ((same_eol p t u s).same k m, s.byte k l) refl
+
+  not_less : (i : ℕ) → nat_lt i i ≡ false
+  not_less i = grind (arith, nat_tests)
+
+  stands_alone : (v : List ℕ) (k : ℕ) → has_eol v k ≡ false → has_byte v 123 k ≡ false → has_byte v 13 k ≡ false →
+      belongs v (nat_lt k k) k ≡ false
+  stands_alone v k e f g = rw (not_less k, e, f, g) refl
+
+  none_there : belongs t (nat_lt p p) p ≡ false
+  none_there =
+      stands_alone t p (no_eol_head p t u s) (head_has p t u s (other_byte 123 refl))
+      (head_has p t u s (other_byte 13 refl))
+
+  none_other : belongs u (nat_lt p p) p ≡ false
+  none_other =
+      stands_alone u p (no_eol_other p t u s) (other_has p t u s (other_byte 123 refl))
+      (other_has p t u s (other_byte 13 refl))
+
+  other_spaces : InlineBlank u p p
+  other_spaces = record {
+    forward = omega arith;
+    each = λ k a b. absurd (omega arith);
+    longest = other_has p t u s no_space;
+  }
+
+  stop_keep : (i : ℕ) → i ≤ p → (k : ℕ) → InlineBlank t i k → (b : ℕ) → slice_get t k ≡ Some b →
+      belongs t (nat_lt i k) k ≡ false → next_line u S i (Read no_item i)
+  stop_keep i l k w b e f = elim (lt_or_same i p l) [
+    | inl m ↦ (let n = spaces_before i k m w in
+        other_line ((kept_inline p t u s).leads i k l (omega arith) w) (sym (s.byte k n) ∙ e)
+        (sym (belongs_same (nat_lt i k) k n) ∙ f))
+    | inr m ↦ (let q = s.other in subst (λ i. next_line u S i (Read no_item i)) (sym m)
+        (other_line other_spaces q.stands none_other))
+  ]
+
+  line_keep : (i j : ℕ) (ls : More Line (Unit {0})) → i ≤ p → j ≤ p → next_line t R i (Read ls j) →
+      next_line u S i (Read ls j)
+  line_keep i j ls l n (no_byte w e) = elim (lt_or_same j p n) [
+    | inl m ↦ no_byte ((kept_inline p t u s).leads i j l n w) (sym (s.byte j m) ∙ e)
+    | inr m ↦ (let q = s.head in some_none q.stands (subst (λ j. slice_get t j ≡ None) m e))
+  ]
+  line_keep i j ls l n (other_line {k = k} {b = b} w e f) = stop_keep i l k w b e f
+  line_keep i j ls l n (own_line {k = k} w e f x) = elim (lt_or_same i p l) [
+    | inl m ↦ (let q = spaces_before i k m w in
+        own_line ((kept_inline p t u s).leads i k l (omega arith) w) (sym (s.byte k q) ∙ e)
+        (sym (belongs_same (nat_lt i k) k q) ∙ f) (if_item.keep tt i j ls l n x))
+    | inr m ↦ (let a = spaces_end i k l w in let b = w.forward in let c : k ≡ p = omega arith in
+        absurd (never i k m c f))
+  ]
+    where
+      never : (i k : ℕ) → i ≡ p → k ≡ p → belongs t (nat_lt i k) k ≡ true → ⊥
+      never i k e f g = let a = none_there in let b : belongs t (nat_lt p p) p ≡ true = rw (e, f) at g in cc
+
+  line_good : (i j : ℕ) (x : More Line (Unit {0})) → j ≤ p → next_line t R i (Read x j) → good_more (LineWithin p) x
+  line_good i j x n (no_byte w e) = tt
+  line_good i j x n (other_line w e f) = tt
+  line_good i j x n (own_line w e f y) = if_item.good tt i j x n y
+
+  line_forward : (i j : ℕ) (x : More Line (Unit {0})) → next_line t R i (Read x j) → i ≤ j
+  line_forward i j x (no_byte w e) = w.forward
+  line_forward i j x (other_line w e f) = omega arith
+  line_forward i j x (own_line w e f y) = if_item.forward i j x y
+
+  if_lines : KeepsIf p (Unit {0}) (list_every (LineWithin p)) (more_lines t R) (more_lines u S)
+  if_lines =
+      if_many p {Good = LineWithin p} (λ r. record {
+        keep = λ m. line_keep;
+        good = λ m. line_good;
+        forward = line_forward;
+      }) tt (λ a b g r. (g, r))
+
+  -- ---- layouts
+
+  if_layout : KeepsIf p (Unit {0}) (LayoutWithin p) (layout t R) (layout u S)
+  if_layout =
+      if_bind p (plain p (keeps_inline_blank p t u s)) (λ x. if_eol p t u (after_eol t) (after_eol u) (record {
+        same = same_after p t u s;
+        ahead = eol_forward t;
+        none =
+            if_bind p (if_here p) (λ a. if_bind p (under p if_pieces) (λ ps. if_bind p (if_ending p t u s) (λ e.
+            if_bind p (under p if_lines) (λ ls.
+            if_gives p (λ m. ((opening_start a m.0.0.0.1, m.0.0.1, m.0.1), m.1))))));
+        some = λ k.
+            from_bind p (from_over p k) (λ x. if_bind p (plain p (keeps_blank_block p t u s)) (λ x.
+            if_bind p (under p if_lines) (λ ls. if_gives p (λ m. (tt, m.1)))));
+      }))
+    where
+      opening_start : (a : ℕ) → a ≤ p → a + 0 ≤ p
+      opening_start a l = omega arith
+
+module _ (edition : Edition) (p : ℕ) (t u : List ℕ) (s : Shared p t u) (R S : Family) (h : IsKeptFamily p R S) where
+  pattern_keep : (i j : ℕ) (q : Option (PatternTree Span)) → i ≤ p → j ≤ p → pattern edition t R i (Read q j) →
+      pattern edition u S i (Read q j)
+  pattern_keep i j q l n (goes_on {a = y} x given) =
+      subst (λ q. pattern edition u S i (Read q j))
+      (sym (same_pattern p t u s edition y ((if_layout p t u s R S h).good tt i j y n x)))
+      (goes_on ((if_layout p t u s R S h).keep tt i j y l n x) given)
+
+  pattern_forward : (i j : ℕ) (q : Option (PatternTree Span)) → pattern edition t R i (Read q j) → i ≤ j
+  pattern_forward i j q (goes_on {a = y} x given) = (if_layout p t u s R S h).forward i j y x
+
+  pub keeps_pattern : Keeps p (pattern edition t R) (pattern edition u S)
+  keeps_pattern = record { keep = pattern_keep; forward = pattern_forward }
+
+  keeps_variant_of : (starred star : Bool) (key : KeyTree Span) (q : Option (PatternTree Span)) →
+      Keeps p (variant_of t starred star key q) (variant_of u starred star key q)
+  keeps_variant_of starred star key None = keeps_fails p
+  keeps_variant_of starred star key (Some q) = keeps_bind p (keeps_blank p t u s) (λ x. keeps_gives p)
+
+  keeps_after : (starred star : Bool) →
+      Keeps p (variant_after edition t R starred star) (variant_after edition u S starred star)
+  keeps_after starred star =
+      keeps_bind p (keeps_blank p t u s) (λ x. keeps_bind p (keeps_key p t u s) (λ key.
+      keeps_bind p (keeps_blank p t u s) (λ x. keeps_bind p (keeps_token p t u s 93) (λ x.
+      keeps_bind p keeps_pattern (λ q. keeps_variant_of starred star key q)))))
+
+  keeps_next_variant : (starred : Bool) → Keeps p (next_variant edition t R starred) (next_variant edition u S starred)
+  keeps_next_variant starred =
+      keeps_bind p (keeps_optional p t u s 42 refl) (λ star.
+      keeps_bind p (keeps_either p (keeps_fails p) (keeps_gives p)) (λ x.
+      keeps_bind p (keeps_optional p t u s 91 refl) (λ bracket.
+      keeps_either p (keeps_after starred star) (keeps_either p (keeps_gives p) (keeps_fails p)))))
+
+  -- ---- expressions
+
+  keeps_variants_of_select : Keeps p (variants_of_select edition t R) (variants_of_select edition u S)
+  keeps_variants_of_select =
+      keeps_bind p (keeps_over p (kept_steps p t u s 2)) (λ x. keeps_bind p (keeps_inline_blank p t u s) (λ x.
+      keeps_bind p (keeps_arrow_end p t u s) (λ x. keeps_bind p (keeps_blank p t u s) (λ x.
+      keeps_many p keeps_next_variant))))
+
+  keeps_select : (e : InlineTree Span) (o : Option Kind) →
+      Keeps p (select_with edition t R e o) (select_with edition u S e o)
+  keeps_select e None = keeps_bind p keeps_variants_of_select (λ vs. keeps_gives p)
+  keeps_select e (Some k) = keeps_fails p
+
+  keeps_expression : Keeps p (expression edition t R) (expression edition u S)
+  keeps_expression =
+      keeps_bind p (keeps_inline p t u s R S h) (λ e. keeps_bind p (keeps_blank p t u s) (λ x.
+      keeps_bind p (keeps_at_each p (same_arrow p t u s) (λ a. keeps_gives p)) (λ arrow.
+      keeps_either p (keeps_select e (selector_fault e)) (keeps_either p (keeps_fails p) (keeps_gives p)))))
+
+  keeps_next : IsKeptFamily p (next edition t R) (next edition u S)
+  keeps_next = record { expression = keeps_expression; argument_list = keeps_arguments p t u s R S h [] }
+
+module _ (edition : Edition) (p : ℕ) (t u : List ℕ) (s : Shared p t u) where
+  nothing_kept : {A : Type 0} → Keeps {A = A} p (λ i o. ⊥) (λ i o. ⊥)
+  nothing_kept = record { keep = λ i j a l n x. absurd x; forward = λ i j a x. absurd x }
+
+  keeps_zero : IsKeptFamily p (within edition t zero) (within edition u zero)
+  unfolding within
+  keeps_zero = record { expression = nothing_kept; argument_list = nothing_kept }
+
+  keeps_suc : (m : ℕ) → IsKeptFamily p (within edition t m) (within edition u m) →
+      IsKeptFamily p (within edition t (suc m)) (within edition u (suc m))
+  unfolding within
+  keeps_suc m h = keeps_next edition p t u s (within edition t m) (within edition u m) h
+
+  keeps_within : (m : ℕ) → IsKeptFamily p (within edition t m) (within edition u m)
+  keeps_within zero = keeps_zero
+  keeps_within (suc m) = keeps_suc m (keeps_within m)
+
+  -- the constructs that nest, read up to the start of a line
+  pub keeps_family : IsKeptFamily p (family edition t) (family edition u)
+  unfolding family
+  keeps_family = record {
+    expression = record {
+      keep = λ i j a l n x. (x.0, (keeps_within x.0).expression.keep i j a l n x.1);
+      forward = λ i j a x. (keeps_within x.0).expression.forward i j a x.1;
+    };
+    argument_list = record {
+      keep = λ i j a l n x. (x.0, (keeps_within x.0).argument_list.keep i j a l n x.1);
+      forward = λ i j a x. (keeps_within x.0).argument_list.forward i j a x.1;
+    };
+  }

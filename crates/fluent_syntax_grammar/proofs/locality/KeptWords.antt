@@ -1,0 +1,455 @@
+-- The words that are read up to the start of a line are read in a text that is the same up to there.
+use Rattle.std.proofs.Common.{◌≡◌, ℕ, ◌+◌, ◌-◌, ◌≤◌, ◌<◌, List, Option, Some, None, Bool, true, false}
+use Rattle.std.proofs.Common.{refl, sym, ◌∙◌, subst, ap, arith, inl, inr}
+use Rattle.std.specs.Prelude.{slice_get, ◌⊎◌, ◌==◌, ◌&&◌, ◌||◌, not, is_some, if◌then◌else◌}
+use Rattle.std.specs.Char.{is_ascii_hexdigit}
+use Rattle.std.proofs.lemmas.Bool.Decides.{nat_tests}
+use Rattle.fluent_syntax_tree.specs.declared.spans.Span.{Span}
+use Rattle.fluent_syntax_grammar.specs.Bytes.{lf, cr, space, is_space, is_letter, is_digit, is_name_byte}
+use Rattle.fluent_syntax_grammar.specs.Places.{holds, Stretch, Steps, has, has_byte, has_eol, after_eol}
+use Rattle.fluent_syntax_grammar.specs.Places.{is_blank_place, is_line_place, InlineBlank, Blank, BlankBlock, no_line}
+use Rattle.fluent_syntax_grammar.specs.Places.{line}
+use Rattle.fluent_syntax_grammar.specs.Lines.{is_run_place}
+use Rattle.fluent_syntax_grammar.specs.Placeables.{has_arrow}
+use Rattle.fluent_syntax_grammar.specs.Construct.{Read, ◌>>=◌, goes_on, gives, given, at_place}
+use Rattle.fluent_syntax_grammar.specs.Construct.{passed, at_each, chosen, either, first, second}
+use Rattle.fluent_syntax_grammar.specs.Words.{optional, token, spanned, inline_blank, blank, blank_block}
+use Rattle.fluent_syntax_grammar.specs.Words.{optional_eol, rest_of_line, digits, identifier, number}
+use Rattle.fluent_syntax_grammar.specs.Strings.{hex_digits, all_there, escaped, string_unit, string_units}
+use Rattle.fluent_syntax_grammar.specs.Strings.{before_quote, unit_and_more, string_literal}
+use Rattle.fluent_syntax_grammar.proofs.locality.Kept.{is_head_byte}
+use Rattle.fluent_syntax_grammar.proofs.Cuts.{eol_forward, block_forward}
+use Rattle.fluent_syntax_grammar.proofs.Facts.{lt_or_same, stretch_onward}
+use Rattle.fluent_syntax_grammar.proofs.Tests.{differ}
+use Rattle.fluent_syntax_grammar.proofs.locality.Kept.{Head, Shared, Keeps, KeepsIf, Any, Within, SameLook}
+use Rattle.fluent_syntax_grammar.proofs.locality.Kept.{KeptWord, keeps_gives, keeps_over, keeps_either}
+use Rattle.fluent_syntax_grammar.proofs.locality.Kept.{keeps_fails, keeps_late, if_eol, plain, simple}
+use Rattle.fluent_syntax_grammar.proofs.locality.Kept.{from_over, keeping}
+
+-- no byte that begins an entry passes the test
+pub record NoHead (test : ℕ → Bool) : Type 0 where
+  pub fails : (b : ℕ) → is_head_byte b ≡ true → test b ≡ false
+
+pub other_byte : (c : ℕ) → is_head_byte c ≡ false → NoHead (λ b. b == c)
+other_byte c e = record { fails = λ b f. differ is_head_byte b c f e }
+
+pub no_space : NoHead is_space
+no_space = record { fails = λ b f. differ is_head_byte b 32 f refl }
+
+pub no_digit : NoHead is_digit
+no_digit = record { fails = λ b f. grind (arith, nat_tests) }
+
+two_fail : (a b c : Bool) → a ≡ false → b ≡ false → (a || b && c) ≡ false
+two_fail a b c e f = rw (e, f) refl
+
+brace_fails : (b : ℕ) → is_head_byte b ≡ true → not (b == 10 || b == 123 || b == 125) ≡ true
+brace_fails b e =
+    rw (differ is_head_byte b 10 e refl, differ is_head_byte b 123 e refl, differ is_head_byte b 125 e refl) refl
+
+module _ (p : ℕ) (t u : List ℕ) (s : Shared p t u) where
+  pub head_has : {test : ℕ → Bool} → NoHead test → has t test p ≡ false
+  head_has {test = test} n = let h = s.head in ap (holds test) h.stands ∙ n.fails h.byte h.begins
+
+  pub other_has : {test : ℕ → Bool} → NoHead test → has u test p ≡ false
+  other_has {test = test} n = let h = s.other in ap (holds test) h.stands ∙ n.fails h.byte h.begins
+
+  below_has : (test : ℕ → Bool) (i : ℕ) → i < p → has t test i ≡ has u test i
+  below_has test i l = ap (holds test) (s.byte i l)
+
+  by_place : {A : Type 0} (look other : ℕ → A) → ((i : ℕ) → i < p → look i ≡ other i) → look p ≡ other p → (i : ℕ) →
+      i ≤ p → look i ≡ other i
+  by_place look other f g i l =
+      elim (lt_or_same i p l) [ inl m ↦ f i m | inr e ↦ subst (λ i. look i ≡ other i) (sym e) g ]
+
+  pub same_has : {test : ℕ → Bool} → NoHead test → SameLook p (has t test) (has u test)
+  same_has {test = test} n = record {
+    same = by_place (has t test) (has u test) (below_has test) (head_has n ∙ sym (other_has n));
+  }
+
+  pub same_byte : (c : ℕ) → is_head_byte c ≡ false → SameLook p (has_byte t c) (has_byte u c)
+  same_byte c e = same_has (other_byte c e)
+
+  -- the byte before p is LF
+  pub last_has : (test : ℕ → Bool) (i : ℕ) → i + 1 ≡ p → has t test i ≡ test 10
+  last_has test i e = ap (holds test) (s.line i e)
+
+  pub last_other : (test : ℕ → Bool) (i : ℕ) → i + 1 ≡ p → has u test i ≡ test 10
+  last_other test i e = let l : i < p = omega arith in sym (below_has test i l) ∙ last_has test i e
+
+  same_crlf : (i : ℕ) → i < p → (has_byte t cr i && has_byte t lf (i + 1)) ≡ (has_byte u cr i && has_byte u lf (i + 1))
+  same_crlf i l = let m : i + 1 ≤ p = omega arith in elim (lt_or_same (i + 1) p m) [
+    | inl n ↦ rw (s.byte i l, s.byte (i + 1) n) refl
+    | inr e ↦ rw (last_has (λ b. b == cr) i e, last_other (λ b. b == cr) i e) refl
+  ]
+
+  eol_at : (i : ℕ) → i < p → has_eol t i ≡ has_eol u i
+  eol_at i l = rw (s.byte i l) (ap (λ q. has_byte u lf i || q) (crlf_there i l))
+    where
+      crlf_there : (i : ℕ) → i < p →
+          (has_byte u cr i && has_byte t lf (i + 1)) ≡ (has_byte u cr i && has_byte u lf (i + 1))
+      crlf_there i l = ap (λ q. q && has_byte t lf (i + 1)) (sym (below_has (λ b. b == cr) i l)) ∙ same_crlf i l
+
+  pub no_eol_head : has_eol t p ≡ false
+  no_eol_head =
+      two_fail (has_byte t lf p) (has_byte t cr p) (has_byte t lf (p + 1)) (head_has (other_byte 10 refl))
+      (head_has (other_byte 13 refl))
+
+  pub no_eol_other : has_eol u p ≡ false
+  no_eol_other =
+      two_fail (has_byte u lf p) (has_byte u cr p) (has_byte u lf (p + 1)) (other_has (other_byte 10 refl))
+      (other_has (other_byte 13 refl))
+
+  pub same_eol : SameLook p (has_eol t) (has_eol u)
+  same_eol = record { same = by_place (has_eol t) (has_eol u) eol_at (no_eol_head ∙ sym no_eol_other) }
+
+  abbrev pub eol_if : (a b : Bool) → ℕ → Option ℕ
+  eol_if a b i = if a then Some (i + 1) else if b then Some (i + 2) else None
+
+  after_at : (i : ℕ) → i < p → after_eol t i ≡ after_eol u i
+  after_at i l =
+      ap (λ a. eol_if a (has_byte t cr i && has_byte t lf (i + 1)) i) (below_has (λ b. b == lf) i l)
+      ∙ ap (λ b. eol_if (has_byte u lf i) b i) (same_crlf i l)
+
+  pub after_head : after_eol t p ≡ None
+  after_head = rw (head_has (other_byte 10 refl), head_has (other_byte 13 refl)) refl
+
+  pub after_other : after_eol u p ≡ None
+  after_other = rw (other_has (other_byte 10 refl), other_has (other_byte 13 refl)) refl
+
+  pub same_after : SameLook p (after_eol t) (after_eol u)
+  same_after = record { same = by_place (after_eol t) (after_eol u) after_at (after_head ∙ sym after_other) }
+
+  pub same_blank : SameLook p (is_blank_place t) (is_blank_place u)
+  same_blank = record {
+    same = λ i l. ap (λ q. q || has_eol t i) ((same_byte 32 refl).same i l)
+        ∙ ap (λ q. has_byte u space i || q) (same_eol.same i l);
+  }
+
+  line_head : (v : List ℕ) → Head v p → has_eol v p ≡ false → is_line_place v p ≡ true
+  line_head v h e = both (slice_get v p) (has_eol v p) h.byte h.stands e
+    where
+      both : (o : Option ℕ) (b : Bool) (c : ℕ) → o ≡ Some c → b ≡ false → (is_some o && not b) ≡ true
+      both o b c e f = rw (e, f) refl
+
+  pub same_line : SameLook p (is_line_place t) (is_line_place u)
+  same_line = record {
+    same = by_place (is_line_place t) (is_line_place u)
+        (λ i l. ap (λ o. is_some o && not (has_eol t i)) (s.byte i l)
+        ∙ ap (λ e. is_some (slice_get u i) && not e) (eol_at i l))
+        (line_head t s.head no_eol_head ∙ sym (line_head u s.other no_eol_other));
+  }
+
+  run_head : (v : List ℕ) → Head v p → has_eol v p ≡ false → is_run_place v p ≡ true
+  run_head v h e =
+      let f : has v (λ b. not (b == 10 || b == 123 || b == 125)) p ≡ true =
+      ap (holds (λ b. not (b == 10 || b == 123 || b == 125))) h.stands ∙ brace_fails h.byte h.begins in
+      both _ (has_eol v p) f e
+    where
+      both : (a b : Bool) → a ≡ true → b ≡ false → (a && not b) ≡ true
+      both a b e f = rw (e, f) refl
+
+  pub run_at_head : is_run_place t p ≡ true
+  run_at_head = run_head t s.head no_eol_head
+
+  pub same_run : SameLook p (is_run_place t) (is_run_place u)
+  same_run = record {
+    same = by_place (is_run_place t) (is_run_place u)
+        (λ i l. ap (λ a. a && not (has_eol t i)) (below_has (λ b. not (b == 10 || b == 123 || b == 125)) i l)
+        ∙ ap (λ e. has u (λ b. not (b == 10 || b == 123 || b == 125)) i && not e) (eol_at i l))
+        (run_at_head ∙ sym (run_head u s.other no_eol_other));
+  }
+
+  arrow_at : (i : ℕ) → i < p → has_arrow t i ≡ has_arrow u i
+  arrow_at i l = let m : i + 1 ≤ p = omega arith in elim (lt_or_same (i + 1) p m) [
+    | inl n ↦ rw (s.byte i l, s.byte (i + 1) n) refl
+    | inr e ↦ rw (last_has (λ b. b == 45) i e, last_other (λ b. b == 45) i e) refl
+  ]
+
+  pub same_arrow : SameLook p (has_arrow t) (has_arrow u)
+  same_arrow = record {
+    same = by_place (has_arrow t) (has_arrow u) arrow_at
+        (let h = s.head in let o = s.other in h.no_arrow ∙ sym o.no_arrow);
+  }
+
+  -- ---- words
+
+  stretch_leads : (test other : ℕ → Bool) → SameLook p test other → (i j : ℕ) → i ≤ p → j ≤ p → Stretch test i j →
+      Stretch other i j
+  stretch_leads test other w i j a b x = record {
+    forward = x.forward;
+    each = λ k l m. let n : k ≤ p = omega arith in sym (w.same k n) ∙ x.each k l m;
+    longest = sym (w.same j b) ∙ x.longest;
+  }
+
+  pub kept_stretch : {test other : ℕ → Bool} → SameLook p test other → KeptWord p (Stretch test) (Stretch other)
+  kept_stretch w = record { leads = stretch_leads _ _ w; forward = λ i j x. x.forward }
+
+  pub kept_steps : (n : ℕ) → KeptWord p (Steps n) (Steps n)
+  kept_steps n = record { leads = λ i j a b x. x; forward = λ i j x. let e = x.by in omega arith }
+
+  pub kept_inline : KeptWord p (InlineBlank t) (InlineBlank u)
+  kept_inline = kept_stretch (same_has no_space)
+
+  block_leads : (i j : ℕ) → i ≤ p → j ≤ p → BlankBlock t i j → BlankBlock u i j
+  block_leads i j a b (no_line {k = k} w e) =
+      let f = w.forward in elim (le_or_past k p) [
+        | inl l ↦ no_line (kept_inline.leads i k a l w) (sym (same_after.same k l) ∙ e)
+        | inr l ↦ absurd (past_spaces i k w a l)
+      ]
+    where
+      le_or_past : (k p : ℕ) → (k ≤ p) ⊎ (p < k)
+      le_or_past k p = grind arith
+
+      past_spaces : (i k : ℕ) → InlineBlank t i k → i ≤ p → p < k → ⊥
+      past_spaces i k w a l = let e = w.each p a l in let f = head_has no_space in cc
+  block_leads i j a b (line {k = k} {m = m} w e r) =
+      let f = w.forward in
+      let g = eol_forward t k m e in
+      let h = block_forward t m j r in
+      let l : k ≤ p = omega arith in
+      line (kept_inline.leads i k a l w) (sym (same_after.same k l) ∙ e) (block_leads m j (omega arith) b r)
+
+  pub kept_block : KeptWord p (BlankBlock t) (BlankBlock u)
+  kept_block = record { leads = block_leads; forward = block_forward t }
+
+  pub kept_blank : KeptWord p (Blank t) (Blank u)
+  kept_blank = kept_stretch same_blank
+
+  pub keeps_optional : (c : ℕ) → is_head_byte c ≡ false → Keeps p (optional t c) (optional u c)
+  keeps_optional c e = search (keeping, same_byte c e, kept_steps) depth 30
+
+  token_at : (c i j : ℕ) (v : Unit {0}) → token t c i (Read v j) → (has_byte t c i ≡ true) × (j ≡ i + 1)
+  token_at c i j v (goes_on (chosen (first e (goes_on (passed w) given))) (first f given)) = (e, w.by)
+  token_at c i j v (goes_on (chosen (second e given)) (first f y)) = absurd cc
+  token_at c i j v (goes_on (chosen (first e (goes_on {a = a} (passed w) given))) (second f x)) = elim x [ ]
+  token_at c i j v (goes_on (chosen (second e given)) (second f x)) = elim x [ ]
+
+  token_to : (v : List ℕ) (c i : ℕ) → has_byte v c i ≡ true → token v c i (Read tt (i + 1))
+  token_to v c i e = goes_on (chosen (first e (goes_on (passed (record { by = refl })) given))) (first refl given)
+
+  pub token_forward : (c i j : ℕ) (v : Unit {0}) → token t c i (Read v j) → i < j
+  token_forward c i j v x = let y = token_at c i j v x in let e = y.1 in omega arith
+
+  token_keep : (c i j : ℕ) (v : Unit {0}) → i ≤ p → j ≤ p → token t c i (Read v j) → token u c i (Read v j)
+  token_keep c i j v a b x =
+      let y = token_at c i j v x in
+      let e = y.1 in
+      let l : i < p = omega arith in
+      subst (λ j. token u c i (Read tt j)) (sym y.1)
+      (token_to u c i (sym (below_has (λ b. b == c) i l) ∙ y.0))
+
+  pub keeps_token : (c : ℕ) → Keeps p (token t c) (token u c)
+  keeps_token c = record {
+    keep = token_keep c;
+    forward = λ i j v x. let l = token_forward c i j v x in omega arith;
+  }
+
+  pub keeps_inline_blank : Keeps p (inline_blank t) (inline_blank u)
+  keeps_inline_blank = keeps_over p kept_inline
+
+  pub keeps_blank : Keeps p (blank t) (blank u)
+  keeps_blank = keeps_over p kept_blank
+
+  pub keeps_blank_block : Keeps p (blank_block t) (blank_block u)
+  keeps_blank_block = keeps_over p kept_block
+
+  pub keeps_spanned : (i : ℕ) → Keeps p (spanned i) (spanned i)
+  keeps_spanned i = search keeping depth 30
+
+  pub keeps_optional_eol : Keeps p (optional_eol t) (optional_eol u)
+  keeps_optional_eol =
+      simple p (if_eol p t u (after_eol t) (after_eol u) {M = Unit {0}} {Good = Any} (record {
+        same = same_after;
+        ahead = eol_forward t;
+        none = plain p (keeps_gives p);
+        some = λ k. from_over p k;
+      }))
+
+  pub keeps_rest_of_line : Keeps p (rest_of_line t) (rest_of_line u)
+  keeps_rest_of_line = search (keeping, kept_stretch, same_line, keeps_spanned) depth 30
+
+  pub keeps_digits : Keeps p (digits t) (digits u)
+  keeps_digits = search (keeping, kept_stretch, same_has, no_digit) depth 30
+
+  -- ---- identifiers
+
+  identifier_at : (i j : ℕ) (v : Span) → identifier t i (Read v j) →
+      (has t is_letter i ≡ true) × Stretch (has t is_name_byte) i j × (v ≡ record { start = i; end = j })
+  identifier_at i j v (goes_on at_place (goes_on (chosen given) (first e (goes_on (passed w) (goes_on at_place
+      given)))))
+      = (e, w, refl)
+  identifier_at i j v (goes_on at_place (goes_on (chosen given) (second e x))) = elim x [ ]
+
+  letter_name : (t : List ℕ) (i : ℕ) (o : Option ℕ) → slice_get t i ≡ o → holds is_letter o ≡ true →
+      has t is_name_byte i ≡ true
+  letter_name t i None e f = cc
+  letter_name t i (Some b) e f = ap (holds is_name_byte) e ∙ name_byte b f
+    where
+      name_byte : (b : ℕ) → is_letter b ≡ true → is_name_byte b ≡ true
+      name_byte b e = grind (arith, nat_tests)
+
+  pub identifier_forward : (i j : ℕ) (v : Span) → identifier t i (Read v j) → i < j
+  identifier_forward i j v x = let y = identifier_at i j v x in
+      stretch_onward (has t is_name_byte) i j (letter_name t i (slice_get t i) refl y.0) y.1
+
+  not_last : (i j : ℕ) → Stretch (has t is_name_byte) i j → i < j → j ≡ p → ⊥
+  not_last i j w l e =
+      let k : (j - 1) + 1 ≡ p = omega arith in
+      let a = w.each (j - 1) (omega arith) (omega arith) in
+      let b = last_has is_name_byte (j - 1) k in
+      cc
+
+  identifier_keep : (i j : ℕ) (v : Span) → i ≤ p → j ≤ p → identifier t i (Read v j) → identifier u i (Read v j)
+  identifier_keep i j v a b x =
+      let y = identifier_at i j v x in
+      let w = y.1 in
+      let l = identifier_forward i j v x in
+      let inside : j < p = elim (lt_or_same j p b) [ inl m ↦ m | inr e ↦ absurd (not_last i j w l e) ] in
+      subst (λ v. identifier u i (Read v j)) (sym y.2)
+      (goes_on at_place (goes_on (chosen given) (first (sym (below_has is_letter i (omega arith)) ∙ y.0)
+      (goes_on (passed (record {
+        forward = w.forward;
+        each = λ k c d. sym (below_has is_name_byte k (omega arith)) ∙ w.each k c d;
+        longest = sym (below_has is_name_byte j inside) ∙ w.longest;
+      })) (goes_on at_place given)))))
+
+  identifier_good : (i j : ℕ) (v : Span) → j ≤ p → identifier t i (Read v j) → v.end ≤ p
+  identifier_good i j v l x = let y = identifier_at i j v x in subst (λ v. v.end ≤ p) (sym y.2) l
+
+  pub if_identifier : {M : Type 0} → KeepsIf p M (Within p) (identifier t) (identifier u)
+  if_identifier = record {
+    keep = λ h. identifier_keep;
+    good = λ h. identifier_good;
+    forward = λ i j v x. let l = identifier_forward i j v x in omega arith;
+  }
+
+  pub keeps_identifier : Keeps p (identifier t) (identifier u)
+  keeps_identifier = simple p if_identifier
+
+  -- ---- numbers
+
+  digits_forward : (i j : ℕ) (v : Unit {0}) → digits t i (Read v j) → i < j
+  digits_forward i j v (chosen (first e (passed w))) = stretch_onward (has t is_digit) i j e w
+  digits_forward i j v (chosen (second e x)) = elim x [ ]
+
+  minus_at : (c i j : ℕ) (q : Bool) → optional t c i (Read q j) → ((has_byte t c i ≡ true) × (q ≡ true) × (j ≡ i + 1)) ⊎
+      ((has_byte t c i ≡ false) × (q ≡ false) × (j ≡ i))
+  minus_at c i j q (chosen (first e (goes_on (passed w) given))) = inl (e, refl, w.by)
+  minus_at c i j q (chosen (second e given)) = inr (e, refl, refl)
+
+  minus_forward : (c i j : ℕ) (q : Bool) → optional t c i (Read q j) → i ≤ j
+  minus_forward c i j q x = elim (minus_at c i j q x) [
+    | inl y ↦ (let e = y.2 in omega arith)
+    | inr y ↦ (let e = y.2 in omega arith)
+  ]
+
+  minus_keep : (c i j : ℕ) (q : Bool) → i < p → optional t c i (Read q j) → optional u c i (Read q j)
+  minus_keep c i j q l (chosen (first e x)) = chosen (first (sym (below_has (λ b. b == c) i l) ∙ e) x)
+  minus_keep c i j q l (chosen (second e x)) = chosen (second (sym (below_has (λ b. b == c) i l) ∙ e) x)
+
+  keeps_after_minus : (i : ℕ) →
+      Keeps p (digits t >>= λ x. optional t 46 >>= λ point. either point (digits t) (gives tt) >>= λ y. spanned i)
+      (digits u >>= λ x. optional u 46 >>= λ point. either point (digits u) (gives tt) >>= λ y. spanned i)
+  keeps_after_minus i = search (keeping, keeps_digits, keeps_optional, keeps_spanned) depth 30
+
+  keeps_behind : (i : ℕ) → Keeps p
+      (optional t 46 >>= λ point. either point (digits t) (gives tt) >>= λ y. spanned i)
+      (optional u 46 >>= λ point. either point (digits u) (gives tt) >>= λ y. spanned i)
+  keeps_behind i = search (keeping, keeps_digits, keeps_optional, keeps_spanned) depth 30
+
+  pub number_forward : (i j : ℕ) (v : Span) → number t i (Read v j) → i < j
+  number_forward i j v (goes_on at_place (goes_on {j = k} {a = q} x (goes_on {j = m} y z))) =
+      let a = minus_forward 45 i k q x in
+      let b = digits_forward k m _ y in
+      let c = (keeps_behind i).forward m j v z in
+      omega arith
+
+  number_keep : (i j : ℕ) (v : Span) → i ≤ p → j ≤ p → number t i (Read v j) → number u i (Read v j)
+  number_keep i j v l n (goes_on at_place (goes_on {j = k} {a = q} x y)) =
+      let a = minus_forward 45 i k q x in
+      let f = number_forward i j v (goes_on at_place (goes_on x y)) in
+      let b = (keeps_after_minus i).forward k j v y in
+      goes_on at_place (goes_on (minus_keep 45 i k q (omega arith) x)
+      ((keeps_after_minus i).keep k j v (omega arith) n y))
+
+  pub keeps_number : Keeps p (number t) (number u)
+  keeps_number = record {
+    keep = number_keep;
+    forward = λ i j v x. let l = number_forward i j v x in omega arith;
+  }
+
+  -- ---- strings
+
+  hex_keep : (w i j : ℕ) (v : Unit {0}) → i ≤ p → j ≤ p → hex_digits t w i (Read v j) → hex_digits u w i (Read v j)
+  hex_keep w i j v a b (all_there d e) = all_there (record {
+    forward = d.forward;
+    most = d.most;
+    each = λ k c f. sym (below_has is_ascii_hexdigit k (omega arith)) ∙ d.each k c f;
+    longest = λ l. absurd (omega arith);
+  }) e
+
+  hex_forward : (w i j : ℕ) (v : Unit {0}) → hex_digits t w i (Read v j) → i ≤ j
+  hex_forward w i j v (all_there d e) = d.forward
+
+  keeps_hex : (w : ℕ) → Keeps p (hex_digits t w) (hex_digits u w)
+  keeps_hex w = record { keep = hex_keep w; forward = hex_forward w }
+
+  keeps_escaped : (o : Option ℕ) → Keeps p (escaped t o) (escaped u o)
+  keeps_escaped None = search keeping depth 30
+  keeps_escaped (Some c) = search (keeping, keeps_hex, kept_steps) depth 30
+
+  escaped_far : (o : Option ℕ) (i j : ℕ) (v : Unit {0}) → escaped t o i (Read v j) → i + 2 ≤ j
+  escaped_far (Some c) i j v (first e (passed w)) = let f = w.by in omega arith
+  escaped_far (Some c) i j v (second e (first f (goes_on (passed w) x))) =
+      let g = w.by in let h = hex_forward _ _ j v x in omega arith
+  escaped_far (Some c) i j v (second e (second f (first g (goes_on (passed w) x)))) =
+      let k = w.by in let h = hex_forward _ _ j v x in omega arith
+  escaped_far (Some c) i j v (second e (second f (second g x))) = elim x [ ]
+  escaped_far None i j v x = elim x [ ]
+
+  next_byte : (i j : ℕ) (v : Unit {0}) → i ≤ p → escaped t (slice_get t (i + 1)) i (Read v j) →
+      (slice_get t (i + 1) ≡ slice_get u (i + 1)) ⊎ (p < j)
+  next_byte i j v l x = let f = escaped_far (slice_get t (i + 1)) i j v x in elim (lt_or_le (i + 1) p) [
+    | inl m ↦ inl (s.byte (i + 1) m)
+    | inr m ↦ inr (omega arith)
+  ]
+    where
+      lt_or_le : (a b : ℕ) → (a < b) ⊎ (b ≤ a)
+      lt_or_le a b = grind arith
+
+  keeps_escape : Keeps p (at_each (λ i. slice_get t (i + 1)) (escaped t)) (at_each (λ i. slice_get u (i + 1))
+      (escaped u))
+  keeps_escape = keeps_late p next_byte keeps_escaped
+
+  keeps_unit : (o : Option ℕ) → Keeps p (string_unit t o) (string_unit u o)
+  keeps_unit None = keeps_fails p
+  keeps_unit (Some c) =
+      keeps_either p (keeps_fails p) (keeps_either p keeps_escape (keeps_over p (kept_steps 1)))
+
+  unit_onward : (o : Option ℕ) (i j : ℕ) (v : Unit {0}) → string_unit t o i (Read v j) → i < j
+  unit_onward (Some c) i j v (second e (first f (chosen x))) =
+      let l = escaped_far (slice_get t (i + 1)) i j v x in omega arith
+  unit_onward (Some c) i j v (second e (second f (passed w))) = let g = w.by in omega arith
+  unit_onward (Some c) i j v (first e x) = elim x [ ]
+  unit_onward None i j v x = elim x [ ]
+
+  units_forward : (i j : ℕ) (v : Unit {0}) → string_units t i (Read v j) → i ≤ j
+  units_forward i j v (before_quote e) = omega arith
+  units_forward i j v (unit_and_more {j = k} e x r) =
+      let a = unit_onward (slice_get t i) i k _ x in let b = units_forward k j v r in omega arith
+
+  units_keep : (i j : ℕ) (v : Unit {0}) → i ≤ p → j ≤ p → string_units t i (Read v j) → string_units u i (Read v j)
+  units_keep i j v l n (before_quote e) = before_quote (sym ((same_byte 34 refl).same i l) ∙ e)
+  units_keep i j v l n (unit_and_more {j = k} e x r) =
+      let a = unit_onward (slice_get t i) i k _ x in
+      let b = units_forward k j v r in
+      unit_and_more (sym ((same_byte 34 refl).same i l) ∙ e)
+      (subst (λ o. string_unit u o i (Read tt k)) (s.byte i (omega arith))
+      ((keeps_unit (slice_get t i)).keep i k tt l (omega arith) x))
+      (units_keep k j v (omega arith) n r)
+
+  keeps_units : Keeps p (string_units t) (string_units u)
+  keeps_units = record { keep = units_keep; forward = units_forward }
+
+  pub keeps_string : Keeps p (string_literal t) (string_literal u)
+  keeps_string = search (keeping, keeps_token, keeps_units, keeps_spanned) depth 30
