@@ -5,3 +5,4 @@ pub mod Answer
 pub mod Run
 pub mod Formatted
 pub mod Formatting
+pub mod FromJson

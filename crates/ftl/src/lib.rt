@@ -3,6 +3,7 @@
 
 mod answers;
 mod command;
+mod from_json;
 pub mod laws;
 mod outcome;
 mod runs;
@@ -10,6 +11,7 @@ mod watched;
 
 pub use answers::{answer, answer_within};
 pub use command::{Command, usage};
+pub use from_json::{JsonFault, text_of_json, tree_of_json};
 pub use outcome::{Outcome, RunFault};
 pub use runs::{run, run_within};
 pub use watched::Watched;

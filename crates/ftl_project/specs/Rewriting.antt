@@ -14,14 +14,14 @@ abbrev pub IsReplacement : Edition → List ℕ → Replacement → Type 0
 IsReplacement edition bytes replacement.Same = IsRewriting edition bytes bytes
 IsReplacement edition bytes (replacement.Text text) = IsRewriting edition bytes (string_bytes text)
 IsReplacement edition bytes (replacement.Errors errors) = Unit {0}
-IsReplacement edition bytes replacement.Unsafe = Unit {0}
+IsReplacement edition bytes (replacement.Unsafe entry) = Unit {0}
 
 -- the place of each error begins within the text
 abbrev pub ErrorsIn : List ℕ → Replacement → Type 0
 ErrorsIn text (replacement.Errors errors) = All (λ e. e.pos.start ≤ length text) errors.items
 ErrorsIn text replacement.Same = Unit {0}
 ErrorsIn text (replacement.Text formatted) = Unit {0}
-ErrorsIn text replacement.Unsafe = Unit {0}
+ErrorsIn text (replacement.Unsafe entry) = Unit {0}
 
 -- where the bytes were known, a rewriting of them stands now
 abbrev pub BecomesRewriting : Edition → (old new : Option (List ℕ)) → Type 0
@@ -35,7 +35,7 @@ Rewrites edition path old new (Ok rewriting.Rewritten) =
     BecomesRewriting edition (old path) (new path) × OthersStand old new path
 Rewrites edition path old new (Ok rewriting.Same) = AllStand old new
 Rewrites edition path old new (Ok (rewriting.Errors refused)) = AllStand old new
-Rewrites edition path old new (Ok rewriting.Unsafe) = AllStand old new
+Rewrites edition path old new (Ok (rewriting.Unsafe entry)) = AllStand old new
 Rewrites edition path old new (Err fault) =
     ((new path ≡ old path) ⊎ BecomesRewriting edition (old path) (new path)) × OthersStand old new path
 

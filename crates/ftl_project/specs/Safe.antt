@@ -19,10 +19,14 @@ abbrev pub format_of : Edition → Command
 format_of One = Format
 format_of Two = FormatTwo
 
--- The tree is safe to write: its text reads back. By edition one that is asked of the joined tree.
+-- the tree that the written text of a tree is to read as: by edition one the joined tree
+abbrev pub reread_tree : Edition → BodyTree Text → BodyTree Text
+reread_tree One tree = joined_body tree
+reread_tree Two tree = tree
+
+-- The tree is safe to write: its text reads back.
 abbrev pub is_safe : Edition → BodyTree Text → Bool
-is_safe One tree = is_canonical One (joined_body tree)
-is_safe Two tree = is_canonical Two tree
+is_safe edition tree = is_canonical edition (reread_tree edition tree)
 
 -- What the formatted text of a tree reads as, and what formatting it again gives. By edition two it is the tree itself.
 abbrev pub Settles : Edition → (tree : BodyTree Text) → (text : Text) → Type 0

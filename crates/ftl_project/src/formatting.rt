@@ -11,6 +11,7 @@ use crate::reporting::report;
 use crate::rewriting::{Rewriting, read_text, rewrite};
 use crate::streams::{Streams, put, tell};
 use crate::tally::Tally;
+use crate::unsafe_entry::{UnsafeEntry, unsafe_line};
 use ftl::RunFault;
 use ftl_excerpts::push_shown_text;
 use ftl_files::Store;
@@ -53,7 +54,7 @@ fn write_file<S: Store, O: Write, E: Write>(
             Ok(())
         }
         Ok(Rewriting::Errors(refused)) => tell_errors(alloc, path, &refused, tally, streams),
-        Ok(Rewriting::Unsafe) => tell_unsafe(alloc, path, tally, streams),
+        Ok(Rewriting::Unsafe(entry)) => tell_unsafe(alloc, path, entry, tally, streams),
         Err(fault) => tell(alloc, tally, path, &fault, streams),
     }
 }
@@ -104,7 +105,7 @@ fn name_file<S: Store, O: Write, E: Write>(
             let refused = Refused { text, errors };
             tell_errors(alloc, path, &refused, tally, streams)
         }
-        Ok(Replacement::Unsafe) => tell_unsafe(alloc, path, tally, streams),
+        Ok(Replacement::Unsafe(entry)) => tell_unsafe(alloc, path, entry, tally, streams),
         Err(fault) => tell(alloc, tally, path, &fault, streams),
     }
 }
@@ -124,20 +125,19 @@ fn tell_errors<O: Write, E: Write>(
     }
 }
 
-/// Tells that a file is left as it is, since its normal form would not read back.
+/// Tells that a file is left as it is, since its normal form would not read back, and by which entry.
 fn tell_unsafe<O: Write, E: Write>(
     alloc: Global,
     path: &str,
+    entry: UnsafeEntry,
     tally: &mut Tally,
     streams: &mut Streams<'_, O, E>,
 ) -> Result<(), RunFault> {
     tally.count(0, true);
-    put_line(
-        alloc,
-        streams.err,
-        path,
-        ": left as it is, since its normal form would not read back",
-    )
+    match unsafe_line(alloc, path, entry, "left as it is") {
+        Ok(line) => put(streams.err, line.as_str()),
+        Err(AllocError) => Err(RunFault::Memory),
+    }
 }
 
 /// Writes a path, with a note behind it, on a line.

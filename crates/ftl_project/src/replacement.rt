@@ -6,10 +6,11 @@ ghost use Rattle.ftl_project.specs.Rewriting.{ErrorsIn, IsReplacement};
 
 use crate::fault::Fault;
 use crate::reading::Reading;
-use crate::safe::is_safe_to_write;
+use crate::safe::first_unsafe;
+use crate::unsafe_entry::{UnsafeEntry, unsafe_entry};
 use fluent_syntax::ast::Resource;
-use fluent_syntax::laws::reads_back;
-use fluent_syntax::parser::{Edition, ParseFault, ParserError, parse_within};
+use fluent_syntax::laws::{Uncanonical, reads_back};
+use fluent_syntax::parser::{ParseFault, ParserError, parse_within};
 use fluent_syntax::serializer::serialize;
 use ftl::laws::formats_again;
 use std::alloc::{AllocError, Global};
@@ -23,8 +24,8 @@ pub enum Replacement {
     Text(String),
     /// The text: it has these syntax errors, and its normal form would lack their junk.
     Errors(Vec<ParserError>),
-    /// The text: its normal form would not read back.
-    Unsafe,
+    /// The text: its normal form would not read back, by this entry.
+    Unsafe(UnsafeEntry),
 }
 
 /// What is to stand in the place of the text: its normal form, where it has no error and reads back.
@@ -40,7 +41,7 @@ pub fn replacement_for(alloc: Global, text: &str, reading: Reading) -> Result<Re
         return Err(Fault::Memory);
     }
     match parse_within(alloc, text, reading.edition, reading.nesting) {
-        Ok(Ok(tree)) => rewritten(alloc, text, &tree, reading.edition),
+        Ok(Ok(tree)) => rewritten(alloc, text, &tree, reading),
         Ok(Err(ParseFault::Syntax(_, errors))) => Ok(Replacement::Errors(errors)),
         Ok(Err(ParseFault::Memory)) => Err(Fault::Memory),
         Err(_) => Err(Fault::TooDeep),
@@ -52,22 +53,38 @@ fn rewritten(
     alloc: Global,
     text: &str,
     tree: &Resource<&str>,
-    edition: Edition,
+    reading: Reading,
 ) -> Result<Replacement, Fault>
-    requires { ReadsAs edition text.now (resource_view (λ s. s.now) tree.now) }
-    ensures is { IfOk result (IsReplacement edition text.now) }
+    requires { ReadsAs reading.edition text.now (resource_view (λ s. s.now) tree.now) }
+    ensures is { IfOk result (IsReplacement reading.edition text.now) }
     ensures no_errors { IfOk result (ErrorsIn text.now) }
 {
     formats_again(text.as_bytes());
     reads_back(tree);
-    match is_safe_to_write(alloc, tree, edition) {
-        Ok(true) => (),
-        Ok(false) => return Ok(Replacement::Unsafe),
+    match first_unsafe(alloc, tree, reading.edition) {
+        Ok(None) => (),
+        Ok(Some(broken)) => return left_as_is(alloc, text, reading, broken),
         Err(AllocError) => return Err(Fault::Memory),
     }
     match serialize(alloc, tree) {
         Ok(formatted) if formatted.as_str() == text => Ok(Replacement::Same),
         Ok(formatted) => Ok(Replacement::Text(formatted)),
+        Err(AllocError) => Err(Fault::Memory),
+    }
+}
+
+/// The text stays, by that entry of its tree.
+fn left_as_is(
+    alloc: Global,
+    text: &str,
+    reading: Reading,
+    broken: Uncanonical,
+) -> Result<Replacement, Fault>
+    ensures is { IfOk result (IsReplacement reading.edition text.now) }
+    ensures no_errors { IfOk result (ErrorsIn text.now) }
+{
+    match unsafe_entry(alloc, text, reading, broken) {
+        Ok(entry) => Ok(Replacement::Unsafe(entry)),
         Err(AllocError) => Err(Fault::Memory),
     }
 }

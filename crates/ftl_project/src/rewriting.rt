@@ -7,6 +7,7 @@ use crate::fault::Fault;
 use crate::reading::Reading;
 use crate::refused::Refused;
 use crate::replacement::{Replacement, replacement_for};
+use crate::unsafe_entry::UnsafeEntry;
 use ftl_files::Store;
 use std::alloc::Global;
 
@@ -19,8 +20,8 @@ pub enum Rewriting {
     Rewritten,
     /// It has syntax errors, and was left as it is.
     Errors(Refused),
-    /// Its normal form would not read back, and it was left as it is.
-    Unsafe,
+    /// Its normal form would not read back, by this entry, and it was left as it is.
+    Unsafe(UnsafeEntry),
 }
 
 /// Puts the file's normal form in its place, if it has no syntax error and the normal form reads back. After a fault
@@ -36,7 +37,7 @@ pub fn rewrite<S: Store>(
     let text = read_text(store, path)?;
     match replacement_for(alloc, text.as_str(), reading)? {
         Replacement::Same => Ok(Rewriting::Same),
-        Replacement::Unsafe => Ok(Rewriting::Unsafe),
+        Replacement::Unsafe(entry) => Ok(Rewriting::Unsafe(entry)),
         Replacement::Errors(errors) => Ok(Rewriting::Errors(Refused { text, errors })),
         Replacement::Text(formatted) => match store.replace(path, formatted.as_bytes()) {
             Ok(()) => Ok(Rewriting::Rewritten),

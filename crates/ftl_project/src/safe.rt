@@ -1,26 +1,32 @@
 //! Which trees may be written in the place of the text that they were read from.
-ghost use Rattle.std.specs.Prelude.{◌≡◌, IfOk};
+ghost use Rattle.std.specs.Prelude.{◌≡◌, IfOk, IfSome, is_none};
+ghost use Rattle.fluent_syntax_rules.specs.Uncanonical.{IsFirstBroken};
 ghost use Rattle.fluent_syntax_tree.specs.View.{resource_view};
-ghost use Rattle.ftl_project.specs.Safe.{is_safe};
+ghost use Rattle.ftl_project.specs.Safe.{is_safe, reread_tree};
 
 use fluent_syntax::ast::Resource;
-use fluent_syntax::laws::{is_canonical, joined};
+use fluent_syntax::laws::{Uncanonical, first_uncanonical, joined};
 use fluent_syntax::parser::{Edition, Slice};
 use std::alloc::{AllocError, Global};
 
-/// Whether the tree of a text is safe to write in the text's place: its written text reads back, by edition one as the
-/// joined tree, which has the same messages and terms, by edition two as the tree itself.
+/// The first entry by which the tree of a text is not safe to write in the text's place, and the rule that it breaks;
+/// `None` where it is safe: then its written text reads back, by edition one as the joined tree, which has the same
+/// messages and terms, by edition two as the tree itself.
+///
+/// The entry is one of the joined tree by edition one, which for a text without errors has the entries of the tree.
 ///
 /// `AllocError`: a growth was refused.
-pub fn is_safe_to_write<'s, S: Slice<'s>>(
+pub fn first_unsafe<'s, S: Slice<'s>>(
     alloc: Global,
     tree: &Resource<S>,
     edition: Edition,
-) -> Result<bool, AllocError>
-    ensures { IfOk result (λ safe. safe ≡ is_safe edition (resource_view S.text tree.now)) }
+) -> Result<Option<Uncanonical>, AllocError>
+    ensures none { IfOk result (λ found. is_none found ≡ is_safe edition (resource_view S.text tree.now)) }
+    ensures first { IfOk result (λ found. IfSome found (λ broken.
+        IsFirstBroken edition (reread_tree edition (resource_view S.text tree.now)) broken)) }
 {
     match edition {
-        Edition::One => Ok(is_canonical(&joined(alloc, tree)?, edition)),
-        Edition::Two => Ok(is_canonical(tree, edition)),
+        Edition::One => Ok(first_uncanonical(&joined(alloc, tree)?, edition)),
+        Edition::Two => Ok(first_uncanonical(tree, edition)),
     }
 }

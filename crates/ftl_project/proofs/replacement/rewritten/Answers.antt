@@ -10,15 +10,15 @@ returns-in-Ok-clause-is c =
     let text = c.args.text.now in
     let law = subst (λ t. FormatsAgain t) c.as_bytes.ensures.value c.formats_again.ensures in
     let back = c.reads_back.ensures.back Two in
-    let safe = sym c.in-Ok-true.ensures ∙ c.in-Ok-true.field-0-test in
+    let safe = sym c.in-Ok-None.ensures.none in
     let same : string_bytes c.in-Ok.formatted ≡ text = search rules in
-    subst (λ t. IsRewriting c.args.edition text t) same
-    (rewriting c.args.edition text (string_bytes c.in-Ok.formatted) _ c.utf8.text c.requires c.in-Ok.ensures safe law back)
+    subst (λ t. IsRewriting c.args.reading.edition text t) same
+    (rewriting c.args.reading.edition text (string_bytes c.in-Ok.formatted) _ c.utf8.text c.requires c.in-Ok.ensures safe law back)
 
 pub returns-in-Ok-2-clause-is : goal.returns-in-Ok-2-clause-is
 returns-in-Ok-2-clause-is c =
     let text = c.args.text.now in
     let law = subst (λ t. FormatsAgain t) c.as_bytes.ensures.value c.formats_again.ensures in
     let back = c.reads_back.ensures.back Two in
-    let safe = sym c.in-Ok-true.ensures ∙ c.in-Ok-true.field-0-test in
-    rewriting c.args.edition text (string_bytes c.in-Ok.formatted) _ c.utf8.text c.requires c.in-Ok.ensures safe law back
+    let safe = sym c.in-Ok-None.ensures.none in
+    rewriting c.args.reading.edition text (string_bytes c.in-Ok.formatted) _ c.utf8.text c.requires c.in-Ok.ensures safe law back

@@ -1,0 +1,111 @@
+//! The entry by which a text would not read back once it is formatted.
+
+use crate::fault::Fault;
+use crate::reading::Reading;
+use crate::safe::first_unsafe;
+use fluent_syntax::ast::Entry;
+use fluent_syntax::laws::{Rule, Uncanonical};
+use fluent_syntax::parser::{ParseFault, parse_within};
+use fluent_syntax::spans::{Comments, Entries, Halt, Lines, Options, Span};
+use ftl_excerpts::push_shown_text;
+use std::alloc::{AllocError, Global};
+use std::fmt::Write;
+
+/// An entry of a text by which its normal form would not read back.
+#[derive(Clone, Copy, Debug, Drop, PartialEq, Eq)]
+pub struct UnsafeEntry {
+    /// The line of its name, or of its text where it is a comment, from 1.
+    pub line: usize,
+    /// The column of that in bytes, from 1.
+    pub column: usize,
+    /// The rule of trees that read back which it breaks.
+    pub rule: Rule,
+}
+
+/// The first entry of the text by which its normal form would not read back; `None` where it would, or where the text
+/// has errors.
+///
+/// `Memory`: a growth was refused, or the text is as long as the greatest `usize`. `TooDeep`: it nests deeper than it
+/// may.
+pub fn unsafe_in(alloc: Global, text: &str, reading: Reading) -> Result<Option<UnsafeEntry>, Fault> {
+    if text.len() == usize::MAX {
+        return Err(Fault::Memory);
+    }
+    let tree = match parse_within(alloc, text, reading.edition, reading.nesting) {
+        Ok(Ok(tree)) => tree,
+        Ok(Err(ParseFault::Syntax(_, _))) => return Ok(None),
+        Ok(Err(ParseFault::Memory)) => return Err(Fault::Memory),
+        Err(_) => return Err(Fault::TooDeep),
+    };
+    match first_unsafe(alloc, &tree, reading.edition) {
+        Ok(None) => Ok(None),
+        Ok(Some(broken)) => match unsafe_entry(alloc, text, reading, broken) {
+            Ok(entry) => Ok(Some(entry)),
+            Err(AllocError) => Err(Fault::Memory),
+        },
+        Err(AllocError) => Err(Fault::Memory),
+    }
+}
+
+/// `PATH:LINE:COLUMN: NOTE: RULE`, on a line.
+pub fn unsafe_line(
+    alloc: Global,
+    path: &str,
+    entry: UnsafeEntry,
+    note: &str,
+) -> Result<String, AllocError> {
+    let UnsafeEntry { line, column, rule } = entry;
+    let mut out = String::new(alloc);
+    push_shown_text(&mut out, path)?;
+    writeln!(out, ":{line}:{column}: {note}: {rule}")?;
+    Ok(out)
+}
+
+/// The entry of that number, with its place in the text, which has no errors.
+pub(crate) fn unsafe_entry(
+    alloc: Global,
+    text: &str,
+    reading: Reading,
+    broken: Uncanonical,
+) -> Result<UnsafeEntry, AllocError> {
+    let place = entry_place(alloc, text, reading, broken.entry)?;
+    let (line, column) = Lines::new(text).line_column(place.min(text.len()));
+    let rule = broken.rule;
+    Ok(UnsafeEntry { line, column, rule })
+}
+
+/// Where the entry of that number, from 0, has its name, or its text where it is a comment.
+fn entry_place(
+    alloc: Global,
+    text: &str,
+    reading: Reading,
+    number: usize,
+) -> Result<usize, AllocError> {
+    let options = Options {
+        edition: reading.edition,
+        comments: Comments::Kept,
+        nesting: reading.nesting,
+    };
+    let mut entries = Entries::new(text, options);
+    let mut place = 0;
+    for _ in 0..=number {
+        match entries.next_entry(alloc) {
+            Ok(Some((entry, _))) => place = named_at(&entry),
+            Ok(None) | Err(Halt::TooDeep) => break,
+            Err(Halt::Memory) => return Err(AllocError),
+        }
+    }
+    Ok(place)
+}
+
+/// Where the entry has its name, or its text where it has none.
+fn named_at(entry: &Entry<Span>) -> usize {
+    match entry {
+        Entry::Message(message) => message.id.name.start,
+        Entry::Term(term) => term.id.name.start,
+        Entry::Comment(comment)
+        | Entry::GroupComment(comment)
+        | Entry::ResourceComment(comment) => comment.content.first().map_or(0, |line| line.start),
+        Entry::Junk { content } => content.start,
+    }
+}
