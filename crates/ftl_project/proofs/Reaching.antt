@@ -41,6 +41,6 @@ module _ (edition : Edition) where
   AllReach-rewrites path old new (Ok rewriting.Rewritten) done = one_path old new path (goes stays done.0) done.1
   AllReach-rewrites path old new (Ok rewriting.Same) stand = AllReach-stand old new stand
   AllReach-rewrites path old new (Ok (rewriting.Errors refused)) stand = AllReach-stand old new stand
-  AllReach-rewrites path old new (Ok rewriting.Unsafe) stand = AllReach-stand old new stand
+  AllReach-rewrites path old new (Ok (rewriting.Unsafe entry)) stand = AllReach-stand old new stand
   AllReach-rewrites path old new (Err fault) done = one_path old new path
       (⊎_elim (same (old path) (new path)) (λ becomes. goes stays becomes) done.0) done.1
