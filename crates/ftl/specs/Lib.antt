@@ -6,3 +6,4 @@ pub mod Run
 pub mod Formatted
 pub mod Formatting
 pub mod FromJson
+pub mod Safe

@@ -7,6 +7,7 @@ mod from_json;
 pub mod laws;
 mod outcome;
 mod runs;
+mod safe;
 mod watched;
 
 pub use answers::{answer, answer_within};
@@ -14,4 +15,5 @@ pub use command::{Command, usage};
 pub use from_json::{JsonFault, text_of_json, tree_of_json};
 pub use outcome::{Outcome, RunFault};
 pub use runs::{run, run_within};
+pub use safe::first_unsafe;
 pub use watched::Watched;

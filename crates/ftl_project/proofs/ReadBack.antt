@@ -11,7 +11,8 @@ use Rattle.ftl.specs.Answer.{IsAnswer, outcome_with}
 use Rattle.ftl.specs.Formatted.{FormatsAgain}
 use Rattle.ftl.specs.declared.command.Command.TheVariants.{Format, FormatTwo}
 use Rattle.ftl.specs.declared.outcome.Outcome.TheVariants.{Clean}
-use Rattle.ftl_project.specs.Safe.{IsRewriting, Settles, is_safe}
+use Rattle.ftl.specs.Safe.{is_safe}
+use Rattle.ftl_project.specs.Safe.{IsRewriting, Settles}
 
 -- a text that reads as the tree, and is its text, stays so
 settled : (text : Text) (tree : BodyTree Text) → ReadsAs Two text tree → text ≡ written false tree →

@@ -6,12 +6,12 @@ ghost use Rattle.ftl_project.specs.Rewriting.{ErrorsIn, IsReplacement};
 
 use crate::fault::Fault;
 use crate::reading::Reading;
-use crate::safe::first_unsafe;
 use crate::unsafe_entry::{UnsafeEntry, unsafe_entry};
 use fluent_syntax::ast::Resource;
 use fluent_syntax::laws::{Uncanonical, reads_back};
 use fluent_syntax::parser::{ParseFault, ParserError, parse_within};
 use fluent_syntax::serializer::serialize;
+use ftl::first_unsafe;
 use ftl::laws::formats_again;
 use std::alloc::{AllocError, Global};
 

@@ -2,11 +2,11 @@
 
 use crate::fault::Fault;
 use crate::reading::Reading;
-use crate::safe::first_unsafe;
 use fluent_syntax::ast::Entry;
 use fluent_syntax::laws::{Rule, Uncanonical};
 use fluent_syntax::parser::{ParseFault, parse_within};
 use fluent_syntax::spans::{Comments, Entries, Halt, Lines, Options, Span};
+use ftl::first_unsafe;
 use ftl_excerpts::push_shown_text;
 use std::alloc::{AllocError, Global};
 use std::fmt::Write;

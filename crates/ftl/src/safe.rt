@@ -2,7 +2,7 @@
 ghost use Rattle.std.specs.Prelude.{◌≡◌, IfOk, IfSome, is_none};
 ghost use Rattle.fluent_syntax_rules.specs.Uncanonical.{IsFirstBroken};
 ghost use Rattle.fluent_syntax_tree.specs.View.{resource_view};
-ghost use Rattle.ftl_project.specs.Safe.{is_safe, reread_tree};
+ghost use Rattle.ftl.specs.Safe.{is_safe, reread_tree};
 
 use fluent_syntax::ast::Resource;
 use fluent_syntax::laws::{Uncanonical, first_uncanonical, joined};
