@@ -18,7 +18,7 @@ type Row = (
     u8,
 );
 
-const UNSAFE: &str = "/d/a.ftl: left as it is, since its normal form would not read back\n";
+const UNSAFE: &str = "/d/a.ftl:1:1: left as it is: the first text of a pattern is blank\n";
 
 const ROWS: [Row; 7] = [
     ("a message", Edition::One, "key=a\n", "key = a\n", "", 0),
