@@ -1,0 +1,136 @@
+//! The command line, as `clap` reads it.
+
+use clap::{Arg, ArgAction, Command, value_parser};
+use std::alloc::{AllocError, Global};
+
+static EDITIONS: [&str; 2] = ["1", "2"];
+
+static FORMS: [&str; 4] = ["lines", "full", "json", "github"];
+
+/// A nesting that a stack of 8 MB bears with room to spare, as a word.
+const NESTING: &str = "2000";
+
+/// What standard input is called.
+const STDIN_NAME: &str = "<stdin>";
+
+/// The command line that `ftl` takes.
+pub fn command_line<'a>(alloc: Global) -> Result<Command<'a>, AllocError> {
+    Command::new(alloc, "ftl")
+        .subcommand_required(true)
+        .disable_help_subcommand(true)
+        .subcommand(check(alloc, "check")?.arg(edition(alloc))?)?
+        .subcommand(format(alloc, "format")?.arg(edition(alloc))?)?
+        .subcommand(check(alloc, "check-two")?.hide(true))?
+        .subcommand(format(alloc, "format-two")?.hide(true))?
+        .subcommand(word(
+            alloc,
+            "runtime",
+            "Writes each file in its normal form without comments",
+            "ftl runtime menu.ftl > small.ftl",
+        )?)?
+        .subcommand(word(
+            alloc,
+            "json",
+            "Writes the tree of each file as JSON, on one line",
+            "ftl json menu.ftl > menu.json",
+        )?)?
+        .subcommand(from_json(alloc)?)?
+        .subcommand(Command::new(alloc, "lsp").about("A language server, for editors"))
+}
+
+fn check<'a>(alloc: Global, name: &'a str) -> Result<Command<'a>, AllocError> {
+    let output = Arg::new(alloc, "output")
+        .long("output")
+        .value_name("FORM")
+        .help("How an error is told: full where there are paths, else as a line of numbers")
+        .action(ArgAction::Set)
+        .value_parser(FORMS.as_slice());
+    let stdin_name = Arg::new(alloc, "stdin-name")
+        .long("stdin-name")
+        .value_name("NAME")
+        .help("What standard input is called")
+        .action(ArgAction::Set)
+        .default_value(STDIN_NAME);
+    word(
+        alloc,
+        name,
+        "Tells the syntax errors",
+        "ftl check .                    every .ftl file below this folder
+  ftl check --output github po   for a run on GitHub
+  ftl check < menu.ftl           a line of numbers for each error",
+    )?
+    .arg(output)?
+    .arg(stdin_name)
+}
+
+fn format<'a>(alloc: Global, name: &'a str) -> Result<Command<'a>, AllocError> {
+    let write = Arg::new(alloc, "write")
+        .short('w')
+        .long("write")
+        .help("Puts the normal form in the place of each file without errors that reads back")
+        .action(ArgAction::SetTrue)
+        .conflicts_with("check")?;
+    let check = Arg::new(alloc, "check")
+        .long("check")
+        .help("Names the files that --write would change, with status 1")
+        .action(ArgAction::SetTrue);
+    word(
+        alloc,
+        name,
+        "Writes each file in its normal form",
+        "ftl format --write .       every .ftl file below this folder
+  ftl format --check .       names the files that this would change
+  ftl format < menu.ftl      the normal form; entries with errors are left out",
+    )?
+    .arg(write)?
+    .arg(check)
+}
+
+fn from_json<'a>(alloc: Global) -> Result<Command<'a>, AllocError> {
+    Command::new(alloc, "from-json")
+        .about("Reads a tree as JSON, as `json` writes it, and writes its text")
+        .after_help("Examples:\n  ftl from-json menu.json > menu.ftl")
+        .arg(paths(alloc, "Files of JSON, or `-`; none for standard input"))
+}
+
+/// A word that reads Fluent files.
+fn word<'a>(
+    alloc: Global,
+    name: &'a str,
+    about: &'a str,
+    examples: &'a str,
+) -> Result<Command<'a>, AllocError> {
+    let nesting = Arg::new(alloc, "nesting")
+        .long("nesting")
+        .value_name("N")
+        .help("How many placeables and argument lists may be open at once; a deeper text has status 6")
+        .action(ArgAction::Set)
+        .value_parser(value_parser!(u32))
+        .default_value(NESTING);
+    Command::new(alloc, name)
+        .about(about)
+        .after_help(examples)
+        .arg(nesting)?
+        .arg(paths(
+            alloc,
+            "Files, folders for every .ftl file below, or `-`; none for standard input",
+        ))
+}
+
+fn edition<'a>(alloc: Global) -> Arg<'a> {
+    Arg::new(alloc, "edition")
+        .long("edition")
+        .value_name("EDITION")
+        .help("The edition of the grammar")
+        .action(ArgAction::Set)
+        .value_parser(EDITIONS.as_slice())
+        .default_value("1")
+}
+
+fn paths<'a>(alloc: Global, help: &'a str) -> Arg<'a> {
+    Arg::new(alloc, "paths")
+        .value_name("PATH")
+        .help(help)
+        .action(ArgAction::Append)
+        .num_args(0..)
+}

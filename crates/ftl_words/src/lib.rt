@@ -1,0 +1,12 @@
+//! What the words of a command line ask of `ftl`.
+#![tactic(auto)]
+
+mod clap_words;
+mod mistakes;
+mod request;
+mod requested;
+
+pub use clap_words::command_line;
+pub use mistakes::{mistake, status_of};
+pub use request::{Change, Request, Task, Work};
+pub use requested::request_of;
