@@ -1,7 +1,7 @@
 //! What `ftl help` and `ftl --version` print.
 
 /// The words and statuses. The file `help.txt` of this crate has the same text, for where the program isn't built.
-pub(crate) const HELP: &str = "\
+const HELP: &str = "\
     ftl 0.12.0\n\
     Reads a Fluent file (.ftl) from standard input and writes to standard output.\n\
     \n\
@@ -22,4 +22,16 @@ pub(crate) const HELP: &str = "\
     written. On 2 to 5 a line on standard error says which.\n";
 
 /// The version, which is that of the Rust crate whose grammar it reads.
-pub(crate) const VERSION: &str = "ftl 0.12.0\n";
+const VERSION: &str = "ftl 0.12.0\n";
+
+/// The page that the words ask for, the program's own name first.
+pub(crate) fn page_of(words: &[String]) -> Option<&'static str> {
+    match words {
+        [_, word] => match word.as_str() {
+            "help" | "--help" | "-h" => Some(HELP),
+            "--version" => Some(VERSION),
+            _ => None,
+        },
+        _ => None,
+    }
+}

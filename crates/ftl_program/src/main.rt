@@ -1,74 +1,52 @@
-//! `ftl`: checks, formats and converts Fluent Translation Lists, from standard input to standard output; with the word
+//! `ftl`: checks, formats and converts Fluent Translation Lists, files and folders or standard input; with the word
 //! `lsp` a language server for them.
 #![tactic(auto)]
 
+mod editor;
 mod help;
+mod paths;
+mod standard;
+mod telling;
 mod words;
 
-use crate::help::{HELP, VERSION};
-use crate::words::{Request, request_of_words};
-use fluent_syntax_lsp as server;
-use ftl::{Command, RunFault, Watched, run, usage};
-use std::io;
-use std::io::IsTerminal;
+use crate::editor::serve_editor;
+use crate::help::page_of;
+use crate::paths::answer_paths;
+use crate::standard::answer_input;
+use crate::telling::{print_page, refuse_words, refuse_writing};
+use crate::words::all_words;
+use ftl_project::Form;
+use ftl_words::{Change, Request, Task, Work, request_of};
 use std::process::ExitCode;
 
-/// The status for wrong arguments.
-const WRONG_ARGUMENTS: u8 = 2;
-
 fn main(rt: HostRuntime) -> ExitCode {
-    ExitCode::from(match request_of_words(&rt) {
-        Ok(Request::Answer(command)) => {
-            tell_of_terminal(&rt, rt.reader().is_terminal());
-            answer_input(&rt, command)
-        }
-        Ok(Request::Serve) => serve_editor(&rt),
-        Ok(Request::Help) => print_page(&rt, HELP),
-        Ok(Request::Version) => print_page(&rt, VERSION),
-        Ok(Request::Unknown) => refuse(&rt, usage(), WRONG_ARGUMENTS),
-        Err(fault) => refuse(&rt, fault.line(), fault.status()),
+    ExitCode::from(match all_words(&rt) {
+        Ok(words) => answer_words(&rt, words.as_slice()),
+        Err(status) => status,
     })
 }
 
-/// Says that it waits for input, where a person has to type it.
-fn tell_of_terminal<R: Eprint>(rt: &R, is_terminal: bool) {
-    if is_terminal {
-        let _ = rt.eprintln("ftl: reading standard input; end it with Ctrl-D");
+/// Does what the words ask, the program's own name first; the exit status.
+fn answer_words(rt: &HostRuntime, words: &[String]) -> u8 {
+    if let Some(page) = page_of(words) {
+        return print_page(rt, page);
+    }
+    match request_of(rt.alloc(), words) {
+        Ok(Request::Serve) => serve_editor(rt),
+        Ok(Request::Answer(work)) => answer(rt, &work),
+        Err(error) => refuse_words(rt, &error),
     }
 }
 
-/// Answers standard input on standard output, and gives the exit status.
-fn answer_input<R: Input + Print + Eprint + AllocGlobal>(rt: &R, command: Command) -> u8 {
-    let mut reader = Watched::new(rt.reader());
-    let mut writer = Watched::new(io::writer(rt));
-    match run(rt.alloc(), command, &mut reader, &mut writer) {
-        Ok(outcome) => outcome.status(),
-        Err(fault) => refuse(rt, fault.line(), fault.status()),
+/// Answers standard input, or the paths that are named.
+fn answer(rt: &HostRuntime, work: &Work<'_>) -> u8 {
+    let on_input = work.paths.is_empty();
+    match work.task {
+        Task::Format(Change::Write | Change::Name) if on_input => refuse_writing(rt),
+        Task::Format(Change::Write) if work.paths.contains(&"-") => refuse_writing(rt),
+        Task::Check(None | Some(Form::Lines)) | Task::Format(_) | Task::Runtime | Task::Json
+            if on_input =>
+            { answer_input(rt, work) }
+        _ => answer_paths(rt, work),
     }
-}
-
-/// Serves an editor over standard input and output, and gives the exit status.
-fn serve_editor<R: Input + Print + Eprint + AllocGlobal>(rt: &R) -> u8 {
-    let mut reader = Watched::new(rt.reader());
-    let mut writer = io::writer(rt);
-    let ending = server::serve(rt.alloc(), &mut reader, &mut writer);
-    if ending.line().is_empty() {
-        ending.status()
-    } else {
-        refuse(rt, ending.line(), ending.status())
-    }
-}
-
-/// Writes the page to standard output, and gives the exit status.
-fn print_page<R: Print + Eprint>(rt: &R, page: &str) -> u8 {
-    match rt.print(page) {
-        Ok(_) => 0,
-        Err(_) => refuse(rt, RunFault::Output.line(), RunFault::Output.status()),
-    }
-}
-
-/// Writes the line to standard error, and gives the exit status back.
-fn refuse<R: Eprint>(rt: &R, line: &str, status: u8) -> u8 {
-    let _ = rt.eprintln(line);
-    status
 }

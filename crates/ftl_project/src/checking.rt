@@ -7,7 +7,7 @@ use crate::reading::Reading;
 use crate::refused::Refused;
 use crate::reporting::report;
 use crate::rewriting::read_text;
-use crate::streams::{Streams, put, tell};
+use crate::streams::{Streams, put, put_note, tell};
 use crate::tally::Tally;
 use fluent_syntax::parser::recovered;
 use fluent_syntax::spans::parse_spans_within;
@@ -33,9 +33,12 @@ pub fn check_files<S: Store, O: Write, E: Write>(
     for file in files {
         let path = file.as_str();
         match check_file(alloc, store, path, reading, form) {
-            Ok((told, errors)) => {
-                tally.count(errors, errors != 0);
-                put(streams.out, told.as_str())?;
+            Ok(checked) => {
+                tally.count(checked.errors, checked.errors != 0);
+                put(streams.out, checked.told.as_str())?;
+                if checked.has_mark {
+                    put_note(alloc, streams.err, path, MARKED)?;
+                }
             }
             Err(fault) => tell(alloc, tally, path, &fault, streams)?,
         }
@@ -43,20 +46,35 @@ pub fn check_files<S: Store, O: Write, E: Write>(
     Ok(())
 }
 
-/// The report on a file, and how many errors it tells.
+const MARKED: &str = "begins with a byte order mark, so its first entry is junk";
+
+/// What was found in a file.
+#[derive(Drop)]
+struct Checked {
+    told: String,
+    errors: usize,
+    /// Whether it begins with a byte order mark.
+    has_mark: bool,
+}
+
+/// The report on a file.
 fn check_file<S: Store>(
     alloc: Global,
     store: &mut S,
     path: &str,
     reading: Reading,
     form: Form,
-) -> Result<(String, usize), Fault>
+) -> Result<Checked, Fault>
     ensures { AllStand (S.bytes_at store.old) (S.bytes_at store.new) }
 {
     let text = read_text(store, path)?;
     let refused = errors_of(alloc, text, reading)?;
     match report(alloc, path, &refused, form) {
-        Ok(told) => Ok((told, refused.errors.len())),
+        Ok(told) => Ok(Checked {
+            told,
+            errors: refused.errors.len(),
+            has_mark: refused.text.as_str().starts_with('\u{feff}'),
+        }),
         Err(AllocError) => Err(Fault::Memory),
     }
 }

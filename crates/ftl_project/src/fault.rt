@@ -1,6 +1,7 @@
 //! Why a file was not answered.
 ghost use Rattle.std.specs.Prelude.{◌≤◌};
 
+use ftl::JsonFault;
 use std::io::ErrorKind;
 use std::{fmt, io};
 
@@ -17,11 +18,13 @@ pub enum Fault {
     Write(io::Error),
     /// It nests deeper than it may.
     TooDeep,
+    /// It is not the JSON of a tree.
+    Json(JsonFault),
 }
 
 impl Fault {
     /// The exit status: 3 where it was not read, 4 where memory was wanted, 5 where it was not written, and 6 where it
-    /// nests too deep.
+    /// nests too deep; of JSON that of its fault.
     pub fn status(&self) -> u8
         ensures least { 3 ≤ result }
         ensures greatest { result ≤ 6 }
@@ -32,6 +35,7 @@ impl Fault {
             Fault::Read(_) | Fault::NotText(_) => 3,
             Fault::Write(_) => 5,
             Fault::TooDeep => 6,
+            Fault::Json(fault) => fault.status(),
         }
     }
 }
@@ -44,6 +48,7 @@ impl fmt::Display for Fault {
             Fault::Memory => f.write_str("no memory"),
             Fault::Write(error) => write!(f, "can't be written: {error}"),
             Fault::TooDeep => f.write_str("nests deeper than it may"),
+            Fault::Json(fault) => write!(f, "{fault}"),
         }
     }
 }

@@ -2,6 +2,7 @@
 #![tactic(auto)]
 
 mod checking;
+mod converting;
 mod fault;
 mod form;
 mod formatting;
@@ -18,6 +19,7 @@ mod tally;
 mod unsafe_entry;
 
 pub use checking::check_files;
+pub use converting::convert_files;
 pub use fault::Fault;
 pub use form::Form;
 pub use formatting::{name_files, write_files};
@@ -27,6 +29,6 @@ pub use refused::Refused;
 pub use replacement::{Replacement, replacement_for};
 pub use reporting::report;
 pub use rewriting::{Rewriting, rewrite};
-pub use streams::Streams;
-pub use tally::Tally;
+pub use streams::{Streams, tell};
+pub use tally::{Tally, summary};
 pub use unsafe_entry::{UnsafeEntry, unsafe_in, unsafe_line};

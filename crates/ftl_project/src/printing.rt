@@ -3,12 +3,11 @@ ghost use Rattle.ftl_files.specs.Store.{AllStand};
 
 use crate::fault::Fault;
 use crate::rewriting::read_text;
-use crate::streams::{Streams, put, tell};
+use crate::streams::{Streams, put, put_note, tell};
 use crate::tally::Tally;
 use ftl::{Command, Outcome, RunFault, answer_within};
-use ftl_excerpts::push_shown_text;
 use ftl_files::Store;
-use std::alloc::{AllocError, Global};
+use std::alloc::Global;
 use std::io::Write;
 
 /// Writes the command's text of each file, in the order of the files. A file that was not answered is told, and the
@@ -68,16 +67,6 @@ fn tell_outcome<O: Write, E: Write>(
     tally.count(0, outcome == Outcome::SyntaxErrors);
     match outcome {
         Outcome::Clean => Ok(()),
-        Outcome::SyntaxErrors => match errors_line(alloc, path) {
-            Ok(line) => put(streams.err, line.as_str()),
-            Err(AllocError) => Err(RunFault::Memory),
-        },
+        Outcome::SyntaxErrors => put_note(alloc, streams.err, path, "has syntax errors"),
     }
-}
-
-fn errors_line(alloc: Global, path: &str) -> Result<String, AllocError> {
-    let mut line = String::from_str(alloc, "ftl: ")?;
-    push_shown_text(&mut line, path)?;
-    line.push_str(": has syntax errors\n")?;
-    Ok(line)
 }

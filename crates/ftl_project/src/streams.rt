@@ -18,7 +18,9 @@ pub struct Streams<'w, O, E> {
 }
 
 /// Tells why a file was not answered, and counts it.
-pub(crate) fn tell<O: Write, E: Write>(
+///
+/// `Err` where the run stops: `Memory`, or `Output`.
+pub fn tell<O: Write, E: Write>(
     alloc: Global,
     tally: &mut Tally,
     path: &str,
@@ -37,6 +39,26 @@ fn fault_line(alloc: Global, path: &str, fault: &Fault) -> Result<String, AllocE
     let mut line = String::from_str(alloc, "ftl: ")?;
     push_shown_text(&mut line, path)?;
     writeln!(line, ": {fault}")?;
+    Ok(line)
+}
+
+/// Writes `ftl: PATH: NOTE`, on a line.
+pub(crate) fn put_note<W: Write>(
+    alloc: Global,
+    writer: &mut W,
+    path: &str,
+    note: &str,
+) -> Result<(), RunFault> {
+    match note_line(alloc, path, note) {
+        Ok(line) => put(writer, line.as_str()),
+        Err(AllocError) => Err(RunFault::Memory),
+    }
+}
+
+fn note_line(alloc: Global, path: &str, note: &str) -> Result<String, AllocError> {
+    let mut line = String::from_str(alloc, "ftl: ")?;
+    push_shown_text(&mut line, path)?;
+    writeln!(line, ": {note}")?;
     Ok(line)
 }
 

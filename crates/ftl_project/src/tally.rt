@@ -2,6 +2,9 @@
 ghost use Rattle.std.specs.Prelude.{◌≡◌, ◌+◌, ◌-◌, ◌^◌, max, min, if◌then◌else◌};
 ghost use Rattle.ftl_project.specs.Tally.{status_of};
 
+use std::alloc::{AllocError, Global};
+use std::fmt::Write;
+
 /// What a run met.
 #[derive(Clone, Copy, Debug, PartialEq, Eq)]
 pub struct Tally {
@@ -60,4 +63,25 @@ impl Tally {
     {
         self.fault = self.fault.max(status);
     }
+}
+
+/// What a run met, as a line with its LF: `3 errors in 2 of 57 files`, or without errors `57 files`.
+///
+/// `AllocError`: a growth was refused.
+pub fn summary(alloc: Global, tally: &Tally) -> Result<String, AllocError> {
+    let Tally {
+        files,
+        concerned,
+        errors,
+        ..
+    } = *tally;
+    let counted = if files == 1 { "file" } else { "files" };
+    let mut line = String::new(alloc);
+    match errors {
+        0 => (),
+        1 => write!(line, "1 error in {concerned} of ")?,
+        _ => write!(line, "{errors} errors in {concerned} of ")?,
+    }
+    writeln!(line, "{files} {counted}")?;
+    Ok(line)
 }

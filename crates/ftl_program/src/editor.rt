@@ -1,0 +1,18 @@
+//! The language server.
+
+use crate::telling::refuse;
+use fluent_syntax_lsp as server;
+use ftl::Watched;
+use std::io;
+
+/// Serves an editor over standard input and output, and gives the exit status.
+pub(crate) fn serve_editor<R: Input + Print + Eprint + AllocGlobal>(rt: &R) -> u8 {
+    let mut reader = Watched::new(rt.reader());
+    let mut writer = io::writer(rt);
+    let ending = server::serve(rt.alloc(), &mut reader, &mut writer);
+    if ending.line().is_empty() {
+        ending.status()
+    } else {
+        refuse(rt, ending.line(), ending.status())
+    }
+}

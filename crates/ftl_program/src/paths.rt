@@ -1,0 +1,138 @@
+//! Files and folders, answered each by its name.
+
+use crate::standard::{all_input, tell_of_terminal};
+use crate::telling::refuse_run;
+use ftl::RunFault;
+use ftl_files::{Disk, Memory, Store, list};
+use ftl_project::{
+    Fault, Form, Streams, Tally, check_files, convert_files, name_files, print_files, summary, tell,
+    write_files,
+};
+use ftl_words::{Change, Task, Work};
+use std::alloc::AllocError;
+use std::io;
+
+/// Answers the paths in their order, or standard input where there is none; the exit status.
+pub(crate) fn answer_paths(rt: &HostRuntime, work: &Work<'_>) -> u8 {
+    let mut tally = Tally::new();
+    match answer_all(rt, work, &mut tally) {
+        Ok(()) => (),
+        Err(fault) => return refuse_run(rt, fault),
+    }
+    if !work.paths.is_empty() && matches!(work.task, Task::Check(_) | Task::Format(_)) {
+        match summary(rt.alloc(), &tally) {
+            Ok(line) => {
+                let _ = rt.eprint(line.as_str());
+            }
+            Err(AllocError) => return refuse_run(rt, RunFault::Memory),
+        }
+    }
+    tally.status()
+}
+
+fn answer_all(rt: &HostRuntime, work: &Work<'_>, tally: &mut Tally) -> Result<(), RunFault> {
+    if work.paths.is_empty() {
+        return answer_named_input(rt, work, tally);
+    }
+    for path in &work.paths {
+        if *path == "-" {
+            answer_named_input(rt, work, tally)?;
+        } else {
+            answer_path(rt, work, *path, tally)?;
+        }
+    }
+    Ok(())
+}
+
+/// Answers standard input as a file of its name.
+fn answer_named_input(
+    rt: &HostRuntime,
+    work: &Work<'_>,
+    tally: &mut Tally,
+) -> Result<(), RunFault> {
+    tell_of_terminal(rt);
+    let input = all_input(rt)?;
+    let mut memory = Memory::new(rt.alloc());
+    let mut files = Vec::new(rt.alloc());
+    match put_named(rt, &mut memory, &mut files, work.stdin_name, input.as_slice()) {
+        Ok(()) => answer_files(rt, &mut memory, files.as_slice(), work, tally),
+        Err(AllocError) => Err(RunFault::Memory),
+    }
+}
+
+fn put_named<R: AllocGlobal>(
+    rt: &R,
+    memory: &mut Memory,
+    files: &mut Vec<String>,
+    name: &str,
+    bytes: &[u8],
+) -> Result<(), AllocError> {
+    memory.put(name, bytes)?;
+    files.push(String::from_str(rt.alloc(), name)?)?;
+    Ok(())
+}
+
+/// Answers a file, or the files of a folder. What can't be listed is told, and the others are answered.
+fn answer_path(
+    rt: &HostRuntime,
+    work: &Work<'_>,
+    path: &str,
+    tally: &mut Tally,
+) -> Result<(), RunFault> {
+    let listing = match list(rt, path) {
+        Ok(listing) => listing,
+        Err(AllocError) => return Err(RunFault::Memory),
+    };
+    for (path, error) in listing.faults {
+        let mut streams = Streams {
+            out: &mut io::writer(rt),
+            err: &mut rt.stderr(),
+        };
+        tell(
+            rt.alloc(),
+            tally,
+            path.as_str(),
+            &Fault::Read(error),
+            &mut streams,
+        )?;
+    }
+    answer_files(
+        rt,
+        &mut Disk::new(rt),
+        listing.files.as_slice(),
+        work,
+        tally,
+    )
+}
+
+fn answer_files<S: Store>(
+    rt: &HostRuntime,
+    store: &mut S,
+    files: &[String],
+    work: &Work<'_>,
+    tally: &mut Tally,
+) -> Result<(), RunFault> {
+    let alloc = rt.alloc();
+    let reading = work.reading;
+    let mut streams = Streams {
+        out: &mut io::writer(rt),
+        err: &mut rt.stderr(),
+    };
+    match (work.task, work.task.command(reading.edition)) {
+        (Task::Check(form), _) => {
+            let form = form.unwrap_or(Form::Full);
+            check_files(alloc, store, files, reading, form, tally, &mut streams)
+        }
+        (Task::Format(Change::Write), _) => {
+            write_files(alloc, store, files, reading, tally, &mut streams)
+        }
+        (Task::Format(Change::Name), _) => {
+            name_files(alloc, store, files, reading, tally, &mut streams)
+        }
+        (_, Some(command)) => {
+            let nesting = reading.nesting;
+            print_files(alloc, store, files, command, nesting, tally, &mut streams)
+        }
+        (_, None) => convert_files(alloc, store, files, tally, &mut streams),
+    }
+}

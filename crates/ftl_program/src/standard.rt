@@ -1,0 +1,101 @@
+//! Standard input, answered on standard output.
+
+use crate::telling::{refuse, refuse_run};
+use fluent_syntax::parser::TooDeep;
+use ftl::{Command, RunFault, Watched, run_within};
+use ftl_project::{unsafe_in, unsafe_line};
+use ftl_words::{Task, Work};
+use std::io;
+use std::io::{ErrorKind, IsTerminal, Read};
+
+/// The status for a text that nests too deep.
+const TOO_DEEP: u8 = 6;
+
+/// Answers standard input on standard output, and gives the exit status.
+pub(crate) fn answer_input<R: Input + Print + Eprint + AllocGlobal>(
+    rt: &R,
+    work: &Work<'_>,
+) -> u8 {
+    tell_of_terminal(rt);
+    let Some(command) = work.task.command(work.reading.edition) else {
+        return refuse_run(rt, RunFault::Input);
+    };
+    match work.task {
+        Task::Format(_) => format_input(rt, command, work),
+        _ => answer_reader(rt, command, work, rt.reader()),
+    }
+}
+
+/// Says that it waits for input, where a person has to type it.
+pub(crate) fn tell_of_terminal<R: Input + Eprint>(rt: &R) {
+    if rt.reader().is_terminal() {
+        let _ = rt.eprintln("ftl: reading standard input; end it with Ctrl-D");
+    }
+}
+
+/// Answers what the reader gives.
+fn answer_reader<R: Print + Eprint + AllocGlobal, I: Read>(
+    rt: &R,
+    command: Command,
+    work: &Work<'_>,
+    input: I,
+) -> u8 {
+    let mut reader = Watched::new(input);
+    let mut writer = Watched::new(io::writer(rt));
+    let ended = run_within(
+        rt.alloc(),
+        command,
+        work.reading.nesting,
+        &mut reader,
+        &mut writer,
+    );
+    match ended {
+        Ok(Ok(outcome)) => outcome.status(),
+        Ok(Err(fault)) => refuse_run(rt, fault),
+        Err(TooDeep) => refuse(rt, "ftl: nests deeper than --nesting allows", TOO_DEEP),
+    }
+}
+
+/// Formats standard input, and tells where the text would not read back.
+fn format_input<R: Input + Print + Eprint + AllocGlobal>(
+    rt: &R,
+    command: Command,
+    work: &Work<'_>,
+) -> u8 {
+    let input = match all_input(rt) {
+        Ok(input) => input,
+        Err(fault) => return refuse_run(rt, fault),
+    };
+    let status = answer_reader(rt, command, work, input.as_slice());
+    if status == 0 {
+        warn(rt, input.as_slice(), work);
+    }
+    status
+}
+
+/// All of standard input.
+pub(crate) fn all_input<R: Input + AllocGlobal>(rt: &R) -> Result<Vec<u8>, RunFault> {
+    let mut input = Vec::new(rt.alloc());
+    match rt.reader().read_to_end(&mut input) {
+        Ok(_) => Ok(input),
+        Err(error) if error.kind() == ErrorKind::OutOfMemory => Err(RunFault::Memory),
+        Err(_) => Err(RunFault::Input),
+    }
+}
+
+/// Tells by which entry the text would not read back, if it would not. Of memory it says nothing: the text was written.
+fn warn<R: Eprint + AllocGlobal>(rt: &R, input: &[u8], work: &Work<'_>) {
+    let Ok(text) = str::from_utf8(input) else {
+        return;
+    };
+    if let Ok(Some(entry)) = unsafe_in(rt.alloc(), text, work.reading) {
+        if let Ok(line) = unsafe_line(
+            rt.alloc(),
+            work.stdin_name,
+            entry,
+            "what is written does not read back",
+        ) {
+            let _ = rt.eprint(line.as_str());
+        }
+    }
+}
