@@ -1,5 +1,5 @@
 #!/usr/bin/env bash
-# Runs ftl: ./ftl WORD < FILE, where ./ftl help has the words. ./ftl install FOLDER puts the program into the folder.
+# Runs ftl: ./ftl WORD [PATH..], where ./ftl help has the words. ./ftl install FOLDER puts the program into the folder.
 #
 # The first use proves and builds the program, and says on standard error how far it is; later uses start at once.
 # What runs was built from the sources as they are: an older program is never run.
@@ -11,6 +11,7 @@ case "$self" in */*) top="${self%/*}" ;; *) top=. ;; esac
 made="$top/crates/ftl_program/out"
 page="$top/crates/ftl_program/help.txt"
 usage="usage: ftl check|format|runtime|json|check-two|format-two"
+words="|check|format|runtime|json|check-two|format-two|from-json|lsp|"
 room="" job=""
 
 say() { printf 'ftl: %s\n' "$*" >&2; }
@@ -106,26 +107,31 @@ renew() {
     { echo "${crates[*]}" >"$made/crates" && echo "$listed" >"$made/listing.new" && mv "$made/listing.new" "$made/listing"; } 2>/dev/null || true
 }
 
-if [ "$#" = 2 ] && [ "$1" = install ]; then
-    install_to="$2"
-elif [ "$#" = 1 ]; then
-    case "$1" in
-        help | --help | -h) cat "$page"; exit ;;
-        --version) head -n 1 "$page"; exit ;;
-        lsp) ;;
-        *) [[ "$1" =~ ^[a-z-]+$ && "|${usage##* }|" == *"|$1|"* ]] || { echo "$usage" >&2; exit 2; } ;;
-    esac
-else
+refuse() {
+    [ -z "${1-}" ] || printf "ftl: unrecognized word '%s'\n" "$1" >&2
     echo "$usage" >&2
     exit 2
+}
+
+install_to=""
+if [ "$#" = 2 ] && [ "$1" = install ]; then
+    install_to="$2"
+elif [ "$#" = 1 ] && [[ "|help|--help|-h|--version|" == *"|$1|"* ]]; then
+    if [ "$1" = --version ]; then head -n 1 "$page"; else cat "$page"; fi
+    exit
+else
+    [ "$#" != 0 ] || refuse
+    [[ "$1" =~ ^[a-z-]+$ && "$words" == *"|$1|"* ]] || refuse "$1"
 fi
 is_current || renew
-if [ -n "${install_to-}" ]; then
+if [ -n "$install_to" ]; then
     mkdir -p "$install_to"
     cp "$made/ftl" "$install_to/.ftl-new-$$"
     mv -f "$install_to/.ftl-new-$$" "$install_to/ftl"
     exit
 fi
-# deep nesting needs stack
-ulimit -S -s hard 2>/dev/null || true
-exec "$made/ftl" "$1"
+# with eight times the stack, five times the nesting
+if ulimit -S -s 65536 2>/dev/null && [[ "$1" != lsp && "$1" != from-json && " $* " != *" --nesting"* ]]; then
+    set -- "$1" --nesting 10000 "${@:2}"
+fi
+exec "$made/ftl" "$@"

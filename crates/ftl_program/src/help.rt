@@ -3,23 +3,26 @@
 /// The words and statuses. The file `help.txt` of this crate has the same text, for where the program isn't built.
 const HELP: &str = "\
     ftl 0.12.0\n\
-    Reads a Fluent file (.ftl) from standard input and writes to standard output.\n\
+    Checks, formats and converts Fluent files (.ftl): files, folders (every .ftl file below), or standard input.\n\
     \n\
-    \x20   ftl check < menu.ftl      a line for each syntax error: line:column, place, entry left out, kind of error\n\
-    \x20   ftl format < menu.ftl     the file in its normal form; entries with errors are left out\n\
-    \x20   ftl runtime < menu.ftl    the same without comments\n\
-    \x20   ftl json < menu.ftl       the file's tree as JSON, on one line\n\
-    \x20   ftl check-two             check by edition two of the grammar\n\
-    \x20   ftl format-two            format by edition two of the grammar\n\
-    \x20   ftl lsp                   a language server, for editors\n\
-    \x20   ftl help                  this page (also --help and -h)\n\
-    \x20   ftl --version             the version\n\
+    \x20   ftl check menu.ftl          the syntax errors, with their lines\n\
+    \x20   ftl format menu.ftl         the file in its normal form; entries with errors are left out\n\
+    \x20   ftl format --write .        puts the normal form in the place of each file without errors that reads back\n\
+    \x20   ftl format --check .        names the files that this would change\n\
+    \x20   ftl runtime menu.ftl        the normal form without comments\n\
+    \x20   ftl json menu.ftl           the file's tree as JSON, on one line\n\
+    \x20   ftl from-json menu.json     the text of such a tree\n\
+    \x20   ftl check < menu.ftl        standard input: line:column, place, entry left out, kind of error\n\
+    \x20   ftl check-two, format-two   check and format by edition two of the grammar, as --edition 2 does\n\
+    \x20   ftl lsp                     a language server, for editors\n\
+    \x20   ftl help                    this page (also --help and -h); ftl WORD --help has the options of a word\n\
+    \x20   ftl --version               the version\n\
     \n\
-    Never write onto the file that is read: `ftl format < menu.ftl > menu.ftl` empties it.\n\
+    Never write onto the file that is read: `ftl format menu.ftl > menu.ftl` empties it. That is what --write is for.\n\
     \n\
-    The status is 0 where there is no syntax error, 1 where there are some (the output is written all the same), 2 for\n\
-    wrong words, 3 for input that can't be read or is not UTF-8, 4 where memory runs out, 5 where the output can't be\n\
-    written. On 2 to 5 a line on standard error says which.\n";
+    The status is 0 where there is no syntax error, 1 where there are some or a file is not as it is to be, 2 for wrong\n\
+    words, 3 for input that can't be read or is not UTF-8, 4 where memory runs out, 5 where the output can't be written, 6\n\
+    for a text that nests too deep. On 2 to 6 a line on standard error says which.\n";
 
 /// The version, which is that of the Rust crate whose grammar it reads.
 const VERSION: &str = "ftl 0.12.0\n";

@@ -45,8 +45,7 @@ fn answer(rt: &HostRuntime, work: &Work<'_>) -> u8 {
         Task::Format(Change::Write | Change::Name) if on_input => refuse_writing(rt),
         Task::Format(Change::Write) if work.paths.contains(&"-") => refuse_writing(rt),
         Task::Check(None | Some(Form::Lines)) | Task::Format(_) | Task::Runtime | Task::Json
-            if on_input =>
-            { answer_input(rt, work) }
+            if on_input => { answer_input(rt, work) }
         _ => answer_paths(rt, work),
     }
 }

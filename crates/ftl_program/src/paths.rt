@@ -5,8 +5,8 @@ use crate::telling::refuse_run;
 use ftl::RunFault;
 use ftl_files::{Disk, Memory, Store, list};
 use ftl_project::{
-    Fault, Form, Streams, Tally, check_files, convert_files, name_files, print_files, summary, tell,
-    write_files,
+    Fault, Form, Streams, Tally, check_files, convert_files, name_files, print_files, summary,
+    tell, write_files,
 };
 use ftl_words::{Change, Task, Work};
 use std::alloc::AllocError;
@@ -54,7 +54,13 @@ fn answer_named_input(
     let input = all_input(rt)?;
     let mut memory = Memory::new(rt.alloc());
     let mut files = Vec::new(rt.alloc());
-    match put_named(rt, &mut memory, &mut files, work.stdin_name, input.as_slice()) {
+    match put_named(
+        rt,
+        &mut memory,
+        &mut files,
+        work.stdin_name,
+        input.as_slice(),
+    ) {
         Ok(()) => answer_files(rt, &mut memory, files.as_slice(), work, tally),
         Err(AllocError) => Err(RunFault::Memory),
     }

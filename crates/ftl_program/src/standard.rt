@@ -12,10 +12,7 @@ use std::io::{ErrorKind, IsTerminal, Read};
 const TOO_DEEP: u8 = 6;
 
 /// Answers standard input on standard output, and gives the exit status.
-pub(crate) fn answer_input<R: Input + Print + Eprint + AllocGlobal>(
-    rt: &R,
-    work: &Work<'_>,
-) -> u8 {
+pub(crate) fn answer_input(rt: &HostRuntime, work: &Work<'_>) -> u8 {
     tell_of_terminal(rt);
     let Some(command) = work.task.command(work.reading.edition) else {
         return refuse_run(rt, RunFault::Input);
@@ -27,14 +24,14 @@ pub(crate) fn answer_input<R: Input + Print + Eprint + AllocGlobal>(
 }
 
 /// Says that it waits for input, where a person has to type it.
-pub(crate) fn tell_of_terminal<R: Input + Eprint>(rt: &R) {
+pub(crate) fn tell_of_terminal(rt: &HostRuntime) {
     if rt.reader().is_terminal() {
         let _ = rt.eprintln("ftl: reading standard input; end it with Ctrl-D");
     }
 }
 
 /// Answers what the reader gives.
-fn answer_reader<R: Print + Eprint + AllocGlobal, I: Read>(
+fn answer_reader<R: Print + Eprint + AllocGlobal, I: Read + Drop>(
     rt: &R,
     command: Command,
     work: &Work<'_>,
