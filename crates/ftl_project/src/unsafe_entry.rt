@@ -27,7 +27,11 @@ pub struct UnsafeEntry {
 ///
 /// `Memory`: a growth was refused, or the text is as long as the greatest `usize`. `TooDeep`: it nests deeper than it
 /// may.
-pub fn unsafe_in(alloc: Global, text: &str, reading: Reading) -> Result<Option<UnsafeEntry>, Fault> {
+pub fn unsafe_in(
+    alloc: Global,
+    text: &str,
+    reading: Reading,
+) -> Result<Option<UnsafeEntry>, Fault> {
     if text.len() == usize::MAX {
         return Err(Fault::Memory);
     }
@@ -103,9 +107,8 @@ fn named_at(entry: &Entry<Span>) -> usize {
     match entry {
         Entry::Message(message) => message.id.name.start,
         Entry::Term(term) => term.id.name.start,
-        Entry::Comment(comment)
-        | Entry::GroupComment(comment)
-        | Entry::ResourceComment(comment) => comment.content.first().map_or(0, |line| line.start),
+        Entry::Comment(comment) | Entry::GroupComment(comment) | Entry::ResourceComment(comment) =>
+            comment.content.first().map_or(0, |line| line.start),
         Entry::Junk { content } => content.start,
     }
 }

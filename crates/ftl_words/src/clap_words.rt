@@ -103,7 +103,9 @@ fn word<'a>(
     let nesting = Arg::new(alloc, "nesting")
         .long("nesting")
         .value_name("N")
-        .help("How many placeables and argument lists may be open at once; a deeper text has status 6")
+        .help(
+            "How many placeables and argument lists may be open at once; a deeper text has status 6",
+        )
         .action(ArgAction::Set)
         .value_parser(value_parser!(u32))
         .default_value(NESTING);
