@@ -8,6 +8,8 @@ mod excerpts;
 #[cfg(test)]
 mod files;
 #[cfg(test)]
+mod printing;
+#[cfg(test)]
 mod reports;
 #[cfg(test)]
 mod runs;

@@ -18,7 +18,9 @@ type Row = (
     u8,
 );
 
-const UNSAFE: &str = "/d/a.ftl:1:1: left as it is: the first text of a pattern is blank\n";
+const UNSAFE: &str = "/d/a.ftl:1:1: left as it is: the lines of a pattern that begin with text begin with spaces, \
+    which would be read as its indent
+";
 
 const ROWS: [Row; 7] = [
     ("a message", Edition::One, "key=a\n", "key = a\n", "", 0),

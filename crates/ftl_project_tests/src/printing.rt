@@ -1,0 +1,141 @@
+//! Files that are answered on standard output, and what a run tells at its end.
+
+use crate::files::assert_stands;
+use fluent_syntax::laws::Rule;
+use fluent_syntax::parser::Edition;
+use fluent_syntax_tests::alike::{assert_holds, assert_same, assert_same_text};
+use ftl::Command;
+use ftl_files::Memory;
+use ftl_project::{
+    Reading, Streams, Tally, UnsafeEntry, convert_files, print_files, summary, unsafe_in,
+    unsafe_line,
+};
+use std::alloc::Global;
+use std::test::Fail;
+
+fn files(alloc: Global) -> Result<(Memory, Vec<String>), Fail> {
+    let mut memory = Memory::new(alloc);
+    memory.put("/d/a.ftl", b"a=1\n")?;
+    memory.put("/d/b.ftl", b"b=2\nbro ken\n")?;
+    memory.put(
+        "/d/c.ftl",
+        b"{\"body\":[{\"type\":\"Comment\",\"content\":\"c\"}]}",
+    )?;
+    let mut files = Vec::new(alloc);
+    for path in ["/d/a.ftl", "/d/b.ftl", "/d/c.ftl", "/d/none.ftl"] {
+        files.push(String::from_str(alloc, path)?)?;
+    }
+    Ok((memory, files))
+}
+
+#[test]
+fn prints(rt: HostRuntime) -> Result<(), Fail> {
+    let alloc = rt.alloc();
+    let (mut memory, files) = files(alloc)?;
+    let mut tally = Tally::new();
+    let mut out = Vec::new(alloc);
+    let mut err = Vec::new(alloc);
+    let mut streams = Streams {
+        out: &mut out,
+        err: &mut err,
+    };
+    let (first, _) = files.as_slice().split_at(2);
+    let ended = print_files(
+        alloc,
+        &mut memory,
+        first,
+        Command::Format,
+        9,
+        &mut tally,
+        &mut streams,
+    );
+    assert_holds(alloc, "the run ends", ended.is_ok())?;
+    assert_same_text(
+        alloc,
+        "texts",
+        str::from_utf8(out.as_slice())?,
+        "a = 1\nb = 2\n",
+    )?;
+    let told = "ftl: /d/b.ftl: has syntax errors\n";
+    assert_same_text(alloc, "what is told", str::from_utf8(err.as_slice())?, told)?;
+    assert_same(alloc, "status", &tally.status(), &1)?;
+    assert_stands(alloc, &memory, "/d/a.ftl", Some("a=1\n"))
+}
+
+#[test]
+fn converts(rt: HostRuntime) -> Result<(), Fail> {
+    let alloc = rt.alloc();
+    let (mut memory, files) = files(alloc)?;
+    let mut tally = Tally::new();
+    let mut out = Vec::new(alloc);
+    let mut err = Vec::new(alloc);
+    let mut streams = Streams {
+        out: &mut out,
+        err: &mut err,
+    };
+    let (_, last) = files.as_slice().split_at(2);
+    let ended = convert_files(alloc, &mut memory, last, &mut tally, &mut streams);
+    assert_holds(alloc, "the run ends", ended.is_ok())?;
+    assert_same_text(alloc, "texts", str::from_utf8(out.as_slice())?, "# c\n\n")?;
+    let told = str::from_utf8(err.as_slice())?;
+    assert_holds(
+        alloc,
+        "what is told",
+        told.starts_with("ftl: /d/none.ftl: can't be read: "),
+    )?;
+    assert_same(alloc, "status", &tally.status(), &3)
+}
+
+#[test]
+fn names_an_entry(rt: HostRuntime) -> Result<(), Fail> {
+    let alloc = rt.alloc();
+    let reading = Reading {
+        edition: Edition::One,
+        nesting: 9,
+    };
+    let text = "a = b\n\n# hangs\nc =\n{$x}\n    b\n";
+    let entry = UnsafeEntry {
+        line: 4,
+        column: 1,
+        rule: Rule::CommonIndent,
+    };
+    match unsafe_in(alloc, text, reading) {
+        Ok(found) => assert_same(alloc, "the entry", &found, &Some(entry))?,
+        Err(_) => assert_holds(alloc, "the entry", false)?,
+    }
+    let line = unsafe_line(alloc, "x.ftl", entry, "left")?;
+    assert_holds(
+        alloc,
+        "its line",
+        line.as_str()
+            .starts_with("x.ftl:4:1: left: the lines of a pattern"),
+    )
+}
+
+/// Files, files with errors and errors, and how a run ends with them.
+type Row = (usize, usize, usize, &'static str);
+
+const ROWS: [Row; 3] = [
+    (1, 0, 0, "1 file\n"),
+    (2, 1, 1, "1 error in 1 of 2 files\n"),
+    (57, 2, 3, "3 errors in 2 of 57 files\n"),
+];
+
+#[test]
+fn summaries(rt: HostRuntime) -> Result<(), Fail> {
+    for (files, concerned, errors, line) in &ROWS {
+        let tally = Tally {
+            files: *files,
+            concerned: *concerned,
+            errors: *errors,
+            fault: 0,
+        };
+        assert_same_text(
+            rt.alloc(),
+            *line,
+            summary(rt.alloc(), &tally)?.as_str(),
+            *line,
+        )?;
+    }
+    Ok(())
+}
