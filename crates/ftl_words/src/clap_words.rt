@@ -26,13 +26,13 @@ pub fn command_line<'a>(alloc: Global) -> Result<Command<'a>, AllocError> {
             alloc,
             "runtime",
             "Writes each file in its normal form without comments",
-            "ftl runtime menu.ftl > small.ftl",
+            "Examples:\n  ftl runtime menu.ftl > small.ftl",
         )?)?
         .subcommand(word(
             alloc,
             "json",
             "Writes the tree of each file as JSON, on one line",
-            "ftl json menu.ftl > menu.json",
+            "Examples:\n  ftl json menu.ftl > menu.json",
         )?)?
         .subcommand(from_json(alloc)?)?
         .subcommand(Command::new(alloc, "lsp").about("A language server, for editors"))
@@ -55,7 +55,8 @@ fn check<'a>(alloc: Global, name: &'a str) -> Result<Command<'a>, AllocError> {
         alloc,
         name,
         "Tells the syntax errors",
-        "ftl check .                    every .ftl file below this folder
+        "Examples:
+  ftl check .                    every .ftl file below this folder
   ftl check --output github po   for a run on GitHub
   ftl check < menu.ftl           a line of numbers for each error",
     )?
@@ -78,7 +79,8 @@ fn format<'a>(alloc: Global, name: &'a str) -> Result<Command<'a>, AllocError> {
         alloc,
         name,
         "Writes each file in its normal form",
-        "ftl format --write .       every .ftl file below this folder
+        "Examples:
+  ftl format --write .       every .ftl file below this folder
   ftl format --check .       names the files that this would change
   ftl format < menu.ftl      the normal form; entries with errors are left out",
     )?
