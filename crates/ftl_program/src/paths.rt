@@ -19,13 +19,17 @@ pub(crate) fn answer_paths(rt: &HostRuntime, work: &Work<'_>) -> u8 {
         Ok(()) => (),
         Err(fault) => return refuse_run(rt, fault),
     }
-    if !work.paths.is_empty() && matches!(work.task, Task::Check(_) | Task::Format(_)) {
-        match summary(rt.alloc(), &tally) {
-            Ok(line) => {
-                let _ = rt.eprint(line.as_str());
-            }
-            Err(AllocError) => return refuse_run(rt, RunFault::Memory),
+    let summary = match work.task {
+        _ if work.paths.is_empty() => return tally.status(),
+        Task::Check(_) => check_summary(rt.alloc(), &tally),
+        Task::Format(Change::Write | Change::Name) => format_summary(rt.alloc(), &tally),
+        _ => return tally.status(),
+    };
+    match summary {
+        Ok(line) => {
+            let _ = rt.eprint(line.as_str());
         }
+        Err(AllocError) => return refuse_run(rt, RunFault::Memory),
     }
     tally.status()
 }

@@ -30,5 +30,5 @@ pub use replacement::{Replacement, replacement_for};
 pub use reporting::report;
 pub use rewriting::{Rewriting, rewrite};
 pub use streams::{Streams, tell};
-pub use tally::{Tally, summary};
+pub use tally::{Tally, check_summary, format_summary};
 pub use unsafe_entry::{UnsafeEntry, unsafe_in, unsafe_line};

@@ -65,23 +65,44 @@ impl Tally {
     }
 }
 
-/// What a run met, as a line with its LF: `3 errors in 2 of 57 files`, or without errors `57 files`.
+/// What a check met, as a line with its LF: `3 errors in 2 of 57 files`, or without errors `57 files`.
 ///
 /// `AllocError`: a growth was refused.
-pub fn summary(alloc: Global, tally: &Tally) -> Result<String, AllocError> {
+pub fn check_summary(alloc: Global, tally: &Tally) -> Result<String, AllocError> {
     let Tally {
-        files,
         concerned,
         errors,
         ..
     } = *tally;
-    let counted = if files == 1 { "file" } else { "files" };
     let mut line = String::new(alloc);
     match errors {
         0 => (),
         1 => write!(line, "1 error in {concerned} of ")?,
         _ => write!(line, "{errors} errors in {concerned} of ")?,
     }
-    writeln!(line, "{files} {counted}")?;
+    push_files(&mut line, tally.files)?;
+    line.push('\n')?;
     Ok(line)
+}
+
+/// What a formatting met, as a line with its LF: `2 of 57 files not in normal form`, or where all are `57 files`.
+///
+/// `AllocError`: a growth was refused.
+pub fn format_summary(alloc: Global, tally: &Tally) -> Result<String, AllocError> {
+    let concerned = tally.concerned;
+    let mut line = String::new(alloc);
+    if concerned == 0 {
+        push_files(&mut line, tally.files)?;
+        line.push('\n')?;
+    } else {
+        write!(line, "{concerned} of ")?;
+        push_files(&mut line, tally.files)?;
+        line.push_str(" not in normal form\n")?;
+    }
+    Ok(line)
+}
+
+fn push_files(line: &mut String, files: usize) -> Result<(), AllocError> {
+    let counted = if files == 1 { "file" } else { "files" };
+    write!(line, "{files} {counted}")
 }

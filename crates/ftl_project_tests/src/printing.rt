@@ -7,8 +7,8 @@ use fluent_syntax_tests::alike::{assert_holds, assert_same, assert_same_text};
 use ftl::Command;
 use ftl_files::Memory;
 use ftl_project::{
-    Reading, Streams, Tally, UnsafeEntry, convert_files, print_files, summary, unsafe_in,
-    unsafe_line,
+    Reading, Streams, Tally, UnsafeEntry, check_summary, convert_files, format_summary,
+    print_files, unsafe_in, unsafe_line,
 };
 use std::alloc::Global;
 use std::test::Fail;
@@ -112,30 +112,41 @@ fn names_an_entry(rt: HostRuntime) -> Result<(), Fail> {
     )
 }
 
-/// Files, files with errors and errors, and how a run ends with them.
-type Row = (usize, usize, usize, &'static str);
+/// Files, files that are not as they are to be, errors, and how a check and a formatting end with them.
+type Row = (usize, usize, usize, &'static str, &'static str);
 
 const ROWS: [Row; 3] = [
-    (1, 0, 0, "1 file\n"),
-    (2, 1, 1, "1 error in 1 of 2 files\n"),
-    (57, 2, 3, "3 errors in 2 of 57 files\n"),
+    (1, 0, 0, "1 file\n", "1 file\n"),
+    (
+        2,
+        1,
+        1,
+        "1 error in 1 of 2 files\n",
+        "1 of 2 files not in normal form\n",
+    ),
+    (
+        57,
+        2,
+        3,
+        "3 errors in 2 of 57 files\n",
+        "2 of 57 files not in normal form\n",
+    ),
 ];
 
 #[test]
 fn summaries(rt: HostRuntime) -> Result<(), Fail> {
-    for (files, concerned, errors, line) in &ROWS {
+    let alloc = rt.alloc();
+    for (files, concerned, errors, checked, formatted) in &ROWS {
         let tally = Tally {
             files: *files,
             concerned: *concerned,
             errors: *errors,
             fault: 0,
         };
-        assert_same_text(
-            rt.alloc(),
-            *line,
-            summary(rt.alloc(), &tally)?.as_str(),
-            *line,
-        )?;
+        let line = check_summary(alloc, &tally)?;
+        assert_same_text(alloc, *checked, line.as_str(), *checked)?;
+        let line = format_summary(alloc, &tally)?;
+        assert_same_text(alloc, *formatted, line.as_str(), *formatted)?;
     }
     Ok(())
 }

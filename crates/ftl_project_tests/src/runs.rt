@@ -18,7 +18,8 @@ type Row = (
     u8,
 );
 
-const UNSAFE: &str = "/d/a.ftl:1:1: left as it is: the lines of a pattern that begin with text begin with spaces, \
+const UNSAFE: &str =
+    "/d/a.ftl:1:1: left as it is: the lines of a pattern that begin with text begin with spaces, \
     which would be read as its indent
 ";
 
