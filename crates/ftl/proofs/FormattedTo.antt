@@ -1,6 +1,6 @@
 -- Texts that are formatted entry by entry.
 use Rattle.std.proofs.Common.{◌≡◌, ℕ, ◌≤◌, List, [], ◌∷◌, ◌++◌, length, map, false, Option, Some, None, refl, sym}
-use Rattle.std.proofs.Common.{◌∙◌, ap, String, string_bytes}
+use Rattle.std.proofs.Common.{◌∙◌, ap, String, string_bytes, true}
 use Rattle.std.specs.Str.{IsUtf8}
 use Rattle.std.proofs.lemmas.List.{append-nil, append_assoc, map-append}
 use Rattle.fluent_syntax_tree.specs.Entry.{BodyTree, EntryTree, body_map, entry_map}
@@ -12,8 +12,10 @@ use Rattle.fluent_syntax_tree.specs.declared.errors.ParserError.{ParserError}
 use Rattle.fluent_syntax_tree.specs.declared.spans.Span.{Span}
 use Rattle.fluent_syntax_grammar.specs.Grammar.{family}
 use Rattle.fluent_syntax_grammar.specs.Body.{body, faults}
+use Rattle.fluent_syntax_grammar.specs.Rules.{Rules, body_obeys, entry_obeys}
 use Rattle.fluent_syntax_grammar.specs.Tiling.{Fault, Tile, Tiled}
 use Rattle.fluent_syntax_grammar.specs.Written.{Text, written}
+use Rattle.fluent_syntax_grammar.proofs.Facts.{left_true, right_true}
 use Rattle.fluent_syntax_parser.specs.Rest.{NextTo, Rest, TileIn, faults_of, tree_of}
 use Rattle.fluent_syntax_parser.specs.declared.options.Comments.{Comments}
 use Rattle.fluent_syntax_parser.proofs.PartsOfEntries.{parts_of_entry, some_rest}
@@ -39,6 +41,14 @@ outcome_told-last [] None = refl
 outcome_told-last [] (Some error) = refl
 outcome_told-last (f ∷ fs) None = refl
 outcome_told-last (f ∷ fs) (Some error) = refl
+
+-- a tree that obeys the rules, and one more entry that does
+pub obeys_on : (rules : Rules) (tree : BodyTree Text) (e : EntryTree Text) → body_obeys rules tree ≡ true →
+    entry_obeys rules e ≡ true → body_obeys rules (tree ++ e ∷ []) ≡ true
+obeys_on rules [] e h k = rw k
+obeys_on rules (x ∷ tree) e h k =
+    rw (left_true (entry_obeys rules x) (body_obeys rules tree) h)
+    (obeys_on rules tree e (right_true (entry_obeys rules x) (body_obeys rules tree) h) k)
 
 module _ (comments : Comments) (edition : Edition) (t : List ℕ) where
   -- The text was read up to the place, and these are its entries with their texts, and the outcome so far.

@@ -1,6 +1,6 @@
 //! The text that a command writes.
 ghost use Rattle.std.specs.Prelude.{◌≡◌, ◌≢◌, ◌↔◌, ◌+◌, ◌++◌, ◌^◌, ◌<◌, ◌≤◌, ℕ, List, length, string_bytes, codes, Err};
-ghost use Rattle.std.specs.Prelude.{Ok, IfErr, IfOk, IfSome, OnErr, OnOk, false};
+ghost use Rattle.std.specs.Prelude.{◌&&◌, Ok, IfErr, IfOk, IfSome, OnErr, OnOk, false, true};
 ghost use Rattle.std.specs.Str.{IsUtf8};
 ghost use Rattle.fluent_syntax_tree.specs.Entry.{body_map, entry_map};
 ghost use Rattle.fluent_syntax_tree.specs.Every.{entry_every};
@@ -9,6 +9,9 @@ ghost use Rattle.fluent_syntax_tree.specs.View.{resource_view};
 ghost use Rattle.fluent_syntax_grammar.specs.Grammar.{family};
 ghost use Rattle.fluent_syntax_grammar.specs.Nesting.{NestsDeeper, TextDeeper};
 ghost use Rattle.fluent_syntax_grammar.specs.Tiling.{Tile, Tiled, Tiling};
+ghost use Rattle.fluent_syntax_grammar.specs.Body.{body};
+ghost use Rattle.fluent_syntax_grammar.specs.Canonical.{canonical_rules, is_canonical};
+ghost use Rattle.fluent_syntax_grammar.specs.Rules.{entry_obeys};
 ghost use Rattle.fluent_syntax_json.specs.Form.{body_form};
 ghost use Rattle.serde_json.specs.Written.{compact_text};
 ghost use Rattle.fluent_syntax_parser.specs.Answers.{Answers};
@@ -22,6 +25,7 @@ ghost use Rattle.ftl.specs.Answer.{json_text, normal_text, outcome_behind, outco
 use crate::command::Command;
 use crate::outcome::{Outcome, RunFault};
 use fluent_syntax::ast::{Entry, Resource};
+use fluent_syntax::laws::broken_rule;
 use fluent_syntax::parser::{Edition, ParseFault, ParserError, TooDeep, parse_within};
 use fluent_syntax::serializer::EntryWriter;
 use fluent_syntax::spans::{Comments, Entries, Halt, Lines, Options, Span, resolve_entry};
@@ -203,7 +207,51 @@ fn junk_of(error: &ParserError) -> Span
     }
 }
 
-/// The text of the tree of the text, without its junk.
+/// A text in its normal form.
+#[derive(Debug, Drop)]
+pub struct Formatted {
+    /// The normal form.
+    pub text: String,
+    /// What was found in the text.
+    pub outcome: Outcome,
+    /// Whether each entry of the text's tree is canonical. Then the normal form reads as that tree.
+    pub is_canonical: bool,
+}
+
+/// What `answer_within` gives for `Format` or `FormatTwo`, and whether the tree is canonical, which costs no second
+/// reading.
+///
+/// `Err(Memory)`: a growth was refused. `TooDeep` where the text nests deeper than `nesting`.
+pub fn formatted_within(
+    alloc: Global,
+    text: &str,
+    edition: Edition,
+    nesting: usize,
+) -> Result<Result<Formatted, RunFault>, TooDeep>
+    ensures text { IfOk result (λ answer. IfOk answer (λ given. (tiles : List Tile)
+        × Tiling edition text.now tiles
+        × (string_bytes given.text ≡ normal_text text.now tiles) × (given.outcome ≡ outcome_of tiles))) }
+    ensures canonical { let t = text.now in
+        IfOk result (λ answer. IfOk answer (λ given. given.is_canonical ≡ true → (tiles : List Tile)
+        × Tiling edition t tiles × (is_canonical edition (body_map (bytes_at t) (body tiles)) ≡ true))) }
+    ensures err { IfOk result (λ answer. IfErr answer (λ fault. fault ≡ RunFault.Memory)) }
+    ensures deep { OnErr result (nesting < length text.now) }
+    ensures deeper { OnErr result (NestsDeeper edition text.now nesting) }
+    ensures shallow { IfOk result (λ answer. IfOk answer (λ given. NestsDeeper edition text.now nesting → ⊥)) }
+{
+    let mut all_canonical = true;
+    let kept = Comments::Kept;
+    match format_noting(alloc, text, edition, kept, nesting, &mut all_canonical)? {
+        Ok((text, outcome)) => Ok(Ok(Formatted {
+            text,
+            outcome,
+            is_canonical: all_canonical,
+        })),
+        Err(fault) => Ok(Err(fault)),
+    }
+}
+
+/// What `format_noting` gives.
 fn format(
     alloc: Global,
     text: &str,
@@ -220,12 +268,38 @@ fn format(
     ensures shallow { IfOk result (λ answer. IfOk answer (λ given.
         TextDeeper edition text.now (TileIn comments edition text.now) nesting 0 → ⊥)) }
 {
+    let mut all_canonical = true;
+    format_noting(alloc, text, edition, comments, nesting, &mut all_canonical)
+}
+
+/// The text of the tree of the text, without its junk. Notes where an entry of the tree is not canonical.
+fn format_noting(
+    alloc: Global,
+    text: &str,
+    edition: Edition,
+    comments: Comments,
+    nesting: usize,
+    all_canonical: &mut bool,
+) -> Result<Result<(String, Outcome), RunFault>, TooDeep>
+    ensures text { IfOk result (λ answer. IfOk answer (λ given. (tiles : List Tile)
+        × Tiled text.now (TileIn comments edition text.now (family edition text.now)) 0 tiles
+        × (string_bytes given.0 ≡ normal_text text.now tiles) × (given.1 ≡ outcome_of tiles))) }
+    ensures canonical { let t = text.now in
+        IfOk result (λ answer. IfOk answer (λ given. all_canonical.new ≡ true → (tiles : List Tile)
+        × Tiled t (TileIn comments edition t (family edition t)) 0 tiles
+        × (is_canonical edition (body_map (bytes_at t) (body tiles)) ≡ true))) }
+    ensures err { IfOk result (λ answer. IfErr answer (λ fault. fault ≡ RunFault.Memory)) }
+    ensures deep { OnErr result (nesting < length text.now) }
+    ensures deeper { OnErr result (TextDeeper edition text.now (TileIn comments edition text.now) nesting 0) }
+    ensures shallow { IfOk result (λ answer. IfOk answer (λ given.
+        TextDeeper edition text.now (TileIn comments edition text.now) nesting 0 → ⊥)) }
+{
     let options = Options {
         edition,
         comments,
         nesting,
     };
-    match normal(alloc, text, options) {
+    match normal(alloc, text, options, all_canonical) {
         Ok(given) => Ok(Ok(given)),
         Err(Halt::Memory) => Ok(Err(RunFault::Memory)),
         Err(Halt::TooDeep) => Err(TooDeep),
@@ -233,10 +307,18 @@ fn format(
 }
 
 /// The same, written as the entries come: none of them is kept.
-fn normal(alloc: Global, text: &str, options: Options) -> Result<(String, Outcome), Halt>
+fn normal(
+    alloc: Global,
+    text: &str,
+    options: Options,
+    all_canonical: &mut bool,
+) -> Result<(String, Outcome), Halt>
     ensures text { let t = text.now in IfOk result (λ given. (tiles : List Tile)
         × Tiled t (TileIn options.comments options.edition t (family options.edition t)) 0 tiles
         × (string_bytes given.0 ≡ normal_text t tiles) × (given.1 ≡ outcome_of tiles)) }
+    ensures canonical { let t = text.now in IfOk result (λ given. all_canonical.new ≡ true → (tiles : List Tile)
+        × Tiled t (TileIn options.comments options.edition t (family options.edition t)) 0 tiles
+        × (is_canonical options.edition (body_map (bytes_at t) (body tiles)) ≡ true)) }
     ensures nests { IfErr result (HaltsWithin options.nesting (length text.now)) }
     ensures deeper { let t = text.now in let at = TileIn options.comments options.edition t in
         IfErr result (OnHalt (TextDeeper options.edition t at options.nesting 0)) }
@@ -247,7 +329,15 @@ fn normal(alloc: Global, text: &str, options: Options) -> Result<(String, Outcom
     let mut writer = EntryWriter::new(String::new(alloc), serializer::Options::default());
     let mut outcome = Outcome::Clean;
     while let Some(read) = entries.next_entry(alloc)? {
-        outcome = write_read(alloc, &mut writer, text, outcome, read)?;
+        outcome = write_read(
+            alloc,
+            &mut writer,
+            text,
+            outcome,
+            read,
+            options,
+            all_canonical,
+        )?;
     }
     match writer.finish() {
         (written, Ok(())) => Ok((written, outcome)),
@@ -262,31 +352,39 @@ fn write_read(
     text: &str,
     outcome: Outcome,
     read: (Entry<Span>, Option<ParserError>),
+    options: Options,
+    all_canonical: &mut bool,
 ) -> Result<Outcome, AllocError>
     requires parts { entry_every (IsPart text.now) (tree_of read.0) }
     ensures options { writer.new.options ≡ writer.old.options }
     ensures written { OnOk result (AddsTree writer.old writer.new (entry_map (bytes_at text.now) (tree_of read.0))) }
     ensures outcome { IfOk result (λ found. found ≡ outcome_behind outcome read.1) }
+    ensures noted { OnOk result (all_canonical.new ≡ (all_canonical.old
+        && entry_obeys (canonical_rules options.edition) (entry_map (bytes_at text.now) (tree_of read.0)))) }
 {
     let (entry, error) = read;
-    write_resolved(alloc, writer, text, &entry)?;
+    let is_canonical = write_resolved(alloc, writer, text, &entry, options.edition)?;
+    *all_canonical = *all_canonical && is_canonical;
     Ok(outcome_behind(outcome, &error))
 }
 
-/// Writes the entry with the text's bytes at each span.
+/// Writes the entry with the text's bytes at each span, and tells whether it is canonical.
 fn write_resolved(
     alloc: Global,
     writer: &mut EntryWriter<String>,
     text: &str,
     entry: &Entry<Span>,
-) -> Result<(), AllocError>
+    edition: Edition,
+) -> Result<bool, AllocError>
     requires parts { entry_every (IsPart text.now) (tree_of entry.now) }
     ensures options { writer.new.options ≡ writer.old.options }
     ensures written { OnOk result (AddsTree writer.old writer.new (entry_map (bytes_at text.now) (tree_of entry.now))) }
+    ensures canonical { IfOk result (λ canonical. canonical
+        ≡ entry_obeys (canonical_rules edition) (entry_map (bytes_at text.now) (tree_of entry.now))) }
 {
     let entry = resolve_entry(alloc, &text, entry)?;
     writer.write_entry(&entry);
-    Ok(())
+    Ok(broken_rule(&entry, edition).is_none())
 }
 
 /// The outcome of what was read so far and of an entry behind it, which has an error where it is junk.

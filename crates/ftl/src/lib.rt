@@ -10,7 +10,7 @@ mod runs;
 mod safe;
 mod watched;
 
-pub use answers::{answer, answer_within};
+pub use answers::{Formatted, answer, answer_within, formatted_within};
 pub use command::{Command, usage};
 pub use from_json::{JsonFault, text_of_json, tree_of_json};
 pub use outcome::{Outcome, RunFault};

@@ -2,14 +2,16 @@
 
 use crate::telling::{refuse, refuse_run};
 use fluent_syntax::parser::TooDeep;
-use ftl::{Command, RunFault, Watched, run_within};
-use ftl_project::{unsafe_in, unsafe_line};
+use ftl::{Command, Formatted, Outcome, RunFault, Watched, formatted_within, run_within};
+use ftl_project::{Reading, unsafe_in, unsafe_line};
 use ftl_words::{Task, Work};
 use std::io;
 use std::io::{ErrorKind, IsTerminal, Read};
 
 /// The status for a text that nests too deep.
 const TOO_DEEP: u8 = 6;
+
+const NESTS_DEEPER: &str = "ftl: nests deeper than --nesting allows";
 
 /// Answers standard input on standard output, and gives the exit status.
 pub(crate) fn answer_input(rt: &HostRuntime, work: &Work<'_>) -> u8 {
@@ -18,7 +20,7 @@ pub(crate) fn answer_input(rt: &HostRuntime, work: &Work<'_>) -> u8 {
         return refuse_run(rt, RunFault::Input);
     };
     match work.task {
-        Task::Format(_) => format_input(rt, command, work),
+        Task::Format(_) => format_input(rt, work),
         _ => answer_reader(rt, command, work, rt.reader()),
     }
 }
@@ -49,25 +51,41 @@ fn answer_reader<R: Print + Eprint + AllocGlobal, I: Read + Drop>(
     match ended {
         Ok(Ok(outcome)) => outcome.status(),
         Ok(Err(fault)) => refuse_run(rt, fault),
-        Err(TooDeep) => refuse(rt, "ftl: nests deeper than --nesting allows", TOO_DEEP),
+        Err(TooDeep) => refuse(rt, NESTS_DEEPER, TOO_DEEP),
     }
 }
 
 /// Formats standard input, and tells where the text would not read back.
-fn format_input<R: Input + Print + Eprint + AllocGlobal>(
-    rt: &R,
-    command: Command,
-    work: &Work<'_>,
-) -> u8 {
+fn format_input<R: Input + Print + Eprint + AllocGlobal>(rt: &R, work: &Work<'_>) -> u8 {
     let input = match all_input(rt) {
         Ok(input) => input,
         Err(fault) => return refuse_run(rt, fault),
     };
-    let status = answer_reader(rt, command, work, input.as_slice());
-    if status == 0 {
-        warn(rt, input.as_slice(), work);
+    let Ok(text) = str::from_utf8(input.as_slice()) else {
+        return refuse_run(rt, RunFault::Input);
+    };
+    let Reading { edition, nesting } = work.reading;
+    match formatted_within(rt.alloc(), text, edition, nesting) {
+        Ok(Ok(formatted)) => put_formatted(rt, &formatted, text, work),
+        Ok(Err(fault)) => refuse_run(rt, fault),
+        Err(TooDeep) => refuse(rt, NESTS_DEEPER, TOO_DEEP),
     }
-    status
+}
+
+/// Writes the normal form, and gives the exit status.
+fn put_formatted<R: Print + Eprint + AllocGlobal>(
+    rt: &R,
+    formatted: &Formatted,
+    text: &str,
+    work: &Work<'_>,
+) -> u8 {
+    if rt.print(formatted.text.as_str()).is_err() {
+        return refuse_run(rt, RunFault::Output);
+    }
+    if formatted.outcome == Outcome::Clean && !formatted.is_canonical {
+        warn(rt, text, work);
+    }
+    formatted.outcome.status()
 }
 
 /// All of standard input.
@@ -81,18 +99,12 @@ pub(crate) fn all_input<R: Input + AllocGlobal>(rt: &R) -> Result<Vec<u8>, RunFa
 }
 
 /// Tells by which entry the text would not read back, if it would not. Of memory it says nothing: the text was written.
-fn warn<R: Eprint + AllocGlobal>(rt: &R, input: &[u8], work: &Work<'_>) {
-    let Ok(text) = str::from_utf8(input) else {
+fn warn<R: Eprint + AllocGlobal>(rt: &R, text: &str, work: &Work<'_>) {
+    let Ok(Some(entry)) = unsafe_in(rt.alloc(), text, work.reading) else {
         return;
     };
-    if let Ok(Some(entry)) = unsafe_in(rt.alloc(), text, work.reading) {
-        if let Ok(line) = unsafe_line(
-            rt.alloc(),
-            work.stdin_name,
-            entry,
-            "what is written does not read back",
-        ) {
-            let _ = rt.eprint(line.as_str());
-        }
+    let note = "what is written does not read back";
+    if let Ok(line) = unsafe_line(rt.alloc(), work.stdin_name, entry, note) {
+        let _ = rt.eprint(line.as_str());
     }
 }

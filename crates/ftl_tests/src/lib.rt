@@ -4,6 +4,8 @@
 #[cfg(test)]
 mod ends;
 #[cfg(test)]
+mod formatted;
+#[cfg(test)]
 mod from_json;
 #[cfg(test)]
 mod language_server;

@@ -1,7 +1,9 @@
-use Rattle.std.proofs.Common.{[], false, ap, ◌∙◌}
+use Rattle.std.proofs.Common.{◌≡◌, ◌∙◌, [], ap, false, refl, subst, sym, true}
+use Rattle.fluent_syntax_grammar.specs.Canonical.{canonical_rules, is_canonical}
+use Rattle.fluent_syntax_grammar.proofs.Facts.{left_true, right_true}
 use Rattle.fluent_syntax_grammar.specs.Written.{written}
 use Rattle.ftl.proofs.FormattedTo.{all_formatted, came_next, formatted_on, next_in_source, nothing_formatted}
-use Rattle.ftl.proofs.FormattedTo.{written_whole}
+use Rattle.ftl.proofs.FormattedTo.{obeys_on, written_whole}
 use Rattle.ftl.proofs.answers.normal.Goals as goal
 
 pub loop-writer-init : goal.loop-writer-init
@@ -15,6 +17,7 @@ loop-writer-init c =
         [],
         record { start = c.new.result; is_empty = c.new.ensures.bytes; came = c.new-writer.ensures.none_came },
         rw c.new-entries.ensures.start (nothing_formatted options.comments options.edition c.args.text.now),
+        λ all. refl,
       );
       deeper = rw c.new-entries.ensures.start (λ d. d, λ d. d);
     }
@@ -51,6 +54,9 @@ loop-writer-preserved c =
         _,
         came_next _ _ _ _ inv.so_far.1 next_read.written,
         rw next_read.outcome formatted,
+        λ all. (let both = sym next_read.noted ∙ all in
+            obeys_on (canonical_rules options.edition) inv.so_far.0 _ (inv.so_far.3 (left_true _ _ both))
+            (right_true _ _ both)),
       );
       deeper =
           let shallow = rw (inv.text, inv.options, c.in-Some.is) at here.shallow in
@@ -71,3 +77,11 @@ returns-in_default-Ok-clause-text c =
       written_whole _ _ came c.finish.result.0 taken inv.no_junk ∙ ap (written false) tiled.2,
       tiled.3,
     )
+
+pub returns-in_default-Ok-clause-canonical : goal.returns-in_default-Ok-clause-canonical
+returns-in_default-Ok-clause-canonical c = λ all.
+    let options = c.args.options in
+    let inv = c.loop-writer.invariant in
+    let none = rw (inv.text, inv.options, c.in_default.is) at c.in_ok-read.ensures.next in
+    let tiled = all_formatted options.comments options.edition c.args.text.now _ _ _ inv.so_far.2 none in
+    (tiled.0, tiled.1, subst (λ tree. is_canonical options.edition tree ≡ true) tiled.2 (inv.so_far.3 all))

@@ -1,5 +1,6 @@
-use Rattle.std.proofs.Common.{◌≡◌, ◌-◌, false, length}
+use Rattle.std.proofs.Common.{◌≡◌, ◌-◌, false, length, true}
 use Rattle.fluent_syntax_tree.specs.Entry.{BodyTree}
+use Rattle.fluent_syntax_grammar.specs.Canonical.{is_canonical}
 use Rattle.fluent_syntax_grammar.specs.Nesting.{TextDeeper}
 use Rattle.fluent_syntax_grammar.specs.Written.{Text}
 use Rattle.fluent_syntax_parser.specs.Rest.{TileIn}
@@ -13,7 +14,8 @@ invariant-loop-writer l = let t = l.text in let options = l.fn.options in
       options : l.entries.options ≡ l.fn.options;
       no_junk : l.writer.options.with_junk ≡ false;
       so_far : (tree : BodyTree Text) × CameTo tree l.writer ×
-          FormattedTo l.fn.options.comments l.fn.options.edition t l.entries.ptr tree l.outcome;
+          FormattedTo l.fn.options.comments l.fn.options.edition t l.entries.ptr tree l.outcome ×
+          (l.all_canonical ≡ true → is_canonical l.fn.options.edition tree ≡ true);
       deeper : (deeper l.entries.ptr → deeper 0) × (deeper 0 → deeper l.entries.ptr);
     }
 
