@@ -21,7 +21,7 @@ const ROWS: [Row; 5] = [
     ),
     (
         "key =\n{$x}\n    b\n",
-        "key =\n    { $x }\n    b\n",
+        "key =\n    { $x }\n        b\n",
         Outcome::Clean,
         false,
     ),
