@@ -1,4 +1,4 @@
-use Rattle.std.proofs.Common.{◌≡◌, ◌+◌, ◌∙◌, refl, sym, arith, false, None, inl, inr}
+use Rattle.std.proofs.Common.{◌≡◌, ◌+◌, ◌∙◌, ◌∷◌, refl, sym, arith, [], false, None, inl, inr}
 use Rattle.std.specs.Prelude.{◌==◌, ◌⊎◌}
 use Rattle.std.proofs.lemmas.Option.{gets}
 use Rattle.std.proofs.lemmas.List.{map-append}
@@ -538,7 +538,7 @@ get_arguments-loop-alloc-preserved-then-is_byte_at m c =
           c.skip_blank-start.ensures.blank c.in_ok-value-in-Some.ensures.meets c.skip_separator-place.ensures.meets;
       noted =
           rw (c.in_ok-push-in-Some.ensures.items, map-append (λ a. bytes_at t a.name.name) old.named.items (added ∷ []))
-          c.in_ok-note-in-Some.ensures;
+          (rw c.deref-in-Some.ensures.value at c.in_ok-note-in-Some.ensures);
     }
 
 pub get_arguments-returns-then-not-is_empty-clause-meets : goal.get_arguments-returns-then-not-is_empty-clause-meets
@@ -980,3 +980,9 @@ pub get_variants-returns-in_err-push-clause-meets :
     goal.get_variants-returns-in_err-push-clause-meets
 get_variants-returns-in_err-push-clause-meets m c =
     rw (out_of_memory c.from_residual-in_err-push.result c.from_residual-in_err-push.ensures.1) no_memory
+
+pub get_arguments-returns-in_err-note-in-Some-clause-meets :
+    goal.get_arguments-returns-in_err-note-in-Some-clause-meets
+get_arguments-returns-in_err-note-in-Some-clause-meets m c =
+    rw (out_of_memory c.from_residual-in_err-note-in-Some.result
+    c.from_residual-in_err-note-in-Some.ensures.1) no_memory
