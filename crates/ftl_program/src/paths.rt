@@ -5,8 +5,8 @@ use crate::telling::refuse_run;
 use ftl::RunFault;
 use ftl_files::{Disk, Memory, Store, list};
 use ftl_project::{
-    Fault, Form, Streams, Tally, check_files, convert_files, name_files, print_files, summary,
-    tell, write_files,
+    Fault, Form, Streams, Tally, check_files, check_summary, convert_files, format_summary,
+    name_files, print_files, tell, write_files,
 };
 use ftl_words::{Change, Task, Work};
 use std::alloc::AllocError;

@@ -13,25 +13,29 @@ use ftl_project::{
 use std::alloc::Global;
 use std::test::Fail;
 
-fn files(alloc: Global) -> Result<(Memory, Vec<String>), Fail> {
+fn store(alloc: Global) -> Result<Memory, Fail> {
     let mut memory = Memory::new(alloc);
     memory.put("/d/a.ftl", b"a=1\n")?;
     memory.put("/d/b.ftl", b"b=2\nbro ken\n")?;
     memory.put(
-        "/d/c.ftl",
+        "/d/c.json",
         b"{\"body\":[{\"type\":\"Comment\",\"content\":\"c\"}]}",
     )?;
+    Ok(memory)
+}
+
+fn two_files(alloc: Global, first: &str, second: &str) -> Result<Vec<String>, Fail> {
     let mut files = Vec::new(alloc);
-    for path in ["/d/a.ftl", "/d/b.ftl", "/d/c.ftl", "/d/none.ftl"] {
-        files.push(String::from_str(alloc, path)?)?;
-    }
-    Ok((memory, files))
+    files.push(String::from_str(alloc, first)?)?;
+    files.push(String::from_str(alloc, second)?)?;
+    Ok(files)
 }
 
 #[test]
 fn prints(rt: HostRuntime) -> Result<(), Fail> {
     let alloc = rt.alloc();
-    let (mut memory, files) = files(alloc)?;
+    let mut memory = store(alloc)?;
+    let files = two_files(alloc, "/d/a.ftl", "/d/b.ftl")?;
     let mut tally = Tally::new();
     let mut out = Vec::new(alloc);
     let mut err = Vec::new(alloc);
@@ -39,11 +43,10 @@ fn prints(rt: HostRuntime) -> Result<(), Fail> {
         out: &mut out,
         err: &mut err,
     };
-    let (first, _) = files.as_slice().split_at(2);
     let ended = print_files(
         alloc,
         &mut memory,
-        first,
+        files.as_slice(),
         Command::Format,
         9,
         &mut tally,
@@ -65,7 +68,8 @@ fn prints(rt: HostRuntime) -> Result<(), Fail> {
 #[test]
 fn converts(rt: HostRuntime) -> Result<(), Fail> {
     let alloc = rt.alloc();
-    let (mut memory, files) = files(alloc)?;
+    let mut memory = store(alloc)?;
+    let files = two_files(alloc, "/d/c.json", "/d/none.json")?;
     let mut tally = Tally::new();
     let mut out = Vec::new(alloc);
     let mut err = Vec::new(alloc);
@@ -73,15 +77,20 @@ fn converts(rt: HostRuntime) -> Result<(), Fail> {
         out: &mut out,
         err: &mut err,
     };
-    let (_, last) = files.as_slice().split_at(2);
-    let ended = convert_files(alloc, &mut memory, last, &mut tally, &mut streams);
+    let ended = convert_files(
+        alloc,
+        &mut memory,
+        files.as_slice(),
+        &mut tally,
+        &mut streams,
+    );
     assert_holds(alloc, "the run ends", ended.is_ok())?;
     assert_same_text(alloc, "texts", str::from_utf8(out.as_slice())?, "# c\n\n")?;
     let told = str::from_utf8(err.as_slice())?;
     assert_holds(
         alloc,
         "what is told",
-        told.starts_with("ftl: /d/none.ftl: can't be read: "),
+        told.starts_with("ftl: /d/none.json: can't be read: "),
     )?;
     assert_same(alloc, "status", &tally.status(), &3)
 }
