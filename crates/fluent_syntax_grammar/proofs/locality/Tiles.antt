@@ -19,7 +19,8 @@ use Rattle.fluent_syntax_grammar.specs.Tiling.{RuntimeTileAt, drops, refuses, st
 use Rattle.fluent_syntax_grammar.specs.Body.{faults, hung, hangs, alone, joined, body}
 use Rattle.fluent_syntax_grammar.specs.RoundTrip.{tree_of}
 use Rattle.fluent_syntax_grammar.specs.Locality.{moved, moved_fault, moved_tile, moved_tiles}
-use Rattle.fluent_syntax_grammar.proofs.locality.Moved.{Behind, IsMoved, moved_bind, moved_optional_eol, moved_rest_of_line, sees_has}
+use Rattle.fluent_syntax_grammar.proofs.locality.Moved.{Behind, IsMoved, moved_bind, moved_optional_eol}
+use Rattle.fluent_syntax_grammar.proofs.locality.Moved.{moved_rest_of_line, sees_has}
 use Rattle.fluent_syntax_grammar.proofs.locality.Moved.{sees_byte, leads_block}
 use Rattle.fluent_syntax_grammar.proofs.locality.Entries.{moved_entry}
 use Rattle.fluent_syntax_grammar.proofs.locality.Trees.{body_same}
