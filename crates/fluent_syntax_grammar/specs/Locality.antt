@@ -9,7 +9,7 @@ use Rattle.fluent_syntax_tree.specs.declared.edition.Edition.{Edition}
 use Rattle.fluent_syntax_grammar.specs.Bytes.{lf, greater_than, hash, hyphen}
 use Rattle.fluent_syntax_grammar.specs.Places.{BlankBlock, starts_line}
 use Rattle.fluent_syntax_grammar.specs.Tiling.{Fault, Tile, entry, refused, dropped, is_entry_byte, Tiled, TileAt}
-use Rattle.fluent_syntax_grammar.specs.Tiling.{Tiling}
+use Rattle.fluent_syntax_grammar.specs.Tiling.{RuntimeTileAt, RuntimeTiling, Tiling}
 use Rattle.fluent_syntax_grammar.specs.Body.{faults}
 use Rattle.fluent_syntax_grammar.specs.Written.{Text, written}
 use Rattle.fluent_syntax_grammar.specs.Canonical.{is_canonical}
@@ -70,6 +70,14 @@ abbrev pub SuffixLocal : Edition → List ℕ → Type 0
 SuffixLocal edition t =
     (p : ℕ) (tiles : List Tile) → p ≤ length t → starts_line t p ≡ true → Tiled t (TileAt edition t) p tiles →
     (own : List Tile) × Tiling edition (drop p t) own × (tiles ≡ moved_tiles p own) ×
+    (faults tiles ≡ map (moved_fault p) (faults own)) × (tree_of t tiles ≡ tree_of (drop p t) own)
+
+-- The same without comments.
+abbrev pub RuntimeSuffixLocal : Edition → List ℕ → Type 0
+RuntimeSuffixLocal edition t =
+    (p : ℕ) (tiles : List Tile) → p ≤ length t → starts_line t p ≡ true →
+    Tiled t (RuntimeTileAt edition t) p tiles →
+    (own : List Tile) × RuntimeTiling edition (drop p t) own × (tiles ≡ moved_tiles p own) ×
     (faults tiles ≡ map (moved_fault p) (faults own)) × (tree_of t tiles ≡ tree_of (drop p t) own)
 
 -- So where two texts have the same rest behind the start of a line, they have the same tiles there, moved, and text by

@@ -12,6 +12,7 @@ ghost use Rattle.fluent_syntax_grammar.specs.Locality.{
   ReplacedRun,
   Replaces,
   Resyncs,
+  RuntimeSuffixLocal,
   SameBefore,
   SameRest,
   SuffixLocal,
@@ -26,6 +27,7 @@ use fluent_syntax_tree::slice::Slice;
 ///
 /// - `suffix`: from the start of a line on, the tiles of the text (its entries and junk) are those of the rest of the
 ///   text by itself, moved; so are its errors; and text by text it gives the same tree.
+/// - `runtime`: the same of the tiles without comments.
 /// - `same_rest`: where the texts have the same rest behind the start of a line, they have the same tiles there, moved,
 ///   and text by text the same tree.
 /// - `resyncs`: where a tile begins in the one text and a tile in the other, and from there on the texts have the same
@@ -33,6 +35,7 @@ use fluent_syntax_tree::slice::Slice;
 ///   whoever reads a changed text anew can stop at the first tile that stands where one stood, behind all changes.
 pub fn reads_rest(text: &str, other: &str)
     ensures suffix { (edition : Edition) → SuffixLocal edition text.now }
+    ensures runtime { (edition : Edition) → RuntimeSuffixLocal edition text.now }
     ensures same_rest { (edition : Edition) → SameRest edition text.now other.now }
     ensures resyncs { (edition : Edition) → Resyncs edition text.now other.now }
 {}

@@ -43,3 +43,4 @@ pub mod Spelled
 pub mod Stars
 pub mod StringBytes
 pub mod TileForms
+pub mod Noted

@@ -17,3 +17,4 @@ pub mod ShortPatterns
 pub mod ShortPieces
 pub mod Starts
 pub mod Strings
+pub mod Noted

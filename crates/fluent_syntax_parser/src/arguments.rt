@@ -10,6 +10,7 @@ ghost use Rattle.fluent_syntax_grammar.specs.Starts.{start};
 ghost use Rattle.fluent_syntax_parser.specs.Gathered.{maybe_view, names_in_order};
 ghost use Rattle.fluent_syntax_parser.specs.Meets.{Meets};
 
+use crate::argument_names::NotedNames;
 use crate::fault::{Fault, ReadFault, Refusal};
 use crate::forms::argument_name;
 use crate::source::Source;
@@ -21,7 +22,7 @@ use std::alloc::Global;
 
 impl<'s> Source<'s> {
     /// Whether a name is that of one of the arguments, by its bytes.
-    fn has_name(&self, named: &[NamedArgument<Span>], name: Span) -> bool
+    pub(crate) fn has_name(&self, named: &[NamedArgument<Span>], name: Span) -> bool
         ensures { let t = self.now.bytes.now in
             result ≡ is_used (bytes_at t name) (names_in_order t named.now) }
     {
@@ -87,6 +88,7 @@ impl<'s> Source<'s> {
     {
         let mut positional = Vec::new(alloc);
         let mut named = Vec::new(alloc);
+        let mut noted = NotedNames::new(alloc);
         let mut place = ptr;
         while !self.is_byte_at(b')', place) {
             if place == self.bytes.len() {
@@ -98,12 +100,13 @@ impl<'s> Source<'s> {
             let (expression, next) = self.get_inline_expression(alloc, edition, nesting, place)?;
             match argument_name(&expression) {
                 Some(name) if self.is_byte_at(b':', next) => {
-                    if self.has_name(&named, name) {
+                    if noted.has(self, &named, name) {
                         let fault = Fault::Duplicated(name);
                         return Err(ReadFault::Refused(Refusal { fault, place: next }));
                     }
                     let start = self.skip_blank(next + 1);
                     let (value, end) = self.get_argument_value(alloc, edition, nesting, start)?;
+                    noted.note(self, &named, name)?;
                     named.push(NamedArgument {
                         name: Identifier { name },
                         value,

@@ -3,6 +3,7 @@
 //! answer; the text itself never changes.
 #![tactic(auto)]
 
+mod argument_names;
 mod arguments;
 mod attributes;
 mod blanks;

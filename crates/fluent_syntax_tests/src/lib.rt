@@ -20,6 +20,8 @@ mod errors;
 mod kinds;
 pub mod made;
 #[cfg(test)]
+mod many_arguments;
+#[cfg(test)]
 mod nesting;
 pub mod outline;
 #[cfg(test)]

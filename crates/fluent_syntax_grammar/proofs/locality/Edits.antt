@@ -8,19 +8,19 @@ use Rattle.fluent_syntax_tree.specs.declared.edition.Edition.{Edition}
 use Rattle.fluent_syntax_grammar.specs.Bytes.{lf, hyphen, greater_than}
 use Rattle.fluent_syntax_grammar.specs.Places.{holds, has, has_byte, starts_line, BlankBlock}
 use Rattle.fluent_syntax_grammar.specs.Tiling.{Tile, entry, refused, dropped, is_entry_byte, Tiled, done, next}
-use Rattle.fluent_syntax_grammar.specs.Tiling.{TileAt, Tiling, reads, refuses}
+use Rattle.fluent_syntax_grammar.specs.Tiling.{RuntimeTileAt, TileAt, Tiling, reads, refuses}
 use Rattle.fluent_syntax_grammar.specs.Body.{faults}
 use Rattle.fluent_syntax_grammar.specs.RoundTrip.{tree_of}
 use Rattle.fluent_syntax_grammar.specs.Locality.{moved_tiles, Led, arrives, onward, begins_entry}
 use Rattle.fluent_syntax_grammar.specs.Locality.{begins_comment, SuffixLocal, SameRest, PrefixLocal}
-use Rattle.fluent_syntax_grammar.specs.Locality.{Joins}
+use Rattle.fluent_syntax_grammar.specs.Locality.{Joins, RuntimeSuffixLocal}
 use Rattle.fluent_syntax_grammar.proofs.Facts.{has_inside, left_true, right_true}
 use Rattle.fluent_syntax_grammar.proofs.LineEnds.{block_at_entry}
 use Rattle.fluent_syntax_grammar.proofs.Functional.{single_block}
-use Rattle.fluent_syntax_grammar.proofs.OneTiling.{tiled_same, one_tile}
-use Rattle.fluent_syntax_grammar.proofs.SomeTiling.{some_tiling}
+use Rattle.fluent_syntax_grammar.proofs.OneTiling.{one_runtime_tile, one_tile, tiled_same}
+use Rattle.fluent_syntax_grammar.proofs.SomeTiling.{some_runtime_tiling, some_tiling}
 use Rattle.fluent_syntax_grammar.proofs.locality.Moved.{Behind, behind}
-use Rattle.fluent_syntax_grammar.proofs.locality.Tiles.{tiled_there, faults_there, tree_there}
+use Rattle.fluent_syntax_grammar.proofs.locality.Tiles.{faults_there, runtime_tiled_there, tiled_there, tree_there}
 use Rattle.fluent_syntax_grammar.proofs.locality.Kept.{Head, Shared}
 use Rattle.fluent_syntax_grammar.proofs.locality.KeptEntries.{entry_head, head_byte, led_keep}
 
@@ -44,6 +44,18 @@ suffix_local edition t = λ p tiles l e a.
     (tiled_there p t (drop p t) b e edition 0 own.0 own.1) in
     let same : tiles ≡ moved_tiles p own.0 =
     tiled_same t (TileAt edition t) (one_tile edition t) p tiles (moved_tiles p own.0) a moved in
+    (own.0, own.1, same, ap faults same ∙ faults_there p own.0, ap (tree_of t) same ∙ tree_there p t (drop p t) b own.0)
+
+pub runtime_suffix_local : (edition : Edition) (t : List ℕ) → RuntimeSuffixLocal edition t
+runtime_suffix_local edition t = λ p tiles l e a.
+    let b = behind_place t p l in
+    let own = some_runtime_tiling edition (drop p t) in
+    let zero_place : p + 0 ≡ p = omega arith in
+    let moved : Tiled t (RuntimeTileAt edition t) p (moved_tiles p own.0) =
+    subst (λ k. Tiled t (RuntimeTileAt edition t) k (moved_tiles p own.0)) zero_place
+    (runtime_tiled_there p t (drop p t) b e edition 0 own.0 own.1) in
+    let same : tiles ≡ moved_tiles p own.0 =
+    tiled_same t (RuntimeTileAt edition t) (one_runtime_tile edition t) p tiles (moved_tiles p own.0) a moved in
     (own.0, own.1, same, ap faults same ∙ faults_there p own.0, ap (tree_of t) same ∙ tree_there p t (drop p t) b own.0)
 
 pub same_rest : (edition : Edition) (t u : List ℕ) → SameRest edition t u

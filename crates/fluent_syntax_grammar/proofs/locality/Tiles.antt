@@ -10,16 +10,17 @@ use Rattle.fluent_syntax_tree.specs.Entry.{body_map, BodyTree}
 use Rattle.fluent_syntax_tree.specs.Spans.{bytes_at}
 use Rattle.fluent_syntax_tree.specs.declared.spans.Span.{Span}
 use Rattle.fluent_syntax_tree.specs.declared.edition.Edition.{Edition}
-use Rattle.fluent_syntax_grammar.specs.Bytes.{lf}
-use Rattle.fluent_syntax_grammar.specs.Places.{has, has_byte, starts_line}
+use Rattle.fluent_syntax_grammar.specs.Bytes.{hash, lf}
+use Rattle.fluent_syntax_grammar.specs.Places.{BlankBlock, has, has_byte, starts_line}
 use Rattle.fluent_syntax_grammar.specs.Construct.{Read, Refused}
 use Rattle.fluent_syntax_grammar.specs.Tiling.{Tile, entry, refused, dropped, failing_place, is_entry_byte}
 use Rattle.fluent_syntax_grammar.specs.Tiling.{starts_entry, JunkEnd, Tiled, done, next, TileAt, reads}
-use Rattle.fluent_syntax_grammar.specs.Tiling.{refuses}
+use Rattle.fluent_syntax_grammar.specs.Tiling.{RuntimeTileAt, drops, refuses, stands, whole_line}
 use Rattle.fluent_syntax_grammar.specs.Body.{faults, hung, hangs, alone, joined, body}
 use Rattle.fluent_syntax_grammar.specs.RoundTrip.{tree_of}
 use Rattle.fluent_syntax_grammar.specs.Locality.{moved, moved_fault, moved_tile, moved_tiles}
-use Rattle.fluent_syntax_grammar.proofs.locality.Moved.{Behind, sees_has}
+use Rattle.fluent_syntax_grammar.proofs.locality.Moved.{Behind, IsMoved, moved_bind, moved_optional_eol}
+use Rattle.fluent_syntax_grammar.proofs.locality.Moved.{moved_rest_of_line, sees_has}
 use Rattle.fluent_syntax_grammar.proofs.locality.Moved.{sees_byte, leads_block}
 use Rattle.fluent_syntax_grammar.proofs.locality.Entries.{moved_entry}
 use Rattle.fluent_syntax_grammar.proofs.locality.Trees.{body_same}
@@ -80,15 +81,37 @@ module _ (n : ℕ) (t u : List ℕ) (b : Behind n t u) (starts : starts_line t n
         refuses ((moved_entry edition n t u b).part i (Refused k from to) r)
         (subst (λ p. JunkEnd t p (n + j)) (sym (failing_there n k from to)) (junk_there (failing_place k from to) j q))
 
-    -- the tiles, behind more bytes
-    pub tiled_there : (i : ℕ) (tiles : List Tile) → Tiled u (TileAt edition u) i tiles →
-        Tiled t (TileAt edition t) (n + i) (moved_tiles n tiles)
-    tiled_there i tiles (done c) =
-        done (subst (λ m. Rattle.fluent_syntax_grammar.specs.Places.BlankBlock t (n + i) m) (sym b.size)
-        ((leads_block n t u b).leads i (length u) c))
-    tiled_there i tiles (next {start = start} {end = end} {tile = x} {tiles = more} c l a r) =
-        let s = b.size in
-        next ((leads_block n t u b).leads i start c) (omega arith) (tile_there start end x a) (tiled_there end more r)
+    -- without comments
+    runtime_tile_there : (i j : ℕ) (x : Tile) → RuntimeTileAt edition u i j x →
+        RuntimeTileAt edition t (n + i) (n + j) (moved_tile n x)
+    runtime_tile_there i j x (drops e w) =
+        drops ((sees_byte n t u b hash).same i ∙ e) (whole_line_there.part i (Read tt j) w)
+      where
+        whole_line_there : IsMoved n (λ x. x) (whole_line u) (whole_line t)
+        whole_line_there = moved_bind (moved_rest_of_line n t u b) (λ s. moved_optional_eol n t u b)
+    runtime_tile_there i j x (stands e a) =
+        stands ((sees_byte n t u b hash).same i ∙ e) (tile_there i j x a)
+
+  -- the tiles, behind more bytes, where each tile there is one here
+  each_there : (at from : (i j : ℕ) → Tile → Type 0) →
+      ((i j : ℕ) (x : Tile) → from i j x → at (n + i) (n + j) (moved_tile n x)) → (i : ℕ) (tiles : List Tile) →
+      Tiled u from i tiles → Tiled t at (n + i) (moved_tiles n tiles)
+  each_there at from there i tiles (done c) =
+      done (subst (λ m. BlankBlock t (n + i) m) (sym b.size) ((leads_block n t u b).leads i (length u) c))
+  each_there at from there i tiles (next {start = start} {end = end} {tile = x} {tiles = more} c l a r) =
+      let s = b.size in
+      next ((leads_block n t u b).leads i start c) (omega arith) (there start end x a)
+      (each_there at from there end more r)
+
+  pub tiled_there : (edition : Edition) (i : ℕ) (tiles : List Tile) → Tiled u (TileAt edition u) i tiles →
+      Tiled t (TileAt edition t) (n + i) (moved_tiles n tiles)
+  tiled_there edition i tiles a =
+      each_there (TileAt edition t) (TileAt edition u) (tile_there edition) i tiles a
+
+  pub runtime_tiled_there : (edition : Edition) (i : ℕ) (tiles : List Tile) →
+      Tiled u (RuntimeTileAt edition u) i tiles → Tiled t (RuntimeTileAt edition t) (n + i) (moved_tiles n tiles)
+  runtime_tiled_there edition i tiles a =
+      each_there (RuntimeTileAt edition t) (RuntimeTileAt edition u) (runtime_tile_there edition) i tiles a
 
 -- ---- what moved tiles give
 

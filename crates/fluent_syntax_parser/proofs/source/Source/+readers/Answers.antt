@@ -1,6 +1,7 @@
-use Rattle.std.proofs.Common.{◌≡◌, ◌+◌, ◌∙◌, refl, sym, arith, false, None, inl, inr}
+use Rattle.std.proofs.Common.{◌≡◌, ◌+◌, ◌∙◌, ◌∷◌, refl, sym, arith, [], false, None, inl, inr}
 use Rattle.std.specs.Prelude.{◌==◌, ◌⊎◌}
 use Rattle.std.proofs.lemmas.Option.{gets}
+use Rattle.std.proofs.lemmas.List.{map-append}
 use Rattle.std.proofs.lemmas.Result.{err_from_is_err_and}
 use Rattle.fluent_syntax_tree.specs.Spans.{bytes_at}
 use Rattle.fluent_syntax_tree.specs.View.{inline_view, variant_view}
@@ -459,11 +460,11 @@ get_arguments-returns-in_err-expression-clause-meets m c =
     (inline_fails t _ _ _ (omega (arith, c.if-place-self.false, c.loop-alloc.invariant.within))
     (sym c.loop-alloc-test.ensures) c.in_err-expression.ensures.meets))
 
-pub get_arguments-returns-then-has_name-clause-meets : goal.get_arguments-returns-then-has_name-clause-meets
-get_arguments-returns-then-has_name-clause-meets m c =
+pub get_arguments-returns-then-has-clause-meets : goal.get_arguments-returns-then-has-clause-meets
+get_arguments-returns-then-has-clause-meets m c =
     let t = c.args.self.now.bytes.now in
     let names = c.loop-alloc.named.items in
-    let found = rw c.deref.ensures.value at c.if-has_name.ensures in
+    let found = rw c.deref.ensures.value at c.if-has.ensures in
     let used = used_in_order t (bytes_at t c.in-Some.name) names ∙ sym found in
     item_fails c.loop-alloc.invariant.gathered (refused (λ k from to (a, b, d). rw (a, b, d)
     (named t _ (names_in t names) _
@@ -479,7 +480,7 @@ pub get_arguments-returns-in_err-value-in-Some-clause-meets :
 get_arguments-returns-in_err-value-in-Some-clause-meets m c =
     let t = c.args.self.now.bytes.now in
     let names = c.loop-alloc.named.items in
-    let found = rw c.deref.ensures.value at c.if-has_name.ensures in
+    let found = rw c.deref.ensures.value at c.if-has.ensures in
     let new = used_in_order t (bytes_at t c.in-Some.name) names ∙ sym found in
     let mark = sym c.if-is_byte_at.ensures in
     let p = err_from_is_err_and c.from_residual-in_err-value-in-Some.result
@@ -512,7 +513,7 @@ pub get_arguments-loop-alloc-preserved-then-is_byte_at : goal.get_arguments-loop
 get_arguments-loop-alloc-preserved-then-is_byte_at m c =
     let t = c.args.self.now.bytes.now in
     let old = c.loop-alloc in
-    let found = rw c.deref.ensures.value at c.if-has_name.ensures in
+    let found = rw c.deref.ensures.value at c.if-has.ensures in
     let new = used_in_order t (bytes_at t c.in-Some.name) old.named.items ∙ sym found in
     let name : Identifier Span = record { name = c.in-Some.name } in
     let added : NamedArgument Span = roll-NamedArgument Span
@@ -535,6 +536,9 @@ get_arguments-loop-alloc-preserved-then-is_byte_at m c =
           c.in_ok-expression.expression _ c.in_ok-expression.ensures.meets added (sym c.in-Some.ensures)
           (sym c.if-is_byte_at.ensures) new _ c.in_ok-push-in-Some.ensures.items _ _ _
           c.skip_blank-start.ensures.blank c.in_ok-value-in-Some.ensures.meets c.skip_separator-place.ensures.meets;
+      noted =
+          rw (c.in_ok-push-in-Some.ensures.items, map-append (λ a. bytes_at t a.name.name) old.named.items (added ∷ []))
+          (rw c.deref-in-Some.ensures.value at c.in_ok-note-in-Some.ensures);
     }
 
 pub get_arguments-returns-then-not-is_empty-clause-meets : goal.get_arguments-returns-then-not-is_empty-clause-meets
@@ -581,6 +585,7 @@ get_arguments-loop-alloc-preserved m c =
           old.invariant.gathered (omega (arith, c.if-place-self.false, old.invariant.within))
           (sym c.loop-alloc-test.ensures) c.in_ok-expression.expression _ c.in_ok-expression.ensures.meets is none _
           c.in_ok-push-in_default.ensures.items _ c.skip_separator-place-in_default.ensures.meets;
+      noted = old.invariant.noted;
     }
 
 pub get_arguments-returns-clause-within : goal.get_arguments-returns-clause-within
@@ -975,3 +980,9 @@ pub get_variants-returns-in_err-push-clause-meets :
     goal.get_variants-returns-in_err-push-clause-meets
 get_variants-returns-in_err-push-clause-meets m c =
     rw (out_of_memory c.from_residual-in_err-push.result c.from_residual-in_err-push.ensures.1) no_memory
+
+pub get_arguments-returns-in_err-note-in-Some-clause-meets :
+    goal.get_arguments-returns-in_err-note-in-Some-clause-meets
+get_arguments-returns-in_err-note-in-Some-clause-meets m c =
+    rw (out_of_memory c.from_residual-in_err-note-in-Some.result
+    c.from_residual-in_err-note-in-Some.ensures.1) no_memory

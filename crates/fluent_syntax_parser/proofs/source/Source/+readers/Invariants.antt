@@ -5,7 +5,8 @@ use Rattle.fluent_syntax_grammar.specs.Grammar as grammar
 use Rattle.fluent_syntax_grammar.specs.Lines.{next_line, next_piece}
 use Rattle.fluent_syntax_grammar.specs.Variants.{next_variant}
 use Rattle.fluent_syntax_parser.specs.Lines.{line_view, piece_view}
-use Rattle.fluent_syntax_parser.specs.Gathered.{names_in}
+use Rattle.fluent_syntax_parser.specs.Gathered.{names_in, names_in_order}
+use Rattle.fluent_syntax_parser.specs.Noted.{Notes}
 use Rattle.fluent_syntax_parser.proofs.Behind.{Behind, BehindItems}
 use Rattle.fluent_syntax_parser.proofs.GatheredArguments.{put_arguments}
 use Rattle.fluent_syntax_parser.proofs.GatheredVariants.{put_variants}
@@ -64,6 +65,7 @@ invariant-get_arguments-loop-alloc l =
           Behind t (next_argument t (grammar.within l.edition t l.nesting)) add_argument
           (arguments no_inlines no_named) [] l.ptr
           (put_arguments l.positional.items l.named.items) (names_in t l.named.items) l.place;
+      noted : Notes (λ k. k.now) l.noted.table.keys (names_in_order t l.named.items);
     }
 
 abbrev pub decreases-get_arguments-loop-alloc : goal.decreases-get_arguments-loop-alloc
