@@ -96,10 +96,11 @@ shown_back t = shown 0 t ++ ellipsis (nat_lt window (length (chars t)))
 abbrev pub below_front : List ℕ → List ℕ
 below_front t = below_ellipsis (nat_lt 0 (window_start t)) ++ below (window_start t) t
 
--- the line as it is shown, and below it a caret at the place
-abbrev pub excerpt : (t : List ℕ) (cut : ℕ) → List ℕ
-excerpt t cut =
-    shown_front (front t cut) ++ shown_back (back t cut) ++ codes "\n" ++ below_front (front t cut) ++ codes "^\n"
+-- the line as it is shown, and below it the caret at the place
+abbrev pub excerpt : (caret t : List ℕ) (cut : ℕ) → List ℕ
+excerpt caret t cut =
+    shown_front (front t cut) ++ shown_back (back t cut) ++ codes "\n" ++ below_front (front t cut) ++ caret ++
+    codes "\n"
 
 -- where the character begins that has the byte at the place
 pub record BeginsCharacter (t : List ℕ) (place cut : ℕ) : Type 0 where
@@ -108,9 +109,9 @@ pub record BeginsCharacter (t : List ℕ) (place cut : ℕ) : Type 0 where
   pub nearest : (i : ℕ) → cut < i → i ≤ place → ¬ (IsCharBoundary t i)
 
 -- the excerpt at the character that has the place
-abbrev pub IsExcerpt : (t : List ℕ) (place : ℕ) → List ℕ → Type 0
-IsExcerpt t place lines = (cut : ℕ) × BeginsCharacter t place cut × (lines ≡ excerpt t cut)
+abbrev pub IsExcerpt : (caret t : List ℕ) (place : ℕ) → List ℕ → Type 0
+IsExcerpt caret t place lines = (cut : ℕ) × BeginsCharacter t place cut × (lines ≡ excerpt caret t cut)
 
 -- the excerpt was added to old
-abbrev pub AddsExcerpt : (t : List ℕ) (place : ℕ) → (old new : List ℕ) → Type 0
-AddsExcerpt t place old new = (lines : List ℕ) × IsExcerpt t place lines × (new ≡ old ++ lines)
+abbrev pub AddsExcerpt : (caret t : List ℕ) (place : ℕ) → (old new : List ℕ) → Type 0
+AddsExcerpt caret t place old new = (lines : List ℕ) × IsExcerpt caret t place lines × (new ≡ old ++ lines)

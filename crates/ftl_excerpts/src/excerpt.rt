@@ -7,31 +7,37 @@ use crate::line::{back, front};
 use crate::shown::{WINDOW, push_below, push_shown, window_start};
 use std::alloc::AllocError;
 
-/// Adds two lines: the text's line that has the place, and a caret below the character of that place.
+/// Adds two lines: the text's line that has the place, and the caret below the character of that place.
 ///
 /// The place is a byte of the text, counted from 0. One behind the line's last character has its caret there. Of a line
 /// that is longer, the 100 characters before the place and the 100 from there on are shown, with `…` for the others. A
 /// tab stays a tab, and stands in the caret's line too. Any other control character is shown as U+FFFD. No line end
-/// but the two that are added is written.
+/// but the two that are added is written. The caret is `^`, or what a terminal shows as one, and is added as it is.
 ///
 /// `AllocError`: a growth was refused; what was added until then stays.
-pub fn push_excerpt(out: &mut String, text: &str, place: usize) -> Result<(), AllocError>
-    ensures { OnOk result (AddsExcerpt text.now place (string_bytes out.old) (string_bytes out.new)) }
+pub fn push_excerpt(
+    out: &mut String,
+    text: &str,
+    place: usize,
+    caret: &str,
+) -> Result<(), AllocError>
+    ensures { OnOk result (AddsExcerpt caret.now text.now place (string_bytes out.old) (string_bytes out.new)) }
 {
-    push_cut_line(out, text, text.floor_char_boundary(place))
+    push_cut_line(out, text, text.floor_char_boundary(place), caret)
 }
 
 /// The same of a place where a character begins.
-fn push_cut_line(out: &mut String, text: &str, cut: usize) -> Result<(), AllocError>
+fn push_cut_line(out: &mut String, text: &str, cut: usize, caret: &str) -> Result<(), AllocError>
     requires { IsCharBoundary text.now cut }
-    ensures { OnOk result (string_bytes out.new ≡ string_bytes out.old ++ excerpt text.now cut) }
+    ensures { OnOk result (string_bytes out.new ≡ string_bytes out.old ++ excerpt caret.now text.now cut) }
 {
     let front = front(text, cut);
     push_front(out, front)?;
     push_back(out, back(text, cut))?;
     out.push('\n')?;
     push_below_front(out, front)?;
-    out.push_str("^\n")
+    out.push_str(caret)?;
+    out.push('\n')
 }
 
 /// Adds what is shown before the place.

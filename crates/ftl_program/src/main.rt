@@ -2,6 +2,7 @@
 //! `lsp` a language server for them.
 #![tactic(auto)]
 
+mod colors;
 mod editor;
 mod help;
 mod paths;

@@ -1,12 +1,13 @@
 //! Files and folders, answered each by its name.
 
+use crate::colors::form_over_paths;
 use crate::standard::{all_input, tell_of_terminal};
 use crate::telling::refuse_run;
 use ftl::RunFault;
 use ftl_files::{Disk, Memory, Store, list};
 use ftl_project::{
-    Fault, Form, Streams, Tally, check_files, check_summary, convert_files, format_summary,
-    name_files, print_files, tell, write_files,
+    Fault, Streams, Tally, check_files, check_summary, convert_files, format_summary, name_files,
+    print_files, tell, write_files,
 };
 use ftl_words::{Change, Task, Work};
 use std::alloc::AllocError;
@@ -130,7 +131,7 @@ fn answer_files<S: Store>(
     };
     match (work.task, work.task.command(reading.edition)) {
         (Task::Check(form), _) => {
-            let form = form.unwrap_or(Form::Full);
+            let form = form_over_paths(rt, form, work.color);
             check_files(alloc, store, files, reading, form, tally, &mut streams)
         }
         (Task::Format(Change::Write), _) => {

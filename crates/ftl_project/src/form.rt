@@ -7,6 +7,8 @@ pub enum Form {
     Lines,
     /// That with the message, and below it the line of the source and a caret.
     Full,
+    /// The same in the colours of a terminal.
+    Colored,
     /// A JSON object on a line.
     Json,
     /// A line that GitHub shows beside the source.

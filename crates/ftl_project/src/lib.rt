@@ -8,6 +8,7 @@ mod form;
 mod formatting;
 mod github;
 mod json;
+mod paint;
 mod printing;
 mod reading;
 mod refused;

@@ -4,6 +4,7 @@ ghost use Rattle.std.specs.Prelude.{◌≡◌, string_bytes};
 use crate::form::Form;
 use crate::github::push_github_line;
 use crate::json::push_json_line;
+use crate::paint::{COLORED, PLAIN, Paint};
 use crate::refused::Refused;
 use fluent_syntax::parser::ParserError;
 use fluent_syntax::spans::Lines;
@@ -36,7 +37,8 @@ pub fn report(
         let place = Place { path, line, column };
         match form {
             Form::Lines => push_line(&mut out, &place, error)?,
-            Form::Full => push_in_full(&mut out, text, &place, error)?,
+            Form::Full => push_in_full(&mut out, text, &place, error, &PLAIN)?,
+            Form::Colored => push_in_full(&mut out, text, &place, error, &COLORED)?,
             Form::Json => push_json_line(&mut out, &place, error)?,
             Form::Github => push_github_line(&mut out, &place, error)?,
         }
@@ -56,13 +58,22 @@ fn push_in_full(
     text: &str,
     place: &Place<'_>,
     error: &ParserError,
+    paint: &Paint,
 ) -> Result<(), AllocError> {
+    let Paint {
+        before_place,
+        before_kind,
+        behind,
+        caret,
+    } = *paint;
+    out.push_str(before_place)?;
     push_place(out, place)?;
+    let kind = error.kind.name();
+    write!(out, "{behind}: {before_kind}error[{kind}]{behind}: ")?;
     let message = format!(in out.allocator().clone()?; "{error}")?;
-    write!(out, ": error[{}]: ", error.kind.name())?;
     push_shown_text(out, message.as_str())?;
     out.push('\n')?;
-    push_excerpt(out, text, error.pos.start)
+    push_excerpt(out, text, error.pos.start, caret)
 }
 
 /// `PATH:LINE:COLUMN`

@@ -62,7 +62,7 @@ const ROWS: [Row; 13] = [
 fn assert_shown(alloc: Global, row: &Row) -> Result<(), Fail> {
     let (shows, text, place, expected) = row;
     let mut out = String::new(alloc);
-    push_excerpt(&mut out, text, *place)?;
+    push_excerpt(&mut out, text, *place, "^")?;
     assert_same_text(alloc, *shows, out.as_str(), *expected)
 }
 
@@ -87,7 +87,7 @@ fn assert_cut(
     let others = "y".repeat(alloc, behind)?;
     let text = format!(in alloc; "a = b\n{letters}!{others}\n")?;
     let mut out = String::new(alloc);
-    push_excerpt(&mut out, text.as_str(), 6 + before)?;
+    push_excerpt(&mut out, text.as_str(), 6 + before, "^")?;
     let shown_before = "x".repeat(alloc, before.min(100))?;
     let shown_others = "y".repeat(alloc, shown_behind)?;
     let below = " ".repeat(alloc, shown_before.len())?;

@@ -11,7 +11,7 @@ type Row = (&'static str, &'static str, &'static str, Form, &'static str);
 
 const BROKEN: &str = "a = b\nbro ken\n";
 
-const ROWS: [Row; 6] = [
+const ROWS: [Row; 7] = [
     (
         "a line",
         "a.ftl",
@@ -25,6 +25,14 @@ const ROWS: [Row; 6] = [
         BROKEN,
         Form::Full,
         "a.ftl:2:5: error[ExpectedToken]: Expected a token starting with \"=\"\nbro ken\n    ^\n",
+    ),
+    (
+        "a line and a caret in colours",
+        "a.ftl",
+        BROKEN,
+        Form::Colored,
+        "\u{1B}[1ma.ftl:2:5\u{1B}[0m: \u{1B}[1;31merror[ExpectedToken]\u{1B}[0m: \
+        Expected a token starting with \"=\"\nbro ken\n    \u{1B}[1;31m^\u{1B}[0m\n",
     ),
     (
         "a name with a line end",

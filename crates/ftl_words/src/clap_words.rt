@@ -7,6 +7,8 @@ static EDITIONS: [&str; 2] = ["1", "2"];
 
 static FORMS: [&str; 4] = ["lines", "full", "json", "github"];
 
+static COLORS: [&str; 3] = ["auto", "always", "never"];
+
 /// A nesting that a stack of 8 MB bears with room to spare, as a word.
 const NESTING: &str = "2000";
 
@@ -45,6 +47,13 @@ fn check<'a>(alloc: Global, name: &'a str) -> Result<Command<'a>, AllocError> {
         .help("How an error is told: full where there are paths, else as a line of numbers")
         .action(ArgAction::Set)
         .value_parser(FORMS.as_slice());
+    let color = Arg::new(alloc, "color")
+        .long("color")
+        .value_name("WHEN")
+        .help("Colours of the full form; auto: on a terminal, where NO_COLOR is not set")
+        .action(ArgAction::Set)
+        .value_parser(COLORS.as_slice())
+        .default_value("auto");
     let stdin_name = Arg::new(alloc, "stdin-name")
         .long("stdin-name")
         .value_name("NAME")
@@ -61,6 +70,7 @@ fn check<'a>(alloc: Global, name: &'a str) -> Result<Command<'a>, AllocError> {
   ftl check < menu.ftl           a line of numbers for each error",
     )?
     .arg(output)?
+    .arg(color)?
     .arg(stdin_name)
 }
 

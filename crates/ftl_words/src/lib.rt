@@ -8,5 +8,5 @@ mod requested;
 
 pub use clap_words::command_line;
 pub use mistakes::{mistake, status_of};
-pub use request::{Change, Request, Task, Work};
+pub use request::{Change, Color, Request, Task, Work};
 pub use requested::request_of;

@@ -22,6 +22,8 @@ pub struct Work<'a> {
     pub task: Task,
     /// How a text is read.
     pub reading: Reading,
+    /// Whether errors are told in colours.
+    pub color: Color,
     /// What standard input is called.
     pub stdin_name: &'a str,
     /// Files and folders, and `-` for standard input; none for standard input alone.
@@ -41,6 +43,15 @@ pub enum Task {
     Json,
     /// Read a tree as JSON, and write its text.
     FromJson,
+}
+
+/// When errors are told in colours.
+#[derive(Clone, Copy, Debug, PartialEq, Eq)]
+pub enum Color {
+    /// On a terminal, where nobody asked for none.
+    Auto,
+    Always,
+    Never,
 }
 
 /// What becomes of a formatted text.

@@ -1,7 +1,7 @@
 //! The request that a command line makes.
 
 use crate::clap_words::command_line;
-use crate::request::{Change, Request, Task, Work};
+use crate::request::{Change, Color, Request, Task, Work};
 use clap::{ArgMatches, Error};
 use fluent_syntax::parser::Edition;
 use ftl_project::{Form, Reading};
@@ -23,6 +23,7 @@ pub fn request_of<'a>(alloc: Global, words: &'a [String]) -> Result<Request<'a>,
     Ok(Request::Answer(Work {
         task: task_of(word, options),
         reading: reading_of(word, options),
+        color: color_of(options),
         stdin_name: options.get_str("stdin-name").unwrap_or("<stdin>"),
         paths: paths_of(alloc, options)?,
     }))
@@ -44,6 +45,14 @@ fn form_of(options: &ArgMatches<'_>) -> Option<Form> {
         "full" => Some(Form::Full),
         "json" => Some(Form::Json),
         _ => Some(Form::Github),
+    }
+}
+
+fn color_of(options: &ArgMatches<'_>) -> Color {
+    match options.get_str("color") {
+        Some("always") => Color::Always,
+        Some("never") => Color::Never,
+        _ => Color::Auto,
     }
 }
 
