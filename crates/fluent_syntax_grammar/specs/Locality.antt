@@ -57,6 +57,11 @@ begins_entry [] = false
 begins_entry (b ∷ []) = is_entry_byte b
 begins_entry (b ∷ c ∷ bs) = is_entry_byte b && not (b == hyphen && c == greater_than)
 
+-- whether there are no bytes, or they begin like an entry
+abbrev pub ends_or_begins : List ℕ → Bool
+ends_or_begins [] = true
+ends_or_begins (b ∷ bs) = begins_entry (b ∷ bs)
+
 -- whether the bytes begin with a `#`
 abbrev pub begins_comment : List ℕ → Bool
 begins_comment [] = false
@@ -88,12 +93,12 @@ SameRest edition t u =
     starts_line u q ≡ true → Tiled t (TileAt edition t) p xs → Tiled u (TileAt edition u) q ys →
     ((own : List Tile) × (xs ≡ moved_tiles p own) × (ys ≡ moved_tiles q own)) × (tree_of t xs ≡ tree_of u ys)
 
--- Prefixes: tiles without junk that lead up to the start of a line, where in place of the rest r stands u and both
--- begin like an entry, are kept; if not the last of them is a comment directly before a `#` of u.
+-- Prefixes: tiles without junk that lead up to the start of a line, where in place of the rest r stands u and each of
+-- both is empty or begins like an entry, are kept; if not the last of them is a comment directly before a `#` of u.
 abbrev pub PrefixLocal : Edition → (a r u : List ℕ) → Type 0
 PrefixLocal edition a r u =
-    (before : List Tile) → starts_line (a ++ r) (length a) ≡ true → begins_entry r ≡ true → begins_entry u ≡ true →
-    faults before ≡ [] → (ends_in_comment (length a) before ≡ true → begins_comment u ≡ false) →
+    (before : List Tile) → starts_line (a ++ r) (length a) ≡ true → ends_or_begins r ≡ true →
+    ends_or_begins u ≡ true → faults before ≡ [] → (ends_in_comment (length a) before ≡ true → begins_comment u ≡ false) →
     Led (a ++ r) (TileAt edition (a ++ r)) (length a) 0 before →
     Led (a ++ u) (TileAt edition (a ++ u)) (length a) 0 before
 
@@ -101,8 +106,8 @@ PrefixLocal edition a r u =
 -- those of u by itself, moved.
 abbrev pub Joins : Edition → (a r u : List ℕ) → Type 0
 Joins edition a r u =
-    (before own : List Tile) → starts_line (a ++ r) (length a) ≡ true → begins_entry r ≡ true →
-    begins_entry u ≡ true → faults before ≡ [] →
+    (before own : List Tile) → starts_line (a ++ r) (length a) ≡ true → ends_or_begins r ≡ true →
+    ends_or_begins u ≡ true → faults before ≡ [] →
     (ends_in_comment (length a) before ≡ true → begins_comment u ≡ false) →
     Led (a ++ r) (TileAt edition (a ++ r)) (length a) 0 before → Tiling edition u own →
     Tiling edition (a ++ u) (before ++ moved_tiles (length a) own)
@@ -150,13 +155,14 @@ ReadsFirst edition e blank c =
     Tiling edition (entry_text e ++ (blank_lines blank ++ c)) (new ++ moved_tiles (length (entry_text e) + blank) own)
     × (faults new ≡ []) × (tree_of (entry_text e ++ (blank_lines blank ++ c)) new ≡ e ∷ [])
 
--- Replacing: in a text a and r, in place of r a written entry, blank lines and c. Where r begins like an entry at the
--- start of a line, tiles without junk lead up to it, and no comment ends there before a `#` of the new entry: the tiles
--- of the new text are those, then tiles of the new entry, and those of c by itself, moved; and its errors are those of
--- c by itself, moved. Where r is an entry and c, this replaces the entry; where r is c, it inserts one.
+-- Replacing: in a text a and r, in place of r a written entry, blank lines and c. Where r is empty or begins like an
+-- entry at the start of a line, tiles without junk lead up to it, and no comment ends there before a `#` of the new
+-- entry: the tiles of the new text are those, then tiles of the new entry, and those of c by itself, moved; and its
+-- errors are those of c by itself, moved. Where r is an entry and c, this replaces the entry; where r is c, it inserts
+-- one, and where both are empty it appends one.
 abbrev pub Replaces : Edition → (a r : List ℕ) → EntryTree Text → (blank : ℕ) → (c : List ℕ) → Type 0
 Replaces edition a r e blank c =
-    (before own : List Tile) → starts_line (a ++ r) (length a) ≡ true → begins_entry r ≡ true → faults before ≡ [] →
+    (before own : List Tile) → starts_line (a ++ r) (length a) ≡ true → ends_or_begins r ≡ true → faults before ≡ [] →
     (ends_in_comment (length a) before ≡ true → begins_comment (entry_text e) ≡ false) →
     Led (a ++ r) (TileAt edition (a ++ r)) (length a) 0 before → is_canonical edition (e ∷ []) ≡ true →
     may_begin c ≡ true → Tiling edition c own →
@@ -185,14 +191,14 @@ Replaced edition t e blank =
     × (tree_of (take s.start t ++ (entry_text e ++ (blank_lines blank ++ drop s.end t)))
     (moved_tiles (s.start + (length (entry_text e) + blank)) own) ≡ tree_of t after)
 
--- Removing an entry behind tiles without junk, where what stands behind it begins like an entry: the tiles of the new
--- text are those before, and those behind, moved from where they stood to where they stand.
+-- Removing an entry behind tiles without junk, where the text ends right behind it, or what stands there begins like an
+-- entry: the tiles of the new text are those before, and those behind, moved from where they stood to where they stand.
 abbrev pub Removed : Edition → List ℕ → Type 0
 Removed edition t =
     (before after : List Tile) (s : Span) (old : EntryTree Span) →
     Tiling edition t (before ++ (entry s old ∷ after)) → faults before ≡ [] →
     (ends_in_comment s.start before ≡ true → begins_comment (drop s.end t) ≡ false) →
-    begins_entry (drop s.end t) ≡ true →
+    ends_or_begins (drop s.end t) ≡ true →
     (own : List Tile) × (after ≡ moved_tiles s.end own) ×
     Tiling edition (take s.start t ++ drop s.end t) (before ++ moved_tiles s.start own)
     × (tree_of (take s.start t ++ drop s.end t) (moved_tiles s.start own) ≡ tree_of t after)
@@ -212,6 +218,16 @@ Inserted edition t e blank =
     ≡ e ∷ [])
     × (tree_of (take s.start t ++ (entry_text e ++ (blank_lines blank ++ drop s.start t)))
     (moved_tiles (s.start + (length (entry_text e) + blank)) own) ≡ tree_of t (entry s old ∷ after))
+
+-- Appending a written entry and blank lines at the end of a text without junk, where a line starts there: the tiles of
+-- the new text are those of the text, and tiles that give the new entry text by text.
+abbrev pub Appended : Edition → List ℕ → EntryTree Text → (blank : ℕ) → Type 0
+Appended edition t e blank =
+    (before : List Tile) → Tiling edition t before → faults before ≡ [] → starts_line t (length t) ≡ true →
+    (ends_in_comment (length t) before ≡ true → begins_comment (entry_text e) ≡ false) →
+    is_canonical edition (e ∷ []) ≡ true →
+    (new : List Tile) × Tiling edition (t ++ (entry_text e ++ blank_lines blank)) (before ++ moved_tiles (length t) new)
+    × (tree_of (t ++ (entry_text e ++ blank_lines blank)) (moved_tiles (length t) new) ≡ e ∷ [])
 
 -- The same in place of several entries in a row: from the start of the first to the end of the last. So a message is
 -- replaced with the comment that hangs on it.

@@ -2,6 +2,7 @@
 
 ghost use Rattle.std.specs.Prelude.{ℕ};
 ghost use Rattle.fluent_syntax_grammar.specs.Locality.{
+  Appended,
   Inserted,
   Joins,
   KeepsTree,
@@ -43,10 +44,10 @@ pub fn reads_rest(text: &str, other: &str)
 /// The laws of what stands before a place, of a text `before` that `rest` follows or `other` in its place, and both
 /// editions of the grammar.
 ///
-/// - `prefix`: if both begin like an entry at the start of a line, and tiles without junk lead up to it, these tiles
-///   are kept; if not the last of them is a comment that ends there and `other` begins with `#`.
+/// - `prefix`: if each of both is empty or begins like an entry, at the start of a line, and tiles without junk lead up
+///   to it, these tiles are kept; if not the last of them is a comment that ends there and `other` begins with `#`.
 /// - `joins`: then the tiles of the new text are these and those of `other` by itself, moved, and its errors are those
-///   of `other` by itself, moved. So an entry can be removed where an entry follows it.
+///   of `other` by itself, moved. So an entry can be removed where an entry follows it or the text ends.
 pub fn reads_up_to(before: &str, rest: &str, other: &str)
     ensures prefix { (edition : Edition) → PrefixLocal edition before.now rest.now other.now }
     ensures joins { (edition : Edition) → Joins edition before.now rest.now other.now }
@@ -56,11 +57,11 @@ pub fn reads_up_to(before: &str, rest: &str, other: &str)
 ///
 /// - `first`: a canonical entry as it is written, then blank lines, then a text at which an entry may begin: what is
 ///   read is that entry, without an error, and then that text as it is by itself, moved.
-/// - `replaces`: in place of `rest` in a text, that entry, blank lines and `after`. Where `rest` begins like an entry
-///   at the start of a line, and tiles without junk lead up to it, the tiles of the new text are these, then tiles that
-///   give the entry text by text, then those of `after` by itself, moved; and its errors are those of `after` by
-///   itself, moved. The premise of `prefix` on comments holds here too. Where `rest` is an entry and `after`, this
-///   replaces the entry; where it is `after`, this inserts one.
+/// - `replaces`: in place of `rest` in a text, that entry, blank lines and `after`. Where `rest` is empty or begins like
+///   an entry, at the start of a line, and tiles without junk lead up to it, the tiles of the new text are these, then
+///   tiles that give the entry text by text, then those of `after` by itself, moved; and its errors are those of `after`
+///   by itself, moved. The premise of `prefix` on comments holds here too. Where `rest` is an entry and `after`, this
+///   replaces the entry; where it is `after`, this inserts one; where both are empty, this appends one.
 pub fn replaces_entry<'s, S: Slice<'s>>(before: &str, rest: &str, entry: &Entry<S>, after: &str)
     ensures first { (edition : Edition) (blank : ℕ) → ReadsFirst edition (entry_view S.text entry.now) blank after.now }
     ensures replaces { (edition : Edition) (blank : ℕ) →
@@ -80,12 +81,14 @@ pub fn replaces_entry<'s, S: Slice<'s>>(before: &str, rest: &str, entry: &Entry<
 /// - `run`: the same in place of several entries in a row, as a message and the comment that hangs on it.
 /// - `before`: the tiles before an entry give text by text the same in each text that has the same bytes before it.
 /// - `inserted`: the same as `replaced` in front of an entry.
-/// - `removed`: an entry is removed right behind which an entry begins.
+/// - `appended`: the same behind the last tile, where the text ends with a line end or is empty.
+/// - `removed`: an entry is removed right behind which an entry begins, or the text ends.
 pub fn edits_entry<'s, S: Slice<'s>>(text: &str, entry: &Entry<S>)
     ensures tree { (edition : Edition) (blank : ℕ) → KeepsTree edition text.now (entry_view S.text entry.now) blank }
     ensures replaced { (edition : Edition) (blank : ℕ) → Replaced edition text.now (entry_view S.text entry.now) blank }
     ensures run { (edition : Edition) (blank : ℕ) → ReplacedRun edition text.now (entry_view S.text entry.now) blank }
     ensures before { (edition : Edition) → SameBefore edition text.now }
+    ensures appended { (edition : Edition) (blank : ℕ) → Appended edition text.now (entry_view S.text entry.now) blank }
     ensures inserted { (edition : Edition) (blank : ℕ) → Inserted edition text.now (entry_view S.text entry.now) blank }
     ensures removed { (edition : Edition) → Removed edition text.now }
 {}

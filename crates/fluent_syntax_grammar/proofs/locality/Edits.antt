@@ -11,10 +11,11 @@ use Rattle.fluent_syntax_grammar.specs.Tiling.{Tile, entry, refused, dropped, is
 use Rattle.fluent_syntax_grammar.specs.Tiling.{RuntimeTileAt, TileAt, Tiling, reads, refuses}
 use Rattle.fluent_syntax_grammar.specs.Body.{faults}
 use Rattle.fluent_syntax_grammar.specs.RoundTrip.{tree_of}
-use Rattle.fluent_syntax_grammar.specs.Locality.{moved_tiles, Led, arrives, onward, begins_entry}
+use Rattle.fluent_syntax_grammar.specs.Locality.{moved_tiles, Led, arrives, onward, begins_entry, ends_or_begins}
 use Rattle.fluent_syntax_grammar.specs.Locality.{begins_comment, SuffixLocal, SameRest, PrefixLocal}
 use Rattle.fluent_syntax_grammar.specs.Locality.{Joins, RuntimeSuffixLocal}
 use Rattle.fluent_syntax_grammar.proofs.Facts.{has_inside, left_true, right_true}
+use Rattle.fluent_syntax_grammar.proofs.Cuts.{block_forward}
 use Rattle.fluent_syntax_grammar.proofs.LineEnds.{block_at_entry}
 use Rattle.fluent_syntax_grammar.proofs.Functional.{single_block}
 use Rattle.fluent_syntax_grammar.proofs.OneTiling.{one_runtime_tile, one_tile, tiled_same}
@@ -86,18 +87,15 @@ range_left a r i j l = elim (le_or_lt i (length a)) [
     le_or_lt : (i n : ℕ) → (i ≤ n) ⊎ (n < i)
     le_or_lt i n = grind arith
 
-pub head_of : (t r : List ℕ) (p : ℕ) → Behind p t r → begins_entry r ≡ true → Head t p
-head_of t [] p b e = absurd cc
+pub head_of : (t r : List ℕ) (p : ℕ) → Behind p t r → ends_or_begins r ≡ true → Head t p
+head_of t [] p b e =
+    let z : p + 0 ≡ p = omega arith in
+    let none : slice_get t p ≡ None = subst (λ k. slice_get t k ≡ None) z (b.byte 0) in
+    record { begins = rw none refl; no_arrow = rw none refl }
 head_of t (c ∷ []) p b e =
     let z : p + 0 ≡ p = omega arith in
     let first : slice_get t p ≡ Some c = subst (λ k. slice_get t k ≡ Some c) z (b.byte 0) in
-    let o : p + 1 ≡ p + 1 = refl in
-    record {
-      byte = c;
-      stands = first;
-      begins = head_byte c e;
-      no_arrow = rw (first, b.byte 1) (no_right (c == hyphen));
-    }
+    record { begins = rw first (head_byte c e); no_arrow = rw (first, b.byte 1) (no_right (c == hyphen)) }
   where
     no_right : (x : Bool) → (x && false) ≡ false
     no_right true = refl
@@ -106,9 +104,7 @@ head_of t (c ∷ d ∷ bs) p b e =
     let z : p + 0 ≡ p = omega arith in
     let first : slice_get t p ≡ Some c = subst (λ k. slice_get t k ≡ Some c) z (b.byte 0) in
     record {
-      byte = c;
-      stands = first;
-      begins = head_byte c (left_true (is_entry_byte c) (not (c == hyphen && d == greater_than)) e);
+      begins = rw first (head_byte c (left_true (is_entry_byte c) (not (c == hyphen && d == greater_than)) e));
       no_arrow =
           rw (first, b.byte 1) (not_true (c == hyphen && d == greater_than)
           (right_true (is_entry_byte c) (not (c == hyphen && d == greater_than)) e));
@@ -117,6 +113,10 @@ head_of t (c ∷ d ∷ bs) p b e =
     not_true : (x : Bool) → not x ≡ true → x ≡ false
     not_true true e = cc
     not_true false e = refl
+
+pub begins_ends : (bs : List ℕ) → begins_entry bs ≡ true → ends_or_begins bs ≡ true
+begins_ends [] e = refl
+begins_ends (b ∷ bs) e = e
 
 pub line_byte : (t : List ℕ) (p i : ℕ) → starts_line t p ≡ true → i + 1 ≡ p → slice_get t i ≡ Some lf
 line_byte t p i e f = byte_ten (slice_get t i) (line_has t p i e f)
@@ -141,8 +141,8 @@ line_byte t p i e f = byte_ten (slice_get t i) (line_has t p i e f)
     byte_ten (Some b) e = ap Some (is_ten b e)
 
 -- two texts that begin with the same bytes
-shared_of : (a r u : List ℕ) → starts_line (a ++ r) (length a) ≡ true → begins_entry r ≡ true →
-    begins_entry u ≡ true → Shared (length a) (a ++ r) (a ++ u)
+shared_of : (a r u : List ℕ) → starts_line (a ++ r) (length a) ≡ true → ends_or_begins r ≡ true →
+    ends_or_begins u ≡ true → Shared (length a) (a ++ r) (a ++ u)
 shared_of a r u e f g = record {
   byte = λ i l. get_left a r i l ∙ sym (get_left a u i l);
   range = λ i j l. range_left a r i j l ∙ sym (range_left a u i j l);
@@ -164,17 +164,21 @@ prefix_local edition a r u = λ before e f g n k d.
 
 -- ---- both
 
-module _ (edition : Edition) (t : List ℕ) (p : ℕ) (h : has t is_entry_byte p ≡ true) where
+module _ (edition : Edition) (t : List ℕ) (p : ℕ) (h : (has t is_entry_byte p ≡ true) ⊎ (p ≡ length t)) where
   -- tiles from p on, behind a blank block that ends there
   from_block : (i : ℕ) (ys : List Tile) → BlankBlock t i p → Tiled t (TileAt edition t) p ys →
       Tiled t (TileAt edition t) i ys
-  from_block i ys b (done c) =
-      let l = has_inside is_entry_byte t p h in
-      let e = single_block.same p _ _ (block_at_entry t p h) c in
-      absurd (omega arith)
-  from_block i ys b (next {start = start} {end = end} {tile = x} c l a r) =
-      let e : p ≡ start = single_block.same p _ _ (block_at_entry t p h) c in
-      next (subst (λ k. BlankBlock t i k) e b) l a r
+  from_block i ys b (done c) = elim h [
+    | inl g ↦ (let l = has_inside is_entry_byte t p g in
+        let e = single_block.same p _ _ (block_at_entry t p g) c in
+        absurd (omega arith))
+    | inr e ↦ done (subst (λ k. BlankBlock t i k) e b)
+  ]
+  from_block i ys b (next {start = start} {end = end} {tile = x} c l a r) = elim h [
+    | inl g ↦ (let e : p ≡ start = single_block.same p _ _ (block_at_entry t p g) c in
+        next (subst (λ k. BlankBlock t i k) e b) l a r)
+    | inr e ↦ (let f = block_forward t p start c in absurd (omega arith))
+  ]
 
   -- tiles behind entries that lead up to p
   led_then : (i : ℕ) (xs ys : List Tile) → faults xs ≡ [] → Led t (TileAt edition t) p i xs →
@@ -202,13 +206,14 @@ line_kept a r u false e f =
     positive : (n : ℕ) → (n == 0) ≡ false → n - 1 < n
     positive n e = grind (arith, nat_tests)
 
-first_entry : (t u : List ℕ) (p : ℕ) → Behind p t u → begins_entry u ≡ true → has t is_entry_byte p ≡ true
-first_entry t [] p b e = absurd cc
+first_entry : (t u : List ℕ) (p : ℕ) → Behind p t u → ends_or_begins u ≡ true →
+    (has t is_entry_byte p ≡ true) ⊎ (p ≡ length t)
+first_entry t [] p b e = let n = b.size in inr (omega arith)
 first_entry t (c ∷ []) p b e = let z : p + 0 ≡ p = omega arith in
-    subst (λ k. has t is_entry_byte k ≡ true) z (ap (holds is_entry_byte) (b.byte 0) ∙ e)
+    inl (subst (λ k. has t is_entry_byte k ≡ true) z (ap (holds is_entry_byte) (b.byte 0) ∙ e))
 first_entry t (c ∷ d ∷ bs) p b e = let z : p + 0 ≡ p = omega arith in
-    subst (λ k. has t is_entry_byte k ≡ true) z (ap (holds is_entry_byte) (b.byte 0)
-    ∙ left_true (is_entry_byte c) (not (c == hyphen && d == greater_than)) e)
+    inl (subst (λ k. has t is_entry_byte k ≡ true) z (ap (holds is_entry_byte) (b.byte 0)
+    ∙ left_true (is_entry_byte c) (not (c == hyphen && d == greater_than)) e))
 
 pub joins : (edition : Edition) (a r u : List ℕ) → Joins edition a r u
 joins edition a r u = λ before own e f g n k d w.

@@ -17,7 +17,7 @@ use Rattle.fluent_syntax_grammar.specs.Body.{faults}
 use Rattle.fluent_syntax_grammar.specs.Written.{Text}
 use Rattle.fluent_syntax_grammar.specs.RoundTrip.{tree_of}
 use Rattle.fluent_syntax_grammar.specs.Locality.{moved, moved_tile, moved_tiles, Led, begins_entry, entry_text}
-use Rattle.fluent_syntax_grammar.specs.Locality.{blank_lines, Replaced, ReplacedRun}
+use Rattle.fluent_syntax_grammar.specs.Locality.{blank_lines, Replaced, ReplacedRun, Appended, arrives, onward}
 use Rattle.fluent_syntax_grammar.proofs.Facts.{none_holds}
 use Rattle.fluent_syntax_grammar.proofs.Tests.{differ}
 use Rattle.fluent_syntax_grammar.proofs.SoundStrings.{InText}
@@ -39,9 +39,9 @@ use Rattle.fluent_syntax_grammar.proofs.locality.Replaced.{gap_length}
 use Rattle.fluent_syntax_grammar.specs.Canonical.{is_canonical}
 use Rattle.fluent_syntax_grammar.specs.Locality.{begins_comment, ends_in_comment, may_begin, Inserted, Removed}
 use Rattle.fluent_syntax_grammar.specs.Tiling.{reads}
-use Rattle.fluent_syntax_grammar.proofs.Facts.{left_true, differs}
+use Rattle.fluent_syntax_grammar.proofs.Facts.{append_nothing, left_true, differs}
 use Rattle.fluent_syntax_grammar.proofs.LineEnds.{block_at_entry}
-use Rattle.fluent_syntax_grammar.proofs.locality.Edits.{faults_append, joins}
+use Rattle.fluent_syntax_grammar.proofs.locality.Edits.{begins_ends, faults_append, joins}
 
 -- ---- what an entry begins with
 
@@ -230,7 +230,7 @@ changed edition t before after ys s old e blank q l f k h m rest =
     let w = entry_text e in
     let n = length w + blank in
     let y =
-    replaces edition x r e blank c before rest.own l.starts l.begins f
+    replaces edition x r e blank c before rest.own l.starts (begins_ends r l.begins) f
     (λ g. k (subst (λ i. ends_in_comment i before ≡ true) l.size g)) l.led h m rest.tiling in
     let v = x ++ (w ++ (blank_lines blank ++ c)) in
     let places : moved_tiles (length x) (y.0 ++ moved_tiles n rest.own) ≡
@@ -286,13 +286,40 @@ removed edition t = λ before after s old a f k h.
     let x = take s.start t in
     let c = drop s.end t in
     let j =
-    joins edition x (drop s.start t) c before rest.own l.starts l.begins h f
+    joins edition x (drop s.start t) c before rest.own l.starts (begins_ends (drop s.start t) l.begins) h f
     (λ g. k (subst (λ i. ends_in_comment i before ≡ true) l.size g)) l.led rest.tiling in
     let b : Behind s.start (x ++ c) c = subst (λ i. Behind i (x ++ c) c) l.size (behind x c) in (
       rest.own,
       rest.is,
       subst (λ i. Tiling edition (x ++ c) (before ++ moved_tiles i rest.own)) l.size j.0,
       tree_there s.start (x ++ c) c b rest.own ∙ sym rest.tree,
+    )
+
+-- the tiles of a text lead up to its end
+led_whole : (t : List ℕ) (at : (i j : ℕ) → Tile → Type 0) (i : ℕ) (xs : List Tile) → Tiled t at i xs →
+    Led t at (length t) i xs
+led_whole t at i xs (done b) = arrives b
+led_whole t at i xs (next {end = end} {tiles = more} b l a d) = onward b a (led_whole t at end more d)
+
+pub appended : (edition : Edition) (t : List ℕ) (e : EntryTree Text) (blank : ℕ) → Appended edition t e blank
+appended edition t e blank = λ before a f s k h.
+    let x = some_tiling edition [] in
+    let none : x.0 ≡ [] = no_tiles [] (TileAt edition []) 0 x.0 (omega arith) x.1 in
+    let whole : t ++ [] ≡ t = append_nothing t in
+    let led : Led (t ++ []) (TileAt edition (t ++ [])) (length t) 0 before =
+    subst (λ v. Led v (TileAt edition v) (length t) 0 before) (sym whole) (led_whole t (TileAt edition t) 0 before a) in
+    let starts : starts_line (t ++ []) (length t) ≡ true =
+    subst (λ v. starts_line v (length t) ≡ true) (sym whole) s in
+    let y = replaces edition t [] e blank [] before x.0 starts refl f k led h refl x.1 in
+    let w = entry_text e in
+    let tail : blank_lines blank ++ [] ≡ blank_lines blank = append_nothing (blank_lines blank) in
+    let tiles : y.0 ++ moved_tiles (length w + blank) x.0 ≡ y.0 =
+    ap (λ zs. y.0 ++ moved_tiles (length w + blank) zs) none ∙ append_nothing y.0 in (
+      y.0,
+      subst (λ zs. Tiling edition (t ++ (w ++ zs)) (before ++ moved_tiles (length t) y.0)) tail
+          (subst (λ zs. Tiling edition (t ++ (w ++ (blank_lines blank ++ []))) (before ++ moved_tiles (length t) zs))
+          tiles y.1),
+      subst (λ zs. tree_of (t ++ (w ++ zs)) (moved_tiles (length t) y.0) ≡ e ∷ []) tail y.2,
     )
 
 pub replaced_run : (edition : Edition) (t : List ℕ) (e : EntryTree Text) (blank : ℕ) → ReplacedRun edition t e blank

@@ -19,14 +19,17 @@ use Rattle.fluent_syntax_grammar.proofs.Sound.{good_more}
 abbrev pub is_head_byte : ℕ → Bool
 is_head_byte b = is_entry_byte b || nat_le 128 b
 
--- such a byte stands there, and no `->`
+-- such a byte, or none
+abbrev pub is_head : Option ℕ → Bool
+is_head None = true
+is_head (Some b) = is_head_byte b
+
+-- such a byte stands there or the text ends, and there is no `->`
 pub record Head (t : List ℕ) (p : ℕ) : Type 0 where
-  pub byte : ℕ
-  pub stands : slice_get t p ≡ Some byte
-  pub begins : is_head_byte byte ≡ true
+  pub begins : is_head (slice_get t p) ≡ true
   pub no_arrow : has_arrow t p ≡ false
 
--- Before p the texts are the same; there a line starts, and in both texts a byte that begins an entry stands.
+-- Before p the texts are the same; there a line starts, and in each text a byte that begins an entry stands, or it ends.
 pub record Shared (p : ℕ) (t u : List ℕ) : Type 0 where
   pub byte : (i : ℕ) → i < p → slice_get t i ≡ slice_get u i
   pub range : (i j : ℕ) → j ≤ p → slice_range t i j ≡ slice_range u i j
@@ -67,6 +70,16 @@ pub record KeepsFrom {A : Type 0} (p k : ℕ) (M : Type 0) (Good : A → Type 0)
   pub keep : M → (i j : ℕ) (a : A) → i < k → i ≤ p → j ≤ p → c i (Read a j) → d i (Read a j)
   pub good : M → (i j : ℕ) (a : A) → j ≤ p → c i (Read a j) → Good a
   pub forward : (i j : ℕ) (a : A) → i < k → c i (Read a j) → i ≤ j
+
+-- The same of a part that begins before p: at p itself it may read nothing in the one text, and read on in the other.
+pub record KeepsBelow {A : Type 0} (p : ℕ) (M : Type 0) (Good : A → Type 0) (c d : Construct A) : Type 0 where
+  pub keep : M → (i j : ℕ) (a : A) → i < p → j ≤ p → c i (Read a j) → d i (Read a j)
+  pub good : M → (i j : ℕ) (a : A) → j ≤ p → c i (Read a j) → Good a
+  pub forward : (i j : ℕ) (a : A) → c i (Read a j) → i ≤ j
+
+-- what begins before p, and ends at p at the latest, ends before p
+pub record EndsBelow {A : Type 0} (p : ℕ) (c : Construct A) : Type 0 where
+  pub ends : (i j : ℕ) (a : A) → i < p → j ≤ p → c i (Read a j) → j < p
 
 -- ---- the formers
 
@@ -236,20 +249,23 @@ module _ (p : ℕ) where
 
   -- ---- lists
 
-  module _ {A S B : Type 0} (f g : S → Construct (More A S)) (add : A → B → B) (none : B)
+  -- from the places of a kind on, up to p at the latest
+  module _ {A S B : Type 0} (At : ℕ → Type 0) (f g : S → Construct (More A S)) (add : A → B → B) (none : B)
       (forward : (s : S) (i j : ℕ) (x : More A S) → f s i (Read x j) → i ≤ j)
-      (keep : (s : S) (i j : ℕ) (x : More A S) → i ≤ p → j ≤ p → f s i (Read x j) → g s i (Read x j)) where
+      (keep : (s : S) (i j : ℕ) (x : More A S) → At i → j ≤ p → f s i (Read x j) → g s i (Read x j))
+      (stays : (s : S) (i j : ℕ) (x : More A S) → At i → j ≤ p → f s i (Read x j) → At j) where
     many_forward : (s : S) (i j : ℕ) (b : B) → many f add none s i (Read b j) → i ≤ j
     many_forward s i j b (list_ends x) = forward s i j _ x
     many_forward s i j b (item_and_more {later = r} {j = m} x y) =
         let l = forward s i m _ x in let k = many_forward r m j _ y in omega arith
 
-    many_keep : (s : S) (i j : ℕ) (b : B) → i ≤ p → j ≤ p → many f add none s i (Read b j) →
+    many_keep : (s : S) (i j : ℕ) (b : B) → At i → j ≤ p → many f add none s i (Read b j) →
         many g add none s i (Read b j)
     many_keep s i j b l n (list_ends x) = list_ends (keep s i j _ l n x)
     many_keep s i j b l n (item_and_more {later = r} {j = m} x y) =
         let k = many_forward r m j _ y in
-        item_and_more (keep s i m _ l (omega arith) x) (many_keep r m j _ (omega arith) n y)
+        let q : m ≤ p = omega arith in
+        item_and_more (keep s i m _ l q x) (many_keep r m j _ (stays s i m _ l q x) n y)
 
     module _ (Good : A → Type 0) (All : B → Type 0) (e : All none)
         (adds : (a : A) (b : B) → Good a → All b → All (add a b))
@@ -260,11 +276,17 @@ module _ (p : ℕ) where
           let k = many_forward r m j _ y in
           adds _ _ (good s i m _ (omega arith) x) (many_good r m j _ n y)
 
+  abbrev UpTo : ℕ → Type 0
+  UpTo i = i ≤ p
+
+  abbrev Below : ℕ → Type 0
+  Below i = i < p
+
   pub keeps_many : {A S B : Type 0} {f g : S → Construct (More A S)} {add : A → B → B} {none : B} {s : S} →
       ((s : S) → Keeps p (f s) (g s)) → Keeps p (many f add none s) (many g add none s)
   keeps_many {f = f} {g = g} {add = add} {none = none} {s = s} k = record {
-    keep = many_keep f g add none (λ r. (k r).forward) (λ r. (k r).keep) s;
-    forward = many_forward f g add none (λ r. (k r).forward) (λ r. (k r).keep) s;
+    keep = many_keep UpTo f g add none (λ r. (k r).forward) (λ r. (k r).keep) (λ r i j x l n y. n) s;
+    forward = many_forward UpTo f g add none (λ r. (k r).forward) (λ r. (k r).keep) (λ r i j x l n y. n) s;
   }
 
   -- an item's value, where there is one, is good, and added to a good list it makes a good one
@@ -273,11 +295,89 @@ module _ (p : ℕ) where
       All none → ((a : A) (b : B) → Good a → All b → All (add a b)) →
       KeepsIf p (Unit {0}) All (many f add none s) (many g add none s)
   if_many {f = f} {g = g} {add = add} {none = none} {s = s} {Good = Good} {All = All} k e adds = record {
-    keep = λ m. many_keep f g add none (λ r. (k r).forward) (λ r. (k r).keep tt) s;
+    keep = λ m. many_keep UpTo f g add none (λ r. (k r).forward) (λ r. (k r).keep tt) (λ r i j x l n y. n) s;
     good =
-        λ m. many_good f g add none (λ r. (k r).forward) (λ r. (k r).keep tt) Good All e adds (λ r. (k r).good tt) s;
-    forward = many_forward f g add none (λ r. (k r).forward) (λ r. (k r).keep tt) s;
+        λ m. many_good UpTo f g add none (λ r. (k r).forward) (λ r. (k r).keep tt) (λ r i j x l n y. n) Good All e adds
+        (λ r. (k r).good tt) s;
+    forward = many_forward UpTo f g add none (λ r. (k r).forward) (λ r. (k r).keep tt) (λ r i j x l n y. n) s;
   }
+
+  -- the same of items each of which begins before p
+  pub below_many : {A S B : Type 0} {M : Type 0} {f g : S → Construct (More A S)} {add : A → B → B} {none : B} {s : S}
+      {Good : A → Type 0} {All : B → Type 0} → ((s : S) → KeepsBelow p (Unit {0}) (good_more Good) (f s) (g s)) →
+      ((s : S) → EndsBelow p (f s)) → All none → ((a : A) (b : B) → Good a → All b → All (add a b)) →
+      KeepsBelow p M All (many f add none s) (many g add none s)
+  below_many {f = f} {g = g} {add = add} {none = none} {s = s} {Good = Good} {All = All} k q e adds = record {
+    keep = λ m. many_keep Below f g add none (λ r. (k r).forward) (λ r. (k r).keep tt) (λ r. (q r).ends) s;
+    good =
+        λ m. many_good Below f g add none (λ r. (k r).forward) (λ r. (k r).keep tt) (λ r. (q r).ends) Good All e adds
+        (λ r. (k r).good tt) s;
+    forward = many_forward Below f g add none (λ r. (k r).forward) (λ r. (k r).keep tt) (λ r. (q r).ends) s;
+  }
+
+  -- ---- parts that begin before p
+
+  pub below_if : {A : Type 0} {M : Type 0} {Good : A → Type 0} {c d : Construct A} → KeepsIf p M Good c d →
+      KeepsBelow p M Good c d
+  below_if m = record {
+    keep = λ h i j a l. m.keep h i j a (omega arith);
+    good = m.good;
+    forward = m.forward;
+  }
+
+  below_keep : {A B : Type 0} (M : Type 0) (Mid : A → Type 0) (Good : B → Type 0) (c d : Construct A)
+      (f g : A → Construct B) → KeepsBelow p M Mid c d → ((a : A) → KeepsIf p (M × Mid a) Good (f a) (g a)) → M →
+      (i j : ℕ) (b : B) → i < p → j ≤ p → (c >>= f) i (Read b j) → (d >>= g) i (Read b j)
+  below_keep M Mid Good c d f g m k h i j b l n (goes_on {j = q} {a = a} x y) =
+      let w = (k a).forward q j b y in
+      goes_on (m.keep h i q a l (omega arith) x)
+      ((k a).keep (h, m.good h i q a (omega arith) x) q j b (omega arith) n y)
+
+  below_good : {A B : Type 0} (M : Type 0) (Mid : A → Type 0) (Good : B → Type 0) (c d : Construct A)
+      (f g : A → Construct B) → KeepsBelow p M Mid c d → ((a : A) → KeepsIf p (M × Mid a) Good (f a) (g a)) → M →
+      (i j : ℕ) (b : B) → j ≤ p → (c >>= f) i (Read b j) → Good b
+  below_good M Mid Good c d f g m k h i j b n (goes_on {j = q} {a = a} x y) =
+      let w = (k a).forward q j b y in (k a).good (h, m.good h i q a (omega arith) x) q j b n y
+
+  pub below_bind : {A B : Type 0} {M : Type 0} {Mid : A → Type 0} {Good : B → Type 0} {c d : Construct A}
+      {f g : A → Construct B} → KeepsBelow p M Mid c d → ((a : A) → KeepsIf p (M × Mid a) Good (f a) (g a)) →
+      KeepsBelow p M Good (c >>= f) (d >>= g)
+  below_bind {M = M} {Mid = Mid} {Good = Good} m k = record {
+    keep = below_keep M Mid Good _ _ _ _ m k;
+    good = below_good M Mid Good _ _ _ _ m k;
+    forward = bind_forward _ _ m.forward (λ a. (k a).forward);
+  }
+
+  then_keep : {A B : Type 0} (M : Type 0) (Mid : A → Type 0) (Good : B → Type 0) (c d : Construct A)
+      (f g : A → Construct B) → KeepsIf p M Mid c d → EndsBelow p c →
+      ((a : A) → KeepsBelow p (M × Mid a) Good (f a) (g a)) → M →
+      (i j : ℕ) (b : B) → i < p → j ≤ p → (c >>= f) i (Read b j) → (d >>= g) i (Read b j)
+  then_keep M Mid Good c d f g m v k h i j b l n (goes_on {j = q} {a = a} x y) =
+      let w = (k a).forward q j b y in
+      goes_on (m.keep h i q a (omega arith) (omega arith) x)
+      ((k a).keep (h, m.good h i q a (omega arith) x) q j b (v.ends i q a l (omega arith) x) n y)
+
+  then_good : {A B : Type 0} (M : Type 0) (Mid : A → Type 0) (Good : B → Type 0) (c d : Construct A)
+      (f g : A → Construct B) → KeepsIf p M Mid c d → ((a : A) → KeepsBelow p (M × Mid a) Good (f a) (g a)) → M →
+      (i j : ℕ) (b : B) → j ≤ p → (c >>= f) i (Read b j) → Good b
+  then_good M Mid Good c d f g m k h i j b n (goes_on {j = q} {a = a} x y) =
+      let w = (k a).forward q j b y in (k a).good (h, m.good h i q a (omega arith) x) q j b n y
+
+  -- behind a part that ends before p
+  pub below_then : {A B : Type 0} {M : Type 0} {Mid : A → Type 0} {Good : B → Type 0} {c d : Construct A}
+      {f g : A → Construct B} → KeepsIf p M Mid c d → EndsBelow p c →
+      ((a : A) → KeepsBelow p (M × Mid a) Good (f a) (g a)) → KeepsBelow p M Good (c >>= f) (d >>= g)
+  below_then {M = M} {Mid = Mid} {Good = Good} m v k = record {
+    keep = then_keep M Mid Good _ _ _ _ m v k;
+    good = then_good M Mid Good _ _ _ _ m k;
+    forward = bind_forward _ _ m.forward (λ a. (k a).forward);
+  }
+
+  here_stays : (i j a : ℕ) → i < p → j ≤ p → here i (Read a j) → j < p
+  here_stays i j a l n at_place = l
+
+  pub here_ends : EndsBelow p here
+  here_ends = record { ends = here_stays }
 
   -- ---- parts behind a line end
 

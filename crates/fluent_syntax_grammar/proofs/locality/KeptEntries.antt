@@ -9,7 +9,7 @@ use Rattle.fluent_syntax_tree.specs.Entry.{AttributeTree, EntryTree, junk}
 use Rattle.fluent_syntax_tree.specs.declared.spans.Span.{Span}
 use Rattle.fluent_syntax_tree.specs.declared.edition.Edition.{Edition}
 use Rattle.fluent_syntax_grammar.specs.Bytes.{is_letter}
-use Rattle.fluent_syntax_grammar.specs.Places.{holds, has, has_byte, has_eol, after_eol, InlineBlank, BlankBlock}
+use Rattle.fluent_syntax_grammar.specs.Places.{holds, has, has_byte, after_eol, InlineBlank, BlankBlock}
 use Rattle.fluent_syntax_grammar.specs.Places.{no_line}
 use Rattle.fluent_syntax_grammar.specs.Places.{line}
 use Rattle.fluent_syntax_grammar.specs.Construct.{at_each}
@@ -37,11 +37,11 @@ use Rattle.fluent_syntax_grammar.proofs.SoundStrings.{InText}
 use Rattle.fluent_syntax_grammar.proofs.Boundaries.{text_cuts}
 use Rattle.fluent_syntax_grammar.proofs.SoundTiling.{entry_read}
 use Rattle.fluent_syntax_grammar.proofs.locality.Kept.{is_head_byte}
-use Rattle.fluent_syntax_grammar.proofs.locality.Kept.{Head, Shared, Keeps, keeps_bind, keeps_gives, keeps_over}
-use Rattle.fluent_syntax_grammar.proofs.locality.Kept.{keeps_here, keeps_fails, keeps_at_each, keeps_at_head}
-use Rattle.fluent_syntax_grammar.proofs.locality.KeptWords.{same_eol, no_eol_head, kept_steps, kept_block, keeps_token}
-use Rattle.fluent_syntax_grammar.proofs.locality.KeptWords.{token_forward, keeps_inline_blank, keeps_blank_block}
-use Rattle.fluent_syntax_grammar.proofs.locality.KeptWords.{keeps_spanned, keeps_optional_eol, keeps_rest_of_line}
+use Rattle.fluent_syntax_grammar.proofs.locality.Kept.{Any, Shared, Keeps, KeepsBelow, below_bind, keeps_bind, keeps_gives, plain}
+use Rattle.fluent_syntax_grammar.proofs.locality.Kept.{keeps_here, keeps_fails, keeps_at_each}
+use Rattle.fluent_syntax_grammar.proofs.locality.KeptWords.{same_eol, kept_block, keeps_token, keeps_then, token_below}
+use Rattle.fluent_syntax_grammar.proofs.locality.KeptWords.{keeps_inline_blank, keeps_blank_block, other_byte, head_has, other_has, last_has}
+use Rattle.fluent_syntax_grammar.proofs.locality.KeptWords.{keeps_spanned, keeps_optional_eol, below_rest_of_line}
 use Rattle.fluent_syntax_grammar.proofs.locality.KeptWords.{keeps_identifier, last_other}
 use Rattle.fluent_syntax_grammar.proofs.locality.KeptRules as rules
 
@@ -73,18 +73,24 @@ module _ (edition : Edition) (t : List ℕ) where
   eol_no_dot k m e =
       elim (eol_cases t k m e) [ inl x ↦ byte_not 10 46 k refl x.0 | inr x ↦ byte_not 13 46 k refl x.0 ]
 
-  spaces_at_entry : (i k : ℕ) → has t is_head_byte i ≡ true → InlineBlank t i k → k ≡ i
-  spaces_at_entry i k e w = elim (lt_or_same i k w.forward) [
-    | inl l ↦ differs (w.each i (omega arith) l) (entry_not 32 i refl e)
+  -- neither a space nor a dot stands there
+  pub record Quiet (i : ℕ) : Type 0 where
+    pub no_space : has_byte t 32 i ≡ false
+    pub no_dot : has_byte t 46 i ≡ false
+
+  pub quiet_entry : (i : ℕ) → has t is_head_byte i ≡ true → Quiet i
+  quiet_entry i e = record { no_space = entry_not 32 i refl e; no_dot = entry_not 46 i refl e }
+
+  spaces_at_quiet : (i k : ℕ) → Quiet i → InlineBlank t i k → k ≡ i
+  spaces_at_quiet i k q w = elim (lt_or_same i k w.forward) [
+    | inl l ↦ differs (w.each i (omega arith) l) q.no_space
     | inr f ↦ sym f
   ]
 
-  -- no attribute stands before blank lines and an entry
-  none_before : (i start : ℕ) → BlankBlock t i start → has t is_head_byte start ≡ true →
-      attributes edition t i (Read [] i)
+  -- no attribute stands before blank lines and such a place
+  none_before : (i start : ℕ) → BlankBlock t i start → Quiet start → attributes edition t i (Read [] i)
   none_before i start (no_line {k = k} w e) f =
-      let g = spaces_at_entry i k f w in
-      none_at i k w (subst (λ k. has_byte t 46 k ≡ false) (sym g) (entry_not 46 i refl f))
+      let g = spaces_at_quiet i k f w in none_at i k w (subst (λ k. has_byte t 46 k ≡ false) (sym g) f.no_dot)
   none_before i start (line {k = k} {m = m} w e r) f = none_at i k w (eol_no_dot k m e)
 
   -- where `#` stands, the blank block is empty
@@ -138,9 +144,9 @@ module _ (edition : Edition) (t : List ℕ) where
 -- ---- what is kept
 
 module _ (edition : Edition) (p : ℕ) (t u : List ℕ) (s : Shared p t u) where
-  keeps_pattern : Keeps p (pattern edition t) (pattern edition u)
-  keeps_pattern =
-      rules.keeps_pattern edition p t u s (family edition t) (family edition u) (rules.keeps_family edition p t u s)
+  below_pattern : {M : Type 0} → KeepsBelow p M Any (pattern edition t) (pattern edition u)
+  below_pattern =
+      rules.below_pattern edition p t u s (family edition t) (family edition u) (rules.keeps_family edition p t u s)
 
   keeps_with : (id : Span) (q : Option (PatternTree Span)) → Keeps p (attribute_with id q) (attribute_with id q)
   keeps_with id None = keeps_fails p
@@ -150,7 +156,7 @@ module _ (edition : Edition) (p : ℕ) (t u : List ℕ) (s : Shared p t u) where
   keeps_attribute =
       keeps_bind p (keeps_inline_blank p t u s) (λ x. keeps_bind p (keeps_token p t u s 46) (λ x.
       keeps_bind p (keeps_identifier p t u s) (λ id. keeps_bind p (keeps_inline_blank p t u s) (λ x.
-      keeps_bind p (keeps_token p t u s 61) (λ x. keeps_bind p keeps_pattern (λ q. keeps_with id q))))))
+      keeps_then p t u s {Good = Any} 61 refl (below_bind p below_pattern (λ q. plain p (keeps_with id q)))))))
 
   attributes_forward : (i j : ℕ) (as' : List (AttributeTree Span)) → attributes edition t i (Read as' j) → i ≤ j
   attributes_forward i j as' (no_more x) = omega arith
@@ -186,14 +192,15 @@ module _ (edition : Edition) (p : ℕ) (t u : List ℕ) (s : Shared p t u) where
       let k7 = end.0 in
       let k6 = attributes_forward f g as' q in
       let k5 = (keeps_blank_block p t u s).forward d f _ v in
-      let k4 = keeps_pattern.forward c d _ w in
+      let k4 = (below_pattern {M = Unit {0}}).forward c d _ w in
       let k3 = (keeps_token p t u s 61).forward b c _ z in
       let k2 = (keeps_inline_blank p t u s).forward a b _ y in
       let k1 = (keeps_identifier p t u s).forward i a _ x in
+      let before = token_below p t u s 61 b c _ refl (omega arith) z in
       goes_on at_place (goes_on ((keeps_identifier p t u s).keep i a _ l (omega arith) x)
       (goes_on ((keeps_inline_blank p t u s).keep a b _ (omega arith) (omega arith) y)
       (goes_on ((keeps_token p t u s 61).keep b c _ (omega arith) (omega arith) z)
-      (goes_on (keeps_pattern.keep c d _ (omega arith) (omega arith) w)
+      (goes_on ((below_pattern {M = Unit {0}}).keep (tt {0}) c d _ before (omega arith) w)
       (goes_on ((keeps_blank_block p t u s).keep d f _ (omega arith) (omega arith) v)
       (goes_on (attributes_keep f g as' (omega arith) (omega arith)
       (subst (λ g. attributes edition u g (Read [] g)) (sym k7) h) q) end.1))))))
@@ -207,16 +214,17 @@ module _ (edition : Edition) (p : ℕ) (t u : List ℕ) (s : Shared p t u) where
       let k7 = end.0 in
       let k6 = attributes_forward f g as' q in
       let k5 = (keeps_blank_block p t u s).forward d f _ v in
-      let k4 = keeps_pattern.forward c d _ w in
+      let k4 = (below_pattern {M = Unit {0}}).forward c d _ w in
       let k3 = (keeps_token p t u s 61).forward b c _ z in
       let k2 = (keeps_inline_blank p t u s).forward a b _ y in
       let k1 = (keeps_identifier p t u s).forward m a _ x in
       let k0 = (keeps_token p t u s 45).forward i m _ m' in
+      let before = token_below p t u s 61 b c _ refl (omega arith) z in
       goes_on at_place (goes_on ((keeps_token p t u s 45).keep i m _ l (omega arith) m')
       (goes_on ((keeps_identifier p t u s).keep m a _ (omega arith) (omega arith) x)
       (goes_on ((keeps_inline_blank p t u s).keep a b _ (omega arith) (omega arith) y)
       (goes_on ((keeps_token p t u s 61).keep b c _ (omega arith) (omega arith) z)
-      (goes_on (keeps_pattern.keep c d _ (omega arith) (omega arith) w)
+      (goes_on ((below_pattern {M = Unit {0}}).keep (tt {0}) c d _ before (omega arith) w)
       (goes_on ((keeps_blank_block p t u s).keep d f _ (omega arith) (omega arith) v)
       (goes_on (attributes_keep f g as' (omega arith) (omega arith)
       (subst (λ g. attributes edition u g (Read [] g)) (sym k7) h) q) end.1)))))))
@@ -225,7 +233,7 @@ module _ (edition : Edition) (p : ℕ) (t u : List ℕ) (s : Shared p t u) where
 
   keeps_text : (eol : Bool) → Keeps p (comment_text t eol) (comment_text u eol)
   keeps_text true = keeps_bind p (keeps_here p) (λ i. keeps_spanned p t u s i)
-  keeps_text false = keeps_bind p (keeps_token p t u s 32) (λ x. keeps_rest_of_line p t u s)
+  keeps_text false = keeps_then p t u s 32 refl (below_rest_of_line p t u s)
 
   keeps_rest : (o : Option ℕ) → Keeps p (comment_rest t o) (comment_rest u o)
   keeps_rest None = keeps_gives p
@@ -233,29 +241,49 @@ module _ (edition : Edition) (p : ℕ) (t u : List ℕ) (s : Shared p t u) where
       keeps_bind p (keeps_at_each p (same_eol p t u s) keeps_text) (λ c.
       keeps_bind p (keeps_optional_eol p t u s) (λ x. keeps_gives p))
 
-  text_late : (eol : Bool) → eol ≡ false → (j : ℕ) (c : Span) → comment_text t eol p (Read c j) → p < j
-  text_late true e j c x = cc
-  text_late false e j c (goes_on {j = k} x y) =
-      let a = token_forward p t u s 32 p k _ x in let b = (keeps_rest_of_line p t u s).forward k j c y in omega arith
+  rest_there : (i j : ℕ) (c : List Span) → i < p → j ≤ p → at_each (slice_get t) (comment_rest t) i (Read c j) →
+      at_each (slice_get u) (comment_rest u) i (Read c j)
+  rest_there i j c l n (chosen x) =
+      chosen (subst (λ o. comment_rest u o i (Read c j)) (s.byte i l)
+      ((keeps_rest (slice_get t i)).keep i j c (omega arith) n x))
 
-  rest_late : (o : Option ℕ) → slice_get t p ≡ o → (j : ℕ) (c : List Span) → comment_rest t o p (Read c j) → p < j
-  rest_late None e j c x = let h = s.head in some_none h.stands e
-  rest_late (Some b) e j c (goes_on {j = k} (chosen x) (goes_on {j = m} y given)) =
-      let a = text_late (has_eol t p) (no_eol_head p t u s) k _ x in
-      let b = (keeps_optional_eol p t u s).forward k m _ y in
-      omega arith
+  rest_on : (i j : ℕ) (c : List Span) → at_each (slice_get t) (comment_rest t) i (Read c j) → i ≤ j
+  rest_on i j c (chosen x) = (keeps_rest (slice_get t i)).forward i j c x
 
-  keeps_rest_at : Keeps p (at_each (slice_get t) (comment_rest t)) (at_each (slice_get u) (comment_rest u))
-  keeps_rest_at = keeps_at_head p s.byte (rest_late (slice_get t p) refl) keeps_rest
+  line_on : (level i j : ℕ) (c : List Span) → comment_line t level i (Read c j) → i + level ≤ j
+  line_on level i j c (goes_on {j = k} (passed w) x) = let a = w.by in let b = rest_on k j c x in omega arith
 
-  keeps_line : (level : ℕ) → Keeps p (comment_line t level) (comment_line u level)
-  keeps_line level = keeps_bind p (keeps_over p (kept_steps p t u s level)) (λ x. keeps_rest_at)
+  -- the byte before p is no `#`
+  hashes_below : (level i : ℕ) → hashes t i ≡ level → 0 < level → i + level ≢ p
+  hashes_below level i e l f =
+      by_count (has_byte t 35 i) (has_byte t 35 (i + 1)) (has_byte t 35 (i + 2)) refl refl refl e
+    where
+      by_count : (a b c : Bool) → has_byte t 35 i ≡ a → has_byte t 35 (i + 1) ≡ b → has_byte t 35 (i + 2) ≡ c →
+          (if not a then 0 else if not b then 1 else if not c then 2 else 3) ≡ level → ⊥
+      by_count false b c x y z g = omega arith
+      by_count true false c x y z g =
+          let q : i + 1 ≡ p = omega arith in differs x (last_has p t u s (λ b. b == 35) i q)
+      by_count true true false x y z g =
+          let q : (i + 1) + 1 ≡ p = omega arith in differs y (last_has p t u s (λ b. b == 35) (i + 1) q)
+      by_count true true true x y z g =
+          let q : (i + 2) + 1 ≡ p = omega arith in differs z (last_has p t u s (λ b. b == 35) (i + 2) q)
+
+  line_there : (level i j : ℕ) (c : List Span) → 0 < level → hashes t i ≡ level → j ≤ p →
+      comment_line t level i (Read c j) → comment_line u level i (Read c j)
+  line_there level i j c l e n (goes_on {j = k} (passed w) x) =
+      let a = w.by in
+      let b = rest_on k j c x in
+      let m : k ≤ p = omega arith in
+      elim (lt_or_same k p m) [
+        | inl q ↦ goes_on (passed w) (rest_there k j c q n x)
+        | inr q ↦ (let f : i + level ≡ p = omega arith in absurd (hashes_below level i e l f))
+      ]
 
   lines_forward : (level i j : ℕ) (c : List Span) → comment_lines t level i (Read c j) → i ≤ j
   lines_forward level i j c (other_level d) = omega arith
   lines_forward level i j c (no_comment_line e x) = omega arith
   lines_forward level i j c (comments.one_more {j = k} e x r) =
-      let a = (keeps_line level).forward i k _ x in let b = lines_forward level k j _ r in omega arith
+      let a = line_on level i k _ x in let b = lines_forward level k j _ r in omega arith
 
   hashes_same : (i : ℕ) → i < p → hashes t i ≡ hashes u i
   hashes_same i l = three_same (i + 1) (i + 2) refl refl
@@ -294,12 +322,6 @@ module _ (edition : Edition) (p : ℕ) (t u : List ℕ) (s : Shared p t u) where
                 (last_other p t u s (λ b. b == 35) i o)))
           ]
 
-  line_strict : (level i j : ℕ) (c : List Span) → 0 < level → comment_line t level i (Read c j) → i < j
-  line_strict level i j c l (goes_on {j = k} (passed w) x) =
-      let a = w.by in
-      let b = keeps_rest_at.forward k j c x in
-      omega arith
-
   -- at the end of a comment no line of its level stands
   lines_keep : (level i j : ℕ) (c : List Span) → 0 < level → i ≤ p → j ≤ p → hashes u j ≢ level →
       comment_lines t level i (Read c j) → comment_lines u level i (Read c j)
@@ -307,22 +329,22 @@ module _ (edition : Edition) (p : ℕ) (t u : List ℕ) (s : Shared p t u) where
   lines_keep level i j c o l n d (no_comment_line e x) = other_level d
   lines_keep level i j c o l n d (comments.one_more {j = k} {content = v} e x r) =
       let b = lines_forward level k j _ r in
-      let a = line_strict level i k v o x in
-      comments.one_more (sym (hashes_same i (omega arith)) ∙ e)
-      ((keeps_line level).keep i k v l (omega arith) x) (lines_keep level k j _ o (omega arith) n d r)
+      let a = line_on level i k v x in
+      comments.one_more (sym (hashes_same i (omega arith)) ∙ e) (line_there level i k v o e (omega arith) x)
+      (lines_keep level k j _ o (omega arith) n d r)
 
-  comment_keep_of : (i j level : ℕ) (e : EntryTree Span) → 0 < level → i ≤ p → j ≤ p → hashes u j ≢ level →
-      comment_of t level i (Read e j) → comment_of u level i (Read e j)
+  comment_keep_of : (i j level : ℕ) (e : EntryTree Span) → 0 < level → hashes t i ≡ level → j ≤ p →
+      hashes u j ≢ level → comment_of t level i (Read e j) → comment_of u level i (Read e j)
   comment_keep_of i j level e o l n d (goes_on {j = k} {a = v} x (goes_on {a = w} y given)) =
       let b = lines_forward level k j w y in
-      goes_on ((keeps_line level).keep i k v l (omega arith) x)
+      goes_on (line_there level i k v o l (omega arith) x)
       (goes_on (lines_keep level k j w o (omega arith) n d y) given)
 
   comment_keep : (i j : ℕ) (e : EntryTree Span) → i < p → j ≤ p → 0 < hashes t i → hashes u j ≢ hashes t i →
       comment_entry t i (Read e j) → comment_entry u i (Read e j)
   comment_keep i j e l n o d (chosen x) =
       chosen (subst (λ h. comment_of u h i (Read e j)) (hashes_same i l)
-      (comment_keep_of i j (hashes t i) e o (omega arith) n d x))
+      (comment_keep_of i j (hashes t i) e o refl n d x))
 
 -- ---- where a comment ends
 
@@ -414,13 +436,28 @@ module _ (edition : Edition) (p : ℕ) (t u : List ℕ) (s : Shared p t u) where
     start : ℕ
     block : BlankBlock t end start
     inside : start ≤ p
-    head : has t is_head_byte start ≡ true
+    quiet : Quiet edition t start
     tree : EntryTree Span
     stop : ℕ
     stands : ((start ≡ p) × (tiles ≡ [])) ⊎ ((start < p) × entry_at edition t start (Read tree stop))
 
-  head_entry : (v : List ℕ) → Head v p → has v is_head_byte p ≡ true
-  head_entry v h = ap (holds is_head_byte) h.stands ∙ h.begins
+  quiet_head : Quiet edition t p
+  quiet_head = record {
+    no_space = head_has p t u s (other_byte 32 refl);
+    no_dot = head_has p t u s (other_byte 46 refl);
+  }
+
+  quiet_other : Quiet edition u p
+  quiet_other = record {
+    no_space = other_has p t u s (other_byte 32 refl);
+    no_dot = other_has p t u s (other_byte 46 refl);
+  }
+
+  quiet_below : (i : ℕ) → i < p → Quiet edition t i → Quiet edition u i
+  quiet_below i l q = record {
+    no_space = sym (ap (holds (λ b. b == 32)) (s.byte i l)) ∙ q.no_space;
+    no_dot = sym (ap (holds (λ b. b == 46)) (s.byte i l)) ∙ q.no_dot;
+  }
 
   head_place : (start : ℕ) → has t is_entry_byte start ≡ true → start ≤ length t
   head_place start e = let x = has_inside is_entry_byte t start e in omega arith
@@ -442,7 +479,7 @@ module _ (edition : Edition) (p : ℕ) (t u : List ℕ) (s : Shared p t u) where
     start = p;
     block = b;
     inside = omega arith;
-    head = head_entry t s.head;
+    quiet = quiet_head;
     tree = junk (record { start = 0; end = 0 });
     stop = 0;
     stands = inl (refl, refl);
@@ -454,7 +491,7 @@ module _ (edition : Edition) (p : ℕ) (t u : List ℕ) (s : Shared p t u) where
         start = start;
         block = b;
         inside = omega arith;
-        head = head_of_entry t start (entry_head edition t start q e r);
+        quiet = quiet_entry edition t start (head_of_entry t start (entry_head edition t start q e r));
         tree = e;
         stop = q;
         stands = inr ((omega arith), r);
@@ -466,8 +503,8 @@ module _ (edition : Edition) (p : ℕ) (t u : List ℕ) (s : Shared p t u) where
   next_attributes end tiles l n =
       none_before edition u end n.start ((kept_block p t u s).leads end n.start l n.inside n.block)
       (elim (lt_or_same n.start p n.inside) [
-        | inl m ↦ ap (holds is_head_byte) (sym (s.byte n.start m)) ∙ n.head
-        | inr e ↦ subst (λ k. has u is_head_byte k ≡ true) (sym e) (head_entry u s.other)
+        | inl m ↦ quiet_below n.start m n.quiet
+        | inr e ↦ subst (Quiet edition u) (sym e) quiet_other
       ])
 
   zero_apart : (a b : ℕ) → a ≡ 0 → 0 < b → a ≢ b

@@ -11,17 +11,17 @@ use Rattle.fluent_syntax_grammar.specs.Places.{is_blank_place, is_line_place, In
 use Rattle.fluent_syntax_grammar.specs.Places.{line}
 use Rattle.fluent_syntax_grammar.specs.Lines.{is_run_place}
 use Rattle.fluent_syntax_grammar.specs.Placeables.{has_arrow}
-use Rattle.fluent_syntax_grammar.specs.Construct.{Read, ◌>>=◌, goes_on, gives, given, at_place}
+use Rattle.fluent_syntax_grammar.specs.Construct.{Read, Construct, ◌>>=◌, goes_on, gives, given, at_place}
 use Rattle.fluent_syntax_grammar.specs.Construct.{passed, at_each, chosen, either, first, second}
 use Rattle.fluent_syntax_grammar.specs.Words.{optional, token, spanned, inline_blank, blank, blank_block}
 use Rattle.fluent_syntax_grammar.specs.Words.{optional_eol, rest_of_line, digits, identifier, number}
 use Rattle.fluent_syntax_grammar.specs.Strings.{hex_digits, all_there, escaped, string_unit, string_units}
 use Rattle.fluent_syntax_grammar.specs.Strings.{before_quote, unit_and_more, string_literal}
-use Rattle.fluent_syntax_grammar.proofs.locality.Kept.{is_head_byte}
+use Rattle.fluent_syntax_grammar.proofs.locality.Kept.{is_head_byte, is_head, KeepsBelow}
 use Rattle.fluent_syntax_grammar.proofs.Cuts.{eol_forward, block_forward}
-use Rattle.fluent_syntax_grammar.proofs.Facts.{lt_or_same, stretch_onward}
+use Rattle.fluent_syntax_grammar.proofs.Facts.{differs, lt_or_same, stretch_onward}
 use Rattle.fluent_syntax_grammar.proofs.Tests.{differ}
-use Rattle.fluent_syntax_grammar.proofs.locality.Kept.{Head, Shared, Keeps, KeepsIf, Any, Within, SameLook}
+use Rattle.fluent_syntax_grammar.proofs.locality.Kept.{Shared, Keeps, KeepsIf, Any, Within, SameLook}
 use Rattle.fluent_syntax_grammar.proofs.locality.Kept.{KeptWord, keeps_gives, keeps_over, keeps_either}
 use Rattle.fluent_syntax_grammar.proofs.locality.Kept.{keeps_fails, keeps_late, if_eol, plain, simple}
 use Rattle.fluent_syntax_grammar.proofs.locality.Kept.{from_over, keeping}
@@ -42,16 +42,16 @@ no_digit = record { fails = λ b f. grind (arith, nat_tests) }
 two_fail : (a b c : Bool) → a ≡ false → b ≡ false → (a || b && c) ≡ false
 two_fail a b c e f = rw (e, f) refl
 
-brace_fails : (b : ℕ) → is_head_byte b ≡ true → not (b == 10 || b == 123 || b == 125) ≡ true
-brace_fails b e =
-    rw (differ is_head_byte b 10 e refl, differ is_head_byte b 123 e refl, differ is_head_byte b 125 e refl) refl
+none_of : {test : ℕ → Bool} → NoHead test → (o : Option ℕ) → is_head o ≡ true → holds test o ≡ false
+none_of n None e = refl
+none_of n (Some b) e = n.fails b e
 
 module _ (p : ℕ) (t u : List ℕ) (s : Shared p t u) where
   pub head_has : {test : ℕ → Bool} → NoHead test → has t test p ≡ false
-  head_has {test = test} n = let h = s.head in ap (holds test) h.stands ∙ n.fails h.byte h.begins
+  head_has {test = test} n = let h = s.head in none_of n (slice_get t p) h.begins
 
   pub other_has : {test : ℕ → Bool} → NoHead test → has u test p ≡ false
-  other_has {test = test} n = let h = s.other in ap (holds test) h.stands ∙ n.fails h.byte h.begins
+  other_has {test = test} n = let h = s.other in none_of n (slice_get u p) h.begins
 
   below_has : (test : ℕ → Bool) (i : ℕ) → i < p → has t test i ≡ has u test i
   below_has test i l = ap (holds test) (s.byte i l)
@@ -125,39 +125,20 @@ module _ (p : ℕ) (t u : List ℕ) (s : Shared p t u) where
         ∙ ap (λ q. has_byte u space i || q) (same_eol.same i l);
   }
 
-  line_head : (v : List ℕ) → Head v p → has_eol v p ≡ false → is_line_place v p ≡ true
-  line_head v h e = both (slice_get v p) (has_eol v p) h.byte h.stands e
-    where
-      both : (o : Option ℕ) (b : Bool) (c : ℕ) → o ≡ Some c → b ≡ false → (is_some o && not b) ≡ true
-      both o b c e f = rw (e, f) refl
+  line_below : (i : ℕ) → i < p → is_line_place t i ≡ is_line_place u i
+  line_below i l =
+      ap (λ o. is_some o && not (has_eol t i)) (s.byte i l) ∙ ap (λ e. is_some (slice_get u i) && not e) (eol_at i l)
 
-  pub same_line : SameLook p (is_line_place t) (is_line_place u)
-  same_line = record {
-    same = by_place (is_line_place t) (is_line_place u)
-        (λ i l. ap (λ o. is_some o && not (has_eol t i)) (s.byte i l)
-        ∙ ap (λ e. is_some (slice_get u i) && not e) (eol_at i l))
-        (line_head t s.head no_eol_head ∙ sym (line_head u s.other no_eol_other));
-  }
+  line_last : (i : ℕ) → i + 1 ≡ p → is_line_place t i ≡ false
+  line_last i e = rw (s.line i e) refl
 
-  run_head : (v : List ℕ) → Head v p → has_eol v p ≡ false → is_run_place v p ≡ true
-  run_head v h e =
-      let f : has v (λ b. not (b == 10 || b == 123 || b == 125)) p ≡ true =
-      ap (holds (λ b. not (b == 10 || b == 123 || b == 125))) h.stands ∙ brace_fails h.byte h.begins in
-      both _ (has_eol v p) f e
-    where
-      both : (a b : Bool) → a ≡ true → b ≡ false → (a && not b) ≡ true
-      both a b e f = rw (e, f) refl
+  run_below : (i : ℕ) → i < p → is_run_place t i ≡ is_run_place u i
+  run_below i l =
+      ap (λ a. a && not (has_eol t i)) (below_has (λ b. not (b == 10 || b == 123 || b == 125)) i l)
+      ∙ ap (λ e. has u (λ b. not (b == 10 || b == 123 || b == 125)) i && not e) (eol_at i l)
 
-  pub run_at_head : is_run_place t p ≡ true
-  run_at_head = run_head t s.head no_eol_head
-
-  pub same_run : SameLook p (is_run_place t) (is_run_place u)
-  same_run = record {
-    same = by_place (is_run_place t) (is_run_place u)
-        (λ i l. ap (λ a. a && not (has_eol t i)) (below_has (λ b. not (b == 10 || b == 123 || b == 125)) i l)
-        ∙ ap (λ e. has u (λ b. not (b == 10 || b == 123 || b == 125)) i && not e) (eol_at i l))
-        (run_at_head ∙ sym (run_head u s.other no_eol_other));
-  }
+  run_last : (i : ℕ) → i + 1 ≡ p → is_run_place t i ≡ false
+  run_last i e = rw (s.line i e) refl
 
   arrow_at : (i : ℕ) → i < p → has_arrow t i ≡ has_arrow u i
   arrow_at i l = let m : i + 1 ≤ p = omega arith in elim (lt_or_same (i + 1) p m) [
@@ -183,6 +164,37 @@ module _ (p : ℕ) (t u : List ℕ) (s : Shared p t u) where
 
   pub kept_stretch : {test other : ℕ → Bool} → SameLook p test other → KeptWord p (Stretch test) (Stretch other)
   kept_stretch w = record { leads = stretch_leads _ _ w; forward = λ i j x. x.forward }
+
+  -- a stretch that begins before p, of places of which LF is none, ends before p
+  below_ends : (test : ℕ → Bool) → ((i : ℕ) → i + 1 ≡ p → test i ≡ false) → (i j : ℕ) → i < p → j ≤ p →
+      Stretch test i j → j < p
+  below_ends test e i j l n w = elim (lt_or_same j p n) [
+    | inl m ↦ m
+    | inr f ↦ (let q : (p - 1) + 1 ≡ p = omega arith in
+        differs (w.each (p - 1) (omega arith) (omega arith)) (e (p - 1) q))
+  ]
+
+  below_leads : (test other : ℕ → Bool) → ((i : ℕ) → i < p → test i ≡ other i) → (i j : ℕ) → j < p →
+      Stretch test i j → Stretch other i j
+  below_leads test other same i j l w = record {
+    forward = w.forward;
+    each = λ k a b. let n : k < p = omega arith in sym (same k n) ∙ w.each k a b;
+    longest = sym (same j l) ∙ w.longest;
+  }
+
+  -- the rest of a line, from before p on
+  pub line_ends : (i j : ℕ) → i < p → j ≤ p → Stretch (is_line_place t) i j → j < p
+  line_ends = below_ends (is_line_place t) line_last
+
+  pub line_leads : (i j : ℕ) → i < p → j ≤ p → Stretch (is_line_place t) i j → Stretch (is_line_place u) i j
+  line_leads i j l n w = below_leads (is_line_place t) (is_line_place u) line_below i j (line_ends i j l n w) w
+
+  -- a run of text, from before p on
+  pub run_ends : (i j : ℕ) → i < p → j ≤ p → Stretch (is_run_place t) i j → j < p
+  run_ends = below_ends (is_run_place t) run_last
+
+  pub run_leads : (i j : ℕ) → i < p → j ≤ p → Stretch (is_run_place t) i j → Stretch (is_run_place u) i j
+  run_leads i j l n w = below_leads (is_run_place t) (is_run_place u) run_below i j (run_ends i j l n w) w
 
   pub kept_steps : (n : ℕ) → KeptWord p (Steps n) (Steps n)
   kept_steps n = record { leads = λ i j a b x. x; forward = λ i j x. let e = x.by in omega arith }
@@ -244,6 +256,37 @@ module _ (p : ℕ) (t u : List ℕ) (s : Shared p t u) where
     forward = λ i j v x. let l = token_forward c i j v x in omega arith;
   }
 
+  -- a byte other than LF ends before p
+  pub token_below : (c i j : ℕ) (v : Unit {0}) → (10 == c) ≡ false → j ≤ p → token t c i (Read v j) → j < p
+  token_below c i j v e n x =
+      let y = token_at c i j v x in
+      elim (lt_or_same j p n) [
+        | inl m ↦ m
+        | inr f ↦ (let g = y.1 in
+            let q : i + 1 ≡ p = omega arith in
+            differs y.0 (last_has (λ b. b == c) i q ∙ e))
+      ]
+
+  then_forward : {A : Type 0} (c : ℕ) (Good : A → Type 0) (d e : Construct A) → KeepsBelow p (Unit {0}) Good d e →
+      (i j : ℕ) (a : A) → (token t c >>= λ x. d) i (Read a j) → i ≤ j
+  then_forward c Good d e k i j a (goes_on {j = m} x y) =
+      let l = token_forward c i m _ x in let f = k.forward m j a y in omega arith
+
+  then_keep : {A : Type 0} (c : ℕ) (Good : A → Type 0) (d e : Construct A) → (10 == c) ≡ false →
+      KeepsBelow p (Unit {0}) Good d e → (i j : ℕ) (a : A) → i ≤ p → j ≤ p → (token t c >>= λ x. d) i (Read a j) →
+      (token u c >>= λ x. e) i (Read a j)
+  then_keep c Good d e q k i j a l n (goes_on {j = m} x y) =
+      let f = k.forward m j a y in
+      goes_on (token_keep c i m _ l (omega arith) x) (k.keep tt m j a (token_below c i m _ q (omega arith) x) n y)
+
+  -- behind such a byte
+  pub keeps_then : {A : Type 0} {Good : A → Type 0} {d e : Construct A} (c : ℕ) → (10 == c) ≡ false →
+      KeepsBelow p (Unit {0}) Good d e → Keeps p (token t c >>= λ x. d) (token u c >>= λ x. e)
+  keeps_then {Good = Good} c q k = record {
+    keep = then_keep c Good _ _ q k;
+    forward = then_forward c Good _ _ k;
+  }
+
   pub keeps_inline_blank : Keeps p (inline_blank t) (inline_blank u)
   keeps_inline_blank = keeps_over p kept_inline
 
@@ -265,8 +308,15 @@ module _ (p : ℕ) (t u : List ℕ) (s : Shared p t u) where
         some = λ k. from_over p k;
       }))
 
-  pub keeps_rest_of_line : Keeps p (rest_of_line t) (rest_of_line u)
-  keeps_rest_of_line = search (keeping, kept_stretch, same_line, keeps_spanned) depth 30
+  rest_keep : (i j : ℕ) (v : Span) → i < p → j ≤ p → rest_of_line t i (Read v j) → rest_of_line u i (Read v j)
+  rest_keep i j v l n (goes_on at_place (goes_on (passed w) (goes_on at_place given))) =
+      goes_on at_place (goes_on (passed (line_leads i j l n w)) (goes_on at_place given))
+
+  rest_forward : (i j : ℕ) (v : Span) → rest_of_line t i (Read v j) → i ≤ j
+  rest_forward i j v (goes_on at_place (goes_on (passed w) (goes_on at_place given))) = w.forward
+
+  pub below_rest_of_line : KeepsBelow p (Unit {0}) Any (rest_of_line t) (rest_of_line u)
+  below_rest_of_line = record { keep = λ m. rest_keep; good = λ m i j v n x. tt; forward = rest_forward }
 
   pub keeps_digits : Keeps p (digits t) (digits u)
   keeps_digits = search (keeping, kept_stretch, same_has, no_digit) depth 30

@@ -22,7 +22,7 @@ use Rattle.fluent_syntax_grammar.proofs.JunkAndSpans.{GoodGiven, good_body}
 use Rattle.fluent_syntax_grammar.proofs.locality.Moved.{Behind, behind}
 use Rattle.fluent_syntax_grammar.proofs.locality.Kept.{Head, Shared}
 use Rattle.fluent_syntax_grammar.proofs.locality.KeptEntries.{led_forward, entry_on, entry_in, led_keep}
-use Rattle.fluent_syntax_grammar.proofs.locality.Edits.{get_left, range_left, line_byte, head_of}
+use Rattle.fluent_syntax_grammar.proofs.locality.Edits.{begins_ends, get_left, range_left, line_byte, head_of}
 use Rattle.fluent_syntax_grammar.proofs.locality.SameTexts.{Agree, bodies_same}
 use Rattle.fluent_syntax_grammar.proofs.locality.InTiling.{standing}
 
@@ -78,7 +78,7 @@ high_head : (t us : List ℕ) (p : ℕ) → Behind p t (200 ∷ us) → Head t p
 high_head t us p b =
     let z : p + 0 ≡ p = omega arith in
     let first : slice_get t p ≡ Some 200 = subst (λ k. slice_get t k ≡ Some 200) z (b.byte 0) in
-    record { byte = 200; stands = first; begins = refl; no_arrow = rw first refl }
+    record { begins = rw first refl; no_arrow = rw first refl }
 
 seam_shared : (a r u : List ℕ) → starts_line (a ++ r) (length a) ≡ true → Head (a ++ r) (length a) →
     Head (a ++ u) (length a) → Shared (length a) (a ++ r) (a ++ u)
@@ -152,7 +152,7 @@ same_before edition t = λ before after s old u w f.
     let x = take s.start t in
     let r = drop s.start t in
     let whole : x ++ r ≡ t = take-append-drop s.start t in
-    let head = head_of (x ++ r) r (length x) (behind x r) l.begins in
+    let head = head_of (x ++ r) r (length x) (behind x r) (begins_ends r l.begins) in
     let one = seam_tiles edition x r [] before one_high l.starts head f l.led in
     let two = seam_tiles edition x r (200 ∷ []) before two_high l.starts head f l.led in
     let P = Seam x (200 ∷ []) in

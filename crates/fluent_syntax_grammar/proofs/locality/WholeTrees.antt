@@ -16,7 +16,7 @@ use Rattle.fluent_syntax_grammar.specs.Locality.{is_comment, is_comment_to, move
 use Rattle.fluent_syntax_grammar.proofs.Facts.{differs}
 use Rattle.fluent_syntax_grammar.proofs.Functional.{single_block}
 use Rattle.fluent_syntax_grammar.proofs.OneTiling.{one_tile}
-use Rattle.fluent_syntax_grammar.proofs.locality.Edits.{prefix_local}
+use Rattle.fluent_syntax_grammar.proofs.locality.Edits.{begins_ends, prefix_local}
 use Rattle.fluent_syntax_grammar.proofs.locality.InTiling.{changed, rest_alone, standing}
 use Rattle.fluent_syntax_grammar.proofs.locality.NewTexts.{text_begins}
 use Rattle.fluent_syntax_grammar.proofs.locality.SameBefore.{same_before}
@@ -195,8 +195,8 @@ keeps_tree edition t e blank = λ before after s old a f g c d h m.
     let O = moved_tiles (s.start + (length (entry_text e) + blank)) x.own in
     let led : Led v (TileAt edition v) s.start 0 before =
     subst (λ i. Led v (TileAt edition v) i 0 before) l.size
-    (prefix_local edition (take s.start t) (drop s.start t) u before l.starts l.begins
-    (text_begins edition e (blank_lines blank ++ drop s.end t) h) f
+    (prefix_local edition (take s.start t) (drop s.start t) u before l.starts (begins_ends (drop s.start t) l.begins)
+    (begins_ends u (text_begins edition e (blank_lines blank ++ drop s.end t) h)) f
     (λ k. differs (subst (λ i. ends_in_comment i before ≡ true) l.size k) g) l.led) in
     let new_apart = apart_behind N O (no_comment_last v N e x.entry_tree d) in
     let before_apart = new_behind edition v s.start before N O e g led x.tiling x.entry_tree in (

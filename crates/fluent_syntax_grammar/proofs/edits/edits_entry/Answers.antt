@@ -1,5 +1,5 @@
 -- Each clause is a law of the grammar.
-use Rattle.fluent_syntax_grammar.proofs.locality.InTiling.{replaced, replaced_run, inserted, removed}
+use Rattle.fluent_syntax_grammar.proofs.locality.InTiling.{appended, replaced, replaced_run, inserted, removed}
 use Rattle.fluent_syntax_grammar.proofs.locality.SameBefore.{same_before}
 use Rattle.fluent_syntax_grammar.proofs.locality.WholeTrees.{keeps_tree}
 use Rattle.fluent_syntax_grammar.proofs.edits.edits_entry.Goals as goal
@@ -9,6 +9,9 @@ returns-clause-replaced g c = λ edition blank. replaced edition c.args.text.now
 
 pub returns-clause-inserted : goal.returns-clause-inserted
 returns-clause-inserted g c = λ edition blank. inserted edition c.args.text.now _ blank
+
+pub returns-clause-appended : goal.returns-clause-appended
+returns-clause-appended g c = λ edition blank. appended edition c.args.text.now _ blank
 
 pub returns-clause-removed : goal.returns-clause-removed
 returns-clause-removed g c = λ edition. removed edition c.args.text.now
