@@ -67,6 +67,10 @@ abbrev pub begins_comment : List ℕ → Bool
 begins_comment [] = false
 begins_comment (b ∷ bs) = b == hash
 
+-- no comment that ends at p takes the first line of the bytes u
+abbrev pub NoCommentTakes : (p : ℕ) → (before : List Tile) → (u : List ℕ) → Type 0
+NoCommentTakes p before u = ends_in_comment p before ≡ true → begins_comment u ≡ false
+
 -- ---- the laws, as statements
 
 -- Suffixes: from the start of a line on, the tiles of the text are those of the rest of the text by itself, moved. So
@@ -98,7 +102,7 @@ SameRest edition t u =
 abbrev pub PrefixLocal : Edition → (a r u : List ℕ) → Type 0
 PrefixLocal edition a r u =
     (before : List Tile) → starts_line (a ++ r) (length a) ≡ true → ends_or_begins r ≡ true →
-    ends_or_begins u ≡ true → faults before ≡ [] → (ends_in_comment (length a) before ≡ true → begins_comment u ≡ false) →
+    ends_or_begins u ≡ true → faults before ≡ [] → NoCommentTakes (length a) before u →
     Led (a ++ r) (TileAt edition (a ++ r)) (length a) 0 before →
     Led (a ++ u) (TileAt edition (a ++ u)) (length a) 0 before
 
@@ -108,7 +112,7 @@ abbrev pub Joins : Edition → (a r u : List ℕ) → Type 0
 Joins edition a r u =
     (before own : List Tile) → starts_line (a ++ r) (length a) ≡ true → ends_or_begins r ≡ true →
     ends_or_begins u ≡ true → faults before ≡ [] →
-    (ends_in_comment (length a) before ≡ true → begins_comment u ≡ false) →
+    NoCommentTakes (length a) before u →
     Led (a ++ r) (TileAt edition (a ++ r)) (length a) 0 before → Tiling edition u own →
     Tiling edition (a ++ u) (before ++ moved_tiles (length a) own)
     × (faults (before ++ moved_tiles (length a) own) ≡ map (moved_fault (length a)) (faults own))
@@ -163,7 +167,7 @@ ReadsFirst edition e blank c =
 abbrev pub Replaces : Edition → (a r : List ℕ) → EntryTree Text → (blank : ℕ) → (c : List ℕ) → Type 0
 Replaces edition a r e blank c =
     (before own : List Tile) → starts_line (a ++ r) (length a) ≡ true → ends_or_begins r ≡ true → faults before ≡ [] →
-    (ends_in_comment (length a) before ≡ true → begins_comment (entry_text e) ≡ false) →
+    NoCommentTakes (length a) before (entry_text e) →
     Led (a ++ r) (TileAt edition (a ++ r)) (length a) 0 before → is_canonical edition (e ∷ []) ≡ true →
     may_begin c ≡ true → Tiling edition c own →
     (new : List Tile) ×
@@ -181,7 +185,7 @@ abbrev pub Replaced : Edition → List ℕ → EntryTree Text → (blank : ℕ) 
 Replaced edition t e blank =
     (before after : List Tile) (s : Span) (old : EntryTree Span) →
     Tiling edition t (before ++ (entry s old ∷ after)) → faults before ≡ [] →
-    (ends_in_comment s.start before ≡ true → begins_comment (entry_text e) ≡ false) →
+    NoCommentTakes s.start before (entry_text e) →
     is_canonical edition (e ∷ []) ≡ true → may_begin (drop s.end t) ≡ true →
     (new own : List Tile) × (after ≡ moved_tiles s.end own) ×
     Tiling edition (take s.start t ++ (entry_text e ++ (blank_lines blank ++ drop s.end t)))
@@ -197,7 +201,7 @@ abbrev pub Removed : Edition → List ℕ → Type 0
 Removed edition t =
     (before after : List Tile) (s : Span) (old : EntryTree Span) →
     Tiling edition t (before ++ (entry s old ∷ after)) → faults before ≡ [] →
-    (ends_in_comment s.start before ≡ true → begins_comment (drop s.end t) ≡ false) →
+    NoCommentTakes s.start before (drop s.end t) →
     ends_or_begins (drop s.end t) ≡ true →
     (own : List Tile) × (after ≡ moved_tiles s.end own) ×
     Tiling edition (take s.start t ++ drop s.end t) (before ++ moved_tiles s.start own)
@@ -209,7 +213,7 @@ abbrev pub Inserted : Edition → List ℕ → EntryTree Text → (blank : ℕ) 
 Inserted edition t e blank =
     (before after : List Tile) (s : Span) (old : EntryTree Span) →
     Tiling edition t (before ++ (entry s old ∷ after)) → faults before ≡ [] →
-    (ends_in_comment s.start before ≡ true → begins_comment (entry_text e) ≡ false) →
+    NoCommentTakes s.start before (entry_text e) →
     is_canonical edition (e ∷ []) ≡ true →
     (new own : List Tile) × (entry s old ∷ after ≡ moved_tiles s.start own) ×
     Tiling edition (take s.start t ++ (entry_text e ++ (blank_lines blank ++ drop s.start t)))
@@ -224,7 +228,7 @@ Inserted edition t e blank =
 abbrev pub Appended : Edition → List ℕ → EntryTree Text → (blank : ℕ) → Type 0
 Appended edition t e blank =
     (before : List Tile) → Tiling edition t before → faults before ≡ [] → starts_line t (length t) ≡ true →
-    (ends_in_comment (length t) before ≡ true → begins_comment (entry_text e) ≡ false) →
+    NoCommentTakes (length t) before (entry_text e) →
     is_canonical edition (e ∷ []) ≡ true →
     (new : List Tile) × Tiling edition (t ++ (entry_text e ++ blank_lines blank)) (before ++ moved_tiles (length t) new)
     × (tree_of (t ++ (entry_text e ++ blank_lines blank)) (moved_tiles (length t) new) ≡ e ∷ [])
@@ -235,7 +239,7 @@ abbrev pub ReplacedRun : Edition → List ℕ → EntryTree Text → (blank : �
 ReplacedRun edition t e blank =
     (before between after : List Tile) (s q : Span) (old last : EntryTree Span) →
     Tiling edition t (before ++ (entry s old ∷ (between ++ (entry q last ∷ after)))) → faults before ≡ [] →
-    faults between ≡ [] → (ends_in_comment s.start before ≡ true → begins_comment (entry_text e) ≡ false) →
+    faults between ≡ [] → NoCommentTakes s.start before (entry_text e) →
     is_canonical edition (e ∷ []) ≡ true → may_begin (drop q.end t) ≡ true →
     (new own : List Tile) × (after ≡ moved_tiles q.end own) ×
     Tiling edition (take s.start t ++ (entry_text e ++ (blank_lines blank ++ drop q.end t)))
@@ -245,11 +249,33 @@ ReplacedRun edition t e blank =
     × (tree_of (take s.start t ++ (entry_text e ++ (blank_lines blank ++ drop q.end t)))
     (moved_tiles (s.start + (length (entry_text e) + blank)) own) ≡ tree_of t after)
 
+-- From an entry behind tiles without junk on, the text is cut off: the tiles are those before it.
+abbrev pub CutOff : Edition → List ℕ → Type 0
+CutOff edition t =
+    (before after : List Tile) (s : Span) (old : EntryTree Span) →
+    Tiling edition t (before ++ (entry s old ∷ after)) → faults before ≡ [] →
+    Tiling edition (take s.start t) before × (tree_of (take s.start t) before ≡ tree_of t before)
+
 -- ---- whole trees
+
+-- Entries in a row, the first of which has the range s and the last the range q.
+pub data Run : (s q : Span) → List Tile → Type 0 where
+  one : {s : Span} {e : EntryTree Span} → Run s s (entry s e ∷ [])
+  more : {s r q : Span} {e : EntryTree Span} {tiles : List Tile} → Run r q tiles → Run s q (entry s e ∷ tiles)
 
 abbrev pub is_comment : {X : Type 0} → EntryTree X → Bool
 is_comment (comment level content) = true
 is_comment x = false
+
+abbrev pub is_comment_tile : Tile → Bool
+is_comment_tile (entry s e) = is_comment e
+is_comment_tile x = false
+
+-- whether the last tile is a comment
+abbrev pub last_is_comment : List Tile → Bool
+last_is_comment [] = false
+last_is_comment (x ∷ []) = is_comment_tile x
+last_is_comment (x ∷ y ∷ xs) = last_is_comment (y ∷ xs)
 
 -- The whole tree, as a reader of the text has it: in place of an entry that is no comment, behind which an entry may
 -- begin and right before which no comment ends, a written entry that is none. The tree of the new text is that of the
@@ -266,6 +292,50 @@ KeepsTree edition t e blank =
     Tiling edition (take s.start t ++ (entry_text e ++ (blank_lines blank ++ drop s.end t))) tiles
     × (tree_of (take s.start t ++ (entry_text e ++ (blank_lines blank ++ drop s.end t))) tiles
     ≡ tree_of t before ++ (e ∷ tree_of t after)))
+
+-- The same in place of several entries in a row, as a message and the comment that hangs on it. (If the last of them is
+-- a comment, it may hang on what stands behind it.)
+abbrev pub KeepsRun : Edition → List ℕ → EntryTree Text → (blank : ℕ) → Type 0
+KeepsRun edition t e blank =
+    (before run after : List Tile) (s q : Span) → Tiling edition t (before ++ (run ++ after)) → faults before ≡ [] →
+    Run s q run → ends_in_comment s.start before ≡ false → is_comment e ≡ false → is_canonical edition (e ∷ []) ≡ true →
+    may_begin (drop q.end t) ≡ true →
+    (last_is_comment run ≡ false →
+    tree_of t (before ++ (run ++ after)) ≡ tree_of t before ++ (tree_of t run ++ tree_of t after)) ×
+    ((tiles : List Tile) ×
+    Tiling edition (take s.start t ++ (entry_text e ++ (blank_lines blank ++ drop q.end t))) tiles
+    × (tree_of (take s.start t ++ (entry_text e ++ (blank_lines blank ++ drop q.end t))) tiles
+    ≡ tree_of t before ++ (e ∷ tree_of t after)))
+
+-- The same with a written entry before an entry, of any kind.
+abbrev pub InsertsTree : Edition → List ℕ → EntryTree Text → (blank : ℕ) → Type 0
+InsertsTree edition t e blank =
+    (before after : List Tile) (s : Span) (old : EntryTree Span) →
+    Tiling edition t (before ++ (entry s old ∷ after)) → faults before ≡ [] →
+    ends_in_comment s.start before ≡ false → is_comment e ≡ false → is_canonical edition (e ∷ []) ≡ true →
+    (tree_of t (before ++ (entry s old ∷ after)) ≡ tree_of t before ++ tree_of t (entry s old ∷ after)) ×
+    ((tiles : List Tile) ×
+    Tiling edition (take s.start t ++ (entry_text e ++ (blank_lines blank ++ drop s.start t))) tiles
+    × (tree_of (take s.start t ++ (entry_text e ++ (blank_lines blank ++ drop s.start t))) tiles
+    ≡ tree_of t before ++ (e ∷ tree_of t (entry s old ∷ after))))
+
+-- The same with a written entry, of any kind, at the end of the text.
+abbrev pub AppendsTree : Edition → List ℕ → EntryTree Text → (blank : ℕ) → Type 0
+AppendsTree edition t e blank =
+    (before : List Tile) → Tiling edition t before → faults before ≡ [] → starts_line t (length t) ≡ true →
+    ends_in_comment (length t) before ≡ false → is_canonical edition (e ∷ []) ≡ true →
+    (tiles : List Tile) × Tiling edition (t ++ (entry_text e ++ blank_lines blank)) tiles
+    × (tree_of (t ++ (entry_text e ++ blank_lines blank)) tiles ≡ tree_of t before ++ (e ∷ []))
+
+-- Without several entries in a row, or one, behind which the text ends or an entry begins.
+abbrev pub RemovesTree : Edition → List ℕ → Type 0
+RemovesTree edition t =
+    (before run after : List Tile) (s q : Span) → Tiling edition t (before ++ (run ++ after)) → faults before ≡ [] →
+    Run s q run → ends_in_comment s.start before ≡ false → ends_or_begins (drop q.end t) ≡ true →
+    (last_is_comment run ≡ false →
+    tree_of t (before ++ (run ++ after)) ≡ tree_of t before ++ (tree_of t run ++ tree_of t after)) ×
+    ((tiles : List Tile) × Tiling edition (take s.start t ++ drop q.end t) tiles
+    × (tree_of (take s.start t ++ drop q.end t) tiles ≡ tree_of t before ++ tree_of t after))
 
 -- The tiles before an entry, where they have no junk, give text by text the same in each text that has the same bytes
 -- before the entry.

@@ -3,12 +3,17 @@
 ghost use Rattle.std.specs.Prelude.{ℕ};
 ghost use Rattle.fluent_syntax_grammar.specs.Locality.{
   Appended,
+  AppendsTree,
+  CutOff,
   Inserted,
+  InsertsTree,
   Joins,
+  KeepsRun,
   KeepsTree,
   PrefixLocal,
   ReadsFirst,
   Removed,
+  RemovesTree,
   Replaced,
   ReplacedRun,
   Replaces,
@@ -72,9 +77,18 @@ pub fn replaces_entry<'s, S: Slice<'s>>(before: &str, rest: &str, entry: &Entry<
 /// the entry have no junk; and if the last of them is a comment that ends right before it, what stands there in the new
 /// text begins with no `#`.
 ///
+/// Of the tree, where no comment ends right before the place:
+///
 /// - `tree`: a canonical entry as it is written, and blank lines, in place of an entry right behind which an entry may
-///   begin, or the text ends. If neither of them is a comment, and no comment ends right before them, the tree of the
-///   new text is the tree of the text with the new entry in the old one's place.
+///   begin, or the text ends. If neither of them is a comment, the tree of the new text is the tree of the text with
+///   the new entry in the old one's place.
+/// - `tree_run`: the same in place of several entries in a row, as a message and the comment that hangs on it.
+/// - `tree_inserted`: the same in front of an entry of any kind.
+/// - `tree_appended`: the same at the end of a text, where a line starts there. The new entry may be a comment too.
+/// - `tree_removed`: without several entries in a row, or one, right behind which an entry begins, or the text ends.
+///
+/// Of the tiles, with their places:
+///
 /// - `replaced`: the same for any entries, by tiles. The tiles of the new text are those before; tiles that give the new
 ///   entry text by text; and those behind, moved, which give text by text what they gave. Behind the entry there may be
 ///   errors.
@@ -83,14 +97,22 @@ pub fn replaces_entry<'s, S: Slice<'s>>(before: &str, rest: &str, entry: &Entry<
 /// - `inserted`: the same as `replaced` in front of an entry.
 /// - `appended`: the same behind the last tile, where the text ends with a line end or is empty.
 /// - `removed`: an entry is removed right behind which an entry begins, or the text ends.
+/// - `cut`: from an entry on all is removed: the tiles are those before it, and give text by text what they gave.
 pub fn edits_entry<'s, S: Slice<'s>>(text: &str, entry: &Entry<S>)
     ensures tree { (edition : Edition) (blank : ℕ) → KeepsTree edition text.now (entry_view S.text entry.now) blank }
+    ensures tree_run { (edition : Edition) (blank : ℕ) → KeepsRun edition text.now (entry_view S.text entry.now) blank }
+    ensures tree_inserted { (edition : Edition) (blank : ℕ) →
+        InsertsTree edition text.now (entry_view S.text entry.now) blank }
+    ensures tree_appended { (edition : Edition) (blank : ℕ) →
+        AppendsTree edition text.now (entry_view S.text entry.now) blank }
+    ensures tree_removed { (edition : Edition) → RemovesTree edition text.now }
     ensures replaced { (edition : Edition) (blank : ℕ) → Replaced edition text.now (entry_view S.text entry.now) blank }
     ensures run { (edition : Edition) (blank : ℕ) → ReplacedRun edition text.now (entry_view S.text entry.now) blank }
     ensures before { (edition : Edition) → SameBefore edition text.now }
     ensures appended { (edition : Edition) (blank : ℕ) → Appended edition text.now (entry_view S.text entry.now) blank }
     ensures inserted { (edition : Edition) (blank : ℕ) → Inserted edition text.now (entry_view S.text entry.now) blank }
     ensures removed { (edition : Edition) → Removed edition text.now }
+    ensures cut { (edition : Edition) → CutOff edition text.now }
 {}
 
 #[test]

@@ -37,11 +37,11 @@ use Rattle.fluent_syntax_grammar.proofs.locality.EntryEnds.{AtLine}
 use Rattle.fluent_syntax_grammar.proofs.locality.Trees.{entry_same}
 use Rattle.fluent_syntax_grammar.proofs.locality.Replaced.{gap_length}
 use Rattle.fluent_syntax_grammar.specs.Canonical.{is_canonical}
-use Rattle.fluent_syntax_grammar.specs.Locality.{begins_comment, ends_in_comment, may_begin, Inserted, Removed}
+use Rattle.fluent_syntax_grammar.specs.Locality.{NoCommentTakes, begins_comment, ends_in_comment, ends_or_begins, may_begin, Inserted, Removed}
 use Rattle.fluent_syntax_grammar.specs.Tiling.{reads}
 use Rattle.fluent_syntax_grammar.proofs.Facts.{append_nothing, left_true, differs}
 use Rattle.fluent_syntax_grammar.proofs.LineEnds.{block_at_entry}
-use Rattle.fluent_syntax_grammar.proofs.locality.Edits.{begins_ends, faults_append, joins}
+use Rattle.fluent_syntax_grammar.proofs.locality.Edits.{begins_ends, faults_append, joins, prefix_local}
 
 -- ---- what an entry begins with
 
@@ -127,7 +127,7 @@ all_twice n m (x ∷ xs) = rw (twice n m x, all_twice n m xs) refl
 
 -- ---- the rest
 
-no_tiles : (t : List ℕ) (at : (i j : ℕ) → Tile → Type 0) (i : ℕ) (xs : List Tile) → length t ≤ i → Tiled t at i xs →
+pub no_tiles : (t : List ℕ) (at : (i j : ℕ) → Tile → Type 0) (i : ℕ) (xs : List Tile) → length t ≤ i → Tiled t at i xs →
     xs ≡ []
 no_tiles t at i xs l (done b) = refl
 no_tiles t at i xs l (next {start = start} b m a r) = let f = block_forward t i start b in absurd (omega arith)
@@ -262,29 +262,36 @@ replaced edition t e blank = λ before after s old a f k h m.
     let x = changed edition t before after after s old e blank s.end l f k h m rest in
     (x.new, x.own, x.is, x.tiling, x.entry_tree, x.rest_tree)
 
-begins_may : (bs : List ℕ) → begins_entry bs ≡ true → may_begin bs ≡ true
+pub begins_may : (bs : List ℕ) → begins_entry bs ≡ true → may_begin bs ≡ true
 begins_may [] e = refl
 begins_may (b ∷ []) e = e
 begins_may (b ∷ c ∷ bs) e = left_true (is_entry_byte b) (not (b == hyphen && c == greater_than)) e
 
+pub from_entry : (edition : Edition) (t : List ℕ) (before after : List Tile) (s : Span) (old : EntryTree Span) →
+    Standing edition t before after s old → RestAlone edition t s.start (entry s old ∷ after)
+from_entry edition t before after s old l =
+    let inside = l.inside in
+    rest_alone edition t s.start (entry s old ∷ after) (omega arith) (inl l.line)
+    (next (block_at_entry t s.start (entry_head edition t s.start s.end old l.read)) l.inside (reads l.read) l.more)
+
 pub inserted : (edition : Edition) (t : List ℕ) (e : EntryTree Text) (blank : ℕ) → Inserted edition t e blank
 inserted edition t e blank = λ before after s old a f k h.
     let l = standing edition t before after s old a f in
-    let inside = l.inside in
-    let all : Tiled t (TileAt edition t) s.start (entry s old ∷ after) =
-    next (block_at_entry t s.start (entry_head edition t s.start s.end old l.read)) l.inside (reads l.read) l.more in
-    let rest = rest_alone edition t s.start (entry s old ∷ after) (omega arith) (inl l.line) all in
     let x =
     changed edition t before after (entry s old ∷ after) s old e blank s.start l f k h
-    (begins_may (drop s.start t) l.begins) rest in
+    (begins_may (drop s.start t) l.begins) (from_entry edition t before after s old l) in
     (x.new, x.own, x.is, x.tiling, x.entry_tree, x.rest_tree)
 
-pub removed : (edition : Edition) (t : List ℕ) → Removed edition t
-removed edition t = λ before after s old a f k h.
-    let l = standing edition t before after s old a f in
-    let rest = rest_alone edition t s.end after l.end_inside l.end_line l.more in
+-- without what stands up to q
+pub without : (edition : Edition) (t : List ℕ) (before after ys : List Tile) (s : Span) (old : EntryTree Span)
+    (q : ℕ) → Standing edition t before after s old → faults before ≡ [] → NoCommentTakes s.start before (drop q t) →
+    ends_or_begins (drop q t) ≡ true → RestAlone edition t q ys →
+    (own : List Tile) × (ys ≡ moved_tiles q own) ×
+    Tiling edition (take s.start t ++ drop q t) (before ++ moved_tiles s.start own)
+    × (tree_of (take s.start t ++ drop q t) (moved_tiles s.start own) ≡ tree_of t ys)
+without edition t before after ys s old q l f k h rest =
     let x = take s.start t in
-    let c = drop s.end t in
+    let c = drop q t in
     let j =
     joins edition x (drop s.start t) c before rest.own l.starts (begins_ends (drop s.start t) l.begins) h f
     (λ g. k (subst (λ i. ends_in_comment i before ≡ true) l.size g)) l.led rest.tiling in
@@ -295,22 +302,40 @@ removed edition t = λ before after s old a f k h.
       tree_there s.start (x ++ c) c b rest.own ∙ sym rest.tree,
     )
 
+pub removed : (edition : Edition) (t : List ℕ) → Removed edition t
+removed edition t = λ before after s old a f k h.
+    let l = standing edition t before after s old a f in
+    without edition t before after after s old s.end l f k h
+    (rest_alone edition t s.end after l.end_inside l.end_line l.more)
+
 -- the tiles of a text lead up to its end
 led_whole : (t : List ℕ) (at : (i j : ℕ) → Tile → Type 0) (i : ℕ) (xs : List Tile) → Tiled t at i xs →
     Led t at (length t) i xs
 led_whole t at i xs (done b) = arrives b
 led_whole t at i xs (next {end = end} {tiles = more} b l a d) = onward b a (led_whole t at end more d)
 
+whole_led : (edition : Edition) (t : List ℕ) (before : List Tile) → Tiling edition t before →
+    Led (t ++ []) (TileAt edition (t ++ [])) (length t) 0 before
+whole_led edition t before a =
+    subst (λ v. Led v (TileAt edition v) (length t) 0 before) (sym (append_nothing t))
+    (led_whole t (TileAt edition t) 0 before a)
+
+whole_starts : (t : List ℕ) → starts_line t (length t) ≡ true → starts_line (t ++ []) (length t) ≡ true
+whole_starts t s = subst (λ v. starts_line v (length t) ≡ true) (sym (append_nothing t)) s
+
+-- and they lead up to there where more stands behind it
+pub led_on : (edition : Edition) (t u : List ℕ) (before : List Tile) → Tiling edition t before → faults before ≡ [] →
+    starts_line t (length t) ≡ true → NoCommentTakes (length t) before u → ends_or_begins u ≡ true →
+    Led (t ++ u) (TileAt edition (t ++ u)) (length t) 0 before
+led_on edition t u before a f s k h =
+    prefix_local edition t [] u before (whole_starts t s) refl h f k (whole_led edition t before a)
+
 pub appended : (edition : Edition) (t : List ℕ) (e : EntryTree Text) (blank : ℕ) → Appended edition t e blank
 appended edition t e blank = λ before a f s k h.
     let x = some_tiling edition [] in
     let none : x.0 ≡ [] = no_tiles [] (TileAt edition []) 0 x.0 (omega arith) x.1 in
-    let whole : t ++ [] ≡ t = append_nothing t in
-    let led : Led (t ++ []) (TileAt edition (t ++ [])) (length t) 0 before =
-    subst (λ v. Led v (TileAt edition v) (length t) 0 before) (sym whole) (led_whole t (TileAt edition t) 0 before a) in
-    let starts : starts_line (t ++ []) (length t) ≡ true =
-    subst (λ v. starts_line v (length t) ≡ true) (sym whole) s in
-    let y = replaces edition t [] e blank [] before x.0 starts refl f k led h refl x.1 in
+    let y =
+    replaces edition t [] e blank [] before x.0 (whole_starts t s) refl f k (whole_led edition t before a) h refl x.1 in
     let w = entry_text e in
     let tail : blank_lines blank ++ [] ≡ blank_lines blank = append_nothing (blank_lines blank) in
     let tiles : y.0 ++ moved_tiles (length w + blank) x.0 ≡ y.0 =
