@@ -62,6 +62,10 @@ abbrev pub ends_or_begins : List ℕ → Bool
 ends_or_begins [] = true
 ends_or_begins (b ∷ bs) = begins_entry (b ∷ bs)
 
+-- whether a line starts at the end of the bytes: there are none, or an LF is the last
+abbrev pub ends_line : List ℕ → Bool
+ends_line t = starts_line t (length t)
+
 -- whether the bytes begin with a `#`
 abbrev pub begins_comment : List ℕ → Bool
 begins_comment [] = false
@@ -227,7 +231,7 @@ Inserted edition t e blank =
 -- the new text are those of the text, and tiles that give the new entry text by text.
 abbrev pub Appended : Edition → List ℕ → EntryTree Text → (blank : ℕ) → Type 0
 Appended edition t e blank =
-    (before : List Tile) → Tiling edition t before → faults before ≡ [] → starts_line t (length t) ≡ true →
+    (before : List Tile) → Tiling edition t before → faults before ≡ [] → ends_line t ≡ true →
     NoCommentTakes (length t) before (entry_text e) →
     is_canonical edition (e ∷ []) ≡ true →
     (new : List Tile) × Tiling edition (t ++ (entry_text e ++ blank_lines blank)) (before ++ moved_tiles (length t) new)
@@ -322,7 +326,7 @@ InsertsTree edition t e blank =
 -- The same with a written entry, of any kind, at the end of the text.
 abbrev pub AppendsTree : Edition → List ℕ → EntryTree Text → (blank : ℕ) → Type 0
 AppendsTree edition t e blank =
-    (before : List Tile) → Tiling edition t before → faults before ≡ [] → starts_line t (length t) ≡ true →
+    (before : List Tile) → Tiling edition t before → faults before ≡ [] → ends_line t ≡ true →
     ends_in_comment (length t) before ≡ false → is_canonical edition (e ∷ []) ≡ true →
     (tiles : List Tile) × Tiling edition (t ++ (entry_text e ++ blank_lines blank)) tiles
     × (tree_of (t ++ (entry_text e ++ blank_lines blank)) tiles ≡ tree_of t before ++ (e ∷ []))

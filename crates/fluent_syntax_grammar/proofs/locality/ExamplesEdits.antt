@@ -1,4 +1,4 @@
--- Examples: an entry is replaced, with and without an error behind it.
+-- Examples: an entry is replaced, with and without an error behind it; one is appended, and the last one removed.
 use Rattle.std.proofs.Common.{◌≡◌, ℕ, List, [], ◌∷◌, ◌++◌, take, drop, map, Some, None, refl}
 use Rattle.std.specs.Prelude.{codes}
 use Rattle.fluent_syntax_tree.specs.Tree.{text_element, no_elements, elements}
@@ -9,9 +9,10 @@ use Rattle.fluent_syntax_tree.specs.Kind.{ExpectedToken}
 use Rattle.fluent_syntax_grammar.specs.Tiling.{Tile, entry, refused, Tiling}
 use Rattle.fluent_syntax_grammar.specs.Written.{Text, written}
 use Rattle.fluent_syntax_grammar.specs.RoundTrip.{tree_of}
-use Rattle.fluent_syntax_grammar.specs.Locality.{entry_text, blank_lines, moved_tiles}
+use Rattle.fluent_syntax_grammar.specs.Locality.{entry_text, blank_lines, moved_tiles, one}
 use Rattle.fluent_syntax_grammar.proofs.ComputedTiling.{is_tiling}
 use Rattle.fluent_syntax_grammar.proofs.locality.InTiling.{replaced}
+use Rattle.fluent_syntax_grammar.proofs.locality.WholeTrees.{appends_tree, removes_tree}
 
 -- the message `name = value` that begins at the place
 abbrev short : ℕ → EntryTree Span
@@ -83,3 +84,34 @@ behind : tree_of old_text (tile 12 ∷ junk_tile ∷ []) ≡
       comment = None;
     }) ∷ Rattle.fluent_syntax_tree.specs.Entry.junk (codes "g@\n") ∷ []
 behind = refl
+
+-- ---- the end of the text
+
+abbrev one_message : List ℕ
+one_message = codes "a = b\n"
+
+one_tiling : Tiling One one_message (tile 0 ∷ [])
+one_tiling = is_tiling One one_message _ refl
+
+-- `x = y` behind the last message: the law gives the new tree, of which nothing was computed.
+appended_law : (tiles : List Tile) × Tiling One (codes "a = b\nx = y\n") tiles
+    × (tree_of (codes "a = b\nx = y\n") tiles ≡ tree_of one_message (tile 0 ∷ []) ++ (new_entry ∷ []))
+unfolding written
+appended_law = appends_tree One one_message new_entry 0 (tile 0 ∷ []) one_tiling refl refl refl refl
+
+-- Where no line ends the text, the new entry would go on the last line: here is one message, `bx = y` its value.
+within_a_line : Tiling One (codes "a = b" ++ codes "x = y\n")
+    (entry (record { start = 0; end = 11 }) (message (record {
+      id = record { start = 0; end = 1 };
+      value = Some (elements (text_element (record { start = 4; end = 10 })) no_elements);
+      attributes = [];
+      comment = None;
+    })) ∷ [])
+within_a_line = is_tiling One (codes "a = b" ++ codes "x = y\n") _ refl
+
+-- The last message is removed, and nothing stands behind it.
+removed_last : (tiles : List Tile) × Tiling One one_message tiles
+    × (tree_of one_message tiles ≡ tree_of (codes "a = b\nc = d\n") (tile 0 ∷ []) ++ [])
+removed_last =
+    (removes_tree One (codes "a = b\nc = d\n") (tile 0 ∷ []) (tile 6 ∷ []) [] (record { start = 6; end = 12 })
+    (record { start = 6; end = 12 }) (is_tiling One (codes "a = b\nc = d\n") _ refl) refl one refl refl).1
