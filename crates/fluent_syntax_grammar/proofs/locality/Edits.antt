@@ -1,9 +1,9 @@
 -- The laws of locality hold.
-use Rattle.std.proofs.Common.{◌≡◌, ℕ, zero, suc, ◌+◌, ◌-◌, ◌≤◌, ◌<◌, List, [], ◌∷◌, ◌++◌, length, drop, take, Option}
+use Rattle.std.proofs.Common.{◌≡◌, ℕ, zero, suc, ◌+◌, ◌-◌, ◌≤◌, ◌<◌, List, [], ◌∷◌, ◌++◌, length, drop, Option}
 use Rattle.std.proofs.Common.{Some, None, Bool, true, false, refl, sym, ◌∙◌, subst, ap, arith, inl, inr, length-drop}
 use Rattle.std.specs.Prelude.{slice_get, slice_range, ◌⊎◌, ◌==◌, ◌&&◌, ◌||◌, not}
 use Rattle.std.proofs.lemmas.Bool.Decides.{nat_tests}
-use Rattle.std.proofs.lemmas.List.{take-append-drop, take-append-le, drop-append-le, length-take-le}
+use Rattle.std.proofs.lemmas.List.{take-append-le, drop-append-le}
 use Rattle.fluent_syntax_tree.specs.declared.edition.Edition.{Edition}
 use Rattle.fluent_syntax_grammar.specs.Bytes.{lf, hyphen, greater_than}
 use Rattle.fluent_syntax_grammar.specs.Places.{holds, has, has_byte, starts_line, BlankBlock}
@@ -15,25 +15,21 @@ use Rattle.fluent_syntax_grammar.specs.Locality.{moved_tiles, Led, arrives, onwa
 use Rattle.fluent_syntax_grammar.specs.Locality.{begins_comment, SuffixLocal, SameRest, PrefixLocal}
 use Rattle.fluent_syntax_grammar.specs.Locality.{Joins, RuntimeSuffixLocal}
 use Rattle.fluent_syntax_grammar.proofs.Facts.{has_inside, left_true, right_true}
-use Rattle.fluent_syntax_grammar.proofs.Cuts.{block_forward}
+use Rattle.fluent_syntax_tree.specs.Every.{list_every}
+use Rattle.fluent_syntax_grammar.proofs.Cuts.{block_forward, block_place}
+use Rattle.fluent_syntax_grammar.proofs.SoundStrings.{InText}
+use Rattle.fluent_syntax_grammar.proofs.Boundaries.{text_cuts}
+use Rattle.fluent_syntax_grammar.proofs.SoundTiling.{entry_read, entry_refused}
 use Rattle.fluent_syntax_grammar.proofs.LineEnds.{block_at_entry}
 use Rattle.fluent_syntax_grammar.proofs.Functional.{single_block}
 use Rattle.fluent_syntax_grammar.proofs.OneTiling.{one_runtime_tile, one_tile, tiled_same}
 use Rattle.fluent_syntax_grammar.proofs.SomeTiling.{some_runtime_tiling, some_tiling}
-use Rattle.fluent_syntax_grammar.proofs.locality.Moved.{Behind, behind}
+use Rattle.fluent_syntax_grammar.proofs.locality.Moved.{Behind, behind, behind_place}
 use Rattle.fluent_syntax_grammar.proofs.locality.Tiles.{faults_there, runtime_tiled_there, tiled_there, tree_there}
 use Rattle.fluent_syntax_grammar.proofs.locality.Kept.{Head, Shared}
-use Rattle.fluent_syntax_grammar.proofs.locality.KeptEntries.{entry_head, head_byte, led_keep}
+use Rattle.fluent_syntax_grammar.proofs.locality.KeptEntries.{ends_early, entry_head, head_byte, led_keep}
 
 -- ---- suffixes
-
--- a text behind the bytes before a place of it
-pub behind_place : (t : List ℕ) (p : ℕ) → p ≤ length t → Behind p t (drop p t)
-behind_place t p l =
-    let whole = take-append-drop p t in
-    let n : length (take p t) ≡ p = length-take-le p t l in
-    subst (λ n. Behind n t (drop p t)) n
-    (subst (λ v. Behind (length (take p t)) v (drop p t)) whole (behind (take p t) (drop p t)))
 
 pub suffix_local : (edition : Edition) (t : List ℕ) → SuffixLocal edition t
 suffix_local edition t = λ p tiles l e a.
@@ -160,7 +156,7 @@ comment_of_head t (c ∷ bs) p b e = let z : p + 0 ≡ p = omega arith in
 pub prefix_local : (edition : Edition) (a r u : List ℕ) → PrefixLocal edition a r u
 prefix_local edition a r u = λ before e f g n k d.
     led_keep edition (length a) (a ++ r) (a ++ u) (shared_of a r u e f g) 0 before n
-    (λ q. comment_of_head (a ++ u) u (length a) (behind a u) (k q)) (omega arith) d
+    (λ q. comment_of_head (a ++ u) u (length a) (behind a u) (k q)) (omega arith) (omega arith) d
 
 -- ---- both
 
@@ -180,20 +176,40 @@ module _ (edition : Edition) (t : List ℕ) (p : ℕ) (h : (has t is_entry_byte 
     | inr e ↦ (let f = block_forward t p start c in absurd (omega arith))
   ]
 
-  -- tiles behind entries that lead up to p
-  led_then : (i : ℕ) (xs ys : List Tile) → faults xs ≡ [] → Led t (TileAt edition t) p i xs →
-      Tiled t (TileAt edition t) p ys → Tiled t (TileAt edition t) i (xs ++ ys)
-  led_then i xs ys f (arrives b) r = from_block i ys b r
-  led_then i xs ys f (onward {start = start} {end = end} {tiles = more} b (reads {e = e} a) d) r =
-      next b (has_inside is_entry_byte t start (entry_head edition t start end e a)) (reads a)
-      (led_then end more ys f d r)
-  led_then i xs ys f (onward b (refuses a j) d) r = absurd cc
+  in_text : p ≤ length t
+  in_text = elim h [
+    | inl g ↦ (let l = has_inside is_entry_byte t p g in omega arith)
+    | inr e ↦ omega arith
+  ]
+
+  -- tiles behind tiles that lead up to p, whose junk ends before it
+  led_then : (i : ℕ) (xs ys : List Tile) → list_every (λ f. f.slice.end < p) (faults xs) → i ≤ length t →
+      Led t (TileAt edition t) p i xs → Tiled t (TileAt edition t) p ys → Tiled t (TileAt edition t) i (xs ++ ys)
+  led_then i xs ys f l (arrives b) r = from_block i ys b r
+  led_then i xs ys f l (onward {start = start} {end = end} {tiles = more} b (reads {e = e} a) d) r =
+      let m = has_inside is_entry_byte t start (entry_head edition t start end e a) in
+      let x = entry_read edition t (InText t) (text_cuts t) start end e (omega arith) a in
+      next b m (reads a) (led_then end more ys f x.place d r)
+  led_then i xs ys f l
+      (onward {start = start} {end = end} {tiles = more} b (refuses {from = from} {to = to} {k = k} a j) d) r =
+      let m = block_place t (InText t) (text_cuts t) i start l b in
+      let x = (entry_refused edition t (InText t) (text_cuts t) start from to k m a).onward in
+      let y = j.forward in
+      let n = in_text in
+      let q = f.0 in
+      next b (omega arith) (refuses a j) (led_then end more ys f.1 j.in_text d r)
 
 pub faults_append : (xs ys : List Tile) → faults xs ≡ [] → faults (xs ++ ys) ≡ faults ys
 faults_append [] ys e = refl
 faults_append (entry s x ∷ xs) ys e = faults_append xs ys e
 faults_append (refused f ∷ xs) ys e = absurd cc
 faults_append (dropped ∷ xs) ys e = faults_append xs ys e
+
+pub faults_both : (xs ys : List Tile) → faults (xs ++ ys) ≡ faults xs ++ faults ys
+faults_both [] ys = refl
+faults_both (entry s x ∷ xs) ys = faults_both xs ys
+faults_both (refused f ∷ xs) ys = ap (λ fs. f ∷ fs) (faults_both xs ys)
+faults_both (dropped ∷ xs) ys = faults_both xs ys
 
 line_kept : (a r u : List ℕ) (b : Bool) → (length a == 0) ≡ b → starts_line (a ++ r) (length a) ≡ true →
     starts_line (a ++ u) (length a) ≡ true
@@ -224,6 +240,7 @@ joins edition a r u = λ before own e f g n k d w.
     let rest : Tiled (a ++ u) (TileAt edition (a ++ u)) (length a) (moved_tiles (length a) own) =
     subst (λ k. Tiled (a ++ u) (TileAt edition (a ++ u)) k (moved_tiles (length a) own)) z
     (tiled_there (length a) (a ++ u) u (behind a u) starts edition 0 own w) in (
-      led_then edition (a ++ u) (length a) head 0 before (moved_tiles (length a) own) n led rest,
-      faults_append before (moved_tiles (length a) own) n ∙ faults_there (length a) own,
+      led_then edition (a ++ u) (length a) head 0 before (moved_tiles (length a) own)
+          (ends_early edition (length a) (a ++ r) (a ++ u) (shared_of a r u e f g) before n) (omega arith) led rest,
+      faults_both before (moved_tiles (length a) own) ∙ ap (λ fs. faults before ++ fs) (faults_there (length a) own),
     )

@@ -16,11 +16,12 @@ use Rattle.fluent_syntax_tree.specs.declared.spans.Span.{Span}
 use Rattle.fluent_syntax_tree.specs.declared.edition.Edition.{Edition}
 use Rattle.fluent_syntax_grammar.specs.Bytes.{is_letter, is_digit}
 use Rattle.fluent_syntax_grammar.specs.Places.{holds, Stretch, has, has_byte, has_eol, after_eol, InlineBlank}
-use Rattle.fluent_syntax_grammar.specs.Construct.{Read, Construct, ◌>>=◌, goes_on, gives, given, at_place, fails, over}
+use Rattle.fluent_syntax_grammar.specs.Construct.{Read, Refused, Construct, ◌>>=◌, goes_on, stops, gives, given, at_place, fails, over}
 use Rattle.fluent_syntax_grammar.specs.Construct.{passed, at_each, chosen, either, first, second, More, no_item}
 use Rattle.fluent_syntax_grammar.specs.Construct.{item}
 use Rattle.fluent_syntax_grammar.specs.Words.{token, inline_blank, blank, identifier}
 use Rattle.fluent_syntax_grammar.specs.Family.{Family}
+use Rattle.fluent_syntax_grammar.specs.Tiling.{failing_place}
 use Rattle.fluent_syntax_grammar.specs.Starts.{Start, quote, digit, term, minus, dollar, letter, brace, other, start}
 use Rattle.fluent_syntax_grammar.specs.Starts.{start_of}
 use Rattle.fluent_syntax_grammar.specs.Arguments.{accessor, separator, Argument, named, call_arguments}
@@ -39,17 +40,17 @@ use Rattle.fluent_syntax_grammar.specs.Variants.{is_number_start}
 use Rattle.fluent_syntax_grammar.specs.Grammar.{next, within, family}
 use Rattle.fluent_syntax_grammar.proofs.locality.Kept.{is_head_byte, is_head}
 use Rattle.fluent_syntax_grammar.proofs.Cuts.{eol_cases, eol_forward}
-use Rattle.fluent_syntax_grammar.proofs.Facts.{lt_or_same, differs}
+use Rattle.fluent_syntax_grammar.proofs.Facts.{lt_or_same}
 use Rattle.fluent_syntax_grammar.proofs.Tests.{differ}
-use Rattle.fluent_syntax_grammar.proofs.locality.Kept.{Shared, Keeps, KeepsIf, KeepsBelow, KeepsFrom, EndsBelow, Any, Within}
+use Rattle.fluent_syntax_grammar.proofs.locality.Kept.{Shared, Keeps, KeepsIf, KeepsBelow, KeepsFrom, EndsBelow, Any, Within, Refuses, FailsLate, Early, fails_late}
 use Rattle.fluent_syntax_grammar.proofs.locality.Kept.{keeps_bind, keeps_gives, keeps_over}
 use Rattle.fluent_syntax_grammar.proofs.locality.Kept.{keeps_either, keeps_fails, keeps_at_head, keeps_at_each, if_eol}
 use Rattle.fluent_syntax_grammar.proofs.locality.Kept.{if_bind, if_gives, if_here, plain, simple, under, from_over}
 use Rattle.fluent_syntax_grammar.proofs.locality.Kept.{from_bind, keeps_many, if_many, below_many, below_bind, below_then, here_ends}
 use Rattle.fluent_syntax_grammar.proofs.Sound.{good_more}
-use Rattle.fluent_syntax_grammar.proofs.locality.KeptWords.{other_byte, no_space, head_has, other_has, last_has}
+use Rattle.fluent_syntax_grammar.proofs.locality.KeptWords.{other_byte, no_space, head_has, other_has}
 use Rattle.fluent_syntax_grammar.proofs.locality.KeptWords.{same_byte, same_eol, same_after, same_arrow, run_ends, run_leads}
-use Rattle.fluent_syntax_grammar.proofs.locality.KeptWords.{no_eol_head, no_eol_other, kept_steps}
+use Rattle.fluent_syntax_grammar.proofs.locality.KeptWords.{no_eol_head, no_eol_other, kept_steps, spaces_before, spaces_end}
 use Rattle.fluent_syntax_grammar.proofs.locality.KeptWords.{kept_inline, keeps_optional, keeps_token, keeps_then, token_below}
 use Rattle.fluent_syntax_grammar.proofs.locality.KeptWords.{token_forward, keeps_inline_blank, keeps_blank}
 use Rattle.fluent_syntax_grammar.proofs.locality.KeptWords.{keeps_blank_block, if_identifier, keeps_identifier}
@@ -143,6 +144,16 @@ module _ (p : ℕ) (t u : List ℕ) (s : Shared p t u) where
   callee_good id a i j e (first f given) = name_call id a
   callee_good id a i j e (second f x) = elim x [ ]
 
+  callee_refuse : (id : Span) (a : ArgumentsTree Span) → id.end ≤ p →
+      Refuses p (named_reference t id (some_arguments a)) (named_reference u id (some_arguments a))
+  callee_refuse id a l i from to k e (first f x) = elim x [ ]
+  callee_refuse id a l i from to k e (second f x) =
+      second (ap (list_all is_callee_byte) (sym (s.range id.start id.end l)) ∙ f) x
+
+  callee_late : (id : Span) (a : ArgumentsTree Span) → FailsLate (named_reference t id (some_arguments a))
+  callee_late id a i from to k (first f x) = elim x [ ]
+  callee_late id a i from to k (second f x) = fails_late p _ i from to k x
+
   if_named : {X Y : Type 0} (id : Span) (a : MaybeArguments Span) →
       KeepsIf p ((X × Within p id) × Y) (NameWithin p) (named_reference t id a) (named_reference u id a)
   if_named id no_arguments =
@@ -151,6 +162,8 @@ module _ (p : ℕ) (t u : List ℕ) (s : Shared p t u) where
     keep = λ m i j e k l x. callee_keep id a m.0.1 i j e x;
     good = λ m i j e l x. callee_good id a i j e x;
     forward = callee_forward id a;
+    refuse = λ m. callee_refuse id a m.0.1;
+    late = callee_late id a;
   }
 
   -- ---- endings
@@ -206,6 +219,8 @@ module _ (p : ℕ) (t u : List ℕ) (s : Shared p t u) where
     keep = λ h. keeps_ending.keep;
     good = λ h. ending_good;
     forward = keeps_ending.forward;
+    refuse = λ h. keeps_ending.refuse;
+    late = keeps_ending.late;
   }
 
   -- ---- keys
@@ -274,6 +289,8 @@ module _ (p : ℕ) (t u : List ℕ) (s : Shared p t u) (R S : Family) (h : IsKep
     keep = λ m i j a l n x. elim x [ ];
     good = λ m i j a n x. elim x [ ];
     forward = λ i j a x. elim x [ ];
+    refuse = λ m i from to k e x. x;
+    late = fails_late p _;
   }
 
   late_start : (x : Start) → Late x → (i j : ℕ) (e : InlineTree Span) → inline_of t R x i (Read e j) → i < j
@@ -302,7 +319,13 @@ module _ (p : ℕ) (t u : List ℕ) (s : Shared p t u) (R S : Family) (h : IsKep
   inline_good i j e l (chosen x) = (if_inline_of (start t i)).good tt i j e l x
 
   if_inline : KeepsIf p (Unit {0}) (NameWithin p) (inline_expression t R) (inline_expression u S)
-  if_inline = record { keep = λ m. keeps_inline.keep; good = λ m. inline_good; forward = keeps_inline.forward }
+  if_inline = record {
+    keep = λ m. keeps_inline.keep;
+    good = λ m. inline_good;
+    forward = keeps_inline.forward;
+    refuse = λ m. keeps_inline.refuse;
+    late = keeps_inline.late;
+  }
 
   -- ---- arguments
 
@@ -361,6 +384,21 @@ module _ (p : ℕ) (t u : List ℕ) (s : Shared p t u) (R S : Family) (h : IsKep
   rest_forward names e (Some name) false i j a x = (keeps_positional names e).forward i j a x
   rest_forward names e (Some name) true i j a x = (keeps_by names (bytes_at t name) name).forward i j a x
 
+  rest_refuse : (names : List (List ℕ)) (e : InlineTree Span) (o : Option Span) (c : Bool) →
+      ((id : Span) → o ≡ Some id → id.end ≤ p) →
+      Refuses p (argument_rest t R names e o c) (argument_rest u S names e o c)
+  rest_refuse names e None c w i from to k l x = (keeps_positional names e).refuse i from to k l x
+  rest_refuse names e (Some name) false w i from to k l x = (keeps_positional names e).refuse i from to k l x
+  rest_refuse names e (Some name) true w i from to k l x =
+      subst (λ bs. named_by u S names bs name i (Refused k from to)) (s.range name.start name.end (w name refl))
+      ((keeps_by names (bytes_at t name) name).refuse i from to k l x)
+
+  rest_late : (names : List (List ℕ)) (e : InlineTree Span) (o : Option Span) (c : Bool) →
+      FailsLate (argument_rest t R names e o c)
+  rest_late names e None c i from to k x = (keeps_positional names e).late i from to k x
+  rest_late names e (Some name) false i from to k x = (keeps_positional names e).late i from to k x
+  rest_late names e (Some name) true i from to k x = (keeps_by names (bytes_at t name) name).late i from to k x
+
   if_rest : {X Y : Type 0} (names : List (List ℕ)) (e : InlineTree Span) (c : Bool) →
       KeepsIf p ((X × NameWithin p e) × Y) Any (argument_rest t R names e (argument_name e) c)
       (argument_rest u S names e (argument_name e) c)
@@ -368,6 +406,8 @@ module _ (p : ℕ) (t u : List ℕ) (s : Shared p t u) (R S : Family) (h : IsKep
     keep = λ m. rest_keep names e (argument_name e) c m.0.1;
     good = λ m i j a n x. tt;
     forward = rest_forward names e (argument_name e) c;
+    refuse = λ m. rest_refuse names e (argument_name e) c m.0.1;
+    late = rest_late names e (argument_name e) c;
   }
 
   keeps_argument_at : (names : List (List ℕ)) (o : Option ℕ) →
@@ -392,26 +432,6 @@ module _ (p : ℕ) (t u : List ℕ) (s : Shared p t u) (R S : Family) (h : IsKep
 
   -- ---- pieces and lines
 
-  -- leading spaces end at p at the latest, and from before p on before it
-  spaces_end : (i k : ℕ) → i ≤ p → InlineBlank t i k → k ≤ p
-  spaces_end i k l w = elim (le_or_past k) [
-    | inl a ↦ a
-    | inr a ↦ (let e = w.each p l a in let f = head_has p t u s no_space in differs e f)
-  ]
-    where
-      le_or_past : (k : ℕ) → (k ≤ p) ⊎ (p < k)
-      le_or_past k = grind arith
-
-  spaces_before : (i k : ℕ) → i < p → InlineBlank t i k → k < p
-  spaces_before i k l w =
-      let m = spaces_end i k (omega arith) w in
-      elim (lt_or_same k p m) [
-        | inl a ↦ a
-        | inr e ↦ (let q : (p - 1) + 1 ≡ p = omega arith in
-            let x = w.each (p - 1) (omega arith) (omega arith) in
-            let y = last_has p t u s (λ b. b == 32) (p - 1) q in differs x y)
-      ]
-
   braces_end : EndsBelow p (placeable t R)
   braces_end = record { ends = by_brace }
     where
@@ -431,6 +451,49 @@ module _ (p : ℕ) (t u : List ℕ) (s : Shared p t u) (R S : Family) (h : IsKep
 
   run_end : (i j : ℕ) (r : Piece) → i < p → j ≤ p → text_run t i (Read r j) → j < p
   run_end i j r l n (goes_on at_place (goes_on (passed w) (goes_on at_place given))) = run_ends p t u s i j l n w
+
+  run_never : {X : Type 0} (i from to : ℕ) (k : Kind) → text_run t i (Refused k from to) → X
+  run_never i from to k (stops x) = elim x [ ]
+  run_never i from to k (goes_on at_place (stops x)) = elim x [ ]
+  run_never i from to k (goes_on at_place (goes_on (passed w) (stops x))) = elim x [ ]
+  run_never i from to k (goes_on at_place (goes_on (passed w) (goes_on at_place x))) = elim x [ ]
+
+  part_refuse : (b : ℕ) (e : Bool) → Refuses p (piece_part t R b e) (piece_part u S b e)
+  part_refuse b e i from to k r (first f x) = elim x [ ]
+  part_refuse b e i from to k r (second f (first g y)) = second f (first g y)
+  part_refuse b e i from to k r (second f (second g (first h (stops y)))) =
+      second f (second g (first h (stops (keeps_placeable.refuse i from to k r y))))
+  part_refuse b e i from to k r (second f (second g (first h (goes_on y z)))) = elim z [ ]
+  part_refuse b e i from to k r (second f (second g (second h (stops y)))) = run_never i from to k y
+  part_refuse b e i from to k r (second f (second g (second h (goes_on y z)))) = elim z [ ]
+
+  part_late : (b : ℕ) (e : Bool) → FailsLate (piece_part t R b e)
+  part_late b e i from to k (first f x) = elim x [ ]
+  part_late b e i from to k (second f (first g y)) = fails_late p _ i from to k y
+  part_late b e i from to k (second f (second g (first h (stops y)))) = keeps_placeable.late i from to k y
+  part_late b e i from to k (second f (second g (first h (goes_on y z)))) = elim z [ ]
+  part_late b e i from to k (second f (second g (second h (stops y)))) = run_never i from to k y
+  part_late b e i from to k (second f (second g (second h (goes_on y z)))) = elim z [ ]
+
+  piece_late_at : (o : Option ℕ) → FailsLate (next_piece_at t R o)
+  piece_late_at None i from to k x = elim x [ ]
+  piece_late_at (Some b) i from to k (chosen x) = part_late b (has_eol t i) i from to k x
+
+  piece_refuse_at : (o : Option ℕ) → Refuses p (next_piece_at t R o) (next_piece_at u S o)
+  piece_refuse_at None i from to k e x = elim x [ ]
+  piece_refuse_at (Some b) i from to k e (chosen x) =
+      let l = part_late b (has_eol t i) i from to k x in
+      chosen (subst (λ q. piece_part u S b q i (Refused k from to)) ((same_eol p t u s).same i (omega arith))
+      (part_refuse b (has_eol t i) i from to k e x))
+
+  piece_late : FailsLate (next_piece t R)
+  piece_late i from to k (chosen x) = piece_late_at (slice_get t i) i from to k x
+
+  piece_refuse : Refuses p (next_piece t R) (next_piece u S)
+  piece_refuse i from to k e (chosen x) =
+      let l = piece_late_at (slice_get t i) i from to k x in
+      chosen (subst (λ o. next_piece_at u S o i (Refused k from to)) (s.byte i (omega arith))
+      (piece_refuse_at (slice_get t i) i from to k e x))
 
   piece_part_keep : (b : ℕ) (e : Bool) (i j : ℕ) (x : More Piece (Unit {0})) → i < p → j ≤ p →
       piece_part t R b e i (Read x j) → piece_part u S b e i (Read x j)
@@ -483,6 +546,8 @@ module _ (p : ℕ) (t u : List ℕ) (s : Shared p t u) (R S : Family) (h : IsKep
     keep = λ m. piece_keep;
     good = λ m. by_byte;
     forward = on_by_byte;
+    refuse = λ m. piece_refuse;
+    late = piece_late;
   }
     where
       by_byte : (i j : ℕ) (x : More Piece (Unit {0})) → j ≤ p → next_piece t R i (Read x j) →
@@ -505,7 +570,7 @@ module _ (p : ℕ) (t u : List ℕ) (s : Shared p t u) (R S : Family) (h : IsKep
   spaces_stay = record { ends = by_spaces }
     where
       by_spaces : (i j : ℕ) (x : Unit {0}) → i < p → j ≤ p → inline_blank t i (Read x j) → j < p
-      by_spaces i j x l n (passed w) = spaces_before i j l w
+      by_spaces i j x l n (passed w) = spaces_before p t u s i j l w
 
   below_line : KeepsBelow p (Unit {0}) (LineWithin p) (line t R) (line u S)
   below_line =
@@ -558,7 +623,7 @@ module _ (p : ℕ) (t u : List ℕ) (s : Shared p t u) (R S : Family) (h : IsKep
   stop_keep : (i : ℕ) → i ≤ p → (k : ℕ) → InlineBlank t i k → (b : ℕ) → slice_get t k ≡ Some b →
       belongs t (nat_lt i k) k ≡ false → next_line u S i (Read no_item i)
   stop_keep i l k w b e f = elim (lt_or_same i p l) [
-    | inl m ↦ (let n = spaces_before i k m w in
+    | inl m ↦ (let n = spaces_before p t u s i k m w in
         other_line ((kept_inline p t u s).leads i k l (omega arith) w) (sym (s.byte k n) ∙ e)
         (sym (belongs_same (nat_lt i k) k n) ∙ f))
     | inr m ↦ subst (λ i. next_line u S i (Read no_item i)) (sym m) (stop_other (slice_get u p) refl)
@@ -567,7 +632,7 @@ module _ (p : ℕ) (t u : List ℕ) (s : Shared p t u) (R S : Family) (h : IsKep
   line_keep : (i j : ℕ) (ls : More Line (Unit {0})) → i ≤ p → j ≤ p → next_line t R i (Read ls j) →
       next_line u S i (Read ls j)
   line_keep i j ls l n (no_byte w e) = elim (lt_or_same i p l) [
-    | inl m ↦ (let q = spaces_before i j m w in
+    | inl m ↦ (let q = spaces_before p t u s i j m w in
         no_byte ((kept_inline p t u s).leads i j l n w) (sym (s.byte j q) ∙ e))
     | inr m ↦ (let a = w.forward in
         let b : j ≡ p = omega arith in
@@ -576,10 +641,10 @@ module _ (p : ℕ) (t u : List ℕ) (s : Shared p t u) (R S : Family) (h : IsKep
   ]
   line_keep i j ls l n (other_line {k = k} {b = b} w e f) = stop_keep i l k w b e f
   line_keep i j ls l n (own_line {k = k} w e f x) = elim (lt_or_same i p l) [
-    | inl m ↦ (let q = spaces_before i k m w in
+    | inl m ↦ (let q = spaces_before p t u s i k m w in
         own_line ((kept_inline p t u s).leads i k l (omega arith) w) (sym (s.byte k q) ∙ e)
         (sym (belongs_same (nat_lt i k) k q) ∙ f) (below_item.keep tt i j ls m n x))
-    | inr m ↦ (let a = spaces_end i k l w in let b = w.forward in let c : k ≡ p = omega arith in
+    | inr m ↦ (let a = spaces_end p t u s i k l w in let b = w.forward in let c : k ≡ p = omega arith in
         absurd (never i k m c f))
   ]
     where
@@ -596,12 +661,24 @@ module _ (p : ℕ) (t u : List ℕ) (s : Shared p t u) (R S : Family) (h : IsKep
   line_forward i j x (other_line w e f) = omega arith
   line_forward i j x (own_line w e f y) = below_item.forward i j x y
 
+  line_late : FailsLate (next_line t R)
+  line_late i from to k (own_line w e f x) = below_item.late i from to k x
+
+  line_refuse : Refuses p (next_line t R) (next_line u S)
+  line_refuse i from to k r (own_line {k = m} w e f x) =
+      let l = below_item.late i from to k x in
+      let q = spaces_before p t u s i m (omega arith) w in
+      own_line ((kept_inline p t u s).leads i m (omega arith) (omega arith) w) (sym (s.byte m q) ∙ e)
+      (sym (belongs_same (nat_lt i m) m q) ∙ f) (below_item.refuse tt i from to k r x)
+
   if_lines : KeepsIf p (Unit {0}) (list_every (LineWithin p)) (more_lines t R) (more_lines u S)
   if_lines =
       if_many p {Good = LineWithin p} (λ r. record {
         keep = λ m. line_keep;
         good = λ m. line_good;
         forward = line_forward;
+        refuse = λ m. line_refuse;
+        late = line_late;
       }) tt (λ a b g r. (g, r))
 
   -- ---- layouts
@@ -635,8 +712,33 @@ module _ (p : ℕ) (t u : List ℕ) (s : Shared p t u) (R S : Family) (h : IsKep
 
   at_eol : KeepsBelow p (Unit {0} × Unit {0}) (LayoutWithin p) (at_each (after_eol t) (layout_at t R))
       (at_each (after_eol u) (layout_at u S))
-  at_eol = record { keep = λ m. keep_there; good = λ m. good_there; forward = on_there }
+  at_eol = record {
+    keep = λ m. keep_there;
+    good = λ m. good_there;
+    forward = on_there;
+    refuse = λ m. refuse_there;
+    late = late_there;
+  }
     where
+      late_at_eol : (o : Option ℕ) (i from to : ℕ) (k : Kind) → after_eol t i ≡ o →
+          layout_at t R o i (Refused k from to) → i ≤ failing_place k from to
+      late_at_eol None i from to k e x = below_opening.late i from to k x
+      late_at_eol (Some m) i from to k e x = (from_layout m).late i from to k (eol_forward t i m e) x
+
+      refuse_at_eol : (o : Option ℕ) (i from to : ℕ) (k : Kind) → after_eol t i ≡ o → Early p k from to →
+          layout_at t R o i (Refused k from to) → layout_at u S o i (Refused k from to)
+      refuse_at_eol None i from to k e r x = below_opening.refuse tt i from to k r x
+      refuse_at_eol (Some m) i from to k e r x = (from_layout m).refuse tt i from to k (eol_forward t i m e) r x
+
+      late_there : FailsLate (at_each (after_eol t) (layout_at t R))
+      late_there i from to k (chosen x) = late_at_eol (after_eol t i) i from to k refl x
+
+      refuse_there : Refuses p (at_each (after_eol t) (layout_at t R)) (at_each (after_eol u) (layout_at u S))
+      refuse_there i from to k e (chosen x) =
+          let l = late_at_eol (after_eol t i) i from to k refl x in
+          chosen (subst (λ o. layout_at u S o i (Refused k from to)) ((same_after p t u s).same i (omega arith))
+          (refuse_at_eol (after_eol t i) i from to k refl e x))
+
       keep_there : (i j : ℕ) (y : Layout) → i < p → j ≤ p → at_each (after_eol t) (layout_at t R) i (Read y j) →
           at_each (after_eol u) (layout_at u S) i (Read y j)
       keep_there i j y l n (chosen x) =
@@ -664,8 +766,22 @@ module _ (edition : Edition) (p : ℕ) (t u : List ℕ) (s : Shared p t u) (R S 
   pattern_forward : (i j : ℕ) (q : Option (PatternTree Span)) → pattern edition t R i (Read q j) → i ≤ j
   pattern_forward i j q (goes_on {a = y} x given) = (below_layout p t u s R S h).forward i j y x
 
+  pattern_late : FailsLate (pattern edition t R)
+  pattern_late i from to k (stops x) = (below_layout p t u s R S h).late i from to k x
+  pattern_late i from to k (goes_on x y) = elim y [ ]
+
+  pattern_refuse : Refuses p (pattern edition t R) (pattern edition u S)
+  pattern_refuse i from to k e (stops x) = stops ((below_layout p t u s R S h).refuse tt i from to k e x)
+  pattern_refuse i from to k e (goes_on x y) = elim y [ ]
+
   pub below_pattern : {M : Type 0} → KeepsBelow p M Any (pattern edition t R) (pattern edition u S)
-  below_pattern = record { keep = λ m. pattern_keep; good = λ m i j q n x. tt; forward = pattern_forward }
+  below_pattern = record {
+    keep = λ m. pattern_keep;
+    good = λ m i j q n x. tt;
+    forward = pattern_forward;
+    refuse = λ m. pattern_refuse;
+    late = pattern_late;
+  }
 
   keeps_variant_of : (starred star : Bool) (key : KeyTree Span) (q : Option (PatternTree Span)) →
       Keeps p (variant_of t starred star key q) (variant_of u starred star key q)
@@ -710,7 +826,12 @@ module _ (edition : Edition) (p : ℕ) (t u : List ℕ) (s : Shared p t u) (R S 
 
 module _ (edition : Edition) (p : ℕ) (t u : List ℕ) (s : Shared p t u) where
   nothing_kept : {A : Type 0} → Keeps {A = A} p (λ i o. ⊥) (λ i o. ⊥)
-  nothing_kept = record { keep = λ i j a l n x. absurd x; forward = λ i j a x. absurd x }
+  nothing_kept = record {
+    keep = λ i j a l n x. absurd x;
+    forward = λ i j a x. absurd x;
+    refuse = λ i from to k e x. absurd x;
+    late = λ i from to k x. absurd x;
+  }
 
   keeps_zero : IsKeptFamily p (within edition t zero) (within edition u zero)
   unfolding within
@@ -732,9 +853,13 @@ module _ (edition : Edition) (p : ℕ) (t u : List ℕ) (s : Shared p t u) where
     expression = record {
       keep = λ i j a l n x. (x.0, (keeps_within x.0).expression.keep i j a l n x.1);
       forward = λ i j a x. (keeps_within x.0).expression.forward i j a x.1;
+      refuse = λ i from to k e x. (x.0, (keeps_within x.0).expression.refuse i from to k e x.1);
+      late = λ i from to k x. (keeps_within x.0).expression.late i from to k x.1;
     };
     argument_list = record {
       keep = λ i j a l n x. (x.0, (keeps_within x.0).argument_list.keep i j a l n x.1);
       forward = λ i j a x. (keeps_within x.0).argument_list.forward i j a x.1;
+      refuse = λ i from to k e x. (x.0, (keeps_within x.0).argument_list.refuse i from to k e x.1);
+      late = λ i from to k x. (keeps_within x.0).argument_list.late i from to k x.1;
     };
   }

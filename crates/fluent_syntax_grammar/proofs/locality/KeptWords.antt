@@ -17,7 +17,11 @@ use Rattle.fluent_syntax_grammar.specs.Words.{optional, token, spanned, inline_b
 use Rattle.fluent_syntax_grammar.specs.Words.{optional_eol, rest_of_line, digits, identifier, number}
 use Rattle.fluent_syntax_grammar.specs.Strings.{hex_digits, all_there, escaped, string_unit, string_units}
 use Rattle.fluent_syntax_grammar.specs.Strings.{before_quote, unit_and_more, string_literal}
-use Rattle.fluent_syntax_grammar.proofs.locality.Kept.{is_head_byte, is_head, KeepsBelow}
+use Rattle.fluent_syntax_grammar.proofs.locality.Kept.{is_head_byte, is_head, KeepsBelow, Refuses, FailsLate}
+use Rattle.fluent_syntax_tree.specs.Kind.{Kind, InvalidUnicodeEscapeSequence}
+use Rattle.fluent_syntax_grammar.specs.Construct.{Refused, stops, failed}
+use Rattle.fluent_syntax_grammar.specs.Strings.{HexDigits, after_character, bad_unit, character_len, too_few}
+use Rattle.std.specs.Prelude.{nat_lt, slice_range}
 use Rattle.fluent_syntax_grammar.proofs.Cuts.{eol_forward, block_forward}
 use Rattle.fluent_syntax_grammar.proofs.Facts.{differs, lt_or_same, stretch_onward}
 use Rattle.fluent_syntax_grammar.proofs.Tests.{differ}
@@ -202,6 +206,27 @@ module _ (p : ℕ) (t u : List ℕ) (s : Shared p t u) where
   pub kept_inline : KeptWord p (InlineBlank t) (InlineBlank u)
   kept_inline = kept_stretch (same_has no_space)
 
+  -- leading spaces end at p at the latest, and from before p on before it
+  pub spaces_end : (i k : ℕ) → i ≤ p → InlineBlank t i k → k ≤ p
+  spaces_end i k l w = elim (le_or_past k) [
+    | inl a ↦ a
+    | inr a ↦ (let e = w.each p l a in let f = head_has no_space in differs e f)
+  ]
+    where
+      le_or_past : (k : ℕ) → (k ≤ p) ⊎ (p < k)
+      le_or_past k = grind arith
+
+  pub spaces_before : (i k : ℕ) → i < p → InlineBlank t i k → k < p
+  spaces_before i k l w =
+      let m = spaces_end i k (omega arith) w in
+      elim (lt_or_same k p m) [
+        | inl a ↦ a
+        | inr e ↦ (let q : (p - 1) + 1 ≡ p = omega arith in
+            let x = w.each (p - 1) (omega arith) (omega arith) in
+            let y = last_has (λ b. b == 32) (p - 1) q in
+            differs x y)
+      ]
+
   block_leads : (i j : ℕ) → i ≤ p → j ≤ p → BlankBlock t i j → BlankBlock u i j
   block_leads i j a b (no_line {k = k} w e) =
       let f = w.forward in elim (le_or_past k p) [
@@ -250,10 +275,29 @@ module _ (p : ℕ) (t u : List ℕ) (s : Shared p t u) where
       subst (λ j. token u c i (Read tt j)) (sym y.1)
       (token_to u c i (sym (below_has (λ b. b == c) i l) ∙ y.0))
 
+  token_refuse : (c : ℕ) → Refuses p (token t c) (token u c)
+  token_refuse c i from to k e (stops (chosen (first f (stops x)))) = elim x [ ]
+  token_refuse c i from to k e (stops (chosen (first f (goes_on x y)))) = elim y [ ]
+  token_refuse c i from to k e (stops (chosen (second f x))) = elim x [ ]
+  token_refuse c i from to k e (goes_on x (first f y)) = elim y [ ]
+  token_refuse c i from to k e (goes_on (chosen (first g (goes_on (passed w) given))) (second f y)) = absurd cc
+  token_refuse c i from to k e (goes_on (chosen (second g given)) (second f (failed h))) =
+      goes_on (chosen (second (sym (below_has (λ b. b == c) i (omega arith)) ∙ g) given)) (second f (failed h))
+
+  token_late : (c : ℕ) → FailsLate (token t c)
+  token_late c i from to k (stops (chosen (first f (stops x)))) = elim x [ ]
+  token_late c i from to k (stops (chosen (first f (goes_on x y)))) = elim y [ ]
+  token_late c i from to k (stops (chosen (second f x))) = elim x [ ]
+  token_late c i from to k (goes_on x (first f y)) = elim y [ ]
+  token_late c i from to k (goes_on (chosen (first g (goes_on (passed w) given))) (second f y)) = absurd cc
+  token_late c i from to k (goes_on (chosen (second g given)) (second f (failed h))) = omega arith
+
   pub keeps_token : (c : ℕ) → Keeps p (token t c) (token u c)
   keeps_token c = record {
     keep = token_keep c;
     forward = λ i j v x. let l = token_forward c i j v x in omega arith;
+    refuse = token_refuse c;
+    late = token_late c;
   }
 
   -- a byte other than LF ends before p
@@ -279,12 +323,28 @@ module _ (p : ℕ) (t u : List ℕ) (s : Shared p t u) where
       let f = k.forward m j a y in
       goes_on (token_keep c i m _ l (omega arith) x) (k.keep tt m j a (token_below c i m _ q (omega arith) x) n y)
 
+  then_late : {A : Type 0} (c : ℕ) (Good : A → Type 0) (d e : Construct A) → KeepsBelow p (Unit {0}) Good d e →
+      FailsLate (token t c >>= λ x. d)
+  then_late c Good d e m i from to k (stops x) = token_late c i from to k x
+  then_late c Good d e m i from to k (goes_on {j = q} x y) =
+      let l = token_forward c i q _ x in let n = m.late q from to k y in omega arith
+
+  then_refuse : {A : Type 0} (c : ℕ) (Good : A → Type 0) (d e : Construct A) → KeepsBelow p (Unit {0}) Good d e →
+      Refuses p (token t c >>= λ x. d) (token u c >>= λ x. e)
+  then_refuse c Good d e m i from to k r (stops x) = stops (token_refuse c i from to k r x)
+  then_refuse c Good d e m i from to k r (goes_on {j = q} x y) =
+      let l = token_forward c i q _ x in
+      let n = m.late q from to k y in
+      goes_on (token_keep c i q _ (omega arith) (omega arith) x) (m.refuse (tt {0}) q from to k r y)
+
   -- behind such a byte
   pub keeps_then : {A : Type 0} {Good : A → Type 0} {d e : Construct A} (c : ℕ) → (10 == c) ≡ false →
       KeepsBelow p (Unit {0}) Good d e → Keeps p (token t c >>= λ x. d) (token u c >>= λ x. e)
   keeps_then {Good = Good} c q k = record {
     keep = then_keep c Good _ _ q k;
     forward = then_forward c Good _ _ k;
+    refuse = then_refuse c Good _ _ k;
+    late = then_late c Good _ _ k;
   }
 
   pub keeps_inline_blank : Keeps p (inline_blank t) (inline_blank u)
@@ -315,8 +375,20 @@ module _ (p : ℕ) (t u : List ℕ) (s : Shared p t u) where
   rest_forward : (i j : ℕ) (v : Span) → rest_of_line t i (Read v j) → i ≤ j
   rest_forward i j v (goes_on at_place (goes_on (passed w) (goes_on at_place given))) = w.forward
 
+  rest_never : {X : Type 0} (i from to : ℕ) (k : Kind) → rest_of_line t i (Refused k from to) → X
+  rest_never i from to k (stops x) = elim x [ ]
+  rest_never i from to k (goes_on at_place (stops x)) = elim x [ ]
+  rest_never i from to k (goes_on at_place (goes_on (passed w) (stops x))) = elim x [ ]
+  rest_never i from to k (goes_on at_place (goes_on (passed w) (goes_on at_place x))) = elim x [ ]
+
   pub below_rest_of_line : KeepsBelow p (Unit {0}) Any (rest_of_line t) (rest_of_line u)
-  below_rest_of_line = record { keep = λ m. rest_keep; good = λ m i j v n x. tt; forward = rest_forward }
+  below_rest_of_line = record {
+    keep = λ m. rest_keep;
+    good = λ m i j v n x. tt;
+    forward = rest_forward;
+    refuse = λ m i from to k e x. rest_never i from to k x;
+    late = λ i from to k x. rest_never i from to k x;
+  }
 
   pub keeps_digits : Keeps p (digits t) (digits u)
   keeps_digits = search (keeping, kept_stretch, same_has, no_digit) depth 30
@@ -366,11 +438,36 @@ module _ (p : ℕ) (t u : List ℕ) (s : Shared p t u) where
   identifier_good : (i j : ℕ) (v : Span) → j ≤ p → identifier t i (Read v j) → v.end ≤ p
   identifier_good i j v l x = let y = identifier_at i j v x in subst (λ v. v.end ≤ p) (sym y.2) l
 
+  identifier_refuse : Refuses p (identifier t) (identifier u)
+  identifier_refuse i from to k e (stops x) = elim x [ ]
+  identifier_refuse i from to k e (goes_on at_place (stops (chosen x))) = elim x [ ]
+  identifier_refuse i from to k e (goes_on at_place (goes_on (chosen given) (first f (stops x)))) = elim x [ ]
+  identifier_refuse i from to k e (goes_on at_place (goes_on (chosen given) (first f (goes_on (passed w) (stops x))))) =
+      elim x [ ]
+  identifier_refuse i from to k e
+      (goes_on at_place (goes_on (chosen given) (first f (goes_on (passed w) (goes_on at_place x))))) =
+      elim x [ ]
+  identifier_refuse i from to k e (goes_on at_place (goes_on (chosen given) (second f (failed h)))) =
+      goes_on at_place (goes_on (chosen given) (second (sym (below_has is_letter i (omega arith)) ∙ f) (failed h)))
+
+  identifier_late : FailsLate (identifier t)
+  identifier_late i from to k (stops x) = elim x [ ]
+  identifier_late i from to k (goes_on at_place (stops (chosen x))) = elim x [ ]
+  identifier_late i from to k (goes_on at_place (goes_on (chosen given) (first f (stops x)))) = elim x [ ]
+  identifier_late i from to k (goes_on at_place (goes_on (chosen given) (first f (goes_on (passed w) (stops x))))) =
+      elim x [ ]
+  identifier_late i from to k
+      (goes_on at_place (goes_on (chosen given) (first f (goes_on (passed w) (goes_on at_place x))))) =
+      elim x [ ]
+  identifier_late i from to k (goes_on at_place (goes_on (chosen given) (second f (failed h)))) = omega arith
+
   pub if_identifier : {M : Type 0} → KeepsIf p M (Within p) (identifier t) (identifier u)
   if_identifier = record {
     keep = λ h. identifier_keep;
     good = λ h. identifier_good;
     forward = λ i j v x. let l = identifier_forward i j v x in omega arith;
+    refuse = λ h. identifier_refuse;
+    late = identifier_late;
   }
 
   pub keeps_identifier : Keeps p (identifier t) (identifier u)
@@ -422,10 +519,31 @@ module _ (p : ℕ) (t u : List ℕ) (s : Shared p t u) where
       goes_on at_place (goes_on (minus_keep 45 i k q (omega arith) x)
       ((keeps_after_minus i).keep k j v (omega arith) n y))
 
+  minus_never : {X : Type 0} (c i from to : ℕ) (k : Kind) → optional t c i (Refused k from to) → X
+  minus_never c i from to k (chosen (first e (stops x))) = elim x [ ]
+  minus_never c i from to k (chosen (first e (goes_on x y))) = elim y [ ]
+  minus_never c i from to k (chosen (second e x)) = elim x [ ]
+
+  number_late : FailsLate (number t)
+  number_late i from to k (stops x) = elim x [ ]
+  number_late i from to k (goes_on at_place (stops x)) = minus_never 45 i from to k x
+  number_late i from to k (goes_on at_place (goes_on {j = m} {a = q} x y)) =
+      let a = minus_forward 45 i m q x in let b = (keeps_after_minus i).late m from to k y in omega arith
+
+  number_refuse : Refuses p (number t) (number u)
+  number_refuse i from to k e (stops x) = elim x [ ]
+  number_refuse i from to k e (goes_on at_place (stops x)) = minus_never 45 i from to k x
+  number_refuse i from to k e (goes_on at_place (goes_on {j = m} {a = q} x y)) =
+      let a = minus_forward 45 i m q x in
+      let b = (keeps_after_minus i).late m from to k y in
+      goes_on at_place (goes_on (minus_keep 45 i m q (omega arith) x) ((keeps_after_minus i).refuse m from to k e y))
+
   pub keeps_number : Keeps p (number t) (number u)
   keeps_number = record {
     keep = number_keep;
     forward = λ i j v x. let l = number_forward i j v x in omega arith;
+    refuse = number_refuse;
+    late = number_late;
   }
 
   -- ---- strings
@@ -441,8 +559,53 @@ module _ (p : ℕ) (t u : List ℕ) (s : Shared p t u) where
   hex_forward : (w i j : ℕ) (v : Unit {0}) → hex_digits t w i (Read v j) → i ≤ j
   hex_forward w i j v (all_there d e) = d.forward
 
+  few_leads : (w i k : ℕ) → k < p → HexDigits t i w k → HexDigits u i w k
+  few_leads w i k l d = record {
+    forward = d.forward;
+    most = d.most;
+    each = λ m c f. sym (below_has is_ascii_hexdigit m (omega arith)) ∙ d.each m c f;
+    longest = λ n. sym (below_has is_ascii_hexdigit k l) ∙ d.longest n;
+  }
+
+  -- a character that begins well before p ends there
+  character_within : (k : ℕ) → k + 4 ≤ p → after_character t k ≤ p
+  character_within k l = at_most (slice_get t k)
+    where
+      by_tests : (a b c : Bool) → k + (if a then 1 else if b then 2 else if c then 3 else 4) ≤ p
+      by_tests true b c = omega arith
+      by_tests false true c = omega arith
+      by_tests false false true = omega arith
+      by_tests false false false = omega arith
+
+      at_most : (o : Option ℕ) → k + character_len t o ≤ p
+      at_most None = omega arith
+      at_most (Some b) = by_tests (nat_lt b 192) (nat_lt b 224) (nat_lt b 240)
+
+  character_same : (k : ℕ) → k < p → after_character t k ≡ after_character u k
+  character_same k l = ap (λ o. k + character_len t o) (s.byte k l) ∙ by_byte (slice_get u k)
+    where
+      by_byte : (o : Option ℕ) → k + character_len t o ≡ k + character_len u o
+      by_byte None = refl
+      by_byte (Some b) = refl
+
+  hex_refuse : (w : ℕ) → Refuses p (hex_digits t w) (hex_digits u w)
+  hex_refuse w i from to k e (too_few d l f) =
+      let q : from < p = omega arith in
+      let same : slice_range t i (after_character t from) ≡ slice_range u i (after_character u from) =
+      s.range i (after_character t from) (character_within from e) ∙ ap (slice_range u i) (character_same from q) in
+      subst (λ bs. hex_digits u w i (Refused (InvalidUnicodeEscapeSequence bs) from to)) (sym same)
+      (too_few (few_leads w i from q d) l f)
+
+  hex_late : (w : ℕ) → FailsLate (hex_digits t w)
+  hex_late w i from to k (too_few d l f) = d.forward
+
   keeps_hex : (w : ℕ) → Keeps p (hex_digits t w) (hex_digits u w)
-  keeps_hex w = record { keep = hex_keep w; forward = hex_forward w }
+  keeps_hex w = record {
+    keep = hex_keep w;
+    forward = hex_forward w;
+    refuse = hex_refuse w;
+    late = hex_late w;
+  }
 
   keeps_escaped : (o : Option ℕ) → Keeps p (escaped t o) (escaped u o)
   keeps_escaped None = search keeping depth 30
@@ -469,7 +632,7 @@ module _ (p : ℕ) (t u : List ℕ) (s : Shared p t u) where
 
   keeps_escape : Keeps p (at_each (λ i. slice_get t (i + 1)) (escaped t)) (at_each (λ i. slice_get u (i + 1))
       (escaped u))
-  keeps_escape = keeps_late p next_byte keeps_escaped
+  keeps_escape = keeps_late p next_byte (λ i l. s.byte (i + 1) (omega arith)) keeps_escaped
 
   keeps_unit : (o : Option ℕ) → Keeps p (string_unit t o) (string_unit u o)
   keeps_unit None = keeps_fails p
@@ -498,8 +661,26 @@ module _ (p : ℕ) (t u : List ℕ) (s : Shared p t u) where
       ((keeps_unit (slice_get t i)).keep i k tt l (omega arith) x))
       (units_keep k j v (omega arith) n r)
 
+  units_late : FailsLate (string_units t)
+  units_late i from to k (unit_and_more {j = j} e x r) =
+      let a = unit_onward (slice_get t i) i j _ x in let b = units_late j from to k r in omega arith
+  units_late i from to k (bad_unit e x) = (keeps_unit (slice_get t i)).late i from to k x
+
+  units_refuse : Refuses p (string_units t) (string_units u)
+  units_refuse i from to k h (unit_and_more {j = j} e x r) =
+      let a = unit_onward (slice_get t i) i j _ x in
+      let b = units_late j from to k r in
+      unit_and_more (sym (below_has (λ b. b == 34) i (omega arith)) ∙ e)
+      (subst (λ o. string_unit u o i (Read tt j)) (s.byte i (omega arith))
+      ((keeps_unit (slice_get t i)).keep i j tt (omega arith) (omega arith) x)) (units_refuse j from to k h r)
+  units_refuse i from to k h (bad_unit e x) =
+      let l = (keeps_unit (slice_get t i)).late i from to k x in
+      bad_unit (sym (below_has (λ b. b == 34) i (omega arith)) ∙ e)
+      (subst (λ o. string_unit u o i (Refused k from to)) (s.byte i (omega arith))
+      ((keeps_unit (slice_get t i)).refuse i from to k h x))
+
   keeps_units : Keeps p (string_units t) (string_units u)
-  keeps_units = record { keep = units_keep; forward = units_forward }
+  keeps_units = record { keep = units_keep; forward = units_forward; refuse = units_refuse; late = units_late }
 
   pub keeps_string : Keeps p (string_literal t) (string_literal u)
   keeps_string = search (keeping, keeps_token, keeps_units, keeps_spanned) depth 30

@@ -15,8 +15,7 @@ use Rattle.fluent_syntax_grammar.specs.Written.{Text}
 use Rattle.fluent_syntax_grammar.specs.Locality.{KeepsTree, Led, arrives, blank_lines, ends_in_comment, entry_text}
 use Rattle.fluent_syntax_grammar.specs.Locality.{is_comment, is_comment_to, moved_tiles, onward, start_of}
 use Rattle.fluent_syntax_grammar.specs.Locality.{is_comment_tile, last_is_comment, Run, one, more, KeepsRun, InsertsTree}
-use Rattle.fluent_syntax_grammar.specs.Locality.{AppendsTree, RemovesTree, CutOff, NoCommentTakes, may_begin}
-use Rattle.fluent_syntax_grammar.specs.Body.{faults}
+use Rattle.fluent_syntax_grammar.specs.Locality.{AppendsTree, RemovesTree, CutOff, NoCommentTakes, Settled, may_begin}
 use Rattle.fluent_syntax_grammar.proofs.Facts.{append_nothing}
 use Rattle.fluent_syntax_grammar.proofs.Sound.{IsSpan}
 use Rattle.fluent_syntax_grammar.proofs.SoundStrings.{InText}
@@ -29,8 +28,8 @@ use Rattle.fluent_syntax_grammar.proofs.locality.SameTexts.{bodies_same}
 use Rattle.fluent_syntax_grammar.proofs.Facts.{differs}
 use Rattle.fluent_syntax_grammar.proofs.Functional.{single_block}
 use Rattle.fluent_syntax_grammar.proofs.OneTiling.{one_tile}
-use Rattle.fluent_syntax_grammar.proofs.locality.Edits.{begins_ends, faults_append, joins, prefix_local, range_left}
-use Rattle.fluent_syntax_grammar.proofs.locality.InTiling.{RestAlone, appended, begins_may, changed, from_entry, led_on, no_tiles, rest_alone, standing, without}
+use Rattle.fluent_syntax_grammar.proofs.locality.Edits.{begins_ends, joins, prefix_local, range_left}
+use Rattle.fluent_syntax_grammar.proofs.locality.InTiling.{RestAlone, appended, begins_may, changed, from_entry, led_on, no_tiles, rest_alone, settled_there, standing, without}
 use Rattle.fluent_syntax_grammar.proofs.locality.NewTexts.{text_begins}
 use Rattle.fluent_syntax_grammar.proofs.locality.SameBefore.{same_before}
 
@@ -237,24 +236,23 @@ record RunEnd (edition : Edition) (t : List ℕ) (q : Span) (after : List Tile) 
   more : Tiled t (TileAt edition t) q.end after
 
 run_end : (edition : Edition) (t : List ℕ) (before run after : List Tile) (s q : Span) →
-    Tiling edition t (before ++ (run ++ after)) → faults before ≡ [] → Run s q run → RunEnd edition t q after
-run_end edition t before run after s q a f (one {e = e}) =
-    let l = standing edition t before after s e a f in
+    Tiling edition t (before ++ (run ++ after)) → Run s q run → RunEnd edition t q after
+run_end edition t before run after s q a (one {e = e}) =
+    let l = standing edition t before after s e a in
     record { inside = l.end_inside; line = l.end_line; more = l.more }
-run_end edition t before run after s q a f (more {r = r} {e = e} {tiles = tiles} d) =
+run_end edition t before run after s q a (more {r = r} {e = e} {tiles = tiles} d) =
     run_end edition t (before ++ (entry s e ∷ [])) tiles after r q
-    (subst (λ zs. Tiling edition t zs) (sym (append_assoc before (entry s e ∷ []) (tiles ++ after))) a)
-    (faults_append before (entry s e ∷ []) f) d
+    (subst (λ zs. Tiling edition t zs) (sym (append_assoc before (entry s e ∷ []) (tiles ++ after))) a) d
 
 -- what the text's tree is made of
 run_tree : (edition : Edition) (t : List ℕ) (before run after : List Tile) (s q : Span) →
-    Tiling edition t (before ++ (run ++ after)) → faults before ≡ [] → Run s q run →
+    Tiling edition t (before ++ (run ++ after)) → Run s q run →
     ends_in_comment s.start before ≡ false → last_is_comment run ≡ false →
     tree_of t (before ++ (run ++ after)) ≡ tree_of t before ++ (tree_of t run ++ tree_of t after)
-run_tree edition t before run after s q a f r g c =
+run_tree edition t before run after s q a r g c =
     let x = run_first s q run r in
     let l =
-    led_line edition t 0 before s x.tree (x.tiles ++ after) (inl refl) f
+    led_line edition t 0 before s x.tree (x.tiles ++ after) (inl refl)
     (subst (λ zs. Tiling edition t (before ++ (zs ++ after))) x.is a) in
     tree_behind edition t s.start before (run ++ after) g l.0 a
     ∙ ap (λ zs. tree_of t before ++ zs) (tree_apart t run after (apart_behind run after c))
@@ -263,14 +261,14 @@ run_tree edition t before run after s q a f r g c =
 
 -- a new entry behind the tiles before an entry
 changed_tree : (edition : Edition) (t : List ℕ) (before after ys : List Tile) (s : Span) (old : EntryTree Span)
-    (e : EntryTree Text) (blank q : ℕ) → Tiling edition t (before ++ (entry s old ∷ after)) → faults before ≡ [] →
+    (e : EntryTree Text) (blank q : ℕ) → Tiling edition t (before ++ (entry s old ∷ after)) → Settled t s.start before →
     ends_in_comment s.start before ≡ false → is_comment e ≡ false → is_canonical edition (e ∷ []) ≡ true →
     may_begin (drop q t) ≡ true → RestAlone edition t q ys →
     (tiles : List Tile) × Tiling edition (take s.start t ++ (entry_text e ++ (blank_lines blank ++ drop q t))) tiles
     × (tree_of (take s.start t ++ (entry_text e ++ (blank_lines blank ++ drop q t))) tiles
     ≡ tree_of t before ++ (e ∷ tree_of t ys))
 changed_tree edition t before after ys s old e blank q a f g d h m rest =
-    let l = standing edition t before after s old a f in
+    let l = standing edition t before after s old a in
     let x = changed edition t before after ys s old e blank q l f (λ k. differs k g) h m rest in
     let u = entry_text e ++ (blank_lines blank ++ drop q t) in
     let v = take s.start t ++ u in
@@ -279,7 +277,8 @@ changed_tree edition t before after ys s old e blank q a f g d h m rest =
     let led : Led v (TileAt edition v) s.start 0 before =
     subst (λ i. Led v (TileAt edition v) i 0 before) l.size
     (prefix_local edition (take s.start t) (drop s.start t) u before l.starts (begins_ends (drop s.start t) l.begins)
-    (begins_ends u (text_begins edition e (blank_lines blank ++ drop q t) h)) f
+    (begins_ends u (text_begins edition e (blank_lines blank ++ drop q t) h))
+    (settled_there t s.start before l.size f)
     (λ k. differs (subst (λ i. ends_in_comment i before ≡ true) l.size k) g) l.led) in (
       before ++ (N ++ O),
       x.tiling,
@@ -291,9 +290,9 @@ changed_tree edition t before after ys s old e blank q a f g d h m rest =
 pub keeps_run : (edition : Edition) (t : List ℕ) (e : EntryTree Text) (blank : ℕ) → KeepsRun edition t e blank
 keeps_run edition t e blank = λ before run after s q a f r g d h m.
     let x = run_first s q run r in
-    let z = run_end edition t before run after s q a f r in
+    let z = run_end edition t before run after s q a r in
     let rest = rest_alone edition t q.end after z.inside z.line z.more in (
-      run_tree edition t before run after s q a f r g,
+      run_tree edition t before run after s q a r g,
       changed_tree edition t before (x.tiles ++ after) after s x.tree e blank q.end
           (subst (λ zs. Tiling edition t (before ++ (zs ++ after))) x.is a) f g d h m rest,
     )
@@ -304,8 +303,8 @@ keeps_tree edition t e blank = λ before after s old a f g c d h m.
 
 pub inserts_tree : (edition : Edition) (t : List ℕ) (e : EntryTree Text) (blank : ℕ) → InsertsTree edition t e blank
 inserts_tree edition t e blank = λ before after s old a f g d h.
-    let l = standing edition t before after s old a f in
-    let led = led_line edition t 0 before s old after (inl refl) f a in (
+    let l = standing edition t before after s old a in
+    let led = led_line edition t 0 before s old after (inl refl) a in (
       tree_behind edition t s.start before (entry s old ∷ after) g led.0 a,
       changed_tree edition t before after (entry s old ∷ after) s old e blank s.start a f g d h
           (begins_may (drop s.start t) l.begins) (from_entry edition t before after s old l),
@@ -327,19 +326,20 @@ appends_tree edition t e blank = λ before a f s g h.
 pub removes_tree : (edition : Edition) (t : List ℕ) → RemovesTree edition t
 removes_tree edition t = λ before run after s q a f r g m.
     let x = run_first s q run r in
-    let z = run_end edition t before run after s q a f r in
+    let z = run_end edition t before run after s q a r in
     let rest = rest_alone edition t q.end after z.inside z.line z.more in
     let b = subst (λ zs. Tiling edition t (before ++ (zs ++ after))) x.is a in
-    let l = standing edition t before (x.tiles ++ after) s x.tree b f in
+    let l = standing edition t before (x.tiles ++ after) s x.tree b in
     let c = drop q.end t in
     let v = take s.start t ++ c in
     let k : NoCommentTakes s.start before c = λ k. differs k g in
     let y = without edition t before (x.tiles ++ after) after s x.tree q.end l f k m rest in
     let led : Led v (TileAt edition v) s.start 0 before =
     subst (λ i. Led v (TileAt edition v) i 0 before) l.size
-    (prefix_local edition (take s.start t) (drop s.start t) c before l.starts (begins_ends (drop s.start t) l.begins) m f
+    (prefix_local edition (take s.start t) (drop s.start t) c before l.starts (begins_ends (drop s.start t) l.begins) m
+    (settled_there t s.start before l.size f)
     (λ k. differs (subst (λ i. ends_in_comment i before ≡ true) l.size k) g) l.led) in (
-      run_tree edition t before run after s q a f r g,
+      run_tree edition t before run after s q a r g,
       (
         before ++ moved_tiles s.start y.0,
         y.2,
@@ -350,13 +350,14 @@ removes_tree edition t = λ before run after s q a f r g m.
 
 pub cut_off : (edition : Edition) (t : List ℕ) → CutOff edition t
 cut_off edition t = λ before after s old a f.
-    let l = standing edition t before after s old a f in
+    let l = standing edition t before after s old a in
     let x = take s.start t in
     let whole : x ++ [] ≡ x = append_nothing x in
     let own = some_tiling edition [] in
     let none : own.0 ≡ [] = no_tiles [] (TileAt edition []) 0 own.0 (omega arith) own.1 in
     let j =
-    joins edition x (drop s.start t) [] before own.0 l.starts (begins_ends (drop s.start t) l.begins) refl f (λ k. refl)
+    joins edition x (drop s.start t) [] before own.0 l.starts (begins_ends (drop s.start t) l.begins) refl
+    (settled_there t s.start before l.size f) (λ k. refl)
     l.led own.1 in
     let same : before ++ moved_tiles (length x) own.0 ≡ before =
     ap (λ zs. before ++ moved_tiles (length x) zs) none ∙ append_nothing before in (
