@@ -49,10 +49,15 @@ pub fn reads_rest(text: &str, other: &str)
 /// The laws of what stands before a place, of a text `before` that `rest` follows or `other` in its place, and both
 /// editions of the grammar.
 ///
-/// - `prefix`: if each of both is empty or begins like an entry, at the start of a line, and tiles without junk lead up
-///   to it, these tiles are kept; if not the last of them is a comment that ends there and `other` begins with `#`.
+/// Errors before a place are settled where their junk ends four bytes before it or earlier, and has no refused
+/// attribute: it does not begin with a `.`, nor did a message or a term without its field break off at one.
+///
+/// - `prefix`: if each of both is empty or begins like an entry, at the start of a line, and tiles whose errors are
+///   settled lead up to it, these tiles are kept, with their errors; if not the last of them is a comment that ends
+///   there and `other` begins with `#`.
 /// - `joins`: then the tiles of the new text are these and those of `other` by itself, moved, and its errors are those
-///   of `other` by itself, moved. So an entry can be removed where an entry follows it or the text ends.
+///   before, and those of `other` by itself, moved. So an entry can be removed where an entry follows it or the text
+///   ends.
 pub fn reads_up_to(before: &str, rest: &str, other: &str)
     ensures prefix { (edition : Edition) → PrefixLocal edition before.now rest.now other.now }
     ensures joins { (edition : Edition) → Joins edition before.now rest.now other.now }
@@ -63,9 +68,9 @@ pub fn reads_up_to(before: &str, rest: &str, other: &str)
 /// - `first`: a canonical entry as it is written, then blank lines, then a text at which an entry may begin: what is
 ///   read is that entry, without an error, and then that text as it is by itself, moved.
 /// - `replaces`: in place of `rest` in a text, that entry, blank lines and `after`. Where `rest` is empty or begins like
-///   an entry, at the start of a line, and tiles without junk lead up to it, the tiles of the new text are these, then
-///   tiles that give the entry text by text, then those of `after` by itself, moved; and its errors are those of `after`
-///   by itself, moved. The premise of `prefix` on comments holds here too. Where `rest` is an entry and `after`, this
+///   an entry, at the start of a line, and tiles whose errors are settled lead up to it, the tiles of the new text are
+///   these, then tiles that give the entry text by text, then those of `after` by itself, moved; and its errors are
+///   those before, and those of `after` by itself, moved. The premise of `prefix` on comments holds here too. Where `rest` is an entry and `after`, this
 ///   replaces the entry; where it is `after`, this inserts one; where both are empty, this appends one.
 pub fn replaces_entry<'s, S: Slice<'s>>(before: &str, rest: &str, entry: &Entry<S>, after: &str)
     ensures first { (edition : Edition) (blank : ℕ) → ReadsFirst edition (entry_view S.text entry.now) blank after.now }
@@ -73,9 +78,9 @@ pub fn replaces_entry<'s, S: Slice<'s>>(before: &str, rest: &str, entry: &Entry<
         Replaces edition before.now rest.now (entry_view S.text entry.now) blank after.now }
 {}
 
-/// The laws of an edit, in terms of the tiling of the text, in both editions of the grammar. In each, the tiles before
-/// the entry have no junk; and if the last of them is a comment that ends right before it, what stands there in the new
-/// text begins with no `#`.
+/// The laws of an edit, in terms of the tiling of the text, in both editions of the grammar. In each, the errors before
+/// the entry are settled, as for `reads_up_to`; and if the last tile there is a comment that ends right before it, what
+/// stands there in the new text begins with no `#`.
 ///
 /// Of the tree, where no comment ends right before the place:
 ///
