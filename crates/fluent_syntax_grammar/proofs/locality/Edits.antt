@@ -27,7 +27,7 @@ use Rattle.fluent_syntax_grammar.proofs.SomeTiling.{some_runtime_tiling, some_ti
 use Rattle.fluent_syntax_grammar.proofs.locality.Moved.{Behind, behind, behind_place}
 use Rattle.fluent_syntax_grammar.proofs.locality.Tiles.{faults_there, runtime_tiled_there, tiled_there, tree_there}
 use Rattle.fluent_syntax_grammar.proofs.locality.Kept.{Head, Shared}
-use Rattle.fluent_syntax_grammar.proofs.locality.KeptEntries.{ends_early, entry_head, head_byte, led_keep}
+use Rattle.fluent_syntax_grammar.proofs.locality.KeptEntries.{JunkBelow, ends_early, entry_head, head_byte, led_keep}
 
 -- ---- suffixes
 
@@ -137,7 +137,7 @@ line_byte t p i e f = byte_ten (slice_get t i) (line_has t p i e f)
     byte_ten (Some b) e = ap Some (is_ten b e)
 
 -- two texts that begin with the same bytes
-shared_of : (a r u : List ℕ) → starts_line (a ++ r) (length a) ≡ true → ends_or_begins r ≡ true →
+pub shared_of : (a r u : List ℕ) → starts_line (a ++ r) (length a) ≡ true → ends_or_begins r ≡ true →
     ends_or_begins u ≡ true → Shared (length a) (a ++ r) (a ++ u)
 shared_of a r u e f g = record {
   byte = λ i l. get_left a r i l ∙ sym (get_left a u i l);
@@ -160,10 +160,14 @@ prefix_local edition a r u = λ before e f g n k d.
 
 -- ---- both
 
-module _ (edition : Edition) (t : List ℕ) (p : ℕ) (h : (has t is_entry_byte p ≡ true) ⊎ (p ≡ length t)) where
+-- a tile that stands there lies within the text, if junk ends before p
+pub record LiesWithin (t : List ℕ) (p : ℕ) (at : (i j : ℕ) → Tile → Type 0) : Type 0 where
+  pub lies : (i j : ℕ) (x : Tile) → i ≤ length t → at i j x → JunkBelow p x → (i < length t) × (j ≤ length t)
+
+module _ (t : List ℕ) (p : ℕ) (at : (i j : ℕ) → Tile → Type 0)
+    (h : (has t is_entry_byte p ≡ true) ⊎ (p ≡ length t)) where
   -- tiles from p on, behind a blank block that ends there
-  from_block : (i : ℕ) (ys : List Tile) → BlankBlock t i p → Tiled t (TileAt edition t) p ys →
-      Tiled t (TileAt edition t) i ys
+  from_block : (i : ℕ) (ys : List Tile) → BlankBlock t i p → Tiled t at p ys → Tiled t at i ys
   from_block i ys b (done c) = elim h [
     | inl g ↦ (let l = has_inside is_entry_byte t p g in
         let e = single_block.same p _ _ (block_at_entry t p g) c in
@@ -176,28 +180,33 @@ module _ (edition : Edition) (t : List ℕ) (p : ℕ) (h : (has t is_entry_byte 
     | inr e ↦ (let f = block_forward t p start c in absurd (omega arith))
   ]
 
-  in_text : p ≤ length t
-  in_text = elim h [
-    | inl g ↦ (let l = has_inside is_entry_byte t p g in omega arith)
-    | inr e ↦ omega arith
-  ]
-
   -- tiles behind tiles that lead up to p, whose junk ends before it
-  led_then : (i : ℕ) (xs ys : List Tile) → list_every (λ f. f.slice.end < p) (faults xs) → i ≤ length t →
-      Led t (TileAt edition t) p i xs → Tiled t (TileAt edition t) p ys → Tiled t (TileAt edition t) i (xs ++ ys)
-  led_then i xs ys f l (arrives b) r = from_block i ys b r
-  led_then i xs ys f l (onward {start = start} {end = end} {tiles = more} b (reads {e = e} a) d) r =
-      let m = has_inside is_entry_byte t start (entry_head edition t start end e a) in
-      let x = entry_read edition t (InText t) (text_cuts t) start end e (omega arith) a in
-      next b m (reads a) (led_then end more ys f x.place d r)
-  led_then i xs ys f l
-      (onward {start = start} {end = end} {tiles = more} b (refuses {from = from} {to = to} {k = k} a j) d) r =
+  pub led_then : LiesWithin t p at → (i : ℕ) (xs ys : List Tile) → list_every (JunkBelow p) xs → i ≤ length t →
+      Led t at p i xs → Tiled t at p ys → Tiled t at i (xs ++ ys)
+  led_then w i xs ys f l (arrives b) r = from_block i ys b r
+  led_then w i xs ys f l (onward {start = start} {end = end} {tile = x} {tiles = more} b a d) r =
       let m = block_place t (InText t) (text_cuts t) i start l b in
-      let x = (entry_refused edition t (InText t) (text_cuts t) start from to k m a).onward in
-      let y = j.forward in
-      let n = in_text in
-      let q = f.0 in
-      next b (omega arith) (refuses a j) (led_then end more ys f.1 j.in_text d r)
+      let q = w.lies start end x m a f.0 in
+      next b q.0 a (led_then w end more ys f.1 q.1 d r)
+
+pub p_in_text : (t : List ℕ) (p : ℕ) → (has t is_entry_byte p ≡ true) ⊎ (p ≡ length t) → p ≤ length t
+p_in_text t p h = elim h [
+  | inl g ↦ (let l = has_inside is_entry_byte t p g in omega arith)
+  | inr e ↦ omega arith
+]
+
+tile_lies : (edition : Edition) (t : List ℕ) (p : ℕ) → p ≤ length t → (i j : ℕ) (x : Tile) → i ≤ length t →
+    TileAt edition t i j x → JunkBelow p x → (i < length t) × (j ≤ length t)
+tile_lies edition t p n i j x l (reads {e = e} a) f =
+    let m = has_inside is_entry_byte t i (entry_head edition t i j e a) in
+    (m, (entry_read edition t (InText t) (text_cuts t) i j e l a).place)
+tile_lies edition t p n i j x l (refuses {from = from} {to = to} {k = k} a q) f =
+    let x = (entry_refused edition t (InText t) (text_cuts t) i from to k l a).onward in
+    let y = q.forward in
+    (omega arith, q.in_text)
+
+pub lies_within : (edition : Edition) (t : List ℕ) (p : ℕ) → p ≤ length t → LiesWithin t p (TileAt edition t)
+lies_within edition t p n = record { lies = tile_lies edition t p n }
 
 pub faults_append : (xs ys : List Tile) → faults xs ≡ [] → faults (xs ++ ys) ≡ faults ys
 faults_append [] ys e = refl
@@ -211,7 +220,7 @@ faults_both (entry s x ∷ xs) ys = faults_both xs ys
 faults_both (refused f ∷ xs) ys = ap (λ fs. f ∷ fs) (faults_both xs ys)
 faults_both (dropped ∷ xs) ys = faults_both xs ys
 
-line_kept : (a r u : List ℕ) (b : Bool) → (length a == 0) ≡ b → starts_line (a ++ r) (length a) ≡ true →
+pub line_kept : (a r u : List ℕ) (b : Bool) → (length a == 0) ≡ b → starts_line (a ++ r) (length a) ≡ true →
     starts_line (a ++ u) (length a) ≡ true
 line_kept a r u true e f = rw e refl
 line_kept a r u false e f =
@@ -222,7 +231,7 @@ line_kept a r u false e f =
     positive : (n : ℕ) → (n == 0) ≡ false → n - 1 < n
     positive n e = grind (arith, nat_tests)
 
-first_entry : (t u : List ℕ) (p : ℕ) → Behind p t u → ends_or_begins u ≡ true →
+pub first_entry : (t u : List ℕ) (p : ℕ) → Behind p t u → ends_or_begins u ≡ true →
     (has t is_entry_byte p ≡ true) ⊎ (p ≡ length t)
 first_entry t [] p b e = let n = b.size in inr (omega arith)
 first_entry t (c ∷ []) p b e = let z : p + 0 ≡ p = omega arith in
@@ -240,7 +249,9 @@ joins edition a r u = λ before own e f g n k d w.
     let rest : Tiled (a ++ u) (TileAt edition (a ++ u)) (length a) (moved_tiles (length a) own) =
     subst (λ k. Tiled (a ++ u) (TileAt edition (a ++ u)) k (moved_tiles (length a) own)) z
     (tiled_there (length a) (a ++ u) u (behind a u) starts edition 0 own w) in (
-      led_then edition (a ++ u) (length a) head 0 before (moved_tiles (length a) own)
+      led_then (a ++ u) (length a) (TileAt edition (a ++ u)) head
+          (lies_within edition (a ++ u) (length a) (p_in_text (a ++ u) (length a) head)) 0 before
+          (moved_tiles (length a) own)
           (ends_early edition (length a) (a ++ r) (a ++ u) (shared_of a r u e f g) before n) (omega arith) led rest,
       faults_both before (moved_tiles (length a) own) ∙ ap (λ fs. faults before ++ fs) (faults_there (length a) own),
     )

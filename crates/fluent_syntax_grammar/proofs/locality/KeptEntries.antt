@@ -252,7 +252,7 @@ module _ (edition : Edition) (p : ℕ) (t u : List ℕ) (s : Shared p t u) where
   term_end start id None as' i j e x = elim x [ ]
   term_end start id (Some q) as' i j e given = (refl, given)
 
-  message_keep : (i j : ℕ) (e : EntryTree Span) → i ≤ p → j ≤ p → attributes edition u j (Read [] j) →
+  pub message_keep : (i j : ℕ) (e : EntryTree Span) → i ≤ p → j ≤ p → attributes edition u j (Read [] j) →
       message_entry edition t i (Read e j) → message_entry edition u i (Read e j)
   message_keep i j e l n h
       (goes_on at_place (goes_on {j = a} {a = id} x (goes_on {j = b} y (goes_on {j = c} z (goes_on {j = d} {a = pat} w
@@ -274,7 +274,7 @@ module _ (edition : Edition) (p : ℕ) (t u : List ℕ) (s : Shared p t u) where
       (goes_on (attributes_keep f g as' (omega arith) (omega arith)
       (subst (λ g. attributes edition u g (Read [] g)) (sym k7) h) q) end.1))))))
 
-  term_keep : (i j : ℕ) (e : EntryTree Span) → i ≤ p → j ≤ p → attributes edition u j (Read [] j) →
+  pub term_keep : (i j : ℕ) (e : EntryTree Span) → i ≤ p → j ≤ p → attributes edition u j (Read [] j) →
       term_entry edition t i (Read e j) → term_entry edition u i (Read e j)
   term_keep i j e l n h
       (goes_on at_place (goes_on {j = m} m' (goes_on {j = a} {a = id} x (goes_on {j = b} y (goes_on {j = c} z
@@ -657,6 +657,12 @@ module _ (t : List ℕ) where
 
 -- ---- tiles
 
+-- junk that ends before p
+abbrev pub JunkBelow : ℕ → Tile → Type 0
+JunkBelow p (refused f) = f.slice.end < p
+JunkBelow p (entry s e) = Unit {0}
+JunkBelow p dropped = Unit {0}
+
 module _ (edition : Edition) (p : ℕ) (t u : List ℕ) (s : Shared p t u) where
   head_place : (start : ℕ) → has t is_entry_byte start ≡ true → start ≤ length t
   head_place start e = let x = has_inside is_entry_byte t start e in omega arith
@@ -709,7 +715,7 @@ module _ (edition : Edition) (p : ℕ) (t u : List ℕ) (s : Shared p t u) where
     dotless : Dotless edition t start
     stands : Standing start tiles
 
-  quiet_head : Quiet edition t p
+  pub quiet_head : Quiet edition t p
   quiet_head = record {
     no_space = head_has p t u s (other_byte 32 refl);
     no_dot = head_has p t u s (other_byte 46 refl);
@@ -722,10 +728,10 @@ module _ (edition : Edition) (p : ℕ) (t u : List ℕ) (s : Shared p t u) where
   }
 
   -- of junk that is settled
-  record Settling (start end from to : ℕ) (k : Kind) : Type 0 where
-    early : end + 4 ≤ p
-    no_dot : begins_attribute (drop start t) ≡ false
-    no_field : lacks_field k ≡ true → begins_attribute (drop to t) ≡ false
+  pub record Settling (start end from to : ℕ) (k : Kind) : Type 0 where
+    pub early : end + 4 ≤ p
+    pub no_dot : begins_attribute (drop start t) ≡ false
+    pub no_field : lacks_field k ≡ true → begins_attribute (drop to t) ≡ false
 
   settling : (start end from to : ℕ) (k : Kind) → is_settled t p (record {
     kind = k;
@@ -755,14 +761,14 @@ module _ (edition : Edition) (p : ℕ) (t u : List ℕ) (s : Shared p t u) where
       one_not true false e f = refl
       one_not false y e f = cc
 
-  abbrev AllSettled : List Tile → Type 0
+  abbrev pub AllSettled : List Tile → Type 0
   AllSettled tiles = Settled t p tiles
 
-  abbrev junk_tile : (start end from to : ℕ) → Kind → Tile
+  abbrev pub junk_tile : (start end from to : ℕ) → Kind → Tile
   junk_tile start end from to k =
       refused (record { kind = k; pos = record { start = from; end = to }; slice = record { start = start; end = end } })
 
-  first_settled : (start end from to : ℕ) (k : Kind) (more : List Tile) →
+  pub first_settled : (start end from to : ℕ) (k : Kind) (more : List Tile) →
       AllSettled (junk_tile start end from to k ∷ more) → Settling start end from to k
   first_settled start end from to k more e =
       settling start end from to k (left_true (is_settled t p (record {
@@ -771,7 +777,7 @@ module _ (edition : Edition) (p : ℕ) (t u : List ℕ) (s : Shared p t u) where
         slice = record { start = start; end = end };
       })) (list_all (is_settled t p) (faults more)) e)
 
-  rest_settled : (start end from to : ℕ) (k : Kind) (more : List Tile) →
+  pub rest_settled : (start end from to : ℕ) (k : Kind) (more : List Tile) →
       AllSettled (junk_tile start end from to k ∷ more) → AllSettled more
   rest_settled start end from to k more e =
       right_true (is_settled t p (record {
@@ -781,10 +787,10 @@ module _ (edition : Edition) (p : ℕ) (t u : List ℕ) (s : Shared p t u) where
       })) (list_all (is_settled t p) (faults more)) e
 
   -- settled junk ends before p
-  pub ends_early : (tiles : List Tile) → AllSettled tiles → list_every (λ f. f.slice.end < p) (faults tiles)
+  pub ends_early : (tiles : List Tile) → AllSettled tiles → list_every (JunkBelow p) tiles
   ends_early [] e = tt
-  ends_early (entry s x ∷ tiles) e = ends_early tiles e
-  ends_early (dropped ∷ tiles) e = ends_early tiles e
+  ends_early (entry s x ∷ tiles) e = (tt, ends_early tiles e)
+  ends_early (dropped ∷ tiles) e = (tt, ends_early tiles e)
   ends_early (refused f ∷ tiles) e =
       let x = (first_settled f.slice.start f.slice.end f.pos.start f.pos.end f.kind tiles e).early in (
         (omega arith),
@@ -839,14 +845,18 @@ module _ (edition : Edition) (p : ℕ) (t u : List ℕ) (s : Shared p t u) where
       let c = block_forward t m start r in
       none_there edition p t u s end k (omega arith) w (eol_no_dot edition t k m e)
 
-  next_attributes : (end : ℕ) (tiles : List Tile) → end ≤ p → Next end tiles → attributes edition u end (Read [] end)
-  next_attributes end tiles l n = elim (lt_or_same n.start p n.inside) [
-    | inl m ↦ before_p end n.start m n.block n.dotless
-    | inr e ↦ none_before edition u end n.start ((kept_block p t u s).leads end n.start l n.inside n.block)
+  pub none_behind : (end start : ℕ) → end ≤ p → start ≤ p → BlankBlock t end start → Dotless edition t start →
+      attributes edition u end (Read [] end)
+  none_behind end start l m b d = elim (lt_or_same start p m) [
+    | inl n ↦ before_p end start n b d
+    | inr e ↦ none_before edition u end start ((kept_block p t u s).leads end start l m b)
         (subst (Dotless edition u) (sym e) (dotless_quiet edition u p quiet_other))
   ]
 
-  zero_apart : (a b : ℕ) → a ≡ 0 → 0 < b → a ≢ b
+  next_attributes : (end : ℕ) (tiles : List Tile) → end ≤ p → Next end tiles → attributes edition u end (Read [] end)
+  next_attributes end tiles l n = none_behind end n.start l n.inside n.block n.dotless
+
+  pub zero_apart : (a b : ℕ) → a ≡ 0 → 0 < b → a ≢ b
   zero_apart a b e l f = omega arith
 
   -- of a malformed comment, no line is read
@@ -952,7 +962,7 @@ module _ (edition : Edition) (p : ℕ) (t u : List ℕ) (s : Shared p t u) where
   entry_refuse_of (Some b) start from to k l e d (second g (second h x)) =
       second g (second h (message_refuse edition p t u s start from to k (omega arith) e d x))
 
-  entry_refuse : (start from to : ℕ) (k : Kind) → start < p → Early p k from to → LacksDot edition p t u s k to →
+  pub entry_refuse : (start from to : ℕ) (k : Kind) → start < p → Early p k from to → LacksDot edition p t u s k to →
       entry_at edition t start (Refused k from to) → entry_at edition u start (Refused k from to)
   entry_refuse start from to k l e d (chosen x) =
       chosen (subst (λ o. entry_of edition u (family edition u) o start (Refused k from to)) (s.byte start l)
@@ -986,6 +996,24 @@ module _ (edition : Edition) (p : ℕ) (t u : List ℕ) (s : Shared p t u) where
     in_text = (let n : end < p = omega arith in let m = (long end n).1 in omega arith);
   }
 
+  pub junk_keep : (start end from to : ℕ) (k : Kind) (more : List Tile) →
+      AllSettled (junk_tile start end from to k ∷ more) → start ≤ length t → entry_at edition t start (Refused k from to) →
+      JunkEnd t (failing_place k from to) end → TileAt edition u start end (junk_tile start end from to k)
+  junk_keep start end from to k more f m r j =
+      let c = junk_on start from to k m r in
+      let h = j.forward in
+      let q = j.in_text in
+      let x = first_settled start end from to k more f in
+      let y = x.early in
+      refuses (entry_refuse start from to k (omega arith) (omega arith)
+      (λ z. dotless_there edition t to (field_in k from to z (omega arith)) (x.no_field z)) r)
+      (junk_end (failing_place k from to) end y j)
+    where
+      field_in : (k : Kind) (from to : ℕ) → lacks_field k ≡ true → failing_place k from to ≤ length t → to ≤ length t
+      field_in (ExpectedMessageField id) from to e l = l
+      field_in (ExpectedTermField id) from to e l = l
+      field_in k from to e l = cc
+
   -- Tiles that stand before p stand there in the other text, where their errors are settled; if not a comment ends at p
   -- and the other text goes on with a `#` there.
   pub led_keep : (i : ℕ) (tiles : List Tile) → AllSettled tiles → NoHash tiles → i ≤ p → i ≤ length t →
@@ -1003,17 +1031,7 @@ module _ (edition : Edition) (p : ℕ) (t u : List ℕ) (s : Shared p t u) where
       let m = block_place t (InText t) (text_cuts t) i start n b in
       let c = junk_on start from to kind m r in
       let h = j.forward in
-      let x = first_settled start end from to kind more f in
-      let y = x.early in
-      let q = j.in_text in
-      onward ((kept_block p t u s).leads i start l (omega arith) b)
-      (refuses (entry_refuse start from to kind (omega arith) (omega arith)
-      (λ z. dotless_there edition t to (field_in kind from to z (omega arith)) (x.no_field z)) r)
-      (junk_end (failing_place kind from to) end y j))
+      let y = (first_settled start end from to kind more f).early in
+      onward ((kept_block p t u s).leads i start l (omega arith) b) (junk_keep start end from to kind more f m r j)
       (led_keep end more (rest_settled start end from to kind more f)
-      (later (junk_tile start end from to kind) more k) (omega arith) q d)
-    where
-      field_in : (k : Kind) (from to : ℕ) → lacks_field k ≡ true → failing_place k from to ≤ length t → to ≤ length t
-      field_in (ExpectedMessageField id) from to e l = l
-      field_in (ExpectedTermField id) from to e l = l
-      field_in k from to e l = cc
+      (later (junk_tile start end from to kind) more k) (omega arith) j.in_text d)
