@@ -95,7 +95,7 @@ module _ (edition : Edition) (t : List ℕ) (P : ℕ → Type 0) (cuts : IsCuts 
   given (refused f) g = g.1
   given dropped g = tt
 
-  all_given : (xs : List Tile) → list_every (GoodTile edition t P cuts) xs → list_every (GoodGiven P) xs
+  pub all_given : (xs : List Tile) → list_every (GoodTile edition t P cuts) xs → list_every (GoodGiven P) xs
   all_given [] g = tt
   all_given (x ∷ xs) (g, h) = (given x g, all_given xs h)
 

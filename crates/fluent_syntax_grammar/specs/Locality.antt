@@ -6,7 +6,10 @@ use Rattle.fluent_syntax_tree.specs.Entry.{EntryTree, comment, entry_map}
 use Rattle.fluent_syntax_tree.specs.Spans.{bytes_at}
 use Rattle.fluent_syntax_tree.specs.declared.spans.Span.{Span}
 use Rattle.fluent_syntax_tree.specs.declared.edition.Edition.{Edition}
-use Rattle.fluent_syntax_grammar.specs.Bytes.{lf, greater_than, hash, hyphen}
+use Rattle.fluent_syntax_grammar.specs.Bytes.{lf, full_stop, greater_than, hash, hyphen, space}
+use Rattle.fluent_syntax_tree.specs.Kind.{Kind, ExpectedMessageField, ExpectedTermField}
+use Rattle.std.specs.List.{list_all}
+use Rattle.std.specs.Prelude.{nat_le, if◌then◌else◌}
 use Rattle.fluent_syntax_grammar.specs.Places.{BlankBlock, starts_line}
 use Rattle.fluent_syntax_grammar.specs.Tiling.{Fault, Tile, entry, refused, dropped, is_entry_byte, Tiled, TileAt}
 use Rattle.fluent_syntax_grammar.specs.Tiling.{RuntimeTileAt, RuntimeTiling, Tiling}
@@ -57,10 +60,45 @@ begins_entry [] = false
 begins_entry (b ∷ []) = is_entry_byte b
 begins_entry (b ∷ c ∷ bs) = is_entry_byte b && not (b == hyphen && c == greater_than)
 
+-- whether there are no bytes, or they begin like an entry
+abbrev pub ends_or_begins : List ℕ → Bool
+ends_or_begins [] = true
+ends_or_begins (b ∷ bs) = begins_entry (b ∷ bs)
+
+-- whether a line starts at the end of the bytes: there are none, or an LF is the last
+abbrev pub ends_line : List ℕ → Bool
+ends_line t = starts_line t (length t)
+
+-- whether the bytes begin like an attribute: with spaces, perhaps none, and a `.`
+abbrev pub begins_attribute : List ℕ → Bool
+begins_attribute [] = false
+begins_attribute (b ∷ bs) = if b == space then begins_attribute bs else b == full_stop
+
+-- whether a message or a term lacks its field
+abbrev pub lacks_field : Kind → Bool
+lacks_field (ExpectedMessageField id) = true
+lacks_field (ExpectedTermField id) = true
+lacks_field k = false
+
+-- Whether an error stays as it is whatever stands from p on: its junk ends four bytes before p at the latest, as where
+-- a message stands behind it; and there is no refused attribute in it, of which it isn't known how far it was read.
+abbrev pub is_settled : List ℕ → ℕ → Fault → Bool
+is_settled t p f =
+    nat_le (f.slice.end + 4) p && (not (begins_attribute (drop f.slice.start t))
+    && not (lacks_field f.kind && begins_attribute (drop f.pos.end t)))
+
+-- all errors of the tiles stay
+abbrev pub Settled : List ℕ → ℕ → List Tile → Type 0
+Settled t p tiles = list_all (is_settled t p) (faults tiles) ≡ true
+
 -- whether the bytes begin with a `#`
 abbrev pub begins_comment : List ℕ → Bool
 begins_comment [] = false
 begins_comment (b ∷ bs) = b == hash
+
+-- no comment that ends at p takes the first line of the bytes u
+abbrev pub NoCommentTakes : (p : ℕ) → (before : List Tile) → (u : List ℕ) → Type 0
+NoCommentTakes p before u = ends_in_comment p before ≡ true → begins_comment u ≡ false
 
 -- ---- the laws, as statements
 
@@ -88,25 +126,25 @@ SameRest edition t u =
     starts_line u q ≡ true → Tiled t (TileAt edition t) p xs → Tiled u (TileAt edition u) q ys →
     ((own : List Tile) × (xs ≡ moved_tiles p own) × (ys ≡ moved_tiles q own)) × (tree_of t xs ≡ tree_of u ys)
 
--- Prefixes: tiles without junk that lead up to the start of a line, where in place of the rest r stands u and both
--- begin like an entry, are kept; if not the last of them is a comment directly before a `#` of u.
+-- Prefixes: tiles whose errors are settled, which lead up to the start of a line, where in place of the rest r stands u
+-- and each of both is empty or begins like an entry, are kept; if not the last of them is a comment directly before a
+-- `#` of u.
 abbrev pub PrefixLocal : Edition → (a r u : List ℕ) → Type 0
 PrefixLocal edition a r u =
-    (before : List Tile) → starts_line (a ++ r) (length a) ≡ true → begins_entry r ≡ true → begins_entry u ≡ true →
-    faults before ≡ [] → (ends_in_comment (length a) before ≡ true → begins_comment u ≡ false) →
+    (before : List Tile) → starts_line (a ++ r) (length a) ≡ true → ends_or_begins r ≡ true →
+    ends_or_begins u ≡ true → Settled (a ++ r) (length a) before → NoCommentTakes (length a) before u →
     Led (a ++ r) (TileAt edition (a ++ r)) (length a) 0 before →
     Led (a ++ u) (TileAt edition (a ++ u)) (length a) 0 before
 
 -- Both together: then the tiles of the new text are those before, and those of u by itself, moved; and its errors are
--- those of u by itself, moved.
+-- those before, and those of u by itself, moved.
 abbrev pub Joins : Edition → (a r u : List ℕ) → Type 0
 Joins edition a r u =
-    (before own : List Tile) → starts_line (a ++ r) (length a) ≡ true → begins_entry r ≡ true →
-    begins_entry u ≡ true → faults before ≡ [] →
-    (ends_in_comment (length a) before ≡ true → begins_comment u ≡ false) →
+    (before own : List Tile) → starts_line (a ++ r) (length a) ≡ true → ends_or_begins r ≡ true →
+    ends_or_begins u ≡ true → Settled (a ++ r) (length a) before → NoCommentTakes (length a) before u →
     Led (a ++ r) (TileAt edition (a ++ r)) (length a) 0 before → Tiling edition u own →
     Tiling edition (a ++ u) (before ++ moved_tiles (length a) own)
-    × (faults (before ++ moved_tiles (length a) own) ≡ map (moved_fault (length a)) (faults own))
+    × (faults (before ++ moved_tiles (length a) own) ≡ faults before ++ map (moved_fault (length a)) (faults own))
 
 -- where a tile of a tiling begins; one that was dropped has no place
 abbrev pub start_of : Tile → ℕ
@@ -150,14 +188,16 @@ ReadsFirst edition e blank c =
     Tiling edition (entry_text e ++ (blank_lines blank ++ c)) (new ++ moved_tiles (length (entry_text e) + blank) own)
     × (faults new ≡ []) × (tree_of (entry_text e ++ (blank_lines blank ++ c)) new ≡ e ∷ [])
 
--- Replacing: in a text a and r, in place of r a written entry, blank lines and c. Where r begins like an entry at the
--- start of a line, tiles without junk lead up to it, and no comment ends there before a `#` of the new entry: the tiles
--- of the new text are those, then tiles of the new entry, and those of c by itself, moved; and its errors are those of
--- c by itself, moved. Where r is an entry and c, this replaces the entry; where r is c, it inserts one.
+-- Replacing: in a text a and r, in place of r a written entry, blank lines and c. Where r is empty or begins like an
+-- entry at the start of a line, tiles whose errors are settled lead up to it, and no comment ends there before a `#` of
+-- the new entry: the tiles of the new text are those, then tiles of the new entry, and those of c by itself, moved; and
+-- its errors are those before, and those of c by itself, moved. Where r is an entry and c, this replaces the entry; where r is c, it inserts
+-- one, and where both are empty it appends one.
 abbrev pub Replaces : Edition → (a r : List ℕ) → EntryTree Text → (blank : ℕ) → (c : List ℕ) → Type 0
 Replaces edition a r e blank c =
-    (before own : List Tile) → starts_line (a ++ r) (length a) ≡ true → begins_entry r ≡ true → faults before ≡ [] →
-    (ends_in_comment (length a) before ≡ true → begins_comment (entry_text e) ≡ false) →
+    (before own : List Tile) → starts_line (a ++ r) (length a) ≡ true → ends_or_begins r ≡ true →
+    Settled (a ++ r) (length a) before →
+    NoCommentTakes (length a) before (entry_text e) →
     Led (a ++ r) (TileAt edition (a ++ r)) (length a) 0 before → is_canonical edition (e ∷ []) ≡ true →
     may_begin c ≡ true → Tiling edition c own →
     (new : List Tile) ×
@@ -165,17 +205,17 @@ Replaces edition a r e blank c =
     (before ++ moved_tiles (length a) (new ++ moved_tiles (length (entry_text e) + blank) own))
     × (tree_of (a ++ (entry_text e ++ (blank_lines blank ++ c))) (moved_tiles (length a) new) ≡ e ∷ [])
     × (faults (before ++ moved_tiles (length a) (new ++ moved_tiles (length (entry_text e) + blank) own))
-    ≡ map (moved_fault (length a)) (map (moved_fault (length (entry_text e) + blank)) (faults own)))
+    ≡ faults before ++ map (moved_fault (length a)) (map (moved_fault (length (entry_text e) + blank)) (faults own)))
 
--- In terms of the text's own tiling: in place of an entry behind tiles without junk, a written entry and blank lines.
+-- In terms of the text's own tiling: in place of an entry behind tiles whose errors are settled, a written entry and blank lines.
 -- Where an entry may begin right behind the old one, and no comment ends right before it or the new entry begins with
 -- no `#`: the tiles of the new text are those before; tiles that give the new entry text by text; and those behind,
 -- moved from where they stood to where they stand. The errors are those of the text, moved likewise.
 abbrev pub Replaced : Edition → List ℕ → EntryTree Text → (blank : ℕ) → Type 0
 Replaced edition t e blank =
     (before after : List Tile) (s : Span) (old : EntryTree Span) →
-    Tiling edition t (before ++ (entry s old ∷ after)) → faults before ≡ [] →
-    (ends_in_comment s.start before ≡ true → begins_comment (entry_text e) ≡ false) →
+    Tiling edition t (before ++ (entry s old ∷ after)) → Settled t s.start before →
+    NoCommentTakes s.start before (entry_text e) →
     is_canonical edition (e ∷ []) ≡ true → may_begin (drop s.end t) ≡ true →
     (new own : List Tile) × (after ≡ moved_tiles s.end own) ×
     Tiling edition (take s.start t ++ (entry_text e ++ (blank_lines blank ++ drop s.end t)))
@@ -185,25 +225,25 @@ Replaced edition t e blank =
     × (tree_of (take s.start t ++ (entry_text e ++ (blank_lines blank ++ drop s.end t)))
     (moved_tiles (s.start + (length (entry_text e) + blank)) own) ≡ tree_of t after)
 
--- Removing an entry behind tiles without junk, where what stands behind it begins like an entry: the tiles of the new
--- text are those before, and those behind, moved from where they stood to where they stand.
+-- Removing an entry behind tiles whose errors are settled, where the text ends right behind it, or what stands there begins like an
+-- entry: the tiles of the new text are those before, and those behind, moved from where they stood to where they stand.
 abbrev pub Removed : Edition → List ℕ → Type 0
 Removed edition t =
     (before after : List Tile) (s : Span) (old : EntryTree Span) →
-    Tiling edition t (before ++ (entry s old ∷ after)) → faults before ≡ [] →
-    (ends_in_comment s.start before ≡ true → begins_comment (drop s.end t) ≡ false) →
-    begins_entry (drop s.end t) ≡ true →
+    Tiling edition t (before ++ (entry s old ∷ after)) → Settled t s.start before →
+    NoCommentTakes s.start before (drop s.end t) →
+    ends_or_begins (drop s.end t) ≡ true →
     (own : List Tile) × (after ≡ moved_tiles s.end own) ×
     Tiling edition (take s.start t ++ drop s.end t) (before ++ moved_tiles s.start own)
     × (tree_of (take s.start t ++ drop s.end t) (moved_tiles s.start own) ≡ tree_of t after)
 
--- Inserting a written entry and blank lines before an entry behind tiles without junk: the tiles of the new text are
+-- Inserting a written entry and blank lines before an entry behind tiles whose errors are settled: the tiles of the new text are
 -- those before; tiles that give the new entry text by text; and the entry and those behind it, moved on.
 abbrev pub Inserted : Edition → List ℕ → EntryTree Text → (blank : ℕ) → Type 0
 Inserted edition t e blank =
     (before after : List Tile) (s : Span) (old : EntryTree Span) →
-    Tiling edition t (before ++ (entry s old ∷ after)) → faults before ≡ [] →
-    (ends_in_comment s.start before ≡ true → begins_comment (entry_text e) ≡ false) →
+    Tiling edition t (before ++ (entry s old ∷ after)) → Settled t s.start before →
+    NoCommentTakes s.start before (entry_text e) →
     is_canonical edition (e ∷ []) ≡ true →
     (new own : List Tile) × (entry s old ∷ after ≡ moved_tiles s.start own) ×
     Tiling edition (take s.start t ++ (entry_text e ++ (blank_lines blank ++ drop s.start t)))
@@ -213,13 +253,23 @@ Inserted edition t e blank =
     × (tree_of (take s.start t ++ (entry_text e ++ (blank_lines blank ++ drop s.start t)))
     (moved_tiles (s.start + (length (entry_text e) + blank)) own) ≡ tree_of t (entry s old ∷ after))
 
+-- Appending a written entry and blank lines at the end of a text whose errors are settled, where a line starts there: the tiles of
+-- the new text are those of the text, and tiles that give the new entry text by text.
+abbrev pub Appended : Edition → List ℕ → EntryTree Text → (blank : ℕ) → Type 0
+Appended edition t e blank =
+    (before : List Tile) → Tiling edition t before → Settled t (length t) before → ends_line t ≡ true →
+    NoCommentTakes (length t) before (entry_text e) →
+    is_canonical edition (e ∷ []) ≡ true →
+    (new : List Tile) × Tiling edition (t ++ (entry_text e ++ blank_lines blank)) (before ++ moved_tiles (length t) new)
+    × (tree_of (t ++ (entry_text e ++ blank_lines blank)) (moved_tiles (length t) new) ≡ e ∷ [])
+
 -- The same in place of several entries in a row: from the start of the first to the end of the last. So a message is
 -- replaced with the comment that hangs on it.
 abbrev pub ReplacedRun : Edition → List ℕ → EntryTree Text → (blank : ℕ) → Type 0
 ReplacedRun edition t e blank =
     (before between after : List Tile) (s q : Span) (old last : EntryTree Span) →
-    Tiling edition t (before ++ (entry s old ∷ (between ++ (entry q last ∷ after)))) → faults before ≡ [] →
-    faults between ≡ [] → (ends_in_comment s.start before ≡ true → begins_comment (entry_text e) ≡ false) →
+    Tiling edition t (before ++ (entry s old ∷ (between ++ (entry q last ∷ after)))) → Settled t s.start before →
+    NoCommentTakes s.start before (entry_text e) →
     is_canonical edition (e ∷ []) ≡ true → may_begin (drop q.end t) ≡ true →
     (new own : List Tile) × (after ≡ moved_tiles q.end own) ×
     Tiling edition (take s.start t ++ (entry_text e ++ (blank_lines blank ++ drop q.end t)))
@@ -229,11 +279,33 @@ ReplacedRun edition t e blank =
     × (tree_of (take s.start t ++ (entry_text e ++ (blank_lines blank ++ drop q.end t)))
     (moved_tiles (s.start + (length (entry_text e) + blank)) own) ≡ tree_of t after)
 
+-- From an entry behind tiles whose errors are settled on, the text is cut off: the tiles are those before it.
+abbrev pub CutOff : Edition → List ℕ → Type 0
+CutOff edition t =
+    (before after : List Tile) (s : Span) (old : EntryTree Span) →
+    Tiling edition t (before ++ (entry s old ∷ after)) → Settled t s.start before →
+    Tiling edition (take s.start t) before × (tree_of (take s.start t) before ≡ tree_of t before)
+
 -- ---- whole trees
+
+-- Entries in a row, the first of which has the range s and the last the range q.
+pub data Run : (s q : Span) → List Tile → Type 0 where
+  one : {s : Span} {e : EntryTree Span} → Run s s (entry s e ∷ [])
+  more : {s r q : Span} {e : EntryTree Span} {tiles : List Tile} → Run r q tiles → Run s q (entry s e ∷ tiles)
 
 abbrev pub is_comment : {X : Type 0} → EntryTree X → Bool
 is_comment (comment level content) = true
 is_comment x = false
+
+abbrev pub is_comment_tile : Tile → Bool
+is_comment_tile (entry s e) = is_comment e
+is_comment_tile x = false
+
+-- whether the last tile is a comment
+abbrev pub last_is_comment : List Tile → Bool
+last_is_comment [] = false
+last_is_comment (x ∷ []) = is_comment_tile x
+last_is_comment (x ∷ y ∷ xs) = last_is_comment (y ∷ xs)
 
 -- The whole tree, as a reader of the text has it: in place of an entry that is no comment, behind which an entry may
 -- begin and right before which no comment ends, a written entry that is none. The tree of the new text is that of the
@@ -241,7 +313,7 @@ is_comment x = false
 abbrev pub KeepsTree : Edition → List ℕ → EntryTree Text → (blank : ℕ) → Type 0
 KeepsTree edition t e blank =
     (before after : List Tile) (s : Span) (old : EntryTree Span) →
-    Tiling edition t (before ++ (entry s old ∷ after)) → faults before ≡ [] →
+    Tiling edition t (before ++ (entry s old ∷ after)) → Settled t s.start before →
     ends_in_comment s.start before ≡ false → is_comment old ≡ false → is_comment e ≡ false →
     is_canonical edition (e ∷ []) ≡ true → may_begin (drop s.end t) ≡ true →
     (tree_of t (before ++ (entry s old ∷ after))
@@ -251,10 +323,54 @@ KeepsTree edition t e blank =
     × (tree_of (take s.start t ++ (entry_text e ++ (blank_lines blank ++ drop s.end t))) tiles
     ≡ tree_of t before ++ (e ∷ tree_of t after)))
 
--- The tiles before an entry, where they have no junk, give text by text the same in each text that has the same bytes
+-- The same in place of several entries in a row, as a message and the comment that hangs on it. (If the last of them is
+-- a comment, it may hang on what stands behind it.)
+abbrev pub KeepsRun : Edition → List ℕ → EntryTree Text → (blank : ℕ) → Type 0
+KeepsRun edition t e blank =
+    (before run after : List Tile) (s q : Span) → Tiling edition t (before ++ (run ++ after)) → Settled t s.start before →
+    Run s q run → ends_in_comment s.start before ≡ false → is_comment e ≡ false → is_canonical edition (e ∷ []) ≡ true →
+    may_begin (drop q.end t) ≡ true →
+    (last_is_comment run ≡ false →
+    tree_of t (before ++ (run ++ after)) ≡ tree_of t before ++ (tree_of t run ++ tree_of t after)) ×
+    ((tiles : List Tile) ×
+    Tiling edition (take s.start t ++ (entry_text e ++ (blank_lines blank ++ drop q.end t))) tiles
+    × (tree_of (take s.start t ++ (entry_text e ++ (blank_lines blank ++ drop q.end t))) tiles
+    ≡ tree_of t before ++ (e ∷ tree_of t after)))
+
+-- The same with a written entry before an entry, of any kind.
+abbrev pub InsertsTree : Edition → List ℕ → EntryTree Text → (blank : ℕ) → Type 0
+InsertsTree edition t e blank =
+    (before after : List Tile) (s : Span) (old : EntryTree Span) →
+    Tiling edition t (before ++ (entry s old ∷ after)) → Settled t s.start before →
+    ends_in_comment s.start before ≡ false → is_comment e ≡ false → is_canonical edition (e ∷ []) ≡ true →
+    (tree_of t (before ++ (entry s old ∷ after)) ≡ tree_of t before ++ tree_of t (entry s old ∷ after)) ×
+    ((tiles : List Tile) ×
+    Tiling edition (take s.start t ++ (entry_text e ++ (blank_lines blank ++ drop s.start t))) tiles
+    × (tree_of (take s.start t ++ (entry_text e ++ (blank_lines blank ++ drop s.start t))) tiles
+    ≡ tree_of t before ++ (e ∷ tree_of t (entry s old ∷ after))))
+
+-- The same with a written entry, of any kind, at the end of the text.
+abbrev pub AppendsTree : Edition → List ℕ → EntryTree Text → (blank : ℕ) → Type 0
+AppendsTree edition t e blank =
+    (before : List Tile) → Tiling edition t before → Settled t (length t) before → ends_line t ≡ true →
+    ends_in_comment (length t) before ≡ false → is_canonical edition (e ∷ []) ≡ true →
+    (tiles : List Tile) × Tiling edition (t ++ (entry_text e ++ blank_lines blank)) tiles
+    × (tree_of (t ++ (entry_text e ++ blank_lines blank)) tiles ≡ tree_of t before ++ (e ∷ []))
+
+-- Without several entries in a row, or one, behind which the text ends or an entry begins.
+abbrev pub RemovesTree : Edition → List ℕ → Type 0
+RemovesTree edition t =
+    (before run after : List Tile) (s q : Span) → Tiling edition t (before ++ (run ++ after)) → Settled t s.start before →
+    Run s q run → ends_in_comment s.start before ≡ false → ends_or_begins (drop q.end t) ≡ true →
+    (last_is_comment run ≡ false →
+    tree_of t (before ++ (run ++ after)) ≡ tree_of t before ++ (tree_of t run ++ tree_of t after)) ×
+    ((tiles : List Tile) × Tiling edition (take s.start t ++ drop q.end t) tiles
+    × (tree_of (take s.start t ++ drop q.end t) tiles ≡ tree_of t before ++ tree_of t after))
+
+-- The tiles before an entry, where their errors are settled, give text by text the same in each text that has the same bytes
 -- before the entry.
 abbrev pub SameBefore : Edition → List ℕ → Type 0
 SameBefore edition t =
     (before after : List Tile) (s : Span) (old : EntryTree Span) (u : List ℕ) →
-    Tiling edition t (before ++ (entry s old ∷ after)) → faults before ≡ [] →
+    Tiling edition t (before ++ (entry s old ∷ after)) → Settled t s.start before →
     tree_of (take s.start t ++ u) before ≡ tree_of t before

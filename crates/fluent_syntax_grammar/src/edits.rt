@@ -2,12 +2,18 @@
 
 ghost use Rattle.std.specs.Prelude.{ℕ};
 ghost use Rattle.fluent_syntax_grammar.specs.Locality.{
+  Appended,
+  AppendsTree,
+  CutOff,
   Inserted,
+  InsertsTree,
   Joins,
+  KeepsRun,
   KeepsTree,
   PrefixLocal,
   ReadsFirst,
   Removed,
+  RemovesTree,
   Replaced,
   ReplacedRun,
   Replaces,
@@ -43,10 +49,15 @@ pub fn reads_rest(text: &str, other: &str)
 /// The laws of what stands before a place, of a text `before` that `rest` follows or `other` in its place, and both
 /// editions of the grammar.
 ///
-/// - `prefix`: if both begin like an entry at the start of a line, and tiles without junk lead up to it, these tiles
-///   are kept; if not the last of them is a comment that ends there and `other` begins with `#`.
+/// Errors before a place are settled where their junk ends four bytes before it or earlier, and has no refused
+/// attribute: it does not begin with a `.`, nor did a message or a term without its field break off at one.
+///
+/// - `prefix`: if each of both is empty or begins like an entry, at the start of a line, and tiles whose errors are
+///   settled lead up to it, these tiles are kept, with their errors; if not the last of them is a comment that ends
+///   there and `other` begins with `#`.
 /// - `joins`: then the tiles of the new text are these and those of `other` by itself, moved, and its errors are those
-///   of `other` by itself, moved. So an entry can be removed where an entry follows it.
+///   before, and those of `other` by itself, moved. So an entry can be removed where an entry follows it or the text
+///   ends.
 pub fn reads_up_to(before: &str, rest: &str, other: &str)
     ensures prefix { (edition : Edition) → PrefixLocal edition before.now rest.now other.now }
     ensures joins { (edition : Edition) → Joins edition before.now rest.now other.now }
@@ -56,38 +67,57 @@ pub fn reads_up_to(before: &str, rest: &str, other: &str)
 ///
 /// - `first`: a canonical entry as it is written, then blank lines, then a text at which an entry may begin: what is
 ///   read is that entry, without an error, and then that text as it is by itself, moved.
-/// - `replaces`: in place of `rest` in a text, that entry, blank lines and `after`. Where `rest` begins like an entry
-///   at the start of a line, and tiles without junk lead up to it, the tiles of the new text are these, then tiles that
-///   give the entry text by text, then those of `after` by itself, moved; and its errors are those of `after` by
-///   itself, moved. The premise of `prefix` on comments holds here too. Where `rest` is an entry and `after`, this
-///   replaces the entry; where it is `after`, this inserts one.
+/// - `replaces`: in place of `rest` in a text, that entry, blank lines and `after`. Where `rest` is empty or begins like
+///   an entry, at the start of a line, and tiles whose errors are settled lead up to it, the tiles of the new text are
+///   these, then tiles that give the entry text by text, then those of `after` by itself, moved; and its errors are
+///   those before, and those of `after` by itself, moved. The premise of `prefix` on comments holds here too. Where `rest` is an entry and `after`, this
+///   replaces the entry; where it is `after`, this inserts one; where both are empty, this appends one.
 pub fn replaces_entry<'s, S: Slice<'s>>(before: &str, rest: &str, entry: &Entry<S>, after: &str)
     ensures first { (edition : Edition) (blank : ℕ) → ReadsFirst edition (entry_view S.text entry.now) blank after.now }
     ensures replaces { (edition : Edition) (blank : ℕ) →
         Replaces edition before.now rest.now (entry_view S.text entry.now) blank after.now }
 {}
 
-/// The laws of an edit, in terms of the tiling of the text, in both editions of the grammar. In each, the tiles before
-/// the entry have no junk; and if the last of them is a comment that ends right before it, what stands there in the new
-/// text begins with no `#`.
+/// The laws of an edit, in terms of the tiling of the text, in both editions of the grammar. In each, the errors before
+/// the entry are settled, as for `reads_up_to`; and if the last tile there is a comment that ends right before it, what
+/// stands there in the new text begins with no `#`.
+///
+/// Of the tree, where no comment ends right before the place:
 ///
 /// - `tree`: a canonical entry as it is written, and blank lines, in place of an entry right behind which an entry may
-///   begin, or the text ends. If neither of them is a comment, and no comment ends right before them, the tree of the
-///   new text is the tree of the text with the new entry in the old one's place.
+///   begin, or the text ends. If neither of them is a comment, the tree of the new text is the tree of the text with
+///   the new entry in the old one's place.
+/// - `tree_run`: the same in place of several entries in a row, as a message and the comment that hangs on it.
+/// - `tree_inserted`: the same in front of an entry of any kind.
+/// - `tree_appended`: the same at the end of a text, where a line starts there. The new entry may be a comment too.
+/// - `tree_removed`: without several entries in a row, or one, right behind which an entry begins, or the text ends.
+///
+/// Of the tiles, with their places:
+///
 /// - `replaced`: the same for any entries, by tiles. The tiles of the new text are those before; tiles that give the new
 ///   entry text by text; and those behind, moved, which give text by text what they gave. Behind the entry there may be
 ///   errors.
 /// - `run`: the same in place of several entries in a row, as a message and the comment that hangs on it.
 /// - `before`: the tiles before an entry give text by text the same in each text that has the same bytes before it.
 /// - `inserted`: the same as `replaced` in front of an entry.
-/// - `removed`: an entry is removed right behind which an entry begins.
+/// - `appended`: the same behind the last tile, where the text ends with a line end or is empty.
+/// - `removed`: an entry is removed right behind which an entry begins, or the text ends.
+/// - `cut`: from an entry on all is removed: the tiles are those before it, and give text by text what they gave.
 pub fn edits_entry<'s, S: Slice<'s>>(text: &str, entry: &Entry<S>)
     ensures tree { (edition : Edition) (blank : ℕ) → KeepsTree edition text.now (entry_view S.text entry.now) blank }
+    ensures tree_run { (edition : Edition) (blank : ℕ) → KeepsRun edition text.now (entry_view S.text entry.now) blank }
+    ensures tree_inserted { (edition : Edition) (blank : ℕ) →
+        InsertsTree edition text.now (entry_view S.text entry.now) blank }
+    ensures tree_appended { (edition : Edition) (blank : ℕ) →
+        AppendsTree edition text.now (entry_view S.text entry.now) blank }
+    ensures tree_removed { (edition : Edition) → RemovesTree edition text.now }
     ensures replaced { (edition : Edition) (blank : ℕ) → Replaced edition text.now (entry_view S.text entry.now) blank }
     ensures run { (edition : Edition) (blank : ℕ) → ReplacedRun edition text.now (entry_view S.text entry.now) blank }
     ensures before { (edition : Edition) → SameBefore edition text.now }
+    ensures appended { (edition : Edition) (blank : ℕ) → Appended edition text.now (entry_view S.text entry.now) blank }
     ensures inserted { (edition : Edition) (blank : ℕ) → Inserted edition text.now (entry_view S.text entry.now) blank }
     ensures removed { (edition : Edition) → Removed edition text.now }
+    ensures cut { (edition : Edition) → CutOff edition text.now }
 {}
 
 #[test]

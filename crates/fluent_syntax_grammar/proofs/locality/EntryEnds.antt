@@ -7,7 +7,7 @@ use Rattle.fluent_syntax_tree.specs.Tree.{PatternTree}
 use Rattle.fluent_syntax_tree.specs.Entry.{AttributeTree, EntryTree}
 use Rattle.fluent_syntax_tree.specs.declared.spans.Span.{Span}
 use Rattle.fluent_syntax_tree.specs.declared.edition.Edition.{Edition}
-use Rattle.fluent_syntax_grammar.specs.Places.{has_eol, after_eol, starts_line, BlankBlock}
+use Rattle.fluent_syntax_grammar.specs.Places.{has, has_eol, after_eol, starts_line, BlankBlock}
 use Rattle.fluent_syntax_grammar.specs.Construct.{Read, goes_on, given, at_place, passed, chosen, first, second}
 use Rattle.fluent_syntax_grammar.specs.Construct.{gives, item, item_and_more, list_ends, no_item}
 use Rattle.fluent_syntax_grammar.specs.Family.{Family}
@@ -23,11 +23,10 @@ use Rattle.fluent_syntax_grammar.specs.Comments.{hashes, comment_line, comment_l
 use Rattle.fluent_syntax_grammar.specs.Comments.{other_level}
 use Rattle.fluent_syntax_grammar.specs.Comments.{no_comment_line}
 use Rattle.fluent_syntax_grammar.specs.Tiling.{Tile, entry, entry_of, entry_at, Tiled, next, TileAt, reads}
-use Rattle.fluent_syntax_grammar.specs.Tiling.{refuses}
-use Rattle.fluent_syntax_grammar.specs.Body.{faults}
+use Rattle.fluent_syntax_grammar.specs.Tiling.{is_entry_byte, refuses}
 use Rattle.fluent_syntax_grammar.specs.Locality.{Led, arrives, onward}
 use Rattle.fluent_syntax_grammar.proofs.Cuts.{block_forward}
-use Rattle.fluent_syntax_grammar.proofs.Facts.{differs, some_none}
+use Rattle.fluent_syntax_grammar.proofs.Facts.{differs, left_true, some_none}
 use Rattle.fluent_syntax_grammar.proofs.LineEnds.{eol_start, after_none, block_start}
 use Rattle.fluent_syntax_grammar.proofs.WholeLines.{IsLine, comment_whole, line_start, line_in_text}
 
@@ -181,20 +180,27 @@ module _ (edition : Edition) (t : List ℕ) where
   pub entry_line : (i j : ℕ) (e : EntryTree Span) → i ≤ length t → entry_at edition t i (Read e j) → AtLine t j
   entry_line i j e l (chosen x) = entry_line_of i j e (slice_get t i) l x
 
-  -- ---- a tile behind entries
+  -- a tile ends at the start of a line or at the text's end
+  pub tile_line : (i j : ℕ) (x : Tile) → i ≤ length t → TileAt edition t i j x → AtLine t j
+  tile_line i j x l (reads {e = e} r) = entry_line i j e l r
+  tile_line i j x l (refuses r k) = elim k.stop [
+    | inl e ↦ inl (left_true (starts_line t j) (has t is_entry_byte j) e)
+    | inr e ↦ inr (omega arith)
+  ]
 
-  -- an entry behind entries begins at the start of a line, and the entries lead up to it
+  -- ---- a tile behind others
+
+  -- an entry behind tiles begins at the start of a line, and the tiles lead up to it
   pub led_line : (i : ℕ) (xs : List Tile) (s : Span) (e : EntryTree Span) (ys : List Tile) → AtLine t i →
-      faults xs ≡ [] → Tiled t (TileAt edition t) i (xs ++ (entry s e ∷ ys)) →
+      Tiled t (TileAt edition t) i (xs ++ (entry s e ∷ ys)) →
       Led t (TileAt edition t) s.start i xs × (starts_line t s.start ≡ true)
       × entry_at edition t s.start (Read e s.end) × Tiled t (TileAt edition t) s.end ys × (s.start < length t)
-  led_line i [] s e ys l f (next {start = start} b m (reads r) d) =
+  led_line i [] s e ys l (next {start = start} b m (reads r) d) =
       (arrives b, at_line start (block_line t i start l b) m, r, d, m)
     where
       at_line : (start : ℕ) → AtLine t start → start < length t → starts_line t start ≡ true
       at_line start (inl e) m = e
       at_line start (inr n) m = absurd (omega arith)
-  led_line i (x ∷ xs) s e ys l f (next {start = start} {end = end} b m (reads {e = v} r) d) =
-      let o = led_line end xs s e ys (entry_line start end v (omega arith) r) f d in
-      (onward b (reads r) o.0, o.1, o.2, o.3, o.4)
-  led_line i (x ∷ xs) s e ys l f (next b m (refuses r j) d) = absurd cc
+  led_line i (x ∷ xs) s e ys l (next {start = start} {end = end} b m a d) =
+      let o = led_line end xs s e ys (tile_line start end x (omega arith) a) d in
+      (onward b a o.0, o.1, o.2, o.3, o.4)

@@ -13,11 +13,10 @@ use Rattle.fluent_syntax_grammar.specs.Words.{token}
 use Rattle.fluent_syntax_grammar.specs.Entries.{term_entry}
 use Rattle.fluent_syntax_grammar.specs.Grammar.{family}
 use Rattle.fluent_syntax_grammar.specs.Tiling.{Tile, entry, is_entry_byte, entry_of, entry_at, Tiled, TileAt, Tiling}
-use Rattle.fluent_syntax_grammar.specs.Body.{faults}
 use Rattle.fluent_syntax_grammar.specs.Written.{Text}
 use Rattle.fluent_syntax_grammar.specs.RoundTrip.{tree_of}
 use Rattle.fluent_syntax_grammar.specs.Locality.{moved, moved_tile, moved_tiles, Led, begins_entry, entry_text}
-use Rattle.fluent_syntax_grammar.specs.Locality.{blank_lines, Replaced, ReplacedRun}
+use Rattle.fluent_syntax_grammar.specs.Locality.{blank_lines, Replaced, ReplacedRun, Appended, arrives, onward}
 use Rattle.fluent_syntax_grammar.proofs.Facts.{none_holds}
 use Rattle.fluent_syntax_grammar.proofs.Tests.{differ}
 use Rattle.fluent_syntax_grammar.proofs.SoundStrings.{InText}
@@ -25,7 +24,8 @@ use Rattle.fluent_syntax_grammar.proofs.Boundaries.{text_cuts}
 use Rattle.fluent_syntax_grammar.proofs.SoundTiling.{entry_read}
 use Rattle.fluent_syntax_grammar.proofs.locality.Moved.{Behind, behind}
 use Rattle.fluent_syntax_grammar.proofs.locality.Tiles.{tree_there}
-use Rattle.fluent_syntax_grammar.proofs.locality.Edits.{behind_place, suffix_local}
+use Rattle.fluent_syntax_grammar.proofs.locality.Edits.{suffix_local}
+use Rattle.fluent_syntax_grammar.proofs.locality.Moved.{behind_place}
 use Rattle.fluent_syntax_grammar.proofs.locality.KeptEntries.{entry_head}
 use Rattle.fluent_syntax_grammar.proofs.locality.EntryEnds.{entry_line, led_line}
 use Rattle.fluent_syntax_grammar.proofs.locality.Replaced.{replaces, moved_append}
@@ -37,11 +37,11 @@ use Rattle.fluent_syntax_grammar.proofs.locality.EntryEnds.{AtLine}
 use Rattle.fluent_syntax_grammar.proofs.locality.Trees.{entry_same}
 use Rattle.fluent_syntax_grammar.proofs.locality.Replaced.{gap_length}
 use Rattle.fluent_syntax_grammar.specs.Canonical.{is_canonical}
-use Rattle.fluent_syntax_grammar.specs.Locality.{begins_comment, ends_in_comment, may_begin, Inserted, Removed}
+use Rattle.fluent_syntax_grammar.specs.Locality.{NoCommentTakes, Settled, begins_comment, ends_in_comment, ends_or_begins, may_begin, Inserted, Removed}
 use Rattle.fluent_syntax_grammar.specs.Tiling.{reads}
-use Rattle.fluent_syntax_grammar.proofs.Facts.{left_true, differs}
+use Rattle.fluent_syntax_grammar.proofs.Facts.{append_nothing, left_true, differs}
 use Rattle.fluent_syntax_grammar.proofs.LineEnds.{block_at_entry}
-use Rattle.fluent_syntax_grammar.proofs.locality.Edits.{faults_append, joins}
+use Rattle.fluent_syntax_grammar.proofs.locality.Edits.{begins_ends, joins, prefix_local}
 
 -- ---- what an entry begins with
 
@@ -127,7 +127,7 @@ all_twice n m (x ∷ xs) = rw (twice n m x, all_twice n m xs) refl
 
 -- ---- the rest
 
-no_tiles : (t : List ℕ) (at : (i j : ℕ) → Tile → Type 0) (i : ℕ) (xs : List Tile) → length t ≤ i → Tiled t at i xs →
+pub no_tiles : (t : List ℕ) (at : (i j : ℕ) → Tile → Type 0) (i : ℕ) (xs : List Tile) → length t ≤ i → Tiled t at i xs →
     xs ≡ []
 no_tiles t at i xs l (done b) = refl
 no_tiles t at i xs l (next {start = start} b m a r) = let f = block_forward t i start b in absurd (omega arith)
@@ -174,9 +174,9 @@ pub record Standing (edition : Edition) (t : List ℕ) (before after : List Tile
   pub more : Tiled t (TileAt edition t) s.end after
 
 pub standing : (edition : Edition) (t : List ℕ) (before after : List Tile) (s : Span) (old : EntryTree Span) →
-    Tiling edition t (before ++ (entry s old ∷ after)) → faults before ≡ [] → Standing edition t before after s old
-standing edition t before after s old a f =
-    let l = led_line edition t 0 before s old after (inl refl) f a in
+    Tiling edition t (before ++ (entry s old ∷ after)) → Standing edition t before after s old
+standing edition t before after s old a =
+    let l = led_line edition t 0 before s old after (inl refl) a in
     let p = s.start in
     let inside = l.4 in
     let pl : p ≤ length t = omega arith in
@@ -200,6 +200,13 @@ standing edition t before after s old a f =
       more = l.3;
     }
 
+-- and the errors before it, where they are settled
+pub settled_there : (t : List ℕ) (p : ℕ) (before : List Tile) → length (take p t) ≡ p → Settled t p before →
+    Settled (take p t ++ drop p t) (length (take p t)) before
+settled_there t p before l f =
+    subst (λ v. Settled v (length (take p t)) before) (sym (take-append-drop p t))
+    (subst (λ i. Settled t i before) (sym l) f)
+
 -- a new entry there, before what stands from q on
 pub record Changed (edition : Edition) (t : List ℕ) (before ys : List Tile) (s : Span) (e : EntryTree Text)
     (blank q : ℕ) :
@@ -218,7 +225,7 @@ pub record Changed (edition : Edition) (t : List ℕ) (before ys : List Tile) (s
       ≡ tree_of t ys
 
 pub changed : (edition : Edition) (t : List ℕ) (before after ys : List Tile) (s : Span) (old : EntryTree Span)
-    (e : EntryTree Text) (blank q : ℕ) → Standing edition t before after s old → faults before ≡ [] →
+    (e : EntryTree Text) (blank q : ℕ) → Standing edition t before after s old → Settled t s.start before →
     (ends_in_comment s.start before ≡ true → begins_comment (entry_text e) ≡ false) →
     is_canonical edition (e ∷ []) ≡ true → may_begin (drop q t) ≡ true → RestAlone edition t q ys →
     Changed edition t before ys s e blank q
@@ -230,7 +237,8 @@ changed edition t before after ys s old e blank q l f k h m rest =
     let w = entry_text e in
     let n = length w + blank in
     let y =
-    replaces edition x r e blank c before rest.own l.starts l.begins f
+    replaces edition x r e blank c before rest.own l.starts (begins_ends r l.begins)
+    (settled_there t p before l.size f)
     (λ g. k (subst (λ i. ends_in_comment i before ≡ true) l.size g)) l.led h m rest.tiling in
     let v = x ++ (w ++ (blank_lines blank ++ c)) in
     let places : moved_tiles (length x) (y.0 ++ moved_tiles n rest.own) ≡
@@ -257,36 +265,44 @@ changed edition t before after ys s old e blank q l f k h m rest =
 
 pub replaced : (edition : Edition) (t : List ℕ) (e : EntryTree Text) (blank : ℕ) → Replaced edition t e blank
 replaced edition t e blank = λ before after s old a f k h m.
-    let l = standing edition t before after s old a f in
+    let l = standing edition t before after s old a in
     let rest = rest_alone edition t s.end after l.end_inside l.end_line l.more in
     let x = changed edition t before after after s old e blank s.end l f k h m rest in
     (x.new, x.own, x.is, x.tiling, x.entry_tree, x.rest_tree)
 
-begins_may : (bs : List ℕ) → begins_entry bs ≡ true → may_begin bs ≡ true
+pub begins_may : (bs : List ℕ) → begins_entry bs ≡ true → may_begin bs ≡ true
 begins_may [] e = refl
 begins_may (b ∷ []) e = e
 begins_may (b ∷ c ∷ bs) e = left_true (is_entry_byte b) (not (b == hyphen && c == greater_than)) e
 
+pub from_entry : (edition : Edition) (t : List ℕ) (before after : List Tile) (s : Span) (old : EntryTree Span) →
+    Standing edition t before after s old → RestAlone edition t s.start (entry s old ∷ after)
+from_entry edition t before after s old l =
+    let inside = l.inside in
+    rest_alone edition t s.start (entry s old ∷ after) (omega arith) (inl l.line)
+    (next (block_at_entry t s.start (entry_head edition t s.start s.end old l.read)) l.inside (reads l.read) l.more)
+
 pub inserted : (edition : Edition) (t : List ℕ) (e : EntryTree Text) (blank : ℕ) → Inserted edition t e blank
 inserted edition t e blank = λ before after s old a f k h.
-    let l = standing edition t before after s old a f in
-    let inside = l.inside in
-    let all : Tiled t (TileAt edition t) s.start (entry s old ∷ after) =
-    next (block_at_entry t s.start (entry_head edition t s.start s.end old l.read)) l.inside (reads l.read) l.more in
-    let rest = rest_alone edition t s.start (entry s old ∷ after) (omega arith) (inl l.line) all in
+    let l = standing edition t before after s old a in
     let x =
     changed edition t before after (entry s old ∷ after) s old e blank s.start l f k h
-    (begins_may (drop s.start t) l.begins) rest in
+    (begins_may (drop s.start t) l.begins) (from_entry edition t before after s old l) in
     (x.new, x.own, x.is, x.tiling, x.entry_tree, x.rest_tree)
 
-pub removed : (edition : Edition) (t : List ℕ) → Removed edition t
-removed edition t = λ before after s old a f k h.
-    let l = standing edition t before after s old a f in
-    let rest = rest_alone edition t s.end after l.end_inside l.end_line l.more in
+-- without what stands up to q
+pub without : (edition : Edition) (t : List ℕ) (before after ys : List Tile) (s : Span) (old : EntryTree Span)
+    (q : ℕ) → Standing edition t before after s old → Settled t s.start before → NoCommentTakes s.start before (drop q t) →
+    ends_or_begins (drop q t) ≡ true → RestAlone edition t q ys →
+    (own : List Tile) × (ys ≡ moved_tiles q own) ×
+    Tiling edition (take s.start t ++ drop q t) (before ++ moved_tiles s.start own)
+    × (tree_of (take s.start t ++ drop q t) (moved_tiles s.start own) ≡ tree_of t ys)
+without edition t before after ys s old q l f k h rest =
     let x = take s.start t in
-    let c = drop s.end t in
+    let c = drop q t in
     let j =
-    joins edition x (drop s.start t) c before rest.own l.starts l.begins h f
+    joins edition x (drop s.start t) c before rest.own l.starts (begins_ends (drop s.start t) l.begins) h
+    (settled_there t s.start before l.size f)
     (λ g. k (subst (λ i. ends_in_comment i before ≡ true) l.size g)) l.led rest.tiling in
     let b : Behind s.start (x ++ c) c = subst (λ i. Behind i (x ++ c) c) l.size (behind x c) in (
       rest.own,
@@ -295,13 +311,62 @@ removed edition t = λ before after s old a f k h.
       tree_there s.start (x ++ c) c b rest.own ∙ sym rest.tree,
     )
 
+pub removed : (edition : Edition) (t : List ℕ) → Removed edition t
+removed edition t = λ before after s old a f k h.
+    let l = standing edition t before after s old a in
+    without edition t before after after s old s.end l f k h
+    (rest_alone edition t s.end after l.end_inside l.end_line l.more)
+
+-- the tiles of a text lead up to its end
+led_whole : (t : List ℕ) (at : (i j : ℕ) → Tile → Type 0) (i : ℕ) (xs : List Tile) → Tiled t at i xs →
+    Led t at (length t) i xs
+led_whole t at i xs (done b) = arrives b
+led_whole t at i xs (next {end = end} {tiles = more} b l a d) = onward b a (led_whole t at end more d)
+
+whole_led : (edition : Edition) (t : List ℕ) (before : List Tile) → Tiling edition t before →
+    Led (t ++ []) (TileAt edition (t ++ [])) (length t) 0 before
+whole_led edition t before a =
+    subst (λ v. Led v (TileAt edition v) (length t) 0 before) (sym (append_nothing t))
+    (led_whole t (TileAt edition t) 0 before a)
+
+whole_starts : (t : List ℕ) → starts_line t (length t) ≡ true → starts_line (t ++ []) (length t) ≡ true
+whole_starts t s = subst (λ v. starts_line v (length t) ≡ true) (sym (append_nothing t)) s
+
+-- and they lead up to there where more stands behind it
+pub whole_settled : (t : List ℕ) (before : List Tile) → Settled t (length t) before →
+    Settled (t ++ []) (length t) before
+whole_settled t before f = subst (λ v. Settled v (length t) before) (sym (append_nothing t)) f
+
+pub led_on : (edition : Edition) (t u : List ℕ) (before : List Tile) → Tiling edition t before → Settled t (length t) before →
+    starts_line t (length t) ≡ true → NoCommentTakes (length t) before u → ends_or_begins u ≡ true →
+    Led (t ++ u) (TileAt edition (t ++ u)) (length t) 0 before
+led_on edition t u before a f s k h =
+    prefix_local edition t [] u before (whole_starts t s) refl h (whole_settled t before f) k (whole_led edition t before a)
+
+pub appended : (edition : Edition) (t : List ℕ) (e : EntryTree Text) (blank : ℕ) → Appended edition t e blank
+appended edition t e blank = λ before a f s k h.
+    let x = some_tiling edition [] in
+    let none : x.0 ≡ [] = no_tiles [] (TileAt edition []) 0 x.0 (omega arith) x.1 in
+    let y =
+    replaces edition t [] e blank [] before x.0 (whole_starts t s) refl (whole_settled t before f) k
+    (whole_led edition t before a) h refl x.1 in
+    let w = entry_text e in
+    let tail : blank_lines blank ++ [] ≡ blank_lines blank = append_nothing (blank_lines blank) in
+    let tiles : y.0 ++ moved_tiles (length w + blank) x.0 ≡ y.0 =
+    ap (λ zs. y.0 ++ moved_tiles (length w + blank) zs) none ∙ append_nothing y.0 in (
+      y.0,
+      subst (λ zs. Tiling edition (t ++ (w ++ zs)) (before ++ moved_tiles (length t) y.0)) tail
+          (subst (λ zs. Tiling edition (t ++ (w ++ (blank_lines blank ++ []))) (before ++ moved_tiles (length t) zs))
+          tiles y.1),
+      subst (λ zs. tree_of (t ++ (w ++ zs)) (moved_tiles (length t) y.0) ≡ e ∷ []) tail y.2,
+    )
+
 pub replaced_run : (edition : Edition) (t : List ℕ) (e : EntryTree Text) (blank : ℕ) → ReplacedRun edition t e blank
-replaced_run edition t e blank = λ before between after s q old last a f g k h m.
-    let l = standing edition t before (between ++ (entry q last ∷ after)) s old a f in
+replaced_run edition t e blank = λ before between after s q old last a f k h m.
+    let l = standing edition t before (between ++ (entry q last ∷ after)) s old a in
     let front = before ++ (entry s old ∷ between) in
     let n = standing edition t front after q last
-    (subst (λ zs. Tiling edition t zs) (sym (append_assoc before (entry s old ∷ between) (entry q last ∷ after))) a)
-    (faults_append before (entry s old ∷ between) f ∙ g) in
+    (subst (λ zs. Tiling edition t zs) (sym (append_assoc before (entry s old ∷ between) (entry q last ∷ after))) a) in
     let rest = rest_alone edition t q.end after n.end_inside n.end_line n.more in
     let x = changed edition t before (between ++ (entry q last ∷ after)) after s old e blank q.end l f k h m rest in
     (x.new, x.own, x.is, x.tiling, x.entry_tree, x.rest_tree)

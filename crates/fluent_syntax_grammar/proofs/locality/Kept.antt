@@ -3,15 +3,15 @@ use Rattle.std.proofs.Common.{◌≡◌, ℕ, ◌+◌, ◌≤◌, ◌<◌, List,
 use Rattle.std.proofs.Common.{refl, subst, arith, inl, inr}
 use Rattle.std.specs.Prelude.{nat_le, ◌||◌}
 use Rattle.std.specs.Prelude.{slice_get, slice_range, ◌⊎◌}
-use Rattle.fluent_syntax_tree.specs.Kind.{Kind}
+use Rattle.fluent_syntax_tree.specs.Kind.{Kind, ExpectedMessageField, ExpectedTermField}
 use Rattle.fluent_syntax_tree.specs.declared.spans.Span.{Span}
 use Rattle.fluent_syntax_grammar.specs.Bytes.{lf}
 use Rattle.fluent_syntax_grammar.specs.Places.{Reaches}
 use Rattle.fluent_syntax_grammar.specs.Placeables.{has_arrow}
-use Rattle.fluent_syntax_grammar.specs.Construct.{Read, Construct, ◌>>=◌, goes_on, gives, given, here, at_place, fails}
-use Rattle.fluent_syntax_grammar.specs.Construct.{fails_from, over, passed, at_each, chosen, either, first, second}
-use Rattle.fluent_syntax_grammar.specs.Construct.{More, many, list_ends, item_and_more}
-use Rattle.fluent_syntax_grammar.specs.Tiling.{is_entry_byte}
+use Rattle.fluent_syntax_grammar.specs.Construct.{Read, Refused, Construct, ◌>>=◌, goes_on, stops, gives, given, here, at_place, fails, failed}
+use Rattle.fluent_syntax_grammar.specs.Construct.{over, passed, at_each, chosen, either, first, second}
+use Rattle.fluent_syntax_grammar.specs.Construct.{More, many, list_ends, list_stops, item_and_more, stops_later}
+use Rattle.fluent_syntax_grammar.specs.Tiling.{is_entry_byte, failing_place}
 use Rattle.fluent_syntax_grammar.proofs.Facts.{lt_or_same}
 use Rattle.fluent_syntax_grammar.proofs.Sound.{good_more}
 
@@ -19,14 +19,17 @@ use Rattle.fluent_syntax_grammar.proofs.Sound.{good_more}
 abbrev pub is_head_byte : ℕ → Bool
 is_head_byte b = is_entry_byte b || nat_le 128 b
 
--- such a byte stands there, and no `->`
+-- such a byte, or none
+abbrev pub is_head : Option ℕ → Bool
+is_head None = true
+is_head (Some b) = is_head_byte b
+
+-- such a byte stands there or the text ends, and there is no `->`
 pub record Head (t : List ℕ) (p : ℕ) : Type 0 where
-  pub byte : ℕ
-  pub stands : slice_get t p ≡ Some byte
-  pub begins : is_head_byte byte ≡ true
+  pub begins : is_head (slice_get t p) ≡ true
   pub no_arrow : has_arrow t p ≡ false
 
--- Before p the texts are the same; there a line starts, and in both texts a byte that begins an entry stands.
+-- Before p the texts are the same; there a line starts, and in each text a byte that begins an entry stands, or it ends.
 pub record Shared (p : ℕ) (t u : List ℕ) : Type 0 where
   pub byte : (i : ℕ) → i < p → slice_get t i ≡ slice_get u i
   pub range : (i j : ℕ) → j ≤ p → slice_range t i j ≡ slice_range u i j
@@ -34,16 +37,33 @@ pub record Shared (p : ℕ) (t u : List ℕ) : Type 0 where
   pub head : Head t p
   pub other : Head u p
 
--- What c reads up to p, d reads; and c does not go back.
+-- Where what is refused fails well before p, the texts are the same as far as was seen.
+abbrev pub Early : (p : ℕ) → Kind → (from to : ℕ) → Type 0
+Early p k from to = failing_place k from to + 4 ≤ p
+
+-- a refusal of c that fails well before p is one of d
+abbrev pub Refuses : {A : Type 0} → ℕ → Construct A → Construct A → Type 0
+Refuses p c d =
+    (i from to : ℕ) (k : Kind) → Early p k from to → c i (Refused k from to) → d i (Refused k from to)
+
+-- what is refused fails no earlier than it began
+abbrev pub FailsLate : {A : Type 0} → Construct A → Type 0
+FailsLate c = (i from to : ℕ) (k : Kind) → c i (Refused k from to) → i ≤ failing_place k from to
+
+-- What c reads up to p, d reads; and c does not go back. What it refuses well before p, d refuses.
 pub record Keeps {A : Type 0} (p : ℕ) (c d : Construct A) : Type 0 where
   pub keep : (i j : ℕ) (a : A) → i ≤ p → j ≤ p → c i (Read a j) → d i (Read a j)
   pub forward : (i j : ℕ) (a : A) → c i (Read a j) → i ≤ j
+  pub refuse : Refuses p c d
+  pub late : FailsLate c
 
 -- The same under a premise, where besides what is read is good.
 pub record KeepsIf {A : Type 0} (p : ℕ) (M : Type 0) (Good : A → Type 0) (c d : Construct A) : Type 0 where
   pub keep : M → (i j : ℕ) (a : A) → i ≤ p → j ≤ p → c i (Read a j) → d i (Read a j)
   pub good : M → (i j : ℕ) (a : A) → j ≤ p → c i (Read a j) → Good a
   pub forward : (i j : ℕ) (a : A) → c i (Read a j) → i ≤ j
+  pub refuse : M → Refuses p c d
+  pub late : FailsLate c
 
 -- nothing more of the value
 abbrev pub Any : {A : Type 0} → A → Type 0
@@ -67,10 +87,36 @@ pub record KeepsFrom {A : Type 0} (p k : ℕ) (M : Type 0) (Good : A → Type 0)
   pub keep : M → (i j : ℕ) (a : A) → i < k → i ≤ p → j ≤ p → c i (Read a j) → d i (Read a j)
   pub good : M → (i j : ℕ) (a : A) → j ≤ p → c i (Read a j) → Good a
   pub forward : (i j : ℕ) (a : A) → i < k → c i (Read a j) → i ≤ j
+  pub refuse : M → (i from to : ℕ) (l : Kind) → i < k → Early p l from to → c i (Refused l from to) →
+      d i (Refused l from to)
+  pub late : (i from to : ℕ) (l : Kind) → i < k → c i (Refused l from to) → i ≤ failing_place l from to
+
+-- The same of a part that begins before p: at p itself it may read nothing in the one text, and read on in the other.
+pub record KeepsBelow {A : Type 0} (p : ℕ) (M : Type 0) (Good : A → Type 0) (c d : Construct A) : Type 0 where
+  pub keep : M → (i j : ℕ) (a : A) → i < p → j ≤ p → c i (Read a j) → d i (Read a j)
+  pub good : M → (i j : ℕ) (a : A) → j ≤ p → c i (Read a j) → Good a
+  pub forward : (i j : ℕ) (a : A) → c i (Read a j) → i ≤ j
+  pub refuse : M → Refuses p c d
+  pub late : FailsLate c
+
+-- what begins before p, and ends at p at the latest, ends before p
+pub record EndsBelow {A : Type 0} (p : ℕ) (c : Construct A) : Type 0 where
+  pub ends : (i j : ℕ) (a : A) → i < p → j ≤ p → c i (Read a j) → j < p
 
 -- ---- the formers
 
+pub place_from : (k : Kind) (from to : ℕ) → from ≤ to → from ≤ failing_place k from to
+place_from (ExpectedMessageField id) from to l = l
+place_from (ExpectedTermField id) from to l = l
+place_from k from to l = omega arith
+
 module _ (p : ℕ) where
+  bind_late : {A B : Type 0} (c : Construct A) (f : A → Construct B) → ((i j : ℕ) (a : A) → c i (Read a j) → i ≤ j) →
+      FailsLate c → ((a : A) → FailsLate (f a)) → FailsLate (c >>= f)
+  bind_late c f w v z i from to k (stops x) = v i from to k x
+  bind_late c f w v z i from to k (goes_on {j = q} {a = a} x y) =
+      let l = w i q a x in let m = z a q from to k y in omega arith
+
   bind_forward : {A B : Type 0} (c : Construct A) (f : A → Construct B) → ((i j : ℕ) (a : A) → c i (Read a j) → i ≤ j) →
       ((a : A) (i j : ℕ) (b : B) → f a i (Read b j) → i ≤ j) → (i j : ℕ) (b : B) → (c >>= f) i (Read b j) → i ≤ j
   bind_forward c f w v i j b (goes_on {j = m} {a = a} x y) =
@@ -83,11 +129,21 @@ module _ (p : ℕ) where
       let w = (k a).forward q j b y in
       goes_on (m.keep i q a l (omega arith) x) ((k a).keep q j b (omega arith) n y)
 
+  bind_refuse : {A B : Type 0} (c d : Construct A) (f g : A → Construct B) → Keeps p c d →
+      ((a : A) → Keeps p (f a) (g a)) → Refuses p (c >>= f) (d >>= g)
+  bind_refuse c d f g m k i from to x e (stops r) = stops (m.refuse i from to x e r)
+  bind_refuse c d f g m k i from to x e (goes_on {j = q} {a = a} r y) =
+      let l = m.forward i q a r in
+      let n = (k a).late q from to x y in
+      goes_on (m.keep i q a (omega arith) (omega arith) r) ((k a).refuse q from to x e y)
+
   pub keeps_bind : {A B : Type 0} {c d : Construct A} {f g : A → Construct B} → Keeps p c d →
       ((a : A) → Keeps p (f a) (g a)) → Keeps p (c >>= f) (d >>= g)
   keeps_bind m k = record {
     keep = bind_keep _ _ _ _ m k;
     forward = bind_forward _ _ m.forward (λ a. (k a).forward);
+    refuse = bind_refuse _ _ _ _ m k;
+    late = bind_late _ _ m.forward m.late (λ a. (k a).late);
   }
 
   if_keep : {A B : Type 0} (M : Type 0) (Mid : A → Type 0) (Good : B → Type 0) (c d : Construct A)
@@ -104,6 +160,15 @@ module _ (p : ℕ) where
   if_good M Mid Good c d f g m k h i j b n (goes_on {j = q} {a = a} x y) =
       let w = (k a).forward q j b y in (k a).good (h, m.good h i q a (omega arith) x) q j b n y
 
+  if_refuse : {A B : Type 0} (M : Type 0) (Mid : A → Type 0) (Good : B → Type 0) (c d : Construct A)
+      (f g : A → Construct B) → KeepsIf p M Mid c d → ((a : A) → KeepsIf p (M × Mid a) Good (f a) (g a)) → M →
+      Refuses p (c >>= f) (d >>= g)
+  if_refuse M Mid Good c d f g m k h i from to x e (stops r) = stops (m.refuse h i from to x e r)
+  if_refuse M Mid Good c d f g m k h i from to x e (goes_on {j = q} {a = a} r y) =
+      let l = m.forward i q a r in
+      let n = (k a).late q from to x y in
+      goes_on (m.keep h i q a (omega arith) (omega arith) r) ((k a).refuse (h, m.good h i q a (omega arith) r) q from to x e y)
+
   pub if_bind : {A B : Type 0} {M : Type 0} {Mid : A → Type 0} {Good : B → Type 0} {c d : Construct A}
       {f g : A → Construct B} → KeepsIf p M Mid c d → ((a : A) → KeepsIf p (M × Mid a) Good (f a) (g a)) →
       KeepsIf p M Good (c >>= f) (d >>= g)
@@ -111,17 +176,31 @@ module _ (p : ℕ) where
     keep = if_keep M Mid Good _ _ _ _ m k;
     good = if_good M Mid Good _ _ _ _ m k;
     forward = bind_forward _ _ m.forward (λ a. (k a).forward);
+    refuse = if_refuse M Mid Good _ _ _ _ m k;
+    late = bind_late _ _ m.forward m.late (λ a. (k a).late);
   }
 
   pub plain : {A : Type 0} {M : Type 0} {c d : Construct A} → Keeps p c d → KeepsIf p M Any c d
-  plain m = record { keep = λ h. m.keep; good = λ h i j a l x. tt; forward = m.forward }
+  plain m = record {
+    keep = λ h. m.keep;
+    good = λ h i j a l x. tt;
+    forward = m.forward;
+    refuse = λ h. m.refuse;
+    late = m.late;
+  }
 
   pub simple : {A : Type 0} {Good : A → Type 0} {c d : Construct A} → KeepsIf p (Unit {0}) Good c d → Keeps p c d
-  simple m = record { keep = m.keep tt; forward = m.forward }
+  simple m = record { keep = m.keep tt; forward = m.forward; refuse = m.refuse tt; late = m.late }
 
   pub under : {A : Type 0} {M : Type 0} {Good : A → Type 0} {c d : Construct A} → KeepsIf p (Unit {0}) Good c d →
       KeepsIf p M Good c d
-  under m = record { keep = λ h. m.keep tt; good = λ h. m.good tt; forward = m.forward }
+  under m = record {
+    keep = λ h. m.keep tt;
+    good = λ h. m.good tt;
+    forward = m.forward;
+    refuse = λ h. m.refuse tt;
+    late = m.late;
+  }
 
   gives_forward : {A : Type 0} (a : A) (i j : ℕ) (b : A) → gives a i (Read b j) → i ≤ j
   gives_forward a i j b given = omega arith
@@ -130,7 +209,12 @@ module _ (p : ℕ) where
   gives_good Good a g i j b given = g
 
   pub keeps_gives : {A : Type 0} {a : A} → Keeps p (gives a) (gives a)
-  keeps_gives {a = a} = record { keep = λ i j b l n x. x; forward = gives_forward a }
+  keeps_gives {a = a} = record {
+    keep = λ i j b l n x. x;
+    forward = gives_forward a;
+    refuse = λ i from to k e x. elim x [ ];
+    late = λ i from to k x. elim x [ ];
+  }
 
   pub if_gives : {A : Type 0} {M : Type 0} {Good : A → Type 0} {a : A} → (M → Good a) →
       KeepsIf p M Good (gives a) (gives a)
@@ -138,6 +222,8 @@ module _ (p : ℕ) where
     keep = λ h i j b l n x. x;
     good = λ h i j b n x. gives_good Good a (g h) i j b x;
     forward = gives_forward a;
+    refuse = λ h i from to k e x. elim x [ ];
+    late = λ i from to k x. elim x [ ];
   }
 
   here_forward : (i j a : ℕ) → here i (Read a j) → i ≤ j
@@ -147,16 +233,32 @@ module _ (p : ℕ) where
   here_good i j a l at_place = l
 
   pub keeps_here : Keeps p here here
-  keeps_here = record { keep = λ i j b l n x. x; forward = here_forward }
+  keeps_here = record {
+    keep = λ i j b l n x. x;
+    forward = here_forward;
+    refuse = λ i from to k e x. elim x [ ];
+    late = λ i from to k x. elim x [ ];
+  }
 
   pub if_here : {M : Type 0} → KeepsIf p M (λ i. i ≤ p) here here
-  if_here = record { keep = λ h i j b l n x. x; good = λ h. here_good; forward = here_forward }
+  if_here = record {
+    keep = λ h i j b l n x. x;
+    good = λ h. here_good;
+    forward = here_forward;
+    refuse = λ h i from to k e x. elim x [ ];
+    late = λ i from to k x. elim x [ ];
+  }
 
-  pub keeps_fails : {A : Type 0} {k l : Kind} → Keeps {A = A} p (fails k) (fails l)
-  keeps_fails = record { keep = λ i j a l n x. elim x [ ]; forward = λ i j a x. elim x [ ] }
+  pub fails_late : {A : Type 0} (k : Kind) → FailsLate {A = A} (fails k)
+  fails_late k i from to l (failed e) = place_from k i to (omega arith)
 
-  pub keeps_fails_from : {A : Type 0} {k l : Kind} {s : ℕ} → Keeps {A = A} p (fails_from k s) (fails_from l s)
-  keeps_fails_from = record { keep = λ i j a l n x. elim x [ ]; forward = λ i j a x. elim x [ ] }
+  pub keeps_fails : {A : Type 0} {k : Kind} → Keeps {A = A} p (fails k) (fails k)
+  keeps_fails {k = k} = record {
+    keep = λ i j a l n x. elim x [ ];
+    forward = λ i j a x. elim x [ ];
+    refuse = λ i from to l e x. x;
+    late = fails_late k;
+  }
 
   over_keep : (W V : ℕ → ℕ → Type 0) → KeptWord p W V → (i j : ℕ) (a : Unit {0}) → i ≤ p → j ≤ p →
       over W i (Read a j) → over V i (Read a j)
@@ -166,7 +268,12 @@ module _ (p : ℕ) where
   over_forward W V w i j a (passed x) = w.forward i j x
 
   pub keeps_over : {W V : ℕ → ℕ → Type 0} → KeptWord p W V → Keeps p (over W) (over V)
-  keeps_over w = record { keep = over_keep _ _ w; forward = over_forward _ _ w }
+  keeps_over w = record {
+    keep = over_keep _ _ w;
+    forward = over_forward _ _ w;
+    refuse = λ i from to k e x. elim x [ ];
+    late = λ i from to k x. elim x [ ];
+  }
 
   look_keep : {A B : Type 0} (look other : ℕ → A) (f g : A → Construct B) → SameLook p look other →
       ((a : A) → Keeps p (f a) (g a)) → (i j : ℕ) (b : B) → i ≤ p → j ≤ p → at_each look f i (Read b j) →
@@ -178,11 +285,24 @@ module _ (p : ℕ) where
       ((a : A) (i j : ℕ) (b : B) → f a i (Read b j) → i ≤ j) → (i j : ℕ) (b : B) → at_each look f i (Read b j) → i ≤ j
   look_forward look f w i j b (chosen x) = w (look i) i j b x
 
+  look_refuse : {A B : Type 0} (look other : ℕ → A) (f g : A → Construct B) →
+      ((i : ℕ) → i + 4 ≤ p → look i ≡ other i) → ((a : A) → Keeps p (f a) (g a)) →
+      Refuses p (at_each look f) (at_each other g)
+  look_refuse look other f g s k i from to x e (chosen r) =
+      let l = (k (look i)).late i from to x r in
+      chosen (subst (λ a. g a i (Refused x from to)) (s i (omega arith)) ((k (look i)).refuse i from to x e r))
+
+  look_late : {A B : Type 0} (look : ℕ → A) (f : A → Construct B) → ((a : A) → FailsLate (f a)) →
+      FailsLate (at_each look f)
+  look_late look f w i from to k (chosen x) = w (look i) i from to k x
+
   pub keeps_at_each : {A B : Type 0} {look other : ℕ → A} {f g : A → Construct B} → SameLook p look other →
       ((a : A) → Keeps p (f a) (g a)) → Keeps p (at_each look f) (at_each other g)
   keeps_at_each s k = record {
     keep = look_keep _ _ _ _ s k;
     forward = look_forward _ _ (λ a. (k a).forward);
+    refuse = look_refuse _ _ _ _ (λ i l. s.same i (omega arith)) k;
+    late = look_late _ _ (λ a. (k a).late);
   }
 
   -- where what is seen differs, the part reads on beyond p
@@ -197,10 +317,13 @@ module _ (p : ℕ) where
 
   pub keeps_late : {A B : Type 0} {look other : ℕ → A} {f g : A → Construct B} →
       ((i j : ℕ) (b : B) → i ≤ p → f (look i) i (Read b j) → (look i ≡ other i) ⊎ (p < j)) →
-      ((a : A) → Keeps p (f a) (g a)) → Keeps p (at_each look f) (at_each other g)
-  keeps_late s k = record {
+      ((i : ℕ) → i + 4 ≤ p → look i ≡ other i) → ((a : A) → Keeps p (f a) (g a)) →
+      Keeps p (at_each look f) (at_each other g)
+  keeps_late s v k = record {
     keep = late_keep _ _ _ _ s k;
     forward = look_forward _ _ (λ a. (k a).forward);
+    refuse = look_refuse _ _ _ _ v k;
+    late = look_late _ _ (λ a. (k a).late);
   }
 
   head_late : {A B : Type 0} (look other : ℕ → A) (f : A → Construct B) → ((i : ℕ) → i < p → look i ≡ other i) →
@@ -215,7 +338,7 @@ module _ (p : ℕ) where
   pub keeps_at_head : {A B : Type 0} {look other : ℕ → A} {f g : A → Construct B} →
       ((i : ℕ) → i < p → look i ≡ other i) → ((j : ℕ) (b : B) → f (look p) p (Read b j) → p < j) →
       ((a : A) → Keeps p (f a) (g a)) → Keeps p (at_each look f) (at_each other g)
-  keeps_at_head {f = f} s v k = keeps_late (head_late _ _ f s v) k
+  keeps_at_head {f = f} s v k = keeps_late (head_late _ _ f s v) (λ i l. s i (omega arith)) k
 
   either_keep : {A : Type 0} (q : Bool) (c d x y : Construct A) → Keeps p c d → Keeps p x y → (i j : ℕ) (a : A) →
       i ≤ p → j ≤ p → either q c x i (Read a j) → either q d y i (Read a j)
@@ -227,29 +350,57 @@ module _ (p : ℕ) where
   either_forward q c x m k i j a (first e z) = m i j a z
   either_forward q c x m k i j a (second e z) = k i j a z
 
+  either_refuse : {A : Type 0} (q : Bool) (c d x y : Construct A) → Refuses p c d → Refuses p x y →
+      Refuses p (either q c x) (either q d y)
+  either_refuse q c d x y m v i from to k e (first f z) = first f (m i from to k e z)
+  either_refuse q c d x y m v i from to k e (second f z) = second f (v i from to k e z)
+
+  either_late : {A : Type 0} (q : Bool) (c x : Construct A) → FailsLate c → FailsLate x → FailsLate (either q c x)
+  either_late q c x m v i from to k (first f z) = m i from to k z
+  either_late q c x m v i from to k (second f z) = v i from to k z
+
   pub keeps_either : {A : Type 0} {q : Bool} {c d x y : Construct A} → Keeps p c d → Keeps p x y →
       Keeps p (either q c x) (either q d y)
   keeps_either m k = record {
     keep = either_keep _ _ _ _ _ m k;
     forward = either_forward _ _ _ m.forward k.forward;
+    refuse = either_refuse _ _ _ _ _ m.refuse k.refuse;
+    late = either_late _ _ _ m.late k.late;
   }
 
   -- ---- lists
 
-  module _ {A S B : Type 0} (f g : S → Construct (More A S)) (add : A → B → B) (none : B)
+  -- from the places of a kind on, up to p at the latest
+  module _ {A S B : Type 0} (At : ℕ → Type 0) (f g : S → Construct (More A S)) (add : A → B → B) (none : B)
       (forward : (s : S) (i j : ℕ) (x : More A S) → f s i (Read x j) → i ≤ j)
-      (keep : (s : S) (i j : ℕ) (x : More A S) → i ≤ p → j ≤ p → f s i (Read x j) → g s i (Read x j)) where
+      (keep : (s : S) (i j : ℕ) (x : More A S) → At i → j ≤ p → f s i (Read x j) → g s i (Read x j))
+      (stays : (s : S) (i j : ℕ) (x : More A S) → At i → j ≤ p → f s i (Read x j) → At j)
+      (low : (i : ℕ) → i + 4 ≤ p → At i) (refuse : (s : S) → Refuses p (f s) (g s))
+      (late : (s : S) → FailsLate (f s)) where
     many_forward : (s : S) (i j : ℕ) (b : B) → many f add none s i (Read b j) → i ≤ j
     many_forward s i j b (list_ends x) = forward s i j _ x
     many_forward s i j b (item_and_more {later = r} {j = m} x y) =
         let l = forward s i m _ x in let k = many_forward r m j _ y in omega arith
 
-    many_keep : (s : S) (i j : ℕ) (b : B) → i ≤ p → j ≤ p → many f add none s i (Read b j) →
+    many_keep : (s : S) (i j : ℕ) (b : B) → At i → j ≤ p → many f add none s i (Read b j) →
         many g add none s i (Read b j)
     many_keep s i j b l n (list_ends x) = list_ends (keep s i j _ l n x)
     many_keep s i j b l n (item_and_more {later = r} {j = m} x y) =
         let k = many_forward r m j _ y in
-        item_and_more (keep s i m _ l (omega arith) x) (many_keep r m j _ (omega arith) n y)
+        let q : m ≤ p = omega arith in
+        item_and_more (keep s i m _ l q x) (many_keep r m j _ (stays s i m _ l q x) n y)
+
+    many_late : (s : S) → FailsLate (many f add none s)
+    many_late s i from to k (list_stops x) = late s i from to k x
+    many_late s i from to k (stops_later {later = r} {j = m} x y) =
+        let l = forward s i m _ x in let n = many_late r m from to k y in omega arith
+
+    many_refuse : (s : S) → Refuses p (many f add none s) (many g add none s)
+    many_refuse s i from to k e (list_stops x) = list_stops (refuse s i from to k e x)
+    many_refuse s i from to k e (stops_later {later = r} {j = m} x y) =
+        let l = forward s i m _ x in
+        let n = many_late r m from to k y in
+        stops_later (keep s i m _ (low i (omega arith)) (omega arith) x) (many_refuse r m from to k e y)
 
     module _ (Good : A → Type 0) (All : B → Type 0) (e : All none)
         (adds : (a : A) (b : B) → Good a → All b → All (add a b))
@@ -260,11 +411,19 @@ module _ (p : ℕ) where
           let k = many_forward r m j _ y in
           adds _ _ (good s i m _ (omega arith) x) (many_good r m j _ n y)
 
+  abbrev UpTo : ℕ → Type 0
+  UpTo i = i ≤ p
+
+  abbrev Below : ℕ → Type 0
+  Below i = i < p
+
   pub keeps_many : {A S B : Type 0} {f g : S → Construct (More A S)} {add : A → B → B} {none : B} {s : S} →
       ((s : S) → Keeps p (f s) (g s)) → Keeps p (many f add none s) (many g add none s)
   keeps_many {f = f} {g = g} {add = add} {none = none} {s = s} k = record {
-    keep = many_keep f g add none (λ r. (k r).forward) (λ r. (k r).keep) s;
-    forward = many_forward f g add none (λ r. (k r).forward) (λ r. (k r).keep) s;
+    keep = many_keep UpTo f g add none (λ r. (k r).forward) (λ r. (k r).keep) (λ r i j x l n y. n) (λ i l. omega arith) (λ r. (k r).refuse) (λ r. (k r).late) s;
+    forward = many_forward UpTo f g add none (λ r. (k r).forward) (λ r. (k r).keep) (λ r i j x l n y. n) (λ i l. omega arith) (λ r. (k r).refuse) (λ r. (k r).late) s;
+    refuse = many_refuse UpTo f g add none (λ r. (k r).forward) (λ r. (k r).keep) (λ r i j x l n y. n) (λ i l. omega arith) (λ r. (k r).refuse) (λ r. (k r).late) s;
+    late = many_late UpTo f g add none (λ r. (k r).forward) (λ r. (k r).keep) (λ r i j x l n y. n) (λ i l. omega arith) (λ r. (k r).refuse) (λ r. (k r).late) s;
   }
 
   -- an item's value, where there is one, is good, and added to a good list it makes a good one
@@ -273,11 +432,117 @@ module _ (p : ℕ) where
       All none → ((a : A) (b : B) → Good a → All b → All (add a b)) →
       KeepsIf p (Unit {0}) All (many f add none s) (many g add none s)
   if_many {f = f} {g = g} {add = add} {none = none} {s = s} {Good = Good} {All = All} k e adds = record {
-    keep = λ m. many_keep f g add none (λ r. (k r).forward) (λ r. (k r).keep tt) s;
+    keep = λ m. many_keep UpTo f g add none (λ r. (k r).forward) (λ r. (k r).keep tt) (λ r i j x l n y. n) (λ i l. omega arith) (λ r. (k r).refuse tt) (λ r. (k r).late) s;
     good =
-        λ m. many_good f g add none (λ r. (k r).forward) (λ r. (k r).keep tt) Good All e adds (λ r. (k r).good tt) s;
-    forward = many_forward f g add none (λ r. (k r).forward) (λ r. (k r).keep tt) s;
+        λ m. many_good UpTo f g add none (λ r. (k r).forward) (λ r. (k r).keep tt) (λ r i j x l n y. n) (λ i l. omega arith) (λ r. (k r).refuse tt) (λ r. (k r).late) Good All e adds
+        (λ r. (k r).good tt) s;
+    forward = many_forward UpTo f g add none (λ r. (k r).forward) (λ r. (k r).keep tt) (λ r i j x l n y. n) (λ i l. omega arith) (λ r. (k r).refuse tt) (λ r. (k r).late) s;
+    refuse = λ m. many_refuse UpTo f g add none (λ r. (k r).forward) (λ r. (k r).keep tt) (λ r i j x l n y. n) (λ i l. omega arith) (λ r. (k r).refuse tt) (λ r. (k r).late) s;
+    late = many_late UpTo f g add none (λ r. (k r).forward) (λ r. (k r).keep tt) (λ r i j x l n y. n) (λ i l. omega arith) (λ r. (k r).refuse tt) (λ r. (k r).late) s;
   }
+
+  -- the same of items each of which begins before p
+  pub below_many : {A S B : Type 0} {M : Type 0} {f g : S → Construct (More A S)} {add : A → B → B} {none : B} {s : S}
+      {Good : A → Type 0} {All : B → Type 0} → ((s : S) → KeepsBelow p (Unit {0}) (good_more Good) (f s) (g s)) →
+      ((s : S) → EndsBelow p (f s)) → All none → ((a : A) (b : B) → Good a → All b → All (add a b)) →
+      KeepsBelow p M All (many f add none s) (many g add none s)
+  below_many {f = f} {g = g} {add = add} {none = none} {s = s} {Good = Good} {All = All} k q e adds = record {
+    keep = λ m. many_keep Below f g add none (λ r. (k r).forward) (λ r. (k r).keep tt) (λ r. (q r).ends) (λ i l. omega arith) (λ r. (k r).refuse tt) (λ r. (k r).late) s;
+    good =
+        λ m. many_good Below f g add none (λ r. (k r).forward) (λ r. (k r).keep tt) (λ r. (q r).ends) (λ i l. omega arith) (λ r. (k r).refuse tt) (λ r. (k r).late) Good All e adds
+        (λ r. (k r).good tt) s;
+    forward = many_forward Below f g add none (λ r. (k r).forward) (λ r. (k r).keep tt) (λ r. (q r).ends) (λ i l. omega arith) (λ r. (k r).refuse tt) (λ r. (k r).late) s;
+    refuse = λ m. many_refuse Below f g add none (λ r. (k r).forward) (λ r. (k r).keep tt) (λ r. (q r).ends) (λ i l. omega arith) (λ r. (k r).refuse tt) (λ r. (k r).late) s;
+    late = many_late Below f g add none (λ r. (k r).forward) (λ r. (k r).keep tt) (λ r. (q r).ends) (λ i l. omega arith) (λ r. (k r).refuse tt) (λ r. (k r).late) s;
+  }
+
+  -- ---- parts that begin before p
+
+  pub below_if : {A : Type 0} {M : Type 0} {Good : A → Type 0} {c d : Construct A} → KeepsIf p M Good c d →
+      KeepsBelow p M Good c d
+  below_if m = record {
+    keep = λ h i j a l. m.keep h i j a (omega arith);
+    good = m.good;
+    forward = m.forward;
+    refuse = m.refuse;
+    late = m.late;
+  }
+
+  below_keep : {A B : Type 0} (M : Type 0) (Mid : A → Type 0) (Good : B → Type 0) (c d : Construct A)
+      (f g : A → Construct B) → KeepsBelow p M Mid c d → ((a : A) → KeepsIf p (M × Mid a) Good (f a) (g a)) → M →
+      (i j : ℕ) (b : B) → i < p → j ≤ p → (c >>= f) i (Read b j) → (d >>= g) i (Read b j)
+  below_keep M Mid Good c d f g m k h i j b l n (goes_on {j = q} {a = a} x y) =
+      let w = (k a).forward q j b y in
+      goes_on (m.keep h i q a l (omega arith) x)
+      ((k a).keep (h, m.good h i q a (omega arith) x) q j b (omega arith) n y)
+
+  below_good : {A B : Type 0} (M : Type 0) (Mid : A → Type 0) (Good : B → Type 0) (c d : Construct A)
+      (f g : A → Construct B) → KeepsBelow p M Mid c d → ((a : A) → KeepsIf p (M × Mid a) Good (f a) (g a)) → M →
+      (i j : ℕ) (b : B) → j ≤ p → (c >>= f) i (Read b j) → Good b
+  below_good M Mid Good c d f g m k h i j b n (goes_on {j = q} {a = a} x y) =
+      let w = (k a).forward q j b y in (k a).good (h, m.good h i q a (omega arith) x) q j b n y
+
+  below_refuse : {A B : Type 0} (M : Type 0) (Mid : A → Type 0) (Good : B → Type 0) (c d : Construct A)
+      (f g : A → Construct B) → KeepsBelow p M Mid c d → ((a : A) → KeepsIf p (M × Mid a) Good (f a) (g a)) → M →
+      Refuses p (c >>= f) (d >>= g)
+  below_refuse M Mid Good c d f g m k h i from to x e (stops r) = stops (m.refuse h i from to x e r)
+  below_refuse M Mid Good c d f g m k h i from to x e (goes_on {j = q} {a = a} r y) =
+      let l = m.forward i q a r in
+      let n = (k a).late q from to x y in
+      goes_on (m.keep h i q a (omega arith) (omega arith) r) ((k a).refuse (h, m.good h i q a (omega arith) r) q from to x e y)
+
+  pub below_bind : {A B : Type 0} {M : Type 0} {Mid : A → Type 0} {Good : B → Type 0} {c d : Construct A}
+      {f g : A → Construct B} → KeepsBelow p M Mid c d → ((a : A) → KeepsIf p (M × Mid a) Good (f a) (g a)) →
+      KeepsBelow p M Good (c >>= f) (d >>= g)
+  below_bind {M = M} {Mid = Mid} {Good = Good} m k = record {
+    keep = below_keep M Mid Good _ _ _ _ m k;
+    good = below_good M Mid Good _ _ _ _ m k;
+    forward = bind_forward _ _ m.forward (λ a. (k a).forward);
+    refuse = below_refuse M Mid Good _ _ _ _ m k;
+    late = bind_late _ _ m.forward m.late (λ a. (k a).late);
+  }
+
+  then_keep : {A B : Type 0} (M : Type 0) (Mid : A → Type 0) (Good : B → Type 0) (c d : Construct A)
+      (f g : A → Construct B) → KeepsIf p M Mid c d → EndsBelow p c →
+      ((a : A) → KeepsBelow p (M × Mid a) Good (f a) (g a)) → M →
+      (i j : ℕ) (b : B) → i < p → j ≤ p → (c >>= f) i (Read b j) → (d >>= g) i (Read b j)
+  then_keep M Mid Good c d f g m v k h i j b l n (goes_on {j = q} {a = a} x y) =
+      let w = (k a).forward q j b y in
+      goes_on (m.keep h i q a (omega arith) (omega arith) x)
+      ((k a).keep (h, m.good h i q a (omega arith) x) q j b (v.ends i q a l (omega arith) x) n y)
+
+  then_good : {A B : Type 0} (M : Type 0) (Mid : A → Type 0) (Good : B → Type 0) (c d : Construct A)
+      (f g : A → Construct B) → KeepsIf p M Mid c d → ((a : A) → KeepsBelow p (M × Mid a) Good (f a) (g a)) → M →
+      (i j : ℕ) (b : B) → j ≤ p → (c >>= f) i (Read b j) → Good b
+  then_good M Mid Good c d f g m k h i j b n (goes_on {j = q} {a = a} x y) =
+      let w = (k a).forward q j b y in (k a).good (h, m.good h i q a (omega arith) x) q j b n y
+
+  then_refuse : {A B : Type 0} (M : Type 0) (Mid : A → Type 0) (Good : B → Type 0) (c d : Construct A)
+      (f g : A → Construct B) → KeepsIf p M Mid c d → ((a : A) → KeepsBelow p (M × Mid a) Good (f a) (g a)) → M →
+      Refuses p (c >>= f) (d >>= g)
+  then_refuse M Mid Good c d f g m k h i from to x e (stops r) = stops (m.refuse h i from to x e r)
+  then_refuse M Mid Good c d f g m k h i from to x e (goes_on {j = q} {a = a} r y) =
+      let l = m.forward i q a r in
+      let n = (k a).late q from to x y in
+      goes_on (m.keep h i q a (omega arith) (omega arith) r) ((k a).refuse (h, m.good h i q a (omega arith) r) q from to x e y)
+
+  -- behind a part that ends before p
+  pub below_then : {A B : Type 0} {M : Type 0} {Mid : A → Type 0} {Good : B → Type 0} {c d : Construct A}
+      {f g : A → Construct B} → KeepsIf p M Mid c d → EndsBelow p c →
+      ((a : A) → KeepsBelow p (M × Mid a) Good (f a) (g a)) → KeepsBelow p M Good (c >>= f) (d >>= g)
+  below_then {M = M} {Mid = Mid} {Good = Good} m v k = record {
+    keep = then_keep M Mid Good _ _ _ _ m v k;
+    good = then_good M Mid Good _ _ _ _ m k;
+    forward = bind_forward _ _ m.forward (λ a. (k a).forward);
+    refuse = then_refuse M Mid Good _ _ _ _ m k;
+    late = bind_late _ _ m.forward m.late (λ a. (k a).late);
+  }
+
+  here_stays : (i j a : ℕ) → i < p → j ≤ p → here i (Read a j) → j < p
+  here_stays i j a l n at_place = l
+
+  pub here_ends : EndsBelow p here
+  here_ends = record { ends = here_stays }
 
   -- ---- parts behind a line end
 
@@ -289,6 +554,8 @@ module _ (p : ℕ) where
     keep = λ h i j a l n m x. x;
     good = λ h i j a n x. tt;
     forward = from_over_keep k;
+    refuse = λ h i from to l m e x. elim x [ ];
+    late = λ i from to l m x. elim x [ ];
   }
 
   from_keep : {A B : Type 0} (k : ℕ) (M : Type 0) (Mid : A → Type 0) (Good : B → Type 0) (c d : Construct A)
@@ -311,6 +578,26 @@ module _ (p : ℕ) where
   from_forward k c f w v i j b s (goes_on {j = m} {a = a} x y) =
       let l = w i m a s x in let q = v a m j b y in omega arith
 
+  from_late : {A B : Type 0} (k : ℕ) (c : Construct A) (f : A → Construct B) →
+      ((i j : ℕ) (a : A) → i < k → c i (Read a j) → i ≤ j) →
+      ((i from to : ℕ) (x : Kind) → i < k → c i (Refused x from to) → i ≤ failing_place x from to) →
+      ((a : A) → FailsLate (f a)) → (i from to : ℕ) (x : Kind) → i < k → (c >>= f) i (Refused x from to) →
+      i ≤ failing_place x from to
+  from_late k c f w v z i from to x l (stops r) = v i from to x l r
+  from_late k c f w v z i from to x l (goes_on {j = q} {a = a} r y) =
+      let m = w i q a l r in let n = z a q from to x y in omega arith
+
+  from_refuse : {A B : Type 0} (k : ℕ) (M : Type 0) (Mid : A → Type 0) (Good : B → Type 0) (c d : Construct A)
+      (f g : A → Construct B) → KeepsFrom p k M Mid c d → ((a : A) → KeepsIf p (M × Mid a) Good (f a) (g a)) → M →
+      (i from to : ℕ) (x : Kind) → i < k → Early p x from to → (c >>= f) i (Refused x from to) →
+      (d >>= g) i (Refused x from to)
+  from_refuse k M Mid Good c d f g m v h i from to x l e (stops r) = stops (m.refuse h i from to x l e r)
+  from_refuse k M Mid Good c d f g m v h i from to x l e (goes_on {j = q} {a = a} r y) =
+      let w = m.forward i q a l r in
+      let n = (v a).late q from to x y in
+      goes_on (m.keep h i q a l (omega arith) (omega arith) r)
+      ((v a).refuse (h, m.good h i q a (omega arith) r) q from to x e y)
+
   pub from_bind : {A B : Type 0} {k : ℕ} {M : Type 0} {Mid : A → Type 0} {Good : B → Type 0} {c d : Construct A}
       {f g : A → Construct B} → KeepsFrom p k M Mid c d → ((a : A) → KeepsIf p (M × Mid a) Good (f a) (g a)) →
       KeepsFrom p k M Good (c >>= f) (d >>= g)
@@ -318,6 +605,8 @@ module _ (p : ℕ) where
     keep = from_keep k M Mid Good _ _ _ _ m v;
     good = from_good k M Mid Good _ _ _ _ m v;
     forward = from_forward k _ _ m.forward (λ a. (v a).forward);
+    refuse = from_refuse k M Mid Good _ _ _ _ m v;
+    late = from_late k _ _ m.forward m.late (λ a. (v a).late);
   }
 
 module _ (p : ℕ) (t u : List ℕ) (look other : ℕ → Option ℕ) where
@@ -356,12 +645,37 @@ module _ (p : ℕ) (t u : List ℕ) (look other : ℕ → Option ℕ) where
       (i j : ℕ) (b : B) → at_each look f i (Read b j) → i ≤ j
   each_on M Good f g v i j b (chosen x) = eol_on M Good f g v i j b (look i) refl x
 
+  eol_refuse : {B : Type 0} (M : Type 0) (Good : B → Type 0) (f g : Option ℕ → Construct B) → EolParts M Good f g → M →
+      (i from to : ℕ) (x : Kind) → Early p x from to → (o : Option ℕ) → look i ≡ o → f o i (Refused x from to) →
+      g o i (Refused x from to)
+  eol_refuse M Good f g v h i from to x e None q y = v.none.refuse h i from to x e y
+  eol_refuse M Good f g v h i from to x e (Some k) q y = (v.some k).refuse h i from to x (v.ahead i k q) e y
+
+  eol_late : {B : Type 0} (M : Type 0) (Good : B → Type 0) (f g : Option ℕ → Construct B) → EolParts M Good f g →
+      (i from to : ℕ) (x : Kind) → (o : Option ℕ) → look i ≡ o → f o i (Refused x from to) →
+      i ≤ failing_place x from to
+  eol_late M Good f g v i from to x None q y = v.none.late i from to x y
+  eol_late M Good f g v i from to x (Some k) q y = (v.some k).late i from to x (v.ahead i k q) y
+
+  each_refuse : {B : Type 0} (M : Type 0) (Good : B → Type 0) (f g : Option ℕ → Construct B) → EolParts M Good f g →
+      M → Refuses p (at_each look f) (at_each other g)
+  each_refuse M Good f g v h i from to x e (chosen y) =
+      let l = eol_late M Good f g v i from to x (look i) refl y in
+      chosen (subst (λ o. g o i (Refused x from to)) (v.same.same i (omega arith))
+      (eol_refuse M Good f g v h i from to x e (look i) refl y))
+
+  each_late : {B : Type 0} (M : Type 0) (Good : B → Type 0) (f g : Option ℕ → Construct B) → EolParts M Good f g →
+      FailsLate (at_each look f)
+  each_late M Good f g v i from to x (chosen y) = eol_late M Good f g v i from to x (look i) refl y
+
   pub if_eol : {B : Type 0} {M : Type 0} {Good : B → Type 0} {f g : Option ℕ → Construct B} → EolParts M Good f g →
       KeepsIf p M Good (at_each look f) (at_each other g)
   if_eol {M = M} {Good = Good} {f = f} {g = g} v = record {
     keep = each_keep M Good f g v;
     good = each_good M Good f g v;
     forward = each_on M Good f g v;
+    refuse = each_refuse M Good f g v;
+    late = each_late M Good f g v;
   }
 
 pub ruleset keeping = (
@@ -369,7 +683,6 @@ pub ruleset keeping = (
   keeps_gives,
   keeps_here,
   keeps_fails,
-  keeps_fails_from,
   keeps_over,
   keeps_at_each,
   keeps_either,

@@ -1,15 +1,15 @@
 -- Entries that are read before a place are read there in a text that is the same up to the place.
 use Rattle.std.proofs.Common.{◌≡◌, ◌≢◌, ℕ, ◌+◌, ◌≤◌, ◌<◌, List, [], ◌∷◌, length, Option, Some, None, Bool}
 use Rattle.std.proofs.Common.{true, false, refl, sym, ◌∙◌, subst, ap, arith, inl, inr}
-use Rattle.std.specs.Prelude.{slice_get, ◌⊎◌, ◌==◌, not, if◌then◌else◌}
+use Rattle.std.specs.Prelude.{slice_get, ◌==◌, not, if◌then◌else◌}
 use Rattle.std.proofs.lemmas.Bool.Decides.{nat_tests}
 use Rattle.fluent_syntax_tree.specs.Kind.{Kind, ExpectedToken}
 use Rattle.fluent_syntax_tree.specs.Tree.{PatternTree}
-use Rattle.fluent_syntax_tree.specs.Entry.{AttributeTree, EntryTree, junk}
+use Rattle.fluent_syntax_tree.specs.Entry.{AttributeTree, EntryTree}
 use Rattle.fluent_syntax_tree.specs.declared.spans.Span.{Span}
 use Rattle.fluent_syntax_tree.specs.declared.edition.Edition.{Edition}
 use Rattle.fluent_syntax_grammar.specs.Bytes.{is_letter}
-use Rattle.fluent_syntax_grammar.specs.Places.{holds, has, has_byte, has_eol, after_eol, InlineBlank, BlankBlock}
+use Rattle.fluent_syntax_grammar.specs.Places.{holds, has, has_byte, after_eol, InlineBlank, BlankBlock}
 use Rattle.fluent_syntax_grammar.specs.Places.{no_line}
 use Rattle.fluent_syntax_grammar.specs.Places.{line}
 use Rattle.fluent_syntax_grammar.specs.Construct.{at_each}
@@ -24,11 +24,25 @@ use Rattle.fluent_syntax_grammar.specs.Comments as comments
 use Rattle.fluent_syntax_grammar.specs.Comments.{hashes, comment_text, comment_rest, comment_line, comment_lines}
 use Rattle.fluent_syntax_grammar.specs.Comments.{comment_entry, comment_of, other_level, no_comment_line}
 use Rattle.fluent_syntax_grammar.specs.Tiling.{Tile, entry, is_entry_byte, entry_of, entry_at, TileAt}
-use Rattle.fluent_syntax_grammar.specs.Tiling.{reads, refuses}
+use Rattle.fluent_syntax_tree.specs.Every.{list_every}
+use Rattle.fluent_syntax_grammar.specs.Tiling.{dropped, failing_place, JunkEnd, reads, refused, refuses, starts_entry}
+use Rattle.fluent_syntax_grammar.specs.Locality.{begins_attribute, is_settled, lacks_field, Settled}
+use Rattle.std.specs.List.{list_all}
+use Rattle.std.specs.Prelude.{nat_le, ◌&&◌, ◌||◌}
+use Rattle.std.proofs.Common.{suc, ◌-◌, drop}
+use Rattle.std.proofs.lemmas.Option.{slice_get_within}
+use Rattle.fluent_syntax_tree.specs.Kind.{ExpectedMessageField, ExpectedTermField}
+use Rattle.fluent_syntax_grammar.specs.Construct.{failed_from}
+use Rattle.fluent_syntax_grammar.proofs.Cuts.{block_place, eol_forward}
+use Rattle.fluent_syntax_grammar.proofs.Facts.{equal, left_true, right_true, unequal}
+use Rattle.fluent_syntax_grammar.proofs.SoundTiling.{entry_refused}
+use Rattle.fluent_syntax_grammar.proofs.locality.Kept.{Early, Refuses}
+use Rattle.fluent_syntax_grammar.proofs.locality.KeptWords.{if_identifier, kept_inline, spaces_before}
+use Rattle.fluent_syntax_grammar.proofs.locality.Moved.{behind_place}
 use Rattle.fluent_syntax_grammar.specs.Body.{faults}
 use Rattle.fluent_syntax_grammar.specs.Locality.{Led, arrives, onward, is_comment_to, ends_in_comment}
 use Rattle.fluent_syntax_grammar.proofs.Cuts.{block_forward, eol_cases}
-use Rattle.fluent_syntax_grammar.proofs.Facts.{differs, some_none}
+use Rattle.fluent_syntax_grammar.proofs.Facts.{differs}
 use Rattle.fluent_syntax_grammar.proofs.Facts.{lt_or_same, excludes, none_holds, same_number, has_inside, implies}
 use Rattle.fluent_syntax_grammar.proofs.LineEnds.{letter_entry}
 use Rattle.fluent_syntax_grammar.proofs.Tests.{differ}
@@ -37,11 +51,11 @@ use Rattle.fluent_syntax_grammar.proofs.SoundStrings.{InText}
 use Rattle.fluent_syntax_grammar.proofs.Boundaries.{text_cuts}
 use Rattle.fluent_syntax_grammar.proofs.SoundTiling.{entry_read}
 use Rattle.fluent_syntax_grammar.proofs.locality.Kept.{is_head_byte}
-use Rattle.fluent_syntax_grammar.proofs.locality.Kept.{Head, Shared, Keeps, keeps_bind, keeps_gives, keeps_over}
-use Rattle.fluent_syntax_grammar.proofs.locality.Kept.{keeps_here, keeps_fails, keeps_at_each, keeps_at_head}
-use Rattle.fluent_syntax_grammar.proofs.locality.KeptWords.{same_eol, no_eol_head, kept_steps, kept_block, keeps_token}
-use Rattle.fluent_syntax_grammar.proofs.locality.KeptWords.{token_forward, keeps_inline_blank, keeps_blank_block}
-use Rattle.fluent_syntax_grammar.proofs.locality.KeptWords.{keeps_spanned, keeps_optional_eol, keeps_rest_of_line}
+use Rattle.fluent_syntax_grammar.proofs.locality.Kept.{Any, Shared, Keeps, KeepsBelow, below_bind, keeps_bind, keeps_gives, plain}
+use Rattle.fluent_syntax_grammar.proofs.locality.Kept.{keeps_here, keeps_fails, keeps_at_each}
+use Rattle.fluent_syntax_grammar.proofs.locality.KeptWords.{same_eol, kept_block, keeps_token, keeps_then, token_below}
+use Rattle.fluent_syntax_grammar.proofs.locality.KeptWords.{keeps_inline_blank, keeps_blank_block, other_byte, head_has, other_has, last_has}
+use Rattle.fluent_syntax_grammar.proofs.locality.KeptWords.{keeps_spanned, keeps_optional_eol, below_rest_of_line}
 use Rattle.fluent_syntax_grammar.proofs.locality.KeptWords.{keeps_identifier, last_other}
 use Rattle.fluent_syntax_grammar.proofs.locality.KeptRules as rules
 
@@ -73,18 +87,68 @@ module _ (edition : Edition) (t : List ℕ) where
   eol_no_dot k m e =
       elim (eol_cases t k m e) [ inl x ↦ byte_not 10 46 k refl x.0 | inr x ↦ byte_not 13 46 k refl x.0 ]
 
-  spaces_at_entry : (i k : ℕ) → has t is_head_byte i ≡ true → InlineBlank t i k → k ≡ i
-  spaces_at_entry i k e w = elim (lt_or_same i k w.forward) [
-    | inl l ↦ differs (w.each i (omega arith) l) (entry_not 32 i refl e)
+  -- neither a space nor a dot stands there
+  pub record Quiet (i : ℕ) : Type 0 where
+    pub no_space : has_byte t 32 i ≡ false
+    pub no_dot : has_byte t 46 i ≡ false
+
+  pub quiet_entry : (i : ℕ) → has t is_head_byte i ≡ true → Quiet i
+  quiet_entry i e = record { no_space = entry_not 32 i refl e; no_dot = entry_not 46 i refl e }
+
+  spaces_at_quiet : (i k : ℕ) → Quiet i → InlineBlank t i k → k ≡ i
+  spaces_at_quiet i k q w = elim (lt_or_same i k w.forward) [
+    | inl l ↦ differs (w.each i (omega arith) l) q.no_space
     | inr f ↦ sym f
   ]
 
-  -- no attribute stands before blank lines and an entry
-  none_before : (i start : ℕ) → BlankBlock t i start → has t is_head_byte start ≡ true →
-      attributes edition t i (Read [] i)
-  none_before i start (no_line {k = k} w e) f =
-      let g = spaces_at_entry i k f w in
-      none_at i k w (subst (λ k. has_byte t 46 k ≡ false) (sym g) (entry_not 46 i refl f))
+  -- no dot stands there behind spaces
+  pub record Dotless (i : ℕ) : Type 0 where
+    pub no_dot : (k : ℕ) → InlineBlank t i k → has_byte t 46 k ≡ false
+
+  pub dotless_quiet : (i : ℕ) → Quiet i → Dotless i
+  dotless_quiet i q = record {
+    no_dot = λ k w. subst (λ k. has_byte t 46 k ≡ false) (sym (spaces_at_quiet i k q w)) q.no_dot;
+  }
+
+  -- by the bytes from there on
+  dotless_bytes : (bs : List ℕ) (i : ℕ) → ((n : ℕ) → slice_get t (i + n) ≡ slice_get bs n) →
+      begins_attribute bs ≡ false → (k : ℕ) → InlineBlank t i k → has_byte t 46 k ≡ false
+  dotless_bytes [] i same e k w =
+      let z : i + 0 ≡ i = omega arith in
+      let none : slice_get t i ≡ None = subst (λ j. slice_get t j ≡ None) z (same 0) in
+      elim (lt_or_same i k w.forward) [
+        | inl l ↦ differs (w.each i (omega arith) l) (ap (holds (λ b. b == 32)) none)
+        | inr f ↦ subst (λ k. has_byte t 46 k ≡ false) f (ap (holds (λ b. b == 46)) none)
+      ]
+  dotless_bytes (b ∷ bs) i same e k w =
+      let z : i + 0 ≡ i = omega arith in
+      let there : slice_get t i ≡ Some b = subst (λ j. slice_get t j ≡ Some b) z (same 0) in
+      by_space (b == 32) refl there (λ l g. dotless_bytes bs (i + 1)
+      (λ n. let h : (i + 1) + n ≡ i + suc n = omega arith in ap (slice_get t) h ∙ same (suc n)) g k
+      (record { forward = omega arith; each = λ j c d. w.each j (omega arith) d; longest = w.longest }))
+    where
+      by_space : (q : Bool) → (b == 32) ≡ q → slice_get t i ≡ Some b →
+          (i < k → begins_attribute bs ≡ false → has_byte t 46 k ≡ false) → has_byte t 46 k ≡ false
+      by_space false f there later =
+          let g : (b == 46) ≡ false = ap (λ q. if q then begins_attribute bs else b == 46) (sym f) ∙ e in
+          elim (lt_or_same i k w.forward) [
+            | inl l ↦ differs (w.each i (omega arith) l) (ap (holds (λ b. b == 32)) there ∙ f)
+            | inr h ↦ subst (λ k. has_byte t 46 k ≡ false) h (ap (holds (λ b. b == 46)) there ∙ g)
+          ]
+      by_space true f there later =
+          let g : begins_attribute bs ≡ false = ap (λ q. if q then begins_attribute bs else b == 46) (sym f) ∙ e in
+          elim (lt_or_same i k w.forward) [
+            | inl l ↦ later l g
+            | inr h ↦ differs (ap (holds (λ b. b == 32)) there ∙ f)
+                (subst (λ k. has_byte t 32 k ≡ false) (sym h) w.longest)
+          ]
+
+  pub dotless_there : (i : ℕ) → i ≤ length t → begins_attribute (drop i t) ≡ false → Dotless i
+  dotless_there i l e = record { no_dot = dotless_bytes (drop i t) i (behind_place t i l).byte e }
+
+  -- no attribute stands before blank lines and such a place
+  none_before : (i start : ℕ) → BlankBlock t i start → Dotless start → attributes edition t i (Read [] i)
+  none_before i start (no_line {k = k} w e) f = none_at i k w (f.no_dot k w)
   none_before i start (line {k = k} {m = m} w e r) f = none_at i k w (eol_no_dot k m e)
 
   -- where `#` stands, the blank block is empty
@@ -135,12 +199,23 @@ module _ (edition : Edition) (t : List ℕ) where
       comment_entry t i (Read e j)
   hash_comment i j e g (chosen x) = hash_comment_of i j e (slice_get t i) refl g x
 
+  hash_refused_of : (i from to : ℕ) (k : Kind) (o : Option ℕ) → slice_get t i ≡ o → has_byte t 35 i ≡ true →
+      entry_of edition t (family edition t) o i (Refused k from to) → comment_entry t i (Refused k from to)
+  hash_refused_of i from to k None f g x = differs g (none_holds (λ b. b == 35) (slice_get t i) f)
+  hash_refused_of i from to k (Some b) f g (first h x) = x
+  hash_refused_of i from to k (Some b) f g (second h x) = differs (ap (holds (λ b. b == 35)) (sym f) ∙ g) h
+
+  -- where `#` stands, what is refused is a comment
+  hash_refused : (i from to : ℕ) (k : Kind) → has_byte t 35 i ≡ true → entry_at edition t i (Refused k from to) →
+      comment_entry t i (Refused k from to)
+  hash_refused i from to k g (chosen x) = hash_refused_of i from to k (slice_get t i) refl g x
+
 -- ---- what is kept
 
 module _ (edition : Edition) (p : ℕ) (t u : List ℕ) (s : Shared p t u) where
-  keeps_pattern : Keeps p (pattern edition t) (pattern edition u)
-  keeps_pattern =
-      rules.keeps_pattern edition p t u s (family edition t) (family edition u) (rules.keeps_family edition p t u s)
+  below_pattern : {M : Type 0} → KeepsBelow p M Any (pattern edition t) (pattern edition u)
+  below_pattern =
+      rules.below_pattern edition p t u s (family edition t) (family edition u) (rules.keeps_family edition p t u s)
 
   keeps_with : (id : Span) (q : Option (PatternTree Span)) → Keeps p (attribute_with id q) (attribute_with id q)
   keeps_with id None = keeps_fails p
@@ -150,7 +225,7 @@ module _ (edition : Edition) (p : ℕ) (t u : List ℕ) (s : Shared p t u) where
   keeps_attribute =
       keeps_bind p (keeps_inline_blank p t u s) (λ x. keeps_bind p (keeps_token p t u s 46) (λ x.
       keeps_bind p (keeps_identifier p t u s) (λ id. keeps_bind p (keeps_inline_blank p t u s) (λ x.
-      keeps_bind p (keeps_token p t u s 61) (λ x. keeps_bind p keeps_pattern (λ q. keeps_with id q))))))
+      keeps_then p t u s {Good = Any} 61 refl (below_bind p below_pattern (λ q. plain p (keeps_with id q)))))))
 
   attributes_forward : (i j : ℕ) (as' : List (AttributeTree Span)) → attributes edition t i (Read as' j) → i ≤ j
   attributes_forward i j as' (no_more x) = omega arith
@@ -177,7 +252,7 @@ module _ (edition : Edition) (p : ℕ) (t u : List ℕ) (s : Shared p t u) where
   term_end start id None as' i j e x = elim x [ ]
   term_end start id (Some q) as' i j e given = (refl, given)
 
-  message_keep : (i j : ℕ) (e : EntryTree Span) → i ≤ p → j ≤ p → attributes edition u j (Read [] j) →
+  pub message_keep : (i j : ℕ) (e : EntryTree Span) → i ≤ p → j ≤ p → attributes edition u j (Read [] j) →
       message_entry edition t i (Read e j) → message_entry edition u i (Read e j)
   message_keep i j e l n h
       (goes_on at_place (goes_on {j = a} {a = id} x (goes_on {j = b} y (goes_on {j = c} z (goes_on {j = d} {a = pat} w
@@ -186,19 +261,20 @@ module _ (edition : Edition) (p : ℕ) (t u : List ℕ) (s : Shared p t u) where
       let k7 = end.0 in
       let k6 = attributes_forward f g as' q in
       let k5 = (keeps_blank_block p t u s).forward d f _ v in
-      let k4 = keeps_pattern.forward c d _ w in
+      let k4 = (below_pattern {M = Unit {0}}).forward c d _ w in
       let k3 = (keeps_token p t u s 61).forward b c _ z in
       let k2 = (keeps_inline_blank p t u s).forward a b _ y in
       let k1 = (keeps_identifier p t u s).forward i a _ x in
+      let before = token_below p t u s 61 b c _ refl (omega arith) z in
       goes_on at_place (goes_on ((keeps_identifier p t u s).keep i a _ l (omega arith) x)
       (goes_on ((keeps_inline_blank p t u s).keep a b _ (omega arith) (omega arith) y)
       (goes_on ((keeps_token p t u s 61).keep b c _ (omega arith) (omega arith) z)
-      (goes_on (keeps_pattern.keep c d _ (omega arith) (omega arith) w)
+      (goes_on ((below_pattern {M = Unit {0}}).keep (tt {0}) c d _ before (omega arith) w)
       (goes_on ((keeps_blank_block p t u s).keep d f _ (omega arith) (omega arith) v)
       (goes_on (attributes_keep f g as' (omega arith) (omega arith)
       (subst (λ g. attributes edition u g (Read [] g)) (sym k7) h) q) end.1))))))
 
-  term_keep : (i j : ℕ) (e : EntryTree Span) → i ≤ p → j ≤ p → attributes edition u j (Read [] j) →
+  pub term_keep : (i j : ℕ) (e : EntryTree Span) → i ≤ p → j ≤ p → attributes edition u j (Read [] j) →
       term_entry edition t i (Read e j) → term_entry edition u i (Read e j)
   term_keep i j e l n h
       (goes_on at_place (goes_on {j = m} m' (goes_on {j = a} {a = id} x (goes_on {j = b} y (goes_on {j = c} z
@@ -207,25 +283,190 @@ module _ (edition : Edition) (p : ℕ) (t u : List ℕ) (s : Shared p t u) where
       let k7 = end.0 in
       let k6 = attributes_forward f g as' q in
       let k5 = (keeps_blank_block p t u s).forward d f _ v in
-      let k4 = keeps_pattern.forward c d _ w in
+      let k4 = (below_pattern {M = Unit {0}}).forward c d _ w in
       let k3 = (keeps_token p t u s 61).forward b c _ z in
       let k2 = (keeps_inline_blank p t u s).forward a b _ y in
       let k1 = (keeps_identifier p t u s).forward m a _ x in
       let k0 = (keeps_token p t u s 45).forward i m _ m' in
+      let before = token_below p t u s 61 b c _ refl (omega arith) z in
       goes_on at_place (goes_on ((keeps_token p t u s 45).keep i m _ l (omega arith) m')
       (goes_on ((keeps_identifier p t u s).keep m a _ (omega arith) (omega arith) x)
       (goes_on ((keeps_inline_blank p t u s).keep a b _ (omega arith) (omega arith) y)
       (goes_on ((keeps_token p t u s 61).keep b c _ (omega arith) (omega arith) z)
-      (goes_on (keeps_pattern.keep c d _ (omega arith) (omega arith) w)
+      (goes_on ((below_pattern {M = Unit {0}}).keep (tt {0}) c d _ before (omega arith) w)
       (goes_on ((keeps_blank_block p t u s).keep d f _ (omega arith) (omega arith) v)
       (goes_on (attributes_keep f g as' (omega arith) (omega arith)
       (subst (λ g. attributes edition u g (Read [] g)) (sym k7) h) q) end.1)))))))
+
+  -- what was read before a place well before p
+  none_there : (i k : ℕ) → i < p → InlineBlank t i k → has_byte t 46 k ≡ false → attributes edition u i (Read [] i)
+  none_there i k l w e =
+      let m = spaces_before p t u s i k l w in
+      none_at edition u i k ((kept_inline p t u s).leads i k (omega arith) (omega arith) w)
+      (sym (ap (holds (λ b. b == 46)) (s.byte k m)) ∙ e)
+
+  attributes_none : (i j : ℕ) → i < p → Dotless edition t i → attributes edition t i (Read [] j) →
+      attributes edition u i (Read [] j)
+  attributes_none i j l d (no_more (stops x)) = elim x [ ]
+  attributes_none i j l d (no_more (goes_on {j = k} (passed w) y)) = none_there i k l w (d.no_dot k w)
+
+  -- a list without attribute
+  empty_end : (i j : ℕ) → attributes edition t i (Read [] j) → i ≡ j
+  empty_end i j (no_more x) = refl
+
+  attributes_last : (i j : ℕ) (as' : List (AttributeTree Span)) → attributes edition t i (Read as' j) →
+      attributes edition t j (Read [] j)
+  attributes_last i j as' (no_more x) = no_more x
+  attributes_last i j as' (one_more {j = m} x r) = attributes_last m j _ r
+
+  message_late : (start : ℕ) (id : Span) (q : Option (PatternTree Span)) (as' : List (AttributeTree Span))
+      (j from to : ℕ) (k : Kind) → message_with t start id q as' j (Refused k from to) → j ≡ failing_place k from to
+  message_late start id (Some q) as' j from to k y = elim y [ ]
+  message_late start id None (a ∷ as') j from to k y = elim y [ ]
+  message_late start id None [] j from to k failed_from = refl
+
+  term_late : (start : ℕ) (id : Span) (q : Option (PatternTree Span)) (as' : List (AttributeTree Span))
+      (j from to : ℕ) (k : Kind) → term_with t start id q as' j (Refused k from to) → j ≡ failing_place k from to
+  term_late start id (Some q) as' j from to k y = elim y [ ]
+  term_late start id None as' j from to k failed_from = refl
+
+  -- a message without field, whose list of attributes ended at a place
+  abbrev pub LacksDot : Kind → ℕ → Type 0
+  LacksDot k to = lacks_field k ≡ true → Dotless edition t to
+
+  message_field : (start : ℕ) (id : Span) (q : Option (PatternTree Span)) (as' : List (AttributeTree Span))
+      (i j from to : ℕ) (k : Kind) → id.end ≤ p → Early p k from to → LacksDot k to →
+      attributes edition t i (Read as' j) → message_with t start id q as' j (Refused k from to) →
+      attributes edition u i (Read as' j) × message_with u start id q as' j (Refused k from to)
+  message_field start id (Some q) as' i j from to k l e d x y = elim y [ ]
+  message_field start id None (a ∷ as') i j from to k l e d x y = elim y [ ]
+  message_field start id None [] i j from to k l e d x failed_from =
+      let z = empty_end i j x in (
+        attributes_none i j (omega arith) (subst (Dotless edition t) (sym z) (d refl)) x,
+        subst (λ bs. message_with u start id None [] j (Refused (ExpectedMessageField bs) start j))
+            (sym (s.range id.start id.end l)) failed_from,
+      )
+
+  message_refuse : (i from to : ℕ) (k : Kind) → i ≤ p → Early p k from to → LacksDot k to →
+      message_entry edition t i (Refused k from to) → message_entry edition u i (Refused k from to)
+  message_refuse i from to k l r d (stops x) = elim x [ ]
+  message_refuse i from to k l r d (goes_on at_place (stops x)) =
+      goes_on at_place (stops ((keeps_identifier p t u s).refuse i from to k r x))
+  message_refuse i from to k l r d (goes_on at_place (goes_on x (stops y))) = elim y [ ]
+  message_refuse i from to k l r d (goes_on at_place (goes_on {j = a} x (goes_on {j = b} y (stops z)))) =
+      let k3 = (keeps_token p t u s 61).late b from to k z in
+      let k2 = (keeps_inline_blank p t u s).forward a b _ y in
+      goes_on at_place (goes_on ((keeps_identifier p t u s).keep i a _ l (omega arith) x)
+      (goes_on ((keeps_inline_blank p t u s).keep a b _ (omega arith) (omega arith) y)
+      (stops ((keeps_token p t u s 61).refuse b from to k r z))))
+  message_refuse i from to k l r d
+      (goes_on at_place (goes_on {j = a} x (goes_on {j = b} y (goes_on {j = c} z (stops w))))) =
+      let k4 = (below_pattern {M = Unit {0}}).late c from to k w in
+      let k3 = (keeps_token p t u s 61).forward b c _ z in
+      let k2 = (keeps_inline_blank p t u s).forward a b _ y in
+      goes_on at_place (goes_on ((keeps_identifier p t u s).keep i a _ l (omega arith) x)
+      (goes_on ((keeps_inline_blank p t u s).keep a b _ (omega arith) (omega arith) y)
+      (goes_on ((keeps_token p t u s 61).keep b c _ (omega arith) (omega arith) z)
+      (stops ((below_pattern {M = Unit {0}}).refuse (tt {0}) c from to k r w)))))
+  message_refuse i from to k l r d
+      (goes_on at_place (goes_on x (goes_on y (goes_on z (goes_on w (stops v)))))) =
+      elim v [ ]
+  message_refuse i from to k l r d
+      (goes_on at_place (goes_on x (goes_on y (goes_on z (goes_on w (goes_on v (stops q))))))) =
+      elim q [ ]
+  message_refuse i from to k l r d
+      (goes_on at_place (goes_on {j = a} {a = id} x (goes_on {j = b} y (goes_on {j = c} z
+      (goes_on {j = m} {a = pat} w (goes_on {j = f} v (goes_on {j = g} {a = as'} q o))))))) =
+      let k7 = message_late i id pat as' g from to k o in
+      let k6 = attributes_forward f g as' q in
+      let k5 = (keeps_blank_block p t u s).forward m f _ v in
+      let k4 = (below_pattern {M = Unit {0}}).forward c m _ w in
+      let k3 = (keeps_token p t u s 61).forward b c _ z in
+      let k2 = (keeps_inline_blank p t u s).forward a b _ y in
+      let id_end = (if_identifier p t u s {M = Unit {0}}).good (tt {0}) i a id (omega arith) x in
+      let before = token_below p t u s 61 b c _ refl (omega arith) z in
+      let field = message_field i id pat as' f g from to k id_end r d q o in
+      goes_on at_place (goes_on ((keeps_identifier p t u s).keep i a _ l (omega arith) x)
+      (goes_on ((keeps_inline_blank p t u s).keep a b _ (omega arith) (omega arith) y)
+      (goes_on ((keeps_token p t u s 61).keep b c _ (omega arith) (omega arith) z)
+      (goes_on ((below_pattern {M = Unit {0}}).keep (tt {0}) c m _ before (omega arith) w)
+      (goes_on ((keeps_blank_block p t u s).keep m f _ (omega arith) (omega arith) v)
+      (goes_on field.0 field.1))))))
+
+  term_field : (start : ℕ) (id : Span) (q : Option (PatternTree Span)) (as' : List (AttributeTree Span))
+      (i j from to : ℕ) (k : Kind) → id.end ≤ p → Early p k from to → LacksDot k to →
+      attributes edition t i (Read as' j) → term_with t start id q as' j (Refused k from to) →
+      attributes edition u i (Read as' j) × term_with u start id q as' j (Refused k from to)
+  term_field start id (Some q) as' i j from to k l e d x y = elim y [ ]
+  term_field start id None as' i j from to k l e d x failed_from = (
+    attributes_keep i j as' (let n = attributes_forward i j as' x in omega arith) (omega arith)
+        (attributes_none j j (omega arith) (d refl) (attributes_last i j as' x)) x,
+    subst (λ bs. term_with u start id None as' j (Refused (ExpectedTermField bs) start j))
+        (sym (s.range id.start id.end l)) failed_from,
+  )
+
+  term_refuse : (i from to : ℕ) (k : Kind) → i ≤ p → Early p k from to → LacksDot k to →
+      term_entry edition t i (Refused k from to) → term_entry edition u i (Refused k from to)
+  term_refuse i from to k l r d (stops x) = elim x [ ]
+  term_refuse i from to k l r d (goes_on at_place (stops x)) =
+      goes_on at_place (stops ((keeps_token p t u s 45).refuse i from to k r x))
+  term_refuse i from to k l r d (goes_on at_place (goes_on {j = n} o (stops x))) =
+      let k1 = (keeps_identifier p t u s).late n from to k x in
+      goes_on at_place (goes_on ((keeps_token p t u s 45).keep i n _ l (omega arith) o)
+      (stops ((keeps_identifier p t u s).refuse n from to k r x)))
+  term_refuse i from to k l r d (goes_on at_place (goes_on o (goes_on x (stops y)))) = elim y [ ]
+  term_refuse i from to k l r d (goes_on at_place (goes_on {j = n} o (goes_on {j = a} x (goes_on {j = b} y (stops z)))))
+      =
+      let k3 = (keeps_token p t u s 61).late b from to k z in
+      let k2 = (keeps_inline_blank p t u s).forward a b _ y in
+      let k1 = (keeps_identifier p t u s).forward n a _ x in
+      goes_on at_place (goes_on ((keeps_token p t u s 45).keep i n _ l (omega arith) o)
+      (goes_on ((keeps_identifier p t u s).keep n a _ (omega arith) (omega arith) x)
+      (goes_on ((keeps_inline_blank p t u s).keep a b _ (omega arith) (omega arith) y)
+      (stops ((keeps_token p t u s 61).refuse b from to k r z)))))
+  term_refuse i from to k l r d
+      (goes_on at_place (goes_on {j = n} o (goes_on {j = a} x (goes_on {j = b} y (goes_on {j = c} z (stops w)))))) =
+      let k4 = (below_pattern {M = Unit {0}}).late c from to k w in
+      let k3 = (keeps_token p t u s 61).forward b c _ z in
+      let k2 = (keeps_inline_blank p t u s).forward a b _ y in
+      let k1 = (keeps_identifier p t u s).forward n a _ x in
+      goes_on at_place (goes_on ((keeps_token p t u s 45).keep i n _ l (omega arith) o)
+      (goes_on ((keeps_identifier p t u s).keep n a _ (omega arith) (omega arith) x)
+      (goes_on ((keeps_inline_blank p t u s).keep a b _ (omega arith) (omega arith) y)
+      (goes_on ((keeps_token p t u s 61).keep b c _ (omega arith) (omega arith) z)
+      (stops ((below_pattern {M = Unit {0}}).refuse (tt {0}) c from to k r w))))))
+  term_refuse i from to k l r d
+      (goes_on at_place (goes_on o (goes_on x (goes_on y (goes_on z (goes_on w (stops v))))))) =
+      elim v [ ]
+  term_refuse i from to k l r d
+      (goes_on at_place (goes_on o (goes_on x (goes_on y (goes_on z (goes_on w (goes_on v (stops q)))))))) =
+      elim q [ ]
+  term_refuse i from to k l r d
+      (goes_on at_place (goes_on {j = n} o (goes_on {j = a} {a = id} x (goes_on {j = b} y (goes_on {j = c} z
+      (goes_on {j = m} {a = pat} w (goes_on {j = f} v (goes_on {j = g} {a = as'} q e)))))))) =
+      let k7 = term_late i id pat as' g from to k e in
+      let k6 = attributes_forward f g as' q in
+      let k5 = (keeps_blank_block p t u s).forward m f _ v in
+      let k4 = (below_pattern {M = Unit {0}}).forward c m _ w in
+      let k3 = (keeps_token p t u s 61).forward b c _ z in
+      let k2 = (keeps_inline_blank p t u s).forward a b _ y in
+      let k1 = (keeps_identifier p t u s).forward n a _ x in
+      let id_end = (if_identifier p t u s {M = Unit {0}}).good (tt {0}) n a id (omega arith) x in
+      let before = token_below p t u s 61 b c _ refl (omega arith) z in
+      let field = term_field i id pat as' f g from to k id_end r d q e in
+      goes_on at_place (goes_on ((keeps_token p t u s 45).keep i n _ l (omega arith) o)
+      (goes_on ((keeps_identifier p t u s).keep n a _ (omega arith) (omega arith) x)
+      (goes_on ((keeps_inline_blank p t u s).keep a b _ (omega arith) (omega arith) y)
+      (goes_on ((keeps_token p t u s 61).keep b c _ (omega arith) (omega arith) z)
+      (goes_on ((below_pattern {M = Unit {0}}).keep (tt {0}) c m _ before (omega arith) w)
+      (goes_on ((keeps_blank_block p t u s).keep m f _ (omega arith) (omega arith) v)
+      (goes_on field.0 field.1)))))))
 
   -- ---- comments
 
   keeps_text : (eol : Bool) → Keeps p (comment_text t eol) (comment_text u eol)
   keeps_text true = keeps_bind p (keeps_here p) (λ i. keeps_spanned p t u s i)
-  keeps_text false = keeps_bind p (keeps_token p t u s 32) (λ x. keeps_rest_of_line p t u s)
+  keeps_text false = keeps_then p t u s 32 refl (below_rest_of_line p t u s)
 
   keeps_rest : (o : Option ℕ) → Keeps p (comment_rest t o) (comment_rest u o)
   keeps_rest None = keeps_gives p
@@ -233,29 +474,59 @@ module _ (edition : Edition) (p : ℕ) (t u : List ℕ) (s : Shared p t u) where
       keeps_bind p (keeps_at_each p (same_eol p t u s) keeps_text) (λ c.
       keeps_bind p (keeps_optional_eol p t u s) (λ x. keeps_gives p))
 
-  text_late : (eol : Bool) → eol ≡ false → (j : ℕ) (c : Span) → comment_text t eol p (Read c j) → p < j
-  text_late true e j c x = cc
-  text_late false e j c (goes_on {j = k} x y) =
-      let a = token_forward p t u s 32 p k _ x in let b = (keeps_rest_of_line p t u s).forward k j c y in omega arith
+  rest_there : (i j : ℕ) (c : List Span) → i < p → j ≤ p → at_each (slice_get t) (comment_rest t) i (Read c j) →
+      at_each (slice_get u) (comment_rest u) i (Read c j)
+  rest_there i j c l n (chosen x) =
+      chosen (subst (λ o. comment_rest u o i (Read c j)) (s.byte i l)
+      ((keeps_rest (slice_get t i)).keep i j c (omega arith) n x))
 
-  rest_late : (o : Option ℕ) → slice_get t p ≡ o → (j : ℕ) (c : List Span) → comment_rest t o p (Read c j) → p < j
-  rest_late None e j c x = let h = s.head in some_none h.stands e
-  rest_late (Some b) e j c (goes_on {j = k} (chosen x) (goes_on {j = m} y given)) =
-      let a = text_late (has_eol t p) (no_eol_head p t u s) k _ x in
-      let b = (keeps_optional_eol p t u s).forward k m _ y in
-      omega arith
+  rest_on : (i j : ℕ) (c : List Span) → at_each (slice_get t) (comment_rest t) i (Read c j) → i ≤ j
+  rest_on i j c (chosen x) = (keeps_rest (slice_get t i)).forward i j c x
 
-  keeps_rest_at : Keeps p (at_each (slice_get t) (comment_rest t)) (at_each (slice_get u) (comment_rest u))
-  keeps_rest_at = keeps_at_head p s.byte (rest_late (slice_get t p) refl) keeps_rest
+  line_on : (level i j : ℕ) (c : List Span) → comment_line t level i (Read c j) → i + level ≤ j
+  line_on level i j c (goes_on {j = k} (passed w) x) = let a = w.by in let b = rest_on k j c x in omega arith
 
-  keeps_line : (level : ℕ) → Keeps p (comment_line t level) (comment_line u level)
-  keeps_line level = keeps_bind p (keeps_over p (kept_steps p t u s level)) (λ x. keeps_rest_at)
+  -- the byte before p is no `#`
+  hashes_below : (level i : ℕ) → hashes t i ≡ level → 0 < level → i + level ≢ p
+  hashes_below level i e l f =
+      by_count (has_byte t 35 i) (has_byte t 35 (i + 1)) (has_byte t 35 (i + 2)) refl refl refl e
+    where
+      by_count : (a b c : Bool) → has_byte t 35 i ≡ a → has_byte t 35 (i + 1) ≡ b → has_byte t 35 (i + 2) ≡ c →
+          (if not a then 0 else if not b then 1 else if not c then 2 else 3) ≡ level → ⊥
+      by_count false b c x y z g = omega arith
+      by_count true false c x y z g =
+          let q : i + 1 ≡ p = omega arith in differs x (last_has p t u s (λ b. b == 35) i q)
+      by_count true true false x y z g =
+          let q : (i + 1) + 1 ≡ p = omega arith in differs y (last_has p t u s (λ b. b == 35) (i + 1) q)
+      by_count true true true x y z g =
+          let q : (i + 2) + 1 ≡ p = omega arith in differs z (last_has p t u s (λ b. b == 35) (i + 2) q)
+
+  line_there : (level i j : ℕ) (c : List Span) → 0 < level → hashes t i ≡ level → j ≤ p →
+      comment_line t level i (Read c j) → comment_line u level i (Read c j)
+  line_there level i j c l e n (goes_on {j = k} (passed w) x) =
+      let a = w.by in
+      let b = rest_on k j c x in
+      let m : k ≤ p = omega arith in
+      elim (lt_or_same k p m) [
+        | inl q ↦ goes_on (passed w) (rest_there k j c q n x)
+        | inr q ↦ (let f : i + level ≡ p = omega arith in absurd (hashes_below level i e l f))
+      ]
+
+  rest_refuse : Refuses p (at_each (slice_get t) (comment_rest t)) (at_each (slice_get u) (comment_rest u))
+  rest_refuse i from to k e (chosen x) =
+      let l = (keeps_rest (slice_get t i)).late i from to k x in
+      chosen (subst (λ o. comment_rest u o i (Refused k from to)) (s.byte i (omega arith))
+      ((keeps_rest (slice_get t i)).refuse i from to k e x))
+
+  line_refuse : (level : ℕ) → Refuses p (comment_line t level) (comment_line u level)
+  line_refuse level i from to k e (stops x) = elim x [ ]
+  line_refuse level i from to k e (goes_on {j = m} (passed w) x) = goes_on (passed w) (rest_refuse m from to k e x)
 
   lines_forward : (level i j : ℕ) (c : List Span) → comment_lines t level i (Read c j) → i ≤ j
   lines_forward level i j c (other_level d) = omega arith
   lines_forward level i j c (no_comment_line e x) = omega arith
   lines_forward level i j c (comments.one_more {j = k} e x r) =
-      let a = (keeps_line level).forward i k _ x in let b = lines_forward level k j _ r in omega arith
+      let a = line_on level i k _ x in let b = lines_forward level k j _ r in omega arith
 
   hashes_same : (i : ℕ) → i < p → hashes t i ≡ hashes u i
   hashes_same i l = three_same (i + 1) (i + 2) refl refl
@@ -294,35 +565,40 @@ module _ (edition : Edition) (p : ℕ) (t u : List ℕ) (s : Shared p t u) where
                 (last_other p t u s (λ b. b == 35) i o)))
           ]
 
-  line_strict : (level i j : ℕ) (c : List Span) → 0 < level → comment_line t level i (Read c j) → i < j
-  line_strict level i j c l (goes_on {j = k} (passed w) x) =
-      let a = w.by in
-      let b = keeps_rest_at.forward k j c x in
-      omega arith
+  comment_refuse : (i from to : ℕ) (k : Kind) → i < p → Early p k from to → comment_entry t i (Refused k from to) →
+      comment_entry u i (Refused k from to)
+  comment_refuse i from to k l e (chosen x) =
+      chosen (subst (λ h. comment_of u h i (Refused k from to)) (hashes_same i l) (by_part x))
+    where
+      by_part : comment_of t (hashes t i) i (Refused k from to) → comment_of u (hashes t i) i (Refused k from to)
+      by_part (stops y) = stops (line_refuse (hashes t i) i from to k e y)
+      by_part (goes_on y (stops z)) = elim z [ ]
+      by_part (goes_on y (goes_on z v)) = elim v [ ]
 
   -- at the end of a comment no line of its level stands
-  lines_keep : (level i j : ℕ) (c : List Span) → 0 < level → i ≤ p → j ≤ p → hashes u j ≢ level →
-      comment_lines t level i (Read c j) → comment_lines u level i (Read c j)
-  lines_keep level i j c o l n d (other_level e) = other_level d
-  lines_keep level i j c o l n d (no_comment_line e x) = other_level d
+  lines_keep : (level i j : ℕ) (c : List Span) → 0 < level → i ≤ p → j ≤ p →
+      comment_lines u level j (Read [] j) → comment_lines t level i (Read c j) → comment_lines u level i (Read c j)
+  lines_keep level i j c o l n d (other_level e) = d
+  lines_keep level i j c o l n d (no_comment_line e x) = d
   lines_keep level i j c o l n d (comments.one_more {j = k} {content = v} e x r) =
       let b = lines_forward level k j _ r in
-      let a = line_strict level i k v o x in
-      comments.one_more (sym (hashes_same i (omega arith)) ∙ e)
-      ((keeps_line level).keep i k v l (omega arith) x) (lines_keep level k j _ o (omega arith) n d r)
+      let a = line_on level i k v x in
+      comments.one_more (sym (hashes_same i (omega arith)) ∙ e) (line_there level i k v o e (omega arith) x)
+      (lines_keep level k j _ o (omega arith) n d r)
 
-  comment_keep_of : (i j level : ℕ) (e : EntryTree Span) → 0 < level → i ≤ p → j ≤ p → hashes u j ≢ level →
-      comment_of t level i (Read e j) → comment_of u level i (Read e j)
+  comment_keep_of : (i j level : ℕ) (e : EntryTree Span) → 0 < level → hashes t i ≡ level → j ≤ p →
+      comment_lines u level j (Read [] j) → comment_of t level i (Read e j) → comment_of u level i (Read e j)
   comment_keep_of i j level e o l n d (goes_on {j = k} {a = v} x (goes_on {a = w} y given)) =
       let b = lines_forward level k j w y in
-      goes_on ((keeps_line level).keep i k v l (omega arith) x)
+      goes_on (line_there level i k v o l (omega arith) x)
       (goes_on (lines_keep level k j w o (omega arith) n d y) given)
 
-  comment_keep : (i j : ℕ) (e : EntryTree Span) → i < p → j ≤ p → 0 < hashes t i → hashes u j ≢ hashes t i →
+  comment_keep : (i j : ℕ) (e : EntryTree Span) → i < p → j ≤ p → 0 < hashes t i →
+      comment_lines u (hashes t i) j (Read [] j) →
       comment_entry t i (Read e j) → comment_entry u i (Read e j)
   comment_keep i j e l n o d (chosen x) =
       chosen (subst (λ h. comment_of u h i (Read e j)) (hashes_same i l)
-      (comment_keep_of i j (hashes t i) e o (omega arith) n d x))
+      (comment_keep_of i j (hashes t i) e o refl n d x))
 
 -- ---- where a comment ends
 
@@ -381,47 +657,13 @@ module _ (t : List ℕ) where
 
 -- ---- tiles
 
+-- junk that ends before p
+abbrev pub JunkBelow : ℕ → Tile → Type 0
+JunkBelow p (refused f) = f.slice.end < p
+JunkBelow p (entry s e) = Unit {0}
+JunkBelow p dropped = Unit {0}
+
 module _ (edition : Edition) (p : ℕ) (t u : List ℕ) (s : Shared p t u) where
-  pub led_forward : (q i : ℕ) (tiles : List Tile) → faults tiles ≡ [] → Led t (TileAt edition t) q i tiles →
-      i ≤ length t →
-      i ≤ q
-  led_forward q i tiles f (arrives b) l = block_forward t i q b
-  led_forward q i tiles f (onward {start = start} {end = end} {tiles = more} b (reads {e = e} r) d) l =
-      let a = block_forward t i start b in
-      let c = entry_onward start end e r in
-      let g = led_forward q end more f d (entry_inside start end e r) in
-      omega arith
-    where
-      head_inside : (start : ℕ) → has t is_entry_byte start ≡ true → start ≤ length t
-      head_inside start e =
-          let x = Rattle.fluent_syntax_grammar.proofs.Facts.has_inside is_entry_byte t start e in omega arith
-
-      entry_onward : (start end : ℕ) (e : EntryTree Span) → entry_at edition t start (Read e end) → start < end
-      entry_onward start end e r =
-          let x = entry_read edition t (InText t) (text_cuts t) start end e
-          (head_inside start (entry_head edition t start end e r)) r in
-          let y = x.late in omega arith
-
-      entry_inside : (start end : ℕ) (e : EntryTree Span) → entry_at edition t start (Read e end) → end ≤ length t
-      entry_inside start end e r =
-          let x = entry_read edition t (InText t) (text_cuts t) start end e
-          (head_inside start (entry_head edition t start end e r)) r in
-          x.place
-  led_forward q i tiles f (onward {start = start} {end = end} {tiles = more} b (refuses r j) d) l = absurd cc
-
-  -- what stands behind a tile: a blank block, and then an entry or the place p
-  record Next (end : ℕ) (tiles : List Tile) : Type 0 where
-    start : ℕ
-    block : BlankBlock t end start
-    inside : start ≤ p
-    head : has t is_head_byte start ≡ true
-    tree : EntryTree Span
-    stop : ℕ
-    stands : ((start ≡ p) × (tiles ≡ [])) ⊎ ((start < p) × entry_at edition t start (Read tree stop))
-
-  head_entry : (v : List ℕ) → Head v p → has v is_head_byte p ≡ true
-  head_entry v h = ap (holds is_head_byte) h.stands ∙ h.begins
-
   head_place : (start : ℕ) → has t is_entry_byte start ≡ true → start ≤ length t
   head_place start e = let x = has_inside is_entry_byte t start e in omega arith
 
@@ -437,120 +679,359 @@ module _ (edition : Edition) (p : ℕ) (t u : List ℕ) (s : Shared p t u) where
       (head_place start (entry_head edition t start end e r)) r in
       x.place
 
-  led_next : (end : ℕ) (tiles : List Tile) → faults tiles ≡ [] → Led t (TileAt edition t) p end tiles → Next end tiles
-  led_next end tiles f (arrives b) = record {
+  pub junk_on : (start from to : ℕ) (k : Kind) → start ≤ length t → entry_at edition t start (Refused k from to) →
+      start ≤ failing_place k from to
+  junk_on start from to k l r = (entry_refused edition t (InText t) (text_cuts t) start from to k l r).onward
+
+  pub led_forward : (q i : ℕ) (tiles : List Tile) → Led t (TileAt edition t) q i tiles → i ≤ length t → i ≤ q
+  led_forward q i tiles (arrives b) l = block_forward t i q b
+  led_forward q i tiles (onward {start = start} {end = end} {tiles = more} b (reads {e = e} r) d) l =
+      let a = block_forward t i start b in
+      let c = entry_on start end e r in
+      let g = led_forward q end more d (entry_in start end e r) in
+      omega arith
+  led_forward q i tiles
+      (onward {start = start} {end = end} {tiles = more} b (refuses {from = from} {to = to} {k = k} r j) d) l =
+      let a = block_forward t i start b in
+      let m = block_place t (InText t) (text_cuts t) i start l b in
+      let c = junk_on start from to k m r in
+      let f = j.forward in
+      let g = led_forward q end more d j.in_text in
+      omega arith
+
+  -- what stands at a place before p, or p itself
+  data Standing : ℕ → List Tile → Type 0 where
+    the_end : Standing p []
+    an_entry : {start stop : ℕ} {e : EntryTree Span} {tiles : List Tile} → start < p →
+        entry_at edition t start (Read e stop) → Standing start tiles
+    some_junk : {start from to : ℕ} {k : Kind} {tiles : List Tile} → start < p → Early p k from to →
+        entry_at edition t start (Refused k from to) → Standing start tiles
+
+  -- what stands behind a tile: a blank block, and then an entry, junk, or the place p
+  record Next (end : ℕ) (tiles : List Tile) : Type 0 where
+    start : ℕ
+    block : BlankBlock t end start
+    inside : start ≤ p
+    dotless : Dotless edition t start
+    stands : Standing start tiles
+
+  pub quiet_head : Quiet edition t p
+  quiet_head = record {
+    no_space = head_has p t u s (other_byte 32 refl);
+    no_dot = head_has p t u s (other_byte 46 refl);
+  }
+
+  quiet_other : Quiet edition u p
+  quiet_other = record {
+    no_space = other_has p t u s (other_byte 32 refl);
+    no_dot = other_has p t u s (other_byte 46 refl);
+  }
+
+  -- of junk that is settled
+  pub record Settling (start end from to : ℕ) (k : Kind) : Type 0 where
+    pub early : end + 4 ≤ p
+    pub no_dot : begins_attribute (drop start t) ≡ false
+    pub no_field : lacks_field k ≡ true → begins_attribute (drop to t) ≡ false
+
+  settling : (start end from to : ℕ) (k : Kind) → is_settled t p (record {
+    kind = k;
+    pos = record { start = from; end = to };
+    slice = record { start = start; end = end };
+  }) ≡ true → Settling start end from to k
+  settling start end from to k e =
+      let a = left_true (nat_le (end + 4) p) _ e in
+      let b = right_true (nat_le (end + 4) p) _ e in
+      let c = left_true (not (begins_attribute (drop start t))) _ b in
+      let d = right_true (not (begins_attribute (drop start t))) _ b in
+      record {
+        early = at_most (end + 4) p a;
+        no_dot = not_true (begins_attribute (drop start t)) c;
+        no_field = λ f. one_not (lacks_field k) (begins_attribute (drop to t)) d f;
+      }
+    where
+      at_most : (a b : ℕ) → nat_le a b ≡ true → a ≤ b
+      at_most a b e = grind (arith, nat_tests)
+
+      not_true : (x : Bool) → not x ≡ true → x ≡ false
+      not_true true e = cc
+      not_true false e = refl
+
+      one_not : (x y : Bool) → not (x && y) ≡ true → x ≡ true → y ≡ false
+      one_not true true e f = cc
+      one_not true false e f = refl
+      one_not false y e f = cc
+
+  abbrev pub AllSettled : List Tile → Type 0
+  AllSettled tiles = Settled t p tiles
+
+  abbrev pub junk_tile : (start end from to : ℕ) → Kind → Tile
+  junk_tile start end from to k =
+      refused (record { kind = k; pos = record { start = from; end = to }; slice = record { start = start; end = end } })
+
+  pub first_settled : (start end from to : ℕ) (k : Kind) (more : List Tile) →
+      AllSettled (junk_tile start end from to k ∷ more) → Settling start end from to k
+  first_settled start end from to k more e =
+      settling start end from to k (left_true (is_settled t p (record {
+        kind = k;
+        pos = record { start = from; end = to };
+        slice = record { start = start; end = end };
+      })) (list_all (is_settled t p) (faults more)) e)
+
+  pub rest_settled : (start end from to : ℕ) (k : Kind) (more : List Tile) →
+      AllSettled (junk_tile start end from to k ∷ more) → AllSettled more
+  rest_settled start end from to k more e =
+      right_true (is_settled t p (record {
+        kind = k;
+        pos = record { start = from; end = to };
+        slice = record { start = start; end = end };
+      })) (list_all (is_settled t p) (faults more)) e
+
+  -- settled junk ends before p
+  pub ends_early : (tiles : List Tile) → AllSettled tiles → list_every (JunkBelow p) tiles
+  ends_early [] e = tt
+  ends_early (entry s x ∷ tiles) e = (tt, ends_early tiles e)
+  ends_early (dropped ∷ tiles) e = (tt, ends_early tiles e)
+  ends_early (refused f ∷ tiles) e =
+      let x = (first_settled f.slice.start f.slice.end f.pos.start f.pos.end f.kind tiles e).early in (
+        (omega arith),
+        ends_early tiles (rest_settled f.slice.start f.slice.end f.pos.start f.pos.end f.kind tiles e),
+      )
+
+  led_next : (end : ℕ) (tiles : List Tile) → end ≤ length t → AllSettled tiles →
+      Led t (TileAt edition t) p end tiles → Next end tiles
+  led_next end tiles l f (arrives b) = record {
     start = p;
     block = b;
     inside = omega arith;
-    head = head_entry t s.head;
-    tree = junk (record { start = 0; end = 0 });
-    stop = 0;
-    stands = inl (refl, refl);
+    dotless = dotless_quiet edition t p quiet_head;
+    stands = the_end;
   }
-  led_next end tiles f (onward {start = start} {end = q} {tiles = more} b (reads {e = e} r) d) =
+  led_next end tiles l f (onward {start = start} {end = q} {tiles = more} b (reads {e = e} r) d) =
       let a = entry_on start q e r in
-      let g = led_forward p q more f d (entry_in start q e r) in
+      let g = led_forward p q more d (entry_in start q e r) in
+      let m : start < p = omega arith in
       record {
         start = start;
         block = b;
         inside = omega arith;
-        head = head_of_entry t start (entry_head edition t start q e r);
-        tree = e;
-        stop = q;
-        stands = inr ((omega arith), r);
+        dotless =
+            dotless_quiet edition t start
+            (quiet_entry edition t start (head_of_entry t start (entry_head edition t start q e r)));
+        stands = an_entry m r;
       }
-  led_next end tiles f (onward b (refuses r j) d) = absurd cc
+  led_next end tiles l f
+      (onward {start = start} {end = q} {tiles = more} b (refuses {from = from} {to = to} {k = k} r j) d) =
+      let m = block_place t (InText t) (text_cuts t) end start l b in
+      let c = junk_on start from to k m r in
+      let h = j.forward in
+      let x = first_settled start q from to k more f in
+      let y = x.early in
+      let n : start < p = omega arith in
+      record {
+        start = start;
+        block = b;
+        inside = omega arith;
+        dotless = dotless_there edition t start m x.no_dot;
+        stands = some_junk n (omega arith) r;
+      }
 
   -- no attribute stands behind the tile in the other text
-  next_attributes : (end : ℕ) (tiles : List Tile) → end ≤ p → Next end tiles → attributes edition u end (Read [] end)
-  next_attributes end tiles l n =
-      none_before edition u end n.start ((kept_block p t u s).leads end n.start l n.inside n.block)
-      (elim (lt_or_same n.start p n.inside) [
-        | inl m ↦ ap (holds is_head_byte) (sym (s.byte n.start m)) ∙ n.head
-        | inr e ↦ subst (λ k. has u is_head_byte k ≡ true) (sym e) (head_entry u s.other)
-      ])
+  before_p : (end start : ℕ) → start < p → BlankBlock t end start → Dotless edition t start →
+      attributes edition u end (Read [] end)
+  before_p end start l (no_line {k = k} w e) d = none_there edition p t u s end k l w (d.no_dot k w)
+  before_p end start l (line {k = k} {m = m} w e r) d =
+      let a = w.forward in
+      let b = eol_forward t k m e in
+      let c = block_forward t m start r in
+      none_there edition p t u s end k (omega arith) w (eol_no_dot edition t k m e)
 
-  zero_apart : (a b : ℕ) → a ≡ 0 → 0 < b → a ≢ b
+  pub none_behind : (end start : ℕ) → end ≤ p → start ≤ p → BlankBlock t end start → Dotless edition t start →
+      attributes edition u end (Read [] end)
+  none_behind end start l m b d = elim (lt_or_same start p m) [
+    | inl n ↦ before_p end start n b d
+    | inr e ↦ none_before edition u end start ((kept_block p t u s).leads end start l m b)
+        (subst (Dotless edition u) (sym e) (dotless_quiet edition u p quiet_other))
+  ]
+
+  next_attributes : (end : ℕ) (tiles : List Tile) → end ≤ p → Next end tiles → attributes edition u end (Read [] end)
+  next_attributes end tiles l n = none_behind end n.start l n.inside n.block n.dotless
+
+  pub zero_apart : (a b : ℕ) → a ≡ 0 → 0 < b → a ≢ b
   zero_apart a b e l f = omega arith
 
-  -- at the end of a comment before p another level stands, or none
-  apart_before : (start end : ℕ) (c : EntryTree Span) (tiles : List Tile) → end < p → 0 < hashes t start →
-      comment_entry t start (Read c end) → Next end tiles → (b : Bool) → has_byte t 35 end ≡ b →
-      hashes t end ≢ hashes t start
-  apart_before start end c tiles l o x n false e = zero_apart (hashes t end) (hashes t start) (no_hashes t end e) o
-  apart_before start end c tiles l o x n true e =
-      let same = block_at_hash edition t end n.start n.block e in
-      by_stand n.stands same
+  -- of a malformed comment, no line is read
+  refused_line : (level j from to : ℕ) (k : Kind) → Early p k from to → comment_of t level j (Refused k from to) →
+      hashes u j ≡ level → comment_lines u level j (Read [] j)
+  refused_line level j from to k e (stops x) h = no_comment_line h (line_refuse edition p t u s level j from to k e x)
+  refused_line level j from to k e (goes_on x (stops y)) h = elim y [ ]
+  refused_line level j from to k e (goes_on x (goes_on y z)) h = elim z [ ]
+
+  -- behind a comment before p stands no line of its level in the other text
+  ends_hash : (start end : ℕ) (c : EntryTree Span) (tiles : List Tile) → end < p → 0 < hashes t start →
+      comment_entry t start (Read c end) → has_byte t 35 end ≡ true → Standing end tiles →
+      comment_lines u (hashes t start) end (Read [] end)
+  ends_hash start end c tiles l o x e the_end = absurd (omega arith)
+  ends_hash start end c tiles l o x e (an_entry {stop = stop} {e = v} m r) =
+      let d = other_comment t start end stop c v x (hash_comment edition t end stop v e r) in
+      other_level (subst (λ h. h ≢ hashes t start) (hashes_same edition p t u s end l) d)
+  ends_hash start end c tiles l o x e (some_junk {from = from} {to = to} {k = k} m r y) =
+      by_level (hashes t end == hashes t start) refl (hash_refused edition t end from to k e y)
     where
-      by_stand : ((n.start ≡ p) × (tiles ≡ [])) ⊎ ((n.start < p) × entry_at edition t n.start (Read n.tree n.stop)) →
-          n.start ≡ end → hashes t end ≢ hashes t start
-      by_stand (inl y) f = let g = y.0 in absurd (omega arith)
-      by_stand (inr y) f =
-          other_comment t start end n.stop c n.tree x
-          (hash_comment edition t end n.stop n.tree e
-          (subst (λ k. entry_at edition t k (Read n.tree n.stop)) f y.1))
+      by_level : (q : Bool) → (hashes t end == hashes t start) ≡ q → comment_entry t end (Refused k from to) →
+          comment_lines u (hashes t start) end (Read [] end)
+      by_level false g z =
+          other_level (subst (λ h. h ≢ hashes t start) (hashes_same edition p t u s end l)
+          (unequal (hashes t end) (hashes t start) g))
+      by_level true g (chosen z) =
+          let h = equal (hashes t end) (hashes t start) g in
+          refused_line (hashes t start) end from to k r (subst (λ n. comment_of t n end (Refused k from to)) h z)
+          (sym (hashes_same edition p t u s end l) ∙ h)
+
+  ends_before : (start end : ℕ) (c : EntryTree Span) (tiles : List Tile) → end < p → 0 < hashes t start →
+      comment_entry t start (Read c end) → Next end tiles → (b : Bool) → has_byte t 35 end ≡ b →
+      comment_lines u (hashes t start) end (Read [] end)
+  ends_before start end c tiles l o x n false e =
+      other_level (subst (λ h. h ≢ hashes t start) (hashes_same edition p t u s end l)
+      (zero_apart (hashes t end) (hashes t start) (no_hashes t end e) o))
+  ends_before start end c tiles l o x n true e =
+      let same = block_at_hash edition t end n.start n.block e in
+      ends_hash start end c tiles l o x e (subst (λ k. Standing k tiles) same n.stands)
 
   is_comment : (start end : ℕ) (c : EntryTree Span) → comment_entry t start (Read c end) → end ≡ p →
       is_comment_to p (entry (record { start = start; end = end }) c) ≡ true
   is_comment start end c (chosen (goes_on x (goes_on y given))) e =
       subst (λ k. (end == k) ≡ true) e (same_number end)
 
-  apart : (start end : ℕ) (c : EntryTree Span) (tiles : List Tile) → end ≤ p → 0 < hashes t start →
+  abbrev NoHash : List Tile → Type 0
+  NoHash tiles = ends_in_comment p tiles ≡ true → has_byte u 35 p ≡ false
+
+  ends_at : (start end m : ℕ) (c : EntryTree Span) (tiles : List Tile) → end ≤ m → end ≡ p → 0 < hashes t start →
+      comment_entry t start (Read c end) → NoHash (entry (record { start = start; end = end }) c ∷ tiles) →
+      Standing m tiles → comment_lines u (hashes t start) end (Read [] end)
+  ends_at start end m c tiles f e o x k (an_entry g y) = absurd (omega arith)
+  ends_at start end m c tiles f e o x k (some_junk g r y) = absurd (omega arith)
+  ends_at start end m c tiles f e o x k the_end =
+      other_level (zero_apart (hashes u end) (hashes t start)
+      (no_hashes u end (subst (λ k. has_byte u 35 k ≡ false) (sym e) (k (is_comment start end c x e)))) o)
+
+  ends : (start end : ℕ) (c : EntryTree Span) (tiles : List Tile) → end ≤ p → 0 < hashes t start →
       comment_entry t start (Read c end) → Next end tiles →
-      (ends_in_comment p (entry (record { start = start; end = end }) c ∷ tiles) ≡ true → has_byte u 35 p ≡ false) →
-      hashes u end ≢ hashes t start
-  apart start end c tiles l o x n k = elim (lt_or_same end p l) [
-    | inl m ↦ subst (λ h. h ≢ hashes t start) (hashes_same edition p t u s end m)
-        (apart_before start end c tiles m o x n (has_byte t 35 end) refl)
-    | inr e ↦ by_stand n.stands e
+      NoHash (entry (record { start = start; end = end }) c ∷ tiles) →
+      comment_lines u (hashes t start) end (Read [] end)
+  ends start end c tiles l o x n k = elim (lt_or_same end p l) [
+    | inl m ↦ ends_before start end c tiles m o x n (has_byte t 35 end) refl
+    | inr e ↦ ends_at start end n.start c tiles (block_forward t end n.start n.block) e o x k n.stands
   ]
-    where
-      by_stand : ((n.start ≡ p) × (tiles ≡ [])) ⊎ ((n.start < p) × entry_at edition t n.start (Read n.tree n.stop)) →
-          end ≡ p → hashes u end ≢ hashes t start
-      by_stand (inl y) e =
-          let g : ends_in_comment p (entry (record { start = start; end = end }) c ∷ tiles) ≡ true =
-          subst (λ ts. ends_in_comment p (entry (record { start = start; end = end }) c ∷ ts) ≡ true) (sym y.1)
-          (is_comment start end c x e) in
-          zero_apart (hashes u end) (hashes t start)
-          (no_hashes u end (subst (λ k. has_byte u 35 k ≡ false) (sym e) (k g))) o
-      by_stand (inr y) e = let f = block_forward t end n.start n.block in let g = y.0 in absurd (omega arith)
 
   entry_keep_of : (start end : ℕ) (e : EntryTree Span) (tiles : List Tile) → start < p → end ≤ p → Next end tiles →
-      (ends_in_comment p (entry (record { start = start; end = end }) e ∷ tiles) ≡ true → has_byte u 35 p ≡ false) →
-      (o : Option ℕ) → slice_get t start ≡ o → entry_of edition t (family edition t) o start (Read e end) →
+      NoHash (entry (record { start = start; end = end }) e ∷ tiles) → (o : Option ℕ) → slice_get t start ≡ o →
+      entry_of edition t (family edition t) o start (Read e end) →
       entry_of edition u (family edition u) o start (Read e end)
   entry_keep_of start end e tiles l m n k None f x =
       message_keep edition p t u s start end e (omega arith) m (next_attributes end tiles m n) x
   entry_keep_of start end e tiles l m n k (Some b) f (first g x) =
       let h = hashes_there t start (ap (holds (λ b. b == 35)) f ∙ g) in
-      first g (comment_keep edition p t u s start end e l m h (apart start end e tiles m h x n k) x)
+      first g (comment_keep edition p t u s start end e l m h (ends start end e tiles m h x n k) x)
   entry_keep_of start end e tiles l m n k (Some b) f (second g (first h x)) =
       second g (first h (term_keep edition p t u s start end e (omega arith) m (next_attributes end tiles m n) x))
   entry_keep_of start end e tiles l m n k (Some b) f (second g (second h x)) =
       second g (second h (message_keep edition p t u s start end e (omega arith) m (next_attributes end tiles m n) x))
 
   entry_keep : (start end : ℕ) (e : EntryTree Span) (tiles : List Tile) → start < p → end ≤ p → Next end tiles →
-      (ends_in_comment p (entry (record { start = start; end = end }) e ∷ tiles) ≡ true → has_byte u 35 p ≡ false) →
-      entry_at edition t start (Read e end) → entry_at edition u start (Read e end)
+      NoHash (entry (record { start = start; end = end }) e ∷ tiles) → entry_at edition t start (Read e end) →
+      entry_at edition u start (Read e end)
   entry_keep start end e tiles l m n k (chosen x) =
       chosen (subst (λ o. entry_of edition u (family edition u) o start (Read e end)) (s.byte start l)
       (entry_keep_of start end e tiles l m n k (slice_get t start) refl x))
 
-  later : (x : Tile) (tiles : List Tile) → (ends_in_comment p (x ∷ tiles) ≡ true → has_byte u 35 p ≡ false) →
-      ends_in_comment p tiles ≡ true → has_byte u 35 p ≡ false
+  later : (x : Tile) (tiles : List Tile) → NoHash (x ∷ tiles) → NoHash tiles
   later x [] k e = cc
   later x (y ∷ tiles) k e = k e
 
-  -- Entries that stand before p stand there in the other text, if not a comment ends at p and the other text goes on
-  -- with a `#` there.
-  pub led_keep : (i : ℕ) (tiles : List Tile) → faults tiles ≡ [] →
-      (ends_in_comment p tiles ≡ true → has_byte u 35 p ≡ false) → i ≤ p → Led t (TileAt edition t) p i tiles →
-      Led u (TileAt edition u) p i tiles
-  led_keep i tiles f k l (arrives b) = arrives ((kept_block p t u s).leads i p l (omega arith) b)
-  led_keep i tiles f k l (onward {start = start} {end = end} {tiles = more} b (reads {e = e} r) d) =
+  -- ---- junk
+
+  entry_refuse_of : (o : Option ℕ) (start from to : ℕ) (k : Kind) → start < p → Early p k from to →
+      LacksDot edition p t u s k to → entry_of edition t (family edition t) o start (Refused k from to) →
+      entry_of edition u (family edition u) o start (Refused k from to)
+  entry_refuse_of None start from to k l e d x =
+      message_refuse edition p t u s start from to k (omega arith) e d x
+  entry_refuse_of (Some b) start from to k l e d (first g x) =
+      first g (comment_refuse edition p t u s start from to k l e x)
+  entry_refuse_of (Some b) start from to k l e d (second g (first h x)) =
+      second g (first h (term_refuse edition p t u s start from to k (omega arith) e d x))
+  entry_refuse_of (Some b) start from to k l e d (second g (second h x)) =
+      second g (second h (message_refuse edition p t u s start from to k (omega arith) e d x))
+
+  pub entry_refuse : (start from to : ℕ) (k : Kind) → start < p → Early p k from to → LacksDot edition p t u s k to →
+      entry_at edition t start (Refused k from to) → entry_at edition u start (Refused k from to)
+  entry_refuse start from to k l e d (chosen x) =
+      chosen (subst (λ o. entry_of edition u (family edition u) o start (Refused k from to)) (s.byte start l)
+      (entry_refuse_of (slice_get t start) start from to k l e d x))
+
+  start_same : (k : ℕ) → k < p → starts_entry t k ≡ starts_entry u k
+  start_same k l =
+      let m : k - 1 < p = omega arith in
+      both _ _ _ _ (ap (λ q. k == 0 || holds (λ b. b == 10) q) (s.byte (k - 1) m)) (ap (holds is_entry_byte) (s.byte k l))
+    where
+      both : (a b c d : Bool) → a ≡ b → c ≡ d → (a && c) ≡ (b && d)
+      both a b c d e f = rw (e, f) refl
+
+  long : (q : ℕ) → q < p → (q < length t) × (q < length u)
+  long q l =
+      let e : (p - 1) + 1 ≡ p = omega arith in
+      let m : p - 1 < p = omega arith in
+      let a = slice_get_within t (p - 1) 10 (s.line (p - 1) e) in
+      let b = slice_get_within u (p - 1) 10 (sym (s.byte (p - 1) m) ∙ s.line (p - 1) e) in
+      (omega arith, omega arith)
+
+  junk_end : (place end : ℕ) → end + 4 ≤ p → JunkEnd t place end → JunkEnd u place end
+  junk_end place end l j = record {
+    forward = j.forward;
+    nearest = λ k a b. (let m : k < p = omega arith in sym (start_same k m) ∙ j.nearest k a b);
+    stop = (let n : end < p = omega arith in
+        elim j.stop [
+          | inl e ↦ inl (sym (start_same end n) ∙ e)
+          | inr e ↦ (let m = (long end n).0 in absurd (omega arith))
+        ]);
+    in_text = (let n : end < p = omega arith in let m = (long end n).1 in omega arith);
+  }
+
+  pub junk_keep : (start end from to : ℕ) (k : Kind) (more : List Tile) →
+      AllSettled (junk_tile start end from to k ∷ more) → start ≤ length t → entry_at edition t start (Refused k from to) →
+      JunkEnd t (failing_place k from to) end → TileAt edition u start end (junk_tile start end from to k)
+  junk_keep start end from to k more f m r j =
+      let c = junk_on start from to k m r in
+      let h = j.forward in
+      let q = j.in_text in
+      let x = first_settled start end from to k more f in
+      let y = x.early in
+      refuses (entry_refuse start from to k (omega arith) (omega arith)
+      (λ z. dotless_there edition t to (field_in k from to z (omega arith)) (x.no_field z)) r)
+      (junk_end (failing_place k from to) end y j)
+    where
+      field_in : (k : Kind) (from to : ℕ) → lacks_field k ≡ true → failing_place k from to ≤ length t → to ≤ length t
+      field_in (ExpectedMessageField id) from to e l = l
+      field_in (ExpectedTermField id) from to e l = l
+      field_in k from to e l = cc
+
+  -- Tiles that stand before p stand there in the other text, where their errors are settled; if not a comment ends at p
+  -- and the other text goes on with a `#` there.
+  pub led_keep : (i : ℕ) (tiles : List Tile) → AllSettled tiles → NoHash tiles → i ≤ p → i ≤ length t →
+      Led t (TileAt edition t) p i tiles → Led u (TileAt edition u) p i tiles
+  led_keep i tiles f k l n (arrives b) = arrives ((kept_block p t u s).leads i p l (omega arith) b)
+  led_keep i tiles f k l n (onward {start = start} {end = end} {tiles = more} b (reads {e = e} r) d) =
       let a = entry_on start end e r in
-      let g = led_forward p end more f d (entry_in start end e r) in
+      let c = entry_in start end e r in
+      let g = led_forward p end more d c in
       onward ((kept_block p t u s).leads i start l (omega arith) b)
-      (reads (entry_keep start end e more (omega arith) g (led_next end more f d) k r))
-      (led_keep end more f (later (entry (record { start = start; end = end }) e) more k) g d)
-  led_keep i tiles f k l (onward b (refuses r j) d) = absurd cc
+      (reads (entry_keep start end e more (omega arith) g (led_next end more c f d) k r))
+      (led_keep end more f (later (entry (record { start = start; end = end }) e) more k) g c d)
+  led_keep i tiles f k l n
+      (onward {start = start} {end = end} {tiles = more} b (refuses {from = from} {to = to} {k = kind} r j) d) =
+      let m = block_place t (InText t) (text_cuts t) i start n b in
+      let c = junk_on start from to kind m r in
+      let h = j.forward in
+      let y = (first_settled start end from to kind more f).early in
+      onward ((kept_block p t u s).leads i start l (omega arith) b) (junk_keep start end from to kind more f m r j)
+      (led_keep end more (rest_settled start end from to kind more f)
+      (later (junk_tile start end from to kind) more k) (omega arith) j.in_text d)

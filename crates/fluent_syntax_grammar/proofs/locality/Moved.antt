@@ -4,6 +4,7 @@ use Rattle.std.proofs.Common.{◌≡◌, ℕ, zero, suc, ◌+◌, ◌-◌, ◌�
 use Rattle.std.proofs.Common.{Some, None, Bool, true, false, refl, sym, ◌∙◌, subst, ap, arith, length-append}
 use Rattle.std.specs.Prelude.{slice_get, slice_range, ◌==◌, ◌&&◌, ◌||◌, if◌then◌else◌}
 use Rattle.std.proofs.Math.Seq.{drop-append-add}
+use Rattle.std.proofs.lemmas.List.{take-append-drop, length-take-le}
 use Rattle.fluent_syntax_tree.specs.Kind.{Kind}
 use Rattle.fluent_syntax_grammar.specs.Bytes.{lf, cr, is_space}
 use Rattle.fluent_syntax_grammar.specs.Places.{holds, Stretch, Steps, Reaches, has, has_byte, has_eol, after_eol}
@@ -211,6 +212,14 @@ behind xs u = record {
   range = behind_range xs u;
   size = length-append xs u;
 }
+
+-- a text behind the bytes before a place of it
+pub behind_place : (t : List ℕ) (p : ℕ) → p ≤ length t → Behind p t (drop p t)
+behind_place t p l =
+    let whole = take-append-drop p t in
+    let n : length (take p t) ≡ p = length-take-le p t l in
+    subst (λ n. Behind n t (drop p t)) n
+    (subst (λ v. Behind (length (take p t)) v (drop p t)) whole (behind (take p t) (drop p t)))
 
 abbrev pub moved_place : ℕ → Option ℕ → Option ℕ
 moved_place n None = None

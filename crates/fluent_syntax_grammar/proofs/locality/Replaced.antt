@@ -7,6 +7,7 @@ use Rattle.fluent_syntax_tree.specs.declared.edition.Edition.{Edition}
 use Rattle.fluent_syntax_grammar.specs.Bytes.{lf}
 use Rattle.fluent_syntax_grammar.specs.Places.{starts_line}
 use Rattle.fluent_syntax_grammar.specs.Tiling.{Tile, Tiled, TileAt}
+use Rattle.fluent_syntax_grammar.specs.Body.{faults}
 use Rattle.fluent_syntax_grammar.specs.Written.{Text}
 use Rattle.fluent_syntax_grammar.specs.Locality.{moved_tile, moved_tiles, moved_fault, begins_comment}
 use Rattle.fluent_syntax_grammar.specs.Locality.{entry_text, blank_lines, ReadsFirst, Replaces}
@@ -16,7 +17,7 @@ use Rattle.fluent_syntax_grammar.proofs.locality.Tiles.{tiled_there, faults_ther
 use Rattle.fluent_syntax_grammar.proofs.locality.NewTexts.{start_of, new_tiles, text_begins, text_ends, gap_lf}
 use Rattle.fluent_syntax_grammar.proofs.locality.NewTexts.{line_behind}
 use Rattle.fluent_syntax_grammar.proofs.locality.NewTexts.{begins_before}
-use Rattle.fluent_syntax_grammar.proofs.locality.Edits.{joins, faults_append}
+use Rattle.fluent_syntax_grammar.proofs.locality.Edits.{begins_ends, joins, faults_append}
 
 pub gap_length : (n : ℕ) → length (blank_lines n) ≡ n
 gap_length n = length-replicate n lf
@@ -57,10 +58,10 @@ replaces edition a r e blank c = λ before own s f g k d h m w.
     edition e h) in
     let j =
     joins edition a r u before (x.0 ++ moved_tiles (length text + blank) own) s f
-    (text_begins edition e (blank_lines blank ++ c) h) g (λ q. same ∙ k q) d x.1 in (
+    (begins_ends u (text_begins edition e (blank_lines blank ++ c) h)) g (λ q. same ∙ k q) d x.1 in (
       x.0,
       j.0,
       tree_there (length a) (a ++ u) u (behind a u) x.0 ∙ x.3,
-      j.1 ∙ ap (map (moved_fault (length a))) (faults_append x.0 (moved_tiles (length text + blank) own) x.2
+      j.1 ∙ ap (λ fs. faults before ++ map (moved_fault (length a)) fs) (faults_append x.0 (moved_tiles (length text + blank) own) x.2
           ∙ faults_there (length text + blank) own),
     )

@@ -1,14 +1,13 @@
 -- Two texts with the same rest behind a tile's start have the same tiles from there on: each tile begins at the start
 -- of a line.
-use Rattle.std.proofs.Common.{◌≡◌, ℕ, ◌≤◌, ◌<◌, List, [], ◌∷◌, ◌++◌, length, true, refl, ◌∙◌, ap, arith}
+use Rattle.std.proofs.Common.{◌≡◌, ℕ, ◌<◌, List, [], ◌∷◌, ◌++◌, length, true, refl, ◌∙◌, ap, arith}
 use Rattle.std.proofs.Common.{inl, inr}
 use Rattle.fluent_syntax_tree.specs.declared.edition.Edition.{Edition}
-use Rattle.fluent_syntax_grammar.specs.Places.{BlankBlock, has, no_line, line, starts_line}
-use Rattle.fluent_syntax_grammar.specs.Tiling.{Tile, Tiled, TileAt, is_entry_byte, next, reads, refuses}
+use Rattle.fluent_syntax_grammar.specs.Places.{BlankBlock, no_line, line, starts_line}
+use Rattle.fluent_syntax_grammar.specs.Tiling.{Tile, Tiled, TileAt, next, reads, refuses}
 use Rattle.fluent_syntax_grammar.specs.Body.{faults}
 use Rattle.fluent_syntax_grammar.specs.Locality.{Resyncs, start_of}
-use Rattle.fluent_syntax_grammar.proofs.Facts.{left_true}
-use Rattle.fluent_syntax_grammar.proofs.locality.EntryEnds.{AtLine, block_line, entry_line}
+use Rattle.fluent_syntax_grammar.proofs.locality.EntryEnds.{AtLine, block_line, tile_line}
 use Rattle.fluent_syntax_grammar.proofs.locality.Edits.{same_rest}
 use Rattle.fluent_syntax_grammar.proofs.locality.Tiles.{faults_there}
 
@@ -18,14 +17,6 @@ block_end t i j (no_line w e) = no_line w e
 block_end t i j (line {m = m} w e b) = block_end t m j b
 
 module _ (edition : Edition) (t : List ℕ) where
-  -- a tile ends at the start of a line or at the text's end
-  tile_line : (i j : ℕ) (x : Tile) → i ≤ length t → TileAt edition t i j x → AtLine t j
-  tile_line i j x l (reads {e = e} r) = entry_line edition t i j e l r
-  tile_line i j x l (refuses r k) = elim k.stop [
-    | inl e ↦ inl (left_true (starts_line t j) (has t is_entry_byte j) e)
-    | inr e ↦ inr (omega arith)
-  ]
-
   -- a tile of a tiling begins at the start of a line, and from there on stand it and those behind it
   record Begins (x : Tile) (after : List Tile) : Type 0 where
     line : starts_line t (start_of x) ≡ true
@@ -44,7 +35,7 @@ module _ (edition : Edition) (t : List ℕ) where
   begins i [] x after l (next {start = start} {end = end} b m a d) =
       begins_there start end x after (block_line t i start l b) (block_end t i start b) m a d
   begins i (y ∷ xs) x after l (next {start = start} {end = end} b m a d) =
-      begins end xs x after (tile_line start end y (omega arith) a) d
+      begins end xs x after (tile_line edition t start end y (omega arith) a) d
 
 pub resyncs : (edition : Edition) (t u : List ℕ) → Resyncs edition t u
 resyncs edition t u = λ before front after behind x y a b e.

@@ -12,19 +12,21 @@ use Rattle.fluent_syntax_tree.specs.Spans.{bytes_at}
 use Rattle.fluent_syntax_tree.specs.declared.edition.Edition.{Edition}
 use Rattle.fluent_syntax_grammar.specs.Places.{holds, has, starts_line}
 use Rattle.fluent_syntax_grammar.specs.Tiling.{Tile, TileAt, reads, refuses}
-use Rattle.fluent_syntax_grammar.specs.Body.{faults, body}
+use Rattle.fluent_syntax_grammar.specs.Body.{body}
 use Rattle.fluent_syntax_grammar.specs.RoundTrip.{tree_of}
-use Rattle.fluent_syntax_grammar.specs.Locality.{Led, arrives, onward, SameBefore}
-use Rattle.fluent_syntax_grammar.proofs.Cuts.{AsciiAt, IsCuts}
+use Rattle.fluent_syntax_grammar.specs.Locality.{Led, Settled, arrives, onward, SameBefore}
+use Rattle.fluent_syntax_grammar.proofs.Cuts.{AsciiAt, IsCuts, block_place}
+use Rattle.fluent_syntax_grammar.proofs.SoundStrings.{InText}
+use Rattle.fluent_syntax_grammar.proofs.Boundaries.{text_cuts}
 use Rattle.fluent_syntax_grammar.proofs.Sound.{IsSpan}
 use Rattle.fluent_syntax_grammar.proofs.SoundTiling.{entry_read}
 use Rattle.fluent_syntax_grammar.proofs.JunkAndSpans.{GoodGiven, good_body}
 use Rattle.fluent_syntax_grammar.proofs.locality.Moved.{Behind, behind}
 use Rattle.fluent_syntax_grammar.proofs.locality.Kept.{Head, Shared}
-use Rattle.fluent_syntax_grammar.proofs.locality.KeptEntries.{led_forward, entry_on, entry_in, led_keep}
-use Rattle.fluent_syntax_grammar.proofs.locality.Edits.{get_left, range_left, line_byte, head_of}
+use Rattle.fluent_syntax_grammar.proofs.locality.KeptEntries.{led_forward, entry_on, entry_in, junk_on, led_keep}
+use Rattle.fluent_syntax_grammar.proofs.locality.Edits.{begins_ends, get_left, range_left, line_byte, head_of}
 use Rattle.fluent_syntax_grammar.proofs.locality.SameTexts.{Agree, bodies_same}
-use Rattle.fluent_syntax_grammar.proofs.locality.InTiling.{standing}
+use Rattle.fluent_syntax_grammar.proofs.locality.InTiling.{settled_there, standing}
 
 -- no byte is ASCII
 record IsHigh (u : List ℕ) : Type 0 where
@@ -78,7 +80,7 @@ high_head : (t us : List ℕ) (p : ℕ) → Behind p t (200 ∷ us) → Head t p
 high_head t us p b =
     let z : p + 0 ≡ p = omega arith in
     let first : slice_get t p ≡ Some 200 = subst (λ k. slice_get t k ≡ Some 200) z (b.byte 0) in
-    record { byte = 200; stands = first; begins = refl; no_arrow = rw first refl }
+    record { begins = rw first refl; no_arrow = rw first refl }
 
 seam_shared : (a r u : List ℕ) → starts_line (a ++ r) (length a) ≡ true → Head (a ++ r) (length a) →
     Head (a ++ u) (length a) → Shared (length a) (a ++ r) (a ++ u)
@@ -102,19 +104,26 @@ back_shared p t u s = record {
 module _ (edition : Edition) (p : ℕ) (t u : List ℕ) (s : Shared p t u) (P : ℕ → Type 0) (cuts : IsCuts t P)
     (low : (i : ℕ) → i ≤ p → P i) where
   -- the texts of tiles before p lie between places of the kind
-  every_tile : (i : ℕ) (tiles : List Tile) → faults tiles ≡ [] → Led t (TileAt edition t) p i tiles →
+  every_tile : (i : ℕ) (tiles : List Tile) → i ≤ length t → Led t (TileAt edition t) p i tiles →
       list_every (GoodGiven P) tiles
-  every_tile i tiles f (arrives b) = tt
-  every_tile i tiles f (onward {start = start} {end = end} {tiles = more} b (reads {e = e} r) d) =
+  every_tile i tiles l (arrives b) = tt
+  every_tile i tiles l (onward {start = start} {end = end} {tiles = more} b (reads {e = e} r) d) =
       let a = entry_on edition p t u s start end e r in
-      let g = led_forward edition p t u s p end more f d (entry_in edition p t u s start end e r) in
+      let c = entry_in edition p t u s start end e r in
+      let g = led_forward edition p t u s p end more d c in
       let x = entry_read edition t P cuts start end e (low start (omega arith)) r in
-      (x.good, every_tile end more f d)
-  every_tile i tiles f (onward b (refuses r j) d) = absurd cc
+      (x.good, every_tile end more c d)
+  every_tile i tiles l
+      (onward {start = start} {end = end} {tiles = more} b (refuses {from = from} {to = to} {k = k} r j) d) =
+      let m = block_place t (InText t) (text_cuts t) i start l b in
+      let a = junk_on edition p t u s start from to k m r in
+      let c = j.forward in
+      let g = led_forward edition p t u s p end more d j.in_text in
+      ((omega arith, low start (omega arith), low end g), every_tile end more j.in_text d)
 
 -- the tiles of the one text, in the text that goes on with bytes that are not ASCII
 seam_tiles : (edition : Edition) (a r us : List ℕ) (before : List Tile) → IsHigh (200 ∷ us) →
-    starts_line (a ++ r) (length a) ≡ true → Head (a ++ r) (length a) → faults before ≡ [] →
+    starts_line (a ++ r) (length a) ≡ true → Head (a ++ r) (length a) → Settled (a ++ r) (length a) before →
     Led (a ++ r) (TileAt edition (a ++ r)) (length a) 0 before →
     list_every (GoodGiven (Seam a (200 ∷ us))) before
 seam_tiles edition a r us before h e f n d =
@@ -127,8 +136,8 @@ seam_tiles edition a r us before h e f n d =
     subst (λ k. has (a ++ u) (λ b. b == 35) k ≡ false) z
     (ap (holds (λ b. b == 35)) (b.byte 0)) in
     every_tile edition p (a ++ u) (a ++ r) (back_shared p (a ++ r) (a ++ u) s) (Seam a u) (seam_cuts a u h)
-    (λ i l. inl l) 0 before n
-    (led_keep edition p (a ++ r) (a ++ u) s 0 before n (λ q. no_hash) (omega arith) d)
+    (λ i l. inl l) 0 before (omega arith)
+    (led_keep edition p (a ++ r) (a ++ u) s 0 before n (λ q. no_hash) (omega arith) (omega arith) d)
 
 seam_agree : (a x y : List ℕ) →
     Agree (IsSpan (Seam a (200 ∷ []))) (IsSpan (Seam a (200 ∷ 200 ∷ []))) (bytes_at (a ++ x))
@@ -148,13 +157,14 @@ seam_agree a x y = record {
 
 pub same_before : (edition : Edition) (t : List ℕ) → SameBefore edition t
 same_before edition t = λ before after s old u w f.
-    let l = standing edition t before after s old w f in
+    let l = standing edition t before after s old w in
+    let settled = settled_there t s.start before l.size f in
     let x = take s.start t in
     let r = drop s.start t in
     let whole : x ++ r ≡ t = take-append-drop s.start t in
-    let head = head_of (x ++ r) r (length x) (behind x r) l.begins in
-    let one = seam_tiles edition x r [] before one_high l.starts head f l.led in
-    let two = seam_tiles edition x r (200 ∷ []) before two_high l.starts head f l.led in
+    let head = head_of (x ++ r) r (length x) (behind x r) (begins_ends r l.begins) in
+    let one = seam_tiles edition x r [] before one_high l.starts head settled l.led in
+    let two = seam_tiles edition x r (200 ∷ []) before two_high l.starts head settled l.led in
     let P = Seam x (200 ∷ []) in
     let Q = Seam x (200 ∷ 200 ∷ []) in
     bodies_same (IsSpan P) (IsSpan Q) (bytes_at (x ++ u)) (bytes_at (x ++ r)) (seam_agree x u r) (body before)

@@ -11,7 +11,7 @@ use Rattle.fluent_syntax_tree.specs.Spans.{bytes_at}
 use Rattle.fluent_syntax_tree.specs.declared.spans.Span.{Span}
 use Rattle.fluent_syntax_tree.specs.declared.edition.Edition.{Edition}
 use Rattle.fluent_syntax_grammar.specs.Bytes.{hash, lf}
-use Rattle.fluent_syntax_grammar.specs.Places.{BlankBlock, has, has_byte, starts_line}
+use Rattle.fluent_syntax_grammar.specs.Places.{BlankBlock, has, starts_line}
 use Rattle.fluent_syntax_grammar.specs.Construct.{Read, Refused}
 use Rattle.fluent_syntax_grammar.specs.Tiling.{Tile, entry, refused, dropped, failing_place, is_entry_byte}
 use Rattle.fluent_syntax_grammar.specs.Tiling.{starts_entry, JunkEnd, Tiled, done, next, TileAt, reads}

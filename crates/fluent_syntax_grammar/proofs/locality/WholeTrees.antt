@@ -1,5 +1,5 @@
 -- The tree of tiles behind others is the tree of these and then theirs, where none of them hangs on the others' last.
-use Rattle.std.proofs.Common.{◌≡◌, ℕ, ◌+◌, List, [], ◌∷◌, ◌++◌, length, drop, take, map, Option, Some, None, Bool}
+use Rattle.std.proofs.Common.{◌≡◌, ℕ, ◌+◌, ◌≤◌, List, arith, inl, [], ◌∷◌, ◌++◌, length, drop, take, map, Option, Some, None, Bool}
 use Rattle.std.proofs.Common.{true, false, refl, sym, ◌∙◌, ap, subst, append_assoc}
 use Rattle.std.specs.Prelude.{◌==◌, if◌then◌else◌}
 use Rattle.std.proofs.lemmas.List.{map-append}
@@ -7,17 +7,29 @@ use Rattle.fluent_syntax_tree.specs.Entry.{EntryTree, comment, entry_map, group,
 use Rattle.fluent_syntax_tree.specs.Spans.{bytes_at}
 use Rattle.fluent_syntax_tree.specs.declared.edition.Edition.{Edition}
 use Rattle.fluent_syntax_tree.specs.declared.spans.Span.{Span}
-use Rattle.fluent_syntax_grammar.specs.Tiling.{Tile, Tiled, TileAt, dropped, entry, next, reads, refused, refuses}
+use Rattle.fluent_syntax_grammar.specs.Tiling.{Tile, Tiled, TileAt, Tiling, dropped, entry, next, reads, refused, refuses}
+use Rattle.fluent_syntax_grammar.specs.Canonical.{is_canonical}
 use Rattle.fluent_syntax_grammar.specs.Body.{alone, body, hangs, hung}
 use Rattle.fluent_syntax_grammar.specs.RoundTrip.{tree_of}
 use Rattle.fluent_syntax_grammar.specs.Written.{Text}
 use Rattle.fluent_syntax_grammar.specs.Locality.{KeepsTree, Led, arrives, blank_lines, ends_in_comment, entry_text}
 use Rattle.fluent_syntax_grammar.specs.Locality.{is_comment, is_comment_to, moved_tiles, onward, start_of}
+use Rattle.fluent_syntax_grammar.specs.Locality.{is_comment_tile, last_is_comment, Run, one, more, KeepsRun, InsertsTree}
+use Rattle.fluent_syntax_grammar.specs.Locality.{AppendsTree, RemovesTree, CutOff, NoCommentTakes, Settled, may_begin}
+use Rattle.fluent_syntax_grammar.proofs.Facts.{append_nothing}
+use Rattle.fluent_syntax_grammar.proofs.Sound.{IsSpan}
+use Rattle.fluent_syntax_grammar.proofs.SoundStrings.{InText}
+use Rattle.fluent_syntax_grammar.proofs.Boundaries.{text_cuts}
+use Rattle.fluent_syntax_grammar.proofs.SoundTiling.{tiled_good}
+use Rattle.fluent_syntax_grammar.proofs.SomeTiling.{some_tiling}
+use Rattle.fluent_syntax_grammar.proofs.JunkAndSpans.{all_given, good_body}
+use Rattle.fluent_syntax_grammar.proofs.locality.EntryEnds.{AtLine, led_line}
+use Rattle.fluent_syntax_grammar.proofs.locality.SameTexts.{bodies_same}
 use Rattle.fluent_syntax_grammar.proofs.Facts.{differs}
 use Rattle.fluent_syntax_grammar.proofs.Functional.{single_block}
 use Rattle.fluent_syntax_grammar.proofs.OneTiling.{one_tile}
-use Rattle.fluent_syntax_grammar.proofs.locality.Edits.{prefix_local}
-use Rattle.fluent_syntax_grammar.proofs.locality.InTiling.{changed, rest_alone, standing}
+use Rattle.fluent_syntax_grammar.proofs.locality.Edits.{begins_ends, joins, prefix_local, range_left}
+use Rattle.fluent_syntax_grammar.proofs.locality.InTiling.{RestAlone, appended, begins_may, changed, from_entry, led_on, no_tiles, rest_alone, settled_there, standing, without}
 use Rattle.fluent_syntax_grammar.proofs.locality.NewTexts.{text_begins}
 use Rattle.fluent_syntax_grammar.proofs.locality.SameBefore.{same_before}
 
@@ -78,15 +90,6 @@ abbrev ends_with_comment : {X : Type 0} → List (EntryTree X) → Bool
 ends_with_comment [] = false
 ends_with_comment (x ∷ []) = is_comment x
 ends_with_comment (x ∷ y ∷ xs) = ends_with_comment (y ∷ xs)
-
-abbrev is_comment_tile : Tile → Bool
-is_comment_tile (entry s e) = is_comment e
-is_comment_tile x = false
-
-abbrev last_is_comment : List Tile → Bool
-last_is_comment [] = false
-last_is_comment (x ∷ []) = is_comment_tile x
-last_is_comment (x ∷ y ∷ xs) = last_is_comment (y ∷ xs)
 
 behind_one : {X : Type 0} (x : EntryTree X) (xs : List (EntryTree X)) → ends_with_comment xs ≡ true →
     ends_with_comment (x ∷ xs) ≡ true
@@ -182,47 +185,182 @@ module _ (edition : Edition) (t : List ℕ) (p : ℕ) where
       let same_end : j ≡ k = (one_tile edition t).same_end start j k x x a e' in
       start_behind j xs y ys d (subst (λ k. Tiled t (TileAt edition t) k (xs ++ (y ∷ ys))) (sym same_end) f)
 
--- ---- the tree of the new text
+-- ---- the tree of a text
 
-pub keeps_tree : (edition : Edition) (t : List ℕ) (e : EntryTree Text) (blank : ℕ) → KeepsTree edition t e blank
-keeps_tree edition t e blank = λ before after s old a f g c d h m.
-    let l = standing edition t before after s old a f in
-    let rest = rest_alone edition t s.end after l.end_inside l.end_line l.more in
-    let x = changed edition t before after after s old e blank s.end l f (λ k. differs k g) h m rest in
-    let u = entry_text e ++ (blank_lines blank ++ drop s.end t) in
+none_apart : (xs : List Tile) → Apart xs []
+none_apart [] = tt
+none_apart (x ∷ []) = tt
+none_apart (x ∷ z ∷ xs) = none_apart (z ∷ xs)
+
+-- tiles behind others, where no comment ends at the place between
+pub tree_behind : (edition : Edition) (t : List ℕ) (p : ℕ) (before ys : List Tile) → ends_in_comment p before ≡ false →
+    Led t (TileAt edition t) p 0 before → Tiling edition t (before ++ ys) →
+    tree_of t (before ++ ys) ≡ tree_of t before ++ tree_of t ys
+tree_behind edition t p before [] g led a = tree_apart t before [] (none_apart before)
+tree_behind edition t p before (y ∷ ys) g led a =
+    tree_apart t before (y ∷ ys)
+    (apart_before p before y ys (start_behind edition t p 0 before y ys led a) g)
+
+-- tiles of an entry that is no comment, and others behind them
+tree_first : (t : List ℕ) (xs ys : List Tile) (e : EntryTree Text) → tree_of t xs ≡ e ∷ [] → is_comment e ≡ false →
+    tree_of t (xs ++ ys) ≡ e ∷ tree_of t ys
+tree_first t xs ys e h c =
+    tree_apart t xs ys (apart_behind xs ys (no_comment_last t xs e h c)) ∙ ap (λ zs. zs ++ tree_of t ys) h
+
+-- the text's tree gives the same bytes where more stands behind the text
+same_at_end : (edition : Edition) (t u : List ℕ) (tiles : List Tile) → Tiling edition t tiles →
+    tree_of (t ++ u) tiles ≡ tree_of t tiles
+same_at_end edition t u tiles a =
+    let P = InText t in
+    let cuts = text_cuts t in
+    let good =
+    good_body P tiles (all_given edition t P cuts tiles (tiled_good edition t P cuts 0 tiles (omega arith) a)) in
+    bodies_same (IsSpan P) (IsSpan P) (bytes_at (t ++ u)) (bytes_at t)
+    (record { same = λ s g h. range_left t u s.start s.end g.2 }) (body tiles) good good
+
+-- ---- a run of entries
+
+record RunFirst (s : Span) (run : List Tile) : Type 0 where
+  tree : EntryTree Span
+  tiles : List Tile
+  is : run ≡ entry s tree ∷ tiles
+
+run_first : (s q : Span) (run : List Tile) → Run s q run → RunFirst s run
+run_first s q run one = record { tree = _; tiles = _; is = refl }
+run_first s q run (more r) = record { tree = _; tiles = _; is = refl }
+
+-- where the run ends
+record RunEnd (edition : Edition) (t : List ℕ) (q : Span) (after : List Tile) : Type 0 where
+  inside : q.end ≤ length t
+  line : AtLine t q.end
+  more : Tiled t (TileAt edition t) q.end after
+
+run_end : (edition : Edition) (t : List ℕ) (before run after : List Tile) (s q : Span) →
+    Tiling edition t (before ++ (run ++ after)) → Run s q run → RunEnd edition t q after
+run_end edition t before run after s q a (one {e = e}) =
+    let l = standing edition t before after s e a in
+    record { inside = l.end_inside; line = l.end_line; more = l.more }
+run_end edition t before run after s q a (more {r = r} {e = e} {tiles = tiles} d) =
+    run_end edition t (before ++ (entry s e ∷ [])) tiles after r q
+    (subst (λ zs. Tiling edition t zs) (sym (append_assoc before (entry s e ∷ []) (tiles ++ after))) a) d
+
+-- what the text's tree is made of
+run_tree : (edition : Edition) (t : List ℕ) (before run after : List Tile) (s q : Span) →
+    Tiling edition t (before ++ (run ++ after)) → Run s q run →
+    ends_in_comment s.start before ≡ false → last_is_comment run ≡ false →
+    tree_of t (before ++ (run ++ after)) ≡ tree_of t before ++ (tree_of t run ++ tree_of t after)
+run_tree edition t before run after s q a r g c =
+    let x = run_first s q run r in
+    let l =
+    led_line edition t 0 before s x.tree (x.tiles ++ after) (inl refl)
+    (subst (λ zs. Tiling edition t (before ++ (zs ++ after))) x.is a) in
+    tree_behind edition t s.start before (run ++ after) g l.0 a
+    ∙ ap (λ zs. tree_of t before ++ zs) (tree_apart t run after (apart_behind run after c))
+
+-- ---- the trees of new texts
+
+-- a new entry behind the tiles before an entry
+changed_tree : (edition : Edition) (t : List ℕ) (before after ys : List Tile) (s : Span) (old : EntryTree Span)
+    (e : EntryTree Text) (blank q : ℕ) → Tiling edition t (before ++ (entry s old ∷ after)) → Settled t s.start before →
+    ends_in_comment s.start before ≡ false → is_comment e ≡ false → is_canonical edition (e ∷ []) ≡ true →
+    may_begin (drop q t) ≡ true → RestAlone edition t q ys →
+    (tiles : List Tile) × Tiling edition (take s.start t ++ (entry_text e ++ (blank_lines blank ++ drop q t))) tiles
+    × (tree_of (take s.start t ++ (entry_text e ++ (blank_lines blank ++ drop q t))) tiles
+    ≡ tree_of t before ++ (e ∷ tree_of t ys))
+changed_tree edition t before after ys s old e blank q a f g d h m rest =
+    let l = standing edition t before after s old a in
+    let x = changed edition t before after ys s old e blank q l f (λ k. differs k g) h m rest in
+    let u = entry_text e ++ (blank_lines blank ++ drop q t) in
     let v = take s.start t ++ u in
     let N = moved_tiles s.start x.new in
     let O = moved_tiles (s.start + (length (entry_text e) + blank)) x.own in
     let led : Led v (TileAt edition v) s.start 0 before =
     subst (λ i. Led v (TileAt edition v) i 0 before) l.size
-    (prefix_local edition (take s.start t) (drop s.start t) u before l.starts l.begins
-    (text_begins edition e (blank_lines blank ++ drop s.end t) h) f
-    (λ k. differs (subst (λ i. ends_in_comment i before ≡ true) l.size k) g) l.led) in
-    let new_apart = apart_behind N O (no_comment_last v N e x.entry_tree d) in
-    let before_apart = new_behind edition v s.start before N O e g led x.tiling x.entry_tree in (
-      old_tree t before after s old g c,
+    (prefix_local edition (take s.start t) (drop s.start t) u before l.starts (begins_ends (drop s.start t) l.begins)
+    (begins_ends u (text_begins edition e (blank_lines blank ++ drop q t) h))
+    (settled_there t s.start before l.size f)
+    (λ k. differs (subst (λ i. ends_in_comment i before ≡ true) l.size k) g) l.led) in (
+      before ++ (N ++ O),
+      x.tiling,
+      tree_behind edition v s.start before (N ++ O) g led x.tiling
+          ∙ (ap (λ zs. tree_of v before ++ zs) (tree_first v N O e x.entry_tree d)
+          ∙ rw (x.rest_tree, same_before edition t before after s old u a f) refl),
+    )
+
+pub keeps_run : (edition : Edition) (t : List ℕ) (e : EntryTree Text) (blank : ℕ) → KeepsRun edition t e blank
+keeps_run edition t e blank = λ before run after s q a f r g d h m.
+    let x = run_first s q run r in
+    let z = run_end edition t before run after s q a r in
+    let rest = rest_alone edition t q.end after z.inside z.line z.more in (
+      run_tree edition t before run after s q a r g,
+      changed_tree edition t before (x.tiles ++ after) after s x.tree e blank q.end
+          (subst (λ zs. Tiling edition t (before ++ (zs ++ after))) x.is a) f g d h m rest,
+    )
+
+pub keeps_tree : (edition : Edition) (t : List ℕ) (e : EntryTree Text) (blank : ℕ) → KeepsTree edition t e blank
+keeps_tree edition t e blank = λ before after s old a f g c d h m.
+    let x = keeps_run edition t e blank before (entry s old ∷ []) after s s a f one g d h m in (x.0 c, x.1)
+
+pub inserts_tree : (edition : Edition) (t : List ℕ) (e : EntryTree Text) (blank : ℕ) → InsertsTree edition t e blank
+inserts_tree edition t e blank = λ before after s old a f g d h.
+    let l = standing edition t before after s old a in
+    let led = led_line edition t 0 before s old after (inl refl) a in (
+      tree_behind edition t s.start before (entry s old ∷ after) g led.0 a,
+      changed_tree edition t before after (entry s old ∷ after) s old e blank s.start a f g d h
+          (begins_may (drop s.start t) l.begins) (from_entry edition t before after s old l),
+    )
+
+pub appends_tree : (edition : Edition) (t : List ℕ) (e : EntryTree Text) (blank : ℕ) → AppendsTree edition t e blank
+appends_tree edition t e blank = λ before a f s g h.
+    let x = appended edition t e blank before a f s (λ k. differs k g) h in
+    let u = entry_text e ++ blank_lines blank in
+    let v = t ++ u in
+    let N = moved_tiles (length t) x.0 in
+    let led = led_on edition t u before a f s (λ k. differs k g)
+    (begins_ends u (text_begins edition e (blank_lines blank) h)) in (
+      before ++ N,
+      x.1,
+      tree_behind edition v (length t) before N g led x.1 ∙ rw (x.2, same_at_end edition t u before a) refl,
+    )
+
+pub removes_tree : (edition : Edition) (t : List ℕ) → RemovesTree edition t
+removes_tree edition t = λ before run after s q a f r g m.
+    let x = run_first s q run r in
+    let z = run_end edition t before run after s q a r in
+    let rest = rest_alone edition t q.end after z.inside z.line z.more in
+    let b = subst (λ zs. Tiling edition t (before ++ (zs ++ after))) x.is a in
+    let l = standing edition t before (x.tiles ++ after) s x.tree b in
+    let c = drop q.end t in
+    let v = take s.start t ++ c in
+    let k : NoCommentTakes s.start before c = λ k. differs k g in
+    let y = without edition t before (x.tiles ++ after) after s x.tree q.end l f k m rest in
+    let led : Led v (TileAt edition v) s.start 0 before =
+    subst (λ i. Led v (TileAt edition v) i 0 before) l.size
+    (prefix_local edition (take s.start t) (drop s.start t) c before l.starts (begins_ends (drop s.start t) l.begins) m
+    (settled_there t s.start before l.size f)
+    (λ k. differs (subst (λ i. ends_in_comment i before ≡ true) l.size k) g) l.led) in (
+      run_tree edition t before run after s q a r g,
       (
-        before ++ (N ++ O),
-        x.tiling,
-        tree_apart v before (N ++ O) before_apart
-            ∙ (ap (λ zs. tree_of v before ++ zs) (tree_apart v N O new_apart)
-            ∙ rw (x.entry_tree, x.rest_tree, same_before edition t before after s old u a f) refl),
+        before ++ moved_tiles s.start y.0,
+        y.2,
+        tree_behind edition v s.start before (moved_tiles s.start y.0) g led y.2
+            ∙ rw (y.3, same_before edition t before (x.tiles ++ after) s x.tree c b f) refl,
       ),
     )
-  where
-    old_tree : (t : List ℕ) (before after : List Tile) (s : Span) (old : EntryTree Span) →
-        ends_in_comment s.start before ≡ false → is_comment old ≡ false →
-        tree_of t (before ++ (entry s old ∷ after))
-        ≡ tree_of t before ++ (entry_map (bytes_at t) old ∷ tree_of t after)
-    old_tree t before after s old g c =
-        tree_apart t before (entry s old ∷ after) (apart_before s.start before (entry s old) after refl g)
-        ∙ ap (λ zs. tree_of t before ++ zs)
-        (tree_apart t (entry s old ∷ []) after (apart_behind (entry s old ∷ []) after c))
 
-    -- the tiles of the new entry do not hang on those before it
-    new_behind : (edition : Edition) (v : List ℕ) (p : ℕ) (before N O : List Tile) (e : EntryTree Text) →
-        ends_in_comment p before ≡ false → Led v (TileAt edition v) p 0 before →
-        Tiled v (TileAt edition v) 0 (before ++ (N ++ O)) → tree_of v N ≡ e ∷ [] → Apart before (N ++ O)
-    new_behind edition v p before [] O e g led a h = cc
-    new_behind edition v p before (y ∷ ys) O e g led a h =
-        apart_before p before y (ys ++ O) (start_behind edition v p 0 before y (ys ++ O) led a) g
+pub cut_off : (edition : Edition) (t : List ℕ) → CutOff edition t
+cut_off edition t = λ before after s old a f.
+    let l = standing edition t before after s old a in
+    let x = take s.start t in
+    let whole : x ++ [] ≡ x = append_nothing x in
+    let own = some_tiling edition [] in
+    let none : own.0 ≡ [] = no_tiles [] (TileAt edition []) 0 own.0 (omega arith) own.1 in
+    let j =
+    joins edition x (drop s.start t) [] before own.0 l.starts (begins_ends (drop s.start t) l.begins) refl
+    (settled_there t s.start before l.size f) (λ k. refl)
+    l.led own.1 in
+    let same : before ++ moved_tiles (length x) own.0 ≡ before =
+    ap (λ zs. before ++ moved_tiles (length x) zs) none ∙ append_nothing before in (
+      subst (λ v. Tiling edition v before) whole (subst (λ zs. Tiling edition (x ++ []) zs) same j.0),
+      subst (λ v. tree_of v before ≡ tree_of t before) whole (same_before edition t before after s old [] a f),
+    )
