@@ -1,13 +1,13 @@
 //! A command's text.
-ghost use Rattle.std.specs.Prelude.{◌≡◌, ◌≢◌, ◌↔◌, ◌⊎◌, ◌<◌, length, Err, IfErr, IfOk};
+ghost use Rattle.std.specs.Prelude.{◌≡◌, ◌≢◌, ◌↔◌, ◌⊎◌, ◌<◌, length, Err, IfOk};
 ghost use Rattle.std.specs.Str.{IsUtf8};
 ghost use Rattle.ftl.specs.Answer.{IsAnswer, ReadsDeeper};
 ghost use Rattle.ftl.specs.FromJson.{IsTextOf};
-ghost use Rattle.fluent_syntax_c.specs.Answer.{IsCommandAnswer, IsNoTree, SpellsNone};
+ghost use Rattle.fluent_syntax_c.specs.Answer.{IsCommandAnswer, IsNoTree, SpellsNone, refusal_of};
 ghost use Rattle.fluent_syntax_c.specs.Arguments.{IsNoCommand, from_json_number};
 ghost use Rattle.fluent_syntax_c.specs.Depth.{CommandReadsDeeper};
 ghost use Rattle.fluent_syntax_c.specs.Output.{Leaves};
-ghost use Rattle.fluent_syntax_c.specs.Status.{EndsAs, refusal_number};
+ghost use Rattle.fluent_syntax_c.specs.Status.{EndsAs};
 
 use crate::arguments::{Asked, asked_of};
 use crate::outputs::give;
@@ -109,7 +109,10 @@ fn from_json_bytes(alloc: Global, input: &[u8]) -> Result<(Vec<u8>, Outcome), Re
     }
 }
 
-fn refusal_of(fault: JsonFault) -> Refusal {
+/// Why there is no text of a tree.
+fn refusal_of(fault: JsonFault) -> Refusal
+    ensures { result ≡ refusal_of fault }
+{
     match fault {
         JsonFault::Syntax(..) | JsonFault::Shape => Refusal::Tree,
         JsonFault::TooDeep => Refusal::Depth,

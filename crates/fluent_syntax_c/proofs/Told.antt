@@ -1,0 +1,16 @@
+-- Lines of errors.
+use Rattle.std.proofs.Common.{◌≡◌, ℕ, List, map, Some, ap, ◌∙◌, sym}
+use Rattle.std.proofs.lemmas.List.Folds.{flat_map-map}
+use Rattle.std.specs.List.{flat_map}
+use Rattle.fluent_syntax_tree.specs.Kind.{Kind, kind_of}
+use Rattle.fluent_syntax_tree.specs.declared.errors.ParserError.{ParserError}
+use Rattle.fluent_syntax_grammar.specs.Tiling.{Fault}
+use Rattle.fluent_syntax_parser.specs.Faults.{fault_of}
+use Rattle.ftl.proofs.Errors.{told_faults}
+use Rattle.ftl.specs.Answer.{told}
+
+-- errors that tell of faults have the lines of the faults
+pub lines_of_faults : (line : Kind → List ℕ) (errors : List ParserError) (fs : List Fault) →
+    map fault_of errors ≡ map Some fs → flat_map (λ e. line (kind_of e.kind)) errors ≡ flat_map (λ f. line f.kind) fs
+lines_of_faults line errors fs tells =
+    sym (flat_map-map (λ f. line f.kind) told errors) ∙ ap (flat_map (λ f. line f.kind)) (told_faults errors fs tells)
