@@ -17,9 +17,13 @@ def utf16_units(text: bytes) -> int:
 
 
 def in_characters(text: bytes, places: Iterable[int]) -> Dict[int, int]:
-    """For each place in bytes, the place in characters. The text is read once."""
+    """For each place in bytes, the place in characters. The text is read once.
+
+    A place within a character is the place behind it, and one beyond the text is the text's end, since the place of
+    an error at the end of a text ends beyond it.
+    """
     if text.isascii():
-        return {place: place for place in places}
+        return {place: min(place, len(text)) for place in places}
     at = count = 0
     found = {}
     for place in sorted(set(places)):
