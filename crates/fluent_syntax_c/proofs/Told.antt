@@ -6,11 +6,14 @@ use Rattle.fluent_syntax_tree.specs.Kind.{Kind, kind_of}
 use Rattle.fluent_syntax_tree.specs.declared.errors.ParserError.{ParserError}
 use Rattle.fluent_syntax_grammar.specs.Tiling.{Fault}
 use Rattle.fluent_syntax_parser.specs.Faults.{fault_of}
-use Rattle.ftl.proofs.Errors.{told_faults}
+use Rattle.ftl.proofs.Errors.{made_of_faults}
 use Rattle.ftl.specs.Answer.{told}
 
 -- errors that tell of faults have the lines of the faults
 pub lines_of_faults : (line : Kind → List ℕ) (errors : List ParserError) (fs : List Fault) →
     map fault_of errors ≡ map Some fs → flat_map (λ e. line (kind_of e.kind)) errors ≡ flat_map (λ f. line f.kind) fs
 lines_of_faults line errors fs tells =
-    sym (flat_map-map (λ f. line f.kind) told errors) ∙ ap (flat_map (λ f. line f.kind)) (told_faults errors fs tells)
+    let of_fault : Fault → List ℕ = λ f. line f.kind in
+    sym (flat_map-map (λ l. l) (λ e. of_fault (told e)) errors)
+    ∙ ap (flat_map (λ l. l)) (made_of_faults of_fault errors fs tells)
+    ∙ flat_map-map (λ l. l) of_fault fs

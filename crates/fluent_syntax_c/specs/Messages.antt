@@ -1,5 +1,5 @@
 -- What is said of errors.
-use Rattle.std.specs.Prelude.{◌≡◌, ◌++◌, ◌==◌, ◌∷◌, [], ℕ, List, codes, cond, map}
+use Rattle.std.specs.Prelude.{◌≡◌, ◌++◌, ◌==◌, ◌∷◌, [], ℕ, List, codes, cond, encode_utf8}
 use Rattle.std.specs.List.{flat_map}
 use Rattle.std.specs.Str.{IsUtf8}
 use Rattle.fluent_syntax_tree.specs.Kind.{Kind, kind_name, ExpectedToken, ExpectedCharRange, ExpectedMessageField}
@@ -29,7 +29,7 @@ shown text = flat_map shown_byte text
 
 -- the message of an error of the kind
 abbrev pub kind_message : Kind → List ℕ
-kind_message (ExpectedToken token) = codes "Expected a token starting with \"" ++ shown (encode_char token) ++ codes "\""
+kind_message (ExpectedToken token) = codes "Expected a token starting with \"" ++ shown (encode_utf8 token) ++ codes "\""
 kind_message (ExpectedCharRange text) = codes "Expected one of \"" ++ shown text ++ codes "\""
 kind_message (ExpectedMessageField text) = codes "Expected a message field for \"" ++ shown text ++ codes "\""
 kind_message (ExpectedTermField text) = codes "Expected a term field for \"" ++ shown text ++ codes "\""
