@@ -42,9 +42,15 @@ pub(crate) fn kind_at(alloc: Global, number: u32) -> Option<ErrorKind>
 {
     let kind = match number {
         1 => ErrorKind::ExpectedToken(' '),
-        2 => ErrorKind::ExpectedCharRange { range: String::new(alloc) },
-        3 => ErrorKind::ExpectedMessageField { entry_id: String::new(alloc) },
-        4 => ErrorKind::ExpectedTermField { entry_id: String::new(alloc) },
+        2 => ErrorKind::ExpectedCharRange {
+            range: String::new(alloc),
+        },
+        3 => ErrorKind::ExpectedMessageField {
+            entry_id: String::new(alloc),
+        },
+        4 => ErrorKind::ExpectedTermField {
+            entry_id: String::new(alloc),
+        },
         5 => ErrorKind::ForbiddenCallee,
         6 => ErrorKind::MissingDefaultVariant,
         7 => ErrorKind::MissingValue,

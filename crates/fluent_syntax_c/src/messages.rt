@@ -72,7 +72,11 @@ pub extern "C" fn ftl_error_messages(
     ensures shallow { EditionReadsDeeper edition input.now nesting →
         (result ≡ 3) ⊎ (result ≡ 4) ⊎ (result ≡ 6) }
 {
-    give(edition_messages(alloc, edition, nesting, input), out, needed)
+    give(
+        edition_messages(alloc, edition, nesting, input),
+        out,
+        needed,
+    )
 }
 
 /// The messages by the edition of the number.
@@ -125,37 +129,81 @@ fn add_message(alloc: Global, lines: &mut Vec<u8>, kind: &ErrorKind) -> Result<(
         ErrorKind::ExpectedToken(token) => {
             let mut text = String::new(alloc);
             text.push(*token)?;
-            add_with(lines, "Expected a token starting with \"", text.as_str(), "\"")
+            add_with(
+                lines,
+                "Expected a token starting with \"",
+                text.as_str(),
+                "\"",
+            )
         }
         ErrorKind::ExpectedCharRange { range } => {
             add_with(lines, "Expected one of \"", range.as_str(), "\"")
         }
         ErrorKind::ExpectedMessageField { entry_id } => {
-            add_with(lines, "Expected a message field for \"", entry_id.as_str(), "\"")
+            add_with(
+                lines,
+                "Expected a message field for \"",
+                entry_id.as_str(),
+                "\"",
+            )
         }
         ErrorKind::ExpectedTermField { entry_id } => {
-            add_with(lines, "Expected a term field for \"", entry_id.as_str(), "\"")
+            add_with(
+                lines,
+                "Expected a term field for \"",
+                entry_id.as_str(),
+                "\"",
+            )
         }
         ErrorKind::DuplicatedNamedArgument(name) => {
             add_with(lines, "The \"", name.as_str(), "\" argument appears twice")
         }
         ErrorKind::InvalidUnicodeEscapeSequence(digits) => {
-            add_with(lines, "Invalid unicode escape sequence, \"", digits.as_str(), "\"")
+            add_with(
+                lines,
+                "Invalid unicode escape sequence, \"",
+                digits.as_str(),
+                "\"",
+            )
         }
         ErrorKind::ForbiddenCallee => add_text(lines, "Callee is not allowed here"),
-        ErrorKind::MissingDefaultVariant => add_text(lines, "The select expression must have a default variant"),
+        ErrorKind::MissingDefaultVariant => add_text(
+            lines,
+            "The select expression must have a default variant",
+        ),
         ErrorKind::MissingValue => add_text(lines, "Expected a value"),
-        ErrorKind::MultipleDefaultVariants => add_text(lines, "A select expression can only have one default variant"),
-        ErrorKind::MessageReferenceAsSelector => add_text(lines, "Message references can't be used as a selector"),
-        ErrorKind::TermReferenceAsSelector => add_text(lines, "Term references can't be used as a selector"),
-        ErrorKind::MessageAttributeAsSelector => add_text(lines, "Message attributes can't be used as a selector"),
-        ErrorKind::TermAttributeAsPlaceable => add_text(lines, "Term attributes can't be used as a selector"),
+        ErrorKind::MultipleDefaultVariants => add_text(
+            lines,
+            "A select expression can only have one default variant",
+        ),
+        ErrorKind::MessageReferenceAsSelector => add_text(
+            lines,
+            "Message references can't be used as a selector",
+        ),
+        ErrorKind::TermReferenceAsSelector => add_text(
+            lines,
+            "Term references can't be used as a selector",
+        ),
+        ErrorKind::MessageAttributeAsSelector => add_text(
+            lines,
+            "Message attributes can't be used as a selector",
+        ),
+        ErrorKind::TermAttributeAsPlaceable => add_text(
+            lines,
+            "Term attributes can't be used as a selector",
+        ),
         ErrorKind::UnterminatedStringLiteral => add_text(lines, "Unterminated string literal"),
-        ErrorKind::PositionalArgumentFollowsNamed => add_text(lines, "Positional arguments must come before named arguments"),
+        ErrorKind::PositionalArgumentFollowsNamed => add_text(
+            lines,
+            "Positional arguments must come before named arguments",
+        ),
         ErrorKind::UnknownEscapeSequence(_) => add_text(lines, "Unknown escape sequence"),
         ErrorKind::UnbalancedClosingBrace => add_text(lines, "Unbalanced closing brace"),
         ErrorKind::ExpectedInlineExpression => add_text(lines, "Expected an inline expression"),
-        ErrorKind::ExpectedSimpleExpressionAsSelector => add_text(lines, "Expected a simple expression as selector"),
+        ErrorKind::ExpectedSimpleExpressionAsSelector => add_text(
+            lines,
+            "Expected a simple expression as selector",
+        ),
         ErrorKind::ExpectedLiteral => add_text(lines, "Expected a string or number literal"),
     }
 }
