@@ -229,6 +229,16 @@ class Trees(unittest.TestCase):
         self.assertFalse(ast.Comment("a").equals(ast.GroupComment("a")))
         self.assertNotEqual(ast.Comment("a"), ast.GroupComment("a"))
 
+    def test_joined(self) -> None:
+        tree = dovelectern.parse("a =\n    b\n\n      c\n    { $x ->\n       *[d] e\n            f\n    }\n")
+        message = dovelectern.joined(tree).body[0]
+        assert isinstance(message, ast.Message) and message.value
+        text, placeable = message.value.elements
+        self.assertEqual(text, ast.TextElement("b\n\n  c\n"))
+        assert isinstance(placeable, ast.Placeable) and isinstance(placeable.expression, ast.SelectExpression)
+        self.assertEqual(placeable.expression.variants[0].value, ast.Pattern([ast.TextElement("e\nf")]))
+        self.assertNotEqual(dovelectern.joined(tree), tree)
+
     def test_literals(self) -> None:
         value = ast.StringLiteral(r"a\\ \" \u00fc \U01F602 \ud800 \U110000").parse()
         self.assertEqual(value, {"value": 'a\\ " ü 😂 \ufffd \ufffd'})

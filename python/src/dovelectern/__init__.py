@@ -13,11 +13,11 @@ from . import ast
 from ._calls import check, check_file, format, format_file, parse, parse_file, serialize, serialize_entry
 from ._library import NESTING, Text
 from .errors import Error, FluentError, NoTree, SyntaxErrors, TooDeep
-from .visitor import Transformer, Visitor
+from .visitor import Transformer, Visitor, joined
 
 __version__ = "1.0.0"
 
 __all__ = [
     "Error", "FluentError", "NESTING", "NoTree", "SyntaxErrors", "Text", "TooDeep", "Transformer", "Visitor", "ast",
-    "check", "check_file", "format", "format_file", "parse", "parse_file", "serialize", "serialize_entry",
+    "check", "check_file", "format", "format_file", "joined", "parse", "parse_file", "serialize", "serialize_entry",
 ]

@@ -1,8 +1,8 @@
 """Walks over trees."""
 from dataclasses import fields
-from typing import Any
+from typing import Any, List
 
-from .ast import BaseNode
+from .ast import BaseNode, Pattern, PatternElement, Resource, TextElement
 
 
 class Visitor:
@@ -45,3 +45,23 @@ class Transformer(Visitor):
             elif isinstance(value, BaseNode):
                 setattr(node, it.name, self.visit(value))
         return node
+
+
+class _Joining(Transformer):
+    def visit_Pattern(self, node: Pattern) -> Pattern:
+        self.generic_visit(node)
+        elements: List[PatternElement] = []
+        for element in node.elements:
+            last = elements[-1] if elements else None
+            if isinstance(element, TextElement) and isinstance(last, TextElement):
+                last.value += element.value
+            else:
+                elements.append(element)
+        node.elements = elements
+        return node
+
+
+def joined(resource: Resource) -> Resource:
+    """A copy of the tree in which texts that follow one another are one: `parse` gives one for each line."""
+    copy: Resource = _Joining().visit(resource.clone())
+    return copy
