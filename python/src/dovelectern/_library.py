@@ -29,23 +29,13 @@ class ErrorRow(NamedTuple):
     kind: int
 
 
-class NameRow(NamedTuple):
-    """A name's place, in bytes."""
-
-    line: int
-    column: int
-    start: int
-    end: int
-    owner: int
-    kind: int
-
-
 class _ErrorStruct(ctypes.Structure):
     _fields_ = [(name, ctypes.c_size_t) for name in ErrorRow._fields[:-1]] + [("kind", ctypes.c_uint32)]
 
 
 class _NameStruct(ctypes.Structure):
-    _fields_ = [(name, ctypes.c_size_t) for name in NameRow._fields[:-1]] + [("kind", ctypes.c_uint32)]
+    _fields_ = [(name, ctypes.c_size_t) for name in ("line", "column", "start", "end", "owner")]
+    _fields_ += [("kind", ctypes.c_uint32)]
 
 
 def _load() -> ctypes.CDLL:
@@ -140,10 +130,13 @@ def messages(text: bytes, edition: int, nesting: int) -> List[str]:
     return str(memoryview(out)[:length], "utf-8").split("\n")[:-1]
 
 
-def names(text: bytes, edition: int, nesting: int) -> List[Tuple[int, int]]:
-    """Where the names of messages, terms and attributes of the text stand, in order, in bytes."""
+def names(text: bytes, edition: int, nesting: int) -> Tuple[List[int], List[int]]:
+    """Where the names of messages, terms and attributes of the text begin, in order, and where they end, in bytes."""
     rows, count, _ = _items("ftl_names", edition, nesting, text, _NameStruct, 16 + len(text) // 64)
-    return [(row.start, row.end) for row in rows[:count]]
+    # each row is as wide as so many numbers; its start and its end are the third and the fourth
+    width = ctypes.sizeof(_NameStruct) // ctypes.sizeof(ctypes.c_size_t)
+    numbers = memoryview(rows).cast("B").cast("N")[:count * width]
+    return numbers[2::width].tolist(), numbers[3::width].tolist()
 
 
 def kind_name(kind: int) -> str:
