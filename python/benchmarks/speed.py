@@ -11,7 +11,7 @@ from typing import Any, Callable
 import dovelectern
 import plain_reader
 
-TURNS = 5
+TURNS = 3
 
 
 def best(call: Callable[[], Any]) -> float:

@@ -34,8 +34,8 @@ class _ErrorStruct(ctypes.Structure):
 
 
 class _NameStruct(ctypes.Structure):
-    _fields_ = [(name, ctypes.c_size_t) for name in ("line", "column", "start", "end", "owner")]
-    _fields_ += [("kind", ctypes.c_uint32)]
+    _fields_ = [*((name, ctypes.c_size_t) for name in ("line", "column", "start", "end", "owner")),
+                ("kind", ctypes.c_uint32)]
 
 
 def _load() -> ctypes.CDLL:
