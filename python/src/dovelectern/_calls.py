@@ -1,0 +1,177 @@
+"""What the package does."""
+import gc
+import os
+from contextlib import contextmanager
+from functools import lru_cache
+from itertools import chain
+from typing import Iterator, List, Tuple, Union
+
+from . import _library, _places, _reading, _writing, ast
+from ._library import NESTING, Text
+from .ast import Span
+from .errors import Error, NoTree, SyntaxErrors, TooDeep
+
+Path = Union[str, "os.PathLike[str]", bytes, "os.PathLike[bytes]"]
+
+
+def parse(text: Text, *, nesting: int = NESTING, with_spans: bool = True) -> ast.Resource:
+    """The tree of a text, by edition one of the grammar. What was refused is a `Junk`, with its error as annotation.
+
+    `TooDeep`: placeables and argument lists nest more than `nesting` deep, or more than Python's recursion takes.
+    `UnicodeDecodeError`: bytes that are not UTF-8. `UnicodeEncodeError`: a str with a surrogate. `TypeError`: no text.
+    Without `with_spans` no node has a span.
+    """
+    data, depth = _library.as_bytes(text), _library.as_nesting(nesting)
+    written, has_errors = _library.answer(_library.JSON, data, depth)
+    try:
+        with _no_collection():
+            tree = _reading.resource(written)
+            if has_errors:
+                _annotate(tree, _errors(data, 1, depth), with_spans)
+            if with_spans:
+                _place_names(tree, data, depth)
+            return tree
+    except RecursionError:
+        raise TooDeep("the text nests more deeply than Python's recursion takes") from None
+
+
+@contextmanager
+def _no_collection() -> Iterator[None]:
+    """Holds off the search for garbage, of which a tree that comes into being has none: it would take most of the time."""
+    was_on = gc.isenabled()
+    gc.disable()
+    try:
+        yield
+    finally:
+        if was_on:
+            gc.enable()
+
+
+def _annotate(tree: ast.Resource, errors: List[Error], with_spans: bool) -> None:
+    """Tells of each junk its error; they are as many, in the same order."""
+    junks = (it for it in tree.body if isinstance(it, ast.Junk))
+    for junk, error in zip(junks, errors):
+        junk.annotations.append(ast.Annotation(error.kind, [], error.message, error.span if with_spans else None))
+        junk.span = error.junk if with_spans else None
+
+
+def _place_names(tree: ast.Resource, data: bytes, nesting: int) -> None:
+    """Tells of the name of each message, term and attribute where it stands; the library gives them in their order."""
+    starts, ends = _library.names(data, 1, nesting)
+    if not data.isascii():
+        at = _places.in_characters(data, chain(starts, ends))
+        starts, ends = [at[it] for it in starts], [at[it] for it in ends]
+    spans = map(Span, starts, ends)
+    for entry in tree.body:
+        if isinstance(entry, (ast.Message, ast.Term)):
+            entry.id.span = next(spans)
+            for attribute in entry.attributes:
+                attribute.id.span = next(spans)
+
+
+def serialize(resource: ast.Resource) -> str:
+    """The text of a tree, without its junk.
+
+    `TypeError` where a field holds something else than the classes of `dovelectern.ast` say, with the way to it.
+    `TooDeep`: the tree nests more deeply than the library takes trees, which is some 20 selects in one another.
+    """
+    try:
+        with _no_collection():
+            written = _writing.json_of(resource)
+        return _library.answer(_library.FROM_JSON, written.encode(), NESTING)[0]
+    except RecursionError:
+        raise TooDeep("the tree nests more deeply than Python's recursion takes") from None
+    except NoTree:
+        # tells what is wrong, and where
+        _writing.value_of(resource)
+        raise
+
+
+def serialize_entry(entry: ast.AnyEntry) -> str:
+    """The text of one entry, as `serialize` writes it alone."""
+    return serialize(ast.Resource([entry]))
+
+
+def check(text: Text, *, edition: int = 1, nesting: int = NESTING) -> List[Error]:
+    """The syntax errors of a text, in order. What it raises is what `parse` raises; `ValueError`: no such edition."""
+    return _errors(_library.as_bytes(text), _as_edition(edition), _library.as_nesting(nesting))
+
+
+def format(text: Text, *, edition: int = 1, comments: bool = True, drop_junk: bool = False,
+           nesting: int = NESTING) -> str:
+    """A text in its normal form; without comments if `comments` is false, which is for edition 1.
+
+    `SyntaxErrors` where it has syntax errors. With `drop_junk` what was refused is left out instead. For the rest it
+    raises what `check` raises.
+    """
+    data, depth = _library.as_bytes(text), _library.as_nesting(nesting)
+    if _as_edition(edition) == 2 and not comments:
+        raise ValueError("texts without comments are written by edition 1 alone")
+    command = _library.FORMAT_TWO if edition == 2 else _library.FORMAT if comments else _library.RUNTIME
+    written, has_errors = _library.answer(command, data, depth)
+    if has_errors and not drop_junk:
+        raise SyntaxErrors(_errors(data, edition, depth))
+    return written
+
+
+def parse_file(path: Path, *, nesting: int = NESTING, with_spans: bool = True) -> ast.Resource:
+    """The tree of a file. Beside what `parse` raises, `OSError`; what is wrong with the text tells the file too."""
+    with _File(path) as data:
+        return parse(data, nesting=nesting, with_spans=with_spans)
+
+
+def check_file(path: Path, *, edition: int = 1, nesting: int = NESTING) -> List[Error]:
+    """The syntax errors of a file. It raises what `check` raises, and `OSError`."""
+    with _File(path) as data:
+        return check(data, edition=edition, nesting=nesting)
+
+
+def format_file(path: Path, *, edition: int = 1, comments: bool = True, drop_junk: bool = False,
+                nesting: int = NESTING) -> str:
+    """A file's text in its normal form; nothing is written to the file. It raises what `format` raises, and `OSError`."""
+    with _File(path) as data:
+        return format(data, edition=edition, comments=comments, drop_junk=drop_junk, nesting=nesting)
+
+
+class _File:
+    """The bytes of a file; what is raised over them is told with its path."""
+
+    def __init__(self, path: Path) -> None:
+        self.path = os.fsdecode(path)
+
+    def __enter__(self) -> bytes:
+        with open(self.path, "rb") as file:
+            return file.read()
+
+    def __exit__(self, kind: object, error: object, trace: object) -> None:
+        if isinstance(error, SyntaxErrors):
+            raise SyntaxErrors(error.errors, self.path) from None
+        if isinstance(error, TooDeep):
+            raise TooDeep(f"{self.path}: {error}") from None
+        if isinstance(error, UnicodeDecodeError):
+            raise UnicodeDecodeError(error.encoding, error.object, error.start, error.end,
+                                     f"{error.reason} in {self.path}") from None
+
+
+def _as_edition(edition: int) -> int:
+    if edition not in (1, 2):
+        raise ValueError(f"an edition is 1 or 2, not {edition!r}")
+    return edition
+
+
+_kind_name = lru_cache(maxsize=None)(_library.kind_name)
+
+
+def _errors(data: bytes, edition: int, nesting: int) -> List[Error]:
+    rows = _library.errors(data, edition, nesting)
+    if not rows:
+        return []
+    messages = _library.messages(data, edition, nesting)
+    at = _places.in_characters(data, (place for row in rows for place in row[2:6]))
+    return [_error(data, row, message, (Span(at[row.start], at[row.end]), Span(at[row.junk_start], at[row.junk_end])))
+            for row, message in zip(rows, messages)]
+
+
+def _error(data: bytes, row: _library.ErrorRow, message: str, spans: Tuple[Span, Span]) -> Error:
+    column, column_utf16 = _places.columns(data, row.start, row.column)
+    return Error(_kind_name(row.kind), message, row.line, column, column_utf16, row.column, *spans)
