@@ -195,7 +195,7 @@ module _ (edition : Edition) (t : List ℕ) where
   hash_comment_of i j e (Some b) f g (second h x) = differs (ap (holds (λ b. b == 35)) (sym f) ∙ g) h
 
   -- where `#` stands, the entry is a comment
-  hash_comment : (i j : ℕ) (e : EntryTree Span) → has_byte t 35 i ≡ true → entry_at edition t i (Read e j) →
+  pub hash_comment : (i j : ℕ) (e : EntryTree Span) → has_byte t 35 i ≡ true → entry_at edition t i (Read e j) →
       comment_entry t i (Read e j)
   hash_comment i j e g (chosen x) = hash_comment_of i j e (slice_get t i) refl g x
 
