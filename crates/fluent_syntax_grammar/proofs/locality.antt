@@ -11,6 +11,7 @@ pub mod KeptWords
 pub mod KeptLayouts
 pub mod KeptRules
 pub mod KeptEntries
+pub mod KeptTiles
 pub mod KeptRuntime
 pub mod Edits
 pub mod RuntimeEdits

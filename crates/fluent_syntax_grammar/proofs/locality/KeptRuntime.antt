@@ -22,9 +22,11 @@ use Rattle.fluent_syntax_grammar.proofs.Boundaries.{text_cuts}
 use Rattle.fluent_syntax_grammar.proofs.locality.Kept.{Any, Shared, KeepsBelow, below_bind, plain}
 use Rattle.fluent_syntax_grammar.proofs.locality.KeptWords.{below_rest_of_line, keeps_optional_eol, kept_block}
 use Rattle.fluent_syntax_grammar.proofs.locality.KeptEntries.{Dotless, dotless_quiet, dotless_there, quiet_entry}
-use Rattle.fluent_syntax_grammar.proofs.locality.KeptEntries.{head_of_entry, entry_head, entry_on, entry_in, junk_on}
-use Rattle.fluent_syntax_grammar.proofs.locality.KeptEntries.{quiet_head, first_settled, rest_settled, junk_keep}
-use Rattle.fluent_syntax_grammar.proofs.locality.KeptEntries.{message_keep, term_keep, none_behind}
+use Rattle.fluent_syntax_grammar.proofs.locality.KeptEntries.{head_of_entry, entry_head}
+use Rattle.fluent_syntax_grammar.proofs.locality.KeptTiles.{entry_on, entry_in, junk_on}
+use Rattle.fluent_syntax_grammar.proofs.locality.KeptTiles.{quiet_head, first_settled, rest_settled, junk_keep}
+use Rattle.fluent_syntax_grammar.proofs.locality.KeptEntries.{message_keep, term_keep}
+use Rattle.fluent_syntax_grammar.proofs.locality.KeptTiles.{none_behind}
 
 module _ (edition : Edition) (p : ℕ) (t u : List ℕ) (s : Shared p t u) where
   -- a line that begins with `#` is not empty

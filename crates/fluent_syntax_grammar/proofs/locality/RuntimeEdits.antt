@@ -9,7 +9,7 @@ use Rattle.fluent_syntax_grammar.proofs.Facts.{has_inside}
 use Rattle.fluent_syntax_grammar.proofs.WholeLines.{line_in_text, line_of}
 use Rattle.fluent_syntax_grammar.proofs.locality.Moved.{behind}
 use Rattle.fluent_syntax_grammar.proofs.locality.Tiles.{faults_there, runtime_tiled_there}
-use Rattle.fluent_syntax_grammar.proofs.locality.KeptEntries.{JunkBelow, ends_early}
+use Rattle.fluent_syntax_grammar.proofs.locality.KeptTiles.{JunkBelow, ends_early}
 use Rattle.fluent_syntax_grammar.proofs.locality.KeptRuntime.{runtime_keep}
 use Rattle.fluent_syntax_grammar.proofs.locality.Edits.{LiesWithin, faults_both, first_entry, led_then, lies_within}
 use Rattle.fluent_syntax_grammar.proofs.locality.Edits.{line_kept, p_in_text, shared_of}

@@ -34,7 +34,8 @@ use Rattle.fluent_syntax_grammar.proofs.SomeTiling.{some_tiling}
 use Rattle.fluent_syntax_grammar.proofs.WholeLines.{IsLine, comment_whole, hash_bytes, line_to}
 use Rattle.fluent_syntax_grammar.proofs.locality.Moved.{Behind, behind}
 use Rattle.fluent_syntax_grammar.proofs.locality.Tiles.{faults_there, runtime_tiled_there, tiled_there, tree_there}
-use Rattle.fluent_syntax_grammar.proofs.locality.KeptEntries.{JunkBelow, hash_comment}
+use Rattle.fluent_syntax_grammar.proofs.locality.KeptEntries.{hash_comment}
+use Rattle.fluent_syntax_grammar.proofs.locality.KeptTiles.{JunkBelow}
 use Rattle.fluent_syntax_grammar.proofs.locality.Edits.{begins_ends, faults_append, led_then, p_in_text}
 use Rattle.fluent_syntax_grammar.proofs.locality.NewTexts.{gap_lf, line_behind, text_begins, text_ends}
 use Rattle.fluent_syntax_grammar.proofs.locality.Replaced.{gap_length, reads_first}
