@@ -109,9 +109,9 @@ before_entry places index text =
     (λ run. Ok (record { start = start_of places run; end = start_of places run })) (sound_run places index)
 
 -- up to what stands behind, if it begins like an entry
-abbrev pub up_to_entry : List ℕ → List Place → ℕ → (before : List Place) → Option Place → Result Stretch EditFault
-up_to_entry t places start before None = Err NothingBehind
-up_to_entry t places start before (Some next) =
+abbrev pub up_to_entry : List ℕ → ℕ → (before : List Place) → Option Place → Result Stretch EditFault
+up_to_entry t start before None = Err NothingBehind
+up_to_entry t start before (Some next) =
     if begins_entry (drop next.span.start t)
     then unless_comment (comment_before before start (drop next.span.start t))
         (Ok (record { start = start; end = next.span.start }))
@@ -120,7 +120,7 @@ up_to_entry t places start before (Some next) =
 abbrev pub removed_run : List ℕ → List Place → Result Run EditFault → Result Stretch EditFault
 removed_run t places (Err fault) = Err fault
 removed_run t places (Ok run) =
-    up_to_entry t places (start_of places run) (take run.first places) (slice_get places run.end)
+    up_to_entry t (start_of places run) (take run.first places) (slice_get places run.end)
 
 -- the stretch of the entry of that number, up to where the next one begins
 abbrev pub up_to_next : List ℕ → List Place → ℕ → Result Stretch EditFault
