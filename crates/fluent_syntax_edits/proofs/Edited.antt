@@ -10,7 +10,7 @@ use Rattle.fluent_syntax_tree.specs.declared.edition.Edition.{Edition}
 use Rattle.fluent_syntax_tree.specs.declared.edition.Edition.TheVariants.{One, Two}
 use Rattle.fluent_syntax_tree.specs.declared.spans.Span.{Span}
 use Rattle.fluent_syntax_grammar.specs.Tiling.{Fault, Tile, Tiled, TileAt, Tiling, dropped, entry, refused}
-use Rattle.fluent_syntax_grammar.specs.Body.{alone, body, faults, hangs}
+use Rattle.fluent_syntax_grammar.specs.Body.{alone, body, faults, hangs, joined}
 use Rattle.fluent_syntax_grammar.specs.Canonical.{is_canonical}
 use Rattle.fluent_syntax_grammar.specs.Locality.{Led, begins_comment, begins_entry, blank_lines, entry_text}
 use Rattle.fluent_syntax_grammar.specs.Locality.{is_comment, may_begin, moved_fault, moved_tiles, start_of}
@@ -55,8 +55,8 @@ junk_behind (comment level c) xs h = h
 -- by what the first two of the tiles give together
 sound_two : (x z : Tile) (xs : List Tile) (o : Option (EntryTree Span)) → hangs x z ≡ o →
     (has_junk (body xs) ≡ false → faults xs ≡ []) → (has_junk (body (z ∷ xs)) ≡ false → faults (z ∷ xs) ≡ []) →
-    has_junk (body (x ∷ z ∷ xs)) ≡ false → faults (x ∷ z ∷ xs) ≡ []
-sound_two (entry s c) (entry r e) xs (Some v) f h g n = h (junk_behind v (body xs) (rw f at n))
+    has_junk (joined o (alone x) (body (z ∷ xs)) (body xs)) ≡ false → faults (x ∷ z ∷ xs) ≡ []
+sound_two (entry s c) (entry r e) xs (Some v) f h g n = h (junk_behind v (body xs) n)
 sound_two (entry s c) (refused v) xs (Some w) f h g n = absurd (no_entry c v w f)
   where
     no_entry : (c : EntryTree Span) (v : Fault) (w : EntryTree Span) → hangs (entry s c) (refused v) ≡ Some w → ⊥
@@ -66,12 +66,12 @@ sound_two (entry s c) (refused v) xs (Some w) f h g n = absurd (no_entry c v w f
     no_entry (comment regular d) v w f = cc
     no_entry (comment group d) v w f = cc
     no_entry (comment resource d) v w f = cc
-sound_two (entry s c) dropped xs (Some v) f h g n = h (junk_behind v (body xs) (rw f at n))
+sound_two (entry s c) dropped xs (Some v) f h g n = h (junk_behind v (body xs) n)
 sound_two (refused v) z xs (Some w) f h g n = cc
 sound_two dropped z xs (Some w) f h g n = cc
-sound_two (entry s c) z xs None f h g n = g (junk_behind c (body (z ∷ xs)) (rw f at n))
+sound_two (entry s c) z xs None f h g n = g (junk_behind c (body (z ∷ xs)) n)
 sound_two (refused v) z xs None f h g n = cc
-sound_two dropped z xs None f h g n = g (rw f at n)
+sound_two dropped z xs None f h g n = g n
 
 sound_tiles : (xs : List Tile) → has_junk (body xs) ≡ false → faults xs ≡ []
 sound_tiles [] n = refl

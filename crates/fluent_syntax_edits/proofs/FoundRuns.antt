@@ -1,5 +1,5 @@
 -- The tiles of an entry that is found by its number.
-use Rattle.std.proofs.Common.{◌≡◌, ℕ, ◌+◌, List, [], ◌∷◌, ◌++◌, length, map, Option, Some, None, Bool, true, false}
+use Rattle.std.proofs.Common.{◌≡◌, ℕ, zero, suc, ◌+◌, List, [], ◌∷◌, ◌++◌, length, map, Option, Some, None, Bool, true, false}
 use Rattle.std.proofs.Common.{refl, sym, ◌∙◌, ap, subst, arith}
 use Rattle.std.specs.Prelude.{◌==◌, ◌&&◌, if◌then◌else◌}
 use Rattle.fluent_syntax_tree.specs.Entry.{EntryTree, comment, group, junk, message, regular, resource, term}
@@ -19,8 +19,8 @@ hang_yes (entry s (term m)) y h = cc
 hang_yes (entry s (junk b)) y h = cc
 hang_yes (entry s (comment group c)) y h = cc
 hang_yes (entry s (comment resource c)) y h = cc
-hang_yes (entry s (comment regular c)) (entry r (message m)) h = (_, rw h refl)
-hang_yes (entry s (comment regular c)) (entry r (term m)) h = (_, rw h refl)
+hang_yes (entry s (comment regular c)) (entry r (message m)) h = (message (record m { comment = Some c }), rw h refl)
+hang_yes (entry s (comment regular c)) (entry r (term m)) h = (term (record m { comment = Some c }), rw h refl)
 hang_yes (entry s (comment regular c)) (entry r (comment regular d)) h = cc
 hang_yes (entry s (comment regular c)) (entry r (comment group d)) h = cc
 hang_yes (entry s (comment regular c)) (entry r (comment resource d)) h = cc
@@ -30,9 +30,9 @@ hang_yes (entry s (comment regular c)) dropped h = cc
 hang_yes (refused f) y h = cc
 hang_yes dropped y h = cc
 
-same_none : (b : Bool) → (if b then None {X = EntryTree Span} else None) ≡ None
-same_none true = refl
-same_none false = refl
+same_none : (b : Bool) (o : Option (EntryTree Span)) → o ≡ None → (if b then o else None) ≡ None
+same_none true o e = e
+same_none false o e = refl
 
 pub hang_no : (x y : Tile) → hangs_on (place_of x) (place_of y) ≡ false → hangs x y ≡ None
 hang_no (entry s (message m)) y h = refl
@@ -42,8 +42,8 @@ hang_no (entry s (comment group c)) y h = refl
 hang_no (entry s (comment resource c)) y h = refl
 hang_no (entry s (comment regular c)) (entry r (message m)) h = rw h refl
 hang_no (entry s (comment regular c)) (entry r (term m)) h = rw h refl
-hang_no (entry s (comment regular c)) (entry r (comment level d)) h = same_none (s.end == r.start)
-hang_no (entry s (comment regular c)) (entry r (junk b)) h = same_none (s.end == r.start)
+hang_no (entry s (comment regular c)) (entry r (comment level d)) h = same_none (s.end == r.start) None refl
+hang_no (entry s (comment regular c)) (entry r (junk b)) h = same_none (s.end == r.start) None refl
 hang_no (entry s (comment regular c)) (refused f) h = refl
 hang_no (entry s (comment regular c)) dropped h = refl
 hang_no (refused f) y h = refl
@@ -195,14 +195,14 @@ two_more x y ts at m run h f =
 
 last_one : (x : Tile) (at n : ℕ) (run : Run) →
     this_or n (record { first = at; end = at + 1 }) (λ _. None) ≡ Some run → Found (x ∷ []) at n run
-last_one x at zero run h = this_one x [] at run cc tt
+last_one x at zero run h = this_one x [] at run (cc) tt
 last_one x at (suc n) run h = cc
 
 by_hanging : (x y : Tile) (ts : List Tile) (at n : ℕ) (run : Run) → hangs_on (place_of x) (place_of y) ≡ true →
     this_or n (record { first = at; end = at + 2 }) (λ m. run_from (at + 2) m (map place_of ts)) ≡ Some run →
     ((m : ℕ) → run_from (at + 2) m (map place_of ts) ≡ Some run → Found ts (at + 2) m run) →
     Found (x ∷ y ∷ ts) at n run
-by_hanging x y ts at zero run e h f = these_two x y ts at run cc e
+by_hanging x y ts at zero run e h f = these_two x y ts at run (cc) e
 by_hanging x y ts at (suc m) run e h f = two_more x y ts at m run e (f m h)
 
 by_standing : (x y : Tile) (ts : List Tile) (at n : ℕ) (run : Run) → AreKept (x ∷ y ∷ ts) →
@@ -210,7 +210,7 @@ by_standing : (x y : Tile) (ts : List Tile) (at n : ℕ) (run : Run) → AreKept
     this_or n (record { first = at; end = at + 1 }) (λ m. run_from (at + 1) m (map place_of (y ∷ ts))) ≡ Some run →
     ((m : ℕ) → run_from (at + 1) m (map place_of (y ∷ ts)) ≡ Some run → Found (y ∷ ts) (at + 1) m run) →
     Found (x ∷ y ∷ ts) at n run
-by_standing x y ts at zero run k e h f = this_one x (y ∷ ts) at run cc (hang_no x y e)
+by_standing x y ts at zero run k e h f = this_one x (y ∷ ts) at run (cc) (hang_no x y e)
 by_standing x y ts at (suc m) run k e h f = one_more x y ts at m run k (hang_no x y e) (f m h)
 
 by_test : (x y : Tile) (ts : List Tile) (at n : ℕ) (run : Run) (b : Bool) →

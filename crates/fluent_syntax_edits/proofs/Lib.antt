@@ -5,3 +5,5 @@ pub mod CommentsBefore
 pub mod Standing
 pub mod Edited
 pub mod Results
+pub mod RunSteps
+pub mod Steps

@@ -49,20 +49,20 @@ by_comment (Some c) r s h = cc
 by_comment None r s h = (refl, h)
 
 -- the run that was found, before which no comment takes what comes, and its stretch
-record OfRun (places : List Place) (next : Run → List ℕ) (stretch : Run → Result Stretch EditFault)
+record OfRun (places : List Place) (coming : Run → List ℕ) (stretch : Run → Result Stretch EditFault)
     (o : Result Run EditFault) (s : Stretch) :
     Type 0 where
   run : Run
   is : o ≡ Ok run
-  free : comment_before (take run.first places) (start_of places run) (next run) ≡ None
+  free : comment_before (take run.first places) (start_of places run) (coming run) ≡ None
   gives : stretch run ≡ Ok s
 
-by_run : (places : List Place) (next : Run → List ℕ) (stretch : Run → Result Stretch EditFault)
-    (o : Result Run EditFault) (s : Stretch) → of_run places next stretch o ≡ Ok s → OfRun places next stretch o s
-by_run places next stretch (Err fault) s h = cc
-by_run places next stretch (Ok run) s h =
+by_run : (places : List Place) (coming : Run → List ℕ) (stretch : Run → Result Stretch EditFault)
+    (o : Result Run EditFault) (s : Stretch) → of_run places coming stretch o ≡ Ok s → OfRun places coming stretch o s
+by_run places coming stretch (Err fault) s h = cc
+by_run places coming stretch (Ok run) s h =
     let x =
-    by_comment (comment_before (take run.first places) (start_of places run) (next run)) (stretch run) s h in
+    by_comment (comment_before (take run.first places) (start_of places run) (coming run)) (stretch run) s h in
     record { run = run; is = refl; free = x.0; gives = x.1 }
 
 by_behind : (b : Bool) (x y : Stretch) (f : EditFault) → (if b then Ok x else Err f) ≡ Ok y → (b ≡ true) × (x ≡ y)
@@ -80,7 +80,7 @@ first_places before rest n e =
 place_behind : (before rest : List Tile) (n : ℕ) → n ≡ length before →
     slice_get (map place_of (before ++ rest)) n ≡ slice_get (map place_of rest) 0
 place_behind before rest n e =
-    let size : length (map place_of before) ≡ n = length-map place_of before ∙ sym e in
+    let size : length (map place_of before) ≡ n = length-map before place_of ∙ sym e in
     ap (λ ps. slice_get ps n) (map-append place_of before rest)
     ∙ (ap (slice_get (map place_of before ++ map place_of rest)) (sym size)
     ∙ get_seam (map place_of before) (map place_of rest))
@@ -110,13 +110,13 @@ module _ (edition : Edition) (t : List ℕ) (tiles : List Tile) (index : ℕ) (r
       ap (λ ts. slice_get (map place_of ts) run.end) (f.parts ∙ sym (append_assoc f.before f.own f.after))
       ∙ place_behind (f.before ++ f.own) f.after run.end end
 
-  free_there : (st : Stands edition t x.found.before x.found.own x.found.after) (next : List ℕ) →
-      comment_before (take run.first (map place_of tiles)) (start_of (map place_of tiles) run) next ≡ None →
-      FreeBefore st.s.start next x.found.before
-  free_there st next h =
-      free_before st.s.start next x.found.before
-      (sym (ap (λ ps. comment_before ps st.s.start next) before_places)
-      ∙ (ap (λ k. comment_before (take run.first (map place_of tiles)) k next) (sym (start_place st)) ∙ h))
+  free_there : (st : Stands edition t x.found.before x.found.own x.found.after) (coming : List ℕ) →
+      comment_before (take run.first (map place_of tiles)) (start_of (map place_of tiles) run) coming ≡ None →
+      FreeBefore st.s.start coming x.found.before
+  free_there st coming h =
+      free_before st.s.start coming x.found.before
+      (sym (ap (λ ps. comment_before ps st.s.start coming) before_places)
+      ∙ (ap (λ k. comment_before (take run.first (map place_of tiles)) k coming) (sym (start_place st)) ∙ h))
 
 -- ---- what stands behind
 
@@ -189,7 +189,7 @@ by_begins : (b : Bool) (x : Result Stretch EditFault) (y : Stretch) (f : EditFau
 by_begins true x y f h = (refl, h)
 by_begins false x y f h = cc
 
-ok_same : {x y : Stretch} → Ok {E = EditFault} x ≡ Ok y → x ≡ y
+ok_same : {x y : Stretch} → (let r : Result Stretch EditFault = Ok x in r ≡ Ok y) → x ≡ y
 ok_same h = cc
 
 module _ (edition : Edition) (t : List ℕ) where
@@ -251,7 +251,7 @@ away_length t p q l m =
 
 tree_count : (t : List ℕ) (before : List Tile) (index : ℕ) → length (body before) ≡ index →
     length (tree_of t before) ≡ index
-tree_count t before index e = length-map (entry_map (bytes_at t)) (body before) ∙ e
+tree_count t before index e = length-map (body before) (entry_map (bytes_at t)) ∙ e
 
 module _ (edition : Edition) (t : List ℕ) (tiles : List Tile) (a : Tiling edition t tiles) (index : ℕ) where
   pub replaced : (e : EntryTree Text) (blank : ℕ) (s : Stretch) → is_canonical edition (e ∷ []) ≡ true →

@@ -34,7 +34,7 @@ no_junk (dropped ∷ tiles) h = cc
 -- ---- what was found
 
 by_junk : (run other : Run) (o : Option Span) → without_junk run o ≡ Ok other → (run ≡ other) × (o ≡ None)
-by_junk run other (Some junk) h = cc
+by_junk run other (Some s) h = cc
 by_junk run other None h = (cc, refl)
 
 by_run : (places : List Place) (o : Option Run) (run : Run) → found_run places o ≡ Ok run →

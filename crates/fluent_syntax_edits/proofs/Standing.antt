@@ -111,10 +111,10 @@ module _ (edition : Edition) (t : List ℕ) where
 
   pub own_stands : (before own after : List Tile) → OwnTiles own → Tiling edition t (before ++ (own ++ after)) →
       AreKept (own ++ after) → faults before ≡ [] → faults own ≡ [] → Stands edition t before own after
-  own_stands before .(entry s e ∷ []) after (one {x = entry s e}) a k f g = one_stands before s e after a f
-  own_stands before .(refused v ∷ []) after (one {x = refused v}) a k f g = cc
-  own_stands before .(dropped ∷ []) after (one {x = dropped}) a k f g = absurd k
-  own_stands before .(entry s c ∷ entry r e ∷ []) after (two {x = entry s c} {y = entry r e} h) a k f g =
+  own_stands before own after (one {x = entry s e}) a k f g = one_stands before s e after a f
+  own_stands before own after (one {x = refused v}) a k f g = cc
+  own_stands before own after (one {x = dropped}) a k f g = absurd k
+  own_stands before own after (two {x = entry s c} {y = entry r e} h) a k f g =
       two_stand before s r c e after (hang_yes (entry s c) (entry r e) h) a f
   own_stands before own after (two {x = refused v} {y = y} h) a k f g = cc
   own_stands before own after (two {x = dropped} {y = y} h) a k f g = absurd k

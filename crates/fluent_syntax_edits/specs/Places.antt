@@ -1,5 +1,5 @@
 -- Where the tiles of a text stand.
-use Rattle.std.specs.Prelude.{◌≡◌, ℕ, ◌<◌, ◌≤◌, List, map, length, All}
+use Rattle.std.specs.Prelude.{◌≡◌, ℕ, List, map}
 use Rattle.fluent_syntax_tree.specs.Entry.{EntryTree, message, term, comment, junk, regular, group, resource}
 use Rattle.fluent_syntax_tree.specs.declared.edition.Edition.{Edition}
 use Rattle.fluent_syntax_tree.specs.declared.spans.Span.{Span}
@@ -28,7 +28,3 @@ pub record Outlines (edition : Edition) (t : List ℕ) (places : List Place) : T
   pub tiles : List Tile
   pub tiling : Tiling edition t tiles
   pub places_of : places ≡ map place_of tiles
-
--- Each place begins within the text.
-abbrev pub AreWithin : List ℕ → List Place → Type 0
-AreWithin t places = All (λ place. place.span.start < length t) places

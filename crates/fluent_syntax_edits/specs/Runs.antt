@@ -1,5 +1,5 @@
 -- The places of an entry by its number in the tree.
-use Rattle.std.specs.Prelude.{ℕ, ◌+◌, ◌==◌, ◌&&◌, Bool, true, false, List, [], ◌∷◌, Option, Some, None, if◌then◌else◌}
+use Rattle.std.specs.Prelude.{ℕ, zero, suc, ◌+◌, ◌==◌, ◌&&◌, Bool, true, false, List, [], ◌∷◌, Option, Some, None, if◌then◌else◌}
 use Rattle.fluent_syntax_edits.specs.declared.places.Place.{Place}
 use Rattle.fluent_syntax_edits.specs.declared.places.PlaceKind.{PlaceKind}
 use Rattle.fluent_syntax_edits.specs.declared.places.PlaceKind.TheVariants.{Field, Comment, OtherComment, Junk}
@@ -22,6 +22,12 @@ may_carry Junk = false
 -- whether the first is a comment that hangs on the second
 abbrev pub hangs_on : Place → Place → Bool
 hangs_on x y = may_hang x.kind && may_carry y.kind && x.span.end == y.span.start
+
+-- where the places of the first entry among these end, of which the first place has the number `at`
+abbrev pub own_end : ℕ → List Place → ℕ
+own_end at [] = at + 1
+own_end at (x ∷ []) = at + 1
+own_end at (x ∷ y ∷ places) = if hangs_on x y then at + 2 else at + 1
 
 -- the n-th entry, or what is found behind the first one
 abbrev pub this_or : ℕ → Run → (behind : ℕ → Option Run) → Option Run

@@ -1,5 +1,5 @@
 -- The blank lines of a text.
-use Rattle.std.specs.Prelude.{ℕ, ◌+◌, ◌==◌, ◌||◌, List, Option, Some, None, slice_get, if◌then◌else◌}
+use Rattle.std.specs.Prelude.{ℕ, zero, suc, ◌+◌, ◌==◌, ◌||◌, List, Option, Some, None, slice_get, if◌then◌else◌}
 use Rattle.fluent_syntax_grammar.specs.Bytes.{cr, lf, space}
 
 -- one more than the count at a line end, the count at a space or a CR, and 0 behind any other byte

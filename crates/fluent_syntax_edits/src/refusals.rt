@@ -1,14 +1,17 @@
 //! What has to hold where a text is to be changed.
-ghost use Rattle.std.specs.Prelude.{◌≡◌, ◌≤◌, length};
+ghost use Rattle.std.specs.Prelude.{◌≡◌, ◌<◌, ◌≤◌, drop, length, slice_get, take, IfOk};
 ghost use Rattle.fluent_syntax_edits.specs.Refusals.{
   before_entry,
   comment_before,
   in_place_of,
   first_junk,
+  is_junk,
   sound_run,
+  start_of,
+  up_to_behind,
+  up_to_entry,
   up_to_next,
 };
-ghost use Rattle.fluent_syntax_edits.specs.Places.{AreWithin};
 ghost use Rattle.fluent_syntax_grammar.specs.Locality.{begins_comment, begins_entry, may_begin};
 ghost use Rattle.fluent_syntax_grammar.specs.Tiling.{is_entry_byte};
 
@@ -62,12 +65,22 @@ fn begins_entry(bytes: &[u8]) -> bool
     }
 }
 
+/// Whether it is junk.
+fn is_junk(kind: PlaceKind) -> bool
+    ensures { result ≡ is_junk kind }
+{
+    match kind {
+        PlaceKind::Junk => true,
+        PlaceKind::Field | PlaceKind::Comment | PlaceKind::OtherComment => false,
+    }
+}
+
 /// The first junk.
 fn first_junk(places: &[Place]) -> Option<Span>
     ensures { result ≡ first_junk places.now }
 {
     for place in places {
-        if place.kind == PlaceKind::Junk {
+        if is_junk(place.kind) {
             return Some(place.span);
         }
     }
@@ -76,7 +89,8 @@ fn first_junk(places: &[Place]) -> Option<Span>
 
 /// The places of the entry of that number, if neither it nor what stands before it is junk.
 fn sound_run(places: &[Place], index: usize) -> Result<Run, EditFault>
-    ensures { result ≡ sound_run places.now index }
+    ensures run { result ≡ sound_run places.now index }
+    ensures within { IfOk result (λ run. (run.first < run.end) × (run.end ≤ length places.now)) }
 {
     let Some(run) = run_of(places, index) else {
         return Err(EditFault::NoEntry);
@@ -87,21 +101,98 @@ fn sound_run(places: &[Place], index: usize) -> Result<Run, EditFault>
     }
 }
 
+/// Where the entry begins.
+fn start_of(places: &[Place], run: Run) -> usize
+    requires { run.first < length places.now }
+    ensures { result ≡ start_of places.now run }
+{
+    places[run.first].span.start
+}
+
+/// What stands behind the entry.
+fn next_place(places: &[Place], run: Run) -> Option<Place>
+    ensures { result ≡ slice_get places.now run.end }
+{
+    if run.end < places.len() {
+        Some(places[run.end])
+    } else {
+        None
+    }
+}
+
+/// The bytes from the place on.
+fn rest_of(source: &[u8], place: usize) -> &[u8]
+    ensures { result.now ≡ drop place source.now }
+{
+    &source[place.min(source.len())..]
+}
+
 /// The comment that ends at the place and would take what comes to stand there: as its next line, or as what it hangs
 /// on. It is the last of the places before, if it is one.
-fn comment_before(before: &[Place], place: usize, next: &[u8]) -> Option<Span>
-    ensures { result ≡ comment_before before.now place next.now }
+fn comment_before(before: &[Place], place: usize, coming: &[u8]) -> Option<Span>
+    ensures { result ≡ comment_before before.now place coming.now }
 {
     let comment = *before.last()?;
     let takes = match comment.kind {
         PlaceKind::Comment => true,
-        PlaceKind::OtherComment => begins_comment(next),
+        PlaceKind::OtherComment => begins_comment(coming),
         PlaceKind::Field | PlaceKind::Junk => false,
     };
     if takes && comment.span.end == place {
         Some(comment.span)
     } else {
         None
+    }
+}
+
+/// The comment before the entry that would take what comes to stand in its place.
+fn comment_there(places: &[Place], run: Run, coming: &[u8]) -> Option<Span>
+    requires { run.first < length places.now }
+    ensures { result ≡ comment_before (take run.first places.now) (start_of places.now run) coming.now }
+{
+    comment_before(&places[..run.first], start_of(places, run), coming)
+}
+
+/// From where the entry begins up to what stands behind it, if an entry may begin there, or to the text's end.
+fn up_to_behind(source: &[u8], places: &[Place], run: Run) -> Result<Stretch, EditFault>
+    requires { run.first < length places.now }
+    ensures { result ≡ up_to_behind source.now (start_of places.now run) (slice_get places.now run.end) }
+{
+    let start = start_of(places, run);
+    match next_place(places, run) {
+        Some(next) => {
+            let end = next.span.start;
+            if may_begin(rest_of(source, end)) {
+                Ok(Stretch { start, end })
+            } else {
+                Err(EditFault::JunkBehind(next.span))
+            }
+        }
+        None => {
+            let end = source.len();
+            Ok(Stretch { start, end })
+        }
+    }
+}
+
+/// From where the entry begins up to what stands behind it, if that begins like an entry.
+fn up_to_entry(source: &[u8], places: &[Place], run: Run) -> Result<Stretch, EditFault>
+    requires { run.first < length places.now }
+    ensures { let before = take run.first places.now in
+        result ≡ up_to_entry source.now (start_of places.now run) before (slice_get places.now run.end) }
+{
+    let start = start_of(places, run);
+    let Some(next) = next_place(places, run) else {
+        return Err(EditFault::NothingBehind);
+    };
+    let end = next.span.start;
+    let coming = rest_of(source, end);
+    if !begins_entry(coming) {
+        return Err(EditFault::JunkBehind(next.span));
+    }
+    match comment_there(places, run, coming) {
+        Some(comment) => Err(EditFault::CommentBefore(comment)),
+        None => Ok(Stretch { start, end }),
     }
 }
 
@@ -112,27 +203,12 @@ pub(crate) fn in_place_of(
     index: usize,
     text: &[u8],
 ) -> Result<Stretch, EditFault>
-    requires { AreWithin source.now places.now }
     ensures { result ≡ in_place_of source.now places.now index text.now }
 {
     let run = sound_run(places, index)?;
-    let start = places[run.first].span.start;
-    if let Some(comment) = comment_before(&places[..run.first], start, text) {
-        return Err(EditFault::CommentBefore(comment));
-    }
-    match places.get(run.end) {
-        Some(next) => {
-            let end = next.span.start;
-            if may_begin(&source[end..]) {
-                Ok(Stretch { start, end })
-            } else {
-                Err(EditFault::JunkBehind(next.span))
-            }
-        }
-        None => Ok(Stretch {
-            start,
-            end: source.len(),
-        }),
+    match comment_there(places, run, text) {
+        Some(comment) => Err(EditFault::CommentBefore(comment)),
+        None => up_to_behind(source, places, run),
     }
 }
 
@@ -145,10 +221,12 @@ pub(crate) fn before_entry(
     ensures { result ≡ before_entry places.now index text.now }
 {
     let run = sound_run(places, index)?;
-    let start = places[run.first].span.start;
-    match comment_before(&places[..run.first], start, text) {
+    match comment_there(places, run, text) {
         Some(comment) => Err(EditFault::CommentBefore(comment)),
-        None => Ok(Stretch { start, end: start }),
+        None => {
+            let start = start_of(places, run);
+            Ok(Stretch { start, end: start })
+        }
     }
 }
 
@@ -158,23 +236,8 @@ pub(crate) fn up_to_next(
     places: &[Place],
     index: usize,
 ) -> Result<Stretch, EditFault>
-    requires { AreWithin source.now places.now }
     ensures { result ≡ up_to_next source.now places.now index }
 {
     let run = sound_run(places, index)?;
-    let start = places[run.first].span.start;
-    let Some(next) = places.get(run.end) else {
-        return Err(EditFault::NothingBehind);
-    };
-    let behind = &source[next.span.start..];
-    if !begins_entry(behind) {
-        return Err(EditFault::JunkBehind(next.span));
-    }
-    match comment_before(&places[..run.first], start, behind) {
-        Some(comment) => Err(EditFault::CommentBefore(comment)),
-        None => Ok(Stretch {
-            start,
-            end: next.span.start,
-        }),
-    }
+    up_to_entry(source, places, run)
 }

@@ -1,6 +1,6 @@
 //! The places of an entry by its number in the tree.
-ghost use Rattle.std.specs.Prelude.{◌≡◌, ◌+◌, ◌<◌, ◌≤◌, length, IfSome};
-ghost use Rattle.fluent_syntax_edits.specs.Runs.{hangs_on, run_from};
+ghost use Rattle.std.specs.Prelude.{◌≡◌, ◌+◌, ◌<◌, ◌≤◌, drop, length, IfSome};
+ghost use Rattle.fluent_syntax_edits.specs.Runs.{hangs_on, own_end, run_from};
 
 use crate::places::{Place, PlaceKind};
 
@@ -20,6 +20,18 @@ fn hangs_on(comment: Place, place: Place) -> bool
         && comment.span.end == place.span.start
 }
 
+/// Where the places of the entry end that begins with the place of that number.
+fn entry_end(places: &[Place], first: usize) -> usize
+    requires { first < length places.now }
+    ensures end { result ≡ own_end first (drop first places.now) }
+    ensures within { (first < result) × (result ≤ length places.now) }
+{
+    match &places[first..] {
+        [comment, place, ..] if hangs_on(*comment, *place) => first + 2,
+        _ => first + 1,
+    }
+}
+
 /// The places of the entry of that number, counted from 0; `None` where the text has no such entry.
 pub(crate) fn run_of(places: &[Place], index: usize) -> Option<Run>
     ensures run { result ≡ run_from 0 index places.now }
@@ -28,11 +40,7 @@ pub(crate) fn run_of(places: &[Place], index: usize) -> Option<Run>
     let mut first = 0;
     let mut left = index;
     while first < places.len() {
-        let end = if first + 1 < places.len() && hangs_on(places[first], places[first + 1]) {
-            first + 2
-        } else {
-            first + 1
-        };
+        let end = entry_end(places, first);
         if left == 0 {
             return Some(Run { first, end });
         }
