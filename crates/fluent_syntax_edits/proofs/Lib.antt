@@ -6,4 +6,4 @@ pub mod Standing
 pub mod Edited
 pub mod Results
 pub mod RunSteps
-pub mod Steps
+pub mod Reading

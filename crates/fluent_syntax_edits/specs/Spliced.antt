@@ -1,11 +1,19 @@
 -- The blank lines of a text.
-use Rattle.std.specs.Prelude.{ℕ, zero, suc, ◌+◌, ◌==◌, ◌||◌, List, Option, Some, None, slice_get, if◌then◌else◌}
+use Rattle.std.specs.Prelude.{ℕ, zero, suc, ◌+◌, ◌==◌, ◌||◌, Bool, List, Option, Some, None, slice_get, if◌then◌else◌}
 use Rattle.fluent_syntax_grammar.specs.Bytes.{cr, lf, space}
 
--- one more than the count at a line end, the count at a space or a CR, and 0 behind any other byte
+-- whether the byte is a space or of a line end
+abbrev pub is_blank : ℕ → Bool
+is_blank b = b == lf || b == space || b == cr
+
+-- one, if the byte is an LF
+abbrev pub line_ends_in : ℕ → ℕ
+line_ends_in b = if b == lf then 1 else 0
+
+-- at a blank byte the count and its line end, and 0 behind any other byte
 abbrev pub counted : Option ℕ → ℕ → ℕ
 counted None count = 0
-counted (Some b) count = if b == lf then count + 1 else if b == space || b == cr then count else 0
+counted (Some b) count = if is_blank b then line_ends_in b + count else 0
 
 -- how many line ends stand directly before the place, with nothing but spaces and CRs between them
 abbrev pub line_ends_before : List ℕ → ℕ → ℕ

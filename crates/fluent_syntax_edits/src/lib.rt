@@ -12,6 +12,3 @@ mod text;
 
 pub use edits::{insert, remove, replace};
 pub use fault::EditFault;
-
-#[cfg(test)]
-mod tests;

@@ -1,11 +1,25 @@
 //! New texts from old ones.
 ghost use Rattle.std.specs.Prelude.{◌≡◌, ◌≤◌, ◌++◌, ◌-◌, length, drop, take, IfOk, OnOk, string_bytes};
 ghost use Rattle.std.specs.Str.{IsCharBoundary};
-ghost use Rattle.fluent_syntax_edits.specs.Spliced.{line_ends_before};
+ghost use Rattle.fluent_syntax_edits.specs.Spliced.{is_blank, line_ends_before, line_ends_in};
 ghost use Rattle.fluent_syntax_grammar.specs.Locality.{blank_lines};
 
 use crate::refusals::Stretch;
 use std::alloc::{AllocError, Global};
+
+/// Whether the byte is a space or of a line end.
+fn is_blank(byte: u8) -> bool
+    ensures { result ≡ is_blank byte }
+{
+    byte == b'\n' || byte == b' ' || byte == b'\r'
+}
+
+/// One, if the byte is an LF.
+fn line_ends_in(byte: u8) -> usize
+    ensures { result ≡ line_ends_in byte }
+{
+    if byte == b'\n' { 1 } else { 0 }
+}
 
 /// How many line ends stand directly before the place, with nothing but spaces and CRs between them.
 pub(crate) fn line_ends_before(bytes: &[u8], place: usize) -> usize
@@ -15,12 +29,8 @@ pub(crate) fn line_ends_before(bytes: &[u8], place: usize) -> usize
 {
     let mut count = 0;
     let mut at = place;
-    while at > 0 {
-        match bytes[at - 1] {
-            b'\n' => count += 1,
-            b' ' | b'\r' => {}
-            _ => return count,
-        }
+    while at > 0 && is_blank(bytes[at - 1]) {
+        count += line_ends_in(bytes[at - 1]);
         at -= 1;
     }
     count

@@ -1,11 +1,11 @@
 //! Edits, each with the text that it gives, or why it gives none.
 
-use crate::fault::EditFault;
-use crate::{insert, remove, replace};
-use fluent_syntax::parser::{Edition, parse};
+use crate::trees::tree_and_errors;
+use fluent_syntax::parser::Edition;
+use fluent_syntax::spans::Span;
+use fluent_syntax_edits::{EditFault, insert, remove, replace};
 use fluent_syntax_rules::Rule;
-use fluent_syntax_tree::ast::{Entry, Resource};
-use fluent_syntax_tree::spans::Span;
+use fluent_syntax_tests::alike::{assert_same, assert_same_text};
 use std::alloc::Global;
 use std::test::Fail;
 
@@ -149,29 +149,18 @@ const ROWS: [Row; 24] = [
     ),
 ];
 
-fn tree_of(alloc: Global, text: &'static str) -> Result<Resource<&'static str>, Fail> {
-    if text.len() == usize::MAX {
-        return Err(Fail::from("too long"));
-    }
-    match parse(alloc, text) {
-        Ok(tree) => Ok(tree),
-        Err(fluent_syntax::parser::ParseFault::Syntax(tree, _)) => Ok(tree),
-        Err(_) => Err(Fail::from("no memory")),
-    }
-}
-
 fn made(alloc: Global, text: &'static str, edit: Edit) -> Result<Result<String, EditFault>, Fail> {
     if text.len() == usize::MAX {
         return Err(Fail::from("too long"));
     }
     match edit {
         Edit::Replace(index, new) => {
-            let tree = tree_of(alloc, new)?;
+            let (tree, _) = tree_and_errors(alloc, new)?;
             let entry = tree.body.first().ok_or("no entry")?;
             Ok(replace(alloc, text, Edition::One, index, entry))
         }
         Edit::Insert(index, new) => {
-            let tree = tree_of(alloc, new)?;
+            let (tree, _) = tree_and_errors(alloc, new)?;
             let entry = tree.body.first().ok_or("no entry")?;
             Ok(insert(alloc, text, Edition::One, index, entry))
         }
@@ -179,15 +168,19 @@ fn made(alloc: Global, text: &'static str, edit: Edit) -> Result<Result<String, 
     }
 }
 
+fn assert_made(alloc: Global, row: &Row) -> Result<(), Fail> {
+    let (shows, text, edit, expected) = *row;
+    match (made(alloc, text, edit)?, expected) {
+        (Ok(new), Ok(wanted)) => assert_same_text(alloc, shows, new.as_str(), wanted),
+        (Err(fault), Err(wanted)) => assert_same(alloc, shows, &fault, &wanted),
+        (got, _) => Err(format!(in alloc; "{shows}: {got:?}")?.into()),
+    }
+}
+
 #[test]
 fn edits(rt: HostRuntime) -> Result<(), Fail> {
-    for (shows, text, edit, expected) in ROWS {
-        let got = made(rt.alloc(), text, edit)?;
-        match (&got, expected) {
-            (Ok(new), Ok(wanted)) => assert_eq!(rt; new.as_str(), wanted, "{shows}"),
-            (Err(fault), Err(wanted)) => assert_eq!(rt; *fault, wanted, "{shows}"),
-            _ => assert!(rt; false, "{shows}: {got:?}"),
-        }
+    for row in &ROWS {
+        assert_made(rt.alloc(), row)?;
     }
     Ok(())
 }
