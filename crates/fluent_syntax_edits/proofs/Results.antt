@@ -21,6 +21,10 @@ use Rattle.fluent_syntax_grammar.proofs.locality.KeptEntries.{entry_head}
 use Rattle.fluent_syntax_grammar.proofs.LineEnds.{block_at_entry}
 use Rattle.fluent_syntax_grammar.proofs.Facts.{left_true}
 use Rattle.fluent_syntax_grammar.specs.Bytes.{greater_than, hyphen}
+use Rattle.fluent_syntax_grammar.proofs.Boundaries.{boundary_cuts}
+use Rattle.fluent_syntax_grammar.proofs.locality.Edits.{behind_place}
+use Rattle.std.proofs.lemmas.Bool.Decides.{nat_tests}
+use Rattle.std.specs.Str.{IsCharBoundary, IsUtf8}
 use Rattle.fluent_syntax_grammar.specs.Tiling.{is_entry_byte, next, reads}
 use Rattle.std.proofs.Common.{inl}
 use Rattle.std.specs.Prelude.{◌==◌, ◌&&◌, not}
@@ -385,3 +389,85 @@ module _ (edition : Edition) (t : List ℕ) (tiles : List Tile) (a : Tiling edit
         st.whole,
         subst (λ i. TreeEdited edition t index (take i t ++ drop s.end t) (st.whole ∷ []) []) (sym b.start) edited,
       )
+
+-- ---- where the text is cut
+
+small_entry : (b : ℕ) → is_entry_byte b ≡ true → b < 128
+small_entry b e = grind (arith, nat_tests)
+
+-- Both ends of the stretch are boundaries of characters.
+pub record Cuts (t : List ℕ) (s : Stretch) : Type 0 where
+  pub start : IsCharBoundary t s.start
+  pub end : IsCharBoundary t s.end
+
+module _ (t : List ℕ) (utf8 : IsUtf8 t) where
+  at_bytes : (q : ℕ) (bs : List ℕ) → q ≤ length t → drop q t ≡ bs → may_begin bs ≡ true → IsCharBoundary t q
+  at_bytes q [] l e m =
+      let n : length t - q ≡ 0 = sym (length-drop q t) ∙ ap length e in
+      let same : length t ≡ q = omega arith in
+      subst (IsCharBoundary t) same (boundary_cuts t utf8).at_end
+  at_bytes q (b ∷ bs) l e m =
+      let z : q + 0 ≡ q = omega arith in
+      let stands : slice_get t q ≡ Some b =
+      ap (slice_get t) (sym z) ∙ ((behind_place t q l).byte 0 ∙ ap (λ xs. slice_get xs 0) e) in
+      (boundary_cuts t utf8).before q record {
+        byte = b;
+        stands = stands;
+        ascii = small_entry b m;
+      }
+
+  boundary : (q : ℕ) → q ≤ length t → may_begin (drop q t) ≡ true → IsCharBoundary t q
+  boundary q l m = at_bytes q (drop q t) l refl m
+
+  module _ (edition : Edition) (places : List Place) (o : Outlines edition t places) (index : ℕ) (s : Stretch) where
+    -- where the entry that was found begins
+    run_start : (run : Run) → sound_run (map place_of o.tiles) index ≡ Ok run →
+        s.start ≡ start_of (map place_of o.tiles) run → IsCharBoundary t s.start
+    run_start run h e =
+        let k = kept_tiles edition t 0 o.tiles o.tiling in
+        let x = sound_of o.tiles index run k h in
+        let st = found_stands edition t o.tiles index run x o.tiling k in
+        let inside = st.standing.inside in
+        subst (IsCharBoundary t) (sym (e ∙ start_place edition t o.tiles index run x st))
+        (boundary st.s.start (omega arith) (begins_may (drop st.s.start t) st.standing.begins))
+
+    pub replace_cuts : (text : List ℕ) → in_place_of t (map place_of o.tiles) index text ≡ Ok s → Cuts t s
+    replace_cuts text h =
+        let ps = map place_of o.tiles in
+        let r =
+        by_run ps (λ run. text) (λ run. up_to_behind t (start_of ps run) (slice_get ps run.end)) (sound_run ps index) s
+        h in
+        let k = kept_tiles edition t 0 o.tiles o.tiling in
+        let x = sound_of o.tiles index r.run k r.is in
+        let f = x.found in
+        let st = found_stands edition t o.tiles index r.run x o.tiling k in
+        let gives = rw (next_place edition t o.tiles index r.run x) at r.gives in
+        let b = behind_of edition t (start_of ps r.run) st.end f.after s st.end_line st.more gives in
+        record { start = run_start r.run r.is b.start; end = boundary s.end b.inside b.may }
+
+    pub insert_cuts : (text : List ℕ) → before_entry (map place_of o.tiles) index text ≡ Ok s → Cuts t s
+    insert_cuts text h =
+        let ps = map place_of o.tiles in
+        let r =
+        by_run ps (λ run. text) (λ run. Ok (record { start = start_of ps run; end = start_of ps run }))
+        (sound_run ps index) s h in
+        let same : record { start = start_of ps r.run; end = start_of ps r.run } ≡ s = ok_same r.gives in
+        let start = run_start r.run r.is (sym (ap (λ (s : Stretch). s.start) same)) in
+        let ends : s.start ≡ s.end = subst (λ (s : Stretch). s.start ≡ s.end) same refl in
+        record { start = start; end = subst (IsCharBoundary t) ends start }
+
+    pub remove_cuts : up_to_next t (map place_of o.tiles) index ≡ Ok s → Cuts t s
+    remove_cuts h =
+        let ps = map place_of o.tiles in
+        let r = by_removed t ps (sound_run ps index) s h in
+        let k = kept_tiles edition t 0 o.tiles o.tiling in
+        let x = sound_of o.tiles index r.run k r.is in
+        let f = x.found in
+        let st = found_stands edition t o.tiles index r.run x o.tiling k in
+        let gives =
+        rw (before_places edition t o.tiles index r.run x, next_place edition t o.tiles index r.run x) at r.gives in
+        let b = entry_behind edition t (start_of ps r.run) st.end f.before f.after s st.end_line st.more gives in
+        record {
+          start = run_start r.run r.is b.start;
+          end = boundary s.end b.inside (begins_may (drop s.end t) b.begins);
+        }

@@ -1,5 +1,5 @@
 -- What an edit of a text gives, and why it gives none.
-use Rattle.std.specs.Prelude.{◌≡◌, ℕ, ◌+◌, ◌-◌, List, [], ◌∷◌, ◌++◌, length, drop, take, map, Result, Ok, Err}
+use Rattle.std.specs.Prelude.{◌≡◌, ℕ, ◌+◌, List, [], ◌∷◌, ◌++◌, length, drop, take, map, Result, Ok, Err, ◌⊎◌}
 use Rattle.fluent_syntax_tree.specs.Entry.{BodyTree, EntryTree}
 use Rattle.fluent_syntax_tree.specs.declared.edition.Edition.{Edition}
 use Rattle.fluent_syntax_grammar.specs.Body.{faults}
@@ -9,7 +9,7 @@ use Rattle.fluent_syntax_grammar.specs.Tiling.{Fault, Tile, Tiling}
 use Rattle.fluent_syntax_grammar.specs.Written.{Text}
 use Rattle.fluent_syntax_edits.specs.Places.{Outlines}
 use Rattle.fluent_syntax_edits.specs.Refusals.{Uncanonical, before_entry, in_place_of, up_to_next}
-use Rattle.fluent_syntax_edits.specs.Spliced.{line_ends_before}
+use Rattle.fluent_syntax_edits.specs.Spliced.{kept_lines}
 use Rattle.fluent_syntax_edits.specs.declared.fault.EditFault.{EditFault}
 use Rattle.fluent_syntax_edits.specs.declared.fault.EditFault.TheVariants.{Memory}
 use Rattle.fluent_syntax_edits.specs.declared.places.Place.{Place}
@@ -59,10 +59,6 @@ IsRemoved edition t index u = (old : EntryTree Text) × TreeEdited edition t ind
 abbrev pub spliced : List ℕ → Stretch → Text → (blank : ℕ) → List ℕ
 spliced t s text blank = take s.start t ++ (text ++ (blank_lines blank ++ drop s.end t))
 
--- how many blank lines a text has behind it that comes in place of what ends at the place: as many as stand there
-abbrev pub kept_lines : List ℕ → ℕ → Text → ℕ
-kept_lines t place text = line_ends_before t place - line_ends_before text (length text)
-
 -- In place of the entry there is the text of the new one, with the blank lines that were behind the old one.
 pub record ReplacesBytes (edition : Edition) (t : List ℕ) (index : ℕ) (e : EntryTree Text) (u : List ℕ) : Type 0 where
   pub places : List Place
@@ -89,22 +85,23 @@ pub record RemovesBytes (edition : Edition) (t : List ℕ) (index : ℕ) (u : Li
 
 -- ---- refusals
 
--- The new entry can't come in place of that one, for this reason; or memory was refused.
-pub data ReplaceRefused (edition : Edition) (t : List ℕ) (index : ℕ) (e : EntryTree Text) : EditFault → Type 0 where
-  uncanonical : {fault : EditFault} → Uncanonical edition e fault → ReplaceRefused edition t index e fault
-  refused : {fault : EditFault} (places : List Place) → Outlines edition t places →
-      in_place_of t places index (entry_text e) ≡ Err fault → ReplaceRefused edition t index e fault
-  no_memory : ReplaceRefused edition t index e Memory
+-- What stands in the text does not let it be changed there, for this reason; or memory was refused.
+pub data RefusedBy (edition : Edition) (t : List ℕ) (test : List Place → Result Stretch EditFault) :
+    EditFault → Type 0 where
+  refused : {fault : EditFault} (places : List Place) → Outlines edition t places → test places ≡ Err fault →
+      RefusedBy edition t test fault
+  no_memory : RefusedBy edition t test Memory
 
--- The new entry can't come before that one, for this reason; or memory was refused.
-pub data InsertRefused (edition : Edition) (t : List ℕ) (index : ℕ) (e : EntryTree Text) : EditFault → Type 0 where
-  uncanonical : {fault : EditFault} → Uncanonical edition e fault → InsertRefused edition t index e fault
-  refused : {fault : EditFault} (places : List Place) → Outlines edition t places →
-      before_entry places index (entry_text e) ≡ Err fault → InsertRefused edition t index e fault
-  no_memory : InsertRefused edition t index e Memory
+-- The new entry can't come in place of that one, for this reason.
+abbrev pub ReplaceRefused : Edition → List ℕ → (index : ℕ) → EntryTree Text → EditFault → Type 0
+ReplaceRefused edition t index e fault =
+    Uncanonical edition e fault ⊎ RefusedBy edition t (λ places. in_place_of t places index (entry_text e)) fault
 
--- The entry can't be removed, for this reason; or memory was refused.
-pub data RemoveRefused (edition : Edition) (t : List ℕ) (index : ℕ) : EditFault → Type 0 where
-  refused : {fault : EditFault} (places : List Place) → Outlines edition t places →
-      up_to_next t places index ≡ Err fault → RemoveRefused edition t index fault
-  no_memory : RemoveRefused edition t index Memory
+-- The new entry can't come before that one, for this reason.
+abbrev pub InsertRefused : Edition → List ℕ → (index : ℕ) → EntryTree Text → EditFault → Type 0
+InsertRefused edition t index e fault =
+    Uncanonical edition e fault ⊎ RefusedBy edition t (λ places. before_entry places index (entry_text e)) fault
+
+-- The entry can't be removed, for this reason.
+abbrev pub RemoveRefused : Edition → List ℕ → (index : ℕ) → EditFault → Type 0
+RemoveRefused edition t index fault = RefusedBy edition t (λ places. up_to_next t places index) fault

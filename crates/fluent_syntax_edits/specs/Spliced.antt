@@ -1,5 +1,5 @@
 -- The blank lines of a text.
-use Rattle.std.specs.Prelude.{ℕ, zero, suc, ◌+◌, ◌==◌, ◌||◌, Bool, List, Option, Some, None, slice_get, if◌then◌else◌}
+use Rattle.std.specs.Prelude.{ℕ, zero, suc, ◌+◌, ◌-◌, ◌==◌, ◌||◌, Bool, List, length, Option, Some, None, slice_get, if◌then◌else◌}
 use Rattle.fluent_syntax_grammar.specs.Bytes.{cr, lf, space}
 
 -- whether the byte is a space or of a line end
@@ -19,3 +19,7 @@ counted (Some b) count = if is_blank b then line_ends_in b + count else 0
 abbrev pub line_ends_before : List ℕ → ℕ → ℕ
 line_ends_before t zero = 0
 line_ends_before t (suc k) = counted (slice_get t k) (line_ends_before t k)
+
+-- how many blank lines a text has behind it that comes in place of what ends at the place: as many as stand there
+abbrev pub kept_lines : List ℕ → ℕ → List ℕ → ℕ
+kept_lines t place text = line_ends_before t place - line_ends_before text (length text)

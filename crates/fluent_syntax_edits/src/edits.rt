@@ -1,5 +1,5 @@
 //! The edits.
-ghost use Rattle.std.specs.Prelude.{◌+◌, ◌^◌, ◌<◌, length, IfErr, IfOk, string_bytes};
+ghost use Rattle.std.specs.Prelude.{◌≡◌, ◌+◌, ◌^◌, ◌<◌, false, length, IfErr, IfOk, string_bytes};
 ghost use Rattle.fluent_syntax_edits.specs.Edits.{
   InsertRefused,
   RemoveRefused,
@@ -11,12 +11,13 @@ ghost use Rattle.fluent_syntax_edits.specs.Edits.{
   RemovesBytes,
   ReplacesBytes,
 };
+ghost use Rattle.fluent_syntax_grammar.specs.Locality.{is_comment};
 ghost use Rattle.fluent_syntax_tree.specs.View.{entry_view};
 
 use crate::fault::EditFault;
 use crate::outline::outline;
 use crate::refusals::{before_entry, in_place_of, up_to_next};
-use crate::splice::{line_ends_before, spliced};
+use crate::splice::{kept_lines, spliced};
 use crate::text::entry_text;
 use fluent_syntax_tree::ast::Entry;
 use fluent_syntax_tree::edition::Edition;
@@ -35,8 +36,9 @@ pub fn replace<'s, S: Slice<'s>>(
     requires { length source.now + 1 < 2 ^ 64 }
     ensures bytes { IfOk result (λ made.
         ReplacesBytes edition source.now index (entry_view S.text entry.now) (string_bytes made)) }
-    ensures tree { IfOk result (λ made.
-        IsReplaced edition source.now index (entry_view S.text entry.now) (string_bytes made)) }
+    ensures tree { let new = entry_view S.text entry.now in
+        IfOk result (λ made. is_comment new ≡ false →
+        IsReplaced edition source.now index new (string_bytes made)) }
     ensures fault { IfErr result (ReplaceRefused edition source.now index (entry_view S.text entry.now)) }
 {
     let text = entry_text(alloc, edition, entry)?;
@@ -44,8 +46,7 @@ pub fn replace<'s, S: Slice<'s>>(
     let bytes = source.as_bytes();
     let written = text.as_bytes();
     let stretch = in_place_of(bytes, &places, index, written)?;
-    let blank = line_ends_before(bytes, stretch.end)
-        .saturating_sub(line_ends_before(written, written.len()));
+    let blank = kept_lines(bytes, stretch.end, written);
     Ok(spliced(alloc, source, stretch, text.as_str(), blank)?)
 }
 
@@ -61,8 +62,9 @@ pub fn insert<'s, S: Slice<'s>>(
     requires { length source.now + 1 < 2 ^ 64 }
     ensures bytes { IfOk result (λ made.
         InsertsBytes edition source.now index (entry_view S.text entry.now) (string_bytes made)) }
-    ensures tree { IfOk result (λ made.
-        IsInserted edition source.now index (entry_view S.text entry.now) (string_bytes made)) }
+    ensures tree { let new = entry_view S.text entry.now in
+        IfOk result (λ made. is_comment new ≡ false →
+        IsInserted edition source.now index new (string_bytes made)) }
     ensures fault { IfErr result (InsertRefused edition source.now index (entry_view S.text entry.now)) }
 {
     let text = entry_text(alloc, edition, entry)?;

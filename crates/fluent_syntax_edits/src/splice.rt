@@ -1,7 +1,7 @@
 //! New texts from old ones.
 ghost use Rattle.std.specs.Prelude.{◌≡◌, ◌≤◌, ◌++◌, ◌-◌, length, drop, take, IfOk, OnOk, string_bytes};
 ghost use Rattle.std.specs.Str.{IsCharBoundary};
-ghost use Rattle.fluent_syntax_edits.specs.Spliced.{is_blank, line_ends_before, line_ends_in};
+ghost use Rattle.fluent_syntax_edits.specs.Spliced.{is_blank, kept_lines, line_ends_before, line_ends_in};
 ghost use Rattle.fluent_syntax_grammar.specs.Locality.{blank_lines};
 
 use crate::refusals::Stretch;
@@ -22,7 +22,7 @@ fn line_ends_in(byte: u8) -> usize
 }
 
 /// How many line ends stand directly before the place, with nothing but spaces and CRs between them.
-pub(crate) fn line_ends_before(bytes: &[u8], place: usize) -> usize
+fn line_ends_before(bytes: &[u8], place: usize) -> usize
     requires { place ≤ length bytes.now }
     ensures count { result ≡ line_ends_before bytes.now place }
     ensures few { result ≤ place }
@@ -34,6 +34,14 @@ pub(crate) fn line_ends_before(bytes: &[u8], place: usize) -> usize
         at -= 1;
     }
     count
+}
+
+/// How many blank lines a text has behind it that comes in place of what ends at the place: as many as stand there.
+pub(crate) fn kept_lines(bytes: &[u8], place: usize, text: &[u8]) -> usize
+    requires { place ≤ length bytes.now }
+    ensures { result ≡ kept_lines bytes.now place text.now }
+{
+    line_ends_before(bytes, place).saturating_sub(line_ends_before(text, text.len()))
 }
 
 /// Adds blank lines.
