@@ -12,7 +12,20 @@ use fluent_syntax_tree::edition::Edition;
 use fluent_syntax_tree::slice::Slice;
 use fluent_syntax_writer::serializer::{EntryWriter, Options};
 use fluent_syntax_writer::sink::SinkError;
-use std::alloc::Global;
+use std::alloc::{AllocError, Global};
+
+/// The text that the entry by itself is written as.
+fn written_text<'s, S: Slice<'s>>(alloc: Global, entry: &Entry<S>) -> Result<String, AllocError>
+    ensures { IfOk result (λ text. string_bytes text ≡ entry_text (entry_view S.text entry.now)) }
+{
+    let mut writer = EntryWriter::new(String::new(alloc), Options::default());
+    writer.write_entry(entry);
+    let (text, written) = writer.finish();
+    match written {
+        Ok(()) => Ok(text),
+        Err(SinkError) => Err(AllocError),
+    }
+}
 
 /// The text that the entry by itself is written as, if it is canonical in the edition.
 pub(crate) fn entry_text<'s, S: Slice<'s>>(
@@ -27,10 +40,5 @@ pub(crate) fn entry_text<'s, S: Slice<'s>>(
     if let Some(rule) = broken_rule(entry, edition) {
         return Err(EditFault::NotCanonical(rule));
     }
-    let mut writer = EntryWriter::new(String::new(alloc), Options::default());
-    writer.write_entry(entry);
-    match writer.finish() {
-        (text, Ok(())) => Ok(text),
-        (_, Err(SinkError)) => Err(EditFault::Memory),
-    }
+    Ok(written_text(alloc, entry)?)
 }
