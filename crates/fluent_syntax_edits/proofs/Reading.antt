@@ -11,7 +11,7 @@ use Rattle.fluent_syntax_grammar.specs.Tiling.{Tile, Tiled, TileAt, done, entry,
 use Rattle.fluent_syntax_parser.specs.Rest.{tree_of}
 use Rattle.fluent_syntax_parser.specs.Tiles.{Gives, TileTo}
 use Rattle.fluent_syntax_parser.specs.declared.tiles.FoundTile.{FoundTile}
-use Rattle.fluent_syntax_edits.specs.Places.{Outlines, kind_of, place_of}
+use Rattle.fluent_syntax_edits.specs.Places.{Outlines, kind_of, place_found, place_of}
 use Rattle.fluent_syntax_edits.specs.declared.places.Place.{Place}
 
 -- The places are those of tiles that lead up to the place i.
@@ -19,10 +19,6 @@ pub record ReadTo (edition : Edition) (t : List ℕ) (i : ℕ) (places : List Pl
   pub tiles : List Tile
   pub places_of : places ≡ map place_of tiles
   pub whole : (more : List Tile) → Tiled t (TileAt edition t) i more → Tiled t (TileAt edition t) 0 (tiles ++ more)
-
--- where what was found stands
-abbrev pub place_found : FoundTile → Place
-place_found found = record { span = found.span; kind = kind_of (tree_of found.entry) }
 
 module _ (edition : Edition) (t : List ℕ) where
   pub read_nothing : ReadTo edition t 0 []

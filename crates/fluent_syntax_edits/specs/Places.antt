@@ -4,6 +4,8 @@ use Rattle.fluent_syntax_tree.specs.Entry.{EntryTree, message, term, comment, ju
 use Rattle.fluent_syntax_tree.specs.declared.edition.Edition.{Edition}
 use Rattle.fluent_syntax_tree.specs.declared.spans.Span.{Span}
 use Rattle.fluent_syntax_grammar.specs.Tiling.{Tile, Tiling, dropped, entry, refused}
+use Rattle.fluent_syntax_parser.specs.Rest.{tree_of}
+use Rattle.fluent_syntax_parser.specs.declared.tiles.FoundTile.{FoundTile}
 use Rattle.fluent_syntax_edits.specs.declared.places.Place.{Place}
 use Rattle.fluent_syntax_edits.specs.declared.places.PlaceKind.{PlaceKind}
 use Rattle.fluent_syntax_edits.specs.declared.places.PlaceKind.TheVariants.{Field, Comment, OtherComment, Junk}
@@ -16,6 +18,10 @@ kind_of (comment regular content) = Comment
 kind_of (comment group content) = OtherComment
 kind_of (comment resource content) = OtherComment
 kind_of (junk content) = Junk
+
+-- where what was found stands
+abbrev pub place_found : FoundTile → Place
+place_found found = record { span = found.span; kind = kind_of (tree_of found.entry) }
 
 -- where a tile stands; one that was dropped has no place
 abbrev pub place_of : Tile → Place

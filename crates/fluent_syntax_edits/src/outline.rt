@@ -2,8 +2,7 @@
 ghost use Rattle.std.specs.Prelude.{◌+◌, ◌^◌, ◌<◌, length, IfOk};
 ghost use Rattle.fluent_syntax_edits.specs.Places.{Outlines};
 
-use crate::fault::EditFault;
-use crate::places::{Place, kind_of};
+use crate::places::{Place, place_of};
 use fluent_syntax_parser::options::Halt;
 use fluent_syntax_parser::tiles::Tiles;
 use fluent_syntax_tree::edition::Edition;
@@ -23,11 +22,7 @@ pub(crate) fn outline(
     let mut places = Vec::new(alloc);
     loop {
         match tiles.next_tile(alloc) {
-            Ok(Some(found)) => {
-                let kind = kind_of(&found.entry);
-                let span = found.span;
-                places.push(Place { span, kind })?;
-            }
+            Ok(Some(found)) => places.push(place_of(found))?,
             Ok(None) => return Ok(places),
             // no text is longer than the greatest usize, so none nests too deeply
             Err(Halt::TooDeep | Halt::Memory) => return Err(AllocError),

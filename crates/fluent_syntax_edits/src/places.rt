@@ -1,8 +1,9 @@
 //! Where the entries and the junk of a text stand.
 ghost use Rattle.std.specs.Prelude.{◌≡◌};
-ghost use Rattle.fluent_syntax_edits.specs.Places.{kind_of};
+ghost use Rattle.fluent_syntax_edits.specs.Places.{kind_of, place_found};
 ghost use Rattle.fluent_syntax_parser.specs.Rest.{tree_of};
 
+use fluent_syntax_parser::tiles::FoundTile;
 use fluent_syntax_tree::ast::Entry;
 use fluent_syntax_tree::spans::Span;
 
@@ -26,7 +27,7 @@ pub struct Place {
 }
 
 /// What an entry is.
-pub(crate) fn kind_of(entry: &Entry<Span>) -> PlaceKind
+fn kind_of(entry: &Entry<Span>) -> PlaceKind
     ensures { result ≡ kind_of (tree_of entry.now) }
 {
     match entry {
@@ -34,5 +35,15 @@ pub(crate) fn kind_of(entry: &Entry<Span>) -> PlaceKind
         Entry::Comment(_) => PlaceKind::Comment,
         Entry::GroupComment(_) | Entry::ResourceComment(_) => PlaceKind::OtherComment,
         Entry::Junk { .. } => PlaceKind::Junk,
+    }
+}
+
+/// Where what was found stands, and what it is.
+pub(crate) fn place_of(found: FoundTile) -> Place
+    ensures { result ≡ place_found found }
+{
+    Place {
+        span: found.span,
+        kind: kind_of(&found.entry),
     }
 }

@@ -37,8 +37,8 @@ returns-in_err-spliced-clause-fault g c =
     let p = err_from_is_err_and c.from_residual-in_err-spliced.result c.from_residual-in_err-spliced.ensures.1 in
     rw (p.1, p.2) (inr no_memory)
 
-pub kept_lines-requires : goal.kept_lines-requires
-kept_lines-requires g c =
+pub kept_lines-blank-requires : goal.kept_lines-blank-requires
+kept_lines-blank-requires g c =
     let there : in_place_of c.args.source.now (map place_of c.in_ok-places.ensures.tiles) c.args.index (entry_text (entry_view g.S.Slice.text c.args.entry.now)) ≡ Ok c.in_ok-stretch.stretch =
         sym (c.in_ok-stretch.ensures
             ∙ (ap (λ t. in_place_of t c.deref.result.now c.args.index c.as_bytes-written.result.now)
