@@ -1,6 +1,8 @@
 -- What the edits give, by the places that were found.
-use Rattle.std.proofs.Common.{◌≡◌, ℕ, ◌+◌, ◌-◌, ◌≤◌, ◌<◌, List, [], ◌∷◌, ◌++◌, length, drop, take, map, Bool, true, false}
-use Rattle.std.proofs.Common.{refl, sym, ◌∙◌, ap, subst, arith, append_assoc, length-append, length-drop, Option, Some, None}
+use Rattle.std.proofs.Common.{◌≡◌, ℕ, ◌+◌, ◌-◌, ◌≤◌, ◌<◌, List, []}
+use Rattle.std.proofs.Common.{◌∷◌, ◌++◌, length, drop, take, map, Bool, true, false}
+use Rattle.std.proofs.Common.{refl, sym, ◌∙◌, ap, subst, arith}
+use Rattle.std.proofs.Common.{append_assoc, length-append, length-drop, Option, Some, None}
 use Rattle.std.proofs.lemmas.List.{length-map, length-take-le, take-map, map-append}
 use Rattle.std.proofs.Math.Seq.{take-append_seam}
 use Rattle.std.specs.Prelude.{slice_get, Result, Ok, Err, if◌then◌else◌}
@@ -11,7 +13,8 @@ use Rattle.fluent_syntax_tree.specs.declared.spans.Span.{Span}
 use Rattle.fluent_syntax_grammar.specs.Tiling.{Fault, Tile, Tiled, TileAt, Tiling, entry}
 use Rattle.fluent_syntax_grammar.specs.Body.{body, faults}
 use Rattle.fluent_syntax_grammar.specs.Canonical.{is_canonical}
-use Rattle.fluent_syntax_grammar.specs.Locality.{begins_entry, entry_text, is_comment, may_begin, start_of as tile_begin}
+use Rattle.fluent_syntax_grammar.specs.Locality.{begins_entry, entry_text}
+use Rattle.fluent_syntax_grammar.specs.Locality.{is_comment, may_begin, start_of as tile_begin}
 use Rattle.fluent_syntax_grammar.specs.RoundTrip.{tree_of}
 use Rattle.fluent_syntax_grammar.specs.Written.{Text}
 use Rattle.fluent_syntax_grammar.proofs.locality.Edits.{faults_append}
@@ -89,7 +92,8 @@ place_behind before rest n e =
     ∙ (ap (slice_get (map place_of before ++ map place_of rest)) (sym size)
     ∙ get_seam (map place_of before) (map place_of rest))
 
-module _ (edition : Edition) (t : List ℕ) (tiles : List Tile) (index : ℕ) (run : Run) (x : SoundRun tiles index run) where
+module _ (edition : Edition) (t : List ℕ) (tiles : List Tile) (index : ℕ) (run : Run)
+    (x : SoundRun tiles index run) where
   -- the entry begins where its first tile does
   start_place : (st : Stands edition t x.found.before x.found.own x.found.after) →
       start_of (map place_of tiles) run ≡ st.s.start
@@ -359,8 +363,11 @@ module _ (edition : Edition) (t : List ℕ) (tiles : List Tile) (a : Tiling edit
       let p = st.s.start in
       let fb = front_sound f.before f.own x.sound in
       let gives =
-      rw (start_place edition t tiles index r.run x st, before_places edition t tiles index r.run x,
-      next_place edition t tiles index r.run x) at r.gives in
+      rw (
+        start_place edition t tiles index r.run x st,
+        before_places edition t tiles index r.run x,
+        next_place edition t tiles index r.run x,
+      ) at r.gives in
       let b = entry_behind edition t p st.end f.before f.after s st.end_line st.more gives in
       let inside = st.standing.inside in
       let y = take_away edition t f.before f.own f.after st fb s.end f.after b.free b.begins b.rest in

@@ -114,7 +114,7 @@ up_to_entry t start before None = Err NothingBehind
 up_to_entry t start before (Some next) =
     if begins_entry (drop next.span.start t)
     then unless_comment (comment_before before start (drop next.span.start t))
-        (Ok (record { start = start; end = next.span.start }))
+    (Ok (record { start = start; end = next.span.start }))
     else Err (JunkBehind next.span)
 
 abbrev pub removed_run : List ℕ → List Place → Result Run EditFault → Result Stretch EditFault

@@ -1,5 +1,6 @@
 -- The places of an entry by its number in the tree.
-use Rattle.std.specs.Prelude.{ℕ, zero, suc, ◌+◌, ◌==◌, ◌&&◌, Bool, true, false, List, [], ◌∷◌, Option, Some, None, if◌then◌else◌}
+use Rattle.std.specs.Prelude.{ℕ, zero, suc, ◌+◌, ◌==◌, ◌&&◌, Bool, true, false, List, [], ◌∷◌, Option, Some, None}
+use Rattle.std.specs.Prelude.{if◌then◌else◌}
 use Rattle.fluent_syntax_edits.specs.declared.places.Place.{Place}
 use Rattle.fluent_syntax_edits.specs.declared.places.PlaceKind.{PlaceKind}
 use Rattle.fluent_syntax_edits.specs.declared.places.PlaceKind.TheVariants.{Field, Comment, OtherComment, Junk}

@@ -18,7 +18,8 @@ pub enum EditFault {
     /// it. The first junk.
     #[error("there is junk before the place")]
     JunkBefore(Span),
-    /// What stands directly behind the place begins like no entry, so it could be read as a part of the entry before it.
+    /// What stands directly behind the place begins like no entry, so it could be read as a part of the entry before
+    /// it.
     #[error("there is junk behind the place that could be read with the entry")]
     JunkBehind(Span),
     /// A comment ends directly before the place. It would take a `#` there as its next line, or hang on what comes to

@@ -20,7 +20,12 @@ enum Edit {
 use Edit::{Insert, Remove, Replace};
 
 /// What it shows, the text, the edit, and the new text.
-type Row = (&'static str, &'static str, Edit, Result<&'static str, EditFault>);
+type Row = (
+    &'static str,
+    &'static str,
+    Edit,
+    Result<&'static str, EditFault>,
+);
 
 const ROWS: [Row; 24] = [
     (
@@ -59,8 +64,18 @@ const ROWS: [Row; 24] = [
         Replace(0, "x ="),
         Err(EditFault::NotCanonical(Rule::Junk)),
     ),
-    ("not one that is not there", "a = b\n", Replace(1, "x = y"), Err(EditFault::NoEntry)),
-    ("none in an empty text", "\n", Replace(0, "x = y"), Err(EditFault::NoEntry)),
+    (
+        "not one that is not there",
+        "a = b\n",
+        Replace(1, "x = y"),
+        Err(EditFault::NoEntry),
+    ),
+    (
+        "none in an empty text",
+        "\n",
+        Replace(0, "x = y"),
+        Err(EditFault::NoEntry),
+    ),
     (
         "not behind junk, which could go on in it",
         "a = b\n  .c = {\n}\nd = e\n",
@@ -115,7 +130,12 @@ const ROWS: [Row; 24] = [
         Insert(1, "x = y\n    .z = w"),
         Ok("a = b\r\n\r\nx = y\n    .z = w\n# c\r\nd = e\r\n"),
     ),
-    ("not behind the last", "a = b\n", Insert(1, "x = y"), Err(EditFault::NoEntry)),
+    (
+        "not behind the last",
+        "a = b\n",
+        Insert(1, "x = y"),
+        Err(EditFault::NoEntry),
+    ),
     (
         "not before what stands behind junk",
         "a\nb = c\n",
@@ -140,7 +160,12 @@ const ROWS: [Row; 24] = [
         Remove(0),
         Err(EditFault::JunkBehind(Span { start: 6, end: 9 })),
     ),
-    ("not the last", "a = b\nc = d\n\n", Remove(1), Err(EditFault::NothingBehind)),
+    (
+        "not the last",
+        "a = b\nc = d\n\n",
+        Remove(1),
+        Err(EditFault::NothingBehind),
+    ),
     (
         "not where a comment would hang on what comes",
         "# a\n\n# b\n## c\nd = e\n",

@@ -24,10 +24,10 @@ returns-in_err-stretch-clause-fault g c =
     let p = err_from_is_err_and c.from_residual-in_err-stretch.result c.from_residual-in_err-stretch.ensures.1 in
     rw (p.1, p.2)
     (inr (refused c.in_ok-places.places.items c.in_ok-places.ensures
-            (sym (c.in_err-stretch.ensures
-            ∙ (ap (λ ps. before_entry ps c.args.index c.as_bytes.result.now) c.deref.ensures.value
-            ∙ ap (before_entry c.in_ok-places.places.items c.args.index)
-            (c.as_bytes.ensures.value ∙ c.in_ok-text.ensures.text))))))
+    (sym (c.in_err-stretch.ensures
+    ∙ (ap (λ ps. before_entry ps c.args.index c.as_bytes.result.now) c.deref.ensures.value
+    ∙ ap (before_entry c.in_ok-places.places.items c.args.index)
+    (c.as_bytes.ensures.value ∙ c.in_ok-text.ensures.text))))))
 
 pub returns-in_err-spliced-clause-fault : goal.returns-in_err-spliced-clause-fault
 returns-in_err-spliced-clause-fault g c =
@@ -36,60 +36,70 @@ returns-in_err-spliced-clause-fault g c =
 
 pub spliced-requires-clause-start : goal.spliced-requires-clause-start
 spliced-requires-clause-start g c =
-    let there : before_entry (map place_of c.in_ok-places.ensures.tiles) c.args.index (entry_text (entry_view g.S.Slice.text c.args.entry.now)) ≡ Ok c.in_ok-stretch.stretch =
-        sym (c.in_ok-stretch.ensures
-            ∙ (ap (λ ps. before_entry ps c.args.index c.as_bytes.result.now)
-            (c.deref.ensures.value ∙ c.in_ok-places.ensures.places_of)
-            ∙ ap (before_entry (map place_of c.in_ok-places.ensures.tiles) c.args.index)
-            (c.as_bytes.ensures.value ∙ c.in_ok-text.ensures.text))) in
-    let cuts = insert_cuts c.args.source.now c.utf8.source c.args.edition c.in_ok-places.places.items c.in_ok-places.ensures
-    c.args.index c.in_ok-stretch.stretch (entry_text (entry_view g.S.Slice.text c.args.entry.now)) there in
+    let there : before_entry (map place_of c.in_ok-places.ensures.tiles) c.args.index
+    (entry_text (entry_view g.S.Slice.text c.args.entry.now))
+    ≡ Ok c.in_ok-stretch.stretch =
+    sym (c.in_ok-stretch.ensures
+    ∙ (ap (λ ps. before_entry ps c.args.index c.as_bytes.result.now)
+    (c.deref.ensures.value ∙ c.in_ok-places.ensures.places_of)
+    ∙ ap (before_entry (map place_of c.in_ok-places.ensures.tiles) c.args.index)
+    (c.as_bytes.ensures.value ∙ c.in_ok-text.ensures.text))) in
+    let cuts = insert_cuts c.args.source.now c.utf8.source c.args.edition
+    c.in_ok-places.places.items c.in_ok-places.ensures c.args.index c.in_ok-stretch.stretch (entry_text (entry_view g.S.Slice.text c.args.entry.now)) there in
     cuts.start.0
 
 pub spliced-requires-clause-end : goal.spliced-requires-clause-end
 spliced-requires-clause-end g c =
-    let there : before_entry (map place_of c.in_ok-places.ensures.tiles) c.args.index (entry_text (entry_view g.S.Slice.text c.args.entry.now)) ≡ Ok c.in_ok-stretch.stretch =
-        sym (c.in_ok-stretch.ensures
-            ∙ (ap (λ ps. before_entry ps c.args.index c.as_bytes.result.now)
-            (c.deref.ensures.value ∙ c.in_ok-places.ensures.places_of)
-            ∙ ap (before_entry (map place_of c.in_ok-places.ensures.tiles) c.args.index)
-            (c.as_bytes.ensures.value ∙ c.in_ok-text.ensures.text))) in
-    let cuts = insert_cuts c.args.source.now c.utf8.source c.args.edition c.in_ok-places.places.items c.in_ok-places.ensures
-    c.args.index c.in_ok-stretch.stretch (entry_text (entry_view g.S.Slice.text c.args.entry.now)) there in
+    let there : before_entry (map place_of c.in_ok-places.ensures.tiles) c.args.index
+    (entry_text (entry_view g.S.Slice.text c.args.entry.now))
+    ≡ Ok c.in_ok-stretch.stretch =
+    sym (c.in_ok-stretch.ensures
+    ∙ (ap (λ ps. before_entry ps c.args.index c.as_bytes.result.now)
+    (c.deref.ensures.value ∙ c.in_ok-places.ensures.places_of)
+    ∙ ap (before_entry (map place_of c.in_ok-places.ensures.tiles) c.args.index)
+    (c.as_bytes.ensures.value ∙ c.in_ok-text.ensures.text))) in
+    let cuts = insert_cuts c.args.source.now c.utf8.source c.args.edition
+    c.in_ok-places.places.items c.in_ok-places.ensures c.args.index c.in_ok-stretch.stretch (entry_text (entry_view g.S.Slice.text c.args.entry.now)) there in
     cuts.end.0
 
 pub spliced-requires-clause-start_boundary : goal.spliced-requires-clause-start_boundary
 spliced-requires-clause-start_boundary g c =
-    let there : before_entry (map place_of c.in_ok-places.ensures.tiles) c.args.index (entry_text (entry_view g.S.Slice.text c.args.entry.now)) ≡ Ok c.in_ok-stretch.stretch =
-        sym (c.in_ok-stretch.ensures
-            ∙ (ap (λ ps. before_entry ps c.args.index c.as_bytes.result.now)
-            (c.deref.ensures.value ∙ c.in_ok-places.ensures.places_of)
-            ∙ ap (before_entry (map place_of c.in_ok-places.ensures.tiles) c.args.index)
-            (c.as_bytes.ensures.value ∙ c.in_ok-text.ensures.text))) in
-    let cuts = insert_cuts c.args.source.now c.utf8.source c.args.edition c.in_ok-places.places.items c.in_ok-places.ensures
-    c.args.index c.in_ok-stretch.stretch (entry_text (entry_view g.S.Slice.text c.args.entry.now)) there in
+    let there : before_entry (map place_of c.in_ok-places.ensures.tiles) c.args.index
+    (entry_text (entry_view g.S.Slice.text c.args.entry.now))
+    ≡ Ok c.in_ok-stretch.stretch =
+    sym (c.in_ok-stretch.ensures
+    ∙ (ap (λ ps. before_entry ps c.args.index c.as_bytes.result.now)
+    (c.deref.ensures.value ∙ c.in_ok-places.ensures.places_of)
+    ∙ ap (before_entry (map place_of c.in_ok-places.ensures.tiles) c.args.index)
+    (c.as_bytes.ensures.value ∙ c.in_ok-text.ensures.text))) in
+    let cuts = insert_cuts c.args.source.now c.utf8.source c.args.edition
+    c.in_ok-places.places.items c.in_ok-places.ensures c.args.index c.in_ok-stretch.stretch (entry_text (entry_view g.S.Slice.text c.args.entry.now)) there in
     cuts.start
 
 pub spliced-requires-clause-end_boundary : goal.spliced-requires-clause-end_boundary
 spliced-requires-clause-end_boundary g c =
-    let there : before_entry (map place_of c.in_ok-places.ensures.tiles) c.args.index (entry_text (entry_view g.S.Slice.text c.args.entry.now)) ≡ Ok c.in_ok-stretch.stretch =
-        sym (c.in_ok-stretch.ensures
-            ∙ (ap (λ ps. before_entry ps c.args.index c.as_bytes.result.now)
-            (c.deref.ensures.value ∙ c.in_ok-places.ensures.places_of)
-            ∙ ap (before_entry (map place_of c.in_ok-places.ensures.tiles) c.args.index)
-            (c.as_bytes.ensures.value ∙ c.in_ok-text.ensures.text))) in
-    let cuts = insert_cuts c.args.source.now c.utf8.source c.args.edition c.in_ok-places.places.items c.in_ok-places.ensures
-    c.args.index c.in_ok-stretch.stretch (entry_text (entry_view g.S.Slice.text c.args.entry.now)) there in
+    let there : before_entry (map place_of c.in_ok-places.ensures.tiles) c.args.index
+    (entry_text (entry_view g.S.Slice.text c.args.entry.now))
+    ≡ Ok c.in_ok-stretch.stretch =
+    sym (c.in_ok-stretch.ensures
+    ∙ (ap (λ ps. before_entry ps c.args.index c.as_bytes.result.now)
+    (c.deref.ensures.value ∙ c.in_ok-places.ensures.places_of)
+    ∙ ap (before_entry (map place_of c.in_ok-places.ensures.tiles) c.args.index)
+    (c.as_bytes.ensures.value ∙ c.in_ok-text.ensures.text))) in
+    let cuts = insert_cuts c.args.source.now c.utf8.source c.args.edition
+    c.in_ok-places.places.items c.in_ok-places.ensures c.args.index c.in_ok-stretch.stretch (entry_text (entry_view g.S.Slice.text c.args.entry.now)) there in
     cuts.end
 
 pub returns-clause-tree : goal.returns-clause-tree
 returns-clause-tree g c =
-    let there : before_entry (map place_of c.in_ok-places.ensures.tiles) c.args.index (entry_text (entry_view g.S.Slice.text c.args.entry.now)) ≡ Ok c.in_ok-stretch.stretch =
-        sym (c.in_ok-stretch.ensures
-            ∙ (ap (λ ps. before_entry ps c.args.index c.as_bytes.result.now)
-            (c.deref.ensures.value ∙ c.in_ok-places.ensures.places_of)
-            ∙ ap (before_entry (map place_of c.in_ok-places.ensures.tiles) c.args.index)
-            (c.as_bytes.ensures.value ∙ c.in_ok-text.ensures.text))) in
+    let there : before_entry (map place_of c.in_ok-places.ensures.tiles) c.args.index
+    (entry_text (entry_view g.S.Slice.text c.args.entry.now))
+    ≡ Ok c.in_ok-stretch.stretch =
+    sym (c.in_ok-stretch.ensures
+    ∙ (ap (λ ps. before_entry ps c.args.index c.as_bytes.result.now)
+    (c.deref.ensures.value ∙ c.in_ok-places.ensures.places_of)
+    ∙ ap (before_entry (map place_of c.in_ok-places.ensures.tiles) c.args.index)
+    (c.as_bytes.ensures.value ∙ c.in_ok-text.ensures.text))) in
     let e = entry_view g.S.Slice.text c.args.entry.now in
     let s = c.in_ok-stretch.stretch in
     let t = c.args.source.now in
