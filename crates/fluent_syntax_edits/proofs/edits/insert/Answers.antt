@@ -45,7 +45,8 @@ spliced-requires-clause-start g c =
     ∙ ap (before_entry (map place_of c.in_ok-places.ensures.tiles) c.args.index)
     (c.as_bytes.ensures.value ∙ c.in_ok-text.ensures.text))) in
     let cuts = insert_cuts c.args.source.now c.utf8.source c.args.edition
-    c.in_ok-places.places.items c.in_ok-places.ensures c.args.index c.in_ok-stretch.stretch (entry_text (entry_view g.S.Slice.text c.args.entry.now)) there in
+    c.in_ok-places.places.items c.in_ok-places.ensures c.args.index c.in_ok-stretch.stretch
+    (entry_text (entry_view g.S.Slice.text c.args.entry.now)) there in
     cuts.start.0
 
 pub spliced-requires-clause-end : goal.spliced-requires-clause-end
@@ -59,7 +60,8 @@ spliced-requires-clause-end g c =
     ∙ ap (before_entry (map place_of c.in_ok-places.ensures.tiles) c.args.index)
     (c.as_bytes.ensures.value ∙ c.in_ok-text.ensures.text))) in
     let cuts = insert_cuts c.args.source.now c.utf8.source c.args.edition
-    c.in_ok-places.places.items c.in_ok-places.ensures c.args.index c.in_ok-stretch.stretch (entry_text (entry_view g.S.Slice.text c.args.entry.now)) there in
+    c.in_ok-places.places.items c.in_ok-places.ensures c.args.index c.in_ok-stretch.stretch
+    (entry_text (entry_view g.S.Slice.text c.args.entry.now)) there in
     cuts.end.0
 
 pub spliced-requires-clause-start_boundary : goal.spliced-requires-clause-start_boundary
@@ -73,7 +75,8 @@ spliced-requires-clause-start_boundary g c =
     ∙ ap (before_entry (map place_of c.in_ok-places.ensures.tiles) c.args.index)
     (c.as_bytes.ensures.value ∙ c.in_ok-text.ensures.text))) in
     let cuts = insert_cuts c.args.source.now c.utf8.source c.args.edition
-    c.in_ok-places.places.items c.in_ok-places.ensures c.args.index c.in_ok-stretch.stretch (entry_text (entry_view g.S.Slice.text c.args.entry.now)) there in
+    c.in_ok-places.places.items c.in_ok-places.ensures c.args.index c.in_ok-stretch.stretch
+    (entry_text (entry_view g.S.Slice.text c.args.entry.now)) there in
     cuts.start
 
 pub spliced-requires-clause-end_boundary : goal.spliced-requires-clause-end_boundary
@@ -87,7 +90,8 @@ spliced-requires-clause-end_boundary g c =
     ∙ ap (before_entry (map place_of c.in_ok-places.ensures.tiles) c.args.index)
     (c.as_bytes.ensures.value ∙ c.in_ok-text.ensures.text))) in
     let cuts = insert_cuts c.args.source.now c.utf8.source c.args.edition
-    c.in_ok-places.places.items c.in_ok-places.ensures c.args.index c.in_ok-stretch.stretch (entry_text (entry_view g.S.Slice.text c.args.entry.now)) there in
+    c.in_ok-places.places.items c.in_ok-places.ensures c.args.index c.in_ok-stretch.stretch
+    (entry_text (entry_view g.S.Slice.text c.args.entry.now)) there in
     cuts.end
 
 pub returns-clause-tree : goal.returns-clause-tree

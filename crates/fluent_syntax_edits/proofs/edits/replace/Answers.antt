@@ -50,7 +50,8 @@ kept_lines-blank-requires g c =
     ∙ ap (in_place_of c.args.source.now (map place_of c.in_ok-places.ensures.tiles) c.args.index)
     (c.as_bytes-written.ensures.value ∙ c.in_ok-text.ensures.text)))) in
     let cuts = replace_cuts c.args.source.now c.utf8.source c.args.edition
-    c.in_ok-places.places.items c.in_ok-places.ensures c.args.index c.in_ok-stretch.stretch (entry_text (entry_view g.S.Slice.text c.args.entry.now)) there in
+    c.in_ok-places.places.items c.in_ok-places.ensures c.args.index c.in_ok-stretch.stretch
+    (entry_text (entry_view g.S.Slice.text c.args.entry.now)) there in
     subst (λ xs. c.in_ok-stretch.stretch.end ≤ length xs) (sym c.as_bytes-bytes.ensures.value) cuts.end.0
 
 pub spliced-requires-clause-start : goal.spliced-requires-clause-start
@@ -66,7 +67,8 @@ spliced-requires-clause-start g c =
     ∙ ap (in_place_of c.args.source.now (map place_of c.in_ok-places.ensures.tiles) c.args.index)
     (c.as_bytes-written.ensures.value ∙ c.in_ok-text.ensures.text)))) in
     let cuts = replace_cuts c.args.source.now c.utf8.source c.args.edition
-    c.in_ok-places.places.items c.in_ok-places.ensures c.args.index c.in_ok-stretch.stretch (entry_text (entry_view g.S.Slice.text c.args.entry.now)) there in
+    c.in_ok-places.places.items c.in_ok-places.ensures c.args.index c.in_ok-stretch.stretch
+    (entry_text (entry_view g.S.Slice.text c.args.entry.now)) there in
     cuts.start.0
 
 pub spliced-requires-clause-end : goal.spliced-requires-clause-end
@@ -82,7 +84,8 @@ spliced-requires-clause-end g c =
     ∙ ap (in_place_of c.args.source.now (map place_of c.in_ok-places.ensures.tiles) c.args.index)
     (c.as_bytes-written.ensures.value ∙ c.in_ok-text.ensures.text)))) in
     let cuts = replace_cuts c.args.source.now c.utf8.source c.args.edition
-    c.in_ok-places.places.items c.in_ok-places.ensures c.args.index c.in_ok-stretch.stretch (entry_text (entry_view g.S.Slice.text c.args.entry.now)) there in
+    c.in_ok-places.places.items c.in_ok-places.ensures c.args.index c.in_ok-stretch.stretch
+    (entry_text (entry_view g.S.Slice.text c.args.entry.now)) there in
     cuts.end.0
 
 pub spliced-requires-clause-start_boundary : goal.spliced-requires-clause-start_boundary
@@ -98,7 +101,8 @@ spliced-requires-clause-start_boundary g c =
     ∙ ap (in_place_of c.args.source.now (map place_of c.in_ok-places.ensures.tiles) c.args.index)
     (c.as_bytes-written.ensures.value ∙ c.in_ok-text.ensures.text)))) in
     let cuts = replace_cuts c.args.source.now c.utf8.source c.args.edition
-    c.in_ok-places.places.items c.in_ok-places.ensures c.args.index c.in_ok-stretch.stretch (entry_text (entry_view g.S.Slice.text c.args.entry.now)) there in
+    c.in_ok-places.places.items c.in_ok-places.ensures c.args.index c.in_ok-stretch.stretch
+    (entry_text (entry_view g.S.Slice.text c.args.entry.now)) there in
     cuts.start
 
 pub spliced-requires-clause-end_boundary : goal.spliced-requires-clause-end_boundary
@@ -114,7 +118,8 @@ spliced-requires-clause-end_boundary g c =
     ∙ ap (in_place_of c.args.source.now (map place_of c.in_ok-places.ensures.tiles) c.args.index)
     (c.as_bytes-written.ensures.value ∙ c.in_ok-text.ensures.text)))) in
     let cuts = replace_cuts c.args.source.now c.utf8.source c.args.edition
-    c.in_ok-places.places.items c.in_ok-places.ensures c.args.index c.in_ok-stretch.stretch (entry_text (entry_view g.S.Slice.text c.args.entry.now)) there in
+    c.in_ok-places.places.items c.in_ok-places.ensures c.args.index c.in_ok-stretch.stretch
+    (entry_text (entry_view g.S.Slice.text c.args.entry.now)) there in
     cuts.end
 
 pub returns-clause-tree : goal.returns-clause-tree
