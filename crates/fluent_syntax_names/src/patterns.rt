@@ -29,7 +29,18 @@ pub(crate) fn add_pattern<X: Copy>(
 ) -> Result<(), AllocError>
     ensures { OnOk result (Adds list.old.items list.new.items (pattern_mentions (pattern_view (λ x. x) pattern.now))) }
 {
-    for element in &pattern.elements {
+    add_elements(list, &pattern.elements)
+}
+
+#[cycle(mentions)]
+fn add_elements<X: Copy>(
+    list: &mut Vec<Mention<X>>,
+    elements: &[PatternElement<X>],
+) -> Result<(), AllocError>
+    ensures { OnOk result
+        (Adds list.old.items list.new.items (pattern_mentions (elements_of (map (element_view (λ x. x)) elements.now)))) }
+{
+    for element in elements {
         add_element(list, element)?;
     }
     Ok(())
