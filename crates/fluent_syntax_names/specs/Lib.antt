@@ -1,1 +1,4 @@
 pub mod Mentions
+pub mod Places
+pub mod Severities
+pub mod Spelled

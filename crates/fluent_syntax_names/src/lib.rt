@@ -1,10 +1,16 @@
 //! What Fluent files say of names: which messages, terms and attributes they define, which they refer to, and which
-//! variables and functions they use.
+//! variables and functions they use; and the mistakes that this shows.
 #![tactic(auto)]
 
 mod entries;
+mod finding;
 mod mention;
+mod outline;
 mod patterns;
+mod places;
+mod spelled;
 
 pub use entries::{defined, mentions, references, variables};
+pub use finding::{Finding, Kind, Place, Severity};
 pub use mention::Mention;
+pub use outline::{Outline, outline_of};
