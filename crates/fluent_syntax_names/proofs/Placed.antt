@@ -13,16 +13,16 @@ use Rattle.std.proofs.lemmas.Map.Text.{is_eq-slice_cmp}
 use Rattle.fluent_syntax_tree.specs.declared.spans.Span.{Span}
 use Rattle.fluent_syntax_names.specs.Places.{first_of, place_where}
 
-abbrev Key : Type 0
+abbrev pub Key : Type 0
 Key = Vec ℕ Global
 
-abbrev Row : Type 0
+abbrev pub Row : Type 0
 Row = Key × Span
 
-abbrev order : Key → Key → Ordering
+abbrev pub order : Key → Key → Ordering
 order x y = slice_cmp nat_cmp x.items y.items
 
-abbrev find : List ℕ → List Row → Option Span
+abbrev pub find : List ℕ → List Row → Option Span
 find name rows = lookup (is_at (λ k. slice_cmp nat_cmp name k.items)) rows
 
 pub first_of-None : (o : Option Span) → first_of o None ≡ o

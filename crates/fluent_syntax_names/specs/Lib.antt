@@ -1,4 +1,6 @@
+pub mod Findings
 pub mod Mentions
 pub mod Places
 pub mod Severities
 pub mod Spelled
+pub mod Tables

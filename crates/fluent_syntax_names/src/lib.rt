@@ -2,9 +2,13 @@
 //! variables and functions they use; and the mistakes that this shows.
 #![tactic(auto)]
 
+mod definitions;
 mod entries;
+mod files;
 mod finding;
+mod found;
 mod mention;
+mod noted;
 mod outline;
 mod patterns;
 mod places;
@@ -12,5 +16,6 @@ mod spelled;
 
 pub use entries::{defined, mentions, references, variables};
 pub use finding::{Finding, Kind, Place, Severity};
+pub use files::findings;
 pub use mention::Mention;
 pub use outline::{Outline, outline_of};
