@@ -1,12 +1,11 @@
 //! What a set of files defines.
-ghost use Rattle.std.specs.Prelude.{◌≡◌, OnOk};
+ghost use Rattle.std.specs.Prelude.{◌≡◌, true, false, Some, OnOk};
 ghost use Rattle.fluent_syntax_names.specs.Findings.{nameless, owner_after, defines, defined_in, put};
 ghost use Rattle.fluent_syntax_names.specs.Places.{place_of};
 ghost use Rattle.fluent_syntax_names.specs.Spelled.{spelled, spelled_attribute};
 ghost use Rattle.fluent_syntax_names.specs.Tables.{NotesNames};
 
 use crate::mention::Mention;
-use crate::outline::Outline;
 use crate::places::Places;
 use crate::spelled::{EntryName, spelled, spelled_attribute};
 use fluent_syntax_tree::spans::Span;
@@ -38,18 +37,19 @@ pub(crate) fn term_name(name: Span) -> EntryName
     }
 }
 
-/// Notes the names of all that the file defines.
+/// Notes the names of all that the mentions of a file define.
 pub(crate) fn note_definitions(
     alloc: Global,
     table: &mut Places,
-    file: &Outline<'_>,
+    text: &str,
+    mentions: &[Mention<Span>],
 ) -> Result<(), AllocError>
     ensures { OnOk result (NotesNames (place_of table.old.table) (place_of table.new.table)
-        (defined_in file.now.text.now nameless file.now.mentions.items)) }
+        (defined_in text.now nameless mentions.now)) }
 {
     let mut owner = NAMELESS;
-    for mention in &file.mentions {
-        note_definition(alloc, table, file.text, owner, mention)?;
+    for mention in mentions {
+        note_definition(alloc, table, text, owner, mention)?;
         owner = owner_after(owner, mention);
     }
     Ok(())

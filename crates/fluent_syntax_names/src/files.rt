@@ -1,6 +1,6 @@
 //! All that is found in a set of files.
 ghost use Rattle.std.specs.Prelude.{◌≡◌, ℕ, List, [], None, OnOk, IfOk};
-ghost use Rattle.fluent_syntax_names.specs.Findings.{nothing, found_in, found_from, all_findings};
+ghost use Rattle.fluent_syntax_names.specs.Findings.{nothing, found_in, found_from, all_findings, put};
 ghost use Rattle.fluent_syntax_names.specs.Findings.{is_defined};
 ghost use Rattle.fluent_syntax_names.specs.Places.{place_of};
 ghost use Rattle.fluent_syntax_names.specs.Tables.{AddsFindings, has_name};
@@ -36,7 +36,7 @@ fn note_files(alloc: Global, table: &mut Places, files: &[Outline<'_>]) -> Resul
     ensures { OnOk result ((name : List ℕ) → has_name (place_of table.new.table) name ≡ is_defined files.now name) }
 {
     for file in files {
-        note_definitions(alloc, table, file)?;
+        note_definitions(alloc, table, file.text, &file.mentions)?;
     }
     Ok(())
 }
@@ -58,26 +58,37 @@ fn found_in_files(
             file: number,
             text: file.text,
         };
-        add_found(here, &file.mentions, &mut list)?;
+        add_found(&here, &file.mentions, &mut list)?;
     }
     Ok(list)
 }
 
 /// Adds what is found in a file.
 fn add_found(
-    here: Here<'_>,
+    here: &Here<'_>,
     mentions: &[Mention<Span>],
     list: &mut Vec<Finding>,
 ) -> Result<(), AllocError>
     ensures { OnOk result (AddsFindings list.old.items list.new.items
-        (found_in (has_name (place_of here.defined.now.table)) here.file here.text.now nothing mentions.now)) }
+        (found_in (has_name (place_of here.now.defined.now.table)) here.now.file here.now.text.now nothing mentions.now)) }
 {
     let mut noted = Noted::new(here.alloc);
     for mention in mentions {
-        if let Some(finding) = here.found(&noted, mention)? {
-            list.push(finding)?;
-        }
+        let finding = here.found(&noted, mention)?;
+        add_finding(list, finding)?;
         noted.note(here.alloc, here.text, mention)?;
     }
     Ok(())
+}
+
+fn add_finding(list: &mut Vec<Finding>, finding: Option<Finding>) -> Result<(), AllocError>
+    ensures { OnOk result (AddsFindings list.old.items list.new.items (put finding)) }
+{
+    match finding {
+        Some(finding) => {
+            list.push(finding)?;
+            Ok(())
+        }
+        None => Ok(()),
+    }
 }

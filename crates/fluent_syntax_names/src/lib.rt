@@ -15,7 +15,7 @@ mod places;
 mod spelled;
 
 pub use entries::{defined, mentions, references, variables};
-pub use finding::{Finding, Kind, Place, Severity};
 pub use files::findings;
+pub use finding::{Finding, Kind, Place, Severity};
 pub use mention::Mention;
 pub use outline::{Outline, outline_of};
