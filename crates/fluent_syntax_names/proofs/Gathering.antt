@@ -41,11 +41,11 @@ notes_one_ok (Err x) old new bytes noted place e notes = notes
 
 module _ (old now next : Lookup) (all : List Text → List Text) (text : Text) (owner : EntryName) (ms : Mentions Span)
     (i : ℕ) where
-  pub names_next : (m : Mention Span) → i < length ms → m ≡ get_or ms i m
+  pub names_next : (m d : Mention Span) → i < length ms → m ≡ get_or ms i d
       → LeavesNames old now (defined_in text owner (drop i ms)) all → NotesNames now next (put (defines text owner m))
       → LeavesNames old next (defined_in text (owner_after owner m) (drop (i + 1) ms)) all
-  names_next m within is left notes = λ rest name.
-      let cut : drop i ms ≡ m ∷ drop (i + 1) ms = drop_more ms i m within ∙ ap (λ y. y ∷ drop (i + 1) ms) (sym is) in
+  names_next m d within is left notes = λ rest name.
+      let cut : drop i ms ≡ m ∷ drop (i + 1) ms = drop_more ms i d within ∙ ap (λ y. y ∷ drop (i + 1) ms) (sym is) in
       notes (defined_in text (owner_after owner m) (drop (i + 1) ms) rest) name
       ∙ ap (λ l. has_name now name || list_any (bytes_eq name) (defined_in text owner l rest)) (sym cut)
       ∙ left rest name

@@ -81,11 +81,11 @@ module _ (D : Text → Bool) (file : ℕ) (text : Text) (old now : List Finding)
   abbrev pub LeavesFound : List Finding → Known → ℕ → Type 0
   LeavesFound list known n = (rest : List Finding) → list ++ found_in D file text known (drop n ms) rest ≡ old ++ all rest
 
-  pub found_next : (next : List Finding) (known : Known) (m : Mention Span) (finding : Option Finding) → i < length ms
-      → m ≡ get_or ms i m → finding ≡ found D file text known m → LeavesFound now known i
+  pub found_next : (next : List Finding) (known : Known) (m d : Mention Span) (finding : Option Finding) → i < length ms
+      → m ≡ get_or ms i d → finding ≡ found D file text known m → LeavesFound now known i
       → AddsFindings now next (put finding) → LeavesFound next (after text known m) (i + 1)
-  found_next next known m finding within is made left adds = λ rest.
-      let cut : drop i ms ≡ m ∷ drop (i + 1) ms = drop_more ms i m within ∙ ap (λ y. y ∷ drop (i + 1) ms) (sym is) in
+  found_next next known m d finding within is made left adds = λ rest.
+      let cut : drop i ms ≡ m ∷ drop (i + 1) ms = drop_more ms i d within ∙ ap (λ y. y ∷ drop (i + 1) ms) (sym is) in
       let others = found_in D file text (after text known m) (drop (i + 1) ms) rest in
       adds others
       ∙ ap (λ o. now ++ put o others) made
