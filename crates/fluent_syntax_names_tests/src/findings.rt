@@ -2,7 +2,7 @@
 
 use fluent_syntax::parser::recovered;
 use fluent_syntax::spans::parse_spans;
-use fluent_syntax_names::{Finding, Outline, findings, outline_of};
+use fluent_syntax_names::{Finding, Kind, Outline, Severity, findings, outline_of};
 use fluent_syntax_tests::alike::assert_same_text;
 use fluent_syntax_tree::spans::Span;
 use std::alloc::Global;
@@ -182,4 +182,10 @@ fn sets_of_two_files(rt: HostRuntime) -> Result<(), Fail> {
         assert_found(rt.alloc(), row)?;
     }
     Ok(())
+}
+
+#[test]
+fn severities(rt: HostRuntime) {
+    assert_eq!(rt; Kind::DefinedTwice.severity(), Severity::Error);
+    assert_eq!(rt; Kind::UndefinedAttribute.severity(), Severity::Error);
 }
