@@ -1,4 +1,5 @@
 pub mod Findings
+pub mod Lacks
 pub mod Mentions
 pub mod Places
 pub mod Severities

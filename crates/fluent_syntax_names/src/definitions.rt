@@ -12,7 +12,7 @@ use fluent_syntax_tree::spans::Span;
 use std::alloc::{AllocError, Global};
 
 /// Before any entry.
-const NAMELESS: EntryName = EntryName {
+pub(crate) const NAMELESS: EntryName = EntryName {
     is_term: false,
     name: Span { start: 0, end: 0 },
 };
@@ -102,7 +102,7 @@ fn note_attribute(
 }
 
 /// Whose attributes follow the mention.
-fn owner_after(owner: EntryName, mention: &Mention<Span>) -> EntryName
+pub(crate) fn owner_after(owner: EntryName, mention: &Mention<Span>) -> EntryName
     ensures { result ≡ owner_after owner mention.now }
 {
     match mention {

@@ -1,6 +1,6 @@
 //! What is found.
 ghost use Rattle.std.specs.Prelude.{◌≡◌};
-ghost use Rattle.fluent_syntax_names.specs.Severities.{severity_of};
+ghost use Rattle.fluent_syntax_names.specs.Severities.{severity_of, name_of};
 
 use fluent_syntax_tree::spans::Span;
 
@@ -61,7 +61,9 @@ impl Kind {
     }
 
     /// Its name, as a command line has it.
-    pub fn name(self) -> &'static str {
+    pub fn name(self) -> &'static str
+        ensures { result.now ≡ name_of self }
+    {
         match self {
             Kind::DefinedTwice => "defined-twice",
             Kind::AttributeTwice => "attribute-twice",

@@ -2,6 +2,7 @@
 //! variables and functions they use; and the mistakes that this shows.
 #![tactic(auto)]
 
+mod comparing;
 mod definitions;
 mod entries;
 mod files;
@@ -14,6 +15,7 @@ mod patterns;
 mod places;
 mod spelled;
 
+pub use comparing::{Lack, lacks};
 pub use entries::{defined, mentions, references, variables};
 pub use files::findings;
 pub use finding::{Finding, Kind, Place, Severity};
