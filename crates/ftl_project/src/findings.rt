@@ -24,6 +24,7 @@ struct Shown {
 }
 
 /// A finding as it is told.
+#[derive(Clone, Copy)]
 struct Told<'a> {
     path: &'a str,
     text: &'a str,
@@ -58,13 +59,13 @@ pub fn report_findings(
                 lines: LineStarts::of(alloc, source.text.as_str())?,
             },
         };
-        push_finding(&mut out, &told(source, &known.lines, finding), form)?;
+        push_finding(&mut out, &as_told(source, &known.lines, finding), form)?;
         shown = Some(known);
     }
     Ok(out)
 }
 
-fn told<'a>(source: &'a Source, lines: &LineStarts, finding: &Finding) -> Told<'a> {
+fn as_told<'a>(source: &'a Source, lines: &LineStarts, finding: &Finding) -> Told<'a> {
     let (start, end) = match finding.place {
         Some(place) => (place.start, place.end),
         None => (0, 0),
