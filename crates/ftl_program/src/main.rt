@@ -2,6 +2,7 @@
 //! `lsp` a language server for them.
 #![tactic(auto)]
 
+mod compare;
 mod editor;
 mod help;
 mod lint;
@@ -10,6 +11,7 @@ mod standard;
 mod telling;
 mod words;
 
+use crate::compare::compare_paths;
 use crate::editor::serve_editor;
 use crate::help::page_of;
 use crate::lint::lint_paths;
@@ -37,6 +39,7 @@ fn answer_words(rt: &HostRuntime, words: &[String]) -> u8 {
         Ok(Request::Serve) => serve_editor(rt),
         Ok(Request::Answer(work)) => answer(rt, &work),
         Ok(Request::Lint(lint)) => lint_paths(rt, &lint),
+        Ok(Request::Compare(compare)) => compare_paths(rt, &compare),
         Err(error) => refuse_words(rt, &error),
     }
 }

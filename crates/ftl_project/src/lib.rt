@@ -2,6 +2,7 @@
 #![tactic(auto)]
 
 mod checking;
+mod comparing;
 mod converting;
 mod fault;
 mod findings;
@@ -14,6 +15,7 @@ mod linting;
 mod printing;
 mod reading;
 mod refused;
+mod remarks;
 mod replacement;
 mod reporting;
 mod rewriting;
@@ -22,6 +24,7 @@ mod tally;
 mod unsafe_entry;
 
 pub use checking::check_files;
+pub use comparing::{Pair, Share, compare_files, share_line};
 pub use converting::convert_files;
 pub use fault::Fault;
 pub use findings::{Source, report_findings};

@@ -30,13 +30,6 @@ static FORMS: [&str; 4] = ["full", "lines", "json", "github"];
 
 /// The word, with its options.
 pub(crate) fn lint_command<'a>(alloc: Global) -> Result<Command<'a>, AllocError> {
-    let output = Arg::new(alloc, "output")
-        .long("output")
-        .value_name("FORM")
-        .help("How a finding is told")
-        .action(ArgAction::Set)
-        .value_parser(FORMS.as_slice())
-        .default_value("full");
     let ignore = Arg::new(alloc, "ignore")
         .long("ignore")
         .value_name("KIND")
@@ -50,13 +43,25 @@ pub(crate) fn lint_command<'a>(alloc: Global) -> Result<Command<'a>, AllocError>
   ftl lint .                                every .ftl file below this folder, as one set
   ftl lint --ignore undefined-message menu.ftl",
         )
-        .arg(output)?
+        .arg(form(alloc))?
         .arg(ignore)?
         .arg(nesting(alloc))?
         .arg(paths(alloc))
 }
 
-fn nesting<'a>(alloc: Global) -> Arg<'a> {
+/// The option for the form.
+pub(crate) fn form<'a>(alloc: Global) -> Arg<'a> {
+    Arg::new(alloc, "output")
+        .long("output")
+        .value_name("FORM")
+        .help("How what is found is told")
+        .action(ArgAction::Set)
+        .value_parser(FORMS.as_slice())
+        .default_value("full")
+}
+
+/// The option for the nesting.
+pub(crate) fn nesting<'a>(alloc: Global) -> Arg<'a> {
     Arg::new(alloc, "nesting")
         .long("nesting")
         .value_name("N")
@@ -91,15 +96,9 @@ pub(crate) fn lint_of<'a>(
     for name in options.get_strs("ignore").unwrap_or(&[]) {
         ignored.push(kind_of(*name))?;
     }
-    let form = match options.get_str("output") {
-        Some("lines") => Form::Lines,
-        Some("json") => Form::Json,
-        Some("github") => Form::Github,
-        _ => Form::Full,
-    };
     Ok(Lint {
         reading,
-        form,
+        form: form_of(options),
         ignored,
         paths,
     })
@@ -112,5 +111,15 @@ fn kind_of(name: &str) -> Kind {
         "undefined-message" => Kind::UndefinedMessage,
         "undefined-term" => Kind::UndefinedTerm,
         _ => Kind::UndefinedAttribute,
+    }
+}
+
+/// The form that the options name.
+pub(crate) fn form_of(options: &ArgMatches<'_>) -> Form {
+    match options.get_str("output") {
+        Some("lines") => Form::Lines,
+        Some("json") => Form::Json,
+        Some("github") => Form::Github,
+        _ => Form::Full,
     }
 }
