@@ -91,13 +91,13 @@ fn compare_pair<S: Store>(
     };
     let reference = outline(alloc, reference.as_str(), reading)?;
     let other = outline(alloc, other.as_str(), reading)?;
-    match compared(alloc, pair, &reference, &other, form) {
+    match as_compared(alloc, pair, &reference, &other, form) {
         Ok(compared) => Ok(compared),
         Err(AllocError) => Err(Fault::Memory),
     }
 }
 
-fn compared(
+fn as_compared(
     alloc: Global,
     pair: &Pair,
     reference: &Outline<'_>,
