@@ -11,7 +11,7 @@
 #include <string.h>
 #include <sys/mman.h>
 
-enum { ROOM = 1 << 22, PAGE = 4096, MARK = 0xA5, CALLS = 10 };
+enum { ROOM = 1 << 22, PAGE = 4096, MARK = 0xA5, CALLS = 13, FROM_JSON = 12 };
 
 /* ---- memory */
 
@@ -68,7 +68,7 @@ static uint8_t *fence(void)
 }
 
 static uint8_t *text_end, *array_end;
-static uint8_t want[ROOM];
+static uint8_t want[ROOM], json[ROOM];
 static long faults, calls, refusals;
 
 static void fault(int call, const char *what, size_t text_len, size_t number)
@@ -77,11 +77,12 @@ static void fault(int call, const char *what, size_t text_len, size_t number)
         printf("call %d over %zu bytes, %zu: %s\n", call, text_len, number, what);
 }
 
-/* ---- the calls: the six commands, and the errors and names by either edition */
+/* ---- the calls: the six commands over texts, the errors, names and messages by either edition, and from JSON; that
+   is made over the JSON of the text */
 
 static size_t size_of(int call)
 {
-    return call < 6 ? 1 : call < 8 ? sizeof(struct ftl_error) : sizeof(struct ftl_name);
+    return call < 6 || call >= 10 ? 1 : call < 8 ? sizeof(struct ftl_error) : sizeof(struct ftl_name);
 }
 
 static uint32_t made(int call, size_t nesting, const uint8_t *text, size_t text_len, void *array, size_t room,
@@ -93,7 +94,11 @@ static uint32_t made(int call, size_t nesting, const uint8_t *text, size_t text_
         return ftl_answer((uint32_t)call, nesting, text, text_len, array, room, count);
     if (call < 8)
         return ftl_errors(edition, nesting, text, text_len, array, room, count);
-    return ftl_names(edition, nesting, text, text_len, array, room, count);
+    if (call < 10)
+        return ftl_names(edition, nesting, text, text_len, array, room, count);
+    if (call < FROM_JSON)
+        return ftl_error_messages(edition, nesting, text, text_len, array, room, count);
+    return ftl_answer(FTL_FROM_JSON, nesting, text, text_len, array, room, count);
 }
 
 /* Makes the call with room for that many items, and says whether the bytes before them stayed. */
@@ -185,7 +190,7 @@ static void call_over(int call, const uint8_t *text, size_t text_len)
 static void odd_calls(void)
 {
     static const uint8_t bad[] = {'a', ' ', '=', ' ', 0xFF, '\n'};
-    static const uint32_t wrong[] = {6, 7, 0xFFFFFFFF};
+    static const uint32_t wrong[] = {7, 8, 0xFFFFFFFF};
     size_t count;
     for (int call = 0; call < CALLS; call++) {
         count = 99;
@@ -195,7 +200,8 @@ static void odd_calls(void)
         count = 99;
         size_t line_end = call == FTL_JSON ? strlen("{\"body\":[]}\n") : 0;
         uint32_t status = tried(call, NULL, 0, 0, &count);
-        if (status != (line_end != 0 ? FTL_TOO_SMALL : FTL_CLEAN) || count != line_end)
+        uint32_t wants = line_end != 0 ? FTL_TOO_SMALL : call == FROM_JSON ? FTL_NO_TREE : FTL_CLEAN;
+        if (status != wants || count != line_end)
             fault(call, "no bytes", 0, count);
     }
     for (size_t i = 0; i < sizeof wrong / sizeof wrong[0]; i++) {
@@ -219,6 +225,72 @@ static void odd_calls(void)
     }
     if (ftl_errors(0, FTL_NESTING, bad, 3, NULL, 0, &count) != FTL_WRONG_ARGUMENT)
         fault(6, "edition 0", 3, 0);
+    uint8_t out[4] = {MARK, MARK, MARK, MARK};
+    count = 99;
+    if (ftl_error_messages(3, FTL_NESTING, bad, 3, out, 4, &count) != FTL_WRONG_ARGUMENT || count != 0 ||
+        out[0] != MARK)
+        fault(10, "no edition has that number", 3, 3);
+}
+
+/* The names of the kinds, with room for no byte, for each number of them and for more, and without memory. */
+static void kind_names(void)
+{
+    size_t count;
+    for (uint32_t kind = FTL_EXPECTED_TOKEN; kind <= FTL_EXPECTED_LITERAL; kind++) {
+        size_t whole = 0;
+        if (ftl_kind_name(kind, NULL, 0, &whole) != FTL_TOO_SMALL || whole == 0)
+            fault(CALLS, "no name of a kind", 0, kind);
+        ftl_kind_name(kind, want, ROOM, &count);
+        for (size_t room = 0; room <= whole + 2; room++) {
+            uint8_t *array = array_end - room;
+            memset(array - PAGE, MARK, room + PAGE);
+            uint32_t status = ftl_kind_name(kind, array, room, &count);
+            look(0, FTL_CLEAN, whole, kind, room, status, count);
+            if (!is_untouched(array - PAGE, array))
+                fault(CALLS, "a byte before the array was written", kind, room);
+        }
+        left = 0;
+        uint32_t status = ftl_kind_name(kind, want, ROOM, &count);
+        if (left < 0 && (status != FTL_NO_MEMORY || count != 0))
+            fault(CALLS, "a name given without memory", 0, kind);
+        left = -1;
+        if (live != 0)
+            fault(CALLS, "a block was not given back", 0, kind);
+    }
+    static const uint32_t wrong[] = {0, FTL_EXPECTED_LITERAL + 1, 0xFFFFFFFF};
+    for (size_t i = 0; i < sizeof wrong / sizeof wrong[0]; i++) {
+        count = 99;
+        if (ftl_kind_name(wrong[i], want, ROOM, &count) != FTL_WRONG_ARGUMENT || count != 0)
+            fault(CALLS, "no kind has that number", 0, wrong[i]);
+    }
+}
+
+/* JSON that is none, that spells no tree, and that nests as deeply as it may and one deeper. */
+static void odd_json(void)
+{
+    static const struct {
+        const char *text;
+        uint32_t status;
+    } texts[] = {
+        {"{\"body\":[]}", FTL_CLEAN},       {" { \"x\" : 1 , \"body\" : [ ] } \n", FTL_CLEAN},
+        {"", FTL_NO_TREE},                  {"{", FTL_NO_TREE},
+        {"[]", FTL_NO_TREE},                {"{\"body\":5}", FTL_NO_TREE},
+        {"{\"body\":[{\"type\":\"Junk\"}]}", FTL_NO_TREE}, {"\xFF", FTL_NOT_UTF8},
+    };
+    size_t count;
+    for (size_t i = 0; i < sizeof texts / sizeof texts[0]; i++) {
+        size_t len = strlen(texts[i].text);
+        memcpy(text_end - len, texts[i].text, len);
+        uint32_t status = tried(FROM_JSON, text_end - len, len, 0, &count);
+        if (status != texts[i].status || count != 0)
+            fault(FROM_JSON, "another status of JSON", len, status);
+    }
+    for (size_t depth = 127; depth < 130; depth++) {
+        memset(text_end - depth, '[', depth);
+        uint32_t status = tried(FROM_JSON, text_end - depth, depth, 0, &count);
+        if (status != (depth == 127 ? FTL_NO_TREE : FTL_TOO_DEEP) || count != 0)
+            fault(FROM_JSON, "another status by the nesting of JSON", depth, status);
+    }
 }
 
 /* ---- nesting */
@@ -255,7 +327,7 @@ static void deep_calls(void)
                 size_t times = more < 2 ? fits + more : 20000;
                 size_t len = nested(forms[form].open, forms[form].close, times);
                 uint32_t wants = more == 0 ? FTL_CLEAN : FTL_TOO_DEEP;
-                for (int call = 0; call < CALLS; call++) {
+                for (int call = 0; call < FROM_JSON; call++) {
                     size_t bytes = ROOM / 2 / size_of(call) * size_of(call);
                     uint32_t status =
                         made(call, bounds[i], text_end - len, len, array_end - bytes, bytes / size_of(call), &count);
@@ -279,12 +351,19 @@ int main(int argc, char **argv)
         return faults != 0;
     }
     odd_calls();
+    odd_json();
+    kind_names();
     while (fread(&len, sizeof len, 1, stdin) == 1) {
         if (len > ROOM || fread(text_end - len, 1, len, stdin) != len)
             return 2;
         texts++;
-        for (int call = 0; call < CALLS; call++)
+        for (int call = 0; call < FROM_JSON; call++)
             call_over(call, text_end - len, len);
+        uint32_t status = ftl_answer(FTL_JSON, FTL_NESTING, text_end - len, len, json, ROOM, &len);
+        if (status > FTL_SYNTAX_ERRORS)
+            fault(FTL_JSON, "no JSON", len, status);
+        memcpy(text_end - len, json, len);
+        call_over(FROM_JSON, text_end - len, len);
     }
     printf("%zu texts, %ld calls, %ld requests refused, %ld faults\n", texts, calls, refusals, faults);
     return faults != 0;

@@ -8,13 +8,17 @@
 import collections
 import ctypes
 
-COMMANDS = {"check": 0, "format": 1, "runtime": 2, "json": 3, "check-two": 4, "format-two": 5}
+COMMANDS = {"check": 0, "format": 1, "runtime": 2, "json": 3, "check-two": 4, "format-two": 5, "from-json": 6}
 NESTING = 100
-CLEAN, SYNTAX_ERRORS, WRONG_ARGUMENT, NOT_UTF8, NO_MEMORY, TOO_SMALL, TOO_DEEP = range(7)
+CLEAN, SYNTAX_ERRORS, WRONG_ARGUMENT, NOT_UTF8, NO_MEMORY, TOO_SMALL, TOO_DEEP, NO_TREE = range(8)
 
 
 class TooDeep(ValueError):
     """The text nests more deeply than was allowed."""
+
+
+class NoTree(ValueError):
+    """The text is no JSON, or JSON that spells no tree."""
 
 
 def _record(name, fields):
@@ -33,7 +37,10 @@ class Fluent:
     def __init__(self, path):
         library = ctypes.CDLL(str(path))
         self._calls = {}
-        for name in ("ftl_answer", "ftl_errors", "ftl_names"):
+        self._kind_name = library.ftl_kind_name
+        self._kind_name.restype = ctypes.c_uint32
+        self._kind_name.argtypes = [ctypes.c_uint32, ctypes.c_void_p, ctypes.c_size_t, ctypes.POINTER(ctypes.c_size_t)]
+        for name in ("ftl_answer", "ftl_errors", "ftl_names", "ftl_error_messages"):
             call = self._calls[name] = getattr(library, name)
             call.restype = ctypes.c_uint32
             call.argtypes = [ctypes.c_uint32, ctypes.c_size_t, ctypes.c_char_p, ctypes.c_size_t, ctypes.c_void_p,
@@ -55,6 +62,8 @@ class Fluent:
                 raise MemoryError
             elif status == TOO_DEEP:
                 raise TooDeep
+            elif status == NO_TREE:
+                raise NoTree
             else:
                 raise ValueError(f"{name} has no {number}")
 
@@ -68,6 +77,18 @@ class Fluent:
         """The syntax errors of the bytes, in order."""
         rows, count, _ = self._items("ftl_errors", edition, nesting, text, _ERROR, 8)
         return [Error(*(getattr(row, field) for field in Error._fields)) for row in rows[:count]]
+
+    def messages(self, text, edition=1, nesting=NESTING):
+        """The messages of the syntax errors of the bytes, in order: each is one line."""
+        out, length, _ = self._items("ftl_error_messages", edition, nesting, text, ctypes.c_char, 1024)
+        return out.raw[:length].decode().split("\n")[:-1]
+
+    def kind_name(self, kind):
+        """The name of a kind of errors."""
+        out, length = ctypes.create_string_buffer(64), ctypes.c_size_t()
+        if self._kind_name(kind, out, len(out), ctypes.byref(length)) != CLEAN:
+            raise ValueError(f"no kind has the number {kind}")
+        return out.raw[:length.value].decode()
 
     def names(self, text, edition=1, nesting=NESTING):
         """The names of the messages, terms and attributes of the bytes, in order."""

@@ -10,6 +10,11 @@
 #ifndef FLUENT_H
 #define FLUENT_H
 
+/* The version. Of a later one with the same first number each call and number of this one is as it is here. */
+#define FTL_VERSION_MAJOR 1
+#define FTL_VERSION_MINOR 0
+#define FTL_VERSION "1.0"
+
 #include <stddef.h>
 #include <stdint.h>
 
@@ -26,7 +31,8 @@ enum ftl_status {
     FTL_NOT_UTF8 = 3,       /* the text is not UTF-8 */
     FTL_NO_MEMORY = 4,      /* a request for memory was refused */
     FTL_TOO_SMALL = 5,      /* the array has no room for all that there is: call again with more */
-    FTL_TOO_DEEP = 6        /* the text nests more deeply than `nesting` allows */
+    FTL_TOO_DEEP = 6,       /* the text nests more deeply than `nesting` allows, or JSON more than 127 deep */
+    FTL_NO_TREE = 7         /* of FTL_FROM_JSON: the text is no JSON, or JSON that spells no tree */
 };
 
 /* A `nesting` that does for texts that people write: how many placeables and argument lists may be open at once. Each
@@ -40,7 +46,8 @@ enum ftl_command {
     FTL_RUNTIME = 2,   /* the same without comments */
     FTL_JSON = 3,      /* the tree as a JSON value on one line, with what was refused */
     FTL_CHECK_TWO = 4, /* FTL_CHECK by edition two of the grammar */
-    FTL_FORMAT_TWO = 5 /* FTL_FORMAT by edition two */
+    FTL_FORMAT_TWO = 5, /* FTL_FORMAT by edition two */
+    FTL_FROM_JSON = 6   /* of a JSON value as FTL_JSON writes it: the text of the tree that it spells, without its junk */
 };
 
 /* The editions of the grammar. */
@@ -103,7 +110,7 @@ struct ftl_name {
 };
 
 /* Writes what the command, an ftl_command, writes for the text: `*needed` bytes of UTF-8 without a 0 behind them.
-   Returns an ftl_status. */
+   FTL_FROM_JSON does not look at `nesting`. Returns an ftl_status. */
 uint32_t ftl_answer(uint32_t command, size_t nesting, const uint8_t *text, size_t text_len,
                     uint8_t *out, size_t out_len, size_t *needed);
 
@@ -116,6 +123,16 @@ uint32_t ftl_errors(uint32_t edition, size_t nesting, const uint8_t *text, size_
    behind its own: `*count` rows. What was refused has none. `edition` is an ftl_edition. Returns an ftl_status. */
 uint32_t ftl_names(uint32_t edition, size_t nesting, const uint8_t *text, size_t text_len,
                    struct ftl_name *rows, size_t rows_len, size_t *count);
+
+/* Writes the message of each syntax error of the text, in order and each on a line of its own, with what was expected:
+   `*needed` bytes of UTF-8. A line end that a message tells of is written as \n or \r. `edition` is an ftl_edition.
+   Returns an ftl_status. */
+uint32_t ftl_error_messages(uint32_t edition, size_t nesting, const uint8_t *text, size_t text_len,
+                            uint8_t *out, size_t out_len, size_t *needed);
+
+/* Writes the name of an ftl_error_kind, as ExpectedToken: `*needed` bytes without a 0 behind them.
+   Returns FTL_CLEAN, or why nothing was written. */
+uint32_t ftl_kind_name(uint32_t kind, uint8_t *out, size_t out_len, size_t *needed);
 
 #ifdef __cplusplus
 }

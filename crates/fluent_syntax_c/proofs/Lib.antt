@@ -1,3 +1,6 @@
 mod Statuses
 mod Rows
 mod Recovered
+mod Told
+mod Commands
+mod Spelled

@@ -5,7 +5,7 @@ use Rattle.std.specs.Prelude.{◌↔◌, ◌⊎◌}
 use Rattle.ftl.specs.declared.outcome.Outcome.{Outcome}
 use Rattle.ftl.specs.declared.outcome.Outcome.TheVariants as outcome
 use Rattle.fluent_syntax_c.specs.declared.status.Refusal.{Refusal}
-use Rattle.fluent_syntax_c.specs.declared.status.Refusal.TheVariants.{Argument, Input, Memory, Depth}
+use Rattle.fluent_syntax_c.specs.declared.status.Refusal.TheVariants.{Argument, Input, Memory, Depth, Tree}
 use Rattle.fluent_syntax_c.specs.declared.status.Status.{Status}
 use Rattle.fluent_syntax_c.specs.declared.status.Status.TheVariants.{Clean, SyntaxErrors, TooSmall, Refused}
 use Rattle.fluent_syntax_c.specs.Status.{EndsAs, refusal_number, status_number}
@@ -15,7 +15,8 @@ use Rattle.fluent_syntax_c.specs.Output.{Leaves}
 abbrev status_at : ℕ → Status
 status_at n =
     cond (n == 0) Clean (cond (n == 1) SyntaxErrors (cond (n == 2) (Refused Argument)
-    (cond (n == 3) (Refused Input) (cond (n == 4) (Refused Memory) (cond (n == 5) TooSmall (Refused Depth))))))
+    (cond (n == 3) (Refused Input) (cond (n == 4) (Refused Memory) (cond (n == 5) TooSmall
+    (cond (n == 6) (Refused Depth) (Refused Tree)))))))
 
 number_back : (status : Status) → status_at (status_number status) ≡ status
 number_back Clean = refl
@@ -25,6 +26,7 @@ number_back (Refused Argument) = refl
 number_back (Refused Input) = refl
 number_back (Refused Memory) = refl
 number_back (Refused Depth) = refl
+number_back (Refused Tree) = refl
 
 -- no two statuses have one number
 same_status : (a b : Status) → status_number a ≡ status_number b → a ≡ b
@@ -43,17 +45,19 @@ told_exactly answer number status is refused why = (
 pub told_where : {Told Answered P : Type 0} → (Told ↔ Answered) → (Answered ↔ P) → Told ↔ P
 told_where told answered = ((λ e. answered.0 (told.0 e)), (λ p. told.1 (answered.1 p)))
 
--- Where nothing that nests deeper is answered, and no number is wrong, what nests deeper is refused: for its bytes, for
--- want of memory, or for its depth.
+-- Where nothing that nests deeper is answered, no number is wrong and no tree is asked for, what nests deeper is
+-- refused: for its bytes, for want of memory, or for its depth.
 pub refused_deeper : {X : Type 0} (answer : Result X Refusal) (number : ℕ) (Deeper : Type 0) →
     ((why : Refusal) → (number ≡ refusal_number why) ↔ (answer ≡ Err why)) →
-    IfOk answer (λ given. Deeper → ⊥) → (answer ≡ Err Argument → Deeper → ⊥) → Deeper →
+    IfOk answer (λ given. Deeper → ⊥) → (answer ≡ Err Argument → Deeper → ⊥) → (answer ≡ Err Tree → Deeper → ⊥) →
+    Deeper →
     (number ≡ 3) ⊎ (number ≡ 4) ⊎ (number ≡ 6)
-refused_deeper (Ok given) number Deeper refused shallow known deeper = absurd (shallow deeper)
-refused_deeper (Err Argument) number Deeper refused shallow known deeper = absurd (known refl deeper)
-refused_deeper (Err Input) number Deeper refused shallow known deeper = inl ((refused Input).1 refl)
-refused_deeper (Err Memory) number Deeper refused shallow known deeper = inr (inl ((refused Memory).1 refl))
-refused_deeper (Err Depth) number Deeper refused shallow known deeper = inr (inr ((refused Depth).1 refl))
+refused_deeper (Ok given) number Deeper refused shallow known tree deeper = absurd (shallow deeper)
+refused_deeper (Err Argument) number Deeper refused shallow known tree deeper = absurd (known refl deeper)
+refused_deeper (Err Input) number Deeper refused shallow known tree deeper = inl ((refused Input).1 refl)
+refused_deeper (Err Memory) number Deeper refused shallow known tree deeper = inr (inl ((refused Memory).1 refl))
+refused_deeper (Err Depth) number Deeper refused shallow known tree deeper = inr (inr ((refused Depth).1 refl))
+refused_deeper (Err Tree) number Deeper refused shallow known tree deeper = absurd (tree refl deeper)
 
 -- what was given is what was asked for, where the answer is
 asked_is : {A X E : Type 0} (asked : List A → Outcome → Type 0) (items_of : X → List A) (found_of : X → Outcome)

@@ -4,6 +4,8 @@ use Rattle.fluent_syntax_tree.specs.declared.edition.Edition.{Edition}
 use Rattle.fluent_syntax_tree.specs.declared.edition.Edition.TheVariants.{One, Two}
 use Rattle.ftl.specs.declared.command.Command.{Command}
 use Rattle.ftl.specs.declared.command.Command.TheVariants.{Check, Format, Runtime, Json, CheckTwo, FormatTwo}
+use Rattle.fluent_syntax_c.specs.declared.arguments.Asked.{Asked}
+use Rattle.fluent_syntax_c.specs.declared.arguments.Asked.TheVariants.{Answer, FromJson}
 
 abbrev pub command_number : Command → ℕ
 command_number Check = 0
@@ -13,13 +15,22 @@ command_number Json = 3
 command_number CheckTwo = 4
 command_number FormatTwo = 5
 
+-- the number that asks for the text of a tree that is spelled as JSON
+abbrev pub from_json_number : ℕ
+from_json_number = 6
+
+-- the number of what is asked for
+abbrev pub asked_number : Asked → ℕ
+asked_number (Answer command) = command_number command
+asked_number FromJson = from_json_number
+
 abbrev pub edition_number : Edition → ℕ
 edition_number One = 1
 edition_number Two = 2
 
 -- No command has the number.
 abbrev pub IsNoCommand : ℕ → Type 0
-IsNoCommand number = (command : Command) → command_number command ≢ number
+IsNoCommand number = (asked : Asked) → asked_number asked ≢ number
 
 -- No edition has the number.
 abbrev pub IsNoEdition : ℕ → Type 0

@@ -1,5 +1,5 @@
 -- The numbers of the kinds of errors.
-use Rattle.std.specs.Prelude.{ℕ}
+use Rattle.std.specs.Prelude.{◌≢◌, ℕ}
 use Rattle.fluent_syntax_tree.specs.Kind.{Kind, ExpectedToken, ExpectedCharRange, ExpectedMessageField}
 use Rattle.fluent_syntax_tree.specs.Kind.{ExpectedTermField, ForbiddenCallee, MissingDefaultVariant, MissingValue}
 use Rattle.fluent_syntax_tree.specs.Kind.{MultipleDefaultVariants, MessageReferenceAsSelector, TermReferenceAsSelector}
@@ -31,3 +31,7 @@ kind_number UnbalancedClosingBrace = 18
 kind_number ExpectedInlineExpression = 19
 kind_number ExpectedSimpleExpressionAsSelector = 20
 kind_number ExpectedLiteral = 21
+
+-- No kind has the number.
+abbrev pub IsNoKind : ℕ → Type 0
+IsNoKind number = (kind : Kind) → kind_number kind ≢ number

@@ -7,3 +7,4 @@ pub mod Kinds
 pub mod Reading
 pub mod Errors
 pub mod Names
+pub mod Messages

@@ -3,7 +3,7 @@ use Rattle.std.specs.Prelude.{◌≡◌, ℕ}
 use Rattle.ftl.specs.declared.outcome.Outcome.{Outcome}
 use Rattle.ftl.specs.declared.outcome.Outcome.TheVariants as outcome
 use Rattle.fluent_syntax_c.specs.declared.status.Refusal.{Refusal}
-use Rattle.fluent_syntax_c.specs.declared.status.Refusal.TheVariants.{Argument, Input, Memory, Depth}
+use Rattle.fluent_syntax_c.specs.declared.status.Refusal.TheVariants.{Argument, Input, Memory, Depth, Tree}
 use Rattle.fluent_syntax_c.specs.declared.status.Status.{Status}
 use Rattle.fluent_syntax_c.specs.declared.status.Status.TheVariants.{Clean, SyntaxErrors, TooSmall, Refused}
 
@@ -12,6 +12,7 @@ refusal_number Argument = 2
 refusal_number Input = 3
 refusal_number Memory = 4
 refusal_number Depth = 6
+refusal_number Tree = 7
 
 abbrev pub status_number : Status → ℕ
 status_number Clean = 0

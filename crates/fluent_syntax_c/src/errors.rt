@@ -1,5 +1,5 @@
 //! Errors as rows.
-ghost use Rattle.std.specs.Prelude.{◌≡◌, ◌↔◌, ◌⊎◌, ◌+◌, ◌<◌, ◌≤◌, ◌^◌, length, map, All, Err, IfOk};
+ghost use Rattle.std.specs.Prelude.{◌≡◌, ◌≢◌, ◌↔◌, ◌⊎◌, ◌+◌, ◌<◌, ◌≤◌, ◌^◌, length, map, All, Err, IfOk};
 ghost use Rattle.std.specs.Str.{IsUtf8};
 ghost use Rattle.ftl.specs.Answer.{told};
 ghost use Rattle.fluent_syntax_c.specs.Arguments.{IsNoEdition};
@@ -74,6 +74,7 @@ fn edition_errors(
     ensures deep { result ≡ Err Refusal.Depth → nesting < length input.now }
     ensures deeper { result ≡ Err Refusal.Depth → EditionReadsDeeper edition input.now nesting }
     ensures shallow { IfOk result (λ found. EditionReadsDeeper edition input.now nesting → ⊥) }
+    ensures tree { result ≢ Err Refusal.Tree }
 {
     let reading = read(alloc, edition, nesting, input)?;
     match error_rows(alloc, reading.text, &reading.errors) {

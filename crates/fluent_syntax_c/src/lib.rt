@@ -8,6 +8,7 @@ mod answers;
 mod arguments;
 mod errors;
 mod kinds;
+mod messages;
 mod names;
 mod outputs;
 mod readings;
@@ -16,4 +17,5 @@ mod texts;
 
 pub use answers::ftl_answer;
 pub use errors::{FtlError, ftl_errors};
+pub use messages::{ftl_error_messages, ftl_kind_name};
 pub use names::{FtlName, ftl_names};

@@ -1,5 +1,5 @@
 //! The names of messages, terms and attributes as rows.
-ghost use Rattle.std.specs.Prelude.{◌≡◌, ◌↔◌, ◌⊎◌, ◌+◌, ◌++◌, ◌<◌, ◌≤◌, ◌^◌, length, map, Err, IfOk, OnOk};
+ghost use Rattle.std.specs.Prelude.{◌≡◌, ◌≢◌, ◌↔◌, ◌⊎◌, ◌+◌, ◌++◌, ◌<◌, ◌≤◌, ◌^◌, length, map, Err, IfOk, OnOk};
 ghost use Rattle.std.specs.Prelude.{vec_len};
 ghost use Rattle.std.specs.Str.{IsUtf8};
 ghost use Rattle.fluent_syntax_tree.specs.Every.{attribute_every, body_every, entry_every, list_every};
@@ -96,6 +96,7 @@ fn edition_names(
     ensures deep { result ≡ Err Refusal.Depth → nesting < length input.now }
     ensures deeper { result ≡ Err Refusal.Depth → EditionReadsDeeper edition input.now nesting }
     ensures shallow { IfOk result (λ found. EditionReadsDeeper edition input.now nesting → ⊥) }
+    ensures tree { result ≢ Err Refusal.Tree }
 {
     let reading = read(alloc, edition, nesting, input)?;
     match tree_rows(alloc, reading.text, &reading.tree) {

@@ -1,5 +1,5 @@
 //! What is read of an input for rows.
-ghost use Rattle.std.specs.Prelude.{◌≡◌, ◌↔◌, ◌⊎◌, ◌+◌, ◌<◌, ◌≤◌, ◌^◌, List, length, map, All, Err, IfErr, IfOk, Some};
+ghost use Rattle.std.specs.Prelude.{◌≡◌, ◌≢◌, ◌↔◌, ◌⊎◌, ◌+◌, ◌<◌, ◌≤◌, ◌^◌, List, length, map, All, Err, IfErr, IfOk, Some};
 ghost use Rattle.std.specs.Str.{IsUtf8};
 ghost use Rattle.fluent_syntax_grammar.specs.Nesting.{NestsDeeper};
 ghost use Rattle.fluent_syntax_grammar.specs.Tiling.{Fault};
@@ -46,6 +46,7 @@ pub(crate) fn read(
     ensures deep { result ≡ Err Refusal.Depth → nesting < length input.now }
     ensures deeper { result ≡ Err Refusal.Depth → EditionReadsDeeper edition input.now nesting }
     ensures shallow { IfOk result (λ reading. EditionReadsDeeper edition input.now nesting → ⊥) }
+    ensures tree { result ≢ Err Refusal.Tree }
 {
     let Some(edition) = edition_of(edition) else {
         return Err(Refusal::Argument);

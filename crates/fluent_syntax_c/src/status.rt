@@ -26,6 +26,8 @@ pub enum Refusal {
     Memory,
     /// The input nests more deeply than was allowed.
     Depth,
+    /// The input is no JSON, or JSON that spells no tree.
+    Tree,
 }
 
 impl Status {
@@ -51,6 +53,7 @@ impl Refusal {
             Refusal::Input => 3,
             Refusal::Memory => 4,
             Refusal::Depth => 6,
+            Refusal::Tree => 7,
         }
     }
 }

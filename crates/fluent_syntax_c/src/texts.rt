@@ -11,6 +11,7 @@ pub(crate) fn text_of(input: &[u8]) -> Result<&str, Refusal>
     ensures input { (result ≡ Err Refusal.Input) ↔ ¬ (IsUtf8 input.now) }
     ensures argument { result ≢ Err Refusal.Argument }
     ensures deep { result ≢ Err Refusal.Depth }
+    ensures tree { result ≢ Err Refusal.Tree }
 {
     let Ok(text) = str::from_utf8(input) else {
         return Err(Refusal::Input);

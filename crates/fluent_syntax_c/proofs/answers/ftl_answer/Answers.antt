@@ -1,5 +1,8 @@
+use Rattle.std.proofs.Common.{◌∙◌}
 use Rattle.fluent_syntax_c.specs.Answer.{IsCommandAnswer}
-use Rattle.fluent_syntax_c.specs.declared.status.Refusal.TheVariants.{Argument, Input, Depth}
+use Rattle.fluent_syntax_c.specs.declared.arguments.Asked.TheVariants.{Answer}
+use Rattle.fluent_syntax_c.specs.declared.status.Refusal.TheVariants.{Argument, Input, Depth, Tree}
+use Rattle.fluent_syntax_c.proofs.Commands.{is_of_text}
 use Rattle.fluent_syntax_c.proofs.Statuses.{leaves_answered, refused_deeper, told_where}
 use Rattle.fluent_syntax_c.proofs.answers.ftl_answer.Goals as goal
 
@@ -24,4 +27,11 @@ returns-clause-deeper c = λ told. c.command_bytes.ensures.deeper ((c.give.ensur
 pub returns-clause-shallow : goal.returns-clause-shallow
 returns-clause-shallow c = λ deeper.
     refused_deeper c.command_bytes.result c.give.result _ c.give.ensures.refused c.command_bytes.ensures.shallow
-    (λ e d. c.command_bytes.ensures.argument.0 e d.0 d.1) deeper
+    (λ e d. c.command_bytes.ensures.argument.0 e (Answer d.0) d.1)
+    (λ e d. is_of_text d.0 (d.1 ∙ (c.command_bytes.ensures.tree e).0)) deeper
+
+pub returns-clause-tree : goal.returns-clause-tree
+returns-clause-tree c = λ told. c.command_bytes.ensures.tree ((c.give.ensures.refused Tree).0 told)
+
+pub returns-clause-json : goal.returns-clause-json
+returns-clause-json c = λ told. c.command_bytes.ensures.json ((c.give.ensures.refused Depth).0 told)

@@ -24,4 +24,4 @@ returns-clause-deeper c = λ told. c.edition_errors.ensures.deeper ((c.give.ensu
 pub returns-clause-shallow : goal.returns-clause-shallow
 returns-clause-shallow c = λ deeper.
     refused_deeper c.edition_errors.result c.give.result _ c.give.ensures.refused c.edition_errors.ensures.shallow
-    (λ e d. c.edition_errors.ensures.argument.0 e d.0 d.1) deeper
+    (λ e d. c.edition_errors.ensures.argument.0 e d.0 d.1) (λ e d. c.edition_errors.ensures.tree e) deeper

@@ -24,4 +24,4 @@ returns-clause-deeper c = λ told. c.edition_names.ensures.deeper ((c.give.ensur
 pub returns-clause-shallow : goal.returns-clause-shallow
 returns-clause-shallow c = λ deeper.
     refused_deeper c.edition_names.result c.give.result _ c.give.ensures.refused c.edition_names.ensures.shallow
-    (λ e d. c.edition_names.ensures.argument.0 e d.0 d.1) deeper
+    (λ e d. c.edition_names.ensures.argument.0 e d.0 d.1) (λ e d. c.edition_names.ensures.tree e) deeper

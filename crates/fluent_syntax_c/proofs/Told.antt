@@ -1,0 +1,26 @@
+-- Lines and messages of errors.
+use Rattle.std.proofs.Common.{◌≡◌, ◌++◌, ℕ, List, map, Some, ap, ◌∙◌, sym, codes}
+use Rattle.std.proofs.lemmas.List.Folds.{flat_map-map}
+use Rattle.std.specs.List.{flat_map}
+use Rattle.fluent_syntax_tree.specs.Kind.{ExpectedCharRange, Kind, kind_of}
+use Rattle.fluent_syntax_tree.specs.declared.errors.ParserError.{ParserError}
+use Rattle.fluent_syntax_grammar.specs.Tiling.{Fault}
+use Rattle.fluent_syntax_parser.specs.Faults.{fault_of}
+use Rattle.ftl.proofs.Errors.{made_of_faults}
+use Rattle.ftl.specs.Answer.{told}
+use Rattle.fluent_syntax_c.specs.Messages.{kind_message, shown}
+
+-- errors that tell of faults have the lines of the faults
+pub lines_of_faults : (line : Kind → List ℕ) (errors : List ParserError) (fs : List Fault) →
+    map fault_of errors ≡ map Some fs → flat_map (λ e. line (kind_of e.kind)) errors ≡ flat_map (λ f. line f.kind) fs
+lines_of_faults line errors fs tells =
+    let of_fault : Fault → List ℕ = λ f. line f.kind in
+    sym (flat_map-map (λ l. l) (λ e. of_fault (told e)) errors)
+    ∙ ap (flat_map (λ l. l)) (made_of_faults of_fault errors fs tells)
+    ∙ flat_map-map (λ l. l) of_fault fs
+
+-- the message of a kind that tells of a range
+pub message_of_range : (kind : Kind) (range bytes : List ℕ) → kind ≡ ExpectedCharRange range → bytes ≡ range →
+    kind_message kind ≡ codes "Expected one of \"" ++ shown bytes ++ codes "\""
+message_of_range kind range bytes is same =
+    ap kind_message is ∙ ap (λ t. codes "Expected one of \"" ++ shown t ++ codes "\"") (sym same)

@@ -1,0 +1,74 @@
+-- What is said of errors.
+use Rattle.std.specs.Prelude.{◌≡◌, ◌++◌, ◌==◌, ◌∷◌, [], ℕ, List, codes, cond, encode_utf8}
+use Rattle.std.specs.List.{flat_map}
+use Rattle.std.specs.Str.{IsUtf8}
+use Rattle.fluent_syntax_tree.specs.Kind.{Kind, kind_name, ExpectedToken, ExpectedCharRange, ExpectedMessageField}
+use Rattle.fluent_syntax_tree.specs.Kind.{ExpectedTermField, ForbiddenCallee, MissingDefaultVariant, MissingValue}
+use Rattle.fluent_syntax_tree.specs.Kind.{MultipleDefaultVariants, MessageReferenceAsSelector, TermReferenceAsSelector}
+use Rattle.fluent_syntax_tree.specs.Kind.{MessageAttributeAsSelector, TermAttributeAsPlaceable}
+use Rattle.fluent_syntax_tree.specs.Kind.{UnterminatedStringLiteral, PositionalArgumentFollowsNamed}
+use Rattle.fluent_syntax_tree.specs.Kind.{DuplicatedNamedArgument, UnknownEscapeSequence, InvalidUnicodeEscapeSequence}
+use Rattle.fluent_syntax_tree.specs.Kind.{UnbalancedClosingBrace, ExpectedInlineExpression}
+use Rattle.fluent_syntax_tree.specs.Kind.{ExpectedSimpleExpressionAsSelector, ExpectedLiteral}
+use Rattle.fluent_syntax_tree.specs.declared.edition.Edition.{Edition}
+use Rattle.fluent_syntax_grammar.specs.Body.{faults}
+use Rattle.fluent_syntax_grammar.specs.Tiling.{Fault, Tile, Tiling}
+use Rattle.ftl.specs.Answer.{outcome_of}
+use Rattle.ftl.specs.declared.outcome.Outcome.{Outcome}
+use Rattle.ftl.specs.declared.outcome.Outcome.TheVariants.{Clean}
+use Rattle.fluent_syntax_c.specs.Arguments.{edition_number}
+use Rattle.fluent_syntax_c.specs.Kinds.{kind_number}
+
+-- a byte of what is told, with two for a line end
+abbrev pub shown_byte : ℕ → List ℕ
+shown_byte b = cond (b == 10) (codes "\\n") (cond (b == 13) (codes "\\r") (b ∷ []))
+
+-- what is told, on one line
+abbrev pub shown : List ℕ → List ℕ
+shown text = flat_map shown_byte text
+
+-- the message of an error of the kind
+abbrev pub kind_message : Kind → List ℕ
+kind_message (ExpectedToken token) = codes "Expected a token starting with \"" ++ shown (encode_utf8 token) ++ codes "\""
+kind_message (ExpectedCharRange text) = codes "Expected one of \"" ++ shown text ++ codes "\""
+kind_message (ExpectedMessageField text) = codes "Expected a message field for \"" ++ shown text ++ codes "\""
+kind_message (ExpectedTermField text) = codes "Expected a term field for \"" ++ shown text ++ codes "\""
+kind_message ForbiddenCallee = codes "Callee is not allowed here"
+kind_message MissingDefaultVariant = codes "The select expression must have a default variant"
+kind_message MissingValue = codes "Expected a value"
+kind_message MultipleDefaultVariants = codes "A select expression can only have one default variant"
+kind_message MessageReferenceAsSelector = codes "Message references can't be used as a selector"
+kind_message TermReferenceAsSelector = codes "Term references can't be used as a selector"
+kind_message MessageAttributeAsSelector = codes "Message attributes can't be used as a selector"
+kind_message TermAttributeAsPlaceable = codes "Term attributes can't be used as a selector"
+kind_message UnterminatedStringLiteral = codes "Unterminated string literal"
+kind_message PositionalArgumentFollowsNamed = codes "Positional arguments must come before named arguments"
+kind_message (DuplicatedNamedArgument text) = codes "The \"" ++ shown text ++ codes "\" argument appears twice"
+kind_message (UnknownEscapeSequence text) = codes "Unknown escape sequence"
+kind_message (InvalidUnicodeEscapeSequence text) = codes "Invalid unicode escape sequence, \"" ++ shown text ++ codes "\""
+kind_message UnbalancedClosingBrace = codes "Unbalanced closing brace"
+kind_message ExpectedInlineExpression = codes "Expected an inline expression"
+kind_message ExpectedSimpleExpressionAsSelector = codes "Expected a simple expression as selector"
+kind_message ExpectedLiteral = codes "Expected a string or number literal"
+
+-- the message on a line of its own
+abbrev pub message_line : Kind → List ℕ
+message_line kind = kind_message kind ++ codes "\n"
+
+-- The bytes are the name of a kind of the number; there is nothing that could have errors.
+abbrev pub IsKindName : (number : ℕ) (name : List ℕ) (outcome : Outcome) → Type 0
+IsKindName number name outcome =
+    (kind : Kind) × (kind_number kind ≡ number) × (name ≡ kind_name kind) × (outcome ≡ Clean)
+
+-- The source is UTF-8, and the lines are those of the errors of its tiling by the edition, in order, with the outcome.
+pub record AreMessages (edition : Edition) (t lines : List ℕ) (outcome : Outcome) : Type 0 where
+  pub is_utf8 : IsUtf8 t
+  pub tiles : List Tile
+  pub has_tiles : Tiling edition t tiles
+  pub lines_are : lines ≡ flat_map (λ f. message_line f.kind) (faults tiles)
+  pub outcome_is : outcome ≡ outcome_of tiles
+
+-- The same by the edition of the number.
+abbrev pub AreEditionMessages : (number : ℕ) (t lines : List ℕ) (outcome : Outcome) → Type 0
+AreEditionMessages number t lines outcome =
+    (edition : Edition) × (edition_number edition ≡ number) × AreMessages edition t lines outcome

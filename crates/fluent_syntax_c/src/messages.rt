@@ -1,0 +1,247 @@
+//! What is said of errors: the names of their kinds, and their messages.
+ghost use Rattle.std.specs.Prelude.{◌≡◌, ◌≢◌, ◌↔◌, ◌⊎◌, ◌+◌, ◌++◌, ◌<◌, ℕ, List, length, string_bytes, Err, IfNone, IfOk};
+ghost use Rattle.std.specs.Prelude.{IfSome, OnOk};
+ghost use Rattle.std.specs.List.{flat_map};
+ghost use Rattle.std.specs.Str.{IsUtf8};
+ghost use Rattle.fluent_syntax_tree.specs.Kind.{Kind, kind_of};
+ghost use Rattle.fluent_syntax_c.specs.Arguments.{IsNoEdition};
+ghost use Rattle.fluent_syntax_c.specs.Depth.{EditionReadsDeeper};
+ghost use Rattle.fluent_syntax_c.specs.Kinds.{IsNoKind, kind_number};
+ghost use Rattle.fluent_syntax_c.specs.Messages.{AreEditionMessages, IsKindName, kind_message, message_line, shown};
+ghost use Rattle.fluent_syntax_c.specs.Messages.{shown_byte};
+ghost use Rattle.fluent_syntax_c.specs.Output.{Leaves};
+ghost use Rattle.fluent_syntax_c.specs.Status.{EndsAs};
+
+use crate::kinds::kind_at;
+use crate::outputs::give;
+use crate::readings::{outcome_of, read};
+use crate::status::Refusal;
+use fluent_syntax::parser::{ErrorKind, ParserError};
+use ftl::Outcome;
+use std::alloc::{AllocError, Global};
+
+/// Writes the name of the kind of the number, as `ExpectedToken`, to the front of `out`, and the number of its bytes to
+/// `needed`.
+///
+/// Returns 0. Where it returns 5 the name has more bytes than `out`: `needed` tells how many, and `out` is as it was.
+/// Otherwise `needed` is 0 and `out` as it was: 2 where no kind has the number, 4 where a growth was refused.
+#[unsafe(no_mangle)]
+pub extern "C" fn ftl_kind_name(alloc: Global, kind: u32, out: &mut [u8], needed: &mut usize) -> u32
+    ensures leaves { EndsAs result (Leaves (IsKindName kind) out.old out.new needed.new) }
+    ensures argument { (result ≡ 2) ↔ IsNoKind kind }
+{
+    give(name_bytes(alloc, kind), out, needed)
+}
+
+/// The bytes of the name of the kind of the number.
+fn name_bytes(alloc: Global, kind: u32) -> Result<(Vec<u8>, Outcome), Refusal>
+    ensures name { IfOk result (λ answer. IsKindName kind answer.0.items answer.1) }
+    ensures argument { (result ≡ Err Refusal.Argument) ↔ IsNoKind kind }
+{
+    let Some(kind) = kind_at(alloc, kind) else {
+        return Err(Refusal::Argument);
+    };
+    match String::from_str(alloc, kind.name()) {
+        Ok(name) => Ok((name.into_bytes(), Outcome::Clean)),
+        Err(_) => Err(Refusal::Memory),
+    }
+}
+
+/// Writes the messages of the errors of the input, read by the edition of the number, to the front of `out`, in order
+/// and each on a line of its own, and the number of their bytes to `needed`. A line end in a message is written as `\n`
+/// or `\r`, so that each message is one line.
+///
+/// Returns 0 where there are none, and 1 where there are some. Where it returns 5 they have more bytes than `out`:
+/// `needed` tells how many, and `out` is as it was. Otherwise `needed` is 0 and `out` as it was: 2 where no edition has
+/// the number, 3 where the input is not UTF-8, 4 where a growth was refused, 6 where the input's placeables and
+/// argument lists nest more than `nesting` deep.
+#[unsafe(no_mangle)]
+pub extern "C" fn ftl_error_messages(
+    alloc: Global,
+    edition: u32,
+    nesting: usize,
+    input: &[u8],
+    out: &mut [u8],
+    needed: &mut usize,
+) -> u32
+    ensures leaves { EndsAs result (Leaves (AreEditionMessages edition input.now) out.old out.new needed.new) }
+    ensures argument { (result ≡ 2) ↔ IsNoEdition edition }
+    ensures input { ¬ (IsNoEdition edition) → ((result ≡ 3) ↔ ¬ (IsUtf8 input.now)) }
+    ensures deep { result ≡ 6 → nesting < length input.now }
+    ensures deeper { result ≡ 6 → EditionReadsDeeper edition input.now nesting }
+    ensures shallow { EditionReadsDeeper edition input.now nesting →
+        (result ≡ 3) ⊎ (result ≡ 4) ⊎ (result ≡ 6) }
+{
+    give(
+        edition_messages(alloc, edition, nesting, input),
+        out,
+        needed,
+    )
+}
+
+/// The messages by the edition of the number.
+fn edition_messages(
+    alloc: Global,
+    edition: u32,
+    nesting: usize,
+    input: &[u8],
+) -> Result<(Vec<u8>, Outcome), Refusal>
+    ensures lines { IfOk result (λ found. AreEditionMessages edition input.now found.0.items found.1) }
+    ensures argument { (result ≡ Err Refusal.Argument) ↔ IsNoEdition edition }
+    ensures input { ¬ (IsNoEdition edition) → ((result ≡ Err Refusal.Input) ↔ ¬ (IsUtf8 input.now)) }
+    ensures deep { result ≡ Err Refusal.Depth → nesting < length input.now }
+    ensures deeper { result ≡ Err Refusal.Depth → EditionReadsDeeper edition input.now nesting }
+    ensures shallow { IfOk result (λ found. EditionReadsDeeper edition input.now nesting → ⊥) }
+    ensures tree { result ≢ Err Refusal.Tree }
+{
+    let reading = read(alloc, edition, nesting, input)?;
+    match message_lines(alloc, &reading.errors) {
+        Ok(lines) => Ok((lines, outcome_of(&reading.errors))),
+        Err(_) => Err(Refusal::Memory),
+    }
+}
+
+/// A line for each of the errors.
+fn message_lines(alloc: Global, errors: &Vec<ParserError>) -> Result<Vec<u8>, AllocError>
+    ensures { IfOk result (λ lines. lines.items ≡ flat_map (λ e. message_line (kind_of e.kind)) errors.now.items) }
+{
+    let mut lines = Vec::new(alloc);
+    for error in errors {
+        add_line(alloc, &mut lines, &error.kind)?;
+    }
+    Ok(lines)
+}
+
+/// Adds the line of an error of the kind.
+fn add_line(alloc: Global, lines: &mut Vec<u8>, kind: &ErrorKind) -> Result<(), AllocError>
+    ensures { OnOk result (lines.new.items ≡ lines.old.items ++ message_line (kind_of kind.now)) }
+{
+    add_message(alloc, lines, kind)?;
+    lines.push(b'\n')?;
+    Ok(())
+}
+
+/// Adds the message of an error of the kind.
+fn add_message(alloc: Global, lines: &mut Vec<u8>, kind: &ErrorKind) -> Result<(), AllocError>
+    ensures { OnOk result (lines.new.items ≡ lines.old.items ++ kind_message (kind_of kind.now)) }
+{
+    match kind {
+        ErrorKind::ExpectedToken(token) => {
+            let mut text = String::new(alloc);
+            text.push(*token)?;
+            add_with(
+                lines,
+                "Expected a token starting with \"",
+                text.as_str(),
+                "\"",
+            )
+        }
+        ErrorKind::ExpectedCharRange { range } => {
+            add_with(lines, "Expected one of \"", range.as_str(), "\"")
+        }
+        ErrorKind::ExpectedMessageField { entry_id } => {
+            add_with(
+                lines,
+                "Expected a message field for \"",
+                entry_id.as_str(),
+                "\"",
+            )
+        }
+        ErrorKind::ExpectedTermField { entry_id } => {
+            add_with(
+                lines,
+                "Expected a term field for \"",
+                entry_id.as_str(),
+                "\"",
+            )
+        }
+        ErrorKind::DuplicatedNamedArgument(name) => {
+            add_with(lines, "The \"", name.as_str(), "\" argument appears twice")
+        }
+        ErrorKind::InvalidUnicodeEscapeSequence(digits) => {
+            add_with(
+                lines,
+                "Invalid unicode escape sequence, \"",
+                digits.as_str(),
+                "\"",
+            )
+        }
+        ErrorKind::ForbiddenCallee => add_text(lines, "Callee is not allowed here"),
+        ErrorKind::MissingDefaultVariant => add_text(
+            lines,
+            "The select expression must have a default variant",
+        ),
+        ErrorKind::MissingValue => add_text(lines, "Expected a value"),
+        ErrorKind::MultipleDefaultVariants => add_text(
+            lines,
+            "A select expression can only have one default variant",
+        ),
+        ErrorKind::MessageReferenceAsSelector => add_text(
+            lines,
+            "Message references can't be used as a selector",
+        ),
+        ErrorKind::TermReferenceAsSelector => add_text(
+            lines,
+            "Term references can't be used as a selector",
+        ),
+        ErrorKind::MessageAttributeAsSelector => add_text(
+            lines,
+            "Message attributes can't be used as a selector",
+        ),
+        ErrorKind::TermAttributeAsPlaceable => add_text(
+            lines,
+            "Term attributes can't be used as a selector",
+        ),
+        ErrorKind::UnterminatedStringLiteral => add_text(lines, "Unterminated string literal"),
+        ErrorKind::PositionalArgumentFollowsNamed => add_text(
+            lines,
+            "Positional arguments must come before named arguments",
+        ),
+        ErrorKind::UnknownEscapeSequence(_) => add_text(lines, "Unknown escape sequence"),
+        ErrorKind::UnbalancedClosingBrace => add_text(lines, "Unbalanced closing brace"),
+        ErrorKind::ExpectedInlineExpression => add_text(lines, "Expected an inline expression"),
+        ErrorKind::ExpectedSimpleExpressionAsSelector => add_text(
+            lines,
+            "Expected a simple expression as selector",
+        ),
+        ErrorKind::ExpectedLiteral => add_text(lines, "Expected a string or number literal"),
+    }
+}
+
+/// Adds a text with what is told between its two parts.
+fn add_with(lines: &mut Vec<u8>, before: &str, told: &str, after: &str) -> Result<(), AllocError>
+    ensures { OnOk result (lines.new.items ≡ lines.old.items ++ before.now ++ shown told.now ++ after.now) }
+{
+    add_text(lines, before)?;
+    add_shown(lines, told)?;
+    add_text(lines, after)
+}
+
+/// Adds what is told, with `\n` and `\r` for its line ends.
+fn add_shown(lines: &mut Vec<u8>, told: &str) -> Result<(), AllocError>
+    ensures { OnOk result (lines.new.items ≡ lines.old.items ++ shown told.now) }
+{
+    for byte in told.as_bytes() {
+        add_byte(lines, *byte)?;
+    }
+    Ok(())
+}
+
+fn add_byte(lines: &mut Vec<u8>, byte: u8) -> Result<(), AllocError>
+    ensures { OnOk result (lines.new.items ≡ lines.old.items ++ shown_byte byte) }
+{
+    match byte {
+        b'\n' => add_text(lines, "\\n"),
+        b'\r' => add_text(lines, "\\r"),
+        _ => {
+            lines.push(byte)?;
+            Ok(())
+        }
+    }
+}
+
+fn add_text(lines: &mut Vec<u8>, text: &str) -> Result<(), AllocError>
+    ensures { OnOk result (lines.new.items ≡ lines.old.items ++ text.now) }
+{
+    lines.extend_from_slice(text.as_bytes())
+}

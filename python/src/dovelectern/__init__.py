@@ -1,0 +1,23 @@
+"""Fluent Translation Lists: read, checked, formatted and written by a library that is proved to be the written grammar.
+
+    >>> import dovelectern
+    >>> tree = dovelectern.parse("hello = Hello, { $name }!")
+    >>> tree.body[0].id.name
+    'hello'
+    >>> dovelectern.serialize(tree)
+    'hello = Hello, { $name }!\\n'
+    >>> [str(error) for error in dovelectern.check("bro ken")]
+    ['1:5: Expected a token starting with "="']
+"""
+from . import ast
+from ._calls import check, check_file, format, format_file, parse, parse_file, serialize, serialize_entry
+from ._library import NESTING, Text
+from .errors import Error, FluentError, NoTree, SyntaxErrors, TooDeep
+from .visitor import Transformer, Visitor, joined
+
+__version__ = "1.0.0"
+
+__all__ = [
+    "Error", "FluentError", "NESTING", "NoTree", "SyntaxErrors", "Text", "TooDeep", "Transformer", "Visitor", "ast",
+    "check", "check_file", "format", "format_file", "joined", "parse", "parse_file", "serialize", "serialize_entry",
+]

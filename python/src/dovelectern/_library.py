@@ -1,0 +1,158 @@
+"""The calls of libfluent, over bytes."""
+import ctypes
+import operator
+import os
+from typing import Any, List, NamedTuple, Tuple, Union
+
+from .errors import NoTree, TooDeep
+
+Text = Union[str, bytes, bytearray, memoryview]
+
+NESTING = 100
+"""How many placeables and argument lists may be open at once, if nothing else is said."""
+GREATEST_NESTING = 1000
+"""What may be asked for: a stack of 8 MB does with more than twice that."""
+
+FORMAT, RUNTIME, JSON, FORMAT_TWO, FROM_JSON = 1, 2, 3, 5, 6
+_CLEAN, _SYNTAX_ERRORS, _WRONG_ARGUMENT, _NOT_UTF8, _NO_MEMORY, _TOO_SMALL, _TOO_DEEP, _NO_TREE = range(8)
+
+
+class ErrorRow(NamedTuple):
+    """An error's place, in bytes."""
+
+    line: int
+    column: int
+    start: int
+    end: int
+    junk_start: int
+    junk_end: int
+    kind: int
+
+
+class NameRow(NamedTuple):
+    """A name's place, in bytes."""
+
+    line: int
+    column: int
+    start: int
+    end: int
+    owner: int
+    kind: int
+
+
+class _ErrorStruct(ctypes.Structure):
+    _fields_ = [(name, ctypes.c_size_t) for name in ErrorRow._fields[:-1]] + [("kind", ctypes.c_uint32)]
+
+
+class _NameStruct(ctypes.Structure):
+    _fields_ = [(name, ctypes.c_size_t) for name in NameRow._fields[:-1]] + [("kind", ctypes.c_uint32)]
+
+
+def _load() -> ctypes.CDLL:
+    """The library: that beside this file, or that at the path of DOVELECTERN_LIBRARY."""
+    beside = os.path.join(os.path.dirname(os.path.abspath(__file__)), "libfluent.so")
+    path = os.environ.get("DOVELECTERN_LIBRARY") or beside
+    try:
+        library = ctypes.CDLL(path)
+    except OSError as error:
+        raise ImportError(f"dovelectern has no library for this machine: {error}") from error
+    number, size, sizes = ctypes.c_uint32, ctypes.c_size_t, ctypes.POINTER(ctypes.c_size_t)
+    for name in ("ftl_answer", "ftl_errors", "ftl_names", "ftl_error_messages"):
+        call = getattr(library, name)
+        call.restype = number
+        call.argtypes = [number, size, ctypes.c_char_p, size, ctypes.c_void_p, size, sizes]
+    library.ftl_kind_name.restype = number
+    library.ftl_kind_name.argtypes = [number, ctypes.c_void_p, size, sizes]
+    return library
+
+
+_library = _load()
+
+
+def as_bytes(text: Text) -> bytes:
+    """The bytes of a text, in UTF-8."""
+    if isinstance(text, bytes):
+        return text
+    if isinstance(text, str):
+        return text.encode()
+    if isinstance(text, (bytearray, memoryview)):
+        return bytes(text)
+    raise TypeError(f"a text is str, bytes, bytearray or memoryview, not {type(text).__name__}")
+
+
+def as_nesting(nesting: int) -> int:
+    depth = operator.index(nesting)
+    if not 0 <= depth <= GREATEST_NESTING:
+        raise ValueError(f"nesting is from 0 to {GREATEST_NESTING}, not {depth}")
+    return depth
+
+
+def _items(name: str, number: int, nesting: int, text: bytes, kind: Any, room: int) -> Tuple[Any, int, bool]:
+    """The array that a call wrote, how many items of it, and whether the text has errors."""
+    needed = ctypes.c_size_t()
+    call = getattr(_library, name)
+    while True:
+        array = (kind * room)()
+        # the interpreter's lock is let go meanwhile
+        status = call(number, nesting, text, len(text), array, room, ctypes.byref(needed))
+        if status == _TOO_SMALL:
+            room = needed.value
+        elif status in (_CLEAN, _SYNTAX_ERRORS):
+            return array, needed.value, status == _SYNTAX_ERRORS
+        else:
+            raise _refusal(name, number, nesting, text, status)
+
+
+def _refusal(name: str, number: int, nesting: int, text: bytes, status: int) -> Exception:
+    """Why a call gave nothing."""
+    if status == _NOT_UTF8:
+        try:
+            text.decode()
+        except UnicodeDecodeError as error:
+            return error
+    if status == _NO_MEMORY:
+        return MemoryError("the library was refused memory")
+    if status == _TOO_DEEP:
+        if name == "ftl_answer" and number == FROM_JSON:
+            return TooDeep("the tree nests more deeply than the library takes trees")
+        return TooDeep(f"the text nests placeables and argument lists more than {nesting} deep")
+    if status == _NO_TREE:
+        return NoTree("this spells no tree")
+    return ValueError(f"{name} has no number {number}")
+
+
+def answer(command: int, text: bytes, nesting: int) -> Tuple[str, bool]:
+    """What the command writes for the text, and whether the text has syntax errors."""
+    room = (8 if command == JSON else 2) * len(text) + 1024
+    out, length, has_errors = _items("ftl_answer", command, nesting, text, ctypes.c_char, room)
+    return str(memoryview(out)[:length], "utf-8"), has_errors
+
+
+def errors(text: bytes, edition: int, nesting: int) -> List[ErrorRow]:
+    """The syntax errors of the text, in order."""
+    rows, count, _ = _items("ftl_errors", edition, nesting, text, _ErrorStruct, 8)
+    return [ErrorRow(*(getattr(row, name) for name in ErrorRow._fields)) for row in rows[:count]]
+
+
+def messages(text: bytes, edition: int, nesting: int) -> List[str]:
+    """The messages of the syntax errors of the text, in order."""
+    out, length, _ = _items("ftl_error_messages", edition, nesting, text, ctypes.c_char, 1024)
+    return str(memoryview(out)[:length], "utf-8").split("\n")[:-1]
+
+
+def names(text: bytes, edition: int, nesting: int) -> List[Tuple[int, int]]:
+    """Where the names of messages, terms and attributes of the text stand, in order, in bytes."""
+    rows, count, _ = _items("ftl_names", edition, nesting, text, _NameStruct, 16 + len(text) // 64)
+    return [(row.start, row.end) for row in rows[:count]]
+
+
+def kind_name(kind: int) -> str:
+    """The name of a kind of errors."""
+    needed = ctypes.c_size_t()
+    out = ctypes.create_string_buffer(64)
+    status = _library.ftl_kind_name(kind, out, len(out), ctypes.byref(needed))
+    if status == _NO_MEMORY:
+        raise MemoryError("the library was refused memory")
+    if status != _CLEAN:
+        raise ValueError(f"no kind has the number {kind}")
+    return out.raw[:needed.value].decode()

@@ -1,0 +1,263 @@
+"""The nodes of a tree, by the names that Fluent's own tools for Python give them.
+
+Nodes are compared by their fields, without their spans. A span counts characters of the text from 0, as indices of a
+str; what the library gives no place of has `None`.
+"""
+import re
+from copy import deepcopy
+from dataclasses import dataclass, field, fields
+from typing import Dict, Iterable, List, Optional, TypeVar, Union
+
+Node = TypeVar("Node", bound="BaseNode")
+
+
+@dataclass
+class Span:
+    """From `start` up to `end`."""
+
+    start: int
+    end: int
+
+
+class BaseNode:
+    """What every node can do."""
+
+    def clone(self: Node) -> Node:
+        """A copy that shares nothing with this node."""
+        return deepcopy(self)
+
+    def equals(self, other: object, ignored_fields: Iterable[str] = ("span",)) -> bool:
+        """Whether the other is a node of the same class whose fields are equal, those aside that are named."""
+        return _equal(self, other, frozenset(ignored_fields))
+
+
+def _equal(one: object, other: object, ignored: "frozenset[str]") -> bool:
+    if isinstance(one, BaseNode):
+        if type(one) is not type(other):
+            return False
+        names = (it.name for it in fields(one) if it.name not in ignored)  # type: ignore[arg-type]
+        return all(_equal(getattr(one, name), getattr(other, name), ignored) for name in names)
+    if isinstance(one, list) and isinstance(other, list):
+        return len(one) == len(other) and all(_equal(a, b, ignored) for a, b in zip(one, other))
+    return one == other
+
+
+def _span() -> Optional[Span]:
+    result: Optional[Span] = field(default=None, compare=False, repr=False)
+    return result
+
+
+class SyntaxNode(BaseNode):
+    """A node that stands in a text."""
+
+    span: Optional[Span]
+
+
+@dataclass
+class Identifier(SyntaxNode):
+    name: str
+    span: Optional[Span] = _span()
+
+
+@dataclass
+class TextElement(SyntaxNode):
+    value: str
+    span: Optional[Span] = _span()
+
+
+class Expression(SyntaxNode):
+    """What stands in braces."""
+
+
+@dataclass
+class Placeable(SyntaxNode):
+    expression: "PlaceableExpression"
+    span: Optional[Span] = _span()
+
+
+PatternElement = Union[TextElement, Placeable]
+
+
+@dataclass
+class Pattern(SyntaxNode):
+    elements: List[PatternElement] = field(default_factory=list)
+    span: Optional[Span] = _span()
+
+
+_ESCAPE = re.compile(r"\\(?:([\\\"])|u([0-9a-fA-F]{4})|U([0-9a-fA-F]{6}))")
+
+
+def _unescaped(match: "re.Match[str]") -> str:
+    if match[1]:
+        return match[1]
+    code = int(match[2] or match[3], 16)
+    return chr(code) if code < 0xD800 or 0xE000 <= code < 0x110000 else "\ufffd"
+
+
+@dataclass
+class StringLiteral(Expression):
+    """A string as it stands between its quotes, with its escapes."""
+
+    value: str
+    span: Optional[Span] = _span()
+
+    def parse(self) -> Dict[str, str]:
+        """The string that is meant, at `value`: a surrogate, or what is no character, is U+FFFD."""
+        return {"value": _ESCAPE.sub(_unescaped, self.value)}
+
+
+@dataclass
+class NumberLiteral(Expression):
+    """A number as it stands."""
+
+    value: str
+    span: Optional[Span] = _span()
+
+    def parse(self) -> Dict[str, Union[float, int]]:
+        """The number at `value`, and at `precision` how many digits it has after its point."""
+        return {"value": float(self.value), "precision": len(self.value.partition(".")[2])}
+
+
+@dataclass
+class MessageReference(Expression):
+    id: Identifier
+    attribute: Optional[Identifier] = None
+    span: Optional[Span] = _span()
+
+
+@dataclass
+class NamedArgument(SyntaxNode):
+    name: Identifier
+    value: "InlineExpression"
+    span: Optional[Span] = _span()
+
+
+@dataclass
+class CallArguments(SyntaxNode):
+    positional: List["InlineExpression"] = field(default_factory=list)
+    named: List[NamedArgument] = field(default_factory=list)
+    span: Optional[Span] = _span()
+
+
+@dataclass
+class TermReference(Expression):
+    id: Identifier
+    attribute: Optional[Identifier] = None
+    arguments: Optional[CallArguments] = None
+    span: Optional[Span] = _span()
+
+
+@dataclass
+class VariableReference(Expression):
+    id: Identifier
+    span: Optional[Span] = _span()
+
+
+@dataclass
+class FunctionReference(Expression):
+    id: Identifier
+    arguments: CallArguments = field(default_factory=CallArguments)
+    span: Optional[Span] = _span()
+
+
+InlineExpression = Union[
+    StringLiteral, NumberLiteral, MessageReference, TermReference, VariableReference, FunctionReference, Placeable
+]
+
+
+@dataclass
+class Variant(SyntaxNode):
+    key: Union[Identifier, NumberLiteral]
+    value: Pattern
+    default: bool = False
+    span: Optional[Span] = _span()
+
+
+@dataclass
+class SelectExpression(Expression):
+    selector: InlineExpression
+    variants: List[Variant] = field(default_factory=list)
+    span: Optional[Span] = _span()
+
+
+PlaceableExpression = Union[InlineExpression, SelectExpression]
+
+
+@dataclass
+class Attribute(SyntaxNode):
+    id: Identifier
+    value: Pattern
+    span: Optional[Span] = _span()
+
+
+class Entry(SyntaxNode):
+    """What a resource is made of."""
+
+
+@dataclass
+class BaseComment(Entry):
+    """A comment: its lines with LF between them, without their signs."""
+
+    content: str = ""
+    span: Optional[Span] = _span()
+
+
+@dataclass
+class Comment(BaseComment):
+    """`#`"""
+
+
+@dataclass
+class GroupComment(BaseComment):
+    """`##`"""
+
+
+@dataclass
+class ResourceComment(BaseComment):
+    """`###`"""
+
+
+@dataclass
+class Message(Entry):
+    id: Identifier
+    value: Optional[Pattern] = None
+    attributes: List[Attribute] = field(default_factory=list)
+    comment: Optional[Comment] = None
+    span: Optional[Span] = _span()
+
+
+@dataclass
+class Term(Entry):
+    id: Identifier
+    value: Pattern
+    attributes: List[Attribute] = field(default_factory=list)
+    comment: Optional[Comment] = None
+    span: Optional[Span] = _span()
+
+
+@dataclass
+class Annotation(SyntaxNode):
+    """Why a stretch was refused: the kind of the error as `code`, and the error's message and place."""
+
+    code: str
+    arguments: List[str] = field(default_factory=list)
+    message: str = ""
+    span: Optional[Span] = _span()
+
+
+@dataclass
+class Junk(Entry):
+    """A stretch that was refused."""
+
+    content: str
+    annotations: List[Annotation] = field(default_factory=list)
+    span: Optional[Span] = _span()
+
+
+AnyEntry = Union[Message, Term, Comment, GroupComment, ResourceComment, Junk]
+
+
+@dataclass
+class Resource(SyntaxNode):
+    body: List[AnyEntry] = field(default_factory=list)
+    span: Optional[Span] = _span()

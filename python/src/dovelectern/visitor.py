@@ -1,0 +1,67 @@
+"""Walks over trees."""
+from dataclasses import fields
+from typing import Any, List
+
+from .ast import BaseNode, Pattern, PatternElement, Resource, TextElement
+
+
+class Visitor:
+    """Walks a tree, and changes nothing.
+
+    A subclass has methods as `visit_Message(node)`, by the class of the node. Each sees to the nodes below by
+    `self.generic_visit(node)`, or else they are left out.
+    """
+
+    def visit(self, node: Any) -> None:
+        if isinstance(node, list):
+            for item in node:
+                self.visit(item)
+        elif isinstance(node, BaseNode):
+            getattr(self, f"visit_{type(node).__name__}", self.generic_visit)(node)
+
+    def generic_visit(self, node: BaseNode) -> None:
+        for it in fields(node):  # type: ignore[arg-type]
+            self.visit(getattr(node, it.name))
+
+
+class Transformer(Visitor):
+    """Walks a tree and changes it in place.
+
+    A method `visit_Message(node)` returns what is to stand in the node's place: the node itself, another one, or None
+    where the node goes: out of its list, or None is put for it.
+    """
+
+    def visit(self, node: Any) -> Any:
+        if isinstance(node, BaseNode):
+            return getattr(self, f"visit_{type(node).__name__}", self.generic_visit)(node)
+        return node
+
+    def generic_visit(self, node: BaseNode) -> Any:
+        for it in fields(node):  # type: ignore[arg-type]
+            value = getattr(node, it.name)
+            if isinstance(value, list):
+                changed = (self.visit(item) for item in value)
+                value[:] = [item for item in changed if item is not None]
+            elif isinstance(value, BaseNode):
+                setattr(node, it.name, self.visit(value))
+        return node
+
+
+class _Joining(Transformer):
+    def visit_Pattern(self, node: Pattern) -> Pattern:
+        self.generic_visit(node)
+        elements: List[PatternElement] = []
+        for element in node.elements:
+            last = elements[-1] if elements else None
+            if isinstance(element, TextElement) and isinstance(last, TextElement):
+                last.value += element.value
+            else:
+                elements.append(element)
+        node.elements = elements
+        return node
+
+
+def joined(resource: Resource) -> Resource:
+    """A copy of the tree in which texts that follow one another are one: `parse` gives one for each line."""
+    copy: Resource = _Joining().visit(resource.clone())
+    return copy
