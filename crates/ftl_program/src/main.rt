@@ -5,6 +5,7 @@
 mod colors;
 mod editor;
 mod help;
+mod lint;
 mod paths;
 mod standard;
 mod telling;
@@ -12,6 +13,7 @@ mod words;
 
 use crate::editor::serve_editor;
 use crate::help::page_of;
+use crate::lint::lint_paths;
 use crate::paths::answer_paths;
 use crate::standard::answer_input;
 use crate::telling::{print_page, refuse_words, refuse_writing};
@@ -35,6 +37,7 @@ fn answer_words(rt: &HostRuntime, words: &[String]) -> u8 {
     match request_of(rt.alloc(), words) {
         Ok(Request::Serve) => serve_editor(rt),
         Ok(Request::Answer(work)) => answer(rt, &work),
+        Ok(Request::Lint(lint)) => lint_paths(rt, &lint),
         Err(error) => refuse_words(rt, &error),
     }
 }

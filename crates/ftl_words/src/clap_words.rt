@@ -1,5 +1,6 @@
 //! The command line, as `clap` reads it.
 
+use crate::lint_words::lint_command;
 use clap::{Arg, ArgAction, Command, value_parser};
 use std::alloc::{AllocError, Global};
 
@@ -37,6 +38,7 @@ pub fn command_line<'a>(alloc: Global) -> Result<Command<'a>, AllocError> {
             "Examples:\n  ftl json menu.ftl > menu.json",
         )?)?
         .subcommand(from_json(alloc)?)?
+        .subcommand(lint_command(alloc)?)?
         .subcommand(Command::new(alloc, "lsp").about("A language server, for editors"))
 }
 

@@ -1,6 +1,7 @@
 //! The request that a command line makes.
 
 use crate::clap_words::command_line;
+use crate::lint_words::lint_of;
 use crate::request::{Change, Color, Request, Task, Work};
 use clap::{ArgMatches, Error};
 use fluent_syntax::parser::Edition;
@@ -19,6 +20,10 @@ pub fn request_of<'a>(alloc: Global, words: &'a [String]) -> Result<Request<'a>,
     };
     if word == "lsp" {
         return Ok(Request::Serve);
+    }
+    if word == "lint" {
+        let reading = reading_of(word, options);
+        return Ok(Request::Lint(lint_of(alloc, reading, options)?));
     }
     Ok(Request::Answer(Work {
         task: task_of(word, options),
