@@ -1,7 +1,7 @@
 """Times the package over real files, beside a reader in Python alone: speed.py FOLDER
 
 FOLDER has `.ftl` files, as they come out of archives. Each turn is over all of them as one text, and over each by
-itself; the best of the turns is printed, in milliseconds, and whether the peer reads each file to the same tree.
+itself; the best of the turns is printed, in milliseconds of the processor, and whether the peer reads each file to the same tree.
 """
 import pathlib
 import sys
@@ -11,15 +11,15 @@ from typing import Any, Callable
 import dovelectern
 import plain_reader
 
-TURNS = 5
+TURNS = 3
 
 
 def best(call: Callable[[], Any]) -> float:
     times = []
     for _ in range(TURNS):
-        since = time.perf_counter()
+        since = time.process_time()
         call()
-        times.append(time.perf_counter() - since)
+        times.append(time.process_time() - since)
     return min(times) * 1000
 
 

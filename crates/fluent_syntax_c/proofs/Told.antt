@@ -1,5 +1,5 @@
 -- Lines and messages of errors.
-use Rattle.std.proofs.Common.{◌≡◌, ◌++◌, ℕ, List, map, Some, ap, ◌∙◌, sym, codes}
+use Rattle.std.proofs.Common.{◌≡◌, ◌++◌, ℕ, List, map, Some, ap, ◌∙◌, sym, append_assoc, codes}
 use Rattle.std.proofs.lemmas.List.Folds.{flat_map-map}
 use Rattle.std.specs.List.{flat_map}
 use Rattle.fluent_syntax_tree.specs.Kind.{ExpectedCharRange, Kind, kind_of}
@@ -24,3 +24,7 @@ pub message_of_range : (kind : Kind) (range bytes : List ℕ) → kind ≡ Expec
     kind_message kind ≡ codes "Expected one of \"" ++ shown bytes ++ codes "\""
 message_of_range kind range bytes is same =
     ap kind_message is ∙ ap (λ t. codes "Expected one of \"" ++ shown t ++ codes "\"") (sym same)
+
+-- three lists one by one behind another are the three behind it
+pub three_behind : (xs a b c : List ℕ) → xs ++ a ++ b ++ c ≡ xs ++ (a ++ b ++ c)
+three_behind xs a b c = ap (λ l. l ++ c) (append_assoc xs a b) ∙ append_assoc xs (a ++ b) c

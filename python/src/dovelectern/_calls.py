@@ -1,14 +1,15 @@
 """What the package does."""
-import json
+import gc
 import os
+from contextlib import contextmanager
 from functools import lru_cache
-from itertools import repeat
-from typing import Iterator, List, Optional, Tuple, Union
+from itertools import chain
+from typing import Iterator, List, Tuple, Union
 
 from . import _library, _places, _reading, _writing, ast
 from ._library import NESTING, Text
 from .ast import Span
-from .errors import Error, SyntaxErrors, TooDeep
+from .errors import Error, NoTree, SyntaxErrors, TooDeep
 
 Path = Union[str, "os.PathLike[str]", bytes, "os.PathLike[bytes]"]
 
@@ -22,25 +23,50 @@ def parse(text: Text, *, nesting: int = NESTING, with_spans: bool = True) -> ast
     """
     data, depth = _library.as_bytes(text), _library.as_nesting(nesting)
     written, has_errors = _library.answer(_library.JSON, data, depth)
-    found = _errors(data, 1, depth) if has_errors else []
     try:
-        return _reading.resource(json.loads(written), _places_of(data, depth, found, with_spans))
+        with _no_collection():
+            tree = _reading.resource(written)
+            if has_errors:
+                _annotate(tree, _errors(data, 1, depth), with_spans)
+            if with_spans:
+                _place_names(tree, data, depth)
+            return tree
     except RecursionError:
         raise TooDeep("the text nests more deeply than Python's recursion takes") from None
 
 
-def _places_of(data: bytes, nesting: int, found: List[Error], with_spans: bool) -> _reading.Places:
-    nothing: Iterator[Optional[Span]] = repeat(None)
-    annotations = iter([ast.Annotation(it.kind, [], it.message, it.span if with_spans else None) for it in found])
-    if not with_spans:
-        return _reading.Places(nothing, annotations, nothing)
-    rows = _library.names(data, 1, nesting)
-    if data.isascii():
-        spans = [Span(start, end) for start, end in rows]
-    else:
-        at = _places.in_characters(data, (place for row in rows for place in row))
-        spans = [Span(at[start], at[end]) for start, end in rows]
-    return _reading.Places(iter(spans), annotations, iter([it.junk for it in found]))
+@contextmanager
+def _no_collection() -> Iterator[None]:
+    """Holds off the search for garbage, of which a tree that comes into being has none: it would take most of the time."""
+    was_on = gc.isenabled()
+    gc.disable()
+    try:
+        yield
+    finally:
+        if was_on:
+            gc.enable()
+
+
+def _annotate(tree: ast.Resource, errors: List[Error], with_spans: bool) -> None:
+    """Tells of each junk its error; they are as many, in the same order."""
+    junks = (it for it in tree.body if isinstance(it, ast.Junk))
+    for junk, error in zip(junks, errors):
+        junk.annotations.append(ast.Annotation(error.kind, [], error.message, error.span if with_spans else None))
+        junk.span = error.junk if with_spans else None
+
+
+def _place_names(tree: ast.Resource, data: bytes, nesting: int) -> None:
+    """Tells of the name of each message, term and attribute where it stands; the library gives them in their order."""
+    starts, ends = _library.names(data, 1, nesting)
+    if not data.isascii():
+        at = _places.in_characters(data, chain(starts, ends))
+        starts, ends = [at[it] for it in starts], [at[it] for it in ends]
+    spans = map(Span, starts, ends)
+    for entry in tree.body:
+        if isinstance(entry, (ast.Message, ast.Term)):
+            entry.id.span = next(spans)
+            for attribute in entry.attributes:
+                attribute.id.span = next(spans)
 
 
 def serialize(resource: ast.Resource) -> str:
@@ -50,10 +76,15 @@ def serialize(resource: ast.Resource) -> str:
     `TooDeep`: the tree nests more deeply than the library takes trees, which is some 20 selects in one another.
     """
     try:
-        value = json.dumps(_writing.value_of(resource), ensure_ascii=False, check_circular=False)
+        with _no_collection():
+            written = _writing.json_of(resource)
+        return _library.answer(_library.FROM_JSON, written.encode(), NESTING)[0]
     except RecursionError:
         raise TooDeep("the tree nests more deeply than Python's recursion takes") from None
-    return _library.answer(_library.FROM_JSON, value.encode(), NESTING)[0]
+    except NoTree:
+        # tells what is wrong, and where
+        _writing.value_of(resource)
+        raise
 
 
 def serialize_entry(entry: ast.AnyEntry) -> str:

@@ -2,7 +2,8 @@
 import ctypes
 import operator
 import os
-from typing import Any, List, NamedTuple, Tuple, Union
+import struct
+from typing import List, NamedTuple, Tuple, Union
 
 from .errors import NoTree, TooDeep
 
@@ -29,23 +30,9 @@ class ErrorRow(NamedTuple):
     kind: int
 
 
-class NameRow(NamedTuple):
-    """A name's place, in bytes."""
-
-    line: int
-    column: int
-    start: int
-    end: int
-    owner: int
-    kind: int
-
-
-class _ErrorStruct(ctypes.Structure):
-    _fields_ = [(name, ctypes.c_size_t) for name in ErrorRow._fields[:-1]] + [("kind", ctypes.c_uint32)]
-
-
-class _NameStruct(ctypes.Structure):
-    _fields_ = [(name, ctypes.c_size_t) for name in NameRow._fields[:-1]] + [("kind", ctypes.c_uint32)]
+# struct ftl_error and struct ftl_name: numbers of type size_t, one of 32 bits, and what is added for the next row
+ROW = struct.Struct("@6NI0N")
+NAME_ROW = struct.Struct("@5NI0N")
 
 
 def _load() -> ctypes.CDLL:
@@ -87,18 +74,20 @@ def as_nesting(nesting: int) -> int:
     return depth
 
 
-def _items(name: str, number: int, nesting: int, text: bytes, kind: Any, room: int) -> Tuple[Any, int, bool]:
-    """The array that a call wrote, how many items of it, and whether the text has errors."""
+def _items(name: str, number: int, nesting: int, text: bytes, width: int, room: int) -> Tuple[memoryview, bool]:
+    """The items that a call wrote, each of so many bytes, and whether the text has errors."""
     needed = ctypes.c_size_t()
     call = getattr(_library, name)
     while True:
-        array = (kind * room)()
+        # a type of an array for each length would take longer than most calls
+        array = bytearray(width * room)
+        front = ctypes.byref(ctypes.c_char.from_buffer(array))
         # the interpreter's lock is let go meanwhile
-        status = call(number, nesting, text, len(text), array, room, ctypes.byref(needed))
+        status = call(number, nesting, text, len(text), front, room, ctypes.byref(needed))
         if status == _TOO_SMALL:
             room = needed.value
         elif status in (_CLEAN, _SYNTAX_ERRORS):
-            return array, needed.value, status == _SYNTAX_ERRORS
+            return memoryview(array)[:width * needed.value], status == _SYNTAX_ERRORS
         else:
             raise _refusal(name, number, nesting, text, status)
 
@@ -124,26 +113,29 @@ def _refusal(name: str, number: int, nesting: int, text: bytes, status: int) -> 
 def answer(command: int, text: bytes, nesting: int) -> Tuple[str, bool]:
     """What the command writes for the text, and whether the text has syntax errors."""
     room = (8 if command == JSON else 2) * len(text) + 1024
-    out, length, has_errors = _items("ftl_answer", command, nesting, text, ctypes.c_char, room)
-    return str(memoryview(out)[:length], "utf-8"), has_errors
+    out, has_errors = _items("ftl_answer", command, nesting, text, 1, room)
+    return str(out, "utf-8"), has_errors
 
 
 def errors(text: bytes, edition: int, nesting: int) -> List[ErrorRow]:
     """The syntax errors of the text, in order."""
-    rows, count, _ = _items("ftl_errors", edition, nesting, text, _ErrorStruct, 8)
-    return [ErrorRow(*(getattr(row, name) for name in ErrorRow._fields)) for row in rows[:count]]
+    rows, _ = _items("ftl_errors", edition, nesting, text, ROW.size, 8)
+    return [ErrorRow(*numbers) for numbers in ROW.iter_unpack(rows)]
 
 
 def messages(text: bytes, edition: int, nesting: int) -> List[str]:
     """The messages of the syntax errors of the text, in order."""
-    out, length, _ = _items("ftl_error_messages", edition, nesting, text, ctypes.c_char, 1024)
-    return str(memoryview(out)[:length], "utf-8").split("\n")[:-1]
+    out, _ = _items("ftl_error_messages", edition, nesting, text, 1, 1024)
+    return str(out, "utf-8").split("\n")[:-1]
 
 
-def names(text: bytes, edition: int, nesting: int) -> List[Tuple[int, int]]:
-    """Where the names of messages, terms and attributes of the text stand, in order, in bytes."""
-    rows, count, _ = _items("ftl_names", edition, nesting, text, _NameStruct, 16 + len(text) // 64)
-    return [(row.start, row.end) for row in rows[:count]]
+def names(text: bytes, edition: int, nesting: int) -> Tuple[List[int], List[int]]:
+    """Where the names of messages, terms and attributes of the text begin, in order, and where they end, in bytes."""
+    rows, _ = _items("ftl_names", edition, nesting, text, NAME_ROW.size, 16 + len(text) // 64)
+    # each row is as wide as so many numbers; its start and its end are the third and the fourth
+    width = NAME_ROW.size // ctypes.sizeof(ctypes.c_size_t)
+    numbers = rows.cast("N")
+    return numbers[2::width].tolist(), numbers[3::width].tolist()
 
 
 def kind_name(kind: int) -> str:

@@ -1,7 +1,9 @@
 """Trees as the library's JSON. docs/JSON.md has its form.
 
-What is no tree is refused with the way to it, as `body[2].value.elements[0].value is int, not str`.
+`json_of` writes the text and looks at little. `value_of` looks at each node: what is no tree it refuses with the way to
+it, as `body[2].value.elements[0].value is int, not str`.
 """
+import json
 from typing import Any, Callable, Dict, Optional, Type
 
 from . import ast
@@ -194,3 +196,50 @@ def value_of(tree: object) -> Value:
     if not isinstance(tree, ast.Resource):
         raise TypeError(f"a tree is Resource, not {type(tree).__name__}")
     return {"body": _list(tree.body, "body", _entry)}
+
+
+_LEVEL: Dict[Type[ast.BaseNode], Callable[[Any], Value]] = {
+    ast.Resource: lambda it: {"body": it.body},
+    ast.Message: lambda it: {"type": "Message", "id": it.id, "value": it.value, "attributes": it.attributes,
+                             "comment": it.comment},
+    ast.Term: lambda it: {"type": "Term", "id": it.id, "value": it.value, "attributes": it.attributes,
+                          "comment": it.comment},
+    ast.Comment: lambda it: {"type": "Comment", "content": it.content.split("\n")},
+    ast.GroupComment: lambda it: {"type": "GroupComment", "content": it.content.split("\n")},
+    ast.ResourceComment: lambda it: {"type": "ResourceComment", "content": it.content.split("\n")},
+    ast.Junk: lambda it: {"type": "Junk", "content": it.content},
+    ast.Attribute: lambda it: {"id": it.id, "value": it.value},
+    ast.Identifier: lambda it: {"type": "Identifier", "name": it.name},
+    ast.Pattern: lambda it: {"elements": it.elements},
+    ast.TextElement: lambda it: {"type": "TextElement", "value": it.value},
+    ast.Placeable: lambda it: {"type": "Placeable", "expression": it.expression},
+    ast.SelectExpression: lambda it: {"selector": it.selector, "variants": it.variants},
+    ast.Variant: lambda it: {"type": "Variant", "key": it.key, "value": it.value, "default": it.default},
+    ast.StringLiteral: lambda it: {"type": "StringLiteral", "value": it.value},
+    ast.NumberLiteral: lambda it: {"type": "NumberLiteral", "value": it.value},
+    ast.MessageReference: lambda it: {"type": "MessageReference", "id": it.id, "attribute": it.attribute},
+    ast.TermReference: lambda it: {"type": "TermReference", "id": it.id, "attribute": it.attribute,
+                                   "arguments": it.arguments},
+    ast.VariableReference: lambda it: {"type": "VariableReference", "id": it.id},
+    ast.FunctionReference: lambda it: {"type": "FunctionReference", "id": it.id, "arguments": it.arguments},
+    ast.CallArguments: lambda it: {"type": "CallArguments", "positional": it.positional, "named": it.named},
+    ast.NamedArgument: lambda it: {"type": "NamedArgument", "name": it.name, "value": it.value},
+}
+
+
+def _level(node: Any) -> Value:
+    """The object of a node, whose own nodes are still nodes."""
+    for each in type(node).__mro__:
+        if each in _LEVEL:
+            return _LEVEL[each](node)
+    raise TypeError
+
+
+def json_of(tree: object) -> str:
+    """The JSON text of a tree. `TypeError` where it is none; but there the text may be JSON of none, too."""
+    if isinstance(tree, ast.Resource):
+        try:
+            return json.dumps(tree, default=_level, ensure_ascii=False, check_circular=False)
+        except (AttributeError, TypeError):
+            pass
+    return json.dumps(value_of(tree), ensure_ascii=False)

@@ -6,7 +6,7 @@ str; what the library gives no place of has `None`.
 import re
 from copy import deepcopy
 from dataclasses import dataclass, field, fields
-from typing import Dict, Iterable, List, Optional, TypeVar, Union
+from typing import Any, Dict, Iterable, List, Optional, TypeVar, Union
 
 Node = TypeVar("Node", bound="BaseNode")
 
@@ -31,11 +31,16 @@ class BaseNode:
         return _equal(self, other, frozenset(ignored_fields))
 
 
+def field_names(node: Any) -> List[str]:
+    """The names of the fields of a node, in order."""
+    return [it.name for it in fields(node)]
+
+
 def _equal(one: object, other: object, ignored: "frozenset[str]") -> bool:
     if isinstance(one, BaseNode):
         if type(one) is not type(other):
             return False
-        names = (it.name for it in fields(one) if it.name not in ignored)  # type: ignore[arg-type]
+        names = (name for name in field_names(one) if name not in ignored)
         return all(_equal(getattr(one, name), getattr(other, name), ignored) for name in names)
     if isinstance(one, list) and isinstance(other, list):
         return len(one) == len(other) and all(_equal(a, b, ignored) for a, b in zip(one, other))

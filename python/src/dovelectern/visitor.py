@@ -1,8 +1,7 @@
 """Walks over trees."""
-from dataclasses import fields
 from typing import Any, List
 
-from .ast import BaseNode, Pattern, PatternElement, Resource, TextElement
+from .ast import BaseNode, Pattern, PatternElement, Resource, TextElement, field_names
 
 
 class Visitor:
@@ -20,8 +19,8 @@ class Visitor:
             getattr(self, f"visit_{type(node).__name__}", self.generic_visit)(node)
 
     def generic_visit(self, node: BaseNode) -> None:
-        for it in fields(node):  # type: ignore[arg-type]
-            self.visit(getattr(node, it.name))
+        for name in field_names(node):
+            self.visit(getattr(node, name))
 
 
 class Transformer(Visitor):
@@ -37,13 +36,13 @@ class Transformer(Visitor):
         return node
 
     def generic_visit(self, node: BaseNode) -> Any:
-        for it in fields(node):  # type: ignore[arg-type]
-            value = getattr(node, it.name)
+        for name in field_names(node):
+            value = getattr(node, name)
             if isinstance(value, list):
                 changed = (self.visit(item) for item in value)
                 value[:] = [item for item in changed if item is not None]
             elif isinstance(value, BaseNode):
-                setattr(node, it.name, self.visit(value))
+                setattr(node, name, self.visit(value))
         return node
 
 
