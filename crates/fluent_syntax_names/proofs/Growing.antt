@@ -1,5 +1,6 @@
 -- Lists of findings that grow by one mention after another.
-use Rattle.std.proofs.Common.{◌≡◌, ℕ, ◌+◌, ◌<◌, ◌≤◌, Bool, List, [], ◌∷◌, ◌++◌, length, get_or, drop, refl, sym, ap, ◌∙◌}
+use Rattle.std.proofs.Common.{◌≡◌, ℕ, ◌+◌, ◌<◌, ◌≤◌, Bool, List, []}
+use Rattle.std.proofs.Common.{◌∷◌, ◌++◌, length, get_or, drop, refl, sym, ap, ◌∙◌}
 use Rattle.std.proofs.Common.{Option, Some, None}
 use Rattle.std.specs.Prelude.{if◌then◌else◌}
 use Rattle.std.proofs.lemmas.List.{append_assoc, drop_more, drop_all}
@@ -79,7 +80,8 @@ found_from_same D E same n (file ∷ files) tail =
 module _ (D : Text → Bool) (file : ℕ) (text : Text) (old now : List Finding) (all : List Finding → List Finding)
     (ms : Mentions Span) (i : ℕ) where
   abbrev pub LeavesFound : List Finding → Known → ℕ → Type 0
-  LeavesFound list known n = (rest : List Finding) → list ++ found_in D file text known (drop n ms) rest ≡ old ++ all rest
+  LeavesFound list known n = (rest : List Finding) →
+      list ++ found_in D file text known (drop n ms) rest ≡ old ++ all rest
 
   pub found_next : (next : List Finding) (known : Known) (m d : Mention Span) (finding : Option Finding) → i < length ms
       → m ≡ get_or ms i d → finding ≡ found D file text known m → LeavesFound now known i

@@ -1,5 +1,6 @@
 -- Lists of what is lacked, that grow by one mention after another.
-use Rattle.std.proofs.Common.{◌≡◌, ℕ, ◌+◌, ◌<◌, ◌≤◌, Bool, false, List, [], ◌∷◌, ◌++◌, length, get_or, drop, refl, sym, ap, ◌∙◌}
+use Rattle.std.proofs.Common.{◌≡◌, ℕ, ◌+◌, ◌<◌, ◌≤◌, Bool, false, List, []}
+use Rattle.std.proofs.Common.{◌∷◌, ◌++◌, length, get_or, drop, refl, sym, ap, ◌∙◌}
 use Rattle.std.proofs.Common.{Option, Some, None}
 use Rattle.std.specs.Prelude.{if◌then◌else◌, not, is_some, ◌||◌}
 use Rattle.std.proofs.lemmas.List.{append-nil, drop_more, drop_all}
@@ -22,7 +23,8 @@ use Rattle.fluent_syntax_names.proofs.Gathering.{or_false}
 module _ (text : Text) (D E : Text → Bool) (same : (name : Text) → D name ≡ E name) where
   entry_same : (entry : EntryName) → lacked_entry D text entry ≡ lacked_entry E text entry
   entry_same entry =
-      ap (λ b. if b then None else Some (record { is_attribute = false; name = entry.name })) (same (spelled text entry))
+      ap (λ b. if b then None else Some (record { is_attribute = false; name = entry.name }))
+      (same (spelled text entry))
 
   lack_same : (owner : EntryName) (m : Mention Span) → lack_at D text owner m ≡ lack_at E text owner m
   lack_same owner (says.Message x v) = rw (same (spelled text (message_name x)))

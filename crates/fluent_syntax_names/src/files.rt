@@ -70,7 +70,8 @@ fn add_found(
     list: &mut Vec<Finding>,
 ) -> Result<(), AllocError>
     ensures { OnOk result (AddsFindings list.old.items list.new.items
-        (found_in (has_name (place_of here.now.defined.now.table)) here.now.file here.now.text.now nothing mentions.now)) }
+        (found_in (has_name (place_of here.now.defined.now.table)) here.now.file here.now.text.now nothing
+        mentions.now)) }
 {
     let mut noted = Noted::new(here.alloc);
     for mention in mentions {

@@ -38,7 +38,8 @@ fn add_elements<X: Copy>(
     elements: &[PatternElement<X>],
 ) -> Result<(), AllocError>
     ensures { OnOk result
-        (Adds list.old.items list.new.items (pattern_mentions (elements_of (map (element_view (λ x. x)) elements.now)))) }
+        (Adds list.old.items list.new.items
+        (pattern_mentions (elements_of (map (element_view (λ x. x)) elements.now)))) }
 {
     for element in elements {
         add_element(list, element)?;
@@ -82,7 +83,8 @@ fn add_variants<X: Copy>(
     variants: &[Variant<X>],
 ) -> Result<(), AllocError>
     ensures { OnOk result
-        (Adds list.old.items list.new.items (variants_mentions (variants_of (map (variant_view (λ x. x)) variants.now)))) }
+        (Adds list.old.items list.new.items
+        (variants_mentions (variants_of (map (variant_view (λ x. x)) variants.now)))) }
 {
     for variant in variants {
         add_pattern(list, &variant.value)?;

@@ -141,7 +141,8 @@ const ROWS: [Row; 24] = [
     ),
 ];
 
-fn outline<'a>(alloc: Global, text: &'a str) -> Result<Outline<'a>, Fail> {
+/// The outline of a text, whose errors are left.
+pub fn outline<'a>(alloc: Global, text: &'a str) -> Result<Outline<'a>, Fail> {
     let (tree, _) = recovered(alloc, parse_spans(alloc, text))?;
     Ok(outline_of(alloc, text, &tree.body)?)
 }

@@ -5,3 +5,5 @@
 mod entries;
 #[cfg(test)]
 mod findings;
+#[cfg(test)]
+mod lacks;

@@ -1,5 +1,6 @@
 //! Files and folders, searched for mistakes between names.
 
+use crate::colors::form_over_paths;
 use crate::telling::refuse_run;
 use ftl::RunFault;
 use ftl_files::{Disk, list};
@@ -27,7 +28,7 @@ pub(crate) fn lint_paths(rt: &HostRuntime, lint: &Lint<'_>) -> u8 {
 fn lint_all(rt: &HostRuntime, lint: &Lint<'_>, tally: &mut Tally) -> Result<(), RunFault> {
     let files = files_of(rt, lint, tally)?;
     let telling = Telling {
-        form: lint.form,
+        form: form_over_paths(rt, Some(lint.form), lint.color),
         ignored: &lint.ignored,
     };
     let mut streams = Streams {
@@ -49,27 +50,36 @@ fn lint_all(rt: &HostRuntime, lint: &Lint<'_>, tally: &mut Tally) -> Result<(), 
 fn files_of(rt: &HostRuntime, lint: &Lint<'_>, tally: &mut Tally) -> Result<Vec<String>, RunFault> {
     let mut files = Vec::new(rt.alloc());
     for path in &lint.paths {
-        let Ok(listing) = list(rt, *path) else {
-            return Err(RunFault::Memory);
-        };
-        for (path, error) in listing.faults {
-            let mut streams = Streams {
-                out: &mut io::writer(rt),
-                err: &mut rt.stderr(),
-            };
-            tell(
-                rt.alloc(),
-                tally,
-                path.as_str(),
-                &Fault::Read(error),
-                &mut streams,
-            )?;
-        }
-        for file in listing.files {
+        for file in listed(rt, *path, tally)? {
             if files.push(file).is_err() {
                 return Err(RunFault::Memory);
             }
         }
     }
     Ok(files)
+}
+
+/// The files that the path names. What can't be listed is told.
+pub(crate) fn listed(
+    rt: &HostRuntime,
+    path: &str,
+    tally: &mut Tally,
+) -> Result<Vec<String>, RunFault> {
+    let Ok(listing) = list(rt, path) else {
+        return Err(RunFault::Memory);
+    };
+    for (path, error) in listing.faults {
+        let mut streams = Streams {
+            out: &mut io::writer(rt),
+            err: &mut rt.stderr(),
+        };
+        tell(
+            rt.alloc(),
+            tally,
+            path.as_str(),
+            &Fault::Read(error),
+            &mut streams,
+        )?;
+    }
+    Ok(listing.files)
 }

@@ -3,6 +3,7 @@
 #![tactic(auto)]
 
 mod colors;
+mod compare;
 mod editor;
 mod help;
 mod lint;
@@ -11,6 +12,7 @@ mod standard;
 mod telling;
 mod words;
 
+use crate::compare::compare_paths;
 use crate::editor::serve_editor;
 use crate::help::page_of;
 use crate::lint::lint_paths;
@@ -38,6 +40,7 @@ fn answer_words(rt: &HostRuntime, words: &[String]) -> u8 {
         Ok(Request::Serve) => serve_editor(rt),
         Ok(Request::Answer(work)) => answer(rt, &work),
         Ok(Request::Lint(lint)) => lint_paths(rt, &lint),
+        Ok(Request::Compare(compare)) => compare_paths(rt, &compare),
         Err(error) => refuse_words(rt, &error),
     }
 }

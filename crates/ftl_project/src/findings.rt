@@ -1,12 +1,10 @@
 //! The findings of a set of files, told for people or for tools.
 
 use crate::form::Form;
-use crate::github::{push_data, push_property};
-use crate::json::push_json_text;
 use crate::line_starts::LineStarts;
-use crate::paint::{COLORED, PLAIN, Paint};
+use crate::remarks::{Remark, Spot, push_remark};
 use fluent_syntax_names::{Finding, Kind, Severity};
-use ftl_excerpts::{push_excerpt, push_shown_text};
+use fluent_syntax_tree::spans::Span;
 use std::alloc::{AllocError, Global};
 use std::fmt::Write;
 
@@ -22,20 +20,6 @@ pub struct Source {
 struct Shown {
     file: usize,
     lines: LineStarts,
-}
-
-/// A finding as it is told.
-#[derive(Clone, Copy)]
-struct Told<'a> {
-    path: &'a str,
-    text: &'a str,
-    line: usize,
-    column: usize,
-    start: usize,
-    end: usize,
-    kind: Kind,
-    /// The line of the other place.
-    other_line: Option<usize>,
 }
 
 /// What is told of the findings in the files.
@@ -60,128 +44,70 @@ pub fn report_findings(
                 lines: LineStarts::of(alloc, source.text.as_str())?,
             },
         };
-        push_finding(&mut out, &as_told(source, &known.lines, finding), form)?;
+        let remark = remark_of(alloc, source, &known.lines, finding)?;
+        push_remark(&mut out, &remark, form)?;
         shown = Some(known);
     }
     Ok(out)
 }
 
-fn as_told<'a>(source: &'a Source, lines: &LineStarts, finding: &Finding) -> Told<'a> {
-    let (start, end) = match finding.place {
-        Some(place) => (place.start, place.end),
-        None => (0, 0),
-    };
-    let (line, column) = lines.line_column(start);
-    let other_line = match finding.other {
-        Some(other) if other.file == finding.file => Some(lines.line_column(other.span.start).0),
-        _ => None,
-    };
-    Told {
+fn remark_of<'a>(
+    alloc: Global,
+    source: &'a Source,
+    lines: &LineStarts,
+    finding: &Finding,
+) -> Result<Remark<'a>, AllocError> {
+    Ok(Remark {
         path: source.path.as_str(),
         text: source.text.as_str(),
+        place: finding.place.map(|span| spot_of(lines, span)),
+        kind: finding.kind.name(),
+        severity: severity_name(finding.kind.severity()),
+        message: message(alloc, source.text.as_str(), lines, finding)?,
+    })
+}
+
+pub(crate) fn spot_of(lines: &LineStarts, span: Span) -> Spot {
+    let (line, column) = lines.line_column(span.start);
+    Spot {
         line,
         column,
-        start,
-        end,
-        kind: finding.kind,
-        other_line,
+        start: span.start,
+        end: span.end,
     }
 }
 
-fn push_finding(out: &mut String, told: &Told<'_>, form: Form) -> Result<(), AllocError> {
-    match form {
-        Form::Lines => {
-            push_place(out, told)?;
-            writeln!(out, ": {}", told.kind.name())
-        }
-        Form::Full => push_in_full(out, told, &PLAIN),
-        Form::Colored => push_in_full(out, told, &COLORED),
-        Form::Json => push_json_finding(out, told),
-        Form::Github => push_github_finding(out, told),
-    }
-}
-
-/// The place with the message, the line of the source, and a caret below.
-fn push_in_full(out: &mut String, told: &Told<'_>, paint: &Paint) -> Result<(), AllocError> {
-    let Paint {
-        before_place,
-        before_kind,
-        behind,
-        caret,
-    } = *paint;
-    out.push_str(before_place)?;
-    push_place(out, told)?;
-    let (severity, kind) = (severity_name(told.kind), told.kind.name());
-    write!(out, "{behind}: {before_kind}{severity}[{kind}]{behind}: ")?;
-    let message = message(*out.allocator(), told)?;
-    push_shown_text(out, message.as_str())?;
-    out.push('\n')?;
-    push_excerpt(out, told.text, told.start, caret)
-}
-
-/// `PATH:LINE:COLUMN`
-fn push_place(out: &mut String, told: &Told<'_>) -> Result<(), AllocError> {
-    push_shown_text(out, told.path)?;
-    write!(out, ":{}:{}", told.line, told.column)
-}
-
-fn severity_name(kind: Kind) -> &'static str {
-    match kind.severity() {
+fn severity_name(severity: Severity) -> &'static str {
+    match severity {
         Severity::Error => "error",
         Severity::Warning => "warning",
     }
 }
 
+/// The name at a range of the text; none where it is no range of it.
+pub(crate) fn name_in(text: &str, span: Span) -> &str {
+    text.get(span.start..span.end).unwrap_or("")
+}
+
 /// A sentence on the finding.
-fn message(alloc: Global, told: &Told<'_>) -> Result<String, AllocError> {
-    let name = told.text.get(told.start..told.end).unwrap_or("");
+fn message(
+    alloc: Global,
+    text: &str,
+    lines: &LineStarts,
+    finding: &Finding,
+) -> Result<String, AllocError> {
+    let name = finding.place.map_or("", |span| name_in(text, span));
     let mut out = String::new(alloc);
-    match told.kind {
+    match finding.kind {
         Kind::DefinedTwice => write!(out, "`{name}` is defined twice")?,
         Kind::AttributeTwice => write!(out, "the entry has the attribute `{name}` twice")?,
         Kind::UndefinedMessage => write!(out, "no file defines the message `{name}`")?,
         Kind::UndefinedTerm => write!(out, "no file defines the term `-{name}`")?,
         Kind::UndefinedAttribute => write!(out, "no file defines its attribute `{name}`")?,
     }
-    if let Some(line) = told.other_line {
+    if let Some(first) = finding.other {
+        let (line, _) = lines.line_column(first.span.start);
         write!(out, ", first on line {line}")?;
     }
     Ok(out)
-}
-
-fn push_json_finding(out: &mut String, told: &Told<'_>) -> Result<(), AllocError> {
-    let (line, column, start, end) = (told.line, told.column, told.start, told.end);
-    out.push_str("{\"path\":")?;
-    push_json_text(out, told.path)?;
-    write!(
-        out,
-        ",\"line\":{line},\"column\":{column},\"start\":{start},\"end\":{end}"
-    )?;
-    let severity = severity_name(told.kind);
-    write!(
-        out,
-        ",\"kind\":\"{}\",\"severity\":\"{severity}\"",
-        told.kind.name()
-    )?;
-    if let Some(line) = told.other_line {
-        write!(out, ",\"first_line\":{line}")?;
-    }
-    out.push_str(",\"message\":")?;
-    let message = message(*out.allocator(), told)?;
-    push_json_text(out, message.as_str())?;
-    out.push_str("}\n")
-}
-
-fn push_github_finding(out: &mut String, told: &Told<'_>) -> Result<(), AllocError> {
-    write!(out, "::{} file=", severity_name(told.kind))?;
-    push_property(out, told.path)?;
-    let (line, column) = (told.line, told.column);
-    write!(
-        out,
-        ",line={line},col={column},title={}::",
-        told.kind.name()
-    )?;
-    let message = message(*out.allocator(), told)?;
-    push_data(out, message.as_str())?;
-    out.push('\n')
 }

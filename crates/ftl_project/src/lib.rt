@@ -2,6 +2,7 @@
 #![tactic(auto)]
 
 mod checking;
+mod comparing;
 mod converting;
 mod fault;
 mod findings;
@@ -15,6 +16,7 @@ mod paint;
 mod printing;
 mod reading;
 mod refused;
+mod remarks;
 mod replacement;
 mod reporting;
 mod rewriting;
@@ -23,6 +25,7 @@ mod tally;
 mod unsafe_entry;
 
 pub use checking::check_files;
+pub use comparing::{Pair, Share, compare_files, share_line};
 pub use converting::convert_files;
 pub use fault::Fault;
 pub use findings::{Source, report_findings};

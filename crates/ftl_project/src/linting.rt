@@ -132,7 +132,11 @@ fn outlines<'a, O: Write, E: Write>(
 }
 
 /// What the text says of names. What is junk in it says nothing.
-fn outline<'a>(alloc: Global, text: &'a str, reading: Reading) -> Result<Outline<'a>, Fault> {
+pub(crate) fn outline<'a>(
+    alloc: Global,
+    text: &'a str,
+    reading: Reading,
+) -> Result<Outline<'a>, Fault> {
     if text.len() == usize::MAX {
         return Err(Fault::Memory);
     }

@@ -1,5 +1,8 @@
 //! The word `lint`.
 
+use crate::clap_words::color;
+use crate::request::Color;
+use crate::requested::color_of;
 use clap::{Arg, ArgAction, ArgMatches, Command, value_parser};
 use fluent_syntax_names::Kind;
 use ftl_project::{Form, Reading};
@@ -12,6 +15,8 @@ pub struct Lint<'a> {
     pub reading: Reading,
     /// How a finding is told.
     pub form: Form,
+    /// Whether it is told in colours.
+    pub color: Color,
     /// Kinds that are not told.
     pub ignored: Vec<Kind>,
     /// Files and folders, which are one set.
@@ -30,13 +35,6 @@ static FORMS: [&str; 4] = ["full", "lines", "json", "github"];
 
 /// The word, with its options.
 pub(crate) fn lint_command<'a>(alloc: Global) -> Result<Command<'a>, AllocError> {
-    let output = Arg::new(alloc, "output")
-        .long("output")
-        .value_name("FORM")
-        .help("How a finding is told")
-        .action(ArgAction::Set)
-        .value_parser(FORMS.as_slice())
-        .default_value("full");
     let ignore = Arg::new(alloc, "ignore")
         .long("ignore")
         .value_name("KIND")
@@ -50,13 +48,26 @@ pub(crate) fn lint_command<'a>(alloc: Global) -> Result<Command<'a>, AllocError>
   ftl lint .                                every .ftl file below this folder, as one set
   ftl lint --ignore undefined-message menu.ftl",
         )
-        .arg(output)?
+        .arg(form(alloc))?
+        .arg(color(alloc))?
         .arg(ignore)?
         .arg(nesting(alloc))?
         .arg(paths(alloc))
 }
 
-fn nesting<'a>(alloc: Global) -> Arg<'a> {
+/// The option for the form.
+pub(crate) fn form<'a>(alloc: Global) -> Arg<'a> {
+    Arg::new(alloc, "output")
+        .long("output")
+        .value_name("FORM")
+        .help("How what is found is told")
+        .action(ArgAction::Set)
+        .value_parser(FORMS.as_slice())
+        .default_value("full")
+}
+
+/// The option for the nesting.
+pub(crate) fn nesting<'a>(alloc: Global) -> Arg<'a> {
     Arg::new(alloc, "nesting")
         .long("nesting")
         .value_name("N")
@@ -91,15 +102,10 @@ pub(crate) fn lint_of<'a>(
     for name in options.get_strs("ignore").unwrap_or(&[]) {
         ignored.push(kind_of(*name))?;
     }
-    let form = match options.get_str("output") {
-        Some("lines") => Form::Lines,
-        Some("json") => Form::Json,
-        Some("github") => Form::Github,
-        _ => Form::Full,
-    };
     Ok(Lint {
         reading,
-        form,
+        form: form_of(options),
+        color: color_of(options),
         ignored,
         paths,
     })
@@ -112,5 +118,15 @@ fn kind_of(name: &str) -> Kind {
         "undefined-message" => Kind::UndefinedMessage,
         "undefined-term" => Kind::UndefinedTerm,
         _ => Kind::UndefinedAttribute,
+    }
+}
+
+/// The form that the options name.
+pub(crate) fn form_of(options: &ArgMatches<'_>) -> Form {
+    match options.get_str("output") {
+        Some("lines") => Form::Lines,
+        Some("json") => Form::Json,
+        Some("github") => Form::Github,
+        _ => Form::Full,
     }
 }

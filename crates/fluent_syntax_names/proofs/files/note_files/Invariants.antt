@@ -4,4 +4,5 @@ use Rattle.fluent_syntax_names.proofs.files.note_files.Given as goal
 
 abbrev pub invariant-loop-file : goal.invariant-loop-file
 invariant-loop-file l =
-    record { left : left_of_files l.files (place_of l.table.table) (place_of l.table.table) l.file-index (place_of l.table.table) l.file-index }
+    let known = place_of l.table.table in
+    record { left : left_of_files l.files known known l.file-index known l.file-index }

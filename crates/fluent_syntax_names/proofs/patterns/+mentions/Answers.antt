@@ -24,7 +24,8 @@ add_pattern-returns g t c =
 
 pub add_elements-loop-element-preserved : goal.add_elements-loop-element-preserved
 add_elements-loop-element-preserved g t c =
-    let all = λ (nodes : List (PatternElement g.row.X.Denot)). pattern_mentions (elements_of (map (element_view (λ x. x)) nodes)) in
+    let all = λ (nodes : List (PatternElement g.row.X.Denot)).
+    pattern_mentions (elements_of (map (element_view (λ x. x)) nodes)) in
     let one = λ (x : PatternElement g.row.X.Denot). element_mentions (element_view (λ x. x) x) in
     record {
       left = leaves_next all one c.args.list.now.items c.loop-element.list.items c.args.elements.now
@@ -34,7 +35,8 @@ add_elements-loop-element-preserved g t c =
 
 pub add_elements-returns : goal.add_elements-returns
 add_elements-returns g t c =
-    let all = λ (nodes : List (PatternElement g.row.X.Denot)). pattern_mentions (elements_of (map (element_view (λ x. x)) nodes)) in
+    let all = λ (nodes : List (PatternElement g.row.X.Denot)).
+    pattern_mentions (elements_of (map (element_view (λ x. x)) nodes)) in
     let one = λ (x : PatternElement g.row.X.Denot). element_mentions (element_view (λ x. x) x) in
     leaves_none all one c.args.list.now.items c.loop-element.list.items c.args.elements.now c.loop-element.element-index
     (λ tail. refl) c.loop-element-test.false c.loop-element.invariant.left
@@ -58,7 +60,8 @@ add_expression-returns-in-Inline g t c =
 
 pub add_variants-loop-variant-preserved : goal.add_variants-loop-variant-preserved
 add_variants-loop-variant-preserved g t c =
-    let all = λ (nodes : List (Variant g.row.X.Denot)). variants_mentions (variants_of (map (variant_view (λ x. x)) nodes)) in
+    let all = λ (nodes : List (Variant g.row.X.Denot)).
+    variants_mentions (variants_of (map (variant_view (λ x. x)) nodes)) in
     let one = λ (x : Variant g.row.X.Denot). variant_mentions (variant_view (λ x. x) x) in
     record {
       left = leaves_next all one c.args.list.now.items c.loop-variant.list.items c.args.variants.now
@@ -68,14 +71,16 @@ add_variants-loop-variant-preserved g t c =
 
 pub add_variants-returns : goal.add_variants-returns
 add_variants-returns g t c =
-    let all = λ (nodes : List (Variant g.row.X.Denot)). variants_mentions (variants_of (map (variant_view (λ x. x)) nodes)) in
+    let all = λ (nodes : List (Variant g.row.X.Denot)).
+    variants_mentions (variants_of (map (variant_view (λ x. x)) nodes)) in
     let one = λ (x : Variant g.row.X.Denot). variant_mentions (variant_view (λ x. x) x) in
     leaves_none all one c.args.list.now.items c.loop-variant.list.items c.args.variants.now c.loop-variant.variant-index
     (λ tail. refl) c.loop-variant-test.false c.loop-variant.invariant.left
 
 pub add_inlines-loop-inline-preserved : goal.add_inlines-loop-inline-preserved
 add_inlines-loop-inline-preserved g t c =
-    let all = λ (nodes : List (InlineExpression g.row.X.Denot)). inlines_mentions (inlines_of (map (inline_view (λ x. x)) nodes)) in
+    let all = λ (nodes : List (InlineExpression g.row.X.Denot)).
+    inlines_mentions (inlines_of (map (inline_view (λ x. x)) nodes)) in
     let one = λ (x : InlineExpression g.row.X.Denot). inline_mentions (inline_view (λ x. x) x) in
     record {
       left = leaves_next all one c.args.list.now.items c.loop-inline.list.items c.args.inlines.now
@@ -85,14 +90,16 @@ add_inlines-loop-inline-preserved g t c =
 
 pub add_inlines-returns : goal.add_inlines-returns
 add_inlines-returns g t c =
-    let all = λ (nodes : List (InlineExpression g.row.X.Denot)). inlines_mentions (inlines_of (map (inline_view (λ x. x)) nodes)) in
+    let all = λ (nodes : List (InlineExpression g.row.X.Denot)).
+    inlines_mentions (inlines_of (map (inline_view (λ x. x)) nodes)) in
     let one = λ (x : InlineExpression g.row.X.Denot). inline_mentions (inline_view (λ x. x) x) in
     leaves_none all one c.args.list.now.items c.loop-inline.list.items c.args.inlines.now c.loop-inline.inline-index
     (λ tail. refl) c.loop-inline-test.false c.loop-inline.invariant.left
 
 pub add_nameds-loop-named-preserved : goal.add_nameds-loop-named-preserved
 add_nameds-loop-named-preserved g t c =
-    let all = λ (nodes : List (NamedArgument g.row.X.Denot)). nameds_mentions (nameds_of (map (named_view (λ x. x)) nodes)) in
+    let all = λ (nodes : List (NamedArgument g.row.X.Denot)).
+    nameds_mentions (nameds_of (map (named_view (λ x. x)) nodes)) in
     let one = λ (x : NamedArgument g.row.X.Denot). named_mentions (named_view (λ x. x) x) in
     record {
       left = leaves_next all one c.args.list.now.items c.loop-named.list.items c.args.nameds.now
@@ -102,7 +109,8 @@ add_nameds-loop-named-preserved g t c =
 
 pub add_nameds-returns : goal.add_nameds-returns
 add_nameds-returns g t c =
-    let all = λ (nodes : List (NamedArgument g.row.X.Denot)). nameds_mentions (nameds_of (map (named_view (λ x. x)) nodes)) in
+    let all = λ (nodes : List (NamedArgument g.row.X.Denot)).
+    nameds_mentions (nameds_of (map (named_view (λ x. x)) nodes)) in
     let one = λ (x : NamedArgument g.row.X.Denot). named_mentions (named_view (λ x. x) x) in
     leaves_none all one c.args.list.now.items c.loop-named.list.items c.args.nameds.now c.loop-named.named-index
     (λ tail. refl) c.loop-named-test.false c.loop-named.invariant.left
