@@ -15,13 +15,6 @@ pub struct Source {
     pub text: String,
 }
 
-/// A file with findings, and where its lines begin.
-#[derive(Drop)]
-struct Shown {
-    file: usize,
-    lines: LineStarts,
-}
-
 /// What is told of the findings in the files.
 ///
 /// `AllocError`: a growth was refused.
@@ -32,21 +25,18 @@ pub fn report_findings(
     form: Form,
 ) -> Result<String, AllocError> {
     let mut out = String::new(alloc);
-    let mut shown: Option<Shown> = None;
+    let mut file = None;
+    let mut lines = LineStarts::of(alloc, "")?;
     for finding in findings {
         let Some(source) = sources.get(finding.file) else {
             continue;
         };
-        let known = match shown {
-            Some(known) if known.file == finding.file => known,
-            _ => Shown {
-                file: finding.file,
-                lines: LineStarts::of(alloc, source.text.as_str())?,
-            },
-        };
-        let remark = remark_of(alloc, source, &known.lines, finding)?;
+        if file != Some(finding.file) {
+            file = Some(finding.file);
+            lines = LineStarts::of(alloc, source.text.as_str())?;
+        }
+        let remark = remark_of(alloc, source, &lines, finding)?;
         push_remark(&mut out, &remark, form)?;
-        shown = Some(known);
     }
     Ok(out)
 }
