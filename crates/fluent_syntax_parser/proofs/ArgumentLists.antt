@@ -113,24 +113,25 @@ module _ (t : List ℕ) (R : Family) (h : IsFunctionalFamily R) (ps : List (Inli
   Gathered ps ns names j =
       Behind t (next_argument t R) add_argument (arguments no_inlines no_named) [] from (put_arguments ps ns) names j
 
-  module _ (gathered : Gathered ps ns (names_in t ns) i) (within : i < length t)
+  module _ (names : List Span) (gathered : Gathered ps ns (names_in t names) i) (within : i < length t)
       (no_end : has_byte t right_parenthesis i ≡ false) (e : InlineExpression Span) (j : ℕ)
       (read : inline_expression t R i (Read (inline_view (λ s. s) e) j)) where
     -- one more named argument
     pub one_named : (x : NamedArgument Span) → argument_name (inline_view (λ s. s) e) ≡ Some x.name.name →
-        has_byte t colon j ≡ true → is_used (bytes_at t x.name.name) (names_in t ns) ≡ false →
-        (more : List (NamedArgument Span)) → more ≡ ns ++ x ∷ [] → (m end next : ℕ) → Blank t (j + 1) m →
+        has_byte t colon j ≡ true → is_used (bytes_at t x.name.name) (names_in t names) ≡ false →
+        (more : List (NamedArgument Span)) → more ≡ ns ++ x ∷ [] → (others : List Span) →
+        others ≡ names ++ x.name.name ∷ [] → (m end next : ℕ) → Blank t (j + 1) m →
         at_each (start t) (argument_value t R) m (Read (inline_view (λ s. s) x.value) end) →
-        separator t end (Read tt next) → Gathered ps more (names_in t more) next
-    one_named x is mark new more pushed m end next blank value after =
-        let names : names_in t more ≡ bytes_at t x.name.name ∷ names_in t ns =
-        ap (names_in t) pushed ∙ names_added t ns x in
+        separator t end (Read tt next) → Gathered ps more (names_in t others) next
+    one_named x is mark new more pushed others noted m end next blank value after =
+        let all : names_in t others ≡ bytes_at t x.name.name ∷ names_in t names =
+        ap (names_in t) noted ∙ names_added t names x.name.name in
         let added = rules.named x.name.name (inline_view (λ s. s) x.value) in
-        subst (λ xs. Gathered ps more xs next) (sym names)
-        (one_behind (put_arguments ps more) added (bytes_at t x.name.name ∷ names_in t ns) next gathered
-        (functional_next_argument t R h (names_in t ns)) (put_named ps ns more x pushed)
-        (named t R (names_in t ns) i within no_end (inline_view (λ s. s) e) j read x.name.name is mark
-        (Read (item added (bytes_at t x.name.name ∷ names_in t ns)) next)
+        subst (λ xs. Gathered ps more xs next) (sym all)
+        (one_behind (put_arguments ps more) added (bytes_at t x.name.name ∷ names_in t names) next gathered
+        (functional_next_argument t R h (names_in t names)) (put_named ps ns more x pushed)
+        (named t R (names_in t names) i within no_end (inline_view (λ s. s) e) j read x.name.name is mark
+        (Read (item added (bytes_at t x.name.name ∷ names_in t names)) next)
         (second new
         (goes_on (token_there t colon j mark)
         (goes_on (passed blank)
@@ -138,15 +139,15 @@ module _ (t : List ℕ) (R : Family) (h : IsFunctionalFamily R) (ps : List (Inli
         (goes_on after given)))))))
 
     -- one more positional argument
-    pub one_positional : (argument_name (inline_view (λ s. s) e) ≡ None) ⊎ (has_byte t colon j ≡ false) → ns ≡ [] →
+    pub one_positional : (argument_name (inline_view (λ s. s) e) ≡ None) ⊎ (has_byte t colon j ≡ false) → names ≡ [] →
         (more : List (InlineExpression Span)) → more ≡ ps ++ e ∷ [] → (next : ℕ) → separator t j (Read tt next) →
-        Gathered more ns (names_in t ns) next
+        Gathered more ns (names_in t names) next
     one_positional is none more pushed next after =
-        let names : names_in t ns ≡ [] = rw none refl in
+        let all : names_in t names ≡ [] = rw none refl in
         let added = rules.positional (inline_view (λ s. s) e) in
-        subst (λ xs. Gathered more ns xs next) (sym names)
-        (one_behind (put_arguments more ns) added [] next gathered (functional_next_argument t R h (names_in t ns))
+        subst (λ xs. Gathered more ns xs next) (sym all)
+        (one_behind (put_arguments more ns) added [] next gathered (functional_next_argument t R h (names_in t names))
         (put_positional ps more ns e pushed)
-        (positional t R (names_in t ns) i within no_end (inline_view (λ s. s) e) j read is (Read (item added []) next)
-        (subst (λ xs. positional_rest t xs (inline_view (λ s. s) e) j (Read (item added []) next)) (sym names)
+        (positional t R (names_in t names) i within no_end (inline_view (λ s. s) e) j read is (Read (item added []) next)
+        (subst (λ xs. positional_rest t xs (inline_view (λ s. s) e) j (Read (item added []) next)) (sym all)
         (goes_on after given))))

@@ -21,13 +21,13 @@ use fluent_syntax_tree::spans::Span;
 use std::alloc::Global;
 
 impl<'s> Source<'s> {
-    /// Whether a name is that of one of the arguments, by its bytes.
-    pub(crate) fn has_name(&self, named: &[NamedArgument<Span>], name: Span) -> bool
+    /// Whether a name is one of the names, by its bytes.
+    pub(crate) fn has_name(&self, names: &[Span], name: Span) -> bool
         ensures { let t = self.now.bytes.now in
-            result ≡ is_used (bytes_at t name) (names_in_order t named.now) }
+            result ≡ is_used (bytes_at t name) (names_in_order t names.now) }
     {
-        for other in named {
-            if self.bytes_of(name) == self.bytes_of(other.name.name) {
+        for other in names {
+            if self.bytes_of(name) == self.bytes_of(*other) {
                 return true;
             }
         }
@@ -74,6 +74,7 @@ impl<'s> Source<'s> {
 
     /// Reads the rest of an argument list with its `)`, after the `(` and the blank there.
     #[cycle(readers)]
+    #[inline(never)]
     fn get_arguments(
         &self,
         alloc: Global,
@@ -100,13 +101,13 @@ impl<'s> Source<'s> {
             let (expression, next) = self.get_inline_expression(alloc, edition, nesting, place)?;
             match argument_name(&expression) {
                 Some(name) if self.is_byte_at(b':', next) => {
-                    if noted.has(self, &named, name) {
+                    if noted.has(self, name) {
                         let fault = Fault::Duplicated(name);
                         return Err(ReadFault::Refused(Refusal { fault, place: next }));
                     }
                     let start = self.skip_blank(next + 1);
                     let (value, end) = self.get_argument_value(alloc, edition, nesting, start)?;
-                    noted.note(self, &named, name)?;
+                    noted.note(self, name)?;
                     named.push(NamedArgument {
                         name: Identifier { name },
                         value,
@@ -114,7 +115,7 @@ impl<'s> Source<'s> {
                     place = self.skip_separator(end);
                 }
                 _ => {
-                    if !named.is_empty() {
+                    if !noted.is_empty() {
                         let fault = Fault::PositionalAfterNamed;
                         return Err(ReadFault::Refused(Refusal { fault, place: next }));
                     }

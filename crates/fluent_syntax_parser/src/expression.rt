@@ -22,6 +22,7 @@ use std::alloc::Global;
 impl<'s> Source<'s> {
     /// Reads a reference to a term: `-`, its name, an attribute if `.` follows, and arguments if `(` follows.
     #[cycle(readers)]
+    #[inline(never)]
     fn get_term_reference(
         &self,
         alloc: Global,
@@ -54,6 +55,7 @@ impl<'s> Source<'s> {
 
     /// Reads a reference to a function or to a message, by its name and what follows it.
     #[cycle(readers)]
+    #[inline(never)]
     fn get_reference(
         &self,
         alloc: Global,

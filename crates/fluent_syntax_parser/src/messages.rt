@@ -75,6 +75,7 @@ impl<'s> Source<'s> {
         Ok((message, place))
     }
 
+    #[inline(never)]
     pub(crate) fn get_term(
         &self,
         alloc: Global,

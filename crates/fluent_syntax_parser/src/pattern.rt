@@ -5,7 +5,7 @@ ghost use Rattle.fluent_syntax_tree.specs.View.{pattern_view};
 ghost use Rattle.fluent_syntax_grammar.specs.Construct.{Read, at_each};
 ghost use Rattle.fluent_syntax_grammar.specs.Grammar.{more_lines, within};
 ghost use Rattle.fluent_syntax_grammar.specs.Patterns.{layout_at, pattern};
-ghost use Rattle.fluent_syntax_grammar.specs.Places.{BlankBlock, after_eol};
+ghost use Rattle.fluent_syntax_grammar.specs.Places.{BlankBlock, InlineBlank, after_eol};
 ghost use Rattle.fluent_syntax_parser.specs.Elements.{layout_view};
 ghost use Rattle.fluent_syntax_parser.specs.Meets.{Meets};
 ghost use Rattle.fluent_syntax_parser.specs.ShortPatterns.{EndsBlank, EndsLine, NoLines, OpensAs, text_pattern};
@@ -185,6 +185,29 @@ impl<'s> Source<'s> {
         }
     }
 
+    /// Reads a pattern that does not stand on one line, or that has a placeable. The inline blank that opens it ends at
+    /// `start`.
+    #[cycle(readers)]
+    #[inline(never)]
+    fn get_long_pattern(
+        &self,
+        alloc: Global,
+        edition: Edition,
+        nesting: usize,
+        ptr: usize,
+        start: usize,
+    ) -> Result<(Option<Pattern<Span>>, usize), ReadFault>
+        requires within { start ≤ length self.now.bytes.now }
+        requires blank { InlineBlank self.now.bytes.now ptr start }
+        ensures meets { let t = self.now.bytes.now in
+            Meets t (pattern edition t (within edition t nesting)) (option_map (pattern_view (λ s. s))) ptr result }
+        ensures within { IfOk result (λ read. (ptr ≤ read.1) × (read.1 ≤ length self.now.bytes.now)) }
+    {
+        let (layout, end) = self.get_layout(alloc, edition, nesting, start)?;
+        let pattern = self.pattern_of(alloc, edition, layout)?;
+        Ok((pattern, end))
+    }
+
     /// Reads a pattern, if one stands there. That of one line without placeable is read by itself, and takes one
     /// allocation.
     #[cycle(readers)]
@@ -204,11 +227,7 @@ impl<'s> Source<'s> {
         let short = self.get_short_pattern(alloc, edition, start)?;
         match short {
             Some((pattern, end)) => Ok((Some(pattern), end)),
-            None => {
-                let (layout, end) = self.get_layout(alloc, edition, nesting, start)?;
-                let pattern = self.pattern_of(alloc, edition, layout)?;
-                Ok((pattern, end))
-            }
+            None => self.get_long_pattern(alloc, edition, nesting, ptr, start),
         }
     }
 }

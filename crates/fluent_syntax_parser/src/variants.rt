@@ -50,6 +50,7 @@ impl<'s> Source<'s> {
 
     /// Reads variants up to the place where neither `[` nor `*[` stands.
     #[cycle(readers)]
+    #[inline(never)]
     pub(crate) fn get_variants(
         &self,
         alloc: Global,

@@ -1,7 +1,6 @@
 use Rattle.std.proofs.Common.{◌≡◌, ◌+◌, ◌∙◌, ◌∷◌, refl, sym, arith, [], false, None, inl, inr}
 use Rattle.std.specs.Prelude.{◌==◌, ◌⊎◌}
 use Rattle.std.proofs.lemmas.Option.{gets}
-use Rattle.std.proofs.lemmas.List.{map-append}
 use Rattle.std.proofs.lemmas.Result.{err_from_is_err_and}
 use Rattle.fluent_syntax_tree.specs.Spans.{bytes_at}
 use Rattle.fluent_syntax_tree.specs.View.{inline_view, variant_view}
@@ -463,9 +462,8 @@ get_arguments-returns-in_err-expression-clause-meets m c =
 pub get_arguments-returns-then-has-clause-meets : goal.get_arguments-returns-then-has-clause-meets
 get_arguments-returns-then-has-clause-meets m c =
     let t = c.args.self.now.bytes.now in
-    let names = c.loop-alloc.named.items in
-    let found = rw c.deref.ensures.value at c.if-has.ensures in
-    let used = used_in_order t (bytes_at t c.in-Some.name) names ∙ sym found in
+    let names = c.loop-alloc.noted.names.items in
+    let used = used_in_order t (bytes_at t c.in-Some.name) names ∙ sym c.if-has.ensures in
     item_fails c.loop-alloc.invariant.gathered (refused (λ k from to (a, b, d). rw (a, b, d)
     (named t _ (names_in t names) _
     (omega (arith, c.if-place-self.false, c.loop-alloc.invariant.within)) (sym c.loop-alloc-test.ensures) _ _
@@ -479,9 +477,8 @@ pub get_arguments-returns-in_err-value-in-Some-clause-meets :
     goal.get_arguments-returns-in_err-value-in-Some-clause-meets
 get_arguments-returns-in_err-value-in-Some-clause-meets m c =
     let t = c.args.self.now.bytes.now in
-    let names = c.loop-alloc.named.items in
-    let found = rw c.deref.ensures.value at c.if-has.ensures in
-    let new = used_in_order t (bytes_at t c.in-Some.name) names ∙ sym found in
+    let names = c.loop-alloc.noted.names.items in
+    let new = used_in_order t (bytes_at t c.in-Some.name) names ∙ sym c.if-has.ensures in
     let mark = sym c.if-is_byte_at.ensures in
     let p = err_from_is_err_and c.from_residual-in_err-value-in-Some.result
     c.from_residual-in_err-value-in-Some.ensures.1 in
@@ -513,8 +510,7 @@ pub get_arguments-loop-alloc-preserved-then-is_byte_at : goal.get_arguments-loop
 get_arguments-loop-alloc-preserved-then-is_byte_at m c =
     let t = c.args.self.now.bytes.now in
     let old = c.loop-alloc in
-    let found = rw c.deref.ensures.value at c.if-has.ensures in
-    let new = used_in_order t (bytes_at t c.in-Some.name) old.named.items ∙ sym found in
+    let new = used_in_order t (bytes_at t c.in-Some.name) old.noted.names.items ∙ sym c.if-has.ensures in
     let name : Identifier Span = record { name = c.in-Some.name } in
     let added : NamedArgument Span = roll-NamedArgument Span
     (record { name = name; value = c.in_ok-value-in-Some.value }) in
@@ -531,14 +527,13 @@ get_arguments-loop-alloc-preserved-then-is_byte_at m c =
       within = c.skip_separator-place.ensures.within.1;
       gathered =
           one_named t _ (functional_within c.args.edition t _) old.positional.items old.named.items c.args.ptr
-          old.place old.invariant.gathered
+          old.place old.noted.names.items old.invariant.gathered
           (omega (arith, c.if-place-self.false, old.invariant.within)) (sym c.loop-alloc-test.ensures)
           c.in_ok-expression.expression _ c.in_ok-expression.ensures.meets added (sym c.in-Some.ensures)
-          (sym c.if-is_byte_at.ensures) new _ c.in_ok-push-in-Some.ensures.items _ _ _
+          (sym c.if-is_byte_at.ensures) new _ c.in_ok-push-in-Some.ensures.items _
+          c.in_ok-note-in-Some.ensures.names _ _ _
           c.skip_blank-start.ensures.blank c.in_ok-value-in-Some.ensures.meets c.skip_separator-place.ensures.meets;
-      noted =
-          rw (c.in_ok-push-in-Some.ensures.items, map-append (λ a. bytes_at t a.name.name) old.named.items (added ∷ []))
-          (rw c.deref-in-Some.ensures.value at c.in_ok-note-in-Some.ensures);
+      noted = c.in_ok-note-in-Some.ensures.noted;
     }
 
 pub get_arguments-returns-then-not-is_empty-clause-meets : goal.get_arguments-returns-then-not-is_empty-clause-meets
@@ -551,13 +546,13 @@ get_arguments-returns-then-not-is_empty-clause-meets m c =
       | get_arguments-in_default-via-in-Some+else-is_byte_at w ↦ inr (sym w.if-is_byte_at.ensures)
       | get_arguments-in_default-via-in_default w ↦ inl (sym w.in_default.ensures)
     ] in
-    let some = some_named _ old.named.items old.named.ok.0 c.if-not-is_empty.ensures in
+    let some = some_named old.noted.names.items c.if-not-is_empty.ensures in
     item_fails old.invariant.gathered (refused (λ k from to (a, b, d). rw (a, b, d)
-    (positional t _ (names_in t old.named.items) old.place
+    (positional t _ (names_in t old.noted.names.items) old.place
     (omega (arith, c.if-place-self.false, old.invariant.within)) (sym c.loop-alloc-test.ensures) e _
     c.in_ok-expression.ensures.meets is _
-    (late t (within c.args.edition t c.args.nesting) (names_in t old.named.items) e _
-    (some_names t old.named.items some)))))
+    (late t (within c.args.edition t c.args.nesting) (names_in t old.noted.names.items) e _
+    (some_names t old.noted.names.items some)))))
 
 pub get_arguments-loop-alloc-preserved : goal.get_arguments-loop-alloc-preserved
 get_arguments-loop-alloc-preserved m c =
@@ -569,7 +564,7 @@ get_arguments-loop-alloc-preserved m c =
       | get_arguments-in_default-via-in-Some+else-is_byte_at w ↦ inr (sym w.if-is_byte_at.ensures)
       | get_arguments-in_default-via-in_default w ↦ inl (sym w.in_default.ensures)
     ] in
-    let none = none_named _ old.named.items old.named.ok.0 c.if-not-is_empty.ensures in
+    let none = none_named old.noted.names.items c.if-not-is_empty.ensures in
     record {
       forward =
           omega (
@@ -581,7 +576,7 @@ get_arguments-loop-alloc-preserved m c =
       within = c.skip_separator-place-in_default.ensures.within.1;
       gathered =
           one_positional t _ (functional_within c.args.edition t _) old.positional.items old.named.items c.args.ptr
-          old.place
+          old.place old.noted.names.items
           old.invariant.gathered (omega (arith, c.if-place-self.false, old.invariant.within))
           (sym c.loop-alloc-test.ensures) c.in_ok-expression.expression _ c.in_ok-expression.ensures.meets is none _
           c.in_ok-push-in_default.ensures.items _ c.skip_separator-place-in_default.ensures.meets;
@@ -645,26 +640,24 @@ get_layout-returns-in_ok-lines-in-None-clause-meets m c =
     (goes_on c.in_ok-lines-in-None.ensures.meets
     given))))
 
-pub get_pattern-returns-in_err-layout-in-None-clause-meets :
-    goal.get_pattern-returns-in_err-layout-in-None-clause-meets
-get_pattern-returns-in_err-layout-in-None-clause-meets m c =
+pub get_long_pattern-returns-in_err-layout-clause-meets : goal.get_long_pattern-returns-in_err-layout-clause-meets
+get_long_pattern-returns-in_err-layout-clause-meets m c =
     let t = c.args.self.now.bytes.now in
-    let p = err_from_is_err_and c.from_residual-in_err-layout-in-None.result
-    c.from_residual-in_err-layout-in-None.ensures.1 in
+    let p = err_from_is_err_and c.from_residual.result c.from_residual.ensures.1 in
     rw (p.1, p.2)
     (fails_first
-    (fails_next (functional_inline_blank t) (passed c.skip_blank_inline-start.ensures.blank)
-    c.in_err-layout-in-None.ensures.meets))
+    (fails_next (functional_inline_blank t) (passed c.requires.blank)
+    c.in_err-layout.ensures.meets))
+
+pub get_long_pattern-returns-clause-meets : goal.get_long_pattern-returns-clause-meets
+get_long_pattern-returns-clause-meets m c =
+    rw c.in_ok-pattern.ensures
+    (goes_on (goes_on (passed c.requires.blank) c.in_ok-layout.ensures.meets) given)
 
 pub get_pattern-returns-in-Some-clause-meets : goal.get_pattern-returns-in-Some-clause-meets
 get_pattern-returns-in-Some-clause-meets m c =
     let opens = rw c.in-Some.is at c.in_ok-short.ensures.opens in
     opens _ c.args.ptr c.skip_blank_inline-start.ensures.blank
-
-pub get_pattern-returns-in_ok-pattern-in-None-clause-meets : goal.get_pattern-returns-in_ok-pattern-in-None-clause-meets
-get_pattern-returns-in_ok-pattern-in-None-clause-meets m c =
-    rw c.in_ok-pattern-in-None.ensures
-    (goes_on (goes_on (passed c.skip_blank_inline-start.ensures.blank) c.in_ok-layout-in-None.ensures.meets) given)
 
 -- ---- variants
 
@@ -958,11 +951,11 @@ pub get_pattern-returns-in_err-short-clause-meets :
 get_pattern-returns-in_err-short-clause-meets m c =
     rw (out_of_memory c.from_residual.result c.from_residual.ensures.1) no_memory
 
-pub get_pattern-returns-in_err-pattern-in-None-clause-meets :
-    goal.get_pattern-returns-in_err-pattern-in-None-clause-meets
-get_pattern-returns-in_err-pattern-in-None-clause-meets m c =
-    rw (out_of_memory c.from_residual-in_err-pattern-in-None.result
-    c.from_residual-in_err-pattern-in-None.ensures.1) no_memory
+pub get_long_pattern-returns-in_err-pattern-clause-meets :
+    goal.get_long_pattern-returns-in_err-pattern-clause-meets
+get_long_pattern-returns-in_err-pattern-clause-meets m c =
+    rw (out_of_memory c.from_residual-in_err-pattern.result
+    c.from_residual-in_err-pattern.ensures.1) no_memory
 
 pub get_pieces-returns-in_err-push-in-Some-clause-meets :
     goal.get_pieces-returns-in_err-push-in-Some-clause-meets

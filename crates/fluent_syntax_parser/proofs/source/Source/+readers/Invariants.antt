@@ -45,13 +45,16 @@ abbrev pub decreases-get_layout : goal.decreases-get_layout
 decreases-get_layout l = 10 * l.nesting + 3
 
 abbrev pub decreases-get_pattern : goal.decreases-get_pattern
-decreases-get_pattern l = 10 * l.nesting + 4
+decreases-get_pattern l = 10 * l.nesting + 5
+
+abbrev pub decreases-get_long_pattern : goal.decreases-get_long_pattern
+decreases-get_long_pattern l = 10 * l.nesting + 4
 
 abbrev pub decreases-get_variants : goal.decreases-get_variants
-decreases-get_variants l = 10 * l.nesting + 5
+decreases-get_variants l = 10 * l.nesting + 6
 
 abbrev pub decreases-get_expression : goal.decreases-get_expression
-decreases-get_expression l = 10 * l.nesting + 6
+decreases-get_expression l = 10 * l.nesting + 7
 
 -- ---- loops
 
@@ -64,8 +67,8 @@ invariant-get_arguments-loop-alloc l =
       gathered :
           Behind t (next_argument t (grammar.within l.edition t l.nesting)) add_argument
           (arguments no_inlines no_named) [] l.ptr
-          (put_arguments l.positional.items l.named.items) (names_in t l.named.items) l.place;
-      noted : Notes (λ k. k.now) l.noted.table.keys (names_in_order t l.named.items);
+          (put_arguments l.positional.items l.named.items) (names_in t l.noted.names.items) l.place;
+      noted : Notes (λ k. k.now) l.noted.table.keys (names_in_order t l.noted.names.items);
     }
 
 abbrev pub decreases-get_arguments-loop-alloc : goal.decreases-get_arguments-loop-alloc
