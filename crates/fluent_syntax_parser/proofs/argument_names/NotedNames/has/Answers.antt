@@ -1,4 +1,4 @@
-use Rattle.std.proofs.Common.{◌≡◌, ◌∙◌, ◌≤◌, arith, length, ap}
+use Rattle.std.proofs.Common.{◌∙◌, ◌≤◌, arith, length, ap}
 use Rattle.std.proofs.lemmas.List.{length-map}
 use Rattle.fluent_syntax_tree.specs.Spans.{bytes_at}
 use Rattle.fluent_syntax_parser.specs.Gathered.{names_in_order}
