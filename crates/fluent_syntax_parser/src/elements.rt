@@ -1,39 +1,39 @@
 //! The items that the lines of a pattern spell.
 ghost use Rattle.std.specs.Prelude.{◌≡◌, ◌+◌, ◌<◌, ◌^◌, ◌++◌, [], map, IfOk, OnOk};
-ghost use Rattle.fluent_syntax_grammar.specs.Elements.{line_items, with_ending};
-ghost use Rattle.fluent_syntax_parser.specs.Elements.{item_view, items_with, kept_place, layout_view, leading, waiting};
+ghost use Rattle.fluent_syntax_parser.specs.Elements.{item_view, kept_place, layout_view, leading, waiting};
+ghost use Rattle.fluent_syntax_parser.specs.Layouts.{items_with, line_items, with_ending};
 ghost use Rattle.fluent_syntax_parser.specs.Endings.{EndsWithin};
 ghost use Rattle.fluent_syntax_parser.specs.Lines.{ending_view, line_view, piece_view};
 
 use crate::line::{Ending, Line, Piece};
+use crate::texts::MakeTexts;
 use fluent_syntax_tree::ast::Expression;
 use fluent_syntax_tree::edition::Edition;
-use fluent_syntax_tree::spans::Span;
 use std::alloc::{AllocError, Global};
 
 /// An element before the tail is cut.
 #[derive(Drop)]
-pub(crate) enum Item {
+pub(crate) enum Item<T> {
     Text { from: usize, to: usize },
-    Filled { expression: Expression<Span> },
+    Filled { expression: Expression<T> },
 }
 
 /// The source of a pattern: the line on which it opens, if something stands there, and the later lines.
 #[derive(Drop)]
-pub(crate) struct Layout {
-    pub(crate) opening: Option<Line>,
-    pub(crate) lines: Vec<Line>,
+pub(crate) struct Layout<T> {
+    pub(crate) opening: Option<Line<T>>,
+    pub(crate) lines: Vec<Line<T>>,
 }
 
 /// Adds the last run of a line, where one waits, and the line's ending: an LF belongs to the text before it.
-fn add_ending(
+fn add_ending<M: MakeTexts>(
     pending: Option<(usize, usize)>,
     ending: Ending,
-    items: &mut Vec<Item>,
+    items: &mut Vec<Item<M::Text>>,
 ) -> Result<(), AllocError>
     requires { EndsWithin ending }
-    ensures { OnOk result (map item_view items.new.items
-        ≡ map item_view items.old.items ++ with_ending (waiting pending []) (ending_view ending)) }
+    ensures { OnOk result (map (item_view M.made) items.new.items
+        ≡ map (item_view M.made) items.old.items ++ with_ending (waiting pending []) (ending_view ending)) }
 {
     match (pending, ending) {
         (Some((from, _)), Ending::Lf(place)) => items.push(Item::Text {
@@ -62,16 +62,16 @@ fn add_ending(
 }
 
 /// Adds the pieces of a line and its ending. A run that begins the line begins at `led`, if that is given.
-fn add_pieces(
+fn add_pieces<M: MakeTexts>(
     led: Option<usize>,
-    pieces: Vec<Piece>,
+    pieces: Vec<Piece<M::Text>>,
     ending: Ending,
-    items: &mut Vec<Item>,
+    items: &mut Vec<Item<M::Text>>,
 ) -> Result<(), AllocError>
     requires { EndsWithin ending }
-    ensures { let found = leading led (map piece_view pieces.items) in
-        OnOk result (map item_view items.new.items
-        ≡ map item_view items.old.items ++ with_ending found (ending_view ending)) }
+    ensures { let found = leading led (map (piece_view M.made) pieces.items) in
+        OnOk result (map (item_view M.made) items.new.items
+        ≡ map (item_view M.made) items.old.items ++ with_ending found (ending_view ending)) }
 {
     let mut led = led;
     let mut pending = None;
@@ -88,7 +88,7 @@ fn add_pieces(
         };
         led = None;
     }
-    add_ending(pending, ending, items)
+    add_ending::<M>(pending, ending, items)
 }
 
 /// Where the leading spaces of a line beyond the common indent begin.
@@ -103,16 +103,16 @@ fn kept_from(common: Option<usize>, start: usize, spaces: usize) -> usize
 }
 
 /// Adds a line that is not the opening line.
-fn add_line(
+fn add_line<M: MakeTexts>(
     edition: Edition,
     common: Option<usize>,
-    line: Line,
-    items: &mut Vec<Item>,
+    line: Line<M::Text>,
+    items: &mut Vec<Item<M::Text>>,
 ) -> Result<(), AllocError>
     requires spaces { line.start + line.spaces < 2 ^ 64 }
     requires ending { EndsWithin line.ending }
-    ensures { OnOk result (map item_view items.new.items
-        ≡ map item_view items.old.items ++ line_items edition common (line_view line)) }
+    ensures { OnOk result (map (item_view M.made) items.new.items
+        ≡ map (item_view M.made) items.old.items ++ line_items edition common (line_view M.made line)) }
 {
     let Line {
         start,
@@ -139,25 +139,25 @@ fn add_line(
         }
         _ => {}
     }
-    add_pieces(Some(kept), pieces, ending, items)
+    add_pieces::<M>(Some(kept), pieces, ending, items)
 }
 
 /// The items of all lines, under a common indent.
-pub(crate) fn items_of(
+pub(crate) fn items_of<M: MakeTexts>(
     alloc: Global,
     edition: Edition,
     common: Option<usize>,
-    layout: Layout,
-) -> Result<Vec<Item>, AllocError>
-    ensures { IfOk result (λ items. map item_view items.items ≡ items_with edition common (layout_view layout)) }
+    layout: Layout<M::Text>,
+) -> Result<Vec<Item<M::Text>>, AllocError>
+    ensures { IfOk result (λ items. map (item_view M.made) items.items ≡ items_with edition common (layout_view M.made layout)) }
 {
     let Layout { opening, lines } = layout;
     let mut items = Vec::new(alloc);
     if let Some(line) = opening {
-        add_pieces(None, line.pieces, line.ending, &mut items)?;
+        add_pieces::<M>(None, line.pieces, line.ending, &mut items)?;
     }
     for line in lines {
-        add_line(edition, common, line, &mut items)?;
+        add_line::<M>(edition, common, line, &mut items)?;
     }
     Ok(items)
 }
