@@ -54,32 +54,32 @@ module _ (t : List ℕ) (i : ℕ) where
   gives_same : {A : Type 0} {a b : A} {i j : ℕ} → gives a i (Read b j) → b ≡ a
   gives_same given = refl
 
-  no_named : {e : InlineTree Span} (a : InlineTree Span) {k j : ℕ} → is_name a ≡ false → gives a k (Read e j) → Named e
-  no_named a none h is = absurd (true≢false (sym is ∙ ap is_name (gives_same h) ∙ none))
+  no_named : (e a : InlineTree Span) {k j : ℕ} → is_name a ≡ false → gives a k (Read e j) → Named e
+  no_named e a none h is = absurd (true≢false (sym is ∙ ap is_name (gives_same h) ∙ none))
 
   is_of : (id : Span) (a : Option Span) → is_name (message_reference id a) ≡ true →
       argument_name (message_reference id a) ≡ Some id
   is_of id None is = refl
   is_of id (Some a) is = absurd (true≢false (sym is))
 
-  by_reference : (id : Span) (m : ℕ) → identifier t i (Read id m) → (a : MaybeArguments Span) {e : InlineTree Span}
-      {k j : ℕ} → named_reference t id a k (Read e j) → Named e
-  by_reference id m read (some_arguments a) (first test h) is = no_named (function_reference id a) refl h is
-  by_reference id m read (some_arguments a) (second test h) is = elim h [ ]
-  by_reference id m read no_arguments (goes_on {a = a} x h) is =
+  by_reference : (id : Span) (m : ℕ) → identifier t i (Read id m) → (a : MaybeArguments Span)
+      (e : InlineTree Span) (k j : ℕ) → named_reference t id a k (Read e j) → Named e
+  by_reference id m read (some_arguments a) e k j (first test h) is = no_named e (function_reference id a) refl h is
+  by_reference id m read (some_arguments a) e k j (second test h) is = elim h [ ]
+  by_reference id m read no_arguments e k j (goes_on {a = a} x h) is =
       (id, m, read, ap argument_name (gives_same h)
       ∙ is_of id a (ap is_name (sym (gives_same h)) ∙ is))
 
   module _ (R : Family) where
     by_start : (s : Start) (e : InlineTree Span) (j : ℕ) → inline_of t R s i (Read e j) → Named e
-    by_start quote e j (goes_on {a = v} x h) is = no_named (string_literal v) refl h is
-    by_start digit e j (goes_on {a = v} x h) is = no_named (number_literal v) refl h is
-    by_start minus e j (goes_on {a = v} x h) is = no_named (number_literal v) refl h is
+    by_start quote e j (goes_on {a = v} x h) is = no_named e (string_literal v) refl h is
+    by_start digit e j (goes_on {a = v} x h) is = no_named e (number_literal v) refl h is
+    by_start minus e j (goes_on {a = v} x h) is = no_named e (number_literal v) refl h is
     by_start term e j (goes_on x (goes_on {a = id} y (goes_on {a = a} z (goes_on {a = c} w h)))) is =
-        no_named (term_reference id a c) refl h is
-    by_start dollar e j (goes_on x (goes_on {a = id} y h)) is = no_named (variable_reference id) refl h is
-    by_start letter e j (goes_on {j = m} {a = id} x (goes_on {a = a} y h)) is = by_reference id m x a h is
-    by_start brace e j (goes_on {a = v} x h) is = no_named (inline_placeable v) refl h is
+        no_named e (term_reference id a c) refl h is
+    by_start dollar e j (goes_on x (goes_on {a = id} y h)) is = no_named e (variable_reference id) refl h is
+    by_start letter e j (goes_on {j = m} {a = id} x (goes_on {a = a} y h)) is = by_reference id m x a e _ j h is
+    by_start brace e j (goes_on {a = v} x h) is = no_named e (inline_placeable v) refl h is
     by_start other e j h is = elim h [ ]
 
     pub name_read : (e : InlineTree Span) (j : ℕ) → inline_expression t R i (Read e j) → Named e

@@ -4,7 +4,7 @@ use Rattle.std.proofs.lemmas.List.{map-append}
 use Rattle.fluent_syntax_parser.specs.Layouts.{stays, cut_before, cut}
 use Rattle.fluent_syntax_parser.specs.Layouts as layouts
 use Rattle.fluent_syntax_parser.specs.Elements.{item_view}
-use Rattle.fluent_syntax_parser.specs.declared.layouts.Item X.{Item}
+use Rattle.fluent_syntax_parser.specs.declared.elements.Item.{Item}
 
 module _ {S X : Type 0} (v : S → X) (t : List ℕ) where
   before_some : (y x : layouts.Item X) (xs : List (layouts.Item X)) →

@@ -64,7 +64,7 @@ module _ {S X : Type 0} (v : S → X) where
   fault_of_placeable e = rw (view-InlinePlaceable v e) refl
 
   -- what an expression of a form answers
-  by_view : {A : Type 0} (f : InlineTree S → A) (a : A) (z : InlineExpression-F S _ _ _ _ _ _ _) →
+  by_view : {A : Type 0} (f : InlineTree X → A) (a : A) (z : InlineExpression-F S _ _ _ _ _ _ _) →
       f (inline_step v (map-InlineExpression S _ _ _ _ _ _ _ _ _ _ _ _ _ _ (expression_view v)
       (inline_view v) (element_view v) (arguments_view v) (named_view v)
       (pattern_view v) (variant_view v) z)) ≡ a →

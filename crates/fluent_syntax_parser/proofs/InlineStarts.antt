@@ -1,6 +1,6 @@
 -- An inline expression, by what stands at its start.
 use Rattle.std.proofs.Common.{◌≡◌, ℕ, ◌+◌, List, subst, refl, inl as left, inr}
-use Rattle.std.specs.Prelude.{◌⊎◌, ◌×◌, Result, Ok, Err}
+use Rattle.std.specs.Prelude.{◌⊎◌, Result, Ok, Err}
 use Rattle.fluent_syntax_tree.specs.Kind.{ExpectedLiteral}
 use Rattle.fluent_syntax_tree.specs.Tree.{InlineTree, MaybeArguments, number_literal}
 use Rattle.fluent_syntax_tree.specs.declared.spans.Span.{Span}
@@ -76,12 +76,12 @@ module _ (t : List ℕ) (R : Family) (i : ℕ) where
       (refused_value s a b c))
 
 -- a name with its arguments, by the reference that these are
-pub referred : {B X : Type 0} (t : List ℕ) (R : Family) (i : ℕ) {f : InlineTree Span → B} {view : X → B} {name : Span}
+pub referred : {B X : Type 0} (t : List ℕ) (R : Family) (i : ℕ) (f : InlineTree Span → B) (view : X → B) {name : Span}
     {a : MaybeArguments Span} {m j : ℕ} (r : Result (X × ℕ) ReadFault) →
     Makes t f (named_reference t name a) view j r → letter ≡ start t i → identifier t i (Read name m) →
     call_arguments t R m (Read a j) → IsFunctionalFamily R → Makes t f (inline_expression t R) view i r
-referred t R i (Ok x) h s n c g =
+referred t R i f view (Ok x) h s n c g =
     on_made h (λ e read same. made (by_start t R i letter _ s (goes_on n (goes_on c read))) same)
-referred t R i (Err e) h s n c g =
+referred t R i f view (Err e) h s n c g =
     fails_seen (inline_of t R) letter s
     (fails_next (functional_identifier t) n (fails_next (functional_call t R g) c h))

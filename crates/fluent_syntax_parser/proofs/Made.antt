@@ -24,15 +24,15 @@ abbrev or : {B : Type 0} → B → Option B → B
 or b None = b
 or b (Some c) = c
 
-pub no_value_read : {A B : Type 0} {g : A → B} {c : Construct (Option A)} {i j : ℕ} (o : Option A) →
+pub no_value_read : {A B : Type 0} (g : A → B) (c : Construct (Option A)) {i j : ℕ} (o : Option A) →
     c i (Read o j) → None ≡ option_map g o → c i (Read None j)
-no_value_read None h e = h
-no_value_read (Some a) h e = cc
+no_value_read g c None h e = h
+no_value_read g c (Some a) h e = cc
 
-pub on_value : {A B G : Type 0} {g : A → B} {c : Construct (Option A)} {i j : ℕ} {b : B} (o : Option A) →
+pub on_value : {A B G : Type 0} (g : A → B) (c : Construct (Option A)) {i j : ℕ} {b : B} (o : Option A) →
     c i (Read o j) → Some b ≡ option_map g o → ((a : A) → c i (Read (Some a) j) → b ≡ g a → G) → G
-on_value None h e k = cc
-on_value {b = b} (Some a) h e k = k a h (ap (or b) e)
+on_value g c None h e k = cc
+on_value g c {b = b} (Some a) h e k = k a h (ap (or b) e)
 
 -- ---- what a test of an expression finds, it finds in any texts
 

@@ -63,14 +63,14 @@ module _ {X : Type 0} (f : Span → X) (t : List ℕ) where
       any_of f (grammar.spelled t (grammar.cut t (grammar.items edition y)))
       ∙ ap if_any (spelled_of (grammar.cut t (grammar.items edition y)))
 
-  module _ {S : Type 0} (v : S → X) (edition : Edition) (layout : Layout S) (common : Option ℕ) (all : List (Item S))
-      (indent : common ≡ least (flat_map (counted edition) (layout_view v layout).lines))
-      (made : map (item_view v) all ≡ items_with edition common (layout_view v layout))
-      (y : layout.Layout) (same : layout_view v layout ≡ layout_of f y) where
+  module _ {S : Type 0} (v : S → X) (edition : Edition) (laid : Layout S) (common : Option ℕ) (all : List (Item S))
+      (indent : common ≡ least (flat_map (counted edition) (layout_view v laid).lines))
+      (made : map (item_view v) all ≡ items_with edition common (layout_view v laid))
+      (y : layout.Layout) (same : layout_view v laid ≡ layout_of f y) where
     all_items : map (item_view v) all ≡ map (item_of f) (grammar.items edition y)
     all_items =
         made
-        ∙ ap (λ c. items_with edition c (layout_view v layout))
+        ∙ ap (λ c. items_with edition c (layout_view v laid))
         (indent ∙ ap (λ l. least (flat_map (counted edition) l.lines)) same ∙ common_of f edition y)
         ∙ ap (items_with edition (layout.common_indent edition y)) same
         ∙ items_of f edition y

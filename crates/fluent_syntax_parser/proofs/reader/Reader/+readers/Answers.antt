@@ -208,7 +208,7 @@ get_inline_expression-returns-in_ok-id-in-Dollar-clause-meets g m c =
 pub get_reference-returns-clause-meets : goal.get_reference-returns-clause-meets
 get_reference-returns-clause-meets g m c =
     on_made c.in_ok-arguments.ensures.meets (λ a read same.
-    referred c.args.self.now.source.bytes.now _ _ _ (c.get_named_reference.ensures.meets a same) c.requires.starts
+    referred c.args.self.now.source.bytes.now _ _ _ _ _ (c.get_named_reference.ensures.meets a same) c.requires.starts
     c.in_ok-end.ensures.meets read (functional_within c.args.self.now.edition c.args.self.now.source.bytes.now _))
 
 pub get_inline_expression-returns-in_ok-expression-in-Brace-2-clause-meets : goal.get_inline_expression-returns-in_ok-expression-in-Brace-2-clause-meets
@@ -439,7 +439,7 @@ get_argument_value-returns-in_default g m c = record {
 
 pub get_arguments-returns-then-place-self-clause-meets : goal.get_arguments-returns-then-place-self-clause-meets
 get_arguments-returns-then-place-self-clause-meets g m c =
-    item_fails c.loop-alloc.invariant.gathered.behind (refused (λ k from to (a, b, d). rw (a, b, d)
+    item_fails c.loop-noted.invariant.gathered.behind (refused (λ k from to (a, b, d). rw (a, b, d)
     (list_open c.args.self.now.source.bytes.now _ _ _ (omega (arith, c.if-place-self.true)))))
 
 pub get_arguments-returns-in_err-expression-clause-meets :
@@ -448,19 +448,19 @@ get_arguments-returns-in_err-expression-clause-meets g m c =
     let t = c.args.self.now.source.bytes.now in
     let p = err_from_is_err_and c.from_residual.result c.from_residual.ensures.1 in
     rw (p.1, p.2)
-    (item_fails c.loop-alloc.invariant.gathered.behind
-    (inline_fails t _ _ _ (omega (arith, c.if-place-self.false, c.loop-alloc.invariant.within))
-    (sym c.loop-alloc-test.ensures) c.in_err-expression.ensures.meets))
+    (item_fails c.loop-noted.invariant.gathered.behind
+    (inline_fails t _ _ _ (omega (arith, c.if-place-self.false, c.loop-noted.invariant.within))
+    (sym c.loop-noted-test.ensures) c.in_err-expression.ensures.meets))
 
 pub get_arguments-returns-then-has-clause-meets : goal.get_arguments-returns-then-has-clause-meets
 get_arguments-returns-then-has-clause-meets g m c =
     let t = c.args.self.now.source.bytes.now in
-    let names = c.loop-alloc.noted.names.items in
+    let names = c.loop-noted.noted.names.items in
     let used = used_in_order t (bytes_at t c.in-Some.name) names ∙ sym c.if-has.ensures in
     on_made c.in_ok-expression.ensures.meets (λ e read same.
-    item_fails c.loop-alloc.invariant.gathered.behind (refused (λ k from to (a, b, d). rw (a, b, d)
+    item_fails c.loop-noted.invariant.gathered.behind (refused (λ k from to (a, b, d). rw (a, b, d)
     (named t _ (names_in t names) _
-    (omega (arith, c.if-place-self.false, c.loop-alloc.invariant.within)) (sym c.loop-alloc-test.ensures) e _
+    (omega (arith, c.if-place-self.false, c.loop-noted.invariant.within)) (sym c.loop-noted-test.ensures) e _
     read c.in-Some.name (sym (c.in-Some.ensures c.args.nesting _ e read same)) (sym c.if-is_byte_at.ensures) _
     (first used (failed refl))))))
 
@@ -470,16 +470,16 @@ get_arguments-skip_blank-start-requires g m c = grind (arith, gets)
 pub get_arguments-returns-in_err-value-in-Some-clause-meets : goal.get_arguments-returns-in_err-value-in-Some-clause-meets
 get_arguments-returns-in_err-value-in-Some-clause-meets g m c =
     let t = c.args.self.now.source.bytes.now in
-    let names = c.loop-alloc.noted.names.items in
+    let names = c.loop-noted.noted.names.items in
     let new = used_in_order t (bytes_at t c.in-Some.name) names ∙ sym c.if-has.ensures in
     let mark = sym c.if-is_byte_at.ensures in
     let p = err_from_is_err_and c.from_residual-in_err-value-in-Some.result
     c.from_residual-in_err-value-in-Some.ensures.1 in
     rw (p.1, p.2)
     (on_made c.in_ok-expression.ensures.meets (λ e read same.
-    item_fails c.loop-alloc.invariant.gathered.behind
+    item_fails c.loop-noted.invariant.gathered.behind
     (named_fails t _ (names_in t names) _
-    (omega (arith, c.if-place-self.false, c.loop-alloc.invariant.within)) (sym c.loop-alloc-test.ensures) e _
+    (omega (arith, c.if-place-self.false, c.loop-noted.invariant.within)) (sym c.loop-noted-test.ensures) e _
     read (functional_within c.args.self.now.edition t _) c.in-Some.name
     (sym (c.in-Some.ensures c.args.nesting _ e read same)) mark
     (fails_no new
@@ -490,16 +490,16 @@ get_arguments-returns-in_err-value-in-Some-clause-meets g m c =
 pub get_arguments-returns-clause-meets : goal.get_arguments-returns-clause-meets
 get_arguments-returns-clause-meets g m c =
     let whole = view-roll-CallArguments g.M.MakeTexts.made (record {
-      positional = c.loop-alloc.positional;
-      named = c.loop-alloc.named;
+      positional = c.loop-noted.positional;
+      named = c.loop-noted.named;
     }) in
-    on_made (all_arguments c.args.self.now.source.bytes.now _ _ _ _ _ _ _ _ _ c.loop-alloc.invariant.gathered
-    (list_closed c.args.self.now.source.bytes.now _ _ _ (sym c.loop-alloc-test.ensures))) (λ a read same. made read (whole ∙ same))
+    on_made (all_arguments c.args.self.now.source.bytes.now _ _ _ _ _ _ _ _ _ c.loop-noted.invariant.gathered
+    (list_closed c.args.self.now.source.bytes.now _ _ _ (sym c.loop-noted-test.ensures))) (λ a read same. made read (whole ∙ same))
 
-pub get_arguments-loop-alloc-preserved-then-is_byte_at : goal.get_arguments-loop-alloc-preserved-then-is_byte_at
-get_arguments-loop-alloc-preserved-then-is_byte_at g m c =
+pub get_arguments-loop-noted-preserved-then-is_byte_at : goal.get_arguments-loop-noted-preserved-then-is_byte_at
+get_arguments-loop-noted-preserved-then-is_byte_at g m c =
     let t = c.args.self.now.source.bytes.now in
-    let old = c.loop-alloc in
+    let old = c.loop-noted in
 
     let new = used_in_order t (bytes_at t c.in-Some.name) old.noted.names.items ∙ sym c.if-has.ensures in
     let added : NamedArgument g.M.MakeTexts.Text = roll-NamedArgument g.M.MakeTexts.Text
@@ -519,7 +519,7 @@ get_arguments-loop-alloc-preserved-then-is_byte_at g m c =
       gathered =
           one_named t _ _ g.M.MakeTexts.made _ (functional_within c.args.self.now.edition t _) _ _ _ old.noted.names.items
           old.invariant.gathered (omega (arith, c.if-place-self.false, old.invariant.within))
-          (sym c.loop-alloc-test.ensures) e _ read added c.in-Some.name
+          (sym c.loop-noted-test.ensures) e _ read added c.in-Some.name
           (sym (c.in-Some.ensures c.args.nesting _ e read same)) (sym c.if-is_byte_at.ensures) new
           c.in_ok-name-in-Some.ensures _ c.in_ok-push-in-Some.ensures.items _ c.in_ok-note-in-Some.ensures.names _ _ _
           c.skip_blank-start.ensures.blank value read_value same_value c.skip_separator-place.ensures.meets;
@@ -529,7 +529,7 @@ get_arguments-loop-alloc-preserved-then-is_byte_at g m c =
 pub get_arguments-returns-then-not-is_empty-clause-meets : goal.get_arguments-returns-then-not-is_empty-clause-meets
 get_arguments-returns-then-not-is_empty-clause-meets g m c =
     let t = c.args.self.now.source.bytes.now in
-    let old = c.loop-alloc in
+    let old = c.loop-noted in
 
     let some = some_named old.noted.names.items c.if-not-is_empty.ensures in
     on_made c.in_ok-expression.ensures.meets (λ e read same.
@@ -540,15 +540,15 @@ get_arguments-returns-then-not-is_empty-clause-meets g m c =
     ] in
     item_fails old.invariant.gathered.behind (refused (λ k from to (a, b, d). rw (a, b, d)
     (positional t _ (names_in t old.noted.names.items) old.place
-    (omega (arith, c.if-place-self.false, old.invariant.within)) (sym c.loop-alloc-test.ensures) e _
+    (omega (arith, c.if-place-self.false, old.invariant.within)) (sym c.loop-noted-test.ensures) e _
     read is _
     (late t (within c.args.self.now.edition t c.args.nesting) (names_in t old.noted.names.items) e _
     (some_names t old.noted.names.items some))))))
 
-pub get_arguments-loop-alloc-preserved : goal.get_arguments-loop-alloc-preserved
-get_arguments-loop-alloc-preserved g m c =
+pub get_arguments-loop-noted-preserved : goal.get_arguments-loop-noted-preserved
+get_arguments-loop-noted-preserved g m c =
     let t = c.args.self.now.source.bytes.now in
-    let old = c.loop-alloc in
+    let old = c.loop-noted in
 
     let none = none_named old.noted.names.items c.if-not-is_empty.ensures in
     on_made c.in_ok-expression.ensures.meets (λ e read same.
@@ -569,7 +569,7 @@ get_arguments-loop-alloc-preserved g m c =
       gathered =
           one_positional t _ _ g.M.MakeTexts.made _ (functional_within c.args.self.now.edition t _) _ _ _ old.noted.names.items
           old.invariant.gathered (omega (arith, c.if-place-self.false, old.invariant.within))
-          (sym c.loop-alloc-test.ensures) e _ read is none c.in_ok-expression.expression same _
+          (sym c.loop-noted-test.ensures) e _ read is none c.in_ok-expression.expression same _
           c.in_ok-push-in_default.ensures.items _ c.skip_separator-place-in_default.ensures.meets;
       noted = old.invariant.noted;
     })
@@ -741,7 +741,7 @@ get_variants-returns-in_default-clause-meets g m c =
     (goes_on c.in_ok-key.ensures.meets
     (goes_on (passed c.skip_blank-next.ensures.blank)
     (goes_on c.in_ok-next.ensures.meets
-    (goes_on (no_value_read o read same)
+    (goes_on (no_value_read _ _ o read same)
     (failed refl)))))))))))))
 
 pub get_variants-loop-starred-preserved : goal.get_variants-loop-starred-preserved
@@ -752,7 +752,7 @@ get_variants-loop-starred-preserved g m c =
     let new : Variant g.M.MakeTexts.Text = record
     { key = c.in_ok-key-2.key; value = c.in-Some.value; default = c.take_byte_if-star.result.0 } in
     on_made found (λ o read same.
-    on_value o read same (λ value there same_value. record {
+    on_value _ _ o read same (λ value there same_value. record {
       forward =
           omega (
             arith,
@@ -984,3 +984,45 @@ pub get_arguments-returns-in_err-note-in-Some-clause-meets :
 get_arguments-returns-in_err-note-in-Some-clause-meets g m c =
     rw (out_of_memory c.from_residual-in_err-note-in-Some.result
     c.from_residual-in_err-note-in-Some.ensures.1) no_memory
+
+pub get_inline_expression-returns-in_err-value-in-Quote-2-clause-meets :
+    goal.get_inline_expression-returns-in_err-value-in-Quote-2-clause-meets
+get_inline_expression-returns-in_err-value-in-Quote-2-clause-meets g m c =
+    rw (out_of_memory c.from_residual-in_err-value-in-Quote-2.result
+    c.from_residual-in_err-value-in-Quote-2.ensures.1) no_memory
+
+pub get_inline_expression-returns-in_err-value-in-Digit-clause-meets :
+    goal.get_inline_expression-returns-in_err-value-in-Digit-clause-meets
+get_inline_expression-returns-in_err-value-in-Digit-clause-meets g m c =
+    rw (out_of_memory c.from_residual-in_err-value-in-Digit.result
+    c.from_residual-in_err-value-in-Digit.ensures.1) no_memory
+
+pub get_inline_expression-returns-in_err-id-in-Dollar-clause-meets :
+    goal.get_inline_expression-returns-in_err-id-in-Dollar-clause-meets
+get_inline_expression-returns-in_err-id-in-Dollar-clause-meets g m c =
+    rw (out_of_memory c.from_residual-in_err-id-in-Dollar.result
+    c.from_residual-in_err-id-in-Dollar.ensures.1) no_memory
+
+pub get_term_reference-returns-in_err-id-clause-meets :
+    goal.get_term_reference-returns-in_err-id-clause-meets
+get_term_reference-returns-in_err-id-clause-meets g m c =
+    rw (out_of_memory c.from_residual-in_err-id.result
+    c.from_residual-in_err-id.ensures.1) no_memory
+
+pub get_term_reference-returns-in_err-attribute-2-clause-meets :
+    goal.get_term_reference-returns-in_err-attribute-2-clause-meets
+get_term_reference-returns-in_err-attribute-2-clause-meets g m c =
+    rw (out_of_memory c.from_residual-in_err-attribute-2.result
+    c.from_residual-in_err-attribute-2.ensures.1) no_memory
+
+pub get_arguments-returns-in_err-name-in-Some-clause-meets :
+    goal.get_arguments-returns-in_err-name-in-Some-clause-meets
+get_arguments-returns-in_err-name-in-Some-clause-meets g m c =
+    rw (out_of_memory c.from_residual-in_err-name-in-Some.result
+    c.from_residual-in_err-name-in-Some.ensures.1) no_memory
+
+pub get_variants-returns-in_err-key-2-clause-meets :
+    goal.get_variants-returns-in_err-key-2-clause-meets
+get_variants-returns-in_err-key-2-clause-meets g m c =
+    rw (out_of_memory c.from_residual-in_err-key-2.result
+    c.from_residual-in_err-key-2.ensures.1) no_memory

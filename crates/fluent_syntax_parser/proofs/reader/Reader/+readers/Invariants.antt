@@ -57,8 +57,8 @@ decreases-get_expression g l = 10 * l.nesting + 7
 
 -- ---- loops
 
-abbrev pub invariant-get_arguments-loop-alloc : goal.invariant-get_arguments-loop-alloc
-invariant-get_arguments-loop-alloc g l =
+abbrev pub invariant-get_arguments-loop-noted : goal.invariant-get_arguments-loop-noted
+invariant-get_arguments-loop-noted g l =
     let t = l.self.source.bytes.now in
     record {
       forward : l.ptr ≤ l.place;
@@ -69,8 +69,8 @@ invariant-get_arguments-loop-alloc g l =
       noted : Notes (λ k. k.now) l.noted.table.keys (names_in_order t l.noted.names.items);
     }
 
-abbrev pub decreases-get_arguments-loop-alloc : goal.decreases-get_arguments-loop-alloc
-decreases-get_arguments-loop-alloc g l = length l.self.source.bytes.now - l.place
+abbrev pub decreases-get_arguments-loop-noted : goal.decreases-get_arguments-loop-noted
+decreases-get_arguments-loop-noted g l = length l.self.source.bytes.now - l.place
 
 abbrev pub invariant-get_variants-loop-starred : goal.invariant-get_variants-loop-starred
 invariant-get_variants-loop-starred g l =

@@ -1,10 +1,12 @@
 use Rattle.std.proofs.Common.{◌∙◌, ap, refl, sym}
 use Rattle.std.proofs.lemmas.Result.{err_from_is_err_and}
+use Rattle.fluent_syntax_tree.specs.Tree.{function_reference}
 use Rattle.fluent_syntax_tree.proofs.Views.{view-FunctionReference, view-MessageReference}
 use Rattle.fluent_syntax_grammar.specs.Construct.{stops, goes_on, given, failed, first, second}
 use Rattle.fluent_syntax_parser.specs.Gathered.{maybe_view}
 use Rattle.fluent_syntax_parser.specs.Made.{made}
 use Rattle.fluent_syntax_parser.specs.Meets.{no_memory, refused}
+use Rattle.fluent_syntax_parser.specs.declared.fault.Fault.TheVariants as fault
 use Rattle.fluent_syntax_parser.proofs.Fails.{out_of_memory}
 use Rattle.fluent_syntax_parser.proofs.Given.{none_given, some_given}
 use Rattle.fluent_syntax_parser.proofs.reader.Reader.get_named_reference.Goals as goal
@@ -12,7 +14,7 @@ use Rattle.fluent_syntax_parser.proofs.reader.Reader.get_named_reference.Goals a
 pub returns-then-not-is_callee-clause-meets : goal.returns-then-not-is_callee-clause-meets
 returns-then-not-is_callee-clause-meets g c = λ a same.
     let found = some_given _ a (ap (maybe_view g.M.MakeTexts.made) (sym c.in-Some.is) ∙ same) in
-    rw found.1 (refused (λ k from to (a, b, d). rw (a, b, d)
+    rw found.1 (refused {r = record { fault = fault.Callee; place = c.args.ptr }} (λ k from to (a, b, d). rw (a, b, d)
     (second (sym c.if-not-is_callee.ensures) (failed refl))))
 
 pub returns-in_err-id-in-Some-clause-meets : goal.returns-in_err-id-in-Some-clause-meets
@@ -25,7 +27,7 @@ returns-in_ok-id-in-Some-clause-meets g c = λ a same.
     rw found.1 (made
     (first (sym c.if-not-is_callee.ensures) given)
     (view-FunctionReference g.M.MakeTexts.made c.in_ok-id-in-Some.id c.in-Some.arguments
-    ∙ rw (c.in_ok-id-in-Some.ensures, found.2) refl))
+    ∙ ap (λ x. function_reference x _) c.in_ok-id-in-Some.ensures ∙ ap (function_reference _) found.2))
 
 pub returns-in_err-attribute-in-None-clause-meets : goal.returns-in_err-attribute-in-None-clause-meets
 returns-in_err-attribute-in-None-clause-meets g c = λ a same.
