@@ -34,6 +34,7 @@ pub mod Runs
 pub mod SameTrees
 pub mod Scans
 pub mod Selects
+pub mod Shapes
 pub mod ShortExamples
 pub mod ShortGrammar
 pub mod ShortLines

@@ -1,7 +1,8 @@
 -- The elements that are made of a layout.
 use Rattle.std.proofs.Common.{◌≡◌, ℕ, List, [], ◌∷◌, ◌++◌, map, Option, Some, None, option_map, refl, sym, ap, ◌∙◌}
 use Rattle.std.specs.List.{flat_map}
-use Rattle.fluent_syntax_tree.specs.Tree.{ElementTree, text_element, placeable, elements_of, element_map, pattern_map}
+use Rattle.fluent_syntax_tree.specs.Tree.{ElementTree, ExpressionTree, text_element, placeable, elements_of}
+use Rattle.fluent_syntax_tree.specs.Tree.{element_map, pattern_map}
 use Rattle.fluent_syntax_tree.specs.View.{element_view, pattern_view}
 use Rattle.fluent_syntax_tree.proofs.Views.{view-Pattern}
 use Rattle.fluent_syntax_tree.specs.declared.ast.Pattern.{Pattern}
@@ -29,7 +30,7 @@ no_item_of f (x ∷ xs) e = cc
 
 module _ {X : Type 0} (f : Span → X) (t : List ℕ) where
   -- the elements of the items
-  abbrev spelled : List (layouts.Item X) → List (ElementTree X)
+  abbrev spelled : List (layouts.Item (ExpressionTree X)) → List (ElementTree X)
   spelled [] = []
   spelled (text from to ∷ []) = text_element (f (record { start = from; end = trimmed_end t from to })) ∷ []
   spelled (text from to ∷ x ∷ xs) = text_element (f (record { start = from; end = to })) ∷ spelled (x ∷ xs)
@@ -45,7 +46,7 @@ module _ {X : Type 0} (f : Span → X) (t : List ℕ) where
       ap (λ zs. text_element (f (record { start = from; end = to })) ∷ zs) (spelled_of (grammar.filled e ∷ xs))
   spelled_of (grammar.filled e ∷ xs) = ap (λ zs. element_map f (placeable e) ∷ zs) (spelled_of xs)
 
-  spelled_end : (xs : List (layouts.Item X)) (x : layouts.Item X) →
+  spelled_end : (xs : List (layouts.Item (ExpressionTree X))) (x : layouts.Item (ExpressionTree X)) →
       spelled (xs ++ x ∷ []) ≡ map (element_of f) xs ++ last_of f t x ∷ []
   spelled_end [] (text from to) = refl
   spelled_end [] (filled e) = refl

@@ -1,7 +1,8 @@
 -- What a layout spells, as a reader makes it.
 use Rattle.std.specs.Prelude.{◌≡◌, ℕ, ◌+◌, List, [], ◌∷◌, ◌++◌, map, Option, Some, None, option_map, min}
-use Rattle.fluent_syntax_tree.specs.Tree.{ElementTree, text_element, pattern_map, placeable}
+use Rattle.fluent_syntax_tree.specs.Tree.{ElementTree, ExpressionTree, text_element, pattern_map, placeable}
 use Rattle.fluent_syntax_tree.specs.View.{expression_view, pattern_view}
+use Rattle.fluent_syntax_tree.specs.declared.ast.Expression.{Expression}
 use Rattle.fluent_syntax_tree.specs.declared.ast.Pattern.{Pattern}
 use Rattle.fluent_syntax_tree.specs.declared.edition.Edition.{Edition}
 use Rattle.fluent_syntax_tree.specs.declared.spans.Span.{Span}
@@ -9,17 +10,17 @@ use Rattle.fluent_syntax_grammar.specs.Elements.{pattern_of, trimmed_end}
 use Rattle.fluent_syntax_grammar.specs.Layout as grammar
 use Rattle.fluent_syntax_parser.specs.Layouts as layouts
 use Rattle.fluent_syntax_parser.specs.Layouts.{cut}
-use Rattle.fluent_syntax_parser.specs.Lines.{line_view}
+use Rattle.fluent_syntax_parser.specs.Lines.{line_shape, line_view}
 use Rattle.fluent_syntax_parser.specs.declared.elements.Item.{Item}
 use Rattle.fluent_syntax_parser.specs.declared.elements.Item.TheVariants as item
 use Rattle.fluent_syntax_parser.specs.declared.elements.Layout.{Layout}
 
 module _ {S X : Type 0} (text : S → X) where
-  abbrev pub item_view : Item S → layouts.Item X
+  abbrev pub item_view : Item S → layouts.Item (ExpressionTree X)
   item_view (item.Text from to) = layouts.text from to
   item_view (item.Filled e) = layouts.filled (expression_view text e)
 
-  abbrev pub layout_view : Layout S → layouts.Layout X
+  abbrev pub layout_view : Layout S → layouts.Layout (ExpressionTree X)
   layout_view y = record { opening = option_map (line_view text) y.opening; lines = map (line_view text) y.lines.items }
 
   -- The items are cut to those that are left and a last one; or none is left.
@@ -27,14 +28,23 @@ module _ {S X : Type 0} (text : S → X) where
   CutsTo t all left None = cut t (map item_view all) ≡ []
   CutsTo t all left (Some last) = cut t (map item_view all) ≡ map item_view left ++ item_view last ∷ []
 
-module _ {X : Type 0} where
+-- with each placeable as it is
+module _ {S : Type 0} where
+  abbrev pub item_shape : Item S → layouts.Item (Expression S)
+  item_shape (item.Text from to) = layouts.text from to
+  item_shape (item.Filled e) = layouts.filled e
+
+  abbrev pub layout_shape : Layout S → layouts.Layout (Expression S)
+  layout_shape y = record { opening = option_map line_shape y.opening; lines = map line_shape y.lines.items }
+
+module _ {E : Type 0} where
   -- a run that waits for what follows it, and what follows
-  abbrev pub waiting : Option (ℕ × ℕ) → List (layouts.Piece X) → List (layouts.Piece X)
+  abbrev pub waiting : Option (ℕ × ℕ) → List (layouts.Piece E) → List (layouts.Piece E)
   waiting None ps = ps
   waiting (Some r) ps = layouts.run r.0 r.1 ∷ ps
 
   -- the pieces, of which a run that begins them begins at another place, if one is given
-  abbrev pub leading : Option ℕ → List (layouts.Piece X) → List (layouts.Piece X)
+  abbrev pub leading : Option ℕ → List (layouts.Piece E) → List (layouts.Piece E)
   leading None ps = ps
   leading (Some k) [] = []
   leading (Some k) (layouts.run from to ∷ ps) = layouts.run k to ∷ ps
@@ -52,12 +62,12 @@ listed (Some n) = n ∷ []
 
 module _ {X : Type 0} (f : Span → X) where
   -- the element that an item is which others follow
-  abbrev pub element_of : layouts.Item X → ElementTree X
+  abbrev pub element_of : layouts.Item (ExpressionTree X) → ElementTree X
   element_of (layouts.text from to) = text_element (f (record { start = from; end = to }))
   element_of (layouts.filled e) = placeable e
 
   -- the element that the last item is: a text is trimmed at its end
-  abbrev pub last_of : List ℕ → layouts.Item X → ElementTree X
+  abbrev pub last_of : List ℕ → layouts.Item (ExpressionTree X) → ElementTree X
   last_of t (layouts.text from to) = text_element (f (record { start = from; end = trimmed_end t from to }))
   last_of t (layouts.filled e) = placeable e
 

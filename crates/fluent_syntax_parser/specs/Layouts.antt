@@ -1,4 +1,4 @@
--- The layout of a pattern with a tree of any texts for each placeable, and the items that it spells.
+-- The layout of a pattern with anything for each placeable, and the items that it spells.
 use Rattle.std.specs.Prelude.{ℕ, ◌+◌, min, List, [], ◌∷◌, ◌++◌, map, Option, Some, None, option_map, Bool, true, ◌==◌}
 use Rattle.std.specs.Prelude.{nat_lt, if◌then◌else◌, slice_range}
 use Rattle.std.specs.List.{flat_map}
@@ -11,39 +11,39 @@ use Rattle.fluent_syntax_grammar.specs.Elements.{is_nonblank}
 use Rattle.fluent_syntax_grammar.specs.Layout as layout
 use Rattle.fluent_syntax_grammar.specs.Layout.{Ending, lf_at, crlf_at, text_end, least}
 
-pub data Piece (X : Type 0) : Type 0 where
-  run : (from to : ℕ) → Piece X
-  placed : ExpressionTree X → Piece X
+pub data Piece (E : Type 0) : Type 0 where
+  run : (from to : ℕ) → Piece E
+  placed : E → Piece E
 
-pub record Line (X : Type 0) : Type 0 where
+pub record Line (E : Type 0) : Type 0 where
   pub start : ℕ
   pub spaces : ℕ
-  pub pieces : List (Piece X)
+  pub pieces : List (Piece E)
   pub ending : Ending
 
-pub record Layout (X : Type 0) : Type 0 where
-  pub opening : Option (Line X)
-  pub lines : List (Line X)
+pub record Layout (E : Type 0) : Type 0 where
+  pub opening : Option (Line E)
+  pub lines : List (Line E)
 
-pub data Item (X : Type 0) : Type 0 where
-  text : (from to : ℕ) → Item X
-  filled : ExpressionTree X → Item X
+pub data Item (E : Type 0) : Type 0 where
+  text : (from to : ℕ) → Item E
+  filled : E → Item E
 
-module _ {X : Type 0} where
+module _ {E : Type 0} where
   -- ---- the common indent
 
-  abbrev pub counted_spaces : Edition → (spaces : ℕ) → List (Piece X) → List ℕ
+  abbrev pub counted_spaces : Edition → (spaces : ℕ) → List (Piece E) → List ℕ
   counted_spaces edition spaces [] = []
   counted_spaces edition spaces (run from to ∷ ps) = spaces ∷ []
   counted_spaces One spaces (placed e ∷ ps) = if spaces == 0 then 0 ∷ [] else []
   counted_spaces Two spaces (placed e ∷ ps) = spaces ∷ []
 
-  abbrev pub counted : Edition → Line X → List ℕ
+  abbrev pub counted : Edition → Line E → List ℕ
   counted edition l = counted_spaces edition l.spaces l.pieces
 
   -- ---- line by line
 
-  abbrev pub with_ending : List (Piece X) → Ending → List (Item X)
+  abbrev pub with_ending : List (Piece E) → Ending → List (Item E)
   with_ending [] (lf_at p) = text p (p + 1) ∷ []
   with_ending [] (crlf_at p) = text (p + 1) (p + 2) ∷ []
   with_ending [] text_end = []
@@ -53,15 +53,15 @@ module _ {X : Type 0} where
   with_ending (run from to ∷ p ∷ ps) ending = text from to ∷ with_ending (p ∷ ps) ending
   with_ending (placed e ∷ ps) ending = filled e ∷ with_ending ps ending
 
-  abbrev pub kept_from : Option ℕ → Line X → ℕ
+  abbrev pub kept_from : Option ℕ → Line E → ℕ
   kept_from None l = l.start + l.spaces
   kept_from (Some common) l = l.start + min l.spaces common
 
-  abbrev pub indented : Edition → (kept first : ℕ) → List (Item X)
+  abbrev pub indented : Edition → (kept first : ℕ) → List (Item E)
   indented One kept first = []
   indented Two kept first = if nat_lt kept first then text kept first ∷ [] else []
 
-  abbrev pub items_from : Edition → (kept first : ℕ) → List (Piece X) → Ending → List (Item X)
+  abbrev pub items_from : Edition → (kept first : ℕ) → List (Piece E) → Ending → List (Item E)
   items_from edition kept first [] (lf_at p) = text kept (p + 1) ∷ []
   items_from edition kept first [] (crlf_at p) = text (p + 1) (p + 2) ∷ []
   items_from edition kept first [] text_end = []
@@ -69,40 +69,40 @@ module _ {X : Type 0} where
   items_from edition kept first (placed e ∷ ps) ending =
       indented edition kept first ++ with_ending (placed e ∷ ps) ending
 
-  abbrev pub line_items : Edition → Option ℕ → Line X → List (Item X)
+  abbrev pub line_items : Edition → Option ℕ → Line E → List (Item E)
   line_items edition common l = items_from edition (kept_from common l) (l.start + l.spaces) l.pieces l.ending
 
-  abbrev pub opening_items : Option (Line X) → List (Item X)
+  abbrev pub opening_items : Option (Line E) → List (Item E)
   opening_items None = []
   opening_items (Some l) = with_ending l.pieces l.ending
 
   -- the items of all lines, joined, under a common indent
-  abbrev pub items_with : Edition → Option ℕ → Layout X → List (Item X)
+  abbrev pub items_with : Edition → Option ℕ → Layout E → List (Item E)
   items_with edition common y = opening_items y.opening ++ flat_map (line_items edition common) y.lines
 
   -- ---- the tail
 
   module _ (t : List ℕ) where
-    abbrev pub stays : Item X → Bool
+    abbrev pub stays : Item E → Bool
     stays (filled e) = true
     stays (text from to) = is_nonblank (slice_range t from to)
 
-    abbrev pub cut_before : Item X → List (Item X) → List (Item X)
+    abbrev pub cut_before : Item E → List (Item E) → List (Item E)
     cut_before x [] = if stays x then x ∷ [] else []
     cut_before x (y ∷ ys) = x ∷ y ∷ ys
 
-    abbrev pub cut : List (Item X) → List (Item X)
+    abbrev pub cut : List (Item E) → List (Item E)
     cut [] = []
     cut (x ∷ xs) = cut_before x (cut xs)
 
 -- ---- those of the grammar, with f of each text in its place
 
 module _ {X : Type 0} (f : Span → X) where
-  abbrev pub piece_of : layout.Piece → Piece X
+  abbrev pub piece_of : layout.Piece → Piece (ExpressionTree X)
   piece_of (layout.run from to) = run from to
   piece_of (layout.placed e) = placed (expression_map f e)
 
-  abbrev pub line_of : layout.Line → Line X
+  abbrev pub line_of : layout.Line → Line (ExpressionTree X)
   line_of l = record {
     start = l.start;
     spaces = l.spaces;
@@ -110,9 +110,26 @@ module _ {X : Type 0} (f : Span → X) where
     ending = l.ending;
   }
 
-  abbrev pub layout_of : layout.Layout → Layout X
+  abbrev pub layout_of : layout.Layout → Layout (ExpressionTree X)
   layout_of y = record { opening = option_map line_of y.opening; lines = map line_of y.lines }
 
-  abbrev pub item_of : grammar.Item → Item X
+  abbrev pub item_of : grammar.Item → Item (ExpressionTree X)
   item_of (grammar.text from to) = text from to
   item_of (grammar.filled e) = filled (expression_map f e)
+
+-- ---- with h of what stands for each placeable
+
+module _ {E F : Type 0} (h : E → F) where
+  abbrev pub piece_map : Piece E → Piece F
+  piece_map (run from to) = run from to
+  piece_map (placed e) = placed (h e)
+
+  abbrev pub line_map : Line E → Line F
+  line_map l = record { start = l.start; spaces = l.spaces; pieces = map piece_map l.pieces; ending = l.ending }
+
+  abbrev pub layout_map : Layout E → Layout F
+  layout_map y = record { opening = option_map line_map y.opening; lines = map line_map y.lines }
+
+  abbrev pub item_map : Item E → Item F
+  item_map (text from to) = text from to
+  item_map (filled e) = filled (h e)

@@ -1,12 +1,11 @@
 //! The items that the lines of a pattern spell.
 ghost use Rattle.std.specs.Prelude.{◌≡◌, ◌+◌, ◌<◌, ◌^◌, ◌++◌, [], map, IfOk, OnOk};
-ghost use Rattle.fluent_syntax_parser.specs.Elements.{item_view, kept_place, layout_view, leading, waiting};
+ghost use Rattle.fluent_syntax_parser.specs.Elements.{item_shape, kept_place, layout_shape, leading, waiting};
 ghost use Rattle.fluent_syntax_parser.specs.Layouts.{items_with, line_items, with_ending};
 ghost use Rattle.fluent_syntax_parser.specs.Endings.{EndsWithin};
-ghost use Rattle.fluent_syntax_parser.specs.Lines.{ending_view, line_view, piece_view};
+ghost use Rattle.fluent_syntax_parser.specs.Lines.{ending_view, line_shape, piece_shape};
 
 use crate::line::{Ending, Line, Piece};
-use crate::texts::MakeTexts;
 use fluent_syntax_tree::ast::Expression;
 use fluent_syntax_tree::edition::Edition;
 use std::alloc::{AllocError, Global};
@@ -26,14 +25,14 @@ pub(crate) struct Layout<T> {
 }
 
 /// Adds the last run of a line, where one waits, and the line's ending: an LF belongs to the text before it.
-fn add_ending<M: MakeTexts>(
+fn add_ending<T: Drop>(
     pending: Option<(usize, usize)>,
     ending: Ending,
-    items: &mut Vec<Item<M::Text>>,
+    items: &mut Vec<Item<T>>,
 ) -> Result<(), AllocError>
     requires { EndsWithin ending }
-    ensures { OnOk result (map (item_view M.made) items.new.items
-        ≡ map (item_view M.made) items.old.items ++ with_ending (waiting pending []) (ending_view ending)) }
+    ensures { OnOk result (map item_shape items.new.items
+        ≡ map item_shape items.old.items ++ with_ending (waiting pending []) (ending_view ending)) }
 {
     match (pending, ending) {
         (Some((from, _)), Ending::Lf(place)) => items.push(Item::Text {
@@ -62,16 +61,16 @@ fn add_ending<M: MakeTexts>(
 }
 
 /// Adds the pieces of a line and its ending. A run that begins the line begins at `led`, if that is given.
-fn add_pieces<M: MakeTexts>(
+fn add_pieces<T: Drop>(
     led: Option<usize>,
-    pieces: Vec<Piece<M::Text>>,
+    pieces: Vec<Piece<T>>,
     ending: Ending,
-    items: &mut Vec<Item<M::Text>>,
+    items: &mut Vec<Item<T>>,
 ) -> Result<(), AllocError>
     requires { EndsWithin ending }
-    ensures { let found = leading led (map (piece_view M.made) pieces.items) in
-        OnOk result (map (item_view M.made) items.new.items
-        ≡ map (item_view M.made) items.old.items ++ with_ending found (ending_view ending)) }
+    ensures { let found = leading led (map piece_shape pieces.items) in
+        OnOk result (map item_shape items.new.items
+        ≡ map item_shape items.old.items ++ with_ending found (ending_view ending)) }
 {
     let mut led = led;
     let mut pending = None;
@@ -88,7 +87,7 @@ fn add_pieces<M: MakeTexts>(
         };
         led = None;
     }
-    add_ending::<M>(pending, ending, items)
+    add_ending(pending, ending, items)
 }
 
 /// Where the leading spaces of a line beyond the common indent begin.
@@ -103,16 +102,16 @@ fn kept_from(common: Option<usize>, start: usize, spaces: usize) -> usize
 }
 
 /// Adds a line that is not the opening line.
-fn add_line<M: MakeTexts>(
+fn add_line<T: Drop>(
     edition: Edition,
     common: Option<usize>,
-    line: Line<M::Text>,
-    items: &mut Vec<Item<M::Text>>,
+    line: Line<T>,
+    items: &mut Vec<Item<T>>,
 ) -> Result<(), AllocError>
     requires spaces { line.start + line.spaces < 2 ^ 64 }
     requires ending { EndsWithin line.ending }
-    ensures { OnOk result (map (item_view M.made) items.new.items
-        ≡ map (item_view M.made) items.old.items ++ line_items edition common (line_view M.made line)) }
+    ensures { OnOk result (map item_shape items.new.items
+        ≡ map item_shape items.old.items ++ line_items edition common (line_shape line)) }
 {
     let Line {
         start,
@@ -139,25 +138,25 @@ fn add_line<M: MakeTexts>(
         }
         _ => {}
     }
-    add_pieces::<M>(Some(kept), pieces, ending, items)
+    add_pieces(Some(kept), pieces, ending, items)
 }
 
 /// The items of all lines, under a common indent.
-pub(crate) fn items_of<M: MakeTexts>(
+pub(crate) fn items_of<T: Drop>(
     alloc: Global,
     edition: Edition,
     common: Option<usize>,
-    layout: Layout<M::Text>,
-) -> Result<Vec<Item<M::Text>>, AllocError>
-    ensures { IfOk result (λ items. map (item_view M.made) items.items ≡ items_with edition common (layout_view M.made layout)) }
+    layout: Layout<T>,
+) -> Result<Vec<Item<T>>, AllocError>
+    ensures { IfOk result (λ items. map item_shape items.items ≡ items_with edition common (layout_shape layout)) }
 {
     let Layout { opening, lines } = layout;
     let mut items = Vec::new(alloc);
     if let Some(line) = opening {
-        add_pieces::<M>(None, line.pieces, line.ending, &mut items)?;
+        add_pieces(None, line.pieces, line.ending, &mut items)?;
     }
     for line in lines {
-        add_line::<M>(edition, common, line, &mut items)?;
+        add_line(edition, common, line, &mut items)?;
     }
     Ok(items)
 }

@@ -121,7 +121,7 @@ impl<'s, 't, M: MakeTexts> Reader<'s, 't, M> {
             IfOk result (MakesPattern (M.source self.now.texts.now) M.made self.now.edition t layout) }
     {
         let common = common_indent::<M>(self.edition, &layout.lines);
-        let mut items = items_of::<M>(self.alloc, self.edition, common, layout)?;
+        let mut items = items_of(self.alloc, self.edition, common, layout)?;
         match self.pop_last(&mut items) {
             None => Ok(None),
             Some(last) => {

@@ -2,15 +2,15 @@ use Rattle.std.proofs.Common.{◌≡◌, ◌++◌, map}
 use Rattle.std.specs.List.{flat_map}
 use Rattle.std.specs.Vec.Iter.{into_iter_items}
 use Rattle.fluent_syntax_parser.specs.Layouts.{items_with, line_items}
-use Rattle.fluent_syntax_parser.specs.Elements.{item_view, layout_view}
-use Rattle.fluent_syntax_parser.specs.Lines.{line_view}
+use Rattle.fluent_syntax_parser.specs.Elements.{item_shape, layout_shape}
+use Rattle.fluent_syntax_parser.specs.Lines.{line_shape}
 use Rattle.fluent_syntax_parser.proofs.elements.items_of.Given as goal
 
 -- what was added, and what is left to add, are together what is to be added
 abbrev pub invariant-loop-line : goal.invariant-loop-line
 invariant-loop-line g l = record {
   whole :
-      map (item_view g.M.MakeTexts.made) l.items.items
-      ++ flat_map (line_items l.edition l.common) (map (line_view g.M.MakeTexts.made) (into_iter_items l.line-iterator))
-      ≡ items_with l.edition l.common (layout_view g.M.MakeTexts.made l.fn.layout);
+      map item_shape l.items.items
+      ++ flat_map (line_items l.edition l.common) (map line_shape (into_iter_items l.line-iterator))
+      ≡ items_with l.edition l.common (layout_shape l.fn.layout);
 }

@@ -309,7 +309,7 @@ get_expression-returns-in-Some-clause-meets g m c =
     (goes_on (chosen given)
     (first (sym c.if-not-is_arrow.ensures)
     (no_selector c.args.self.now.edition c.args.self.now.source.bytes.now _ _ _ _
-    (sym (same_selector_fault _ e) ∙ ap selector_fault (sym same) ∙ is.0)))))))
+    (sym (same_selector_fault _ e) ∙ ap selector_fault (sym same) ∙ is.0))))))))
 
 pub get_expression-returns-in_err-ptr-in-None-clause-meets : goal.get_expression-returns-in_err-ptr-in-None-clause-meets
 get_expression-returns-in_err-ptr-in-None-clause-meets g m c =

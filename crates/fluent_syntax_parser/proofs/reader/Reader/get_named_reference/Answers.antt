@@ -1,6 +1,7 @@
 use Rattle.std.proofs.Common.{◌∙◌, ap, refl, sym}
 use Rattle.std.proofs.lemmas.Result.{err_from_is_err_and}
 use Rattle.fluent_syntax_tree.specs.Tree.{function_reference}
+use Rattle.fluent_syntax_tree.specs.View.{arguments_view}
 use Rattle.fluent_syntax_tree.proofs.Views.{view-FunctionReference, view-MessageReference}
 use Rattle.fluent_syntax_grammar.specs.Construct.{stops, goes_on, given, failed, first, second}
 use Rattle.fluent_syntax_parser.specs.Gathered.{maybe_view}
@@ -27,7 +28,8 @@ returns-in_ok-id-in-Some-clause-meets g c = λ a same.
     rw found.1 (made
     (first (sym c.if-not-is_callee.ensures) given)
     (view-FunctionReference g.M.MakeTexts.made c.in_ok-id-in-Some.id c.in-Some.arguments
-    ∙ ap (λ x. function_reference x _) c.in_ok-id-in-Some.ensures ∙ ap (function_reference _) found.2))
+    ∙ ap (λ x. function_reference x (arguments_view g.M.MakeTexts.made c.in-Some.arguments)) c.in_ok-id-in-Some.ensures
+    ∙ ap (function_reference (g.M.MakeTexts.source c.args.self.now.texts.now c.args.name)) found.2))
 
 pub returns-in_err-attribute-in-None-clause-meets : goal.returns-in_err-attribute-in-None-clause-meets
 returns-in_err-attribute-in-None-clause-meets g c = λ a same.

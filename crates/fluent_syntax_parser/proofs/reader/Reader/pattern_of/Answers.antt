@@ -6,6 +6,7 @@ use Rattle.fluent_syntax_grammar.specs.Layout.{least}
 use Rattle.fluent_syntax_parser.specs.Elements.{element_of, item_view, layout_view}
 use Rattle.fluent_syntax_parser.specs.Layouts.{counted}
 use Rattle.fluent_syntax_parser.specs.Lines.{line_view}
+use Rattle.fluent_syntax_parser.proofs.Shapes.{items_viewed}
 use Rattle.fluent_syntax_parser.proofs.Spelled.{none_spelled, some_spelled}
 use Rattle.fluent_syntax_parser.proofs.reader.Reader.pattern_of.Goals as goal
 
@@ -19,7 +20,9 @@ returns-in-None g c =
     ∙ ap (λ xs. least (flat_map (counted edition) (map (line_view v) xs))) c.deref.ensures.value in
     λ y same.
     none_spelled f c.args.self.now.source.bytes.now v edition c.args.layout c.common_indent-common.result
-    c.in_ok-items.items.items indent c.in_ok-items.ensures y same c.in-None.ensures
+    c.in_ok-items.items.items indent
+    (items_viewed v edition c.common_indent-common.result c.args.layout c.in_ok-items.items.items c.in_ok-items.ensures)
+    y same c.in-None.ensures
 
 pub returns-in_ok-push-in-Some : goal.returns-in_ok-push-in-Some
 returns-in_ok-push-in-Some g c =
@@ -39,5 +42,7 @@ returns-in_ok-push-in-Some g c =
     ∙ ap (λ x. made ++ x ∷ []) c.in_ok-element-in-Some.ensures in
     λ y same.
     some_spelled f c.args.self.now.source.bytes.now v edition c.args.layout c.common_indent-common.result
-    c.in_ok-items.items.items indent c.in_ok-items.ensures y same c.pop_last.new.items.items c.in-Some.last
+    c.in_ok-items.items.items indent
+    (items_viewed v edition c.common_indent-common.result c.args.layout c.in_ok-items.items.items c.in_ok-items.ensures)
+    y same c.pop_last.new.items.items c.in-Some.last
     (record { elements = c.push.new.self }) c.in-Some.ensures elements
