@@ -66,9 +66,13 @@ module _ (t : List ℕ) (i : ℕ) where
       (e : InlineTree Span) (k j : ℕ) → named_reference t id a k (Read e j) → Named e
   by_reference id m read (some_arguments a) e k j (first test h) is = no_named e (function_reference id a) refl h is
   by_reference id m read (some_arguments a) e k j (second test h) is = elim h [ ]
-  by_reference id m read no_arguments e k j (goes_on {a = a} x h) is =
-      (id, m, read, ap argument_name (gives_same h)
-      ∙ is_of id a (ap is_name (sym (gives_same h)) ∙ is))
+  by_reference id m read no_arguments e k j (goes_on {a = a} x h) is = (
+    id,
+    m,
+    read,
+    ap argument_name (gives_same h)
+        ∙ is_of id a (ap is_name (sym (gives_same h)) ∙ is),
+  )
 
   module _ (R : Family) where
     by_start : (s : Start) (e : InlineTree Span) (j : ℕ) → inline_of t R s i (Read e j) → Named e

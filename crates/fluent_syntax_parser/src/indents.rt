@@ -28,7 +28,10 @@ fn counted_spaces<M: MakeTexts>(edition: Edition, line: &Line<M::Text>) -> Optio
 }
 
 /// The least number of leading spaces of the lines that count.
-pub(crate) fn common_indent<M: MakeTexts>(edition: Edition, lines: &[Line<M::Text>]) -> Option<usize>
+pub(crate) fn common_indent<M: MakeTexts>(
+    edition: Edition,
+    lines: &[Line<M::Text>],
+) -> Option<usize>
     ensures { result ≡ least (flat_map (counted edition) (map (line_view M.made) lines.now)) }
 {
     let mut common = None;

@@ -152,11 +152,7 @@ impl<'s, 't, M: MakeTexts> Reader<'s, 't, M> {
 
     /// Reads the layout of a pattern, after the inline blank that opens it.
     #[cycle(readers)]
-    fn get_layout(
-        &self,
-        nesting: usize,
-        ptr: usize,
-    ) -> Result<(Layout<M::Text>, usize), ReadFault>
+    fn get_layout(&self, nesting: usize, ptr: usize) -> Result<(Layout<M::Text>, usize), ReadFault>
         requires { ptr ≤ length self.now.source.bytes.now }
         ensures meets { let t = self.now.source.bytes.now in
             Makes t (layout_of (M.source self.now.texts.now))

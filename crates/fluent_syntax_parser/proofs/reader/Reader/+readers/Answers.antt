@@ -500,7 +500,6 @@ pub get_arguments-loop-noted-preserved-then-is_byte_at : goal.get_arguments-loop
 get_arguments-loop-noted-preserved-then-is_byte_at g m c =
     let t = c.args.self.now.source.bytes.now in
     let old = c.loop-noted in
-
     let new = used_in_order t (bytes_at t c.in-Some.name) old.noted.names.items ∙ sym c.if-has.ensures in
     let added : NamedArgument g.M.MakeTexts.Text = roll-NamedArgument g.M.MakeTexts.Text
     (record { name = c.in_ok-name-in-Some.name; value = c.in_ok-value-in-Some.value }) in
@@ -530,7 +529,6 @@ pub get_arguments-returns-then-not-is_empty-clause-meets : goal.get_arguments-re
 get_arguments-returns-then-not-is_empty-clause-meets g m c =
     let t = c.args.self.now.source.bytes.now in
     let old = c.loop-noted in
-
     let some = some_named old.noted.names.items c.if-not-is_empty.ensures in
     on_made c.in_ok-expression.ensures.meets (λ e read same.
     let is : (argument_name e ≡ None) ⊎ (has_byte t colon c.in_ok-expression.next ≡ false) =
@@ -549,7 +547,6 @@ pub get_arguments-loop-noted-preserved : goal.get_arguments-loop-noted-preserved
 get_arguments-loop-noted-preserved g m c =
     let t = c.args.self.now.source.bytes.now in
     let old = c.loop-noted in
-
     let none = none_named old.noted.names.items c.if-not-is_empty.ensures in
     on_made c.in_ok-expression.ensures.meets (λ e read same.
     let is : (argument_name e ≡ None) ⊎ (has_byte t colon c.in_ok-expression.next ≡ false) =

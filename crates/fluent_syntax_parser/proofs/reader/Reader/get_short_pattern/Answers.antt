@@ -11,6 +11,10 @@ returns-clause-opens g c =
     in (
       text_pattern c.in-Some.value,
       c.in-Some.ensures.opens,
-      rw (view-Pattern g.M.MakeTexts.made (record { elements = c.push.new.self }), items,
-        view-TextElement g.M.MakeTexts.made text, c.in_ok-value.ensures) refl,
+      rw (
+        view-Pattern g.M.MakeTexts.made (record { elements = c.push.new.self }),
+        items,
+        view-TextElement g.M.MakeTexts.made text,
+        c.in_ok-value.ensures,
+      ) refl,
     )
