@@ -1,8 +1,8 @@
 -- Locality: what is read of a text depends on the bytes there, and an edit of one entry leaves the others as they are.
 use Rattle.std.specs.Prelude.{◌≡◌, ℕ, ◌+◌, ◌≤◌, List, [], ◌∷◌, ◌++◌, length, drop, take, map, Bool, true, false, ◌==◌}
 use Rattle.std.specs.Prelude.{◌&&◌}
-use Rattle.std.specs.Prelude.{not, replicate}
-use Rattle.fluent_syntax_tree.specs.Entry.{EntryTree, comment, entry_map}
+use Rattle.std.specs.Prelude.{not, replicate, None}
+use Rattle.fluent_syntax_tree.specs.Entry.{BodyTree, EntryTree, comment, entry_map, junk, message, term}
 use Rattle.fluent_syntax_tree.specs.Spans.{bytes_at}
 use Rattle.fluent_syntax_tree.specs.declared.spans.Span.{Span}
 use Rattle.fluent_syntax_tree.specs.declared.edition.Edition.{Edition}
@@ -146,6 +146,22 @@ Joins edition a r u =
     Tiling edition (a ++ u) (before ++ moved_tiles (length a) own)
     × (faults (before ++ moved_tiles (length a) own) ≡ faults before ++ map (moved_fault (length a)) (faults own))
 
+-- The same without comments, where no line is taken by a comment.
+abbrev pub RuntimePrefixLocal : Edition → (a r u : List ℕ) → Type 0
+RuntimePrefixLocal edition a r u =
+    (before : List Tile) → starts_line (a ++ r) (length a) ≡ true → ends_or_begins r ≡ true →
+    ends_or_begins u ≡ true → Settled (a ++ r) (length a) before →
+    Led (a ++ r) (RuntimeTileAt edition (a ++ r)) (length a) 0 before →
+    Led (a ++ u) (RuntimeTileAt edition (a ++ u)) (length a) 0 before
+
+abbrev pub RuntimeJoins : Edition → (a r u : List ℕ) → Type 0
+RuntimeJoins edition a r u =
+    (before own : List Tile) → starts_line (a ++ r) (length a) ≡ true → ends_or_begins r ≡ true →
+    ends_or_begins u ≡ true → Settled (a ++ r) (length a) before →
+    Led (a ++ r) (RuntimeTileAt edition (a ++ r)) (length a) 0 before → RuntimeTiling edition u own →
+    RuntimeTiling edition (a ++ u) (before ++ moved_tiles (length a) own)
+    × (faults (before ++ moved_tiles (length a) own) ≡ faults before ++ map (moved_fault (length a)) (faults own))
+
 -- where a tile of a tiling begins; one that was dropped has no place
 abbrev pub start_of : Tile → ℕ
 start_of (entry s e) = s.start
@@ -204,6 +220,34 @@ Replaces edition a r e blank c =
     Tiling edition (a ++ (entry_text e ++ (blank_lines blank ++ c)))
     (before ++ moved_tiles (length a) (new ++ moved_tiles (length (entry_text e) + blank) own))
     × (tree_of (a ++ (entry_text e ++ (blank_lines blank ++ c))) (moved_tiles (length a) new) ≡ e ∷ [])
+    × (faults (before ++ moved_tiles (length a) (new ++ moved_tiles (length (entry_text e) + blank) own))
+    ≡ faults before ++ map (moved_fault (length a)) (map (moved_fault (length (entry_text e) + blank)) (faults own)))
+
+-- the entry without its comment, if it is none itself
+abbrev pub bare_entry : EntryTree Text → BodyTree Text
+bare_entry (message m) = message (record m { comment = None }) ∷ []
+bare_entry (term m) = term (record m { comment = None }) ∷ []
+bare_entry (comment level content) = []
+bare_entry (junk s) = junk s ∷ []
+
+-- The same two without comments: what is read is the entry without its comment.
+abbrev pub RuntimeReadsFirst : Edition → EntryTree Text → (blank : ℕ) → (c : List ℕ) → Type 0
+RuntimeReadsFirst edition e blank c =
+    (own : List Tile) → is_canonical edition (e ∷ []) ≡ true → may_begin c ≡ true → RuntimeTiling edition c own →
+    (new : List Tile) ×
+    RuntimeTiling edition (entry_text e ++ (blank_lines blank ++ c))
+    (new ++ moved_tiles (length (entry_text e) + blank) own)
+    × (faults new ≡ []) × (tree_of (entry_text e ++ (blank_lines blank ++ c)) new ≡ bare_entry e)
+
+abbrev pub RuntimeReplaces : Edition → (a r : List ℕ) → EntryTree Text → (blank : ℕ) → (c : List ℕ) → Type 0
+RuntimeReplaces edition a r e blank c =
+    (before own : List Tile) → starts_line (a ++ r) (length a) ≡ true → ends_or_begins r ≡ true →
+    Settled (a ++ r) (length a) before → Led (a ++ r) (RuntimeTileAt edition (a ++ r)) (length a) 0 before →
+    is_canonical edition (e ∷ []) ≡ true → may_begin c ≡ true → RuntimeTiling edition c own →
+    (new : List Tile) ×
+    RuntimeTiling edition (a ++ (entry_text e ++ (blank_lines blank ++ c)))
+    (before ++ moved_tiles (length a) (new ++ moved_tiles (length (entry_text e) + blank) own))
+    × (tree_of (a ++ (entry_text e ++ (blank_lines blank ++ c))) (moved_tiles (length a) new) ≡ bare_entry e)
     × (faults (before ++ moved_tiles (length a) (new ++ moved_tiles (length (entry_text e) + blank) own))
     ≡ faults before ++ map (moved_fault (length a)) (map (moved_fault (length (entry_text e) + blank)) (faults own)))
 

@@ -27,7 +27,8 @@ use Rattle.fluent_syntax_grammar.proofs.SomeTiling.{some_runtime_tiling, some_ti
 use Rattle.fluent_syntax_grammar.proofs.locality.Moved.{Behind, behind, behind_place}
 use Rattle.fluent_syntax_grammar.proofs.locality.Tiles.{faults_there, runtime_tiled_there, tiled_there, tree_there}
 use Rattle.fluent_syntax_grammar.proofs.locality.Kept.{Head, Shared}
-use Rattle.fluent_syntax_grammar.proofs.locality.KeptEntries.{JunkBelow, ends_early, entry_head, head_byte, led_keep}
+use Rattle.fluent_syntax_grammar.proofs.locality.KeptEntries.{entry_head, head_byte}
+use Rattle.fluent_syntax_grammar.proofs.locality.KeptTiles.{JunkBelow, ends_early, led_keep}
 
 -- ---- suffixes
 

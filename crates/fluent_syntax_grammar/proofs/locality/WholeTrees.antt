@@ -171,7 +171,7 @@ apart_behind (x ∷ z ∷ xs) ys e = apart_behind (z ∷ xs) ys e
 -- ---- where the tiles behind others begin
 
 module _ (edition : Edition) (t : List ℕ) (p : ℕ) where
-  tile_start : (i j : ℕ) (x : Tile) → TileAt edition t i j x → start_of x ≡ i
+  pub tile_start : (i j : ℕ) (x : Tile) → TileAt edition t i j x → start_of x ≡ i
   tile_start i j x (reads r) = refl
   tile_start i j x (refuses r k) = refl
 
