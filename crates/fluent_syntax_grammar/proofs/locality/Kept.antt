@@ -381,7 +381,7 @@ module _ (p : ℕ) where
 
   -- each item begins at the places of a kind, its value is good where there is one, and added to a good list it makes
   -- a good one
-  module _ {A S B : Type 0} {M : Type 0} {f g : S → Construct (More A S)} {add : A → B → B} {none : B}
+  module _ {A S B : Type 0} {f g : S → Construct (More A S)} {add : A → B → B} {none : B}
       {Good : A → Type 0} {All : B → Type 0} (On : ℕ → Type 0)
       (k : (s : S) → KeepsOn p On (Unit {0}) (good_more Good) (f s) (g s)) (low : (i : ℕ) → i + 4 ≤ p → On i)
       (stays : (s : S) (i j : ℕ) (x : More A S) → On i → j ≤ p → f s i (Read x j) → On j)
@@ -417,7 +417,7 @@ module _ (p : ℕ) where
         let n = many_late r m from to x z in
         stops_later ((k s).keep tt i m _ (low i (omega arith)) (omega arith) y) (many_refuse r m from to x v z)
 
-    keeps_list : (s : S) → KeepsOn p On M All (many f add none s) (many g add none s)
+    keeps_list : {M : Type 0} (s : S) → KeepsOn p On M All (many f add none s) (many g add none s)
     keeps_list s = record {
       keep = λ h. many_keep s;
       good = λ h. many_good s;

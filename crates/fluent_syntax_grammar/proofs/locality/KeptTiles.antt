@@ -155,7 +155,7 @@ module _ (edition : Edition) (p : ℕ) (t u : List ℕ) (s : Shared p t u) where
 
   abbrev pub junk_tile : (start end from to : ℕ) → Kind → Tile
   junk_tile start end from to k =
-      let slice = record { start = start; end = end } in
+      let slice : Span = record { start = start; end = end } in
       refused (record { kind = k; pos = record { start = from; end = to }; slice = slice })
 
   pub first_settled : (start end from to : ℕ) (k : Kind) (more : List Tile) →
