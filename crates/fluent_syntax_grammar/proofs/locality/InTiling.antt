@@ -345,7 +345,7 @@ pub led_on : (edition : Edition) (t u : List ℕ) (before : List Tile) → Tilin
     Led (t ++ u) (TileAt edition (t ++ u)) (length t) 0 before
 led_on edition t u before a f s k h =
     prefix_local edition t [] u before (whole_starts t s) refl h (whole_settled t before f) k
-        (whole_led edition t before a)
+    (whole_led edition t before a)
 
 pub appended : (edition : Edition) (t : List ℕ) (e : EntryTree Text) (blank : ℕ) → Appended edition t e blank
 appended edition t e blank = λ before a f s k h.

@@ -362,7 +362,7 @@ module _ (edition : Edition) (p : ℕ) (t u : List ℕ) (s : Shared p t u) where
   start_same k l =
       let m : k - 1 < p = omega arith in
       both _ _ _ _ (ap (λ q. k == 0 || holds (λ b. b == 10) q) (s.byte (k - 1) m))
-          (ap (holds is_entry_byte) (s.byte k l))
+      (ap (holds is_entry_byte) (s.byte k l))
     where
       both : (a b c d : Bool) → a ≡ b → c ≡ d → (a && c) ≡ (b && d)
       both a b c d e f = rw (e, f) refl
