@@ -1,0 +1,9 @@
+pub mod Apart
+pub mod FoundRuns
+pub mod Sound
+pub mod CommentsBefore
+pub mod Standing
+pub mod Edited
+pub mod Results
+pub mod RunSteps
+pub mod Reading
