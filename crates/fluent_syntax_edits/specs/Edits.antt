@@ -17,13 +17,14 @@ use Rattle.fluent_syntax_edits.specs.declared.refusals.Stretch.{Stretch}
 
 -- ---- trees
 
--- The errors of the one text are those of the other, as far from its end.
+-- The errors before the place are the same in both texts, and the others are as far from the end.
 pub record SameErrors (t u : List ℕ) (tiles others : List Tile) : Type 0 where
+  pub before : List Fault
   pub own : List Fault
   pub from : ℕ
   pub to : ℕ
-  pub there : faults tiles ≡ map (moved_fault from) own
-  pub here : faults others ≡ map (moved_fault to) own
+  pub there : faults tiles ≡ before ++ map (moved_fault from) own
+  pub here : faults others ≡ before ++ map (moved_fault to) own
   pub by : from + length u ≡ to + length t
 
 -- The tree of the text has that many entries before what the old entries are, and the tree of the new text has the new
@@ -45,7 +46,7 @@ pub record TreeEdited (edition : Edition) (t : List ℕ) (index : ℕ) (u : List
 abbrev pub IsReplaced : Edition → List ℕ → (index : ℕ) → EntryTree Text → List ℕ → Type 0
 IsReplaced edition t index e u = (old : EntryTree Text) × TreeEdited edition t index u (old ∷ []) (e ∷ [])
 
--- Before the entry of that number there is the new one.
+-- Before the entry of that number, or behind the last one, there is the new one.
 abbrev pub IsInserted : Edition → List ℕ → (index : ℕ) → EntryTree Text → List ℕ → Type 0
 IsInserted edition t index e u = TreeEdited edition t index u [] (e ∷ [])
 
@@ -67,12 +68,12 @@ pub record ReplacesBytes (edition : Edition) (t : List ℕ) (index : ℕ) (e : E
   pub there : in_place_of t places index (entry_text e) ≡ Ok stretch
   pub bytes : u ≡ spliced t stretch (entry_text e) (kept_lines t stretch.end (entry_text e))
 
--- Before the entry there is the text of the new one.
+-- Before the entry, or at the end, there is the text of the new one.
 pub record InsertsBytes (edition : Edition) (t : List ℕ) (index : ℕ) (e : EntryTree Text) (u : List ℕ) : Type 0 where
   pub places : List Place
   pub stretch : Stretch
   pub outlines : Outlines edition t places
-  pub there : before_entry places index (entry_text e) ≡ Ok stretch
+  pub there : before_entry t places index (entry_text e) ≡ Ok stretch
   pub bytes : u ≡ spliced t stretch (entry_text e) 0
 
 -- The entry is away, and the blank lines behind it.
@@ -97,10 +98,10 @@ abbrev pub ReplaceRefused : Edition → List ℕ → (index : ℕ) → EntryTree
 ReplaceRefused edition t index e fault =
     Uncanonical edition e fault ⊎ RefusedBy edition t (λ places. in_place_of t places index (entry_text e)) fault
 
--- The new entry can't come before that one, for this reason.
+-- The new entry can't come there, for this reason.
 abbrev pub InsertRefused : Edition → List ℕ → (index : ℕ) → EntryTree Text → EditFault → Type 0
 InsertRefused edition t index e fault =
-    Uncanonical edition e fault ⊎ RefusedBy edition t (λ places. before_entry places index (entry_text e)) fault
+    Uncanonical edition e fault ⊎ RefusedBy edition t (λ places. before_entry t places index (entry_text e)) fault
 
 -- The entry can't be removed, for this reason.
 abbrev pub RemoveRefused : Edition → List ℕ → (index : ℕ) → EditFault → Type 0

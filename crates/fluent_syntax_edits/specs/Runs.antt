@@ -36,10 +36,10 @@ this_or zero run behind = Some run
 this_or (suc n) run behind = behind n
 
 -- The places of the n-th entry from 0 among these places, of which the first has the number `at`. A comment and what it
--- hangs on are one entry.
+-- hangs on are one entry. Behind the last entry there are no places, with the number behind all.
 abbrev pub run_from : (at n : ℕ) → List Place → Option Run
-run_from at n [] = None
-run_from at n (x ∷ []) = this_or n (record { first = at; end = at + 1 }) (λ _. None)
+run_from at n [] = this_or n (record { first = at; end = at }) (λ _. None)
+run_from at n (x ∷ []) = this_or n (record { first = at; end = at + 1 }) (λ m. run_from (at + 1) m [])
 run_from at n (x ∷ y ∷ places) =
     if hangs_on x y
     then this_or n (record { first = at; end = at + 2 }) (λ m. run_from (at + 2) m places)

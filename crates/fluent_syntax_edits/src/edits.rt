@@ -51,7 +51,7 @@ pub fn replace<'s, S: Slice<'s>>(
 }
 
 /// The source with the entry before the one of that number, counted from 0 as in the tree, and before the comment that
-/// hangs on that one.
+/// hangs on that one. With the number behind all it stands at the end of the source.
 pub fn insert<'s, S: Slice<'s>>(
     alloc: Global,
     source: &str,
@@ -69,7 +69,7 @@ pub fn insert<'s, S: Slice<'s>>(
 {
     let text = entry_text(alloc, edition, entry)?;
     let places = outline(alloc, source, edition)?;
-    let stretch = before_entry(&places, index, text.as_bytes())?;
+    let stretch = before_entry(source.as_bytes(), &places, index, text.as_bytes())?;
     Ok(spliced(alloc, source, stretch, text.as_str(), 0)?)
 }
 

@@ -8,15 +8,19 @@ use thiserror::Error;
 /// Why an edit was refused. Then there is no new text. A span is where in the source it is.
 #[derive(Clone, Copy, Debug, Drop, Eq, Error, PartialEq)]
 pub enum EditFault {
-    /// The text has no entry of that number.
+    /// The text has no entry of that number. (An entry may be inserted with the number behind all.)
     #[error("there is no such entry")]
     NoEntry,
     /// The new entry is not canonical: it would read back as another. The first rule that it breaks.
     #[error("the new entry would not read back: {0}")]
     NotCanonical(Rule),
-    /// Junk stands before the place, or is what has that number. What stands before junk can change with what follows
-    /// it. The first junk.
-    #[error("there is junk before the place")]
+    /// What has that number is junk.
+    #[error("it is junk")]
+    IsJunk(Span),
+    /// Junk before the place may change with what stands there, and this is the first such junk: it ends less than four
+    /// bytes before the place, or has a refused attribute in it. So in `a = b⏎␣␣.c = {⏎d = e⏎`, where another entry than
+    /// `d` may close the brace.
+    #[error("there is junk before the place that can change with what stands there")]
     JunkBefore(Span),
     /// What stands directly behind the place begins like no entry, so it could be read as a part of the entry before
     /// it.
@@ -26,9 +30,9 @@ pub enum EditFault {
     /// stand there.
     #[error("a comment stands directly before the place")]
     CommentBefore(Span),
-    /// There is no entry behind the one that is to be removed.
-    #[error("nothing stands behind the entry")]
-    NothingBehind,
+    /// The text ends in the middle of a line, which would go on with the entry behind it.
+    #[error("the text does not end with a line end")]
+    NoLineEnd,
     /// A growth was refused.
     #[error("no memory")]
     Memory,

@@ -1,10 +1,13 @@
 //! Where the entries and the junk of a text stand.
 ghost use Rattle.std.specs.Prelude.{◌≡◌};
-ghost use Rattle.fluent_syntax_edits.specs.Places.{kind_of, place_found};
+ghost use Rattle.fluent_syntax_edits.specs.Places.{ended, kind_of, place_found};
+ghost use Rattle.fluent_syntax_grammar.specs.Locality.{lacks_field};
 ghost use Rattle.fluent_syntax_parser.specs.Rest.{tree_of};
+ghost use Rattle.fluent_syntax_tree.specs.Kind.{kind_of as error_kind};
 
 use fluent_syntax_parser::tiles::FoundTile;
 use fluent_syntax_tree::ast::Entry;
+use fluent_syntax_tree::errors::{ErrorKind, ParserError};
 use fluent_syntax_tree::spans::Span;
 
 /// What stands at a place, as far as edits ask.
@@ -24,6 +27,8 @@ pub enum PlaceKind {
 pub struct Place {
     pub span: Span,
     pub kind: PlaceKind,
+    /// Of junk that is a message or a term without its field: where reading ended.
+    pub ended: Option<usize>,
 }
 
 /// What an entry is.
@@ -38,6 +43,26 @@ fn kind_of(entry: &Entry<Span>) -> PlaceKind
     }
 }
 
+/// Whether a message or a term lacks its field.
+fn lacks_field(kind: &ErrorKind) -> bool
+    ensures { result ≡ lacks_field (error_kind kind.now) }
+{
+    match kind {
+        ErrorKind::ExpectedMessageField { .. } | ErrorKind::ExpectedTermField { .. } => true,
+        _ => false,
+    }
+}
+
+/// Where reading ended, of a message or a term without its field.
+fn ended(error: &Option<ParserError>) -> Option<usize>
+    ensures { result ≡ ended error.now }
+{
+    match error {
+        Some(error) if lacks_field(&error.kind) => Some(error.pos.end),
+        _ => None,
+    }
+}
+
 /// Where what was found stands, and what it is.
 pub(crate) fn place_of(found: FoundTile) -> Place
     ensures { result ≡ place_found found }
@@ -45,5 +70,6 @@ pub(crate) fn place_of(found: FoundTile) -> Place
     Place {
         span: found.span,
         kind: kind_of(&found.entry),
+        ended: ended(&found.error),
     }
 }

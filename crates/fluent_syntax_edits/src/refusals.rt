@@ -1,18 +1,26 @@
 //! What has to hold where a text is to be changed.
-ghost use Rattle.std.specs.Prelude.{◌≡◌, ◌<◌, ◌≤◌, drop, length, slice_get, take, IfOk};
+ghost use Rattle.std.specs.Prelude.{◌≡◌, ◌≤◌, drop, length, slice_get, take, IfOk, Ok};
 ghost use Rattle.fluent_syntax_edits.specs.Refusals.{
   before_entry,
   comment_before,
+  ends_at_attribute,
+  entry_at,
+  first_loose,
   in_place_of,
-  first_junk,
   is_junk,
+  settled_run,
   sound_run,
+  sound_spot,
+  spot_at,
   start_of,
+  stays,
+  unless_junk,
   up_to_behind,
   up_to_entry,
   up_to_next,
 };
-ghost use Rattle.fluent_syntax_grammar.specs.Locality.{begins_comment, begins_entry, may_begin};
+ghost use Rattle.fluent_syntax_grammar.specs.Locality.{begins_attribute, begins_comment, begins_entry};
+ghost use Rattle.fluent_syntax_grammar.specs.Locality.{ends_line, may_begin};
 ghost use Rattle.fluent_syntax_grammar.specs.Tiling.{is_entry_byte};
 
 use crate::fault::EditFault;
@@ -75,56 +83,148 @@ fn is_junk(kind: PlaceKind) -> bool
     }
 }
 
-/// The first junk.
-fn first_junk(places: &[Place]) -> Option<Span>
-    ensures { result ≡ first_junk places.now }
-{
-    for place in places {
-        if is_junk(place.kind) {
-            return Some(place.span);
-        }
-    }
-    None
-}
-
-/// The places of the entry of that number, if neither it nor what stands before it is junk.
-fn sound_run(places: &[Place], index: usize) -> Result<Run, EditFault>
-    ensures run { result ≡ sound_run places.now index }
-    ensures within { IfOk result (λ run. (run.first < run.end) × (run.end ≤ length places.now)) }
-{
-    let Some(run) = run_of(places, index) else {
-        return Err(EditFault::NoEntry);
-    };
-    match first_junk(&places[..run.end]) {
-        Some(junk) => Err(EditFault::JunkBefore(junk)),
-        None => Ok(run),
-    }
-}
-
-/// Where the entry begins.
-fn start_of(places: &[Place], run: Run) -> usize
-    requires { run.first < length places.now }
-    ensures { result ≡ start_of places.now run }
-{
-    places[run.first].span.start
-}
-
-/// What stands behind the entry.
-fn next_place(places: &[Place], run: Run) -> Option<Place>
-    ensures { result ≡ slice_get places.now run.end }
-{
-    if run.end < places.len() {
-        Some(places[run.end])
-    } else {
-        None
-    }
-}
-
 /// The bytes from the place on.
 fn rest_of(source: &[u8], place: usize) -> &[u8]
     ensures { result.now ≡ drop place source.now }
 {
     &source[place.min(source.len())..]
+}
+
+/// Whether the bytes begin like an attribute: with spaces, perhaps none, and a `.`.
+fn begins_attribute(bytes: &[u8]) -> bool
+    ensures { result ≡ begins_attribute bytes.now }
+{
+    for byte in bytes {
+        if *byte != b' ' {
+            return *byte == b'.';
+        }
+    }
+    false
+}
+
+/// Whether an attribute stands where reading ended.
+fn ends_at_attribute(source: &[u8], ended: Option<usize>) -> bool
+    ensures { result ≡ ends_at_attribute source.now ended }
+{
+    match ended {
+        Some(end) => begins_attribute(rest_of(source, end)),
+        None => false,
+    }
+}
+
+/// Whether the junk stays as it is, whatever stands from the place on.
+fn stays(source: &[u8], place: usize, junk: Place) -> bool
+    ensures { result ≡ stays source.now place junk }
+{
+    junk.span.end.saturating_add(4) <= place
+        && !begins_attribute(rest_of(source, junk.span.start))
+        && !ends_at_attribute(source, junk.ended)
+}
+
+/// The first junk that may change with what stands from the place on.
+fn first_loose(source: &[u8], place: usize, places: &[Place]) -> Option<Span>
+    ensures { result ≡ first_loose source.now place places.now }
+{
+    for before in places {
+        if is_junk(before.kind) && !stays(source, place, *before) {
+            return Some(before.span);
+        }
+    }
+    None
+}
+
+/// What stands there among the places, if something does.
+fn place_at(places: &[Place], at: usize) -> Option<Place>
+    ensures { result ≡ slice_get places.now at }
+{
+    if at < places.len() {
+        Some(places[at])
+    } else {
+        None
+    }
+}
+
+/// Where the entry begins, or the text ends.
+fn start_of(source: &[u8], places: &[Place], run: Run) -> usize
+    ensures { result ≡ start_of source.now places.now run }
+{
+    match place_at(places, run.first) {
+        Some(place) => place.span.start,
+        None => source.len(),
+    }
+}
+
+/// The places, unless it is junk.
+fn unless_junk(run: Run, place: Place) -> Result<Run, EditFault>
+    ensures { result ≡ unless_junk run place }
+{
+    if is_junk(place.kind) {
+        Err(EditFault::IsJunk(place.span))
+    } else {
+        Ok(run)
+    }
+}
+
+/// The places of an entry that is no junk.
+fn entry_at(places: &[Place], run: Run) -> Result<Run, EditFault>
+    ensures { result ≡ entry_at run (slice_get places.now run.first) }
+{
+    match place_at(places, run.first) {
+        Some(place) => unless_junk(run, place),
+        None => Err(EditFault::NoEntry),
+    }
+}
+
+/// Whether a line starts at the end of the bytes.
+fn ends_line(bytes: &[u8]) -> bool
+    ensures { result ≡ ends_line bytes.now }
+{
+    bytes.is_empty() || bytes[bytes.len() - 1] == b'\n'
+}
+
+/// The places of an entry that is no junk, or the end of a text that ends with a line.
+fn spot_at(source: &[u8], places: &[Place], run: Run) -> Result<Run, EditFault>
+    ensures { result ≡ spot_at source.now run (slice_get places.now run.first) }
+{
+    match place_at(places, run.first) {
+        Some(place) => unless_junk(run, place),
+        None if ends_line(source) => Ok(run),
+        None => Err(EditFault::NoLineEnd),
+    }
+}
+
+/// The places, if all junk before them stays.
+fn settled_run(source: &[u8], places: &[Place], run: Run) -> Result<Run, EditFault>
+    requires { run.first ≤ length places.now }
+    ensures run { result ≡ settled_run source.now places.now (Ok run) }
+    ensures same { IfOk result (λ found. found ≡ run) }
+{
+    match first_loose(source, start_of(source, places, run), &places[..run.first]) {
+        Some(junk) => Err(EditFault::JunkBefore(junk)),
+        None => Ok(run),
+    }
+}
+
+/// The places of the entry of that number, if it is no junk, and all junk before it stays.
+fn sound_run(source: &[u8], places: &[Place], index: usize) -> Result<Run, EditFault>
+    ensures run { result ≡ sound_run source.now places.now index }
+    ensures within { IfOk result (λ run. run.first ≤ length places.now) }
+{
+    let Some(run) = run_of(places, index) else {
+        return Err(EditFault::NoEntry);
+    };
+    settled_run(source, places, entry_at(places, run)?)
+}
+
+/// The same, or the end of the text.
+fn sound_spot(source: &[u8], places: &[Place], index: usize) -> Result<Run, EditFault>
+    ensures run { result ≡ sound_spot source.now places.now index }
+    ensures within { IfOk result (λ run. run.first ≤ length places.now) }
+{
+    let Some(run) = run_of(places, index) else {
+        return Err(EditFault::NoEntry);
+    };
+    settled_run(source, places, spot_at(source, places, run)?)
 }
 
 /// The comment that ends at the place and would take what comes to stand there: as its next line, or as what it hangs
@@ -146,20 +246,21 @@ fn comment_before(before: &[Place], place: usize, coming: &[u8]) -> Option<Span>
 }
 
 /// The comment before the entry that would take what comes to stand in its place.
-fn comment_there(places: &[Place], run: Run, coming: &[u8]) -> Option<Span>
-    requires { run.first < length places.now }
-    ensures { result ≡ comment_before (take run.first places.now) (start_of places.now run) coming.now }
+fn comment_there(source: &[u8], places: &[Place], run: Run, coming: &[u8]) -> Option<Span>
+    requires { run.first ≤ length places.now }
+    ensures { let before = take run.first places.now in
+        result ≡ comment_before before (start_of source.now places.now run) coming.now }
 {
-    comment_before(&places[..run.first], start_of(places, run), coming)
+    comment_before(&places[..run.first], start_of(source, places, run), coming)
 }
 
 /// From where the entry begins up to what stands behind it, if an entry may begin there, or to the text's end.
 fn up_to_behind(source: &[u8], places: &[Place], run: Run) -> Result<Stretch, EditFault>
-    requires { run.first < length places.now }
-    ensures { result ≡ up_to_behind source.now (start_of places.now run) (slice_get places.now run.end) }
+    ensures { let start = start_of source.now places.now run in
+        result ≡ up_to_behind source.now start (slice_get places.now run.end) }
 {
-    let start = start_of(places, run);
-    match next_place(places, run) {
+    let start = start_of(source, places, run);
+    match place_at(places, run.end) {
         Some(next) => {
             let end = next.span.start;
             if may_begin(rest_of(source, end)) {
@@ -175,22 +276,23 @@ fn up_to_behind(source: &[u8], places: &[Place], run: Run) -> Result<Stretch, Ed
     }
 }
 
-/// From where the entry begins up to what stands behind it, if that begins like an entry.
+/// From where the entry begins up to what stands behind it, if that begins like an entry, or to the text's end.
 fn up_to_entry(source: &[u8], places: &[Place], run: Run) -> Result<Stretch, EditFault>
-    requires { run.first < length places.now }
-    ensures { let before = take run.first places.now in
-        result ≡ up_to_entry source.now (start_of places.now run) before (slice_get places.now run.end) }
+    requires { run.first ≤ length places.now }
+    ensures { let before = take run.first places.now in let start = start_of source.now places.now run in
+        result ≡ up_to_entry source.now start before (slice_get places.now run.end) }
 {
-    let start = start_of(places, run);
-    let Some(next) = next_place(places, run) else {
-        return Err(EditFault::NothingBehind);
+    let start = start_of(source, places, run);
+    let Some(next) = place_at(places, run.end) else {
+        let end = source.len();
+        return Ok(Stretch { start, end });
     };
     let end = next.span.start;
     let coming = rest_of(source, end);
     if !begins_entry(coming) {
         return Err(EditFault::JunkBehind(next.span));
     }
-    match comment_there(places, run, coming) {
+    match comment_there(source, places, run, coming) {
         Some(comment) => Err(EditFault::CommentBefore(comment)),
         None => Ok(Stretch { start, end }),
     }
@@ -205,26 +307,27 @@ pub(crate) fn in_place_of(
 ) -> Result<Stretch, EditFault>
     ensures { result ≡ in_place_of source.now places.now index text.now }
 {
-    let run = sound_run(places, index)?;
-    match comment_there(places, run, text) {
+    let run = sound_run(source, places, index)?;
+    match comment_there(source, places, run, text) {
         Some(comment) => Err(EditFault::CommentBefore(comment)),
         None => up_to_behind(source, places, run),
     }
 }
 
-/// The place before the entry of that number where the text of another can come.
+/// The place where the text of an entry can come: before the entry of that number, or behind the last one.
 pub(crate) fn before_entry(
+    source: &[u8],
     places: &[Place],
     index: usize,
     text: &[u8],
 ) -> Result<Stretch, EditFault>
-    ensures { result ≡ before_entry places.now index text.now }
+    ensures { result ≡ before_entry source.now places.now index text.now }
 {
-    let run = sound_run(places, index)?;
-    match comment_there(places, run, text) {
+    let run = sound_spot(source, places, index)?;
+    match comment_there(source, places, run, text) {
         Some(comment) => Err(EditFault::CommentBefore(comment)),
         None => {
-            let start = start_of(places, run);
+            let start = start_of(source, places, run);
             Ok(Stretch { start, end: start })
         }
     }
@@ -238,6 +341,6 @@ pub(crate) fn up_to_next(
 ) -> Result<Stretch, EditFault>
     ensures { result ≡ up_to_next source.now places.now index }
 {
-    let run = sound_run(places, index)?;
+    let run = sound_run(source, places, index)?;
     up_to_entry(source, places, run)
 }

@@ -32,10 +32,11 @@ fn entry_end(places: &[Place], first: usize) -> usize
     }
 }
 
-/// The places of the entry of that number, counted from 0; `None` where the text has no such entry.
+/// The places of the entry of that number, counted from 0. None and where the text ends, where the number is that behind
+/// all; `None` where it is a greater one.
 pub(crate) fn run_of(places: &[Place], index: usize) -> Option<Run>
     ensures run { result ≡ run_from 0 index places.now }
-    ensures within { IfSome result (λ run. (run.first < run.end) × (run.end ≤ length places.now)) }
+    ensures within { IfSome result (λ run. (run.first ≤ run.end) × (run.end ≤ length places.now)) }
 {
     let mut first = 0;
     let mut left = index;
@@ -47,5 +48,9 @@ pub(crate) fn run_of(places: &[Place], index: usize) -> Option<Run>
         left -= 1;
         first = end;
     }
-    None
+    if left == 0 {
+        Some(Run { first, end: first })
+    } else {
+        None
+    }
 }

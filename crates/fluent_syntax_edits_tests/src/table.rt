@@ -27,7 +27,7 @@ type Row = (
     Result<&'static str, EditFault>,
 );
 
-const ROWS: [Row; 24] = [
+const ROWS: [Row; 38] = [
     (
         "a message between two, and junk behind",
         "a = b\nc = d\ne = f\ng@\n",
@@ -77,16 +77,40 @@ const ROWS: [Row; 24] = [
         Err(EditFault::NoEntry),
     ),
     (
-        "not behind junk, which could go on in it",
-        "a = b\n  .c = {\n}\nd = e\n",
+        "behind junk that stays",
+        "g@\na = b\nc = d\n",
         Replace(2, "x = y"),
+        Ok("g@\na = b\nx = y\n"),
+    ),
+    (
+        "not right behind junk, which could go on in it",
+        "a = {\n# b\n",
+        Replace(1, "x = y"),
+        Err(EditFault::JunkBefore(Span { start: 0, end: 6 })),
+    ),
+    (
+        "not behind a refused attribute, which could go on",
+        "a = b\n  .c = {\n}\nd = e\nf = g\n",
+        Replace(3, "x = y"),
         Err(EditFault::JunkBefore(Span { start: 6, end: 17 })),
+    ),
+    (
+        "nor where it is of a message without a value",
+        "a =\n  .b = {\nc = d\ne = f\n",
+        Replace(2, "x = y"),
+        Err(EditFault::JunkBefore(Span { start: 0, end: 13 })),
+    ),
+    (
+        "behind a message without a value",
+        "a =\nc = d\ne = f\n",
+        Replace(2, "x = y"),
+        Ok("a =\nc = d\nx = y\n"),
     ),
     (
         "not junk",
         "a = b\nc\nd = e\n",
         Replace(1, "x = y"),
-        Err(EditFault::JunkBefore(Span { start: 6, end: 8 })),
+        Err(EditFault::IsJunk(Span { start: 6, end: 8 })),
     ),
     (
         "not before what would be read with it",
@@ -131,10 +155,41 @@ const ROWS: [Row; 24] = [
         Ok("a = b\r\n\r\nx = y\n    .z = w\n# c\r\nd = e\r\n"),
     ),
     (
-        "not behind the last",
+        "behind the last",
         "a = b\n",
         Insert(1, "x = y"),
+        Ok("a = b\nx = y\n"),
+    ),
+    ("into an empty text", "", Insert(0, "x = y"), Ok("x = y\n")),
+    (
+        "a comment at the end, behind junk that stays",
+        "g@\na = b\n\n",
+        Insert(2, "# x"),
+        Ok("g@\na = b\n\n# x\n\n"),
+    ),
+    (
+        "not behind what would be the last",
+        "a = b\n",
+        Insert(2, "x = y"),
         Err(EditFault::NoEntry),
+    ),
+    (
+        "not where the last line would go on",
+        "a = b",
+        Insert(1, "x = y"),
+        Err(EditFault::NoLineEnd),
+    ),
+    (
+        "not at an end where a comment would hang on it",
+        "a = b\n# c\n",
+        Insert(2, "x = y"),
+        Err(EditFault::CommentBefore(Span { start: 6, end: 10 })),
+    ),
+    (
+        "not before junk",
+        "a = b\nc\n",
+        Insert(1, "x = y"),
+        Err(EditFault::IsJunk(Span { start: 6, end: 8 })),
     ),
     (
         "not before what stands behind junk",
@@ -161,10 +216,34 @@ const ROWS: [Row; 24] = [
         Err(EditFault::JunkBehind(Span { start: 6, end: 9 })),
     ),
     (
-        "not the last",
+        "the last, with its blank lines",
         "a = b\nc = d\n\n",
         Remove(1),
-        Err(EditFault::NothingBehind),
+        Ok("a = b\n"),
+    ),
+    (
+        "the only one",
+        "# a\nb = c",
+        Remove(0),
+        Ok(""),
+    ),
+    (
+        "not what stands behind the last",
+        "a = b\n",
+        Remove(1),
+        Err(EditFault::NoEntry),
+    ),
+    (
+        "away behind junk that stays",
+        "g@\na = b\nc = d\n",
+        Remove(2),
+        Ok("g@\na = b\n"),
+    ),
+    (
+        "the last, behind a comment",
+        "# a\n## b\n",
+        Remove(1),
+        Ok("# a\n"),
     ),
     (
         "not where a comment would hang on what comes",
