@@ -11,7 +11,8 @@ use Rattle.fluent_syntax_grammar.specs.Tiling.{Tile, Tiled, TileAt, dropped, ent
 use Rattle.fluent_syntax_grammar.specs.Body.{alone, body, hangs, hung}
 use Rattle.fluent_syntax_grammar.specs.RoundTrip.{tree_of}
 use Rattle.fluent_syntax_grammar.specs.Written.{Text}
-use Rattle.fluent_syntax_grammar.specs.Locality.{Led, arrives, is_comment, onward, start_of}
+use Rattle.fluent_syntax_grammar.specs.Locality.{Led, arrives, is_comment, is_comment_tile, last_is_comment, onward}
+use Rattle.fluent_syntax_grammar.specs.Locality.{start_of}
 use Rattle.fluent_syntax_grammar.proofs.Facts.{differs}
 use Rattle.fluent_syntax_grammar.proofs.Functional.{single_block}
 use Rattle.fluent_syntax_grammar.proofs.OneTiling.{one_tile}
@@ -31,6 +32,12 @@ Apart (x ∷ z ∷ xs) ys = Apart (z ∷ xs) ys
 behind_first : (z : Tile) (xs ys : List Tile) → Apart (z ∷ xs) ys → Apart xs ys
 behind_first z [] ys h = tt
 behind_first z (x ∷ xs) ys h = h
+
+-- nothing behind them
+pub none_apart : (xs : List Tile) → Apart xs []
+none_apart [] = tt
+none_apart (x ∷ []) = tt
+none_apart (x ∷ z ∷ xs) = none_apart (z ∷ xs)
 
 -- one more in front
 pub apart_more : (x : Tile) (xs ys : List Tile) → (xs ≡ [] → AloneBefore x ys) → Apart xs ys → Apart (x ∷ xs) ys
@@ -63,15 +70,6 @@ abbrev ends_with_comment : {X : Type 0} → List (EntryTree X) → Bool
 ends_with_comment [] = false
 ends_with_comment (x ∷ []) = is_comment x
 ends_with_comment (x ∷ y ∷ xs) = ends_with_comment (y ∷ xs)
-
-abbrev is_comment_tile : Tile → Bool
-is_comment_tile (entry s e) = is_comment e
-is_comment_tile x = false
-
-abbrev last_is_comment : List Tile → Bool
-last_is_comment [] = false
-last_is_comment (x ∷ []) = is_comment_tile x
-last_is_comment (x ∷ y ∷ xs) = last_is_comment (y ∷ xs)
 
 behind_one : {X : Type 0} (x : EntryTree X) (xs : List (EntryTree X)) → ends_with_comment xs ≡ true →
     ends_with_comment (x ∷ xs) ≡ true

@@ -95,10 +95,11 @@ alone_counts dropped xs ys k = absurd k
 
 -- ---- the entry of that number
 
--- the tiles of one entry: one, or a comment and what it hangs on
-pub data OwnTiles : List Tile → Type 0 where
-  one : {x : Tile} → OwnTiles (x ∷ [])
-  two : {x y : Tile} → hangs_on (place_of x) (place_of y) ≡ true → OwnTiles (x ∷ y ∷ [])
+-- the tiles of one entry, before others: one, or a comment and what it hangs on; or none behind the last entry
+pub data OwnTiles : (own after : List Tile) → Type 0 where
+  at_end : OwnTiles [] []
+  one : {x : Tile} {after : List Tile} → OwnTiles (x ∷ []) after
+  two : {x y : Tile} {after : List Tile} → hangs_on (place_of x) (place_of y) ≡ true → OwnTiles (x ∷ y ∷ []) after
 
 -- the tiles stand behind those of n entries, and end before others
 pub record Found (tiles : List Tile) (at n : ℕ) (run : Run) : Type 0 where
@@ -111,7 +112,7 @@ pub record Found (tiles : List Tile) (at n : ℕ) (run : Run) : Type 0 where
   pub count : length (body before) ≡ n
   pub apart_before : Apart before (own ++ after)
   pub apart_own : Apart own after
-  pub owns : OwnTiles own
+  pub owns : OwnTiles own after
 
 abbrev Finds : List Tile → Type 0
 Finds tiles = (at n : ℕ) (run : Run) → AreKept tiles → run_from at n (map place_of tiles) ≡ Some run →
@@ -194,10 +195,48 @@ two_more x y ts at m run h f =
       owns = f.owns;
     }
 
-last_one : (x : Tile) (at n : ℕ) (run : Run) →
-    this_or n (record { first = at; end = at + 1 }) (λ _. None) ≡ Some run → Found (x ∷ []) at n run
-last_one x at zero run h = this_one x [] at run (cc) tt
-last_one x at (suc n) run h = cc
+last_counts : (x : Tile) → AreKept (x ∷ []) → length (body (x ∷ [])) ≡ 1
+last_counts (entry s e) k = refl
+last_counts (refused f) k = refl
+last_counts dropped k = absurd k
+
+-- nothing is left
+none_left : (at n : ℕ) (run : Run) → this_or n (record { first = at; end = at }) (λ _. None) ≡ Some run →
+    Found [] at n run
+none_left at zero run h =
+    let same : record { first = at; end = at } ≡ run = cc in
+    record {
+      before = [];
+      own = [];
+      after = [];
+      parts = refl;
+      first = subst (λ (r : Run). r.first ≡ at + 0) same (omega arith);
+      end = subst (λ (r : Run). r.end ≡ r.first + 0) same (omega arith);
+      count = refl;
+      apart_before = tt;
+      apart_own = tt;
+      owns = at_end;
+    }
+none_left at (suc n) run h = cc
+
+last_one : (x : Tile) (at n : ℕ) (run : Run) → AreKept (x ∷ []) →
+    this_or n (record { first = at; end = at + 1 }) (λ m. run_from (at + 1) m []) ≡ Some run → Found (x ∷ []) at n run
+last_one x at zero run k h = this_one x [] at run (cc) tt
+last_one x at (suc zero) run k h =
+    let same : record { first = at + 1; end = at + 1 } ≡ run = cc in
+    record {
+      before = x ∷ [];
+      own = [];
+      after = [];
+      parts = refl;
+      first = subst (λ (r : Run). r.first ≡ at + 1) same refl;
+      end = subst (λ (r : Run). r.end ≡ r.first + 0) same (omega arith);
+      count = last_counts x k;
+      apart_before = tt;
+      apart_own = tt;
+      owns = at_end;
+    }
+last_one x at (suc (suc n)) run k h = cc
 
 by_hanging : (x y : Tile) (ts : List Tile) (at n : ℕ) (run : Run) → hangs_on (place_of x) (place_of y) ≡ true →
     this_or n (record { first = at; end = at + 2 }) (λ m. run_from (at + 2) m (map place_of ts)) ≡ Some run →
@@ -224,7 +263,7 @@ by_test x y ts at n run false e k f g h =
     by_standing x y ts at n run k e (rw e at h) (λ m w. g (at + 1) m run (kept_behind x (y ∷ ts) k) w)
 
 pub found : (tiles : List Tile) → Finds tiles
-found [] = λ at n run k h. cc
-found (x ∷ []) = λ at n run k h. last_one x at n run h
+found [] = λ at n run k h. none_left at n run h
+found (x ∷ []) = λ at n run k h. last_one x at n run k h
 found (x ∷ y ∷ ts) = λ at n run k h.
     by_test x y ts at n run (hangs_on (place_of x) (place_of y)) refl k (found ts) (found (y ∷ ts)) h

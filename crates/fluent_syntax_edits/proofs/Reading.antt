@@ -1,5 +1,7 @@
 -- The places of what was read up to a place.
-use Rattle.std.proofs.Common.{◌≡◌, ℕ, List, [], ◌∷◌, ◌++◌, length, map, Option, refl, sym, ◌∙◌, ap, subst}
+use Rattle.std.proofs.Common.{◌≡◌, ℕ, List, [], ◌∷◌, ◌++◌, length, map, Option, Some, None, refl, sym}
+use Rattle.std.proofs.Common.{◌∙◌, ap, subst}
+use Rattle.std.specs.Prelude.{option_map}
 use Rattle.std.proofs.lemmas.List.{append_assoc, append-nil, map-append}
 use Rattle.fluent_syntax_tree.specs.Entry.{EntryTree, junk}
 use Rattle.fluent_syntax_tree.specs.declared.ast.Entry.{Entry}
@@ -7,11 +9,11 @@ use Rattle.fluent_syntax_tree.specs.declared.edition.Edition.{Edition}
 use Rattle.fluent_syntax_tree.specs.declared.errors.ParserError.{ParserError}
 use Rattle.fluent_syntax_tree.specs.declared.spans.Span.{Span}
 use Rattle.fluent_syntax_grammar.specs.Places.{BlankBlock}
-use Rattle.fluent_syntax_grammar.specs.Tiling.{Tile, Tiled, TileAt, done, entry, next, reads, refused, refuses}
-use Rattle.fluent_syntax_parser.specs.Rest.{tree_of}
+use Rattle.fluent_syntax_grammar.specs.Tiling.{Fault, Tile, Tiled, TileAt, done, entry, next, reads, refused, refuses}
+use Rattle.fluent_syntax_parser.specs.Rest.{faults_of, tree_of}
 use Rattle.fluent_syntax_parser.specs.Tiles.{Gives, TileTo}
 use Rattle.fluent_syntax_parser.specs.declared.tiles.FoundTile.{FoundTile}
-use Rattle.fluent_syntax_edits.specs.Places.{Outlines, kind_of, place_found, place_of}
+use Rattle.fluent_syntax_edits.specs.Places.{Outlines, ended, ended_at, kind_of, place_found, place_of}
 use Rattle.fluent_syntax_edits.specs.declared.places.Place.{Place}
 
 -- The places are those of tiles that lead up to the place i.
@@ -20,19 +22,39 @@ pub record ReadTo (edition : Edition) (t : List ℕ) (i : ℕ) (places : List Pl
   pub places_of : places ≡ map place_of tiles
   pub whole : (more : List Tile) → Tiled t (TileAt edition t) i more → Tiled t (TileAt edition t) 0 (tiles ++ more)
 
+-- ---- where reading ended
+
+no_end : (error : Option ParserError) → (let none : List (Option Fault) = [] in none ≡ faults_of error) →
+    None ≡ ended error
+no_end None h = refl
+no_end (Some error) h = cc
+
+made_of : {X Y : Type 0} (g : X → Y) (o : Option X) (y : Y) → Some y ≡ option_map g o → (x : X) × (y ≡ g x)
+made_of g None y h = cc
+made_of g (Some x) y h = (x, cc)
+
+same_end : (f : Fault) (error : Option ParserError) → Some f ∷ [] ≡ faults_of error →
+    ended_at f.kind f.pos.end ≡ ended error
+same_end f None h = cc
+same_end f (Some error) h =
+    let x = made_of _ error.slice f cc in ap (λ (f : Fault). ended_at f.kind f.pos.end) x.1
+
+-- ---- what was read
+
 module _ (edition : Edition) (t : List ℕ) where
   pub read_nothing : ReadTo edition t 0 []
   read_nothing = record { tiles = []; places_of = refl; whole = λ more a. a }
 
   place_given : (s : Span) (tile : Tile) (e : Entry Span) (error : Option ParserError) →
       TileAt edition t s.start s.end tile → Gives tile e error →
-      place_of tile ≡ record { span = s; kind = kind_of (tree_of e) }
+      place_of tile ≡ record { span = s; kind = kind_of (tree_of e); ended = ended error }
   place_given s tile e error (reads {e = v} r) g =
       let same : v ≡ tree_of e = let given = g.entry in cc in
-      ap (λ v. record { span = s; kind = kind_of v }) same
+      rw (sym same, sym (no_end error g.errors)) refl
   place_given s tile e error (refuses {from = from} {to = to} {k = k} r j) g =
       let same : junk s ≡ tree_of e = let given = g.entry in cc in
-      ap (λ v. record { span = s; kind = kind_of v }) same
+      let f : Fault = record { kind = k; pos = record { start = from; end = to }; slice = s } in
+      rw (sym same, sym (same_end f error g.errors)) refl
 
   pub read_on : (i j : ℕ) (places : List Place) (found : FoundTile) → ReadTo edition t i places →
       TileTo edition t i j found → ReadTo edition t j (places ++ (place_found found ∷ []))
