@@ -74,13 +74,14 @@ pub fn reads_up_to(before: &str, rest: &str, other: &str)
 ///
 /// - `first`: a canonical entry as it is written, then blank lines, then a text at which an entry may begin: what is
 ///   read is that entry, without an error, and then that text as it is by itself, moved.
-/// - `replaces`: in place of `rest` in a text, that entry, blank lines and `after`. Where `rest` is empty or begins like
-///   an entry, at the start of a line, and tiles whose errors are settled lead up to it, the tiles of the new text are
-///   these, then tiles that give the entry text by text, then those of `after` by itself, moved; and its errors are
-///   those before, and those of `after` by itself, moved. The premise of `prefix` on comments holds here too. Where `rest` is an entry and `after`, this
-///   replaces the entry; where it is `after`, this inserts one; where both are empty, this appends one.
-/// - `runtime_first`, `runtime_replaces`: the same of tiles without comments, wherever a comment stands. What is read is
-///   the entry without its comment.
+/// - `replaces`: in place of `rest` in a text, that entry, blank lines and `after`. Where `rest` is empty or begins
+///   like an entry, at the start of a line, and tiles whose errors are settled lead up to it, the tiles of the new text
+///   are these, then tiles that give the entry text by text, then those of `after` by itself, moved; and its errors are
+///   those before, and those of `after` by itself, moved. The premise of `prefix` on comments holds here too. Where
+///   `rest` is an entry and `after`, this replaces the entry; where it is `after`, this inserts one; where both are
+///   empty, this appends one.
+/// - `runtime_first`, `runtime_replaces`: the same of tiles without comments, wherever a comment stands. What is read
+///   is the entry without its comment.
 pub fn replaces_entry<'s, S: Slice<'s>>(before: &str, rest: &str, entry: &Entry<S>, after: &str)
     ensures first { (edition : Edition) (blank : ℕ) → ReadsFirst edition (entry_view S.text entry.now) blank after.now }
     ensures replaces { (edition : Edition) (blank : ℕ) →

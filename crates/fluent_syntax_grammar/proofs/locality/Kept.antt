@@ -8,11 +8,10 @@ use Rattle.fluent_syntax_tree.specs.declared.spans.Span.{Span}
 use Rattle.fluent_syntax_grammar.specs.Bytes.{lf}
 use Rattle.fluent_syntax_grammar.specs.Places.{Reaches}
 use Rattle.fluent_syntax_grammar.specs.Placeables.{has_arrow}
-use Rattle.fluent_syntax_grammar.specs.Construct.{Read, Refused, Construct, ◌>>=◌, goes_on, stops, gives, given}
-use Rattle.fluent_syntax_grammar.specs.Construct.{here, at_place, fails, failed}
-use Rattle.fluent_syntax_grammar.specs.Construct.{over, passed, at_each, chosen, either, first, second}
-use Rattle.fluent_syntax_grammar.specs.Construct.{More, no_item, item, many}
-use Rattle.fluent_syntax_grammar.specs.Construct.{list_ends, list_stops, item_and_more, stops_later}
+use Rattle.fluent_syntax_grammar.specs.Construct.{Read, Refused, Construct, ◌>>=◌, goes_on, stops, gives, given, here}
+use Rattle.fluent_syntax_grammar.specs.Construct.{at_place, fails, failed, over, passed, at_each, chosen, either, first}
+use Rattle.fluent_syntax_grammar.specs.Construct.{second, More, no_item, item, many, list_ends, list_stops}
+use Rattle.fluent_syntax_grammar.specs.Construct.{item_and_more, stops_later}
 use Rattle.fluent_syntax_grammar.specs.Tiling.{is_entry_byte, failing_place}
 use Rattle.fluent_syntax_grammar.proofs.Facts.{lt_or_same}
 use Rattle.fluent_syntax_grammar.proofs.Sound.{good_more}
@@ -31,7 +30,8 @@ pub record Head (t : List ℕ) (p : ℕ) : Type 0 where
   pub begins : is_head (slice_get t p) ≡ true
   pub no_arrow : has_arrow t p ≡ false
 
--- Before p the texts are the same; there a line starts, and in each text a byte that begins an entry stands, or it ends.
+-- Before p the texts are the same; there a line starts, and in each text a byte that begins an entry stands, or the
+-- text ends.
 pub record Shared (p : ℕ) (t u : List ℕ) : Type 0 where
   pub byte : (i : ℕ) → i < p → slice_get t i ≡ slice_get u i
   pub range : (i j : ℕ) → j ≤ p → slice_range t i j ≡ slice_range u i j
@@ -381,7 +381,7 @@ module _ (p : ℕ) where
 
   -- each item begins at the places of a kind, its value is good where there is one, and added to a good list it makes
   -- a good one
-  module _ {A S B : Type 0} {M : Type 0} {f g : S → Construct (More A S)} {add : A → B → B} {none : B}
+  module _ {A S B : Type 0} {f g : S → Construct (More A S)} {add : A → B → B} {none : B}
       {Good : A → Type 0} {All : B → Type 0} (On : ℕ → Type 0)
       (k : (s : S) → KeepsOn p On (Unit {0}) (good_more Good) (f s) (g s)) (low : (i : ℕ) → i + 4 ≤ p → On i)
       (stays : (s : S) (i j : ℕ) (x : More A S) → On i → j ≤ p → f s i (Read x j) → On j)
@@ -417,7 +417,7 @@ module _ (p : ℕ) where
         let n = many_late r m from to x z in
         stops_later ((k s).keep tt i m _ (low i (omega arith)) (omega arith) y) (many_refuse r m from to x v z)
 
-    keeps_list : (s : S) → KeepsOn p On M All (many f add none s) (many g add none s)
+    keeps_list : {M : Type 0} (s : S) → KeepsOn p On M All (many f add none s) (many g add none s)
     keeps_list s = record {
       keep = λ h. many_keep s;
       good = λ h. many_good s;

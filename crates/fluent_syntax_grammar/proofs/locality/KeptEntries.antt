@@ -38,9 +38,9 @@ use Rattle.fluent_syntax_grammar.proofs.Facts.{lt_or_same, excludes, none_holds,
 use Rattle.fluent_syntax_grammar.proofs.LineEnds.{letter_entry}
 use Rattle.fluent_syntax_grammar.proofs.Tests.{differ}
 use Rattle.fluent_syntax_grammar.proofs.FunctionalEntries.{functional_comment_line}
-use Rattle.fluent_syntax_grammar.proofs.locality.Kept.{is_head_byte}
-use Rattle.fluent_syntax_grammar.proofs.locality.Kept.{Any, Shared, Keeps, KeepsBelow, below_bind, keeps_bind, keeps_gives, plain}
-use Rattle.fluent_syntax_grammar.proofs.locality.Kept.{keeps_here, keeps_fails, keeps_at_each}
+use Rattle.fluent_syntax_grammar.proofs.locality.Kept.{is_head_byte, Any, Shared, Keeps, KeepsBelow, below_bind}
+use Rattle.fluent_syntax_grammar.proofs.locality.Kept.{keeps_bind, keeps_gives, plain, keeps_here, keeps_fails}
+use Rattle.fluent_syntax_grammar.proofs.locality.Kept.{keeps_at_each}
 use Rattle.fluent_syntax_grammar.proofs.locality.KeptWords.{same_eol, keeps_token, keeps_then, token_below}
 use Rattle.fluent_syntax_grammar.proofs.locality.KeptWords.{keeps_inline_blank, keeps_blank_block, last_has}
 use Rattle.fluent_syntax_grammar.proofs.locality.KeptWords.{keeps_spanned, keeps_optional_eol, below_rest_of_line}

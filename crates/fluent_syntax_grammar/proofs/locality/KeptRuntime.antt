@@ -23,14 +23,15 @@ use Rattle.fluent_syntax_grammar.proofs.locality.Kept.{Any, Shared, KeepsBelow, 
 use Rattle.fluent_syntax_grammar.proofs.locality.KeptWords.{below_rest_of_line, keeps_optional_eol, kept_block}
 use Rattle.fluent_syntax_grammar.proofs.locality.KeptEntries.{Dotless, dotless_quiet, dotless_there, quiet_entry}
 use Rattle.fluent_syntax_grammar.proofs.locality.KeptEntries.{head_of_entry, entry_head}
-use Rattle.fluent_syntax_grammar.proofs.locality.KeptTiles.{entry_on, entry_in, junk_on}
-use Rattle.fluent_syntax_grammar.proofs.locality.KeptTiles.{quiet_head, first_settled, rest_settled, junk_keep}
+use Rattle.fluent_syntax_grammar.proofs.locality.KeptTiles.{entry_on, entry_in, junk_on, quiet_head, first_settled}
+use Rattle.fluent_syntax_grammar.proofs.locality.KeptTiles.{rest_settled, junk_keep}
 use Rattle.fluent_syntax_grammar.proofs.locality.KeptEntries.{message_keep, term_keep}
 use Rattle.fluent_syntax_grammar.proofs.locality.KeptTiles.{none_behind}
 
 module _ (edition : Edition) (p : ℕ) (t u : List ℕ) (s : Shared p t u) where
   -- a line that begins with `#` is not empty
-  pub line_on : (i j : ℕ) → i ≤ length t → has_byte t 35 i ≡ true → whole_line t i (Read tt j) → (i < j) × (j ≤ length t)
+  pub line_on : (i j : ℕ) → i ≤ length t → has_byte t 35 i ≡ true → whole_line t i (Read tt j) →
+      (i < j) × (j ≤ length t)
   line_on i j l h w =
       let x = line_of t i j w in
       let a = some_hash t i h in

@@ -38,12 +38,12 @@ use Rattle.fluent_syntax_grammar.proofs.SoundStrings.{InText}
 use Rattle.fluent_syntax_grammar.proofs.Boundaries.{text_cuts}
 use Rattle.fluent_syntax_grammar.proofs.SoundTiling.{entry_read}
 use Rattle.fluent_syntax_grammar.proofs.locality.Kept.{Shared}
-use Rattle.fluent_syntax_grammar.proofs.locality.KeptWords.{kept_block}
-use Rattle.fluent_syntax_grammar.proofs.locality.KeptWords.{other_byte, head_has, other_has}
-use Rattle.fluent_syntax_grammar.proofs.locality.KeptEntries.{head_of_entry, eol_no_dot, quiet_entry, dotless_quiet, dotless_there}
-use Rattle.fluent_syntax_grammar.proofs.locality.KeptEntries.{none_before, block_at_hash, entry_head, hash_comment, hash_refused}
-use Rattle.fluent_syntax_grammar.proofs.locality.KeptEntries.{message_keep, term_keep, none_there, message_refuse, term_refuse}
-use Rattle.fluent_syntax_grammar.proofs.locality.KeptEntries.{line_refuse, hashes_same, comment_refuse, comment_keep, hashes_there}
+use Rattle.fluent_syntax_grammar.proofs.locality.KeptWords.{kept_block, other_byte, head_has, other_has}
+use Rattle.fluent_syntax_grammar.proofs.locality.KeptEntries.{head_of_entry, eol_no_dot, quiet_entry, dotless_quiet}
+use Rattle.fluent_syntax_grammar.proofs.locality.KeptEntries.{dotless_there, none_before, block_at_hash, entry_head}
+use Rattle.fluent_syntax_grammar.proofs.locality.KeptEntries.{hash_comment, hash_refused, message_keep, term_keep}
+use Rattle.fluent_syntax_grammar.proofs.locality.KeptEntries.{none_there, message_refuse, term_refuse, line_refuse}
+use Rattle.fluent_syntax_grammar.proofs.locality.KeptEntries.{hashes_same, comment_refuse, comment_keep, hashes_there}
 use Rattle.fluent_syntax_grammar.proofs.locality.KeptEntries.{no_hashes, other_comment, LacksDot, Quiet, Dotless}
 
 -- junk that ends before p
@@ -155,7 +155,8 @@ module _ (edition : Edition) (p : ℕ) (t u : List ℕ) (s : Shared p t u) where
 
   abbrev pub junk_tile : (start end from to : ℕ) → Kind → Tile
   junk_tile start end from to k =
-      refused (record { kind = k; pos = record { start = from; end = to }; slice = record { start = start; end = end } })
+      let slice : Span = record { start = start; end = end } in
+      refused (record { kind = k; pos = record { start = from; end = to }; slice = slice })
 
   pub first_settled : (start end from to : ℕ) (k : Kind) (more : List Tile) →
       AllSettled (junk_tile start end from to k ∷ more) → Settling start end from to k
@@ -360,7 +361,8 @@ module _ (edition : Edition) (p : ℕ) (t u : List ℕ) (s : Shared p t u) where
   start_same : (k : ℕ) → k < p → starts_entry t k ≡ starts_entry u k
   start_same k l =
       let m : k - 1 < p = omega arith in
-      both _ _ _ _ (ap (λ q. k == 0 || holds (λ b. b == 10) q) (s.byte (k - 1) m)) (ap (holds is_entry_byte) (s.byte k l))
+      both _ _ _ _ (ap (λ q. k == 0 || holds (λ b. b == 10) q) (s.byte (k - 1) m))
+      (ap (holds is_entry_byte) (s.byte k l))
     where
       both : (a b c d : Bool) → a ≡ b → c ≡ d → (a && c) ≡ (b && d)
       both a b c d e f = rw (e, f) refl
@@ -386,8 +388,9 @@ module _ (edition : Edition) (p : ℕ) (t u : List ℕ) (s : Shared p t u) where
   }
 
   pub junk_keep : (start end from to : ℕ) (k : Kind) (more : List Tile) →
-      AllSettled (junk_tile start end from to k ∷ more) → start ≤ length t → entry_at edition t start (Refused k from to) →
-      JunkEnd t (failing_place k from to) end → TileAt edition u start end (junk_tile start end from to k)
+      AllSettled (junk_tile start end from to k ∷ more) → start ≤ length t →
+      entry_at edition t start (Refused k from to) → JunkEnd t (failing_place k from to) end →
+      TileAt edition u start end (junk_tile start end from to k)
   junk_keep start end from to k more f m r j =
       let c = junk_on start from to k m r in
       let h = j.forward in

@@ -1,5 +1,5 @@
--- A new entry before a rest and in place of another, for tilings without comments: the tiles of the tiling, of which the
--- comments' lines are dropped.
+-- A new entry before a rest and in place of another, for tilings without comments: the tiles of the tiling, without
+-- those of comments.
 use Rattle.std.proofs.Common.{◌≡◌, ℕ, ◌+◌, ◌≤◌, List, [], ◌∷◌, ◌++◌, length, map, Bool, true, false}
 use Rattle.std.proofs.Common.{refl, sym, ◌∙◌, subst, ap, arith, append_assoc, length-append, inl, inr}
 use Rattle.std.specs.Prelude.{◌⊎◌}
