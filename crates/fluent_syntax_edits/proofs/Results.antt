@@ -1,51 +1,44 @@
 -- What the edits give, by the places that were found.
-use Rattle.std.proofs.Common.{◌≡◌, ℕ, ◌+◌, ◌-◌, ◌≤◌, ◌<◌, List, []}
-use Rattle.std.proofs.Common.{◌∷◌, ◌++◌, length, drop, take, map, Bool, true, false}
-use Rattle.std.proofs.Common.{refl, sym, ◌∙◌, ap, subst, arith}
-use Rattle.std.proofs.Common.{append_assoc, length-append, length-drop, Option, Some, None}
-use Rattle.std.proofs.lemmas.List.{length-map, length-take-le, take-map, map-append}
-use Rattle.std.proofs.Math.Seq.{take-append_seam}
-use Rattle.std.specs.Prelude.{slice_get, Result, Ok, Err, if◌then◌else◌}
-use Rattle.fluent_syntax_tree.specs.Entry.{BodyTree, EntryTree, entry_map}
+use Rattle.std.proofs.Common.{◌≡◌, ℕ, ◌+◌, ◌-◌, ◌≤◌, ◌<◌, List, [], ◌∷◌, ◌++◌, length, drop, take, map, Bool, true, false}
+use Rattle.std.proofs.Common.{refl, sym, ◌∙◌, ap, subst, arith, inl, inr, append_assoc, length-append, length-drop}
+use Rattle.std.proofs.Common.{Option, Some, None}
+use Rattle.std.proofs.lemmas.Bool.Decides.{nat_tests}
+use Rattle.std.proofs.lemmas.List.{append-nil, length-map, length-take-le}
+use Rattle.std.specs.Prelude.{Result, Ok, Err, if◌then◌else◌, slice_get}
+use Rattle.std.specs.Str.{IsCharBoundary, IsUtf8}
+use Rattle.fluent_syntax_tree.specs.Entry.{EntryTree, entry_map}
 use Rattle.fluent_syntax_tree.specs.Spans.{bytes_at}
 use Rattle.fluent_syntax_tree.specs.declared.edition.Edition.{Edition}
 use Rattle.fluent_syntax_tree.specs.declared.spans.Span.{Span}
-use Rattle.fluent_syntax_grammar.specs.Tiling.{Fault, Tile, Tiled, TileAt, Tiling, entry}
+use Rattle.fluent_syntax_grammar.specs.Tiling.{Tile, Tiled, TileAt, Tiling, entry, is_entry_byte}
 use Rattle.fluent_syntax_grammar.specs.Body.{body, faults}
 use Rattle.fluent_syntax_grammar.specs.Canonical.{is_canonical}
-use Rattle.fluent_syntax_grammar.specs.Locality.{begins_entry, entry_text}
-use Rattle.fluent_syntax_grammar.specs.Locality.{is_comment, may_begin, start_of as tile_begin}
+use Rattle.fluent_syntax_grammar.specs.Locality.{NoCommentTakes, Settled, begins_comment, begins_entry, ends_line}
+use Rattle.fluent_syntax_grammar.specs.Locality.{ends_or_begins, entry_text, is_comment, may_begin, moved_fault}
+use Rattle.fluent_syntax_grammar.specs.Locality.{start_of as tile_begin}
 use Rattle.fluent_syntax_grammar.specs.RoundTrip.{tree_of}
 use Rattle.fluent_syntax_grammar.specs.Written.{Text}
-use Rattle.fluent_syntax_grammar.proofs.locality.Edits.{faults_append}
-use Rattle.fluent_syntax_grammar.proofs.locality.EntryEnds.{AtLine}
-use Rattle.fluent_syntax_grammar.proofs.locality.InTiling.{RestAlone, Standing, rest_alone}
-use Rattle.fluent_syntax_grammar.proofs.locality.KeptEntries.{entry_head}
-use Rattle.fluent_syntax_grammar.proofs.LineEnds.{block_at_entry}
-use Rattle.fluent_syntax_grammar.proofs.Facts.{left_true}
-use Rattle.fluent_syntax_grammar.specs.Bytes.{greater_than, hyphen}
 use Rattle.fluent_syntax_grammar.proofs.Boundaries.{boundary_cuts}
-use Rattle.fluent_syntax_grammar.proofs.locality.Edits.{behind_place}
-use Rattle.std.proofs.lemmas.Bool.Decides.{nat_tests}
-use Rattle.std.specs.Str.{IsCharBoundary, IsUtf8}
-use Rattle.fluent_syntax_grammar.specs.Tiling.{is_entry_byte, next, reads}
-use Rattle.std.proofs.Common.{inl}
-use Rattle.std.specs.Prelude.{◌==◌, ◌&&◌, not}
-use Rattle.fluent_syntax_edits.specs.Edits.{IsInserted, IsRemoved, IsReplaced, SameErrors, TreeEdited, spliced}
+use Rattle.fluent_syntax_grammar.proofs.locality.Edits.{begins_ends, faults_append, faults_both}
+use Rattle.fluent_syntax_grammar.proofs.locality.EntryEnds.{AtLine}
+use Rattle.fluent_syntax_grammar.proofs.locality.InTiling.{RestAlone, begins_may, changed, from_entry}
+use Rattle.fluent_syntax_grammar.proofs.locality.Moved.{behind_place}
+use Rattle.fluent_syntax_edits.specs.Edits.{IsInserted, IsRemoved, IsReplaced, TreeEdited, spliced}
 use Rattle.fluent_syntax_edits.specs.Places.{Outlines, place_of}
-use Rattle.fluent_syntax_edits.specs.Refusals.{before_entry, begin_of, comment_before, in_place_of, of_run, sound_run}
-use Rattle.fluent_syntax_edits.specs.Refusals.{start_of, unless_comment, up_to_behind, up_to_entry, up_to_next}
-use Rattle.fluent_syntax_edits.specs.Refusals.{removed_run}
+use Rattle.fluent_syntax_edits.specs.Refusals.{before_entry, begin_of, comment_before, entry_at, in_place_of, of_run}
+use Rattle.fluent_syntax_edits.specs.Refusals.{removed_run, sound_run, sound_spot, spot_at, start_of, unless_comment}
+use Rattle.fluent_syntax_edits.specs.Refusals.{up_to_behind, up_to_entry, up_to_next}
 use Rattle.fluent_syntax_edits.specs.declared.fault.EditFault.{EditFault}
 use Rattle.fluent_syntax_edits.specs.declared.places.Place.{Place}
 use Rattle.fluent_syntax_edits.specs.declared.refusals.Stretch.{Stretch}
 use Rattle.fluent_syntax_edits.specs.declared.runs.Run.{Run}
 use Rattle.fluent_syntax_edits.proofs.Apart.{tree_apart}
 use Rattle.fluent_syntax_edits.proofs.CommentsBefore.{FreeBefore, free_before}
-use Rattle.fluent_syntax_edits.proofs.Edited.{Away, Put, behind_put, put, put_entry, put_length, take_away}
-use Rattle.fluent_syntax_edits.proofs.FoundRuns.{Found}
-use Rattle.fluent_syntax_edits.proofs.Sound.{SoundRun, sound_of}
-use Rattle.fluent_syntax_edits.proofs.Standing.{Begins, Stands, begins, found_stands, front_sound, get_seam, kept_tiles}
+use Rattle.fluent_syntax_edits.proofs.Edited.{Away, Comes, Put, Spot, behind_put, drop_all, end_changed, end_spot}
+use Rattle.fluent_syntax_edits.proofs.Edited.{entry_spot, put, put_entry, put_length, take_away}
+use Rattle.fluent_syntax_edits.proofs.Sound.{AtSpot, NoJunk, SoundRun, at_spot, ends, entry_keeps, first_places, no_junk}
+use Rattle.fluent_syntax_edits.proofs.Sound.{place_behind, sound_of, spot_keeps, stands}
+use Rattle.fluent_syntax_edits.proofs.Standing.{Begins, FoundEntry, Stands, begins, found_stands, kept_tiles}
 use Rattle.fluent_syntax_edits.proofs.Standing.{place_start, rest_begins, rest_ends}
 
 -- ---- what the tests say
@@ -56,59 +49,54 @@ by_comment (Some c) r s h = cc
 by_comment None r s h = (refl, h)
 
 -- the run that was found, before which no comment takes what comes, and its stretch
-record OfRun (places : List Place) (coming : Run → List ℕ) (stretch : Run → Result Stretch EditFault)
-    (o : Result Run EditFault) (s : Stretch) :
-    Type 0 where
+record OfRun (t : List ℕ) (places : List Place) (text : List ℕ) (stretch : Run → Result Stretch EditFault)
+    (o : Result Run EditFault) (s : Stretch) : Type 0 where
   run : Run
   is : o ≡ Ok run
-  free : comment_before (take run.first places) (start_of places run) (coming run) ≡ None
+  free : comment_before (take run.first places) (start_of t places run) text ≡ None
   gives : stretch run ≡ Ok s
 
-by_run : (places : List Place) (coming : Run → List ℕ) (stretch : Run → Result Stretch EditFault)
-    (o : Result Run EditFault) (s : Stretch) → of_run places coming stretch o ≡ Ok s → OfRun places coming stretch o s
-by_run places coming stretch (Err fault) s h = cc
-by_run places coming stretch (Ok run) s h =
+by_run : (t : List ℕ) (places : List Place) (text : List ℕ) (stretch : Run → Result Stretch EditFault)
+    (o : Result Run EditFault) (s : Stretch) → of_run t places text stretch o ≡ Ok s →
+    OfRun t places text stretch o s
+by_run t places text stretch (Err fault) s h = cc
+by_run t places text stretch (Ok run) s h =
     let x =
-    by_comment (comment_before (take run.first places) (start_of places run) (coming run)) (stretch run) s h in
+    by_comment (comment_before (take run.first places) (start_of t places run) text) (stretch run) s h in
     record { run = run; is = refl; free = x.0; gives = x.1 }
 
 by_behind : (b : Bool) (x y : Stretch) (f : EditFault) → (if b then Ok x else Err f) ≡ Ok y → (b ≡ true) × (x ≡ y)
 by_behind true x y f h = (refl, cc)
 by_behind false x y f h = cc
 
+by_begins : (b : Bool) (x : Result Stretch EditFault) (y : Stretch) (f : EditFault) →
+    (if b then x else Err f) ≡ Ok y → (b ≡ true) × (x ≡ Ok y)
+by_begins true x y f h = (refl, h)
+by_begins false x y f h = cc
+
+ok_same : {x y : Stretch} → (let r : Result Stretch EditFault = Ok x in r ≡ Ok y) → x ≡ y
+ok_same h = cc
+
+-- the run that was found, and its stretch
+record OfRemoved (t : List ℕ) (places : List Place) (o : Result Run EditFault) (s : Stretch) : Type 0 where
+  run : Run
+  is : o ≡ Ok run
+  gives :
+      up_to_entry t (start_of t places run) (take run.first places) (slice_get places run.end) ≡ Ok s
+
+by_removed : (t : List ℕ) (places : List Place) (o : Result Run EditFault) (s : Stretch) →
+    removed_run t places o ≡ Ok s → OfRemoved t places o s
+by_removed t places (Err fault) s h = cc
+by_removed t places (Ok run) s h = record { run = run; is = refl; gives = h }
+
 -- ---- the places of what was found
 
-first_places : (before rest : List Tile) (n : ℕ) → n ≡ length before →
-    take n (map place_of (before ++ rest)) ≡ map place_of before
-first_places before rest n e =
-    take-map place_of n (before ++ rest)
-    ∙ ap (map place_of) (ap (λ k. take k (before ++ rest)) e ∙ take-append_seam before rest)
-
-place_behind : (before rest : List Tile) (n : ℕ) → n ≡ length before →
-    slice_get (map place_of (before ++ rest)) n ≡ slice_get (map place_of rest) 0
-place_behind before rest n e =
-    let size : length (map place_of before) ≡ n = length-map before place_of ∙ sym e in
-    ap (λ ps. slice_get ps n) (map-append place_of before rest)
-    ∙ (ap (slice_get (map place_of before ++ map place_of rest)) (sym size)
-    ∙ get_seam (map place_of before) (map place_of rest))
-
-module _ (edition : Edition) (t : List ℕ) (tiles : List Tile) (index : ℕ) (run : Run)
-    (x : SoundRun tiles index run) where
-  -- the entry begins where its first tile does
-  start_place : (st : Stands edition t x.found.before x.found.own x.found.after) →
-      start_of (map place_of tiles) run ≡ st.s.start
-  start_place st =
-      let f = x.found in
-      let first : run.first ≡ length f.before = let e = f.first in omega arith in
-      ap (λ ts. begin_of (slice_get (map place_of ts) run.first)) f.parts
-      ∙ (ap begin_of (place_behind f.before (f.own ++ f.after) run.first first)
-      ∙ ap (λ ts. begin_of (slice_get (map place_of ts) 0)) st.head)
-
+module _ (t : List ℕ) (tiles : List Tile) (test : Run → Option Place → Result Run EditFault) (index : ℕ) (run : Run)
+    (x : SoundRun t tiles test index run) where
   before_places : take run.first (map place_of tiles) ≡ map place_of x.found.before
   before_places =
       let f = x.found in
-      let first : run.first ≡ length f.before = let e = f.first in omega arith in
-      ap (λ ts. take run.first (map place_of ts)) f.parts ∙ first_places f.before (f.own ++ f.after) run.first first
+      ap (λ ts. take run.first (map place_of ts)) f.parts ∙ first_places f.before (f.own ++ f.after) run.first x.number
 
   next_place : slice_get (map place_of tiles) run.end ≡ slice_get (map place_of x.found.after) 0
   next_place =
@@ -118,13 +106,27 @@ module _ (edition : Edition) (t : List ℕ) (tiles : List Tile) (index : ℕ) (r
       ap (λ ts. slice_get (map place_of ts) run.end) (f.parts ∙ sym (append_assoc f.before f.own f.after))
       ∙ place_behind (f.before ++ f.own) f.after run.end end
 
-  free_there : (st : Stands edition t x.found.before x.found.own x.found.after) (coming : List ℕ) →
-      comment_before (take run.first (map place_of tiles)) (start_of (map place_of tiles) run) coming ≡ None →
-      FreeBefore st.s.start coming x.found.before
-  free_there st coming h =
-      free_before st.s.start coming x.found.before
-      (sym (ap (λ ps. comment_before ps st.s.start coming) before_places)
-      ∙ (ap (λ k. comment_before (take run.first (map place_of tiles)) k coming) (sym (start_place st)) ∙ h))
+  free_there : (p : ℕ) (text : List ℕ) → start_of t (map place_of tiles) run ≡ p →
+      comment_before (take run.first (map place_of tiles)) (start_of t (map place_of tiles) run) text ≡ None →
+      FreeBefore p text x.found.before
+  free_there p text e h =
+      free_before p text x.found.before
+      (sym (ap (λ ps. comment_before ps p text) before_places)
+      ∙ (ap (λ k. comment_before (take run.first (map place_of tiles)) k text) (sym e) ∙ h))
+
+-- the entry that the test lets pass
+module _ (edition : Edition) (t : List ℕ) (tiles : List Tile) (a : Tiling edition t tiles) (index : ℕ) (run : Run)
+    where
+  entry_found : sound_run t (map place_of tiles) index ≡ Ok run → SoundRun t tiles entry_at index run
+  entry_found h = sound_of t tiles entry_at entry_keeps index run (kept_tiles edition t 0 tiles a) h
+
+  spot_found : sound_spot t (map place_of tiles) index ≡ Ok run → SoundRun t tiles (spot_at t) index run
+  spot_found h = sound_of t tiles (spot_at t) (spot_keeps t) index run (kept_tiles edition t 0 tiles a) h
+
+  entry_there : (x : SoundRun t tiles entry_at index run) →
+      FoundEntry edition t tiles x.found.before x.found.own x.found.after (start_of t (map place_of tiles) run)
+  entry_there x =
+      found_stands edition t tiles entry_at index run x a (kept_tiles edition t 0 tiles a) (no_junk run run _ x.tested).1
 
 -- ---- what stands behind
 
@@ -144,10 +146,6 @@ module _ (edition : Edition) (t : List ℕ) where
         may = ap may_begin (drop_all t);
         inside = omega arith;
       }
-    where
-      drop_all : (t : List ℕ) → drop (length t) t ≡ []
-      drop_all [] = refl
-      drop_all (b ∷ bs) = drop_all bs
 
   some_behind : (s : Stretch) (p : ℕ) (y : Tile) (ys : List Tile) → Begins edition t y ys →
       may_begin (drop (tile_begin y) t) ≡ true → record { start = p; end = tile_begin y } ≡ s →
@@ -170,83 +168,49 @@ module _ (edition : Edition) (t : List ℕ) where
       (subst (λ k. may_begin (drop k t) ≡ true) (place_start y) x.0)
       (subst (λ k. record { start = p; end = k } ≡ s) (place_start y) x.1)
 
--- ---- what is removed, and what is inserted before
+-- ---- what is removed
 
--- the run that was found, and its stretch
-record OfRemoved (t : List ℕ) (places : List Place) (o : Result Run EditFault) (s : Stretch) : Type 0 where
-  run : Run
-  is : o ≡ Ok run
-  gives :
-      up_to_entry t (start_of places run) (take run.first places) (slice_get places run.end) ≡ Ok s
-
-by_removed : (t : List ℕ) (places : List Place) (o : Result Run EditFault) (s : Stretch) →
-    removed_run t places o ≡ Ok s → OfRemoved t places o s
-by_removed t places (Err fault) s h = cc
-by_removed t places (Ok run) s h = record { run = run; is = refl; gives = h }
-
--- an entry begins where the stretch ends, and no comment before takes it
+-- the text ends where the stretch ends, or an entry begins there that no comment before takes
 record EntryBehind (edition : Edition) (t : List ℕ) (p : ℕ) (before after : List Tile) (s : Stretch) : Type 0 where
   start : s.start ≡ p
   rest : RestAlone edition t s.end after
-  begins : begins_entry (drop s.end t) ≡ true
-  free : FreeBefore p (drop s.end t) before
+  begins : ends_or_begins (drop s.end t) ≡ true
+  no_line : NoCommentTakes p before (drop s.end t)
+  comes : Comes p (drop s.end t) before after
   inside : s.end ≤ length t
-
-by_begins : (b : Bool) (x : Result Stretch EditFault) (y : Stretch) (f : EditFault) →
-    (if b then x else Err f) ≡ Ok y → (b ≡ true) × (x ≡ Ok y)
-by_begins true x y f h = (refl, h)
-by_begins false x y f h = cc
-
-ok_same : {x y : Stretch} → (let r : Result Stretch EditFault = Ok x in r ≡ Ok y) → x ≡ y
-ok_same h = cc
 
 module _ (edition : Edition) (t : List ℕ) where
   entry_behind : (p i : ℕ) (before after : List Tile) (s : Stretch) → AtLine t i → Tiled t (TileAt edition t) i after →
       up_to_entry t p (map place_of before) (slice_get (map place_of after) 0) ≡ Ok s →
       EntryBehind edition t p before after s
-  entry_behind p i before [] s l a h = cc
+  entry_behind p i before [] s l a h =
+      subst (λ (s : Stretch). EntryBehind edition t p before [] s) (ok_same h) record {
+        start = refl;
+        rest = rest_ends edition t;
+        begins = ap ends_or_begins (drop_all t);
+        no_line = λ e. ap begins_comment (drop_all t);
+        comes = inl refl;
+        inside = omega arith;
+      }
   entry_behind p i before (y ∷ ys) s l a h =
       let k = (place_of y).span.start in
       let x = by_begins (begins_entry (drop k t)) _ s _ h in
       let z = by_comment (comment_before (map place_of before) p (drop k t)) _ s x.1 in
       let b = begins edition t i y ys l a in
       let inside = b.inside in
+      let free : FreeBefore p (drop (tile_begin y) t) before =
+      subst (λ k. FreeBefore p (drop k t) before) (place_start y) (free_before p (drop k t) before z.0) in
       let same : record { start = p; end = tile_begin y } ≡ s =
       sym (ap (λ k. record { start = p; end = k }) (place_start y)) ∙ ok_same z.1 in
       subst (λ (s : Stretch). EntryBehind edition t p before (y ∷ ys) s) same record {
         start = refl;
         rest = rest_begins edition t y ys b;
-        begins = subst (λ k. begins_entry (drop k t) ≡ true) (place_start y) x.0;
-        free =
-            subst (λ k. FreeBefore p (drop k t) before) (place_start y) (free_before p (drop k t) before z.0);
+        begins =
+            begins_ends (drop (tile_begin y) t) (subst (λ k. begins_entry (drop k t) ≡ true) (place_start y) x.0);
+        no_line = free.no_line;
+        comes = inr free;
         inside = omega arith;
       }
-
--- what an entry that stands there begins with
-record FirstBegins (edition : Edition) (t : List ℕ) (p : ℕ) (xs : List Tile) : Type 0 where
-  inside : p < length t
-  may : may_begin (drop p t) ≡ true
-  alone : RestAlone edition t p xs
-
-begins_may : (bs : List ℕ) → begins_entry bs ≡ true → may_begin bs ≡ true
-begins_may [] e = refl
-begins_may (b ∷ []) e = e
-begins_may (b ∷ c ∷ bs) e = left_true (is_entry_byte b) (not (b == hyphen && c == greater_than)) e
-
-first_begins : (edition : Edition) (t : List ℕ) (before xs : List Tile) (s : Span) (old : EntryTree Span)
-    (rest : List Tile) → xs ≡ entry s old ∷ rest → Tiling edition t (before ++ (entry s old ∷ rest)) →
-    Standing edition t before rest s old → FirstBegins edition t s.start xs
-first_begins edition t before xs s old rest e a l =
-    let inside = l.inside in
-    let all : Tiled t (TileAt edition t) s.start (entry s old ∷ rest) =
-    next (block_at_entry t s.start (entry_head edition t s.start s.end old l.read)) l.inside (reads l.read) l.more in
-    record {
-      inside = l.inside;
-      may = begins_may (drop s.start t) l.begins;
-      alone =
-          subst (RestAlone edition t s.start) (sym e)
-          (rest_alone edition t s.start (entry s old ∷ rest) (omega arith) (inl l.line) all);
-    }
 
 away_length : (t : List ℕ) (p q : ℕ) → p ≤ length t → q ≤ length t →
     q + length (take p t ++ drop q t) ≡ p + length t
@@ -262,29 +226,54 @@ tree_count : (t : List ℕ) (before : List Tile) (index : ℕ) → length (body 
 tree_count t before index e = length-map (body before) (entry_map (bytes_at t)) ∙ e
 
 module _ (edition : Edition) (t : List ℕ) (tiles : List Tile) (a : Tiling edition t tiles) (index : ℕ) where
+  -- the tree and the errors of the text, by the entry that was found
+  module _ (test : Run → Option Place → Result Run EditFault) (run : Run) (x : SoundRun t tiles test index run) where
+    tree_before : tree_of t tiles ≡ tree_of t x.found.before ++ tree_of t (x.found.own ++ x.found.after)
+    tree_before =
+        let f = x.found in ap (tree_of t) f.parts ∙ tree_apart t f.before (f.own ++ f.after) f.apart_before
+
+    tree_around : (st : Stands edition t x.found.before x.found.own x.found.after) →
+        tree_of t tiles ≡ tree_of t x.found.before ++ ((st.whole ∷ []) ++ tree_of t x.found.after)
+    tree_around st =
+        let f = x.found in
+        tree_before
+        ∙ ap (λ zs. tree_of t f.before ++ zs)
+        (tree_apart t f.own f.after f.apart_own ∙ ap (λ zs. zs ++ tree_of t f.after) st.tree)
+
+    faults_before : faults tiles ≡ faults x.found.before ++ faults (x.found.own ++ x.found.after)
+    faults_before = let f = x.found in ap faults f.parts ∙ faults_both f.before (f.own ++ f.after)
+
+    faults_around : Stands edition t x.found.before x.found.own x.found.after →
+        faults tiles ≡ faults x.found.before ++ faults x.found.after
+    faults_around st =
+        let f = x.found in
+        faults_before ∙ ap (λ fs. faults f.before ++ fs) (faults_append f.own f.after st.no_faults)
+
   pub replaced : (e : EntryTree Text) (blank : ℕ) (s : Stretch) → is_canonical edition (e ∷ []) ≡ true →
       in_place_of t (map place_of tiles) index (entry_text e) ≡ Ok s → is_comment e ≡ false →
       IsReplaced edition t index e (spliced t s (entry_text e) blank)
   replaced e blank s c h d =
       let places = map place_of tiles in
+      let w = entry_text e in
       let r =
-      by_run places (λ run. entry_text e) (λ run. up_to_behind t (start_of places run) (slice_get places run.end))
-      (sound_run places index) s h in
-      let k = kept_tiles edition t 0 tiles a in
-      let x = sound_of tiles index r.run k r.is in
+      by_run t places w (λ run. up_to_behind t (start_of t places run) (slice_get places run.end))
+      (sound_run t places index) s h in
+      let x = entry_found edition t tiles a index r.run r.is in
       let f = x.found in
-      let st = found_stands edition t tiles index r.run x a k in
-      let fb = front_sound f.before f.own x.sound in
-      let free = free_there edition t tiles index r.run x st (entry_text e) r.free in
-      let gives =
-      rw (start_place edition t tiles index r.run x st, next_place edition t tiles index r.run x) at r.gives in
-      let b = behind_of edition t st.s.start st.end f.after s st.end_line st.more gives in
-      let y = put_entry edition t f.before f.own f.after st fb e blank s.end f.after free c b.may b.rest in
+      let there = entry_there edition t tiles a index r.run x in
+      let st = there.stands in
+      let p = st.s.start in
+      let free = free_there t tiles entry_at index r.run x p w there.start_is r.free in
+      let gives = rw (there.start_is, next_place t tiles entry_at index r.run x) at r.gives in
+      let b = behind_of edition t p st.end f.after s st.end_line st.more gives in
+      let spot = entry_spot edition t f.before f.own f.after st there.settled in
+      let y =
+      put_entry edition t p f.before spot e blank s.end st.s.end f.after free c
+      (changed edition t f.before st.rest f.after st.s st.old e blank s.end st.standing there.settled free.no_line c
+      b.may b.rest) in
       let inside = st.standing.inside in
-      let whole : put t st.s.start s.end (entry_text e) blank ≡ spliced t s (entry_text e) blank =
-      ap (λ i. put t i s.end (entry_text e) blank) (sym b.start) in
-      let edited : TreeEdited edition t index (put t st.s.start s.end (entry_text e) blank) (st.whole ∷ []) (e ∷ []) =
-      record {
+      let whole : put t p s.end w blank ≡ spliced t s w blank = ap (λ i. put t i s.end w blank) (sym b.start) in
+      let edited : TreeEdited edition t index (put t p s.end w blank) (st.whole ∷ []) (e ∷ []) = record {
         tiles = tiles;
         others = y.others;
         tiling = a;
@@ -292,45 +281,28 @@ module _ (edition : Edition) (t : List ℕ) (tiles : List Tile) (a : Tiling edit
         before = tree_of t f.before;
         after = tree_of t f.after;
         count = tree_count t f.before index f.count;
-        tree = ap (tree_of t) f.parts ∙ (tree_apart t f.before (f.own ++ f.after) f.apart_before
-            ∙ ap (λ zs. tree_of t f.before ++ zs)
-            (tree_apart t f.own f.after f.apart_own ∙ ap (λ zs. zs ++ tree_of t f.after) st.tree));
+        tree = tree_around entry_at r.run x st;
         new_tree = y.tree d;
         errors = record {
+          before = faults f.before;
           own = y.own_faults;
           from = s.end;
-          to = behind_put st.s.start (entry_text e) blank;
-          there = ap faults (f.parts ∙ sym (append_assoc f.before f.own f.after))
-              ∙ (faults_append (f.before ++ f.own) f.after x.sound ∙ y.there);
+          to = behind_put p w blank;
+          there = faults_around entry_at r.run x st ∙ ap (λ fs. faults f.before ++ fs) y.there;
           here = y.here;
-          by = put_length t st.s.start s.end (entry_text e) blank (omega arith) b.inside;
+          by = put_length t p s.end w blank (omega arith) b.inside;
         };
       } in
       (st.whole, subst (λ u. TreeEdited edition t index u (st.whole ∷ []) (e ∷ [])) whole edited)
 
-  pub inserted : (e : EntryTree Text) (blank : ℕ) (s : Stretch) → is_canonical edition (e ∷ []) ≡ true →
-      before_entry (map place_of tiles) index (entry_text e) ≡ Ok s → is_comment e ≡ false →
-      IsInserted edition t index e (spliced t s (entry_text e) blank)
-  inserted e blank s c h d =
-      let places = map place_of tiles in
-      let r =
-      by_run places (λ run. entry_text e)
-      (λ run. Ok (record { start = start_of places run; end = start_of places run })) (sound_run places index) s h in
-      let k = kept_tiles edition t 0 tiles a in
-      let x = sound_of tiles index r.run k r.is in
+  -- a new entry where the tiles behind begin, or at the end
+  inserted_there : (e : EntryTree Text) (blank : ℕ) (run : Run) (x : SoundRun t tiles (spot_at t) index run) (p : ℕ)
+      (spot : Spot edition t p x.found.before) →
+      Put edition t p x.found.before spot e blank p (x.found.own ++ x.found.after) → is_comment e ≡ false →
+      TreeEdited edition t index (put t p p (entry_text e) blank) [] (e ∷ [])
+  inserted_there e blank run x p spot y d =
       let f = x.found in
-      let st = found_stands edition t tiles index r.run x a k in
-      let p = st.s.start in
-      let fb = front_sound f.before f.own x.sound in
-      let free = free_there edition t tiles index r.run x st (entry_text e) r.free in
-      let gives : record { start = p; end = p } ≡ s =
-      sym (ap (λ i. record { start = i; end = i }) (start_place edition t tiles index r.run x st)) ∙ ok_same r.gives in
-      let l = st.standing in
-      let b = first_begins edition t f.before (f.own ++ f.after) st.s st.old st.rest st.head st.tiling l in
-      let inside = b.inside in
-      let y =
-      put_entry edition t f.before f.own f.after st fb e blank p (f.own ++ f.after) free c b.may b.alone in
-      let edited : TreeEdited edition t index (put t p p (entry_text e) blank) [] (e ∷ []) = record {
+      record {
         tiles = tiles;
         others = y.others;
         tiling = a;
@@ -338,39 +310,121 @@ module _ (edition : Edition) (t : List ℕ) (tiles : List Tile) (a : Tiling edit
         before = tree_of t f.before;
         after = tree_of t (f.own ++ f.after);
         count = tree_count t f.before index f.count;
-        tree = ap (tree_of t) f.parts ∙ tree_apart t f.before (f.own ++ f.after) f.apart_before;
+        tree = tree_before (spot_at t) run x;
         new_tree = y.tree d;
         errors = record {
+          before = faults f.before;
           own = y.own_faults;
           from = p;
           to = behind_put p (entry_text e) blank;
-          there = ap faults f.parts ∙ (faults_append f.before (f.own ++ f.after) fb ∙ y.there);
+          there = faults_before (spot_at t) run x ∙ ap (λ fs. faults f.before ++ fs) y.there;
           here = y.here;
-          by = put_length t p p (entry_text e) blank (omega arith) (omega arith);
+          by = put_length t p p (entry_text e) blank spot.inside spot.inside;
         };
-      } in
-      subst (λ (s : Stretch). TreeEdited edition t index (spliced t s (entry_text e) blank) [] (e ∷ [])) gives edited
+      }
+
+  -- before an entry
+  inserted_before : (e : EntryTree Text) (blank : ℕ) (run : Run) (x : SoundRun t tiles (spot_at t) index run) →
+      is_canonical edition (e ∷ []) ≡ true → NoJunk (slice_get (map place_of (x.found.own ++ x.found.after)) 0) →
+      ((p : ℕ) → start_of t (map place_of tiles) run ≡ p → FreeBefore p (entry_text e) x.found.before) →
+      is_comment e ≡ false →
+      TreeEdited edition t index
+      (put t (start_of t (map place_of tiles) run) (start_of t (map place_of tiles) run) (entry_text e) blank) []
+      (e ∷ [])
+  inserted_before e blank run x c n free d =
+      let f = x.found in
+      let there = found_stands edition t tiles (spot_at t) index run x a (kept_tiles edition t 0 tiles a) n in
+      let st = there.stands in
+      let p = st.s.start in
+      let l = st.standing in
+      let fb = free p there.start_is in
+      let rest : RestAlone edition t p (f.own ++ f.after) =
+      subst (RestAlone edition t p) (sym st.head) (from_entry edition t f.before st.rest st.s st.old l) in
+      let spot = entry_spot edition t f.before f.own f.after st there.settled in
+      let y =
+      put_entry edition t p f.before spot e blank p st.s.end (f.own ++ f.after) fb c
+      (changed edition t f.before st.rest (f.own ++ f.after) st.s st.old e blank p l there.settled fb.no_line c
+      (begins_may (drop p t) l.begins) rest) in
+      subst (λ i. TreeEdited edition t index (put t i i (entry_text e) blank) [] (e ∷ [])) (sym there.start_is)
+      (inserted_there e blank run x p spot y d)
+
+  nothing_there : (xs : List Tile) → slice_get (map place_of xs) 0 ≡ None → xs ≡ []
+  nothing_there [] h = refl
+  nothing_there (x ∷ xs) h = cc
+
+  -- at the end
+  inserted_last : (e : EntryTree Text) (blank : ℕ) (run : Run) (x : SoundRun t tiles (spot_at t) index run) →
+      is_canonical edition (e ∷ []) ≡ true → slice_get (map place_of (x.found.own ++ x.found.after)) 0 ≡ None →
+      ends_line t ≡ true →
+      ((p : ℕ) → start_of t (map place_of tiles) run ≡ p → FreeBefore p (entry_text e) x.found.before) →
+      is_comment e ≡ false →
+      TreeEdited edition t index
+      (put t (start_of t (map place_of tiles) run) (start_of t (map place_of tiles) run) (entry_text e) blank) []
+      (e ∷ [])
+  inserted_last e blank run x c n l free d =
+      let f = x.found in
+      let p = length t in
+      let start : start_of t (map place_of tiles) run ≡ p = ap (begin_of t) (x.there ∙ n) in
+      let none : f.own ++ f.after ≡ [] = nothing_there (f.own ++ f.after) n in
+      let all : tiles ≡ f.before = f.parts ∙ (ap (λ zs. f.before ++ zs) none ∙ append-nil f.before) in
+      let b : Tiling edition t f.before = subst (λ zs. Tiling edition t zs) all a in
+      let settled : Settled t p f.before = subst (λ i. Settled t i f.before) start x.settled in
+      let fb = free p start in
+      let spot = end_spot edition t f.before b settled l in
+      let y =
+      put_entry edition t p f.before spot e blank p p [] fb c
+      (end_changed edition t f.before e blank b settled l fb.no_line c) in
+      let z : Put edition t p f.before spot e blank p (f.own ++ f.after) =
+      subst (Put edition t p f.before spot e blank p) (sym none) y in
+      subst (λ i. TreeEdited edition t index (put t i i (entry_text e) blank) [] (e ∷ [])) (sym start)
+      (inserted_there e blank run x p spot z d)
+
+  inserted_at : (e : EntryTree Text) (blank : ℕ) (run : Run) (x : SoundRun t tiles (spot_at t) index run) →
+      is_canonical edition (e ∷ []) ≡ true → (o : Option Place) →
+      slice_get (map place_of (x.found.own ++ x.found.after)) 0 ≡ o → AtSpot t o →
+      ((p : ℕ) → start_of t (map place_of tiles) run ≡ p → FreeBefore p (entry_text e) x.found.before) →
+      is_comment e ≡ false →
+      TreeEdited edition t index
+      (put t (start_of t (map place_of tiles) run) (start_of t (map place_of tiles) run) (entry_text e) blank) []
+      (e ∷ [])
+  inserted_at e blank run x c o g (ends l) free d = inserted_last e blank run x c g l free d
+  inserted_at e blank run x c o g (stands n) free d = inserted_before e blank run x c (subst NoJunk (sym g) n) free d
+
+  pub inserted : (e : EntryTree Text) (blank : ℕ) (s : Stretch) → is_canonical edition (e ∷ []) ≡ true →
+      before_entry t (map place_of tiles) index (entry_text e) ≡ Ok s → is_comment e ≡ false →
+      IsInserted edition t index e (spliced t s (entry_text e) blank)
+  inserted e blank s c h d =
+      let places = map place_of tiles in
+      let w = entry_text e in
+      let r =
+      by_run t places w (λ run. Ok (record { start = start_of t places run; end = start_of t places run }))
+      (sound_spot t places index) s h in
+      let x = spot_found edition t tiles a index r.run r.is in
+      let there = (at_spot t r.run r.run _ x.tested).1 in
+      let edited =
+      inserted_at e blank r.run x c _ refl there (λ p g. free_there t tiles (spot_at t) index r.run x p w g r.free) d in
+      subst (λ (s : Stretch). TreeEdited edition t index (spliced t s w blank) [] (e ∷ [])) (ok_same r.gives) edited
 
   pub removed : (s : Stretch) → up_to_next t (map place_of tiles) index ≡ Ok s →
       IsRemoved edition t index (take s.start t ++ drop s.end t)
   removed s h =
       let places = map place_of tiles in
-      let r = by_removed t places (sound_run places index) s h in
-      let k = kept_tiles edition t 0 tiles a in
-      let x = sound_of tiles index r.run k r.is in
+      let r = by_removed t places (sound_run t places index) s h in
+      let x = entry_found edition t tiles a index r.run r.is in
       let f = x.found in
-      let st = found_stands edition t tiles index r.run x a k in
+      let there = entry_there edition t tiles a index r.run x in
+      let st = there.stands in
       let p = st.s.start in
-      let fb = front_sound f.before f.own x.sound in
       let gives =
       rw (
-        start_place edition t tiles index r.run x st,
-        before_places edition t tiles index r.run x,
-        next_place edition t tiles index r.run x,
+        there.start_is,
+        before_places t tiles entry_at index r.run x,
+        next_place t tiles entry_at index r.run x,
       ) at r.gives in
       let b = entry_behind edition t p st.end f.before f.after s st.end_line st.more gives in
       let inside = st.standing.inside in
-      let y = take_away edition t f.before f.own f.after st fb s.end f.after b.free b.begins b.rest in
+      let y =
+      take_away edition t f.before f.own f.after st there.settled s.end f.after b.no_line b.comes b.begins b.rest in
       let edited : TreeEdited edition t index (take p t ++ drop s.end t) (st.whole ∷ []) [] = record {
         tiles = tiles;
         others = y.others;
@@ -379,16 +433,14 @@ module _ (edition : Edition) (t : List ℕ) (tiles : List Tile) (a : Tiling edit
         before = tree_of t f.before;
         after = tree_of t f.after;
         count = tree_count t f.before index f.count;
-        tree = ap (tree_of t) f.parts ∙ (tree_apart t f.before (f.own ++ f.after) f.apart_before
-            ∙ ap (λ zs. tree_of t f.before ++ zs)
-            (tree_apart t f.own f.after f.apart_own ∙ ap (λ zs. zs ++ tree_of t f.after) st.tree));
+        tree = tree_around entry_at r.run x st;
         new_tree = y.tree;
         errors = record {
+          before = faults f.before;
           own = y.own_faults;
           from = s.end;
           to = p;
-          there = ap faults (f.parts ∙ sym (append_assoc f.before f.own f.after))
-              ∙ (faults_append (f.before ++ f.own) f.after x.sound ∙ y.there);
+          there = faults_around entry_at r.run x st ∙ ap (λ fs. faults f.before ++ fs) y.there;
           here = y.here;
           by = away_length t p s.end (omega arith) b.inside;
         };
@@ -401,6 +453,10 @@ module _ (edition : Edition) (t : List ℕ) (tiles : List Tile) (a : Tiling edit
 
 small_entry : (b : ℕ) → is_entry_byte b ≡ true → b < 128
 small_entry b e = grind (arith, nat_tests)
+
+ends_may : (bs : List ℕ) → ends_or_begins bs ≡ true → may_begin bs ≡ true
+ends_may [] e = refl
+ends_may (b ∷ bs) e = begins_may (b ∷ bs) e
 
 -- Both ends of the stretch are boundaries of characters.
 pub record Cuts (t : List ℕ) (s : Stretch) : Type 0 where
@@ -427,54 +483,69 @@ module _ (t : List ℕ) (utf8 : IsUtf8 t) where
   boundary q l m = at_bytes q (drop q t) l refl m
 
   module _ (edition : Edition) (places : List Place) (o : Outlines edition t places) (index : ℕ) (s : Stretch) where
-    -- where the entry that was found begins
-    run_start : (run : Run) → sound_run (map place_of o.tiles) index ≡ Ok run →
-        s.start ≡ start_of (map place_of o.tiles) run → IsCharBoundary t s.start
-    run_start run h e =
-        let k = kept_tiles edition t 0 o.tiles o.tiling in
-        let x = sound_of o.tiles index run k h in
-        let st = found_stands edition t o.tiles index run x o.tiling k in
+    -- where an entry that was found begins
+    found_start : (before own after : List Tile) (start : ℕ) →
+        FoundEntry edition t o.tiles before own after start → s.start ≡ start → IsCharBoundary t s.start
+    found_start before own after start there e =
+        let st = there.stands in
         let inside = st.standing.inside in
-        subst (IsCharBoundary t) (sym (e ∙ start_place edition t o.tiles index run x st))
+        subst (IsCharBoundary t) (sym (e ∙ there.start_is))
         (boundary st.s.start (omega arith) (begins_may (drop st.s.start t) st.standing.begins))
+
+    run_start : (run : Run) → sound_run t (map place_of o.tiles) index ≡ Ok run →
+        s.start ≡ start_of t (map place_of o.tiles) run → IsCharBoundary t s.start
+    run_start run h e =
+        let x = entry_found edition t o.tiles o.tiling index run h in
+        found_start x.found.before x.found.own x.found.after _ (entry_there edition t o.tiles o.tiling index run x) e
+
+    -- where something that was found begins, or the text ends
+    start_at : (run : Run) (x : SoundRun t o.tiles (spot_at t) index run) (p : Option Place) →
+        slice_get (map place_of (x.found.own ++ x.found.after)) 0 ≡ p → AtSpot t p →
+        s.start ≡ start_of t (map place_of o.tiles) run → IsCharBoundary t s.start
+    start_at run x p g (ends l) e =
+        subst (IsCharBoundary t) (sym (e ∙ ap (begin_of t) (x.there ∙ g)))
+        (boundary (length t) (omega arith) (ap may_begin (drop_all t)))
+    start_at run x p g (stands n) e =
+        found_start x.found.before x.found.own x.found.after _
+        (found_stands edition t o.tiles (spot_at t) index run x o.tiling (kept_tiles edition t 0 o.tiles o.tiling)
+        (subst NoJunk (sym g) n)) e
 
     pub replace_cuts : (text : List ℕ) → in_place_of t (map place_of o.tiles) index text ≡ Ok s → Cuts t s
     replace_cuts text h =
         let ps = map place_of o.tiles in
         let r =
-        by_run ps (λ run. text) (λ run. up_to_behind t (start_of ps run) (slice_get ps run.end)) (sound_run ps index) s
+        by_run t ps text (λ run. up_to_behind t (start_of t ps run) (slice_get ps run.end)) (sound_run t ps index) s
         h in
-        let k = kept_tiles edition t 0 o.tiles o.tiling in
-        let x = sound_of o.tiles index r.run k r.is in
-        let f = x.found in
-        let st = found_stands edition t o.tiles index r.run x o.tiling k in
-        let gives = rw (next_place edition t o.tiles index r.run x) at r.gives in
-        let b = behind_of edition t (start_of ps r.run) st.end f.after s st.end_line st.more gives in
+        let x = entry_found edition t o.tiles o.tiling index r.run r.is in
+        let st = (entry_there edition t o.tiles o.tiling index r.run x).stands in
+        let gives = rw (next_place t o.tiles entry_at index r.run x) at r.gives in
+        let b = behind_of edition t (start_of t ps r.run) st.end x.found.after s st.end_line st.more gives in
         record { start = run_start r.run r.is b.start; end = boundary s.end b.inside b.may }
 
-    pub insert_cuts : (text : List ℕ) → before_entry (map place_of o.tiles) index text ≡ Ok s → Cuts t s
+    pub insert_cuts : (text : List ℕ) → before_entry t (map place_of o.tiles) index text ≡ Ok s → Cuts t s
     insert_cuts text h =
         let ps = map place_of o.tiles in
         let r =
-        by_run ps (λ run. text) (λ run. Ok (record { start = start_of ps run; end = start_of ps run }))
-        (sound_run ps index) s h in
-        let same : record { start = start_of ps r.run; end = start_of ps r.run } ≡ s = ok_same r.gives in
-        let start = run_start r.run r.is (sym (ap (λ (s : Stretch). s.start) same)) in
-        let ends : s.start ≡ s.end = subst (λ (s : Stretch). s.start ≡ s.end) same refl in
-        record { start = start; end = subst (IsCharBoundary t) ends start }
+        by_run t ps text (λ run. Ok (record { start = start_of t ps run; end = start_of t ps run }))
+        (sound_spot t ps index) s h in
+        let x = spot_found edition t o.tiles o.tiling index r.run r.is in
+        let same : record { start = start_of t ps r.run; end = start_of t ps r.run } ≡ s = ok_same r.gives in
+        let start =
+        start_at r.run x _ refl (at_spot t r.run r.run _ x.tested).1 (sym (ap (λ (s : Stretch). s.start) same)) in
+        let both : s.start ≡ s.end = subst (λ (s : Stretch). s.start ≡ s.end) same refl in
+        record { start = start; end = subst (IsCharBoundary t) both start }
 
     pub remove_cuts : up_to_next t (map place_of o.tiles) index ≡ Ok s → Cuts t s
     remove_cuts h =
         let ps = map place_of o.tiles in
-        let r = by_removed t ps (sound_run ps index) s h in
-        let k = kept_tiles edition t 0 o.tiles o.tiling in
-        let x = sound_of o.tiles index r.run k r.is in
+        let r = by_removed t ps (sound_run t ps index) s h in
+        let x = entry_found edition t o.tiles o.tiling index r.run r.is in
         let f = x.found in
-        let st = found_stands edition t o.tiles index r.run x o.tiling k in
+        let st = (entry_there edition t o.tiles o.tiling index r.run x).stands in
         let gives =
-        rw (before_places edition t o.tiles index r.run x, next_place edition t o.tiles index r.run x) at r.gives in
-        let b = entry_behind edition t (start_of ps r.run) st.end f.before f.after s st.end_line st.more gives in
+        rw (before_places t o.tiles entry_at index r.run x, next_place t o.tiles entry_at index r.run x) at r.gives in
+        let b = entry_behind edition t (start_of t ps r.run) st.end f.before f.after s st.end_line st.more gives in
         record {
           start = run_start r.run r.is b.start;
-          end = boundary s.end b.inside (begins_may (drop s.end t) b.begins);
+          end = boundary s.end b.inside (ends_may (drop s.end t) b.begins);
         }

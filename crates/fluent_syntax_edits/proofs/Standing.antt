@@ -1,38 +1,29 @@
 -- Where an entry that was found stands, and what stands behind it.
-use Rattle.std.proofs.Common.{◌≡◌, ℕ, ◌+◌, ◌≤◌, ◌<◌, List, [], ◌∷◌, ◌++◌, length, drop, map, Option, Some, None}
-use Rattle.std.proofs.Common.{true, refl, sym, ◌∙◌, ap, subst, arith, append_assoc, inl, inr}
-use Rattle.std.specs.Prelude.{slice_get}
-use Rattle.fluent_syntax_tree.specs.Entry.{EntryTree, entry_map}
+use Rattle.std.proofs.Common.{◌≡◌, ℕ, ◌≤◌, ◌<◌, List, [], ◌∷◌, ◌++◌, length, drop, map, Option, Some, None}
+use Rattle.std.proofs.Common.{true, false, refl, sym, ◌∙◌, ap, subst, arith, append_assoc, inl, inr}
+use Rattle.std.specs.Prelude.{Ok, slice_get}
+use Rattle.fluent_syntax_tree.specs.Entry.{EntryTree, comment, entry_map, group, junk, message, regular, resource, term}
 use Rattle.fluent_syntax_tree.specs.Spans.{bytes_at}
 use Rattle.fluent_syntax_tree.specs.declared.edition.Edition.{Edition}
 use Rattle.fluent_syntax_tree.specs.declared.spans.Span.{Span}
-use Rattle.fluent_syntax_grammar.specs.Places.{BlankBlock, has, line, no_line, starts_line}
-use Rattle.fluent_syntax_grammar.specs.Tiling.{Tile, Tiled, TileAt, Tiling, done, dropped, entry, is_entry_byte, next}
-use Rattle.fluent_syntax_grammar.specs.Tiling.{reads, refused, refuses}
-use Rattle.fluent_syntax_grammar.specs.Body.{body, faults, hangs}
-use Rattle.fluent_syntax_grammar.specs.Locality.{start_of}
+use Rattle.fluent_syntax_grammar.specs.Places.{BlankBlock, line, no_line, starts_line}
+use Rattle.fluent_syntax_grammar.specs.Tiling.{Fault, Tile, Tiled, TileAt, Tiling, done, dropped, entry, next, reads}
+use Rattle.fluent_syntax_grammar.specs.Tiling.{refused, refuses}
+use Rattle.fluent_syntax_grammar.specs.Body.{faults, hangs}
+use Rattle.fluent_syntax_grammar.specs.Locality.{Settled, start_of as tile_begin}
 use Rattle.fluent_syntax_grammar.specs.RoundTrip.{tree_of}
 use Rattle.fluent_syntax_grammar.specs.Written.{Text}
+use Rattle.fluent_syntax_grammar.proofs.Facts.{differs}
 use Rattle.fluent_syntax_grammar.proofs.LineEnds.{block_at_end}
 use Rattle.fluent_syntax_grammar.proofs.locality.EntryEnds.{AtLine, block_line}
 use Rattle.fluent_syntax_grammar.proofs.locality.InTiling.{RestAlone, Standing, rest_alone, standing}
 use Rattle.fluent_syntax_edits.specs.Places.{place_of}
-use Rattle.fluent_syntax_edits.proofs.FoundRuns.{AreKept, Found, OwnTiles, hang_yes, one, two}
-use Rattle.fluent_syntax_edits.proofs.Sound.{SoundRun}
+use Rattle.fluent_syntax_edits.specs.Refusals.{begin_of, is_junk, start_of}
+use Rattle.fluent_syntax_edits.specs.declared.places.Place.{Place}
+use Rattle.fluent_syntax_edits.proofs.FoundRuns.{AreKept, Found, OwnTiles, at_end, hang_yes, one, two}
+use Rattle.fluent_syntax_edits.proofs.Sound.{NoJunk, SoundRun}
 
--- ---- tiles without errors
-
-pub front_sound : (xs ys : List Tile) → faults (xs ++ ys) ≡ [] → faults xs ≡ []
-front_sound [] ys h = refl
-front_sound (entry s e ∷ xs) ys h = front_sound xs ys h
-front_sound (refused f ∷ xs) ys h = cc
-front_sound (dropped ∷ xs) ys h = front_sound xs ys h
-
-back_sound : (xs ys : List Tile) → faults (xs ++ ys) ≡ [] → faults ys ≡ []
-back_sound [] ys h = h
-back_sound (entry s e ∷ xs) ys h = back_sound xs ys h
-back_sound (refused f ∷ xs) ys h = cc
-back_sound (dropped ∷ xs) ys h = back_sound xs ys h
+-- ---- tiles that were not dropped
 
 kept_after : (xs ys : List Tile) → AreKept (xs ++ ys) → AreKept ys
 kept_after [] ys k = k
@@ -56,13 +47,29 @@ pub record Stands (edition : Edition) (t : List ℕ) (before own after : List Ti
   pub more : Tiled t (TileAt edition t) end after
   pub whole : EntryTree Text
   pub tree : tree_of t own ≡ whole ∷ []
+  pub no_faults : faults own ≡ []
+
+-- a comment hangs on entries
+pub hung_refused : (c : EntryTree Span) (s : Span) (v : Fault) (w : EntryTree Span) →
+    hangs (entry s c) (refused v) ≡ Some w → ⊥
+hung_refused (message m) s v w f = cc
+hung_refused (term m) s v w f = cc
+hung_refused (junk b) s v w f = cc
+hung_refused (comment regular d) s v w f = cc
+hung_refused (comment group d) s v w f = cc
+hung_refused (comment resource d) s v w f = cc
+
+-- what is no junk was not refused
+not_refused : (v : Fault) (o : Option Place) → o ≡ Some (place_of (refused v)) → NoJunk o → ⊥
+not_refused v o e n =
+    let same : place_of (refused v) ≡ n.place = let g = n.is in cc in
+    differs (sym (ap (λ (p : Place). is_junk p.kind) same)) n.kind
 
 module _ (edition : Edition) (t : List ℕ) where
   one_stands : (before : List Tile) (s : Span) (e : EntryTree Span) (after : List Tile) →
-      Tiling edition t (before ++ (entry s e ∷ after)) → faults before ≡ [] →
-      Stands edition t before (entry s e ∷ []) after
-  one_stands before s e after a f =
-      let l = standing edition t before after s e a f in
+      Tiling edition t (before ++ (entry s e ∷ after)) → Stands edition t before (entry s e ∷ []) after
+  one_stands before s e after a =
+      let l = standing edition t before after s e a in
       record {
         s = s;
         old = e;
@@ -76,18 +83,18 @@ module _ (edition : Edition) (t : List ℕ) where
         more = l.more;
         whole = entry_map (bytes_at t) e;
         tree = refl;
+        no_faults = refl;
       }
 
   two_stand : (before : List Tile) (s r : Span) (c e : EntryTree Span) (after : List Tile) →
       (h : EntryTree Span) × (hangs (entry s c) (entry r e) ≡ Some h) →
-      Tiling edition t (before ++ (entry s c ∷ entry r e ∷ after)) → faults before ≡ [] →
+      Tiling edition t (before ++ (entry s c ∷ entry r e ∷ after)) →
       Stands edition t before (entry s c ∷ entry r e ∷ []) after
-  two_stand before s r c e after h a f =
-      let l = standing edition t before (entry r e ∷ after) s c a f in
+  two_stand before s r c e after h a =
+      let l = standing edition t before (entry r e ∷ after) s c a in
       let front = before ++ (entry s c ∷ []) in
       let whole = append_assoc before (entry s c ∷ []) (entry r e ∷ after) in
-      let m = standing edition t front after r e (subst (λ xs. Tiling edition t xs) (sym whole) a)
-      (both_sound before f) in
+      let m = standing edition t front after r e (subst (λ xs. Tiling edition t xs) (sym whole) a) in
       record {
         s = s;
         old = c;
@@ -101,34 +108,45 @@ module _ (edition : Edition) (t : List ℕ) where
         more = m.more;
         whole = entry_map (bytes_at t) h.0;
         tree = rw h.1 refl;
+        no_faults = refl;
       }
-    where
-      both_sound : (xs : List Tile) → faults xs ≡ [] → faults (xs ++ (entry s c ∷ [])) ≡ []
-      both_sound [] g = refl
-      both_sound (entry q v ∷ xs) g = both_sound xs g
-      both_sound (refused v ∷ xs) g = cc
-      both_sound (dropped ∷ xs) g = both_sound xs g
 
-  pub own_stands : (before own after : List Tile) → OwnTiles own → Tiling edition t (before ++ (own ++ after)) →
-      AreKept (own ++ after) → faults before ≡ [] → faults own ≡ [] → Stands edition t before own after
-  own_stands before own after (one {x = entry s e}) a k f g = one_stands before s e after a f
-  own_stands before own after (one {x = refused v}) a k f g = cc
-  own_stands before own after (one {x = dropped}) a k f g = absurd k
-  own_stands before own after (two {x = entry s c} {y = entry r e} h) a k f g =
-      two_stand before s r c e after (hang_yes (entry s c) (entry r e) h) a f
-  own_stands before own after (two {x = refused v} {y = y} h) a k f g = cc
-  own_stands before own after (two {x = dropped} {y = y} h) a k f g = absurd k
-  own_stands before own after (two {x = entry s c} {y = refused v} h) a k f g = cc
-  own_stands before own after (two {x = entry s c} {y = dropped} h) a k f g = absurd k
+  pub own_stands : (before own after : List Tile) → OwnTiles own after → Tiling edition t (before ++ (own ++ after)) →
+      AreKept (own ++ after) → NoJunk (slice_get (map place_of (own ++ after)) 0) → Stands edition t before own after
+  own_stands before own after at_end a k n = let h = n.is in cc
+  own_stands before own after (one {x = entry s e}) a k n = one_stands before s e after a
+  own_stands before own after (one {x = refused v}) a k n = absurd (not_refused v _ refl n)
+  own_stands before own after (one {x = dropped}) a k n = absurd k
+  own_stands before own after (two {x = entry s c} {y = entry r e} h) a k n =
+      two_stand before s r c e after (hang_yes (entry s c) (entry r e) h) a
+  own_stands before own after (two {x = refused v} {y = y} h) a k n = cc
+  own_stands before own after (two {x = dropped} {y = y} h) a k n = absurd k
+  own_stands before own after (two {x = entry s c} {y = refused v} h) a k n =
+      let x = hang_yes (entry s c) (refused v) h in absurd (hung_refused c s v x.0 x.1)
+  own_stands before own after (two {x = entry s c} {y = dropped} h) a k n = absurd k
 
-  pub found_stands : (tiles : List Tile) (index : ℕ) (run : _) (x : SoundRun tiles index run) →
+  -- the entry that was found, and its place
+  pub record FoundEntry (tiles before own after : List Tile) (start : ℕ) : Type 0 where
+    pub stands : Stands edition t before own after
+    pub start_is : start ≡ stands.s.start
+    pub settled : Settled t stands.s.start before
+
+  pub found_stands : (tiles : List Tile) (test : _) (index : ℕ) (run : _) (x : SoundRun t tiles test index run) →
       Tiling edition t tiles → AreKept tiles →
-      Stands edition t x.found.before x.found.own x.found.after
-  found_stands tiles index run x a k =
+      NoJunk (slice_get (map place_of (x.found.own ++ x.found.after)) 0) →
+      FoundEntry tiles x.found.before x.found.own x.found.after (start_of t (map place_of tiles) run)
+  found_stands tiles test index run x a k n =
       let f = x.found in
+      let st =
       own_stands f.before f.own f.after f.owns (subst (λ xs. Tiling edition t xs) f.parts a)
-      (kept_after f.before (f.own ++ f.after) (subst AreKept f.parts k)) (front_sound f.before f.own x.sound)
-      (back_sound f.before f.own x.sound)
+      (kept_after f.before (f.own ++ f.after) (subst AreKept f.parts k)) n in
+      let start : start_of t (map place_of tiles) run ≡ st.s.start =
+      ap (begin_of t) (x.there ∙ ap (λ ts. slice_get (map place_of ts) 0) st.head) in
+      record {
+        stands = st;
+        start_is = start;
+        settled = subst (λ i. Settled t i f.before) start x.settled;
+      }
 
   -- ---- what stands behind
 
@@ -143,9 +161,9 @@ module _ (edition : Edition) (t : List ℕ) where
 
   -- a tile behind the start of a line begins at the start of a line, and from there on stand it and those behind it
   pub record Begins (x : Tile) (after : List Tile) : Type 0 where
-    pub line : starts_line t (start_of x) ≡ true
-    pub inside : start_of x < length t
-    pub more : Tiled t (TileAt edition t) (start_of x) (x ∷ after)
+    pub line : starts_line t (tile_begin x) ≡ true
+    pub inside : tile_begin x < length t
+    pub more : Tiled t (TileAt edition t) (tile_begin x) (x ∷ after)
 
   begins_there : (start end : ℕ) (x : Tile) (after : List Tile) → AtLine t start → BlankBlock t start start →
       start < length t → TileAt edition t start end x → Tiled t (TileAt edition t) end after → Begins x after
@@ -159,20 +177,16 @@ module _ (edition : Edition) (t : List ℕ) where
   begins i x after l (next {start = start} {end = end} b m a d) =
       begins_there start end x after (block_line t i start l b) (block_end i start b) m a d
 
-  pub rest_begins : (x : Tile) (after : List Tile) → Begins x after → RestAlone edition t (start_of x) (x ∷ after)
+  pub rest_begins : (x : Tile) (after : List Tile) → Begins x after → RestAlone edition t (tile_begin x) (x ∷ after)
   rest_begins x after b =
-      let m = b.inside in rest_alone edition t (start_of x) (x ∷ after) (omega arith) (inl b.line) b.more
+      let m = b.inside in rest_alone edition t (tile_begin x) (x ∷ after) (omega arith) (inl b.line) b.more
 
   pub rest_ends : RestAlone edition t (length t) []
   rest_ends = rest_alone edition t (length t) [] (omega arith) (inr (omega arith)) (done (block_at_end t))
 
 -- ---- places
 
-pub get_seam : {X : Type 0} (xs ys : List X) → slice_get (xs ++ ys) (length xs) ≡ slice_get ys 0
-get_seam [] ys = refl
-get_seam (x ∷ xs) ys = get_seam xs ys
-
-pub place_start : (x : Tile) → (place_of x).span.start ≡ start_of x
+pub place_start : (x : Tile) → (place_of x).span.start ≡ tile_begin x
 place_start (entry s e) = refl
 place_start (refused f) = refl
 place_start dropped = refl
