@@ -10,8 +10,8 @@ use Rattle.fluent_syntax_tree.specs.declared.spans.Span.{Span}
 use Rattle.fluent_syntax_grammar.specs.Tiling.{Fault, Tile, Tiled, TileAt, Tiling, dropped, entry, refused}
 use Rattle.fluent_syntax_grammar.specs.Body.{alone, body, faults, hangs, joined}
 use Rattle.fluent_syntax_grammar.specs.Canonical.{is_canonical}
-use Rattle.fluent_syntax_grammar.specs.Locality.{Led, NoCommentTakes, Settled, begins_comment, begins_entry, blank_lines}
-use Rattle.fluent_syntax_grammar.specs.Locality.{ends_in_comment, ends_line, ends_or_begins, entry_text, is_comment}
+use Rattle.fluent_syntax_grammar.specs.Locality.{Led, NoCommentTakes, Settled, begins_comment, begins_entry}
+use Rattle.fluent_syntax_grammar.specs.Locality.{blank_lines, ends_in_comment, ends_line, ends_or_begins, entry_text, is_comment}
 use Rattle.fluent_syntax_grammar.specs.Locality.{moved_fault, moved_tiles}
 use Rattle.fluent_syntax_grammar.specs.RoundTrip.{tree_of}
 use Rattle.fluent_syntax_grammar.specs.Written.{Text}

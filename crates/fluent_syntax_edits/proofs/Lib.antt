@@ -7,3 +7,4 @@ pub mod Edited
 pub mod Results
 pub mod RunSteps
 pub mod Reading
+pub mod Asked

@@ -1,6 +1,6 @@
 -- What the edits give, by the places that were found.
-use Rattle.std.proofs.Common.{◌≡◌, ℕ, ◌+◌, ◌-◌, ◌≤◌, ◌<◌, List, [], ◌∷◌, ◌++◌, length, drop, take, map, Bool, true, false}
-use Rattle.std.proofs.Common.{refl, sym, ◌∙◌, ap, subst, arith, inl, inr, append_assoc, length-append, length-drop}
+use Rattle.std.proofs.Common.{◌≡◌, ℕ, ◌+◌, ◌-◌, ◌≤◌, ◌<◌, List, [], ◌∷◌, ◌++◌, length, drop, take, map, Bool, true}
+use Rattle.std.proofs.Common.{false, refl, sym, ◌∙◌, ap, subst, arith, inl, inr, append_assoc, length-append, length-drop}
 use Rattle.std.proofs.Common.{Option, Some, None}
 use Rattle.std.proofs.lemmas.Bool.Decides.{nat_tests}
 use Rattle.std.proofs.lemmas.List.{append-nil, length-map, length-take-le}
@@ -36,8 +36,8 @@ use Rattle.fluent_syntax_edits.proofs.Apart.{tree_apart}
 use Rattle.fluent_syntax_edits.proofs.CommentsBefore.{FreeBefore, free_before}
 use Rattle.fluent_syntax_edits.proofs.Edited.{Away, Comes, Put, Spot, behind_put, drop_all, end_changed, end_spot}
 use Rattle.fluent_syntax_edits.proofs.Edited.{entry_spot, put, put_entry, put_length, take_away}
-use Rattle.fluent_syntax_edits.proofs.Sound.{AtSpot, NoJunk, SoundRun, at_spot, ends, entry_keeps, first_places, no_junk}
-use Rattle.fluent_syntax_edits.proofs.Sound.{place_behind, sound_of, spot_keeps, stands}
+use Rattle.fluent_syntax_edits.proofs.Sound.{AtSpot, NoJunk, SoundRun, at_spot, ends, entry_keeps, first_places}
+use Rattle.fluent_syntax_edits.proofs.Sound.{no_junk, place_behind, sound_of, spot_keeps, stands}
 use Rattle.fluent_syntax_edits.proofs.Standing.{Begins, FoundEntry, Stands, begins, found_stands, kept_tiles}
 use Rattle.fluent_syntax_edits.proofs.Standing.{place_start, rest_begins, rest_ends}
 
@@ -126,7 +126,8 @@ module _ (edition : Edition) (t : List ℕ) (tiles : List Tile) (a : Tiling edit
   entry_there : (x : SoundRun t tiles entry_at index run) →
       FoundEntry edition t tiles x.found.before x.found.own x.found.after (start_of t (map place_of tiles) run)
   entry_there x =
-      found_stands edition t tiles entry_at index run x a (kept_tiles edition t 0 tiles a) (no_junk run run _ x.tested).1
+      found_stands edition t tiles entry_at index run x a (kept_tiles edition t 0 tiles a)
+      (no_junk run run _ x.tested).1
 
 -- ---- what stands behind
 

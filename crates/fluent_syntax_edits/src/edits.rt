@@ -69,7 +69,9 @@ pub fn insert<'s, S: Slice<'s>>(
 {
     let text = entry_text(alloc, edition, entry)?;
     let places = outline(alloc, source, edition)?;
-    let stretch = before_entry(source.as_bytes(), &places, index, text.as_bytes())?;
+    let bytes = source.as_bytes();
+    let written = text.as_bytes();
+    let stretch = before_entry(bytes, &places, index, written)?;
     Ok(spliced(alloc, source, stretch, text.as_str(), 0)?)
 }
 

@@ -18,8 +18,8 @@ pub enum EditFault {
     #[error("it is junk")]
     IsJunk(Span),
     /// Junk before the place may change with what stands there, and this is the first such junk: it ends less than four
-    /// bytes before the place, or has a refused attribute in it. So in `a = b⏎␣␣.c = {⏎d = e⏎`, where another entry than
-    /// `d` may close the brace.
+    /// bytes before the place, or has a refused attribute in it. So `a = {⏎` before `# b⏎`: before `c = d⏎` it would go
+    /// on.
     #[error("there is junk before the place that can change with what stands there")]
     JunkBefore(Span),
     /// What stands directly behind the place begins like no entry, so it could be read as a part of the entry before

@@ -32,8 +32,8 @@ fn entry_end(places: &[Place], first: usize) -> usize
     }
 }
 
-/// The places of the entry of that number, counted from 0. None and where the text ends, where the number is that behind
-/// all; `None` where it is a greater one.
+/// The places of the entry of that number, counted from 0. With the number behind all these are none, at the end of the
+/// places; with a greater one it is `None`.
 pub(crate) fn run_of(places: &[Place], index: usize) -> Option<Run>
     ensures run { result ≡ run_from 0 index places.now }
     ensures within { IfSome result (λ run. (run.first ≤ run.end) × (run.end ≤ length places.now)) }

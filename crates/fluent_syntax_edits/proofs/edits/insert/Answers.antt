@@ -6,6 +6,7 @@ use Rattle.fluent_syntax_grammar.specs.Locality.{blank_lines, entry_text}
 use Rattle.fluent_syntax_edits.specs.Edits.{IsInserted, no_memory, refused}
 use Rattle.fluent_syntax_edits.specs.Places.{place_of}
 use Rattle.fluent_syntax_edits.specs.Refusals.{before_entry}
+use Rattle.fluent_syntax_edits.proofs.Asked.{asked}
 use Rattle.fluent_syntax_edits.proofs.Results.{insert_cuts, inserted}
 use Rattle.fluent_syntax_edits.proofs.edits.insert.Goals as goal
 
@@ -24,10 +25,8 @@ returns-in_err-stretch-clause-fault g c =
     let p = err_from_is_err_and c.from_residual-in_err-stretch.result c.from_residual-in_err-stretch.ensures.1 in
     rw (p.1, p.2)
     (inr (refused c.in_ok-places.places.items c.in_ok-places.ensures
-    (sym (c.in_err-stretch.ensures
-    ∙ (ap (λ ps. before_entry ps c.args.index c.as_bytes.result.now) c.deref.ensures.value
-    ∙ ap (before_entry c.in_ok-places.places.items c.args.index)
-    (c.as_bytes.ensures.value ∙ c.in_ok-text.ensures.text))))))
+    (asked (λ t ps w. before_entry t ps c.args.index w) c.in_err-stretch.ensures c.as_bytes-bytes.ensures.value
+    c.deref.ensures.value (c.as_bytes-written.ensures.value ∙ c.in_ok-text.ensures.text))))
 
 pub returns-in_err-spliced-clause-fault : goal.returns-in_err-spliced-clause-fault
 returns-in_err-spliced-clause-fault g c =
@@ -36,75 +35,60 @@ returns-in_err-spliced-clause-fault g c =
 
 pub spliced-requires-clause-start : goal.spliced-requires-clause-start
 spliced-requires-clause-start g c =
-    let there : before_entry (map place_of c.in_ok-places.ensures.tiles) c.args.index
-    (entry_text (entry_view g.S.Slice.text c.args.entry.now))
+    let e = entry_view g.S.Slice.text c.args.entry.now in
+    let there : before_entry c.args.source.now (map place_of c.in_ok-places.ensures.tiles) c.args.index (entry_text e)
     ≡ Ok c.in_ok-stretch.stretch =
-    sym (c.in_ok-stretch.ensures
-    ∙ (ap (λ ps. before_entry ps c.args.index c.as_bytes.result.now)
+    asked (λ t ps w. before_entry t ps c.args.index w) c.in_ok-stretch.ensures c.as_bytes-bytes.ensures.value
     (c.deref.ensures.value ∙ c.in_ok-places.ensures.places_of)
-    ∙ ap (before_entry (map place_of c.in_ok-places.ensures.tiles) c.args.index)
-    (c.as_bytes.ensures.value ∙ c.in_ok-text.ensures.text))) in
-    let cuts = insert_cuts c.args.source.now c.utf8.source c.args.edition
-    c.in_ok-places.places.items c.in_ok-places.ensures c.args.index c.in_ok-stretch.stretch
-    (entry_text (entry_view g.S.Slice.text c.args.entry.now)) there in
+    (c.as_bytes-written.ensures.value ∙ c.in_ok-text.ensures.text) in
+    let cuts = insert_cuts c.args.source.now c.utf8.source c.args.edition c.in_ok-places.places.items
+    c.in_ok-places.ensures c.args.index c.in_ok-stretch.stretch (entry_text e) there in
     cuts.start.0
 
 pub spliced-requires-clause-end : goal.spliced-requires-clause-end
 spliced-requires-clause-end g c =
-    let there : before_entry (map place_of c.in_ok-places.ensures.tiles) c.args.index
-    (entry_text (entry_view g.S.Slice.text c.args.entry.now))
+    let e = entry_view g.S.Slice.text c.args.entry.now in
+    let there : before_entry c.args.source.now (map place_of c.in_ok-places.ensures.tiles) c.args.index (entry_text e)
     ≡ Ok c.in_ok-stretch.stretch =
-    sym (c.in_ok-stretch.ensures
-    ∙ (ap (λ ps. before_entry ps c.args.index c.as_bytes.result.now)
+    asked (λ t ps w. before_entry t ps c.args.index w) c.in_ok-stretch.ensures c.as_bytes-bytes.ensures.value
     (c.deref.ensures.value ∙ c.in_ok-places.ensures.places_of)
-    ∙ ap (before_entry (map place_of c.in_ok-places.ensures.tiles) c.args.index)
-    (c.as_bytes.ensures.value ∙ c.in_ok-text.ensures.text))) in
-    let cuts = insert_cuts c.args.source.now c.utf8.source c.args.edition
-    c.in_ok-places.places.items c.in_ok-places.ensures c.args.index c.in_ok-stretch.stretch
-    (entry_text (entry_view g.S.Slice.text c.args.entry.now)) there in
+    (c.as_bytes-written.ensures.value ∙ c.in_ok-text.ensures.text) in
+    let cuts = insert_cuts c.args.source.now c.utf8.source c.args.edition c.in_ok-places.places.items
+    c.in_ok-places.ensures c.args.index c.in_ok-stretch.stretch (entry_text e) there in
     cuts.end.0
 
 pub spliced-requires-clause-start_boundary : goal.spliced-requires-clause-start_boundary
 spliced-requires-clause-start_boundary g c =
-    let there : before_entry (map place_of c.in_ok-places.ensures.tiles) c.args.index
-    (entry_text (entry_view g.S.Slice.text c.args.entry.now))
+    let e = entry_view g.S.Slice.text c.args.entry.now in
+    let there : before_entry c.args.source.now (map place_of c.in_ok-places.ensures.tiles) c.args.index (entry_text e)
     ≡ Ok c.in_ok-stretch.stretch =
-    sym (c.in_ok-stretch.ensures
-    ∙ (ap (λ ps. before_entry ps c.args.index c.as_bytes.result.now)
+    asked (λ t ps w. before_entry t ps c.args.index w) c.in_ok-stretch.ensures c.as_bytes-bytes.ensures.value
     (c.deref.ensures.value ∙ c.in_ok-places.ensures.places_of)
-    ∙ ap (before_entry (map place_of c.in_ok-places.ensures.tiles) c.args.index)
-    (c.as_bytes.ensures.value ∙ c.in_ok-text.ensures.text))) in
-    let cuts = insert_cuts c.args.source.now c.utf8.source c.args.edition
-    c.in_ok-places.places.items c.in_ok-places.ensures c.args.index c.in_ok-stretch.stretch
-    (entry_text (entry_view g.S.Slice.text c.args.entry.now)) there in
+    (c.as_bytes-written.ensures.value ∙ c.in_ok-text.ensures.text) in
+    let cuts = insert_cuts c.args.source.now c.utf8.source c.args.edition c.in_ok-places.places.items
+    c.in_ok-places.ensures c.args.index c.in_ok-stretch.stretch (entry_text e) there in
     cuts.start
 
 pub spliced-requires-clause-end_boundary : goal.spliced-requires-clause-end_boundary
 spliced-requires-clause-end_boundary g c =
-    let there : before_entry (map place_of c.in_ok-places.ensures.tiles) c.args.index
-    (entry_text (entry_view g.S.Slice.text c.args.entry.now))
+    let e = entry_view g.S.Slice.text c.args.entry.now in
+    let there : before_entry c.args.source.now (map place_of c.in_ok-places.ensures.tiles) c.args.index (entry_text e)
     ≡ Ok c.in_ok-stretch.stretch =
-    sym (c.in_ok-stretch.ensures
-    ∙ (ap (λ ps. before_entry ps c.args.index c.as_bytes.result.now)
+    asked (λ t ps w. before_entry t ps c.args.index w) c.in_ok-stretch.ensures c.as_bytes-bytes.ensures.value
     (c.deref.ensures.value ∙ c.in_ok-places.ensures.places_of)
-    ∙ ap (before_entry (map place_of c.in_ok-places.ensures.tiles) c.args.index)
-    (c.as_bytes.ensures.value ∙ c.in_ok-text.ensures.text))) in
-    let cuts = insert_cuts c.args.source.now c.utf8.source c.args.edition
-    c.in_ok-places.places.items c.in_ok-places.ensures c.args.index c.in_ok-stretch.stretch
-    (entry_text (entry_view g.S.Slice.text c.args.entry.now)) there in
+    (c.as_bytes-written.ensures.value ∙ c.in_ok-text.ensures.text) in
+    let cuts = insert_cuts c.args.source.now c.utf8.source c.args.edition c.in_ok-places.places.items
+    c.in_ok-places.ensures c.args.index c.in_ok-stretch.stretch (entry_text e) there in
     cuts.end
 
 pub returns-clause-tree : goal.returns-clause-tree
 returns-clause-tree g c =
-    let there : before_entry (map place_of c.in_ok-places.ensures.tiles) c.args.index
-    (entry_text (entry_view g.S.Slice.text c.args.entry.now))
-    ≡ Ok c.in_ok-stretch.stretch =
-    sym (c.in_ok-stretch.ensures
-    ∙ (ap (λ ps. before_entry ps c.args.index c.as_bytes.result.now)
-    (c.deref.ensures.value ∙ c.in_ok-places.ensures.places_of)
-    ∙ ap (before_entry (map place_of c.in_ok-places.ensures.tiles) c.args.index)
-    (c.as_bytes.ensures.value ∙ c.in_ok-text.ensures.text))) in
     let e = entry_view g.S.Slice.text c.args.entry.now in
+    let there : before_entry c.args.source.now (map place_of c.in_ok-places.ensures.tiles) c.args.index (entry_text e)
+    ≡ Ok c.in_ok-stretch.stretch =
+    asked (λ t ps w. before_entry t ps c.args.index w) c.in_ok-stretch.ensures c.as_bytes-bytes.ensures.value
+    (c.deref.ensures.value ∙ c.in_ok-places.ensures.places_of)
+    (c.as_bytes-written.ensures.value ∙ c.in_ok-text.ensures.text) in
     let s = c.in_ok-stretch.stretch in
     let t = c.args.source.now in
     let text = c.as_str.ensures.value ∙ c.in_ok-text.ensures.text in

@@ -6,6 +6,7 @@ use Rattle.fluent_syntax_grammar.specs.Locality.{blank_lines, entry_text}
 use Rattle.fluent_syntax_edits.specs.Edits.{IsReplaced, no_memory, refused}
 use Rattle.fluent_syntax_edits.specs.Places.{place_of}
 use Rattle.fluent_syntax_edits.specs.Refusals.{in_place_of}
+use Rattle.fluent_syntax_edits.proofs.Asked.{asked}
 use Rattle.fluent_syntax_edits.proofs.Results.{replace_cuts, replaced}
 use Rattle.fluent_syntax_edits.proofs.edits.replace.Goals as goal
 
@@ -24,13 +25,8 @@ returns-in_err-stretch-clause-fault g c =
     let p = err_from_is_err_and c.from_residual-in_err-stretch.result c.from_residual-in_err-stretch.ensures.1 in
     rw (p.1, p.2)
     (inr (refused c.in_ok-places.places.items c.in_ok-places.ensures
-    (sym (c.in_err-stretch.ensures
-    ∙ (ap (λ t. in_place_of t c.deref.result.now c.args.index c.as_bytes-written.result.now)
-    c.as_bytes-bytes.ensures.value
-    ∙ (ap (λ ps. in_place_of c.args.source.now ps c.args.index c.as_bytes-written.result.now)
-    c.deref.ensures.value
-    ∙ ap (in_place_of c.args.source.now c.in_ok-places.places.items c.args.index)
-    (c.as_bytes-written.ensures.value ∙ c.in_ok-text.ensures.text)))))))
+    (asked (λ t ps w. in_place_of t ps c.args.index w) c.in_err-stretch.ensures c.as_bytes-bytes.ensures.value
+    c.deref.ensures.value (c.as_bytes-written.ensures.value ∙ c.in_ok-text.ensures.text))))
 
 pub returns-in_err-spliced-clause-fault : goal.returns-in_err-spliced-clause-fault
 returns-in_err-spliced-clause-fault g c =
@@ -39,102 +35,72 @@ returns-in_err-spliced-clause-fault g c =
 
 pub kept_lines-blank-requires : goal.kept_lines-blank-requires
 kept_lines-blank-requires g c =
-    let there : in_place_of c.args.source.now (map place_of c.in_ok-places.ensures.tiles) c.args.index
-    (entry_text (entry_view g.S.Slice.text c.args.entry.now))
+    let e = entry_view g.S.Slice.text c.args.entry.now in
+    let there : in_place_of c.args.source.now (map place_of c.in_ok-places.ensures.tiles) c.args.index (entry_text e)
     ≡ Ok c.in_ok-stretch.stretch =
-    sym (c.in_ok-stretch.ensures
-    ∙ (ap (λ t. in_place_of t c.deref.result.now c.args.index c.as_bytes-written.result.now)
-    c.as_bytes-bytes.ensures.value
-    ∙ (ap (λ ps. in_place_of c.args.source.now ps c.args.index c.as_bytes-written.result.now)
+    asked (λ t ps w. in_place_of t ps c.args.index w) c.in_ok-stretch.ensures c.as_bytes-bytes.ensures.value
     (c.deref.ensures.value ∙ c.in_ok-places.ensures.places_of)
-    ∙ ap (in_place_of c.args.source.now (map place_of c.in_ok-places.ensures.tiles) c.args.index)
-    (c.as_bytes-written.ensures.value ∙ c.in_ok-text.ensures.text)))) in
-    let cuts = replace_cuts c.args.source.now c.utf8.source c.args.edition
-    c.in_ok-places.places.items c.in_ok-places.ensures c.args.index c.in_ok-stretch.stretch
-    (entry_text (entry_view g.S.Slice.text c.args.entry.now)) there in
+    (c.as_bytes-written.ensures.value ∙ c.in_ok-text.ensures.text) in
+    let cuts = replace_cuts c.args.source.now c.utf8.source c.args.edition c.in_ok-places.places.items
+    c.in_ok-places.ensures c.args.index c.in_ok-stretch.stretch (entry_text e) there in
     subst (λ xs. c.in_ok-stretch.stretch.end ≤ length xs) (sym c.as_bytes-bytes.ensures.value) cuts.end.0
 
 pub spliced-requires-clause-start : goal.spliced-requires-clause-start
 spliced-requires-clause-start g c =
-    let there : in_place_of c.args.source.now (map place_of c.in_ok-places.ensures.tiles) c.args.index
-    (entry_text (entry_view g.S.Slice.text c.args.entry.now))
+    let e = entry_view g.S.Slice.text c.args.entry.now in
+    let there : in_place_of c.args.source.now (map place_of c.in_ok-places.ensures.tiles) c.args.index (entry_text e)
     ≡ Ok c.in_ok-stretch.stretch =
-    sym (c.in_ok-stretch.ensures
-    ∙ (ap (λ t. in_place_of t c.deref.result.now c.args.index c.as_bytes-written.result.now)
-    c.as_bytes-bytes.ensures.value
-    ∙ (ap (λ ps. in_place_of c.args.source.now ps c.args.index c.as_bytes-written.result.now)
+    asked (λ t ps w. in_place_of t ps c.args.index w) c.in_ok-stretch.ensures c.as_bytes-bytes.ensures.value
     (c.deref.ensures.value ∙ c.in_ok-places.ensures.places_of)
-    ∙ ap (in_place_of c.args.source.now (map place_of c.in_ok-places.ensures.tiles) c.args.index)
-    (c.as_bytes-written.ensures.value ∙ c.in_ok-text.ensures.text)))) in
-    let cuts = replace_cuts c.args.source.now c.utf8.source c.args.edition
-    c.in_ok-places.places.items c.in_ok-places.ensures c.args.index c.in_ok-stretch.stretch
-    (entry_text (entry_view g.S.Slice.text c.args.entry.now)) there in
+    (c.as_bytes-written.ensures.value ∙ c.in_ok-text.ensures.text) in
+    let cuts = replace_cuts c.args.source.now c.utf8.source c.args.edition c.in_ok-places.places.items
+    c.in_ok-places.ensures c.args.index c.in_ok-stretch.stretch (entry_text e) there in
     cuts.start.0
 
 pub spliced-requires-clause-end : goal.spliced-requires-clause-end
 spliced-requires-clause-end g c =
-    let there : in_place_of c.args.source.now (map place_of c.in_ok-places.ensures.tiles) c.args.index
-    (entry_text (entry_view g.S.Slice.text c.args.entry.now))
+    let e = entry_view g.S.Slice.text c.args.entry.now in
+    let there : in_place_of c.args.source.now (map place_of c.in_ok-places.ensures.tiles) c.args.index (entry_text e)
     ≡ Ok c.in_ok-stretch.stretch =
-    sym (c.in_ok-stretch.ensures
-    ∙ (ap (λ t. in_place_of t c.deref.result.now c.args.index c.as_bytes-written.result.now)
-    c.as_bytes-bytes.ensures.value
-    ∙ (ap (λ ps. in_place_of c.args.source.now ps c.args.index c.as_bytes-written.result.now)
+    asked (λ t ps w. in_place_of t ps c.args.index w) c.in_ok-stretch.ensures c.as_bytes-bytes.ensures.value
     (c.deref.ensures.value ∙ c.in_ok-places.ensures.places_of)
-    ∙ ap (in_place_of c.args.source.now (map place_of c.in_ok-places.ensures.tiles) c.args.index)
-    (c.as_bytes-written.ensures.value ∙ c.in_ok-text.ensures.text)))) in
-    let cuts = replace_cuts c.args.source.now c.utf8.source c.args.edition
-    c.in_ok-places.places.items c.in_ok-places.ensures c.args.index c.in_ok-stretch.stretch
-    (entry_text (entry_view g.S.Slice.text c.args.entry.now)) there in
+    (c.as_bytes-written.ensures.value ∙ c.in_ok-text.ensures.text) in
+    let cuts = replace_cuts c.args.source.now c.utf8.source c.args.edition c.in_ok-places.places.items
+    c.in_ok-places.ensures c.args.index c.in_ok-stretch.stretch (entry_text e) there in
     cuts.end.0
 
 pub spliced-requires-clause-start_boundary : goal.spliced-requires-clause-start_boundary
 spliced-requires-clause-start_boundary g c =
-    let there : in_place_of c.args.source.now (map place_of c.in_ok-places.ensures.tiles) c.args.index
-    (entry_text (entry_view g.S.Slice.text c.args.entry.now))
+    let e = entry_view g.S.Slice.text c.args.entry.now in
+    let there : in_place_of c.args.source.now (map place_of c.in_ok-places.ensures.tiles) c.args.index (entry_text e)
     ≡ Ok c.in_ok-stretch.stretch =
-    sym (c.in_ok-stretch.ensures
-    ∙ (ap (λ t. in_place_of t c.deref.result.now c.args.index c.as_bytes-written.result.now)
-    c.as_bytes-bytes.ensures.value
-    ∙ (ap (λ ps. in_place_of c.args.source.now ps c.args.index c.as_bytes-written.result.now)
+    asked (λ t ps w. in_place_of t ps c.args.index w) c.in_ok-stretch.ensures c.as_bytes-bytes.ensures.value
     (c.deref.ensures.value ∙ c.in_ok-places.ensures.places_of)
-    ∙ ap (in_place_of c.args.source.now (map place_of c.in_ok-places.ensures.tiles) c.args.index)
-    (c.as_bytes-written.ensures.value ∙ c.in_ok-text.ensures.text)))) in
-    let cuts = replace_cuts c.args.source.now c.utf8.source c.args.edition
-    c.in_ok-places.places.items c.in_ok-places.ensures c.args.index c.in_ok-stretch.stretch
-    (entry_text (entry_view g.S.Slice.text c.args.entry.now)) there in
+    (c.as_bytes-written.ensures.value ∙ c.in_ok-text.ensures.text) in
+    let cuts = replace_cuts c.args.source.now c.utf8.source c.args.edition c.in_ok-places.places.items
+    c.in_ok-places.ensures c.args.index c.in_ok-stretch.stretch (entry_text e) there in
     cuts.start
 
 pub spliced-requires-clause-end_boundary : goal.spliced-requires-clause-end_boundary
 spliced-requires-clause-end_boundary g c =
-    let there : in_place_of c.args.source.now (map place_of c.in_ok-places.ensures.tiles) c.args.index
-    (entry_text (entry_view g.S.Slice.text c.args.entry.now))
+    let e = entry_view g.S.Slice.text c.args.entry.now in
+    let there : in_place_of c.args.source.now (map place_of c.in_ok-places.ensures.tiles) c.args.index (entry_text e)
     ≡ Ok c.in_ok-stretch.stretch =
-    sym (c.in_ok-stretch.ensures
-    ∙ (ap (λ t. in_place_of t c.deref.result.now c.args.index c.as_bytes-written.result.now)
-    c.as_bytes-bytes.ensures.value
-    ∙ (ap (λ ps. in_place_of c.args.source.now ps c.args.index c.as_bytes-written.result.now)
+    asked (λ t ps w. in_place_of t ps c.args.index w) c.in_ok-stretch.ensures c.as_bytes-bytes.ensures.value
     (c.deref.ensures.value ∙ c.in_ok-places.ensures.places_of)
-    ∙ ap (in_place_of c.args.source.now (map place_of c.in_ok-places.ensures.tiles) c.args.index)
-    (c.as_bytes-written.ensures.value ∙ c.in_ok-text.ensures.text)))) in
-    let cuts = replace_cuts c.args.source.now c.utf8.source c.args.edition
-    c.in_ok-places.places.items c.in_ok-places.ensures c.args.index c.in_ok-stretch.stretch
-    (entry_text (entry_view g.S.Slice.text c.args.entry.now)) there in
+    (c.as_bytes-written.ensures.value ∙ c.in_ok-text.ensures.text) in
+    let cuts = replace_cuts c.args.source.now c.utf8.source c.args.edition c.in_ok-places.places.items
+    c.in_ok-places.ensures c.args.index c.in_ok-stretch.stretch (entry_text e) there in
     cuts.end
 
 pub returns-clause-tree : goal.returns-clause-tree
 returns-clause-tree g c =
-    let there : in_place_of c.args.source.now (map place_of c.in_ok-places.ensures.tiles) c.args.index
-    (entry_text (entry_view g.S.Slice.text c.args.entry.now))
-    ≡ Ok c.in_ok-stretch.stretch =
-    sym (c.in_ok-stretch.ensures
-    ∙ (ap (λ t. in_place_of t c.deref.result.now c.args.index c.as_bytes-written.result.now)
-    c.as_bytes-bytes.ensures.value
-    ∙ (ap (λ ps. in_place_of c.args.source.now ps c.args.index c.as_bytes-written.result.now)
-    (c.deref.ensures.value ∙ c.in_ok-places.ensures.places_of)
-    ∙ ap (in_place_of c.args.source.now (map place_of c.in_ok-places.ensures.tiles) c.args.index)
-    (c.as_bytes-written.ensures.value ∙ c.in_ok-text.ensures.text)))) in
     let e = entry_view g.S.Slice.text c.args.entry.now in
+    let there : in_place_of c.args.source.now (map place_of c.in_ok-places.ensures.tiles) c.args.index (entry_text e)
+    ≡ Ok c.in_ok-stretch.stretch =
+    asked (λ t ps w. in_place_of t ps c.args.index w) c.in_ok-stretch.ensures c.as_bytes-bytes.ensures.value
+    (c.deref.ensures.value ∙ c.in_ok-places.ensures.places_of)
+    (c.as_bytes-written.ensures.value ∙ c.in_ok-text.ensures.text) in
     let s = c.in_ok-stretch.stretch in
     let t = c.args.source.now in
     let text = c.as_str.ensures.value ∙ c.in_ok-text.ensures.text in
