@@ -1,5 +1,5 @@
 //! What has to hold where a text is to be changed.
-ghost use Rattle.std.specs.Prelude.{◌≡◌, ◌≤◌, drop, length, slice_get, take, IfOk, Ok};
+ghost use Rattle.std.specs.Prelude.{◌≡◌, ◌+◌, ◌≤◌, drop, nat_le, length, slice_get, take, IfOk, Ok};
 ghost use Rattle.fluent_syntax_edits.specs.Refusals.{
   before_entry,
   comment_before,
@@ -112,13 +112,23 @@ fn ends_at_attribute(source: &[u8], ended: Option<usize>) -> bool
     }
 }
 
+/// Whether what ends there ends four bytes before the place, or earlier.
+fn ends_early(end: usize, place: usize) -> bool
+    ensures { result ≡ nat_le (end + 4) place }
+{
+    place.saturating_sub(end) >= 4
+}
+
 /// Whether the junk stays as it is, whatever stands from the place on.
 fn stays(source: &[u8], place: usize, junk: Place) -> bool
     ensures { result ≡ stays source.now place junk }
 {
-    junk.span.end.saturating_add(4) <= place
-        && !begins_attribute(rest_of(source, junk.span.start))
-        && !ends_at_attribute(source, junk.ended)
+    if ends_early(junk.span.end, place) {
+        !begins_attribute(rest_of(source, junk.span.start))
+            && !ends_at_attribute(source, junk.ended)
+    } else {
+        false
+    }
 }
 
 /// The first junk that may change with what stands from the place on.

@@ -36,8 +36,8 @@ fn are_edited<'a, 'b>(
     before == before_new && after == after_new
 }
 
-/// Makes the three edits of the entry of that number, and reads what they give.
-fn assert_edits(alloc: Global, text: &str, index: usize, new: &str) -> Result<(), Fail> {
+/// Makes the three edits of the entry of that number, and reads what they give. How many were not refused.
+fn assert_edits(alloc: Global, text: &str, index: usize, new: &str) -> Result<usize, Fail> {
     if text.len() == usize::MAX {
         return Err(Fail::from("too long"));
     }
@@ -49,6 +49,7 @@ fn assert_edits(alloc: Global, text: &str, index: usize, new: &str) -> Result<()
         (insert(alloc, text, Edition::One, index, entry), 0, 1),
         (remove(alloc, text, Edition::One, index), 1, 0),
     ];
+    let mut count = 0usize;
     for (made, removed, inserted) in &made {
         let Ok(made) = made else {
             continue;
@@ -57,8 +58,9 @@ fn assert_edits(alloc: Global, text: &str, index: usize, new: &str) -> Result<()
         let holds = errors.len() == old_errors.len()
             && are_edited(&old_tree.body, &tree.body, index, *removed, *inserted);
         assert_holds(alloc, text, holds)?;
+        count = count.wrapping_add(1);
     }
-    Ok(())
+    Ok(count)
 }
 
 /// Each two texts of the corpus, one behind the other.
@@ -66,13 +68,14 @@ fn assert_edits(alloc: Global, text: &str, index: usize, new: &str) -> Result<()
 fn many_edits(rt: HostRuntime) -> Result<(), Fail> {
     let alloc = rt.alloc();
     let mut count = 0usize;
+    let mut made = 0usize;
     for first in &TEXTS {
         for second in &TEXTS {
             let text = format!(in alloc; "{first}\n{second}")?;
             let new = NEW[count % 4];
-            assert_edits(alloc, text.as_str(), count % 5, new)?;
+            made = made.wrapping_add(assert_edits(alloc, text.as_str(), count % 5, new)?);
             count = count.wrapping_add(1);
         }
     }
-    Ok(())
+    assert_holds(alloc, "few edits were made", made > count)
 }
