@@ -116,18 +116,18 @@ module _ (t : List ℕ) (tiles : List Tile) (test : Run → Option Place → Res
 
 -- the entry that the test lets pass
 module _ (edition : Edition) (t : List ℕ) (tiles : List Tile) (a : Tiling edition t tiles) (index : ℕ) (run : Run)
-    where
-  entry_found : sound_run t (map place_of tiles) index ≡ Ok run → SoundRun t tiles entry_at index run
-  entry_found h = sound_of t tiles entry_at entry_keeps index run (kept_tiles edition t 0 tiles a) h
+  where
+    entry_found : sound_run t (map place_of tiles) index ≡ Ok run → SoundRun t tiles entry_at index run
+    entry_found h = sound_of t tiles entry_at entry_keeps index run (kept_tiles edition t 0 tiles a) h
 
-  spot_found : sound_spot t (map place_of tiles) index ≡ Ok run → SoundRun t tiles (spot_at t) index run
-  spot_found h = sound_of t tiles (spot_at t) (spot_keeps t) index run (kept_tiles edition t 0 tiles a) h
+    spot_found : sound_spot t (map place_of tiles) index ≡ Ok run → SoundRun t tiles (spot_at t) index run
+    spot_found h = sound_of t tiles (spot_at t) (spot_keeps t) index run (kept_tiles edition t 0 tiles a) h
 
-  entry_there : (x : SoundRun t tiles entry_at index run) →
-      FoundEntry edition t tiles x.found.before x.found.own x.found.after (start_of t (map place_of tiles) run)
-  entry_there x =
-      found_stands edition t tiles entry_at index run x a (kept_tiles edition t 0 tiles a)
-      (no_junk run run _ x.tested).1
+    entry_there : (x : SoundRun t tiles entry_at index run) →
+        FoundEntry edition t tiles x.found.before x.found.own x.found.after (start_of t (map place_of tiles) run)
+    entry_there x =
+        found_stands edition t tiles entry_at index run x a (kept_tiles edition t 0 tiles a)
+        (no_junk run run _ x.tested).1
 
 -- ---- what stands behind
 

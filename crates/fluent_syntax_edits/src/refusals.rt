@@ -294,7 +294,10 @@ fn up_to_entry(source: &[u8], places: &[Place], run: Run) -> Result<Stretch, Edi
 {
     let start = start_of(source, places, run);
     let Some(next) = place_at(places, run.end) else {
-        return Ok(Stretch { start, end: source.len() });
+        return Ok(Stretch {
+            start,
+            end: source.len(),
+        });
     };
     let end = next.span.start;
     let coming = rest_of(source, end);

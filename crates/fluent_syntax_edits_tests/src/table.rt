@@ -221,12 +221,7 @@ const ROWS: [Row; 38] = [
         Remove(1),
         Ok("a = b\n"),
     ),
-    (
-        "the only one",
-        "# a\nb = c",
-        Remove(0),
-        Ok(""),
-    ),
+    ("the only one", "# a\nb = c", Remove(0), Ok("")),
     (
         "not what stands behind the last",
         "a = b\n",
