@@ -8,3 +8,4 @@ pub mod Results
 pub mod RunSteps
 pub mod Reading
 pub mod Asked
+pub mod OneEntry

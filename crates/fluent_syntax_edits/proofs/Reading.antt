@@ -10,6 +10,7 @@ use Rattle.fluent_syntax_tree.specs.declared.errors.ParserError.{ParserError}
 use Rattle.fluent_syntax_tree.specs.declared.spans.Span.{Span}
 use Rattle.fluent_syntax_grammar.specs.Places.{BlankBlock}
 use Rattle.fluent_syntax_grammar.specs.Tiling.{Fault, Tile, Tiled, TileAt, done, entry, next, reads, refused, refuses}
+use Rattle.fluent_syntax_parser.specs.Faults.{fault_of}
 use Rattle.fluent_syntax_parser.specs.Rest.{faults_of, tree_of}
 use Rattle.fluent_syntax_parser.specs.Tiles.{Gives, TileTo}
 use Rattle.fluent_syntax_parser.specs.declared.tiles.FoundTile.{FoundTile}
@@ -37,7 +38,8 @@ same_end : (f : Fault) (error : Option ParserError) → Some f ∷ [] ≡ faults
     ended_at f.kind f.pos.end ≡ ended error
 same_end f None h = cc
 same_end f (Some error) h =
-    let x = made_of _ error.slice f cc in ap (λ (f : Fault). ended_at f.kind f.pos.end) x.1
+    let told : Some f ≡ fault_of error = cc in
+    let x = made_of _ error.slice f told in ap (λ (f : Fault). ended_at f.kind f.pos.end) x.1
 
 -- ---- what was read
 
