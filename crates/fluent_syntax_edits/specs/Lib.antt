@@ -1,0 +1,5 @@
+pub mod Edits
+pub mod Places
+pub mod Refusals
+pub mod Runs
+pub mod Spliced

@@ -1,0 +1,9 @@
+//! Tests of edits: a table of edits with the texts that they give, and edits of many texts, each read again.
+#![tactic(auto)]
+
+#[cfg(test)]
+mod many;
+#[cfg(test)]
+mod table;
+#[cfg(test)]
+mod trees;
