@@ -1,10 +1,10 @@
 //! Edits of many texts. Each new text is read, and its tree is that of the old text with the edit made.
 
-use crate::trees::tree_and_errors;
+use crate::trees::owned_tree_and_errors;
 use fluent_syntax::ast::Entry;
 use fluent_syntax::parser::Edition;
 use fluent_syntax_corpus::TEXTS;
-use fluent_syntax_edits::{insert, remove, replace};
+use fluent_syntax_edits::{EditFault, insert, remove, replace};
 use fluent_syntax_tests::alike::assert_holds;
 use std::alloc::Global;
 use std::test::Fail;
@@ -16,51 +16,75 @@ const NEW: [&str; 4] = [
     "x =\n    y { $z }\n    w",
 ];
 
-/// Whether the new entries are the old ones with some in place of others from the number on.
-fn are_edited<'a, 'b>(
-    old: &[Entry<&'a str>],
-    new: &[Entry<&'a str>],
+/// Whether the new entries from the one place on are the old ones from the other.
+fn are_same_from(old: &[Entry<String>], new: &[Entry<String>], from: usize, to: usize) -> bool {
+    let Some(old) = old.get(from..) else {
+        return false;
+    };
+    let Some(new) = new.get(to..) else {
+        return false;
+    };
+    old == new
+}
+
+/// Whether the first entries are the same, so many.
+fn are_same_up_to(old: &[Entry<String>], new: &[Entry<String>], count: usize) -> bool {
+    let Some(old) = old.get(..count) else {
+        return false;
+    };
+    let Some(new) = new.get(..count) else {
+        return false;
+    };
+    old == new
+}
+
+/// An edit of the entry of that number: how many entries go, and how many come.
+#[derive(Clone, Copy)]
+struct Change {
     index: usize,
     removed: usize,
     inserted: usize,
-) -> bool {
-    let (Some(before), Some(before_new)) = (old.get(..index), new.get(..index)) else {
-        return false;
-    };
-    let (Some(after), Some(after_new)) = (
-        old.get(index.saturating_add(removed)..),
-        new.get(index.saturating_add(inserted)..),
-    ) else {
-        return false;
-    };
-    before == before_new && after == after_new
 }
 
-/// Makes the three edits of the entry of that number, and reads what they give. How many were not refused.
+/// Reads what an edit gave, if it was not refused: all other entries are the old ones. How many were read.
+fn assert_made(
+    alloc: Global,
+    text: &str,
+    change: Change,
+    made: Result<String, EditFault>,
+) -> Result<usize, Fail> {
+    let Ok(made) = made else {
+        return Ok(0);
+    };
+    let (old, old_errors) = owned_tree_and_errors(alloc, text)?;
+    let (new, new_errors) = owned_tree_and_errors(alloc, made.as_str())?;
+    let behind = change.index.saturating_add(change.removed);
+    let moved = change.index.saturating_add(change.inserted);
+    let holds = new_errors.len() == old_errors.len()
+        && are_same_up_to(&old.body, &new.body, change.index)
+        && are_same_from(&old.body, &new.body, behind, moved);
+    assert_holds(alloc, text, holds)?;
+    Ok(1)
+}
+
+/// Makes the three edits of the entry of that number. How many were not refused.
 fn assert_edits(alloc: Global, text: &str, index: usize, new: &str) -> Result<usize, Fail> {
     if text.len() == usize::MAX {
         return Err(Fail::from("too long"));
     }
-    let (old_tree, old_errors) = tree_and_errors(alloc, text)?;
-    let (new_tree, _) = tree_and_errors(alloc, new)?;
+    let (new_tree, _) = owned_tree_and_errors(alloc, new)?;
     let entry = new_tree.body.first().ok_or("no entry")?;
-    let made = [
-        (replace(alloc, text, Edition::One, index, entry), 1, 1),
-        (insert(alloc, text, Edition::One, index, entry), 0, 1),
-        (remove(alloc, text, Edition::One, index), 1, 0),
-    ];
-    let mut count = 0usize;
-    for (made, removed, inserted) in &made {
-        let Ok(made) = made else {
-            continue;
-        };
-        let (tree, errors) = tree_and_errors(alloc, made.as_str())?;
-        let holds = errors.len() == old_errors.len()
-            && are_edited(&old_tree.body, &tree.body, index, *removed, *inserted);
-        assert_holds(alloc, text, holds)?;
-        count = count.wrapping_add(1);
-    }
-    Ok(count)
+    let change = |removed, inserted| Change {
+        index,
+        removed,
+        inserted,
+    };
+    let replaced = replace(alloc, text, Edition::One, index, entry);
+    let inserted = insert(alloc, text, Edition::One, index, entry);
+    let removed = remove(alloc, text, Edition::One, index);
+    let mut count = assert_made(alloc, text, change(1, 1), replaced)?;
+    count = count.wrapping_add(assert_made(alloc, text, change(0, 1), inserted)?);
+    Ok(count.wrapping_add(assert_made(alloc, text, change(1, 0), removed)?))
 }
 
 /// Each two texts of the corpus, one behind the other.

@@ -15,3 +15,15 @@ pub fn tree_and_errors<'t>(
     }
     Ok(recovered(alloc, parse(alloc, text))?)
 }
+
+/// The same, with texts of their own.
+pub fn owned_tree_and_errors(
+    alloc: Global,
+    text: &str,
+) -> Result<(Resource<String>, Vec<ParserError>), Fail> {
+    if text.len() == usize::MAX {
+        return Err(Fail::from("too long"));
+    }
+    let text = String::from_str(alloc, text)?;
+    Ok(recovered(alloc, parse(alloc, text))?)
+}
