@@ -20,10 +20,11 @@ use fluent_syntax::spans::{Span, parse_spans_within};
 use ftl::Outcome;
 use std::alloc::Global;
 
-/// A text that was read: its tree, and its errors in order.
+/// A text that was read by an edition: its tree, and its errors in order.
 #[derive(Drop)]
 pub(crate) struct Reading<'t> {
     pub(crate) text: &'t str,
+    pub(crate) edition: Edition,
     pub(crate) tree: Resource<Span>,
     pub(crate) errors: Vec<ParserError>,
 }
@@ -76,7 +77,12 @@ fn read_text(
         return Err(Refusal::Depth);
     };
     match recovered(alloc, answer) {
-        Ok((tree, errors)) => Ok(Reading { text, tree, errors }),
+        Ok((tree, errors)) => Ok(Reading {
+            text,
+            edition,
+            tree,
+            errors,
+        }),
         Err(_) => Err(Refusal::Memory),
     }
 }
