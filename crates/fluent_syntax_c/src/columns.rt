@@ -61,14 +61,14 @@ impl<'t> Places<'t> {
     }
 }
 
-/// The columns of a byte in UTF-16 units and in characters, by its column in bytes.
-fn wide_columns(text: &str, byte: usize, column: usize) -> (usize, usize)
-    requires in_text { byte ≤ length text.now }
-    requires column { column ≡ column_at text.now byte }
-    ensures utf16 { result.0 ≡ column_utf16 text.now byte }
-    ensures characters { result.1 ≡ column_characters text.now byte }
+/// The columns of a place in UTF-16 units and in characters, by its column in bytes.
+fn wide_columns(text: &str, place: usize, column: usize) -> (usize, usize)
+    requires in_text { place ≤ length text.now }
+    requires column { column ≡ column_at text.now place }
+    ensures utf16 { result.0 ≡ column_utf16 text.now place }
+    ensures characters { result.1 ≡ column_characters text.now place }
 {
-    let before = &text.as_bytes()[byte - (column - 1)..byte];
+    let before = &text.as_bytes()[place - (column - 1)..place];
     let mut column_utf16 = 1;
     let mut column_characters = 1;
     for byte in before {

@@ -4,7 +4,8 @@ ghost use Rattle.std.specs.Prelude.{vec_len};
 ghost use Rattle.std.specs.Str.{IsUtf8};
 ghost use Rattle.fluent_syntax_tree.specs.Every.{attribute_every, entry_every, list_every};
 ghost use Rattle.fluent_syntax_tree.specs.Spans.{IsPart};
-ghost use Rattle.fluent_syntax_tree.specs.View.{attribute_view, entry_view};
+ghost use Rattle.fluent_syntax_tree.specs.View.{attribute_view};
+ghost use Rattle.fluent_syntax_parser.specs.Rest.{tree_of};
 ghost use Rattle.fluent_syntax_c.specs.Arguments.{IsNoEdition};
 ghost use Rattle.fluent_syntax_c.specs.Depth.{EditionReadsDeeper};
 ghost use Rattle.fluent_syntax_c.specs.Names.{AreEditionNames, NamesTiles, entry_rows, name_row, named_number};
@@ -18,7 +19,7 @@ use crate::readings::{outcome_of, read};
 use crate::status::Refusal;
 use fluent_syntax::ast::{Attribute, Entry};
 use fluent_syntax::parser::Edition;
-use fluent_syntax::spans::{Halt, Span, Tiles};
+use fluent_syntax::spans::{FoundTile, Halt, Span, Tiles};
 use ftl::Outcome;
 use std::alloc::{AllocError, Global};
 
@@ -121,19 +122,33 @@ fn text_rows(
     nesting: usize,
 ) -> Result<Vec<FtlName>, AllocError>
     requires { length text.now + 1 < 2 ^ 64 }
-    ensures { IfOk result (NamesTiles edition text.now) }
+    ensures { IfOk result (λ rows. NamesTiles edition text.now rows.items) }
 {
     let mut rows = Vec::new(alloc);
     let mut places = Places::new(text);
     let mut tiles = Tiles::new(text, edition, nesting, 0);
     loop {
         match tiles.next_tile(alloc) {
-            Ok(Some(found)) => add_entry(&mut rows, &mut places, found.span, &found.entry)?,
+            Ok(Some(found)) => add_found(&mut rows, &mut places, found)?,
             Ok(None) => return Ok(rows),
             // it was read before, so it is not too deep
             Err(Halt::TooDeep | Halt::Memory) => return Err(AllocError),
         }
     }
+}
+
+/// Adds the rows of what was found.
+fn add_found<'t>(
+    rows: &mut Vec<FtlName>,
+    places: &mut Places<'t>,
+    found: FoundTile,
+) -> Result<(), AllocError>
+    requires { entry_every (IsPart places.old) (tree_of found.entry) }
+    ensures rows { OnOk result (rows.new.items
+        ≡ rows.old.items ++ entry_rows places.old (vec_len rows.old) found.span (tree_of found.entry)) }
+    ensures text { places.new ≡ places.old }
+{
+    add_entry(rows, places, found.span, &found.entry)
 }
 
 /// Adds the rows of an entry that stands there.
@@ -143,20 +158,25 @@ fn add_entry<'t>(
     whole: Span,
     entry: &Entry<Span>,
 ) -> Result<(), AllocError>
-    requires { entry_every (IsPart places.old) (entry_view (λ s. s) entry.now) }
+    requires { entry_every (IsPart places.old) (tree_of entry.now) }
     ensures rows { OnOk result (rows.new.items
-        ≡ rows.old.items ++ entry_rows places.old (vec_len rows.old) whole (entry_view (λ s. s) entry.now)) }
+        ≡ rows.old.items ++ entry_rows places.old (vec_len rows.old) whole (tree_of entry.now)) }
     ensures text { places.new ≡ places.old }
 {
-    let (named, name, attributes) = match entry {
-        Entry::Message(message) => (Named::Message, message.id.name, &message.attributes),
-        Entry::Term(term) => (Named::Term, term.id.name, &term.attributes),
+    match entry {
+        Entry::Message(message) => {
+            let name = message.id.name;
+            add_owner(rows, places, Named::Message, whole, name, &message.attributes)
+        }
+        Entry::Term(term) => {
+            let name = term.id.name;
+            add_owner(rows, places, Named::Term, whole, name, &term.attributes)
+        }
         Entry::Comment(_)
         | Entry::GroupComment(_)
         | Entry::ResourceComment(_)
-        | Entry::Junk { .. } => return Ok(()),
-    };
-    add_owner(rows, places, named, whole, name, attributes)
+        | Entry::Junk { .. } => Ok(()),
+    }
 }
 
 /// Adds the rows of a message or a term that stands there, and of its attributes.
