@@ -23,6 +23,7 @@ pub(crate) struct Places<'t> {
     text: &'t str,
     lines: Lines<'t>,
     ghost same: { lines ≡ text.now },
+    ghost short: { length text.now < 2 ^ 63 },
 }
 
 impl<'t> Model for Places<'t> {
@@ -34,7 +35,7 @@ impl<'t> Model for Places<'t> {
 impl<'t> Places<'t> {
     /// The places of a text.
     pub(crate) fn new(text: &'t str) -> Self
-        requires { length text.now + 1 < 2 ^ 64 }
+        requires { length text.now + 1 < 2 ^ 63 }
         ensures { result ≡ text.now }
     {
         Places {
@@ -64,6 +65,7 @@ impl<'t> Places<'t> {
 /// The columns of a place in UTF-16 units and in characters, by its column in bytes.
 fn wide_columns(text: &str, place: usize, column: usize) -> (usize, usize)
     requires in_text { place ≤ length text.now }
+    requires short { length text.now < 2 ^ 63 }
     requires column { column ≡ column_at text.now place }
     ensures utf16 { result.0 ≡ column_utf16 text.now place }
     ensures characters { result.1 ≡ column_characters text.now place }

@@ -92,7 +92,7 @@ fn error_rows(
     text: &str,
     errors: &Vec<ParserError>,
 ) -> Result<Vec<FtlError>, AllocError>
-    requires short { length text.now + 1 < 2 ^ 64 }
+    requires short { length text.now + 1 < 2 ^ 63 }
     requires within { All (λ e. e.pos.start ≤ length text.now) errors.now.items }
     ensures { IfOk result (λ rows. rows.items ≡ map (λ e. error_row text.now (told e)) errors.now.items) }
 {

@@ -121,7 +121,7 @@ fn text_rows(
     edition: Edition,
     nesting: usize,
 ) -> Result<Vec<FtlName>, AllocError>
-    requires { length text.now + 1 < 2 ^ 64 }
+    requires { length text.now + 1 < 2 ^ 63 }
     ensures { IfOk result (λ rows. NamesTiles edition text.now rows.items) }
 {
     let mut rows = Vec::new(alloc);
