@@ -166,7 +166,14 @@ fn add_entry<'t>(
     match entry {
         Entry::Message(message) => {
             let name = message.id.name;
-            add_owner(rows, places, Named::Message, whole, name, &message.attributes)
+            add_owner(
+                rows,
+                places,
+                Named::Message,
+                whole,
+                name,
+                &message.attributes,
+            )
         }
         Entry::Term(term) => {
             let name = term.id.name;
