@@ -27,8 +27,9 @@ def _record(name, fields):
     return type(f"_{name}", (ctypes.Structure,), {"_fields_": types}), collections.namedtuple(name, fields)
 
 
-_ERROR, Error = _record("Error", ["line", "column", "start", "end", "junk_start", "junk_end", "kind"])
-_NAME, Name = _record("Name", ["line", "column", "start", "end", "owner", "kind"])
+_PLACE = ["line", "column", "column_utf16", "column_characters", "start", "end"]
+_ERROR, Error = _record("Error", [*_PLACE, "junk_start", "junk_end", "kind"])
+_NAME, Name = _record("Name", [*_PLACE, "owner", "entry_start", "entry_end", "kind"])
 
 
 class Fluent:

@@ -11,9 +11,9 @@
 #define FLUENT_H
 
 /* The version. Of a later one with the same first number each call and number of this one is as it is here. */
-#define FTL_VERSION_MAJOR 1
+#define FTL_VERSION_MAJOR 2
 #define FTL_VERSION_MINOR 0
-#define FTL_VERSION "1.0"
+#define FTL_VERSION "2.0"
 
 #include <stddef.h>
 #include <stdint.h>
@@ -83,13 +83,15 @@ enum ftl_error_kind {
 
 /* A syntax error. */
 struct ftl_error {
-    size_t line;       /* where it is: the line, from 1 */
-    size_t column;     /* and the column, from 1, in bytes */
-    size_t start;      /* its place, in bytes of the text: from start */
-    size_t end;        /* up to end */
-    size_t junk_start; /* the stretch that was refused for it, likewise */
+    size_t line;              /* where it is: the line, from 1 */
+    size_t column;            /* and the column, from 1, in bytes, */
+    size_t column_utf16;      /* in UTF-16 units */
+    size_t column_characters; /* and in characters */
+    size_t start;             /* its place, in bytes of the text: from start */
+    size_t end;               /* up to end */
+    size_t junk_start;        /* the stretch that was refused for it, likewise */
     size_t junk_end;
-    uint32_t kind;     /* an ftl_error_kind */
+    uint32_t kind;            /* an ftl_error_kind */
 };
 
 /* What a name is the name of. */
@@ -101,12 +103,17 @@ enum ftl_name_kind {
 
 /* The name of a message, of a term or of an attribute. */
 struct ftl_name {
-    size_t line;   /* where it is: the line, from 1 */
-    size_t column; /* and the column, from 1, in bytes */
-    size_t start;  /* the bytes of the text that spell it, without the '-' of a term and the '.' of an attribute: */
-    size_t end;    /* from start up to end */
-    size_t owner;  /* the row of the message or the term, from 0: the row itself, or that of which it is an attribute */
-    uint32_t kind; /* an ftl_name_kind */
+    size_t line;              /* where it is: the line, from 1 */
+    size_t column;            /* and the column, from 1, in bytes, */
+    size_t column_utf16;      /* in UTF-16 units */
+    size_t column_characters; /* and in characters */
+    size_t start;             /* the bytes of the text that spell it, without the '-' of a term and the '.' of an */
+    size_t end;               /* attribute: from start up to end */
+    size_t owner;             /* the row of the message or the term, from 0: the row itself, or that of which it is an
+                                 attribute */
+    size_t entry_start;       /* the stretch of that message or term: from its name, or from the '-' of a term, */
+    size_t entry_end;         /* up to its end, with the blank lines directly behind it */
+    uint32_t kind;            /* an ftl_name_kind */
 };
 
 /* Writes what the command, an ftl_command, writes for the text: `*needed` bytes of UTF-8 without a 0 behind them.

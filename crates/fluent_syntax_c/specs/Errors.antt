@@ -4,18 +4,21 @@ use Rattle.std.specs.Str.{IsUtf8}
 use Rattle.fluent_syntax_tree.specs.declared.edition.Edition.{Edition}
 use Rattle.fluent_syntax_grammar.specs.Body.{faults}
 use Rattle.fluent_syntax_grammar.specs.Tiling.{Fault, Tile, Tiling}
-use Rattle.fluent_syntax.specs.Lines.{line_at, column_at}
 use Rattle.ftl.specs.Answer.{outcome_of}
 use Rattle.ftl.specs.declared.outcome.Outcome.{Outcome}
 use Rattle.fluent_syntax_c.specs.Arguments.{edition_number}
+use Rattle.fluent_syntax_c.specs.Columns.{place_at}
 use Rattle.fluent_syntax_c.specs.Kinds.{kind_number}
+use Rattle.fluent_syntax_c.specs.declared.columns.Place.{Place}
 use Rattle.fluent_syntax_c.specs.declared.errors.FtlError.{FtlError}
 
--- the row of an error at a line and column
-abbrev pub row_at : (line column : ℕ) → Fault → FtlError
-row_at line column f = record {
-  line = line;
-  column = column;
+-- the row of an error at a place
+abbrev pub row_at : Place → Fault → FtlError
+row_at place f = record {
+  line = place.line;
+  column = place.column;
+  column_utf16 = place.column_utf16;
+  column_characters = place.column_characters;
   start = f.pos.start;
   end = f.pos.end;
   junk_start = f.slice.start;
@@ -25,7 +28,7 @@ row_at line column f = record {
 
 -- the row of an error of the source
 abbrev pub error_row : List ℕ → Fault → FtlError
-error_row t f = row_at (line_at t f.pos.start) (column_at t f.pos.start) f
+error_row t f = row_at (place_at t f.pos.start) f
 
 -- The source is UTF-8, and the rows are those of the errors of its tiling by the edition, in order, with the outcome.
 pub record AreErrors (edition : Edition) (t : List ℕ) (rows : List FtlError) (outcome : Outcome) : Type 0 where

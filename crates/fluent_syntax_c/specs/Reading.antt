@@ -13,6 +13,7 @@ use Rattle.fluent_syntax_c.specs.declared.readings.Reading.{Reading}
 pub record IsReading (edition : Edition) (t : List ℕ) (reading : Reading) : Type 0 where
   pub is_utf8 : IsUtf8 t
   pub text_is : reading.text.now ≡ t
+  pub edition_is : reading.edition ≡ edition
   pub tiles : List Tile
   pub has_tiles : Tiling edition t tiles
   pub tree_is : resource_view (λ s. s) reading.tree ≡ body tiles

@@ -8,12 +8,12 @@ ghost use Rattle.fluent_syntax_c.specs.Errors.{AreEditionErrors, error_row, row_
 ghost use Rattle.fluent_syntax_c.specs.Output.{Leaves};
 ghost use Rattle.fluent_syntax_c.specs.Status.{EndsAs};
 
+use crate::columns::{Place, Places};
 use crate::kinds::kind_number;
 use crate::outputs::give;
 use crate::readings::{outcome_of, read};
 use crate::status::Refusal;
 use fluent_syntax::parser::ParserError;
-use fluent_syntax::spans::Lines;
 use ftl::Outcome;
 use std::alloc::{AllocError, Global};
 
@@ -24,6 +24,9 @@ pub struct FtlError {
     /// The line and the column of the error's place, both from 1; the column counts bytes.
     pub line: usize,
     pub column: usize,
+    /// The column in UTF-16 units and in characters, both from 1.
+    pub column_utf16: usize,
+    pub column_characters: usize,
     /// The error's place, in bytes of the input.
     pub start: usize,
     pub end: usize,
@@ -89,26 +92,27 @@ fn error_rows(
     text: &str,
     errors: &Vec<ParserError>,
 ) -> Result<Vec<FtlError>, AllocError>
-    requires short { length text.now + 1 < 2 ^ 64 }
+    requires short { length text.now + 1 < 2 ^ 63 }
     requires within { All (λ e. e.pos.start ≤ length text.now) errors.now.items }
     ensures { IfOk result (λ rows. rows.items ≡ map (λ e. error_row text.now (told e)) errors.now.items) }
 {
     let mut rows = Vec::with_capacity(alloc, errors.len())?;
-    let mut places = Lines::new(text);
+    let mut places = Places::new(text);
     for error in errors {
-        let (line, column) = places.line_column(error.pos.start);
-        rows.push(row_of(line, column, error))?;
+        rows.push(row_of(places.place(error.pos.start), error))?;
     }
     Ok(rows)
 }
 
-fn row_of(line: usize, column: usize, error: &ParserError) -> FtlError
-    ensures { result ≡ row_at line column (told error.now) }
+fn row_of(place: Place, error: &ParserError) -> FtlError
+    ensures { result ≡ row_at place (told error.now) }
 {
     let junk = error.slice.as_ref().unwrap_or(&error.pos);
     FtlError {
-        line,
-        column,
+        line: place.line,
+        column: place.column,
+        column_utf16: place.column_utf16,
+        column_characters: place.column_characters,
         start: error.pos.start,
         end: error.pos.end,
         junk_start: junk.start,

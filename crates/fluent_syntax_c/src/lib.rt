@@ -6,6 +6,7 @@
 
 mod answers;
 mod arguments;
+mod columns;
 mod errors;
 mod kinds;
 mod messages;

@@ -2,21 +2,24 @@
 ghost use Rattle.std.specs.Prelude.{◌≡◌, ◌≢◌, ◌↔◌, ◌⊎◌, ◌+◌, ◌++◌, ◌<◌, ◌≤◌, ◌^◌, length, map, Err, IfOk, OnOk};
 ghost use Rattle.std.specs.Prelude.{vec_len};
 ghost use Rattle.std.specs.Str.{IsUtf8};
-ghost use Rattle.fluent_syntax_tree.specs.Every.{attribute_every, body_every, entry_every, list_every};
+ghost use Rattle.fluent_syntax_tree.specs.Every.{attribute_every, entry_every, list_every};
 ghost use Rattle.fluent_syntax_tree.specs.Spans.{IsPart};
-ghost use Rattle.fluent_syntax_tree.specs.View.{attribute_view, entry_view, resource_view};
+ghost use Rattle.fluent_syntax_tree.specs.View.{attribute_view};
+ghost use Rattle.fluent_syntax_parser.specs.Rest.{tree_of};
 ghost use Rattle.fluent_syntax_c.specs.Arguments.{IsNoEdition};
 ghost use Rattle.fluent_syntax_c.specs.Depth.{EditionReadsDeeper};
-ghost use Rattle.fluent_syntax_c.specs.Names.{AreEditionNames, body_rows, entry_rows, name_row, named_number};
+ghost use Rattle.fluent_syntax_c.specs.Names.{AreEditionNames, NamesTiles, entry_rows, name_row, named_number};
 ghost use Rattle.fluent_syntax_c.specs.Names.{owner_rows};
 ghost use Rattle.fluent_syntax_c.specs.Output.{Leaves};
 ghost use Rattle.fluent_syntax_c.specs.Status.{EndsAs};
 
+use crate::columns::Places;
 use crate::outputs::give;
 use crate::readings::{outcome_of, read};
 use crate::status::Refusal;
-use fluent_syntax::ast::{Attribute, Entry, Resource};
-use fluent_syntax::spans::{Lines, Span};
+use fluent_syntax::ast::{Attribute, Entry};
+use fluent_syntax::parser::Edition;
+use fluent_syntax::spans::{FoundTile, Halt, Span, Tiles};
 use ftl::Outcome;
 use std::alloc::{AllocError, Global};
 
@@ -27,11 +30,17 @@ pub struct FtlName {
     /// The line and the column of the name, both from 1; the column counts bytes.
     pub line: usize,
     pub column: usize,
+    /// The column in UTF-16 units and in characters, both from 1.
+    pub column_utf16: usize,
+    pub column_characters: usize,
     /// The bytes of the input that spell it. The `-` of a term and the `.` of an attribute stand before them.
     pub start: usize,
     pub end: usize,
     /// The row of the message or the term whose name or attribute it is, from 0.
     pub owner: usize,
+    /// The stretch of that message or term, with the blank lines directly behind it, and without a comment before it.
+    pub entry_start: usize,
+    pub entry_end: usize,
     /// What is named.
     pub kind: u32,
 }
@@ -99,48 +108,77 @@ fn edition_names(
     ensures tree { result ≢ Err Refusal.Tree }
 {
     let reading = read(alloc, edition, nesting, input)?;
-    match tree_rows(alloc, reading.text, &reading.tree) {
+    match text_rows(alloc, reading.text, reading.edition, nesting) {
         Ok(rows) => Ok((rows, outcome_of(&reading.errors))),
         Err(_) => Err(Refusal::Memory),
     }
 }
 
-/// The rows of a tree of the text.
-fn tree_rows(alloc: Global, text: &str, tree: &Resource<Span>) -> Result<Vec<FtlName>, AllocError>
-    requires short { length text.now + 1 < 2 ^ 64 }
-    requires parts { body_every (IsPart text.now) (resource_view (λ s. s) tree.now) }
-    ensures { IfOk result (λ rows. rows.items ≡ body_rows text.now 0 (resource_view (λ s. s) tree.now)) }
+/// The rows of the names of a text that nests no deeper than that.
+fn text_rows(
+    alloc: Global,
+    text: &str,
+    edition: Edition,
+    nesting: usize,
+) -> Result<Vec<FtlName>, AllocError>
+    requires { length text.now + 1 < 2 ^ 63 }
+    ensures { IfOk result (λ rows. NamesTiles edition text.now rows.items) }
 {
     let mut rows = Vec::new(alloc);
-    let mut places = Lines::new(text);
-    for entry in &tree.body {
-        add_entry(&mut rows, &mut places, entry)?;
+    let mut places = Places::new(text);
+    let mut tiles = Tiles::new(text, edition, nesting, 0);
+    loop {
+        match tiles.next_tile(alloc) {
+            Ok(Some(found)) => add_found(&mut rows, &mut places, found)?,
+            Ok(None) => return Ok(rows),
+            // it was read before, so it is not too deep
+            Err(Halt::TooDeep | Halt::Memory) => return Err(AllocError),
+        }
     }
-    Ok(rows)
 }
 
-/// Adds the rows of an entry.
+/// Adds the rows of what was found.
+fn add_found<'t>(
+    rows: &mut Vec<FtlName>,
+    places: &mut Places<'t>,
+    found: FoundTile,
+) -> Result<(), AllocError>
+    requires { entry_every (IsPart places.old) (tree_of found.entry) }
+    ensures rows { OnOk result (rows.new.items
+        ≡ rows.old.items ++ entry_rows places.old (vec_len rows.old) found.span (tree_of found.entry)) }
+    ensures text { places.new ≡ places.old }
+{
+    add_entry(rows, places, found.span, &found.entry)
+}
+
+/// Adds the rows of an entry that stands there.
 fn add_entry<'t>(
     rows: &mut Vec<FtlName>,
-    places: &mut Lines<'t>,
+    places: &mut Places<'t>,
+    whole: Span,
     entry: &Entry<Span>,
 ) -> Result<(), AllocError>
-    requires { entry_every (IsPart places.old) (entry_view (λ s. s) entry.now) }
+    requires { entry_every (IsPart places.old) (tree_of entry.now) }
     ensures rows { OnOk result (rows.new.items
-        ≡ rows.old.items ++ entry_rows places.old (vec_len rows.old) (entry_view (λ s. s) entry.now)) }
+        ≡ rows.old.items ++ entry_rows places.old (vec_len rows.old) whole (tree_of entry.now)) }
     ensures text { places.new ≡ places.old }
 {
     match entry {
         Entry::Message(message) => {
+            let name = message.id.name;
             add_owner(
                 rows,
                 places,
                 Named::Message,
-                message.id.name,
+                whole,
+                name,
                 &message.attributes,
             )
         }
-        Entry::Term(term) => add_owner(rows, places, Named::Term, term.id.name, &term.attributes),
+        Entry::Term(term) => {
+            let name = term.id.name;
+            add_owner(rows, places, Named::Term, whole, name, &term.attributes)
+        }
         Entry::Comment(_)
         | Entry::GroupComment(_)
         | Entry::ResourceComment(_)
@@ -148,11 +186,12 @@ fn add_entry<'t>(
     }
 }
 
-/// Adds the rows of a message or a term and its attributes.
+/// Adds the rows of a message or a term that stands there, and of its attributes.
 fn add_owner<'t>(
     rows: &mut Vec<FtlName>,
-    places: &mut Lines<'t>,
+    places: &mut Places<'t>,
     named: Named,
+    whole: Span,
     name: Span,
     attributes: &Vec<Attribute<Span>>,
 ) -> Result<(), AllocError>
@@ -160,29 +199,41 @@ fn add_owner<'t>(
     requires attributes { list_every (attribute_every (IsPart places.old))
         (map (attribute_view (λ s. s)) attributes.now.items) }
     ensures rows { OnOk result (rows.new.items ≡ rows.old.items ++
-        owner_rows places.old named (vec_len rows.old) name (map (attribute_view (λ s. s)) attributes.now.items)) }
+        owner_rows places.old named (vec_len rows.old) whole name
+        (map (attribute_view (λ s. s)) attributes.now.items)) }
     ensures text { places.new ≡ places.old }
 {
     let owner = rows.len();
-    rows.push(row_of(places, named, owner, name))?;
+    rows.push(row_of(places, named, owner, whole, name))?;
     for attribute in attributes {
-        rows.push(row_of(places, Named::Attribute, owner, attribute.id.name))?;
+        let name = attribute.id.name;
+        rows.push(row_of(places, Named::Attribute, owner, whole, name))?;
     }
     Ok(())
 }
 
-fn row_of<'t>(places: &mut Lines<'t>, named: Named, owner: usize, name: Span) -> FtlName
+fn row_of<'t>(
+    places: &mut Places<'t>,
+    named: Named,
+    owner: usize,
+    whole: Span,
+    name: Span,
+) -> FtlName
     requires { name.start ≤ length places.old }
-    ensures row { result ≡ name_row places.old named owner name }
+    ensures row { result ≡ name_row places.old named owner whole name }
     ensures text { places.new ≡ places.old }
 {
-    let (line, column) = places.line_column(name.start);
+    let place = places.place(name.start);
     FtlName {
-        line,
-        column,
+        line: place.line,
+        column: place.column,
+        column_utf16: place.column_utf16,
+        column_characters: place.column_characters,
         start: name.start,
         end: name.end,
         owner,
+        entry_start: whole.start,
+        entry_end: whole.end,
         kind: named.number(),
     }
 }

@@ -20,10 +20,11 @@ use fluent_syntax::spans::{Span, parse_spans_within};
 use ftl::Outcome;
 use std::alloc::Global;
 
-/// A text that was read: its tree, and its errors in order.
+/// A text that was read by an edition: its tree, and its errors in order.
 #[derive(Drop)]
 pub(crate) struct Reading<'t> {
     pub(crate) text: &'t str,
+    pub(crate) edition: Edition,
     pub(crate) tree: Resource<Span>,
     pub(crate) errors: Vec<ParserError>,
 }
@@ -39,7 +40,7 @@ pub(crate) fn read(
     input: &[u8],
 ) -> Result<Reading<'_>, Refusal>
     ensures reading { IfOk result (IsEditionReading edition input.now) }
-    ensures short { IfOk result (λ reading. length reading.text.now + 1 < 2 ^ 64) }
+    ensures short { IfOk result (λ reading. length reading.text.now + 1 < 2 ^ 63) }
     ensures places { IfOk result (λ reading. All (λ e. e.pos.start ≤ length reading.text.now) reading.errors.items) }
     ensures parts { IfOk result (λ reading. ResourceParts reading.text.now reading.tree) }
     ensures argument { (result ≡ Err Refusal.Argument) ↔ IsNoEdition edition }
@@ -62,9 +63,9 @@ fn read_text(
     edition: Edition,
     nesting: usize,
 ) -> Result<Reading<'_>, Refusal>
-    requires { length text.now + 1 < 2 ^ 64 }
+    requires { length text.now + 1 < 2 ^ 63 }
     ensures reading { IfOk result (IsReading edition text.now) }
-    ensures short { IfOk result (λ reading. length reading.text.now + 1 < 2 ^ 64) }
+    ensures short { IfOk result (λ reading. length reading.text.now + 1 < 2 ^ 63) }
     ensures places { IfOk result (λ reading. All (λ e. e.pos.start ≤ length reading.text.now) reading.errors.items) }
     ensures parts { IfOk result (λ reading. ResourceParts reading.text.now reading.tree) }
     ensures err { IfErr result (λ refusal. (refusal ≡ Refusal.Memory) ⊎ (refusal ≡ Refusal.Depth)) }
@@ -76,7 +77,12 @@ fn read_text(
         return Err(Refusal::Depth);
     };
     match recovered(alloc, answer) {
-        Ok((tree, errors)) => Ok(Reading { text, tree, errors }),
+        Ok((tree, errors)) => Ok(Reading {
+            text,
+            edition,
+            tree,
+            errors,
+        }),
         Err(_) => Err(Refusal::Memory),
     }
 }

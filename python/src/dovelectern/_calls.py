@@ -167,11 +167,11 @@ def _errors(data: bytes, edition: int, nesting: int) -> List[Error]:
     if not rows:
         return []
     messages = _library.messages(data, edition, nesting)
-    at = _places.in_characters(data, (place for row in rows for place in row[2:6]))
-    return [_error(data, row, message, (Span(at[row.start], at[row.end]), Span(at[row.junk_start], at[row.junk_end])))
+    at = _places.in_characters(data, (place for row in rows for place in row[4:8]))
+    return [_error(row, message, (Span(at[row.start], at[row.end]), Span(at[row.junk_start], at[row.junk_end])))
             for row, message in zip(rows, messages)]
 
 
-def _error(data: bytes, row: _library.ErrorRow, message: str, spans: Tuple[Span, Span]) -> Error:
-    column, column_utf16 = _places.columns(data, row.start, row.column)
-    return Error(_kind_name(row.kind), message, row.line, column, column_utf16, row.column, *spans)
+def _error(row: _library.ErrorRow, message: str, spans: Tuple[Span, Span]) -> Error:
+    columns = row.column_characters, row.column_utf16, row.column
+    return Error(_kind_name(row.kind), message, row.line, *columns, *spans)

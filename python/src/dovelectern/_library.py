@@ -19,10 +19,12 @@ _CLEAN, _SYNTAX_ERRORS, _WRONG_ARGUMENT, _NOT_UTF8, _NO_MEMORY, _TOO_SMALL, _TOO
 
 
 class ErrorRow(NamedTuple):
-    """An error's place, in bytes."""
+    """An error's places, in bytes; its column also in UTF-16 units and in characters."""
 
     line: int
     column: int
+    column_utf16: int
+    column_characters: int
     start: int
     end: int
     junk_start: int
@@ -31,8 +33,8 @@ class ErrorRow(NamedTuple):
 
 
 # struct ftl_error and struct ftl_name: numbers of type size_t, one of 32 bits, and what is added for the next row
-ROW = struct.Struct("@6NI0N")
-NAME_ROW = struct.Struct("@5NI0N")
+ROW = struct.Struct("@8NI0N")
+NAME_ROW = struct.Struct("@9NI0N")
 
 
 def _load() -> ctypes.CDLL:
@@ -132,10 +134,10 @@ def messages(text: bytes, edition: int, nesting: int) -> List[str]:
 def names(text: bytes, edition: int, nesting: int) -> Tuple[List[int], List[int]]:
     """Where the names of messages, terms and attributes of the text begin, in order, and where they end, in bytes."""
     rows, _ = _items("ftl_names", edition, nesting, text, NAME_ROW.size, 16 + len(text) // 64)
-    # each row is as wide as so many numbers; its start and its end are the third and the fourth
+    # each row is as wide as so many numbers; its start and its end are the fifth and the sixth
     width = NAME_ROW.size // ctypes.sizeof(ctypes.c_size_t)
     numbers = rows.cast("N")
-    return numbers[2::width].tolist(), numbers[3::width].tolist()
+    return numbers[4::width].tolist(), numbers[5::width].tolist()
 
 
 def kind_name(kind: int) -> str:

@@ -1,19 +1,13 @@
 """Places in bytes as places in characters."""
-from typing import Dict, Iterable, Tuple
+from typing import Dict, Iterable
 
 # the bytes of UTF-8 that begin no character
 _CONTINUATIONS = bytes(range(0x80, 0xC0))
-_LONG = bytes(range(0xF0))
 
 
 def characters(text: bytes) -> int:
     """How many characters begin in the bytes."""
     return len(text.translate(None, _CONTINUATIONS))
-
-
-def utf16_units(text: bytes) -> int:
-    """How many UTF-16 units the characters that begin in the bytes are."""
-    return characters(text) + len(text.translate(None, _LONG))
 
 
 def in_characters(text: bytes, places: Iterable[int]) -> Dict[int, int]:
@@ -31,9 +25,3 @@ def in_characters(text: bytes, places: Iterable[int]) -> Dict[int, int]:
         at = place
         found[place] = count
     return found
-
-
-def columns(text: bytes, place: int, column: int) -> Tuple[int, int]:
-    """The column in characters and in UTF-16 units of a place whose column in bytes is given; all count from 1."""
-    before = text[place - (column - 1):place]
-    return characters(before) + 1, utf16_units(before) + 1

@@ -10,6 +10,7 @@ returns-in-Ok-recovered-clause-reading c =
     record {
       is_utf8 = c.utf8.text;
       text_is = refl;
+      edition_is = refl;
       tiles = h.0;
       has_tiles = h.1;
       tree_is = same.0;
