@@ -97,9 +97,13 @@ fn many_edits(rt: HostRuntime) -> Result<(), Fail> {
         for second in &TEXTS {
             let text = format!(in alloc; "{first}\n{second}")?;
             let new = NEW[count % 4];
-            made = made.wrapping_add(assert_edits(alloc, text.as_str(), count % 5, new)?);
+            made = made.wrapping_add(assert_edits(alloc, text.as_str(), count % 2, new)?);
             count = count.wrapping_add(1);
         }
     }
-    assert_holds(alloc, "few edits were made", made > count)
+    assert_holds(
+        alloc,
+        "more edits than a tenth of the texts",
+        made > count / 10,
+    )
 }
