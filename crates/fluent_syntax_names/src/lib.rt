@@ -1,0 +1,23 @@
+//! What Fluent files say of names: which messages, terms and attributes they define, which they refer to, and which
+//! variables and functions they use; and the mistakes that this shows.
+#![tactic(auto)]
+
+mod comparing;
+mod definitions;
+mod entries;
+mod files;
+mod finding;
+mod found;
+mod mention;
+mod noted;
+mod outline;
+mod patterns;
+mod places;
+mod spelled;
+
+pub use comparing::{Lack, lacks};
+pub use entries::{defined, mentions, references, variables};
+pub use files::findings;
+pub use finding::{Finding, Kind, Place, Severity};
+pub use mention::Mention;
+pub use outline::{Outline, outline_of};
