@@ -11,9 +11,9 @@ use Rattle.fluent_syntax_names.specs.Mentions.{Mentions}
 use Rattle.fluent_syntax_names.specs.declared.mention.Mention.{Mention}
 use Rattle.fluent_syntax_names.specs.declared.outline.Outline.{Outline}
 use Rattle.fluent_syntax_names.specs.declared.spelled.EntryName.{EntryName}
-use Rattle.fluent_syntax_names.specs.Findings.{Text, put, defines, defined_in, owner_after, nameless, defined_by}
+use Rattle.fluent_syntax_names.specs.Findings.{Text, put, gathered, defined_in, owner_after, nameless, defined_by}
 use Rattle.fluent_syntax_names.specs.Findings.{is_defined}
-use Rattle.fluent_syntax_names.specs.Places.{first_of, place_where, Notes}
+use Rattle.fluent_syntax_names.specs.Places.{first_of, Notes}
 use Rattle.fluent_syntax_names.specs.Tables.{Lookup, has_name, NotesNames, LeavesNames}
 
 -- ---- One name
@@ -38,30 +38,42 @@ notes_one_ok (Ok x) old new bytes noted place e notes =
     subst P e (notes_one old new bytes place notes)
 notes_one_ok (Err x) old new bytes noted place e notes = notes
 
+-- some names, and further ones where they were noted
+pub notes_last : {A E : Type 0} (r : Result A E) (a b c : Lookup) (f g : List Text → List Text) → NotesNames a b f
+    → OnOk r (NotesNames b c g) → OnOk r (NotesNames a c (λ tail. f (g tail)))
+notes_last (Ok x) a b c f g first second = λ rest name. second rest name ∙ first (g rest) name
+notes_last (Err x) a b c f g first second = second
+
 -- ---- The mentions of a file
 
-module _ (old now next : Lookup) (all : List Text → List Text) (text : Text) (owner : EntryName) (ms : Mentions Span)
-    (i : ℕ) where
+module _ (old now next : Lookup) (all : List Text → List Text)
+    (adds : EntryName → Mention Span → List Text → List Text) (owner : EntryName) (ms : Mentions Span) (i : ℕ) where
   pub names_next : (m d : Mention Span) → i < length ms → m ≡ get_or ms i d
-      → LeavesNames old now (defined_in text owner (drop i ms)) all → NotesNames now next (put (defines text owner m))
-      → LeavesNames old next (defined_in text (owner_after owner m) (drop (i + 1) ms)) all
+      → LeavesNames old now (gathered adds owner (drop i ms)) all → NotesNames now next (adds owner m)
+      → LeavesNames old next (gathered adds (owner_after owner m) (drop (i + 1) ms)) all
   names_next m d within is left notes = λ rest name.
       let cut : drop i ms ≡ m ∷ drop (i + 1) ms = drop_more ms i d within ∙ ap (λ y. y ∷ drop (i + 1) ms) (sym is) in
-      notes (defined_in text (owner_after owner m) (drop (i + 1) ms) rest) name
-      ∙ ap (λ l. has_name now name || list_any (bytes_eq name) (defined_in text owner l rest)) (sym cut)
+      notes (gathered adds (owner_after owner m) (drop (i + 1) ms) rest) name
+      ∙ ap (λ l. has_name now name || list_any (bytes_eq name) (gathered adds owner l rest)) (sym cut)
       ∙ left rest name
 
-  pub names_none : length ms ≤ i → LeavesNames old now (defined_in text owner (drop i ms)) all
+  pub names_none : length ms ≤ i → LeavesNames old now (gathered adds owner (drop i ms)) all
       → NotesNames old now all
   names_none end left = λ rest name.
-      ap (λ l. has_name now name || list_any (bytes_eq name) (defined_in text owner l rest)) (sym (drop_all i ms end))
+      ap (λ l. has_name now name || list_any (bytes_eq name) (gathered adds owner l rest)) (sym (drop_all i ms end))
       ∙ left rest name
 
 -- ---- The files
 
-pub or_false : (b : Bool) → b ≡ (b || false)
+or_false : (b : Bool) → b ≡ (b || false)
 or_false true = refl
 or_false false = refl
+
+-- what is noted, where nothing was before
+pub noted_alone : (old new : Lookup) → ((name : Text) → old name ≡ None) → (all : List Text → List Text)
+    → NotesNames old new all → (name : Text) → has_name new name ≡ list_any (bytes_eq name) (all [])
+noted_alone old new none all notes = λ name.
+    or_false (has_name new name) ∙ notes [] name ∙ ap (λ o. is_some o || list_any (bytes_eq name) (all [])) (none name)
 
 module _ (files : List Outline) (now next : Lookup) (i : ℕ) where
   abbrev pub left_of_files : Lookup → ℕ → Type 0

@@ -14,8 +14,8 @@ use Rattle.fluent_syntax_names.specs.declared.finding.Finding.{Finding}
 use Rattle.fluent_syntax_names.specs.declared.finding.Kind.{Kind}
 use Rattle.fluent_syntax_names.specs.declared.finding.Kind.TheVariants as kind
 use Rattle.fluent_syntax_names.specs.Findings.{Text, Known, put, found, found_in, found_from, after, nothing, twice}
-use Rattle.fluent_syntax_names.specs.Findings.{undefined, undefined_attribute, finding_at, message_name, term_name}
-use Rattle.fluent_syntax_names.specs.Spelled.{name_at, spelled, spelled_attribute}
+use Rattle.fluent_syntax_names.specs.Findings.{undefined, undefined_part, finding_at, message_name, term_name}
+use Rattle.fluent_syntax_names.specs.Spelled.{spelled, spelled_attribute, spelled_value}
 use Rattle.fluent_syntax_names.specs.Tables.{Lookup, Holds, AddsFindings}
 
 pub adds_finding : (old new : List Finding) (x : Finding) → new ≡ old ++ x ∷ [] → AddsFindings old new (put (Some x))
@@ -37,19 +37,23 @@ module _ (file : ℕ) (text : Text) where
   found_known D names attributes known h (says.Function x) = refl
 
   module _ (D E : Text → Bool) (same : (name : Text) → D name ≡ E name) where
-    attribute_same : (entry : EntryName) (a : Option Span)
-        → undefined_attribute D file text entry a ≡ undefined_attribute E file text entry a
-    attribute_same entry None = refl
-    attribute_same entry (Some a) =
-        ap (λ b. if b then None else Some (finding_at kind.UndefinedAttribute file a None)) (same _)
+    part_same : (entry : EntryName) (a : Option Span)
+        → undefined_part D file text entry a ≡ undefined_part E file text entry a
+    part_same entry None =
+        ap (λ b. if entry.is_term then None
+        else if b then None else Some (finding_at kind.UndefinedValue file entry.name None))
+        (same (spelled_value text entry))
+    part_same entry (Some a) =
+        ap (λ b. if b then None else Some (finding_at kind.UndefinedAttribute file a None))
+        (same (spelled_attribute text entry a))
 
     undefined_same : (k : Kind) (entry : EntryName) (a : Option Span)
         → undefined D file text k entry a ≡ undefined E file text k entry a
     undefined_same k entry a =
-        ap (λ b. if b then undefined_attribute D file text entry a else Some (finding_at k file entry.name None))
+        ap (λ b. if b then undefined_part D file text entry a else Some (finding_at k file entry.name None))
         (same (spelled text entry))
         ∙ ap (λ o. if E (spelled text entry) then o else Some (finding_at k file entry.name None))
-        (attribute_same entry a)
+        (part_same entry a)
 
     found_same : (known : Known) (m : Mention Span) → found D file text known m ≡ found E file text known m
     found_same known (says.Message x v) = refl

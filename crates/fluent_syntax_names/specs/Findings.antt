@@ -1,5 +1,5 @@
 -- What is found in a set of files of one language.
-use Rattle.std.specs.Prelude.{ℕ, ◌+◌, Bool, true, false, List, [], ◌∷◌, ◌++◌, Option, Some, None, if◌then◌else◌}
+use Rattle.std.specs.Prelude.{ℕ, ◌+◌, Bool, true, false, List, [], ◌∷◌, Option, Some, None, if◌then◌else◌}
 use Rattle.std.specs.List.{list_any}
 use Rattle.std.specs.Str.{bytes_eq}
 use Rattle.fluent_syntax_tree.specs.declared.spans.Span.{Span}
@@ -13,7 +13,7 @@ use Rattle.fluent_syntax_names.specs.declared.outline.Outline.{Outline}
 use Rattle.fluent_syntax_names.specs.declared.spelled.EntryName.{EntryName}
 use Rattle.fluent_syntax_names.specs.Mentions.{Mentions}
 use Rattle.fluent_syntax_names.specs.Places.{first_of, place_where}
-use Rattle.fluent_syntax_names.specs.Spelled.{name_at, spelled, spelled_attribute}
+use Rattle.fluent_syntax_names.specs.Spelled.{name_at, spelled, spelled_attribute, spelled_value}
 
 abbrev pub Text : Type 0
 Text = List ℕ
@@ -37,25 +37,36 @@ owner_after owner (says.TermReference x a) = owner
 owner_after owner (says.Variable x) = owner
 owner_after owner (says.Function x) = owner
 
--- what the mention defines, as it is spelled: `name`, `-name`, `name.attribute`, `-name.attribute`
-abbrev pub defines : Text → EntryName → Mention Span → Option Text
-defines text owner (says.Message x v) = Some (spelled text (message_name x))
-defines text owner (says.Term x) = Some (spelled text (term_name x))
-defines text owner (says.Attribute x) = Some (spelled_attribute text owner x)
-defines text owner (says.Junk x) = None
-defines text owner (says.MessageReference x a) = None
-defines text owner (says.TermReference x a) = None
-defines text owner (says.Variable x) = None
-defines text owner (says.Function x) = None
+-- a message, and its value where it has one
+abbrev pub message_defines : Text → EntryName → Bool → List Text → List Text
+message_defines text message true tail = spelled text message ∷ (spelled_value text message ∷ tail)
+message_defines text message false tail = spelled text message ∷ tail
+
+-- what the mention defines, as it is spelled, before others: `name`, `name=`, `-name`, `name.attribute`,
+-- `-name.attribute`
+abbrev pub defines : Text → EntryName → Mention Span → List Text → List Text
+defines text owner (says.Message x v) tail = message_defines text (message_name x) v tail
+defines text owner (says.Term x) tail = spelled text (term_name x) ∷ tail
+defines text owner (says.Attribute x) tail = spelled_attribute text owner x ∷ tail
+defines text owner (says.Junk x) tail = tail
+defines text owner (says.MessageReference x a) tail = tail
+defines text owner (says.TermReference x a) tail = tail
+defines text owner (says.Variable x) tail = tail
+defines text owner (says.Function x) tail = tail
+
+-- what each mention adds before others, where it is known whose attributes stand there
+abbrev pub gathered : (EntryName → Mention Span → List Text → List Text) → EntryName → Mentions Span → List Text
+    → List Text
+gathered adds owner [] tail = tail
+gathered adds owner (m ∷ ms) tail = adds owner m (gathered adds (owner_after owner m) ms tail)
+
+abbrev pub defined_in : Text → EntryName → Mentions Span → List Text → List Text
+defined_in text owner ms tail = gathered (defines text) owner ms tail
 
 -- an item before others, where there is one
 abbrev pub put : {A : Type 0} → Option A → List A → List A
 put None tail = tail
 put (Some x) tail = x ∷ tail
-
-abbrev pub defined_in : Text → EntryName → Mentions Span → List Text → List Text
-defined_in text owner [] tail = tail
-defined_in text owner (m ∷ ms) tail = put (defines text owner m) (defined_in text (owner_after owner m) ms tail)
 
 -- before any entry
 abbrev pub nameless : EntryName
@@ -108,16 +119,27 @@ abbrev pub twice : Kind → ℕ → Span → Option Span → Option Finding
 twice kind file place None = None
 twice kind file place (Some first) = Some (finding_at kind file place (Some (record { file = file; span = first })))
 
-abbrev pub undefined_attribute : (Text → Bool) → ℕ → Text → EntryName → Option Span → Option Finding
-undefined_attribute is_defined file text entry None = None
-undefined_attribute is_defined file text entry (Some a) =
+abbrev pub undefined_attribute : (Text → Bool) → ℕ → Text → EntryName → Span → Option Finding
+undefined_attribute is_defined file text entry a =
     if is_defined (spelled_attribute text entry a) then None
     else Some (finding_at kind.UndefinedAttribute file a None)
+
+-- a term has a value
+abbrev pub undefined_value : (Text → Bool) → ℕ → Text → EntryName → Option Finding
+undefined_value is_defined file text entry =
+    if entry.is_term then None
+    else if is_defined (spelled_value text entry) then None
+    else Some (finding_at kind.UndefinedValue file entry.name None)
+
+-- of an entry that some file defines: its value, or an attribute
+abbrev pub undefined_part : (Text → Bool) → ℕ → Text → EntryName → Option Span → Option Finding
+undefined_part is_defined file text entry None = undefined_value is_defined file text entry
+undefined_part is_defined file text entry (Some a) = undefined_attribute is_defined file text entry a
 
 -- of a reference to the entry, or to an attribute of it
 abbrev pub undefined : (Text → Bool) → ℕ → Text → Kind → EntryName → Option Span → Option Finding
 undefined is_defined file text kind entry attribute =
-    if is_defined (spelled text entry) then undefined_attribute is_defined file text entry attribute
+    if is_defined (spelled text entry) then undefined_part is_defined file text entry attribute
     else Some (finding_at kind file entry.name None)
 
 abbrev pub found : (Text → Bool) → ℕ → Text → Known → Mention Span → Option Finding

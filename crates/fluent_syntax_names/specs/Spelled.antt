@@ -1,6 +1,6 @@
 -- How the names of entries and of attributes are spelled.
-use Rattle.std.specs.Prelude.{ℕ, Bool, ◌&&◌, nat_le, List, [], ◌∷◌, ◌++◌, length, slice_range, if◌then◌else◌}
-use Rattle.fluent_syntax_tree.specs.Bytes.{hyphen, full_stop}
+use Rattle.std.specs.Prelude.{ℕ, ◌&&◌, nat_le, List, [], ◌∷◌, ◌++◌, length, slice_range, if◌then◌else◌}
+use Rattle.fluent_syntax_tree.specs.Bytes.{hyphen, full_stop, equals_sign, dollar_sign, greater_than}
 use Rattle.fluent_syntax_tree.specs.declared.spans.Span.{Span}
 use Rattle.fluent_syntax_names.specs.declared.spelled.EntryName.{EntryName}
 
@@ -16,3 +16,19 @@ spelled text entry = (if entry.is_term then hyphen ∷ [] else []) ++ name_at te
 -- `name.attribute`, and of a term `-name.attribute`
 abbrev pub spelled_attribute : List ℕ → EntryName → Span → List ℕ
 spelled_attribute text entry attribute = (spelled text entry ++ full_stop ∷ []) ++ name_at text attribute
+
+-- `name=`, the value of a message
+abbrev pub spelled_value : List ℕ → EntryName → List ℕ
+spelled_value text message = spelled text message ++ equals_sign ∷ []
+
+-- `name$variable`, a variable that an entry uses
+abbrev pub spelled_variable : List ℕ → EntryName → Span → List ℕ
+spelled_variable text entry variable = (spelled text entry ++ dollar_sign ∷ []) ++ name_at text variable
+
+-- `name>`, that an entry refers to some message
+abbrev pub spelled_references : List ℕ → EntryName → List ℕ
+spelled_references text entry = spelled text entry ++ greater_than ∷ []
+
+-- `name>other`, that an entry refers to another, or to an attribute of it
+abbrev pub spelled_reference : List ℕ → EntryName → EntryName → List ℕ
+spelled_reference text entry other = spelled_references text entry ++ spelled text other

@@ -1,57 +1,58 @@
-//! What one file defines and another lacks.
+//! What one file says and another lacks.
 ghost use Rattle.std.specs.Prelude.{◌≡◌, [], OnOk, IfOk};
 ghost use Rattle.fluent_syntax_names.specs.Findings.{nameless, put};
-ghost use Rattle.fluent_syntax_names.specs.Lacks.{lack_at, lacked_entry, lacked_attribute, lacks_in, all_lacks};
-ghost use Rattle.fluent_syntax_names.specs.Lacks.{AddsLacks};
+ghost use Rattle.fluent_syntax_names.specs.Lacks.{lacks_in, all_lacks, AddsLacks};
 ghost use Rattle.fluent_syntax_names.specs.Places.{place_of};
-ghost use Rattle.fluent_syntax_names.specs.Tables.{has_name};
+ghost use Rattle.fluent_syntax_names.specs.Tables.{other_by};
 
-use crate::definitions::{NAMELESS, message_name, note_definitions, owner_after, term_name};
+use crate::beside::Beside;
+use crate::definitions::{NAMELESS, note_definitions, owner_after};
+use crate::lack::Lack;
 use crate::mention::Mention;
 use crate::outline::Outline;
 use crate::places::Places;
-use crate::spelled::{EntryName, spelled, spelled_attribute};
+use crate::uses::note_uses;
 use fluent_syntax_tree::spans::Span;
 use std::alloc::{AllocError, Global};
 
-/// What a file defines and another one lacks.
-#[derive(Clone, Copy, Debug, PartialEq, Eq)]
-pub struct Lack {
-    /// Whether it is an attribute of a message that the other one defines, and not a message or a term.
-    pub is_attribute: bool,
-    /// Its name in the file that defines it.
-    pub name: Span,
-}
-
-/// What the one file defines and the other lacks, in the order of the one's text: messages and terms; and attributes of
-/// messages that both define. Attributes of terms are for their own language alone.
+/// What the one file says and the other lacks, in the order of the one's text:
 ///
-/// Of a reference and a translation it tells what the translation lacks; the other way round what is obsolete there.
+/// - messages and terms;
+/// - of messages that both define the value, attributes, and each use of a variable, unless the other's message refers
+///   to messages, which may use it;
+/// - of messages and terms that both define each reference to a message or a term.
 ///
-/// Takes the memory of a table of names, and of the list; `AllocError` where there is none. The time is that of looking
-/// each name up in a sorted table.
+/// Attributes and variables of terms are for their own language alone. Of a reference and a translation it tells what
+/// the translation lacks; the other way round what is obsolete or unknown there.
+///
+/// Takes the memory of two tables of names, and of the list; `AllocError` where there is none. The time is that of
+/// looking each name up in a sorted table.
 pub fn lacks(alloc: Global, one: &Outline<'_>, other: &Outline<'_>) -> Result<Vec<Lack>, AllocError>
     ensures { IfOk result (λ list. list.items ≡ all_lacks one.now other.now) }
 {
     let mut defined = Places::new(alloc);
     note_definitions(alloc, &mut defined, other.text, &other.mentions)?;
-    lacks_by(alloc, &defined, one.text, &one.mentions)
+    let mut used = Places::new(alloc);
+    note_uses(alloc, &mut used, other.text, &other.mentions)?;
+    let beside = Beside {
+        alloc,
+        defined: &defined,
+        used: &used,
+        text: one.text,
+    };
+    lacks_by(&beside, &one.mentions)
 }
 
-/// What the mentions define and the table has not.
-fn lacks_by(
-    alloc: Global,
-    defined: &Places,
-    text: &str,
-    mentions: &[Mention<Span>],
-) -> Result<Vec<Lack>, AllocError>
-    ensures { IfOk result (λ list.
-        list.items ≡ lacks_in (has_name (place_of defined.now.table)) text.now nameless mentions.now []) }
+/// What the other file lacks of the mentions.
+fn lacks_by(beside: &Beside<'_>, mentions: &[Mention<Span>]) -> Result<Vec<Lack>, AllocError>
+    ensures { IfOk result (λ list. list.items ≡ lacks_in
+        (other_by (place_of beside.now.defined.now.table) (place_of beside.now.used.now.table)) beside.now.text.now
+        nameless mentions.now []) }
 {
-    let mut list = Vec::new(alloc);
+    let mut list = Vec::new(beside.alloc);
     let mut owner = NAMELESS;
     for mention in mentions {
-        let lack = lack_at(alloc, defined, text, owner, mention)?;
+        let lack = beside.lack_at(owner, mention)?;
         add_lack(&mut list, lack)?;
         owner = owner_after(owner, mention);
     }
@@ -68,65 +69,4 @@ fn add_lack(list: &mut Vec<Lack>, lack: Option<Lack>) -> Result<(), AllocError>
         }
         None => Ok(()),
     }
-}
-
-fn lack_at(
-    alloc: Global,
-    defined: &Places,
-    text: &str,
-    owner: EntryName,
-    mention: &Mention<Span>,
-) -> Result<Option<Lack>, AllocError>
-    ensures { IfOk result (λ lack.
-        lack ≡ lack_at (has_name (place_of defined.now.table)) text.now owner mention.now) }
-{
-    match mention {
-        Mention::Message { name, .. } => lacked_entry(alloc, defined, text, message_name(*name)),
-        Mention::Term { name } => lacked_entry(alloc, defined, text, term_name(*name)),
-        Mention::Attribute { name } => lacked_attribute(alloc, defined, text, owner, *name),
-        _ => Ok(None),
-    }
-}
-
-fn lacked_entry(
-    alloc: Global,
-    defined: &Places,
-    text: &str,
-    entry: EntryName,
-) -> Result<Option<Lack>, AllocError>
-    ensures { IfOk result (λ lack.
-        lack ≡ lacked_entry (has_name (place_of defined.now.table)) text.now entry) }
-{
-    let name = spelled(alloc, text, entry)?;
-    if defined.place_of(&name).is_some() {
-        return Ok(None);
-    }
-    Ok(Some(Lack {
-        is_attribute: false,
-        name: entry.name,
-    }))
-}
-
-fn lacked_attribute(
-    alloc: Global,
-    defined: &Places,
-    text: &str,
-    owner: EntryName,
-    attribute: Span,
-) -> Result<Option<Lack>, AllocError>
-    ensures { IfOk result (λ lack.
-        lack ≡ lacked_attribute (has_name (place_of defined.now.table)) text.now owner attribute) }
-{
-    if owner.is_term {
-        return Ok(None);
-    }
-    let entry = spelled(alloc, text, owner)?;
-    let name = spelled_attribute(alloc, text, owner, attribute)?;
-    if defined.place_of(&entry).is_none() || defined.place_of(&name).is_some() {
-        return Ok(None);
-    }
-    Ok(Some(Lack {
-        is_attribute: true,
-        name: attribute,
-    }))
 }

@@ -1,13 +1,13 @@
 //! What a set of files defines.
 ghost use Rattle.std.specs.Prelude.{◌≡◌, true, false, Some, OnOk};
-ghost use Rattle.fluent_syntax_names.specs.Findings.{nameless, owner_after, defines, defined_in, put};
+ghost use Rattle.fluent_syntax_names.specs.Findings.{nameless, owner_after, defines, defined_in, put, message_defines};
 ghost use Rattle.fluent_syntax_names.specs.Places.{place_of};
-ghost use Rattle.fluent_syntax_names.specs.Spelled.{spelled, spelled_attribute};
+ghost use Rattle.fluent_syntax_names.specs.Spelled.{spelled, spelled_attribute, spelled_value};
 ghost use Rattle.fluent_syntax_names.specs.Tables.{NotesNames};
 
 use crate::mention::Mention;
 use crate::places::Places;
-use crate::spelled::{EntryName, spelled, spelled_attribute};
+use crate::spelled::{EntryName, spelled, spelled_attribute, spelled_value};
 use fluent_syntax_tree::spans::Span;
 use std::alloc::{AllocError, Global};
 
@@ -64,14 +64,47 @@ fn note_definition(
     mention: &Mention<Span>,
 ) -> Result<(), AllocError>
     ensures { OnOk result (NotesNames (place_of table.old.table) (place_of table.new.table)
-        (put (defines text.now owner mention.now))) }
+        (defines text.now owner mention.now)) }
 {
     match mention {
-        Mention::Message { name, .. } => note_entry(alloc, table, text, message_name(*name)),
+        Mention::Message { name, has_value } => {
+            note_message(alloc, table, text, message_name(*name), *has_value)
+        }
         Mention::Term { name } => note_entry(alloc, table, text, term_name(*name)),
         Mention::Attribute { name } => note_attribute(alloc, table, text, owner, *name),
         _ => Ok(()),
     }
+}
+
+fn note_message(
+    alloc: Global,
+    table: &mut Places,
+    text: &str,
+    message: EntryName,
+    has_value: bool,
+) -> Result<(), AllocError>
+    ensures { OnOk result (NotesNames (place_of table.old.table) (place_of table.new.table)
+        (message_defines text.now message has_value)) }
+{
+    note_entry(alloc, table, text, message)?;
+    if has_value {
+        note_value(alloc, table, text, message)
+    } else {
+        Ok(())
+    }
+}
+
+fn note_value(
+    alloc: Global,
+    table: &mut Places,
+    text: &str,
+    message: EntryName,
+) -> Result<(), AllocError>
+    ensures { OnOk result (NotesNames (place_of table.old.table) (place_of table.new.table)
+        (put (Some (spelled_value text.now message)))) }
+{
+    let name = spelled_value(alloc, text, message)?;
+    table.note(name, message.name)
 }
 
 fn note_entry(

@@ -18,7 +18,7 @@ use std::alloc::{AllocError, Global};
 /// All that is found in the files of one language, in the order of the files and of their texts.
 ///
 /// - A name that a file defines twice, or an attribute that an entry has twice: at each place but the first.
-/// - A reference to a message or a term that no file defines, or to an attribute that none has.
+/// - A reference to a message or a term that no file defines, or to an attribute or a value that none has.
 ///
 /// Takes the memory of tables of all names, and of the list; `AllocError` where there is none. The time is that of
 /// looking each name up in a sorted table.

@@ -37,6 +37,8 @@ pub enum Kind {
     UndefinedTerm,
     /// A file defines the message or term, and none the attribute of it that is referred to.
     UndefinedAttribute,
+    /// A file defines the message that is referred to, and none with a value.
+    UndefinedValue,
 }
 
 /// How grave a finding is.
@@ -56,7 +58,7 @@ impl Kind {
         match self {
             Kind::DefinedTwice | Kind::AttributeTwice => Severity::Error,
             Kind::UndefinedMessage | Kind::UndefinedTerm => Severity::Error,
-            Kind::UndefinedAttribute => Severity::Error,
+            Kind::UndefinedAttribute | Kind::UndefinedValue => Severity::Error,
         }
     }
 
@@ -70,6 +72,7 @@ impl Kind {
             Kind::UndefinedMessage => "undefined-message",
             Kind::UndefinedTerm => "undefined-term",
             Kind::UndefinedAttribute => "undefined-attribute",
+            Kind::UndefinedValue => "undefined-value",
         }
     }
 }

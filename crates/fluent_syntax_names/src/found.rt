@@ -1,8 +1,9 @@
 //! What is found at a mention.
 ghost use Rattle.std.specs.Prelude.{◌≡◌, IfOk};
 ghost use Rattle.fluent_syntax_names.specs.Findings.{found, twice, undefined, undefined_attribute, finding_at};
+ghost use Rattle.fluent_syntax_names.specs.Findings.{undefined_part, undefined_value};
 ghost use Rattle.fluent_syntax_names.specs.Places.{place_of};
-ghost use Rattle.fluent_syntax_names.specs.Spelled.{spelled, spelled_attribute};
+ghost use Rattle.fluent_syntax_names.specs.Spelled.{spelled, spelled_attribute, spelled_value};
 ghost use Rattle.fluent_syntax_names.specs.Tables.{has_name};
 
 use crate::definitions::{message_name, term_name};
@@ -10,7 +11,7 @@ use crate::finding::{Finding, Kind, Place};
 use crate::mention::Mention;
 use crate::noted::Noted;
 use crate::places::Places;
-use crate::spelled::{EntryName, name_at, spelled, spelled_attribute};
+use crate::spelled::{EntryName, name_at, spelled, spelled_attribute, spelled_value};
 use fluent_syntax_tree::spans::Span;
 use std::alloc::{AllocError, Global};
 
@@ -87,10 +88,38 @@ impl Here<'_> {
         if self.defined.place_of(&name).is_none() {
             return Ok(Some(self.finding_at(kind, entry.name, None)));
         }
+        self.undefined_part(entry, attribute)
+    }
+
+    /// A reference to the value of an entry, or to an attribute of it, that no file defines.
+    fn undefined_part(
+        &self,
+        entry: EntryName,
+        attribute: Option<Span>,
+    ) -> Result<Option<Finding>, AllocError>
+        ensures { IfOk result (λ finding.
+            finding ≡ undefined_part (has_name (place_of self.now.defined.now.table)) self.now.file self.now.text.now
+            entry attribute) }
+    {
         match attribute {
             Some(attribute) => self.undefined_attribute(entry, attribute),
-            None => Ok(None),
+            None => self.undefined_value(entry),
         }
+    }
+
+    fn undefined_value(&self, entry: EntryName) -> Result<Option<Finding>, AllocError>
+        ensures { IfOk result (λ finding.
+            finding ≡ undefined_value (has_name (place_of self.now.defined.now.table)) self.now.file
+            self.now.text.now entry) }
+    {
+        if entry.is_term {
+            return Ok(None);
+        }
+        let name = spelled_value(self.alloc, self.text, entry)?;
+        if self.defined.place_of(&name).is_none() {
+            return Ok(Some(self.finding_at(Kind::UndefinedValue, entry.name, None)));
+        }
+        Ok(None)
     }
 
     fn undefined_attribute(
@@ -100,7 +129,7 @@ impl Here<'_> {
     ) -> Result<Option<Finding>, AllocError>
         ensures { IfOk result (λ finding.
             finding ≡ undefined_attribute (has_name (place_of self.now.defined.now.table)) self.now.file
-            self.now.text.now entry (Some attribute)) }
+            self.now.text.now entry attribute) }
     {
         let name = spelled_attribute(self.alloc, self.text, entry, attribute)?;
         if self.defined.place_of(&name).is_none() {

@@ -2,22 +2,26 @@
 //! variables and functions they use; and the mistakes that this shows.
 #![tactic(auto)]
 
+mod beside;
 mod comparing;
 mod definitions;
 mod entries;
 mod files;
 mod finding;
 mod found;
+mod lack;
 mod mention;
 mod noted;
 mod outline;
 mod patterns;
 mod places;
 mod spelled;
+mod uses;
 
-pub use comparing::{Lack, lacks};
+pub use comparing::lacks;
 pub use entries::{defined, mentions, references, variables};
 pub use files::findings;
 pub use finding::{Finding, Kind, Place, Severity};
+pub use lack::{Lack, Part};
 pub use mention::Mention;
 pub use outline::{Outline, outline_of};

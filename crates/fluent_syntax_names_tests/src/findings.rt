@@ -12,7 +12,7 @@ use std::test::Fail;
 /// the other place begins.
 type Row = (&'static str, &'static str, &'static str, &'static str);
 
-const ROWS: [Row; 24] = [
+const ROWS: [Row; 27] = [
     ("nothing", "", "", ""),
     ("a name once", "a = A\n", "", ""),
     (
@@ -120,6 +120,24 @@ const ROWS: [Row; 24] = [
         "undefined-attribute 0 t 9\n",
     ),
     (
+        "a message without a value",
+        "a = { b }\nb =\n    .t = T\n",
+        "",
+        "undefined-value 0 b 6\n",
+    ),
+    (
+        "a value in the other file",
+        "a = { b }\nb =\n    .t = T\n",
+        "b = B\n",
+        "",
+    ),
+    (
+        "an attribute of a message without a value",
+        "a = { b.t }\nb =\n    .t = T\n",
+        "",
+        "",
+    ),
+    (
         "in a selector's variants and arguments",
         "a = { F(b, k: c) ->\n    [x] { d }\n   *[y] { -e(k: f) }\n }\n",
         "",
@@ -189,4 +207,5 @@ fn sets_of_two_files(rt: HostRuntime) -> Result<(), Fail> {
 fn severities(rt: HostRuntime) {
     assert_eq!(rt; Kind::DefinedTwice.severity(), Severity::Error);
     assert_eq!(rt; Kind::UndefinedAttribute.severity(), Severity::Error);
+    assert_eq!(rt; Kind::UndefinedValue.severity(), Severity::Error);
 }

@@ -2,7 +2,7 @@
 ghost use Rattle.ftl_files.specs.Store.{AllStand};
 
 use crate::fault::Fault;
-use crate::findings::{name_in, spot_of};
+use crate::findings::{name_in, severity_name, spot_of};
 use crate::form::Form;
 use crate::line_starts::LineStarts;
 use crate::linting::outline;
@@ -11,7 +11,7 @@ use crate::remarks::{Remark, push_remark};
 use crate::rewriting::read_text;
 use crate::streams::{Streams, put, tell};
 use crate::tally::Tally;
-use fluent_syntax_names::{Lack, Mention, Outline, lacks};
+use fluent_syntax_names::{Lack, Mention, Outline, Part, Severity, lacks};
 use ftl::RunFault;
 use ftl_files::Store;
 use std::alloc::{AllocError, Global};
@@ -120,17 +120,54 @@ fn as_compared(
     }
     let missing = lacks(alloc, reference, other)?;
     push_missing(&mut told, pair, reference, &missing, form)?;
-    let obsolete = lacks(alloc, other, reference)?;
-    push_obsolete(&mut told, pair, other, &obsolete, form)?;
+    let more = lacks(alloc, other, reference)?;
+    push_more(&mut told, pair, other, &more, form)?;
     let share = Share {
         wanted,
-        missing: missing.iter().filter(|lack| !lack.is_attribute).count(),
+        missing: missing
+            .iter()
+            .filter(|lack| lack.part == Part::Entry)
+            .count(),
     };
+    let missed = missing
+        .iter()
+        .filter(|lack| is_error(missing_kind(lack.part)));
+    let unknown = more.iter().filter(|lack| is_error(more_kind(lack.part)));
+    let errors = missed.count().saturating_add(unknown.count());
     Ok(Compared {
         told,
-        errors: missing.len(),
+        errors,
         share,
     })
+}
+
+/// What is told of a part that the other file lacks, and how grave it is. A variable may be left out.
+fn missing_kind(part: Part) -> Option<(&'static str, Severity)> {
+    match part {
+        Part::Entry => Some(("missing", Severity::Error)),
+        Part::Value => Some(("missing-value", Severity::Error)),
+        Part::Attribute => Some(("missing-attribute", Severity::Error)),
+        Part::Reference => Some(("missing-reference", Severity::Warning)),
+        Part::Variable => None,
+    }
+}
+
+/// What is told of a part that the reference lacks. The other file may refer to more.
+fn more_kind(part: Part) -> Option<(&'static str, Severity)> {
+    match part {
+        Part::Entry => Some(("obsolete", Severity::Warning)),
+        Part::Value => Some(("obsolete-value", Severity::Warning)),
+        Part::Attribute => Some(("obsolete-attribute", Severity::Warning)),
+        Part::Reference => None,
+        Part::Variable => Some(("unknown-variable", Severity::Error)),
+    }
+}
+
+fn is_error(kind: Option<(&'static str, Severity)>) -> bool {
+    match kind {
+        Some((_, severity)) => severity == Severity::Error,
+        None => false,
+    }
 }
 
 /// How many messages and terms there are.
@@ -169,55 +206,74 @@ fn push_missing(
     }
     let lines = LineStarts::of(alloc, reference.text)?;
     for lack in missing {
-        let name = name_in(reference.text, lack.name);
-        let (line, column) = lines.line_column(lack.name.start);
-        let path = pair.reference.as_str();
-        let remark = Remark {
-            path: pair.other.as_str(),
-            text: "",
-            place: None,
-            kind: if lack.is_attribute {
-                "missing-attribute"
-            } else {
-                "missing"
-            },
-            severity: "error",
-            message: format!(in alloc; "`{name}` of {path}:{line}:{column}")?,
-        };
-        push_remark(out, &remark, form)?;
+        if let Some((kind, severity)) = missing_kind(lack.part) {
+            let remark = Remark {
+                path: pair.other.as_str(),
+                text: "",
+                place: None,
+                kind,
+                severity: severity_name(severity),
+                message: missing_message(alloc, pair, reference, &lines, lack)?,
+            };
+            push_remark(out, &remark, form)?;
+        }
     }
     Ok(())
 }
 
-fn push_obsolete(
+fn missing_message(
+    alloc: Global,
+    pair: &Pair,
+    reference: &Outline<'_>,
+    lines: &LineStarts,
+    lack: &Lack,
+) -> Result<String, AllocError> {
+    let what = match lack.part {
+        Part::Value => "the value of ",
+        Part::Reference => "the reference to ",
+        _ => "",
+    };
+    let name = name_in(reference.text, lack.name);
+    let path = pair.reference.as_str();
+    let (line, column) = lines.line_column(lack.name.start);
+    format!(in alloc; "{what}`{name}` of {path}:{line}:{column}")
+}
+
+fn push_more(
     out: &mut String,
     pair: &Pair,
     other: &Outline<'_>,
-    obsolete: &[Lack],
+    more: &[Lack],
     form: Form,
 ) -> Result<(), AllocError> {
     let alloc = *out.allocator();
-    if obsolete.is_empty() {
+    if more.is_empty() {
         return Ok(());
     }
     let lines = LineStarts::of(alloc, other.text)?;
-    for lack in obsolete {
-        let name = name_in(other.text, lack.name);
-        let remark = Remark {
-            path: pair.other.as_str(),
-            text: other.text,
-            place: Some(spot_of(&lines, lack.name)),
-            kind: if lack.is_attribute {
-                "obsolete-attribute"
-            } else {
-                "obsolete"
-            },
-            severity: "warning",
-            message: format!(in alloc; "the reference does not define `{name}`")?,
-        };
-        push_remark(out, &remark, form)?;
+    for lack in more {
+        if let Some((kind, severity)) = more_kind(lack.part) {
+            let remark = Remark {
+                path: pair.other.as_str(),
+                text: other.text,
+                place: Some(spot_of(&lines, lack.name)),
+                kind,
+                severity: severity_name(severity),
+                message: more_message(alloc, other, lack)?,
+            };
+            push_remark(out, &remark, form)?;
+        }
     }
     Ok(())
+}
+
+fn more_message(alloc: Global, other: &Outline<'_>, lack: &Lack) -> Result<String, AllocError> {
+    let name = name_in(other.text, lack.name);
+    match lack.part {
+        Part::Variable => format!(in alloc; "the reference does not use `${name}`"),
+        Part::Value => format!(in alloc; "the reference gives `{name}` no value"),
+        _ => format!(in alloc; "the reference does not define `{name}`"),
+    }
 }
 
 /// How much of the reference is there, on a line: `95 of 100 messages and terms are there`.

@@ -67,7 +67,7 @@ pub(crate) fn spot_of(lines: &LineStarts, span: Span) -> Spot {
     }
 }
 
-fn severity_name(severity: Severity) -> &'static str {
+pub(crate) fn severity_name(severity: Severity) -> &'static str {
     match severity {
         Severity::Error => "error",
         Severity::Warning => "warning",
@@ -94,6 +94,7 @@ fn message(
         Kind::UndefinedMessage => write!(out, "no file defines the message `{name}`")?,
         Kind::UndefinedTerm => write!(out, "no file defines the term `-{name}`")?,
         Kind::UndefinedAttribute => write!(out, "no file defines its attribute `{name}`")?,
+        Kind::UndefinedValue => write!(out, "no file gives the message `{name}` a value")?,
     }
     if let Some(first) = finding.other {
         let (line, _) = lines.line_column(first.span.start);

@@ -178,12 +178,13 @@ fn count(tally: &mut Tally, files: usize, found: &[Finding]) {
     }
 }
 
-const KINDS: [Kind; 5] = [
+const KINDS: [Kind; 6] = [
     Kind::DefinedTwice,
     Kind::AttributeTwice,
     Kind::UndefinedMessage,
     Kind::UndefinedTerm,
     Kind::UndefinedAttribute,
+    Kind::UndefinedValue,
 ];
 
 /// How many findings there are of each kind that has some, each on a line.

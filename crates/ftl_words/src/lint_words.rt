@@ -23,12 +23,13 @@ pub struct Lint<'a> {
     pub paths: Vec<&'a str>,
 }
 
-static KIND_NAMES: [&str; 5] = [
+static KIND_NAMES: [&str; 6] = [
     "defined-twice",
     "attribute-twice",
     "undefined-message",
     "undefined-term",
     "undefined-attribute",
+    "undefined-value",
 ];
 
 static FORMS: [&str; 4] = ["full", "lines", "json", "github"];
@@ -117,7 +118,8 @@ fn kind_of(name: &str) -> Kind {
         "attribute-twice" => Kind::AttributeTwice,
         "undefined-message" => Kind::UndefinedMessage,
         "undefined-term" => Kind::UndefinedTerm,
-        _ => Kind::UndefinedAttribute,
+        "undefined-attribute" => Kind::UndefinedAttribute,
+        _ => Kind::UndefinedValue,
     }
 }
 

@@ -2,9 +2,9 @@ use Rattle.std.proofs.Common.{false, refl, get_or, ◌∙◌}
 use Rattle.fluent_syntax_tree.specs.declared.spans.Span.{Span}
 use Rattle.fluent_syntax_names.specs.declared.mention.Mention.{Mention}
 use Rattle.fluent_syntax_names.specs.declared.mention.Mention.TheVariants as says
-use Rattle.fluent_syntax_names.specs.Findings.{Known, found_in, nothing, after}
+use Rattle.fluent_syntax_names.specs.Findings.{found_in, nothing, after}
 use Rattle.fluent_syntax_names.specs.Places.{place_of}
-use Rattle.fluent_syntax_names.specs.Tables.{has_name, Holds}
+use Rattle.fluent_syntax_names.specs.Tables.{has_name}
 use Rattle.fluent_syntax_names.proofs.Growing.{found_known, found_next, found_none}
 use Rattle.fluent_syntax_names.proofs.files.add_found.Goals as goal
 

@@ -1,7 +1,6 @@
-use Rattle.std.proofs.Common.{◌≡◌, List, ◌∷◌, map, refl, sym, ap, ◌∙◌, option_map, Some, None}
-use Rattle.fluent_syntax_tree.specs.Tree.{elements_of, variants_of, inlines_of, nameds_of, arguments_of}
-use Rattle.fluent_syntax_tree.specs.View.{element_view, variant_view, inline_view, named_view, identifier_view}
-use Rattle.fluent_syntax_tree.specs.View.{arguments_view}
+use Rattle.std.proofs.Common.{List, ◌∷◌, map, refl}
+use Rattle.fluent_syntax_tree.specs.Tree.{elements_of, variants_of, inlines_of, nameds_of}
+use Rattle.fluent_syntax_tree.specs.View.{element_view, variant_view, inline_view, named_view}
 use Rattle.fluent_syntax_tree.specs.declared.ast.PatternElement.{PatternElement}
 use Rattle.fluent_syntax_tree.specs.declared.ast.Variant.{Variant}
 use Rattle.fluent_syntax_tree.specs.declared.ast.InlineExpression.{InlineExpression}
@@ -12,10 +11,10 @@ use Rattle.fluent_syntax_tree.proofs.Views.{view-VariableReference, view-InlineP
 use Rattle.fluent_syntax_tree.proofs.Views.{view-Placeable, view-Pattern, view-Variant, view-NamedArgument}
 use Rattle.fluent_syntax_tree.proofs.Views.{view-CallArguments}
 use Rattle.fluent_syntax_names.specs.Mentions.{pattern_mentions, variants_mentions, inlines_mentions}
-use Rattle.fluent_syntax_names.specs.Mentions.{nameds_mentions, element_mentions, inline_mentions, arguments_mentions}
-use Rattle.fluent_syntax_names.specs.Mentions.{maybe_mentions, variant_mentions, named_mentions}
+use Rattle.fluent_syntax_names.specs.Mentions.{nameds_mentions, element_mentions, inline_mentions}
+use Rattle.fluent_syntax_names.specs.Mentions.{variant_mentions, named_mentions}
 use Rattle.fluent_syntax_names.specs.declared.mention.Mention.TheVariants as says
-use Rattle.fluent_syntax_names.proofs.Adding.{adds_one, adds_both, adds_last, leaves_next, leaves_none}
+use Rattle.fluent_syntax_names.proofs.Adding.{adds_one, adds_last, leaves_next, leaves_none}
 use Rattle.fluent_syntax_names.proofs.patterns.+mentions.Goals as goal
 
 pub add_pattern-returns : goal.add_pattern-returns
