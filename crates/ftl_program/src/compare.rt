@@ -83,17 +83,34 @@ fn pairs_of(
     other: &str,
     other_files: &[String],
 ) -> Result<Vec<Pair>, AllocError> {
+    let mut there = Vec::new(alloc);
+    for file in other_files {
+        there.push(below(other, file.as_str()))?;
+    }
     let mut pairs = Vec::new(alloc);
     for file in reference_files {
-        let below = file.as_str().strip_prefix(reference).unwrap_or("");
-        let mut path = String::from_str(alloc, other)?;
-        path.push_str(below)?;
-        let is_there = other_files.binary_search(&path).is_ok();
+        let name = below(reference, file.as_str());
         pairs.push(Pair {
             reference: String::from_str(alloc, file.as_str())?,
-            other: path,
-            is_there,
+            other: path_below(alloc, other, name)?,
+            is_there: there.binary_search(&name).is_ok(),
         })?;
     }
     Ok(pairs)
+}
+
+/// The path of the file below the folder; none of the file itself.
+fn below<'a>(folder: &str, file: &'a str) -> &'a str {
+    file.strip_prefix(folder)
+        .unwrap_or(file)
+        .trim_start_matches('/')
+}
+
+/// The path of the name below the folder; the folder itself without a name.
+fn path_below(alloc: Global, folder: &str, name: &str) -> Result<String, AllocError> {
+    if name.is_empty() {
+        return String::from_str(alloc, folder);
+    }
+    let folder = folder.trim_end_matches('/');
+    format!(in alloc; "{folder}/{name}")
 }
