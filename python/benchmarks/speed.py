@@ -1,7 +1,8 @@
 """Times the package over real files, beside a reader in Python alone: speed.py FOLDER
 
 FOLDER has `.ftl` files, as they come out of archives. Each turn is over all of them as one text, and over each by
-itself; the best of the turns is printed, in milliseconds of the processor, and whether the peer reads each file to the same tree.
+itself; the best of the turns is printed, in milliseconds of the processor, and whether the peer reads each file to the
+same tree.
 """
 import pathlib
 import sys

@@ -84,7 +84,7 @@ class Nesting(unittest.TestCase):
                 dovelectern.parse(text, nesting=1000)
 
     def test_recursion(self) -> None:
-        """What the library reads may nest more deeply than Python's recursion takes, by its version; nothing crashes."""
+        """What the library reads may nest more deeply than this Python's recursion takes; nothing crashes."""
         try:
             tree = dovelectern.parse(selects(1000), nesting=1000)
         except dovelectern.TooDeep:

@@ -47,7 +47,7 @@ enum ftl_command {
     FTL_JSON = 3,      /* the tree as a JSON value on one line, with what was refused */
     FTL_CHECK_TWO = 4, /* FTL_CHECK by edition two of the grammar */
     FTL_FORMAT_TWO = 5, /* FTL_FORMAT by edition two */
-    FTL_FROM_JSON = 6   /* of a JSON value as FTL_JSON writes it: the text of the tree that it spells, without its junk */
+    FTL_FROM_JSON = 6   /* of a JSON value as FTL_JSON writes it: the text of the tree it spells, without its junk */
 };
 
 /* The editions of the grammar. */

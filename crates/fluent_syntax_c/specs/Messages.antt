@@ -29,7 +29,8 @@ shown text = flat_map shown_byte text
 
 -- the message of an error of the kind
 abbrev pub kind_message : Kind → List ℕ
-kind_message (ExpectedToken token) = codes "Expected a token starting with \"" ++ shown (encode_utf8 token) ++ codes "\""
+kind_message (ExpectedToken token) =
+    codes "Expected a token starting with \"" ++ shown (encode_utf8 token) ++ codes "\""
 kind_message (ExpectedCharRange text) = codes "Expected one of \"" ++ shown text ++ codes "\""
 kind_message (ExpectedMessageField text) = codes "Expected a message field for \"" ++ shown text ++ codes "\""
 kind_message (ExpectedTermField text) = codes "Expected a term field for \"" ++ shown text ++ codes "\""
@@ -45,7 +46,8 @@ kind_message UnterminatedStringLiteral = codes "Unterminated string literal"
 kind_message PositionalArgumentFollowsNamed = codes "Positional arguments must come before named arguments"
 kind_message (DuplicatedNamedArgument text) = codes "The \"" ++ shown text ++ codes "\" argument appears twice"
 kind_message (UnknownEscapeSequence text) = codes "Unknown escape sequence"
-kind_message (InvalidUnicodeEscapeSequence text) = codes "Invalid unicode escape sequence, \"" ++ shown text ++ codes "\""
+kind_message (InvalidUnicodeEscapeSequence text) =
+    codes "Invalid unicode escape sequence, \"" ++ shown text ++ codes "\""
 kind_message UnbalancedClosingBrace = codes "Unbalanced closing brace"
 kind_message ExpectedInlineExpression = codes "Expected an inline expression"
 kind_message ExpectedSimpleExpressionAsSelector = codes "Expected a simple expression as selector"

@@ -1,12 +1,11 @@
 //! What is said of errors: the names of their kinds, and their messages.
-ghost use Rattle.std.specs.Prelude.{◌≡◌, ◌≢◌, ◌↔◌, ◌⊎◌, ◌+◌, ◌++◌, ◌<◌, ℕ, List, length, string_bytes, Err, IfNone, IfOk};
-ghost use Rattle.std.specs.Prelude.{IfSome, OnOk};
+ghost use Rattle.std.specs.Prelude.{◌≡◌, ◌≢◌, ◌↔◌, ◌⊎◌, ◌++◌, ◌<◌, length, Err, IfOk, OnOk};
 ghost use Rattle.std.specs.List.{flat_map};
 ghost use Rattle.std.specs.Str.{IsUtf8};
-ghost use Rattle.fluent_syntax_tree.specs.Kind.{Kind, kind_of};
+ghost use Rattle.fluent_syntax_tree.specs.Kind.{kind_of};
 ghost use Rattle.fluent_syntax_c.specs.Arguments.{IsNoEdition};
 ghost use Rattle.fluent_syntax_c.specs.Depth.{EditionReadsDeeper};
-ghost use Rattle.fluent_syntax_c.specs.Kinds.{IsNoKind, kind_number};
+ghost use Rattle.fluent_syntax_c.specs.Kinds.{IsNoKind};
 ghost use Rattle.fluent_syntax_c.specs.Messages.{AreEditionMessages, IsKindName, kind_message, message_line, shown};
 ghost use Rattle.fluent_syntax_c.specs.Messages.{shown_byte};
 ghost use Rattle.fluent_syntax_c.specs.Output.{Leaves};

@@ -1,5 +1,6 @@
 //! What is read of an input for rows.
-ghost use Rattle.std.specs.Prelude.{◌≡◌, ◌≢◌, ◌↔◌, ◌⊎◌, ◌+◌, ◌<◌, ◌≤◌, ◌^◌, List, length, map, All, Err, IfErr, IfOk, Some};
+ghost use Rattle.std.specs.Prelude.{◌≡◌, ◌≢◌, ◌↔◌, ◌⊎◌, ◌+◌, ◌<◌, ◌≤◌, ◌^◌, List, length, map, All};
+ghost use Rattle.std.specs.Prelude.{Err, IfErr, IfOk, Some};
 ghost use Rattle.std.specs.Str.{IsUtf8};
 ghost use Rattle.fluent_syntax_grammar.specs.Nesting.{NestsDeeper};
 ghost use Rattle.fluent_syntax_grammar.specs.Tiling.{Fault};

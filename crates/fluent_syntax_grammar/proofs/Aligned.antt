@@ -51,7 +51,7 @@ module _ (t : List ℕ) where
   block_end i j (no_line a b) = no_line a b
   block_end i j (line {m = m} a b c) = block_end m j c
 
-  hash_there : (i : ℕ) → has_byte t 35 i ≡ true → has t is_entry_byte i ≡ true
+  pub hash_there : (i : ℕ) → has_byte t 35 i ≡ true → has t is_entry_byte i ≡ true
   hash_there i e = implies (λ c. c == 35) is_entry_byte (slice_get t i) hash_entry e
 
 module _ (edition : Edition) (t : List ℕ) where

@@ -13,12 +13,12 @@ use Rattle.fluent_syntax_grammar.proofs.Aligned.{junk_both}
 use Rattle.fluent_syntax_grammar.proofs.Facts.{append_nothing, flat_append}
 
 -- what a tile gives without comments
-abbrev bare_tile : Tile → BodyTree Span
+abbrev pub bare_tile : Tile → BodyTree Span
 bare_tile (entry s e) = bare e
 bare_tile (refused f) = junk f.slice ∷ []
 bare_tile dropped = []
 
-abbrev bare_tiles : List Tile → BodyTree Span
+abbrev pub bare_tiles : List Tile → BodyTree Span
 bare_tiles = flat_map bare_tile
 
 -- ---- the tiling

@@ -11,7 +11,10 @@ pub mod KeptWords
 pub mod KeptLayouts
 pub mod KeptRules
 pub mod KeptEntries
+pub mod KeptTiles
+pub mod KeptRuntime
 pub mod Edits
+pub mod RuntimeEdits
 pub mod NewEntries
 pub mod NewTexts
 pub mod Replaced
@@ -22,3 +25,4 @@ pub mod SameTexts
 pub mod SameBefore
 pub mod Resyncs
 pub mod WholeTrees
+pub mod RuntimeReplaced

@@ -1,8 +1,8 @@
 -- Locality: what is read of a text depends on the bytes there, and an edit of one entry leaves the others as they are.
 use Rattle.std.specs.Prelude.{◌≡◌, ℕ, ◌+◌, ◌≤◌, List, [], ◌∷◌, ◌++◌, length, drop, take, map, Bool, true, false, ◌==◌}
 use Rattle.std.specs.Prelude.{◌&&◌}
-use Rattle.std.specs.Prelude.{not, replicate}
-use Rattle.fluent_syntax_tree.specs.Entry.{EntryTree, comment, entry_map}
+use Rattle.std.specs.Prelude.{not, replicate, None}
+use Rattle.fluent_syntax_tree.specs.Entry.{BodyTree, EntryTree, comment, entry_map, junk, message, term}
 use Rattle.fluent_syntax_tree.specs.Spans.{bytes_at}
 use Rattle.fluent_syntax_tree.specs.declared.spans.Span.{Span}
 use Rattle.fluent_syntax_tree.specs.declared.edition.Edition.{Edition}
@@ -146,6 +146,22 @@ Joins edition a r u =
     Tiling edition (a ++ u) (before ++ moved_tiles (length a) own)
     × (faults (before ++ moved_tiles (length a) own) ≡ faults before ++ map (moved_fault (length a)) (faults own))
 
+-- The same without comments, where no line is taken by a comment.
+abbrev pub RuntimePrefixLocal : Edition → (a r u : List ℕ) → Type 0
+RuntimePrefixLocal edition a r u =
+    (before : List Tile) → starts_line (a ++ r) (length a) ≡ true → ends_or_begins r ≡ true →
+    ends_or_begins u ≡ true → Settled (a ++ r) (length a) before →
+    Led (a ++ r) (RuntimeTileAt edition (a ++ r)) (length a) 0 before →
+    Led (a ++ u) (RuntimeTileAt edition (a ++ u)) (length a) 0 before
+
+abbrev pub RuntimeJoins : Edition → (a r u : List ℕ) → Type 0
+RuntimeJoins edition a r u =
+    (before own : List Tile) → starts_line (a ++ r) (length a) ≡ true → ends_or_begins r ≡ true →
+    ends_or_begins u ≡ true → Settled (a ++ r) (length a) before →
+    Led (a ++ r) (RuntimeTileAt edition (a ++ r)) (length a) 0 before → RuntimeTiling edition u own →
+    RuntimeTiling edition (a ++ u) (before ++ moved_tiles (length a) own)
+    × (faults (before ++ moved_tiles (length a) own) ≡ faults before ++ map (moved_fault (length a)) (faults own))
+
 -- where a tile of a tiling begins; one that was dropped has no place
 abbrev pub start_of : Tile → ℕ
 start_of (entry s e) = s.start
@@ -191,8 +207,8 @@ ReadsFirst edition e blank c =
 -- Replacing: in a text a and r, in place of r a written entry, blank lines and c. Where r is empty or begins like an
 -- entry at the start of a line, tiles whose errors are settled lead up to it, and no comment ends there before a `#` of
 -- the new entry: the tiles of the new text are those, then tiles of the new entry, and those of c by itself, moved; and
--- its errors are those before, and those of c by itself, moved. Where r is an entry and c, this replaces the entry; where r is c, it inserts
--- one, and where both are empty it appends one.
+-- its errors are those before, and those of c by itself, moved. Where r is an entry and c, this replaces the entry;
+-- where r is c, it inserts one, and where both are empty it appends one.
 abbrev pub Replaces : Edition → (a r : List ℕ) → EntryTree Text → (blank : ℕ) → (c : List ℕ) → Type 0
 Replaces edition a r e blank c =
     (before own : List Tile) → starts_line (a ++ r) (length a) ≡ true → ends_or_begins r ≡ true →
@@ -207,10 +223,38 @@ Replaces edition a r e blank c =
     × (faults (before ++ moved_tiles (length a) (new ++ moved_tiles (length (entry_text e) + blank) own))
     ≡ faults before ++ map (moved_fault (length a)) (map (moved_fault (length (entry_text e) + blank)) (faults own)))
 
--- In terms of the text's own tiling: in place of an entry behind tiles whose errors are settled, a written entry and blank lines.
--- Where an entry may begin right behind the old one, and no comment ends right before it or the new entry begins with
--- no `#`: the tiles of the new text are those before; tiles that give the new entry text by text; and those behind,
--- moved from where they stood to where they stand. The errors are those of the text, moved likewise.
+-- the entry without its comment, if it is none itself
+abbrev pub bare_entry : EntryTree Text → BodyTree Text
+bare_entry (message m) = message (record m { comment = None }) ∷ []
+bare_entry (term m) = term (record m { comment = None }) ∷ []
+bare_entry (comment level content) = []
+bare_entry (junk s) = junk s ∷ []
+
+-- The same two without comments: what is read is the entry without its comment.
+abbrev pub RuntimeReadsFirst : Edition → EntryTree Text → (blank : ℕ) → (c : List ℕ) → Type 0
+RuntimeReadsFirst edition e blank c =
+    (own : List Tile) → is_canonical edition (e ∷ []) ≡ true → may_begin c ≡ true → RuntimeTiling edition c own →
+    (new : List Tile) ×
+    RuntimeTiling edition (entry_text e ++ (blank_lines blank ++ c))
+    (new ++ moved_tiles (length (entry_text e) + blank) own)
+    × (faults new ≡ []) × (tree_of (entry_text e ++ (blank_lines blank ++ c)) new ≡ bare_entry e)
+
+abbrev pub RuntimeReplaces : Edition → (a r : List ℕ) → EntryTree Text → (blank : ℕ) → (c : List ℕ) → Type 0
+RuntimeReplaces edition a r e blank c =
+    (before own : List Tile) → starts_line (a ++ r) (length a) ≡ true → ends_or_begins r ≡ true →
+    Settled (a ++ r) (length a) before → Led (a ++ r) (RuntimeTileAt edition (a ++ r)) (length a) 0 before →
+    is_canonical edition (e ∷ []) ≡ true → may_begin c ≡ true → RuntimeTiling edition c own →
+    (new : List Tile) ×
+    RuntimeTiling edition (a ++ (entry_text e ++ (blank_lines blank ++ c)))
+    (before ++ moved_tiles (length a) (new ++ moved_tiles (length (entry_text e) + blank) own))
+    × (tree_of (a ++ (entry_text e ++ (blank_lines blank ++ c))) (moved_tiles (length a) new) ≡ bare_entry e)
+    × (faults (before ++ moved_tiles (length a) (new ++ moved_tiles (length (entry_text e) + blank) own))
+    ≡ faults before ++ map (moved_fault (length a)) (map (moved_fault (length (entry_text e) + blank)) (faults own)))
+
+-- In terms of the text's own tiling: in place of an entry behind tiles whose errors are settled, a written entry and
+-- blank lines. Where an entry may begin right behind the old one, and no comment ends right before it or the new entry
+-- begins with no `#`: the tiles of the new text are those before; tiles that give the new entry text by text; and those
+-- behind, moved from where they stood to where they stand. The errors are those of the text, moved likewise.
 abbrev pub Replaced : Edition → List ℕ → EntryTree Text → (blank : ℕ) → Type 0
 Replaced edition t e blank =
     (before after : List Tile) (s : Span) (old : EntryTree Span) →
@@ -225,8 +269,9 @@ Replaced edition t e blank =
     × (tree_of (take s.start t ++ (entry_text e ++ (blank_lines blank ++ drop s.end t)))
     (moved_tiles (s.start + (length (entry_text e) + blank)) own) ≡ tree_of t after)
 
--- Removing an entry behind tiles whose errors are settled, where the text ends right behind it, or what stands there begins like an
--- entry: the tiles of the new text are those before, and those behind, moved from where they stood to where they stand.
+-- Removing an entry behind tiles whose errors are settled, where the text ends right behind it, or what stands there
+-- begins like an entry: the tiles of the new text are those before, and those behind, moved from where they stood to
+-- where they stand.
 abbrev pub Removed : Edition → List ℕ → Type 0
 Removed edition t =
     (before after : List Tile) (s : Span) (old : EntryTree Span) →
@@ -237,8 +282,8 @@ Removed edition t =
     Tiling edition (take s.start t ++ drop s.end t) (before ++ moved_tiles s.start own)
     × (tree_of (take s.start t ++ drop s.end t) (moved_tiles s.start own) ≡ tree_of t after)
 
--- Inserting a written entry and blank lines before an entry behind tiles whose errors are settled: the tiles of the new text are
--- those before; tiles that give the new entry text by text; and the entry and those behind it, moved on.
+-- Inserting a written entry and blank lines before an entry behind tiles whose errors are settled: the tiles of the new
+-- text are those before; tiles that give the new entry text by text; and the entry and those behind it, moved on.
 abbrev pub Inserted : Edition → List ℕ → EntryTree Text → (blank : ℕ) → Type 0
 Inserted edition t e blank =
     (before after : List Tile) (s : Span) (old : EntryTree Span) →
@@ -253,8 +298,8 @@ Inserted edition t e blank =
     × (tree_of (take s.start t ++ (entry_text e ++ (blank_lines blank ++ drop s.start t)))
     (moved_tiles (s.start + (length (entry_text e) + blank)) own) ≡ tree_of t (entry s old ∷ after))
 
--- Appending a written entry and blank lines at the end of a text whose errors are settled, where a line starts there: the tiles of
--- the new text are those of the text, and tiles that give the new entry text by text.
+-- Appending a written entry and blank lines at the end of a text whose errors are settled, where a line starts there:
+-- the tiles of the new text are those of the text, and tiles that give the new entry text by text.
 abbrev pub Appended : Edition → List ℕ → EntryTree Text → (blank : ℕ) → Type 0
 Appended edition t e blank =
     (before : List Tile) → Tiling edition t before → Settled t (length t) before → ends_line t ≡ true →
@@ -327,9 +372,9 @@ KeepsTree edition t e blank =
 -- a comment, it may hang on what stands behind it.)
 abbrev pub KeepsRun : Edition → List ℕ → EntryTree Text → (blank : ℕ) → Type 0
 KeepsRun edition t e blank =
-    (before run after : List Tile) (s q : Span) → Tiling edition t (before ++ (run ++ after)) → Settled t s.start before →
-    Run s q run → ends_in_comment s.start before ≡ false → is_comment e ≡ false → is_canonical edition (e ∷ []) ≡ true →
-    may_begin (drop q.end t) ≡ true →
+    (before run after : List Tile) (s q : Span) → Tiling edition t (before ++ (run ++ after)) →
+    Settled t s.start before → Run s q run → ends_in_comment s.start before ≡ false → is_comment e ≡ false →
+    is_canonical edition (e ∷ []) ≡ true → may_begin (drop q.end t) ≡ true →
     (last_is_comment run ≡ false →
     tree_of t (before ++ (run ++ after)) ≡ tree_of t before ++ (tree_of t run ++ tree_of t after)) ×
     ((tiles : List Tile) ×
@@ -360,15 +405,16 @@ AppendsTree edition t e blank =
 -- Without several entries in a row, or one, behind which the text ends or an entry begins.
 abbrev pub RemovesTree : Edition → List ℕ → Type 0
 RemovesTree edition t =
-    (before run after : List Tile) (s q : Span) → Tiling edition t (before ++ (run ++ after)) → Settled t s.start before →
-    Run s q run → ends_in_comment s.start before ≡ false → ends_or_begins (drop q.end t) ≡ true →
+    (before run after : List Tile) (s q : Span) → Tiling edition t (before ++ (run ++ after)) →
+    Settled t s.start before → Run s q run → ends_in_comment s.start before ≡ false →
+    ends_or_begins (drop q.end t) ≡ true →
     (last_is_comment run ≡ false →
     tree_of t (before ++ (run ++ after)) ≡ tree_of t before ++ (tree_of t run ++ tree_of t after)) ×
     ((tiles : List Tile) × Tiling edition (take s.start t ++ drop q.end t) tiles
     × (tree_of (take s.start t ++ drop q.end t) tiles ≡ tree_of t before ++ tree_of t after))
 
--- The tiles before an entry, where their errors are settled, give text by text the same in each text that has the same bytes
--- before the entry.
+-- The tiles before an entry, where their errors are settled, give text by text the same in each text that has the same
+-- bytes before the entry.
 abbrev pub SameBefore : Edition → List ℕ → Type 0
 SameBefore edition t =
     (before after : List Tile) (s : Span) (old : EntryTree Span) (u : List ℕ) →

@@ -18,6 +18,10 @@ ghost use Rattle.fluent_syntax_grammar.specs.Locality.{
   ReplacedRun,
   Replaces,
   Resyncs,
+  RuntimeJoins,
+  RuntimePrefixLocal,
+  RuntimeReadsFirst,
+  RuntimeReplaces,
   RuntimeSuffixLocal,
   SameBefore,
   SameRest,
@@ -58,24 +62,34 @@ pub fn reads_rest(text: &str, other: &str)
 /// - `joins`: then the tiles of the new text are these and those of `other` by itself, moved, and its errors are those
 ///   before, and those of `other` by itself, moved. So an entry can be removed where an entry follows it or the text
 ///   ends.
+/// - `runtime_prefix`, `runtime_joins`: the same of tiles without comments, wherever a comment stands.
 pub fn reads_up_to(before: &str, rest: &str, other: &str)
     ensures prefix { (edition : Edition) → PrefixLocal edition before.now rest.now other.now }
     ensures joins { (edition : Edition) → Joins edition before.now rest.now other.now }
+    ensures runtime_prefix { (edition : Edition) → RuntimePrefixLocal edition before.now rest.now other.now }
+    ensures runtime_joins { (edition : Edition) → RuntimeJoins edition before.now rest.now other.now }
 {}
 
 /// The laws of a new entry, in both editions of the grammar.
 ///
 /// - `first`: a canonical entry as it is written, then blank lines, then a text at which an entry may begin: what is
 ///   read is that entry, without an error, and then that text as it is by itself, moved.
-/// - `replaces`: in place of `rest` in a text, that entry, blank lines and `after`. Where `rest` is empty or begins like
-///   an entry, at the start of a line, and tiles whose errors are settled lead up to it, the tiles of the new text are
-///   these, then tiles that give the entry text by text, then those of `after` by itself, moved; and its errors are
-///   those before, and those of `after` by itself, moved. The premise of `prefix` on comments holds here too. Where `rest` is an entry and `after`, this
-///   replaces the entry; where it is `after`, this inserts one; where both are empty, this appends one.
+/// - `replaces`: in place of `rest` in a text, that entry, blank lines and `after`. Where `rest` is empty or begins
+///   like an entry, at the start of a line, and tiles whose errors are settled lead up to it, the tiles of the new text
+///   are these, then tiles that give the entry text by text, then those of `after` by itself, moved; and its errors are
+///   those before, and those of `after` by itself, moved. The premise of `prefix` on comments holds here too. Where
+///   `rest` is an entry and `after`, this replaces the entry; where it is `after`, this inserts one; where both are
+///   empty, this appends one.
+/// - `runtime_first`, `runtime_replaces`: the same of tiles without comments, wherever a comment stands. What is read
+///   is the entry without its comment.
 pub fn replaces_entry<'s, S: Slice<'s>>(before: &str, rest: &str, entry: &Entry<S>, after: &str)
     ensures first { (edition : Edition) (blank : ℕ) → ReadsFirst edition (entry_view S.text entry.now) blank after.now }
     ensures replaces { (edition : Edition) (blank : ℕ) →
         Replaces edition before.now rest.now (entry_view S.text entry.now) blank after.now }
+    ensures runtime_first { (edition : Edition) (blank : ℕ) →
+        RuntimeReadsFirst edition (entry_view S.text entry.now) blank after.now }
+    ensures runtime_replaces { (edition : Edition) (blank : ℕ) →
+        RuntimeReplaces edition before.now rest.now (entry_view S.text entry.now) blank after.now }
 {}
 
 /// The laws of an edit, in terms of the tiling of the text, in both editions of the grammar. In each, the errors before

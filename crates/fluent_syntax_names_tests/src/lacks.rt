@@ -6,7 +6,7 @@ use fluent_syntax_tests::alike::assert_same_text;
 use std::alloc::Global;
 use std::test::Fail;
 
-/// What is shown, the one file, the other one, and what that lacks: where each name begins, behind the mark of its part.
+/// What is shown, the one file, the other one, and what that lacks: where each name begins, behind a mark of its part.
 type Row = (&'static str, &'static str, &'static str, &'static str);
 
 const ROWS: [Row; 22] = [

@@ -18,3 +18,4 @@ pub mod ShortPieces
 pub mod Starts
 pub mod Strings
 pub mod Noted
+pub mod Tiles

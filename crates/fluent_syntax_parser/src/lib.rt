@@ -36,6 +36,7 @@ mod starts;
 mod strings;
 mod tails;
 mod tile;
+pub mod tiles;
 mod variants;
 mod words;
 

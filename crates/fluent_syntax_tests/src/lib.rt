@@ -35,4 +35,6 @@ mod spans;
 #[cfg(test)]
 mod texts;
 #[cfg(test)]
+mod tiles;
+#[cfg(test)]
 mod trees;

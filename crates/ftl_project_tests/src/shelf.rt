@@ -9,7 +9,7 @@ use std::rt::Files;
 
 /// Which calls fail.
 #[derive(Clone, Copy, Debug, PartialEq, Eq)]
-pub enum Failing {
+pub(crate) enum Failing {
     /// None.
     Never,
     /// The one of this number.
@@ -27,7 +27,7 @@ struct Held {
 
 /// The files, and how many calls came.
 #[derive(Drop)]
-pub struct State {
+pub(crate) struct State {
     alloc: Global,
     files: RefCell<Vec<Held>>,
     calls: Cell<usize>,
@@ -36,13 +36,13 @@ pub struct State {
 
 /// The files, as a runtime.
 #[derive(Clone, Copy)]
-pub struct Shelf<'s> {
+pub(crate) struct Shelf<'s> {
     state: &'s State,
 }
 
 /// An open file.
 #[derive(Drop)]
-pub struct Open<'s> {
+pub(crate) struct Open<'s> {
     state: &'s State,
     path: String,
     place: usize,
@@ -50,14 +50,14 @@ pub struct Open<'s> {
 
 /// The names of a folder.
 #[derive(Drop)]
-pub struct Names {
+pub(crate) struct Names {
     names: Vec<u8>,
     place: usize,
 }
 
 impl State {
     /// No files.
-    pub fn new(alloc: Global, failing: Failing) -> Self {
+    pub(crate) fn new(alloc: Global, failing: Failing) -> Self {
         State {
             alloc,
             files: RefCell::new(Vec::new(alloc)),
@@ -67,12 +67,12 @@ impl State {
     }
 
     /// How many calls came.
-    pub fn calls(&self) -> usize {
+    pub(crate) fn calls(&self) -> usize {
         self.calls.get()
     }
 
     /// Adds a file, or gives it these bytes.
-    pub fn put(&self, path: &str, bytes: &[u8]) -> io::Result<()> {
+    pub(crate) fn put(&self, path: &str, bytes: &[u8]) -> io::Result<()> {
         let mut files = self.files.try_borrow_mut()?;
         let bytes = Vec::from_slice(self.alloc, bytes)?;
         for held in files.iter_mut() {
@@ -87,7 +87,7 @@ impl State {
     }
 
     /// The bytes of a file.
-    pub fn get(&self, path: &str) -> io::Result<Vec<u8>> {
+    pub(crate) fn get(&self, path: &str) -> io::Result<Vec<u8>> {
         let files = self.files.try_borrow()?;
         for held in files.iter() {
             if held.path.as_str() == path {
@@ -98,7 +98,7 @@ impl State {
     }
 
     /// How many files there are.
-    pub fn count(&self) -> io::Result<usize> {
+    pub(crate) fn count(&self) -> io::Result<usize> {
         Ok(self.files.try_borrow()?.len())
     }
 
@@ -139,7 +139,7 @@ impl State {
 
 impl<'s> Shelf<'s> {
     /// The runtime that reaches these files.
-    pub fn new(state: &'s State) -> Self {
+    pub(crate) fn new(state: &'s State) -> Self {
         Shelf { state }
     }
 }

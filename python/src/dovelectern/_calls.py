@@ -37,7 +37,7 @@ def parse(text: Text, *, nesting: int = NESTING, with_spans: bool = True) -> ast
 
 @contextmanager
 def _no_collection() -> Iterator[None]:
-    """Holds off the search for garbage, of which a tree that comes into being has none: it would take most of the time."""
+    """Holds off the search for garbage: a tree that comes into being has none, and it would take most of the time."""
     was_on = gc.isenabled()
     gc.disable()
     try:
@@ -128,7 +128,7 @@ def check_file(path: Path, *, edition: int = 1, nesting: int = NESTING) -> List[
 
 def format_file(path: Path, *, edition: int = 1, comments: bool = True, drop_junk: bool = False,
                 nesting: int = NESTING) -> str:
-    """A file's text in its normal form; nothing is written to the file. It raises what `format` raises, and `OSError`."""
+    """A file's text in its normal form; nothing is written to it. It raises what `format` raises, and `OSError`."""
     with _File(path) as data:
         return format(data, edition=edition, comments=comments, drop_junk=drop_junk, nesting=nesting)
 

@@ -1,5 +1,5 @@
 -- The laws of locality hold.
-use Rattle.std.proofs.Common.{◌≡◌, ℕ, zero, suc, ◌+◌, ◌-◌, ◌≤◌, ◌<◌, List, [], ◌∷◌, ◌++◌, length, drop, Option}
+use Rattle.std.proofs.Common.{◌≡◌, ℕ, zero, suc, ◌+◌, ◌-◌, ◌≤◌, ◌<◌, List, [], ◌∷◌, ◌++◌, length, map, drop, Option}
 use Rattle.std.proofs.Common.{Some, None, Bool, true, false, refl, sym, ◌∙◌, subst, ap, arith, inl, inr, length-drop}
 use Rattle.std.specs.Prelude.{slice_get, slice_range, ◌⊎◌, ◌==◌, ◌&&◌, ◌||◌, not}
 use Rattle.std.proofs.lemmas.Bool.Decides.{nat_tests}
@@ -11,8 +11,8 @@ use Rattle.fluent_syntax_grammar.specs.Tiling.{Tile, entry, refused, dropped, is
 use Rattle.fluent_syntax_grammar.specs.Tiling.{RuntimeTileAt, TileAt, Tiling, reads, refuses}
 use Rattle.fluent_syntax_grammar.specs.Body.{faults}
 use Rattle.fluent_syntax_grammar.specs.RoundTrip.{tree_of}
-use Rattle.fluent_syntax_grammar.specs.Locality.{moved_tiles, Led, arrives, onward, begins_entry, ends_or_begins}
-use Rattle.fluent_syntax_grammar.specs.Locality.{begins_comment, SuffixLocal, SameRest, PrefixLocal}
+use Rattle.fluent_syntax_grammar.specs.Locality.{moved_fault, moved_tiles, Led, arrives, onward, begins_entry}
+use Rattle.fluent_syntax_grammar.specs.Locality.{ends_or_begins, begins_comment, SuffixLocal, SameRest, PrefixLocal}
 use Rattle.fluent_syntax_grammar.specs.Locality.{Joins, RuntimeSuffixLocal}
 use Rattle.fluent_syntax_grammar.proofs.Facts.{has_inside, left_true, right_true}
 use Rattle.fluent_syntax_tree.specs.Every.{list_every}
@@ -22,38 +22,42 @@ use Rattle.fluent_syntax_grammar.proofs.Boundaries.{text_cuts}
 use Rattle.fluent_syntax_grammar.proofs.SoundTiling.{entry_read, entry_refused}
 use Rattle.fluent_syntax_grammar.proofs.LineEnds.{block_at_entry}
 use Rattle.fluent_syntax_grammar.proofs.Functional.{single_block}
-use Rattle.fluent_syntax_grammar.proofs.OneTiling.{one_runtime_tile, one_tile, tiled_same}
+use Rattle.fluent_syntax_grammar.proofs.OneTiling.{IsOneTile, one_runtime_tile, one_tile, tiled_same}
 use Rattle.fluent_syntax_grammar.proofs.SomeTiling.{some_runtime_tiling, some_tiling}
 use Rattle.fluent_syntax_grammar.proofs.locality.Moved.{Behind, behind, behind_place}
 use Rattle.fluent_syntax_grammar.proofs.locality.Tiles.{faults_there, runtime_tiled_there, tiled_there, tree_there}
 use Rattle.fluent_syntax_grammar.proofs.locality.Kept.{Head, Shared}
-use Rattle.fluent_syntax_grammar.proofs.locality.KeptEntries.{JunkBelow, ends_early, entry_head, head_byte, led_keep}
+use Rattle.fluent_syntax_grammar.proofs.locality.KeptEntries.{entry_head, head_byte}
+use Rattle.fluent_syntax_grammar.proofs.locality.KeptTiles.{JunkBelow, ends_early, led_keep}
 
 -- ---- suffixes
+
+-- tiles from a place on, where the rest's own tiles stand there too
+rest_moved : (t : List ℕ) (p : ℕ) (at : (i j : ℕ) → Tile → Type 0) (tiles own : List Tile) → IsOneTile at →
+    Behind p t (drop p t) → Tiled t at p tiles → Tiled t at (p + 0) (moved_tiles p own) →
+    (tiles ≡ moved_tiles p own) × (faults tiles ≡ map (moved_fault p) (faults own))
+    × (tree_of t tiles ≡ tree_of (drop p t) own)
+rest_moved t p at tiles own one b a there =
+    let zero_place : p + 0 ≡ p = omega arith in
+    let moved : Tiled t at p (moved_tiles p own) = subst (λ k. Tiled t at k (moved_tiles p own)) zero_place there in
+    let same : tiles ≡ moved_tiles p own = tiled_same t at one p tiles (moved_tiles p own) a moved in
+    (same, ap faults same ∙ faults_there p own, ap (tree_of t) same ∙ tree_there p t (drop p t) b own)
 
 pub suffix_local : (edition : Edition) (t : List ℕ) → SuffixLocal edition t
 suffix_local edition t = λ p tiles l e a.
     let b = behind_place t p l in
     let own = some_tiling edition (drop p t) in
-    let zero_place : p + 0 ≡ p = omega arith in
-    let moved : Tiled t (TileAt edition t) p (moved_tiles p own.0) =
-    subst (λ k. Tiled t (TileAt edition t) k (moved_tiles p own.0)) zero_place
-    (tiled_there p t (drop p t) b e edition 0 own.0 own.1) in
-    let same : tiles ≡ moved_tiles p own.0 =
-    tiled_same t (TileAt edition t) (one_tile edition t) p tiles (moved_tiles p own.0) a moved in
-    (own.0, own.1, same, ap faults same ∙ faults_there p own.0, ap (tree_of t) same ∙ tree_there p t (drop p t) b own.0)
+    let there = tiled_there p t (drop p t) b e edition 0 own.0 own.1 in
+    let moved = rest_moved t p (TileAt edition t) tiles own.0 (one_tile edition t) b a there in
+    (own.0, own.1, moved.0, moved.1, moved.2)
 
 pub runtime_suffix_local : (edition : Edition) (t : List ℕ) → RuntimeSuffixLocal edition t
 runtime_suffix_local edition t = λ p tiles l e a.
     let b = behind_place t p l in
     let own = some_runtime_tiling edition (drop p t) in
-    let zero_place : p + 0 ≡ p = omega arith in
-    let moved : Tiled t (RuntimeTileAt edition t) p (moved_tiles p own.0) =
-    subst (λ k. Tiled t (RuntimeTileAt edition t) k (moved_tiles p own.0)) zero_place
-    (runtime_tiled_there p t (drop p t) b e edition 0 own.0 own.1) in
-    let same : tiles ≡ moved_tiles p own.0 =
-    tiled_same t (RuntimeTileAt edition t) (one_runtime_tile edition t) p tiles (moved_tiles p own.0) a moved in
-    (own.0, own.1, same, ap faults same ∙ faults_there p own.0, ap (tree_of t) same ∙ tree_there p t (drop p t) b own.0)
+    let there = runtime_tiled_there p t (drop p t) b e edition 0 own.0 own.1 in
+    let moved = rest_moved t p (RuntimeTileAt edition t) tiles own.0 (one_runtime_tile edition t) b a there in
+    (own.0, own.1, moved.0, moved.1, moved.2)
 
 pub same_rest : (edition : Edition) (t u : List ℕ) → SameRest edition t u
 same_rest edition t u = λ p q xs ys l m r e f a b.

@@ -37,7 +37,8 @@ use Rattle.fluent_syntax_grammar.proofs.locality.EntryEnds.{AtLine}
 use Rattle.fluent_syntax_grammar.proofs.locality.Trees.{entry_same}
 use Rattle.fluent_syntax_grammar.proofs.locality.Replaced.{gap_length}
 use Rattle.fluent_syntax_grammar.specs.Canonical.{is_canonical}
-use Rattle.fluent_syntax_grammar.specs.Locality.{NoCommentTakes, Settled, begins_comment, ends_in_comment, ends_or_begins, may_begin, Inserted, Removed}
+use Rattle.fluent_syntax_grammar.specs.Locality.{NoCommentTakes, Settled, begins_comment, ends_in_comment}
+use Rattle.fluent_syntax_grammar.specs.Locality.{ends_or_begins, may_begin, Inserted, Removed}
 use Rattle.fluent_syntax_grammar.specs.Tiling.{reads}
 use Rattle.fluent_syntax_grammar.proofs.Facts.{append_nothing, left_true, differs}
 use Rattle.fluent_syntax_grammar.proofs.LineEnds.{block_at_entry}
@@ -292,7 +293,8 @@ inserted edition t e blank = λ before after s old a f k h.
 
 -- without what stands up to q
 pub without : (edition : Edition) (t : List ℕ) (before after ys : List Tile) (s : Span) (old : EntryTree Span)
-    (q : ℕ) → Standing edition t before after s old → Settled t s.start before → NoCommentTakes s.start before (drop q t) →
+    (q : ℕ) → Standing edition t before after s old → Settled t s.start before →
+    NoCommentTakes s.start before (drop q t) →
     ends_or_begins (drop q t) ≡ true → RestAlone edition t q ys →
     (own : List Tile) × (ys ≡ moved_tiles q own) ×
     Tiling edition (take s.start t ++ drop q t) (before ++ moved_tiles s.start own)
@@ -337,11 +339,13 @@ pub whole_settled : (t : List ℕ) (before : List Tile) → Settled t (length t)
     Settled (t ++ []) (length t) before
 whole_settled t before f = subst (λ v. Settled v (length t) before) (sym (append_nothing t)) f
 
-pub led_on : (edition : Edition) (t u : List ℕ) (before : List Tile) → Tiling edition t before → Settled t (length t) before →
+pub led_on : (edition : Edition) (t u : List ℕ) (before : List Tile) → Tiling edition t before →
+    Settled t (length t) before →
     starts_line t (length t) ≡ true → NoCommentTakes (length t) before u → ends_or_begins u ≡ true →
     Led (t ++ u) (TileAt edition (t ++ u)) (length t) 0 before
 led_on edition t u before a f s k h =
-    prefix_local edition t [] u before (whole_starts t s) refl h (whole_settled t before f) k (whole_led edition t before a)
+    prefix_local edition t [] u before (whole_starts t s) refl h (whole_settled t before f) k
+    (whole_led edition t before a)
 
 pub appended : (edition : Edition) (t : List ℕ) (e : EntryTree Text) (blank : ℕ) → Appended edition t e blank
 appended edition t e blank = λ before a f s k h.

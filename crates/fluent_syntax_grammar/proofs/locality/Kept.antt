@@ -8,9 +8,10 @@ use Rattle.fluent_syntax_tree.specs.declared.spans.Span.{Span}
 use Rattle.fluent_syntax_grammar.specs.Bytes.{lf}
 use Rattle.fluent_syntax_grammar.specs.Places.{Reaches}
 use Rattle.fluent_syntax_grammar.specs.Placeables.{has_arrow}
-use Rattle.fluent_syntax_grammar.specs.Construct.{Read, Refused, Construct, ◌>>=◌, goes_on, stops, gives, given, here, at_place, fails, failed}
-use Rattle.fluent_syntax_grammar.specs.Construct.{over, passed, at_each, chosen, either, first, second}
-use Rattle.fluent_syntax_grammar.specs.Construct.{More, many, list_ends, list_stops, item_and_more, stops_later}
+use Rattle.fluent_syntax_grammar.specs.Construct.{Read, Refused, Construct, ◌>>=◌, goes_on, stops, gives, given, here}
+use Rattle.fluent_syntax_grammar.specs.Construct.{at_place, fails, failed, over, passed, at_each, chosen, either, first}
+use Rattle.fluent_syntax_grammar.specs.Construct.{second, More, no_item, item, many, list_ends, list_stops}
+use Rattle.fluent_syntax_grammar.specs.Construct.{item_and_more, stops_later}
 use Rattle.fluent_syntax_grammar.specs.Tiling.{is_entry_byte, failing_place}
 use Rattle.fluent_syntax_grammar.proofs.Facts.{lt_or_same}
 use Rattle.fluent_syntax_grammar.proofs.Sound.{good_more}
@@ -29,7 +30,8 @@ pub record Head (t : List ℕ) (p : ℕ) : Type 0 where
   pub begins : is_head (slice_get t p) ≡ true
   pub no_arrow : has_arrow t p ≡ false
 
--- Before p the texts are the same; there a line starts, and in each text a byte that begins an entry stands, or it ends.
+-- Before p the texts are the same; there a line starts, and in each text a byte that begins an entry stands, or the
+-- text ends.
 pub record Shared (p : ℕ) (t u : List ℕ) : Type 0 where
   pub byte : (i : ℕ) → i < p → slice_get t i ≡ slice_get u i
   pub range : (i j : ℕ) → j ≤ p → slice_range t i j ≡ slice_range u i j
@@ -57,13 +59,21 @@ pub record Keeps {A : Type 0} (p : ℕ) (c d : Construct A) : Type 0 where
   pub refuse : Refuses p c d
   pub late : FailsLate c
 
--- The same under a premise, where besides what is read is good.
-pub record KeepsIf {A : Type 0} (p : ℕ) (M : Type 0) (Good : A → Type 0) (c d : Construct A) : Type 0 where
-  pub keep : M → (i j : ℕ) (a : A) → i ≤ p → j ≤ p → c i (Read a j) → d i (Read a j)
+-- The same of what begins at the places of a kind, under a premise, where besides what is read is good.
+pub record KeepsOn {A : Type 0} (p : ℕ) (On : ℕ → Type 0) (M : Type 0) (Good : A → Type 0) (c d : Construct A) :
+    Type 0 where
+  pub keep : M → (i j : ℕ) (a : A) → On i → j ≤ p → c i (Read a j) → d i (Read a j)
   pub good : M → (i j : ℕ) (a : A) → j ≤ p → c i (Read a j) → Good a
   pub forward : (i j : ℕ) (a : A) → c i (Read a j) → i ≤ j
   pub refuse : M → Refuses p c d
   pub late : FailsLate c
+
+abbrev pub KeepsIf : {A : Type 0} → ℕ → Type 0 → (A → Type 0) → Construct A → Construct A → Type 0
+KeepsIf p M Good c d = KeepsOn p (λ i. i ≤ p) M Good c d
+
+-- of a part that begins before p: at p itself it may read nothing in the one text, and read on in the other
+abbrev pub KeepsBelow : {A : Type 0} → ℕ → Type 0 → (A → Type 0) → Construct A → Construct A → Type 0
+KeepsBelow p M Good c d = KeepsOn p (λ i. i < p) M Good c d
 
 -- nothing more of the value
 abbrev pub Any : {A : Type 0} → A → Type 0
@@ -91,14 +101,6 @@ pub record KeepsFrom {A : Type 0} (p k : ℕ) (M : Type 0) (Good : A → Type 0)
       d i (Refused l from to)
   pub late : (i from to : ℕ) (l : Kind) → i < k → c i (Refused l from to) → i ≤ failing_place l from to
 
--- The same of a part that begins before p: at p itself it may read nothing in the one text, and read on in the other.
-pub record KeepsBelow {A : Type 0} (p : ℕ) (M : Type 0) (Good : A → Type 0) (c d : Construct A) : Type 0 where
-  pub keep : M → (i j : ℕ) (a : A) → i < p → j ≤ p → c i (Read a j) → d i (Read a j)
-  pub good : M → (i j : ℕ) (a : A) → j ≤ p → c i (Read a j) → Good a
-  pub forward : (i j : ℕ) (a : A) → c i (Read a j) → i ≤ j
-  pub refuse : M → Refuses p c d
-  pub late : FailsLate c
-
 -- what begins before p, and ends at p at the latest, ends before p
 pub record EndsBelow {A : Type 0} (p : ℕ) (c : Construct A) : Type 0 where
   pub ends : (i j : ℕ) (a : A) → i < p → j ≤ p → c i (Read a j) → j < p
@@ -111,6 +113,12 @@ place_from (ExpectedTermField id) from to l = l
 place_from k from to l = omega arith
 
 module _ (p : ℕ) where
+  abbrev UpTo : ℕ → Type 0
+  UpTo i = i ≤ p
+
+  abbrev Below : ℕ → Type 0
+  Below i = i < p
+
   bind_late : {A B : Type 0} (c : Construct A) (f : A → Construct B) → ((i j : ℕ) (a : A) → c i (Read a j) → i ≤ j) →
       FailsLate c → ((a : A) → FailsLate (f a)) → FailsLate (c >>= f)
   bind_late c f w v z i from to k (stops x) = v i from to k x
@@ -122,72 +130,19 @@ module _ (p : ℕ) where
   bind_forward c f w v i j b (goes_on {j = m} {a = a} x y) =
       let l = w i m a x in let k = v a m j b y in omega arith
 
-  bind_keep : {A B : Type 0} (c d : Construct A) (f g : A → Construct B) → Keeps p c d →
-      ((a : A) → Keeps p (f a) (g a)) → (i j : ℕ) (b : B) → i ≤ p → j ≤ p → (c >>= f) i (Read b j) →
-      (d >>= g) i (Read b j)
-  bind_keep c d f g m k i j b l n (goes_on {j = q} {a = a} x y) =
-      let w = (k a).forward q j b y in
-      goes_on (m.keep i q a l (omega arith) x) ((k a).keep q j b (omega arith) n y)
-
-  bind_refuse : {A B : Type 0} (c d : Construct A) (f g : A → Construct B) → Keeps p c d →
-      ((a : A) → Keeps p (f a) (g a)) → Refuses p (c >>= f) (d >>= g)
-  bind_refuse c d f g m k i from to x e (stops r) = stops (m.refuse i from to x e r)
-  bind_refuse c d f g m k i from to x e (goes_on {j = q} {a = a} r y) =
-      let l = m.forward i q a r in
-      let n = (k a).late q from to x y in
-      goes_on (m.keep i q a (omega arith) (omega arith) r) ((k a).refuse q from to x e y)
-
-  pub keeps_bind : {A B : Type 0} {c d : Construct A} {f g : A → Construct B} → Keeps p c d →
-      ((a : A) → Keeps p (f a) (g a)) → Keeps p (c >>= f) (d >>= g)
-  keeps_bind m k = record {
-    keep = bind_keep _ _ _ _ m k;
-    forward = bind_forward _ _ m.forward (λ a. (k a).forward);
-    refuse = bind_refuse _ _ _ _ m k;
-    late = bind_late _ _ m.forward m.late (λ a. (k a).late);
-  }
-
-  if_keep : {A B : Type 0} (M : Type 0) (Mid : A → Type 0) (Good : B → Type 0) (c d : Construct A)
-      (f g : A → Construct B) → KeepsIf p M Mid c d → ((a : A) → KeepsIf p (M × Mid a) Good (f a) (g a)) → M →
-      (i j : ℕ) (b : B) → i ≤ p → j ≤ p → (c >>= f) i (Read b j) → (d >>= g) i (Read b j)
-  if_keep M Mid Good c d f g m k h i j b l n (goes_on {j = q} {a = a} x y) =
-      let w = (k a).forward q j b y in
-      goes_on (m.keep h i q a l (omega arith) x)
-      ((k a).keep (h, m.good h i q a (omega arith) x) q j b (omega arith) n y)
-
-  if_good : {A B : Type 0} (M : Type 0) (Mid : A → Type 0) (Good : B → Type 0) (c d : Construct A)
-      (f g : A → Construct B) → KeepsIf p M Mid c d → ((a : A) → KeepsIf p (M × Mid a) Good (f a) (g a)) → M →
-      (i j : ℕ) (b : B) → j ≤ p → (c >>= f) i (Read b j) → Good b
-  if_good M Mid Good c d f g m k h i j b n (goes_on {j = q} {a = a} x y) =
-      let w = (k a).forward q j b y in (k a).good (h, m.good h i q a (omega arith) x) q j b n y
-
-  if_refuse : {A B : Type 0} (M : Type 0) (Mid : A → Type 0) (Good : B → Type 0) (c d : Construct A)
-      (f g : A → Construct B) → KeepsIf p M Mid c d → ((a : A) → KeepsIf p (M × Mid a) Good (f a) (g a)) → M →
-      Refuses p (c >>= f) (d >>= g)
-  if_refuse M Mid Good c d f g m k h i from to x e (stops r) = stops (m.refuse h i from to x e r)
-  if_refuse M Mid Good c d f g m k h i from to x e (goes_on {j = q} {a = a} r y) =
-      let l = m.forward i q a r in
-      let n = (k a).late q from to x y in
-      goes_on (m.keep h i q a (omega arith) (omega arith) r) ((k a).refuse (h, m.good h i q a (omega arith) r) q from to x e y)
-
-  pub if_bind : {A B : Type 0} {M : Type 0} {Mid : A → Type 0} {Good : B → Type 0} {c d : Construct A}
-      {f g : A → Construct B} → KeepsIf p M Mid c d → ((a : A) → KeepsIf p (M × Mid a) Good (f a) (g a)) →
-      KeepsIf p M Good (c >>= f) (d >>= g)
-  if_bind {M = M} {Mid = Mid} {Good = Good} m k = record {
-    keep = if_keep M Mid Good _ _ _ _ m k;
-    good = if_good M Mid Good _ _ _ _ m k;
-    forward = bind_forward _ _ m.forward (λ a. (k a).forward);
-    refuse = if_refuse M Mid Good _ _ _ _ m k;
-    late = bind_late _ _ m.forward m.late (λ a. (k a).late);
-  }
-
-  pub plain : {A : Type 0} {M : Type 0} {c d : Construct A} → Keeps p c d → KeepsIf p M Any c d
-  plain m = record {
+  -- what d reads in place of c is good for every value
+  good_for_all : {A : Type 0} {M : Type 0} {Good : A → Type 0} {c d : Construct A} → ((a : A) → Good a) →
+      Keeps p c d → KeepsIf p M Good c d
+  good_for_all g m = record {
     keep = λ h. m.keep;
-    good = λ h i j a l x. tt;
+    good = λ h i j a l x. g a;
     forward = m.forward;
     refuse = λ h. m.refuse;
     late = m.late;
   }
+
+  pub plain : {A : Type 0} {M : Type 0} {c d : Construct A} → Keeps p c d → KeepsIf p M Any c d
+  plain m = good_for_all (λ a. tt) m
 
   pub simple : {A : Type 0} {Good : A → Type 0} {c d : Construct A} → KeepsIf p (Unit {0}) Good c d → Keeps p c d
   simple m = record { keep = m.keep tt; forward = m.forward; refuse = m.refuse tt; late = m.late }
@@ -202,19 +157,75 @@ module _ (p : ℕ) where
     late = m.late;
   }
 
+  pub below_if : {A : Type 0} {M : Type 0} {Good : A → Type 0} {c d : Construct A} → KeepsIf p M Good c d →
+      KeepsBelow p M Good c d
+  below_if m = record {
+    keep = λ h i j a l. m.keep h i j a (omega arith);
+    good = m.good;
+    forward = m.forward;
+    refuse = m.refuse;
+    late = m.late;
+  }
+
+  -- two parts: the first begins at the places of one kind, the second, where that ends, at those of another
+  module _ {A B : Type 0} {M : Type 0} {Mid : A → Type 0} {Good : B → Type 0} {c d : Construct A}
+      {f g : A → Construct B} (On Next : ℕ → Type 0) (m : KeepsOn p On M Mid c d)
+      (k : (a : A) → KeepsOn p Next (M × Mid a) Good (f a) (g a)) (low : (i : ℕ) → i + 4 ≤ p → On i)
+      (ends : (i j : ℕ) (a : A) → On i → j ≤ p → c i (Read a j) → Next j) where
+    both_keep : M → (i j : ℕ) (b : B) → On i → j ≤ p → (c >>= f) i (Read b j) → (d >>= g) i (Read b j)
+    both_keep h i j b l n (goes_on {j = q} {a = a} x y) =
+        let w = (k a).forward q j b y in
+        let in_p : q ≤ p = omega arith in
+        goes_on (m.keep h i q a l in_p x)
+        ((k a).keep (h, m.good h i q a in_p x) q j b (ends i q a l in_p x) n y)
+
+    both_good : M → (i j : ℕ) (b : B) → j ≤ p → (c >>= f) i (Read b j) → Good b
+    both_good h i j b n (goes_on {j = q} {a = a} x y) =
+        let w = (k a).forward q j b y in (k a).good (h, m.good h i q a (omega arith) x) q j b n y
+
+    both_refuse : M → Refuses p (c >>= f) (d >>= g)
+    both_refuse h i from to x e (stops r) = stops (m.refuse h i from to x e r)
+    both_refuse h i from to x e (goes_on {j = q} {a = a} r y) =
+        let l = m.forward i q a r in
+        let n = (k a).late q from to x y in
+        let in_p : q ≤ p = omega arith in
+        goes_on (m.keep h i q a (low i (omega arith)) in_p r)
+        ((k a).refuse (h, m.good h i q a in_p r) q from to x e y)
+
+    keeps_both : KeepsOn p On M Good (c >>= f) (d >>= g)
+    keeps_both = record {
+      keep = both_keep;
+      good = both_good;
+      forward = bind_forward _ _ m.forward (λ a. (k a).forward);
+      refuse = both_refuse;
+      late = bind_late _ _ m.forward m.late (λ a. (k a).late);
+    }
+
+  pub if_bind : {A B : Type 0} {M : Type 0} {Mid : A → Type 0} {Good : B → Type 0} {c d : Construct A}
+      {f g : A → Construct B} → KeepsIf p M Mid c d → ((a : A) → KeepsIf p (M × Mid a) Good (f a) (g a)) →
+      KeepsIf p M Good (c >>= f) (d >>= g)
+  if_bind m k = keeps_both UpTo UpTo m k (λ i l. omega arith) (λ i j a l n x. n)
+
+  pub keeps_bind : {A B : Type 0} {c d : Construct A} {f g : A → Construct B} → Keeps p c d →
+      ((a : A) → Keeps p (f a) (g a)) → Keeps p (c >>= f) (d >>= g)
+  keeps_bind m k = simple (if_bind (plain m) (λ a. plain (k a)))
+
+  pub below_bind : {A B : Type 0} {M : Type 0} {Mid : A → Type 0} {Good : B → Type 0} {c d : Construct A}
+      {f g : A → Construct B} → KeepsBelow p M Mid c d → ((a : A) → KeepsIf p (M × Mid a) Good (f a) (g a)) →
+      KeepsBelow p M Good (c >>= f) (d >>= g)
+  below_bind m k = keeps_both Below UpTo m k (λ i l. omega arith) (λ i j a l n x. n)
+
+  -- behind a part that ends before p
+  pub below_then : {A B : Type 0} {M : Type 0} {Mid : A → Type 0} {Good : B → Type 0} {c d : Construct A}
+      {f g : A → Construct B} → KeepsIf p M Mid c d → EndsBelow p c →
+      ((a : A) → KeepsBelow p (M × Mid a) Good (f a) (g a)) → KeepsBelow p M Good (c >>= f) (d >>= g)
+  below_then m v k = keeps_both Below Below (below_if m) k (λ i l. omega arith) v.ends
+
   gives_forward : {A : Type 0} (a : A) (i j : ℕ) (b : A) → gives a i (Read b j) → i ≤ j
   gives_forward a i j b given = omega arith
 
   gives_good : {A : Type 0} (Good : A → Type 0) (a : A) → Good a → (i j : ℕ) (b : A) → gives a i (Read b j) → Good b
   gives_good Good a g i j b given = g
-
-  pub keeps_gives : {A : Type 0} {a : A} → Keeps p (gives a) (gives a)
-  keeps_gives {a = a} = record {
-    keep = λ i j b l n x. x;
-    forward = gives_forward a;
-    refuse = λ i from to k e x. elim x [ ];
-    late = λ i from to k x. elim x [ ];
-  }
 
   pub if_gives : {A : Type 0} {M : Type 0} {Good : A → Type 0} {a : A} → (M → Good a) →
       KeepsIf p M Good (gives a) (gives a)
@@ -226,19 +237,14 @@ module _ (p : ℕ) where
     late = λ i from to k x. elim x [ ];
   }
 
+  pub keeps_gives : {A : Type 0} {a : A} → Keeps p (gives a) (gives a)
+  keeps_gives = simple {Good = Any} (if_gives (λ h. tt))
+
   here_forward : (i j a : ℕ) → here i (Read a j) → i ≤ j
   here_forward i j a at_place = omega arith
 
   here_good : (i j a : ℕ) → j ≤ p → here i (Read a j) → a ≤ p
   here_good i j a l at_place = l
-
-  pub keeps_here : Keeps p here here
-  keeps_here = record {
-    keep = λ i j b l n x. x;
-    forward = here_forward;
-    refuse = λ i from to k e x. elim x [ ];
-    late = λ i from to k x. elim x [ ];
-  }
 
   pub if_here : {M : Type 0} → KeepsIf p M (λ i. i ≤ p) here here
   if_here = record {
@@ -248,6 +254,9 @@ module _ (p : ℕ) where
     refuse = λ h i from to k e x. elim x [ ];
     late = λ i from to k x. elim x [ ];
   }
+
+  pub keeps_here : Keeps p here here
+  keeps_here = simple if_here
 
   pub fails_late : {A : Type 0} (k : Kind) → FailsLate {A = A} (fails k)
   fails_late k i from to l (failed e) = place_from k i to (omega arith)
@@ -370,173 +379,73 @@ module _ (p : ℕ) where
 
   -- ---- lists
 
-  -- from the places of a kind on, up to p at the latest
-  module _ {A S B : Type 0} (At : ℕ → Type 0) (f g : S → Construct (More A S)) (add : A → B → B) (none : B)
-      (forward : (s : S) (i j : ℕ) (x : More A S) → f s i (Read x j) → i ≤ j)
-      (keep : (s : S) (i j : ℕ) (x : More A S) → At i → j ≤ p → f s i (Read x j) → g s i (Read x j))
-      (stays : (s : S) (i j : ℕ) (x : More A S) → At i → j ≤ p → f s i (Read x j) → At j)
-      (low : (i : ℕ) → i + 4 ≤ p → At i) (refuse : (s : S) → Refuses p (f s) (g s))
-      (late : (s : S) → FailsLate (f s)) where
+  -- each item begins at the places of a kind, its value is good where there is one, and added to a good list it makes
+  -- a good one
+  module _ {A S B : Type 0} {f g : S → Construct (More A S)} {add : A → B → B} {none : B}
+      {Good : A → Type 0} {All : B → Type 0} (On : ℕ → Type 0)
+      (k : (s : S) → KeepsOn p On (Unit {0}) (good_more Good) (f s) (g s)) (low : (i : ℕ) → i + 4 ≤ p → On i)
+      (stays : (s : S) (i j : ℕ) (x : More A S) → On i → j ≤ p → f s i (Read x j) → On j)
+      (e : All none) (adds : (a : A) (b : B) → Good a → All b → All (add a b)) where
     many_forward : (s : S) (i j : ℕ) (b : B) → many f add none s i (Read b j) → i ≤ j
-    many_forward s i j b (list_ends x) = forward s i j _ x
+    many_forward s i j b (list_ends x) = (k s).forward i j _ x
     many_forward s i j b (item_and_more {later = r} {j = m} x y) =
-        let l = forward s i m _ x in let k = many_forward r m j _ y in omega arith
+        let l = (k s).forward i m _ x in let n = many_forward r m j _ y in omega arith
 
-    many_keep : (s : S) (i j : ℕ) (b : B) → At i → j ≤ p → many f add none s i (Read b j) →
+    many_keep : (s : S) (i j : ℕ) (b : B) → On i → j ≤ p → many f add none s i (Read b j) →
         many g add none s i (Read b j)
-    many_keep s i j b l n (list_ends x) = list_ends (keep s i j _ l n x)
+    many_keep s i j b l n (list_ends x) = list_ends ((k s).keep tt i j _ l n x)
     many_keep s i j b l n (item_and_more {later = r} {j = m} x y) =
-        let k = many_forward r m j _ y in
-        let q : m ≤ p = omega arith in
-        item_and_more (keep s i m _ l q x) (many_keep r m j _ (stays s i m _ l q x) n y)
+        let w = many_forward r m j _ y in
+        let in_p : m ≤ p = omega arith in
+        item_and_more ((k s).keep tt i m _ l in_p x) (many_keep r m j _ (stays s i m _ l in_p x) n y)
+
+    many_good : (s : S) (i j : ℕ) (b : B) → j ≤ p → many f add none s i (Read b j) → All b
+    many_good s i j b n (list_ends x) = e
+    many_good s i j b n (item_and_more {later = r} {j = m} x y) =
+        let w = many_forward r m j _ y in
+        adds _ _ ((k s).good tt i m _ (omega arith) x) (many_good r m j _ n y)
 
     many_late : (s : S) → FailsLate (many f add none s)
-    many_late s i from to k (list_stops x) = late s i from to k x
-    many_late s i from to k (stops_later {later = r} {j = m} x y) =
-        let l = forward s i m _ x in let n = many_late r m from to k y in omega arith
+    many_late s i from to x (list_stops y) = (k s).late i from to x y
+    many_late s i from to x (stops_later {later = r} {j = m} y z) =
+        let l = (k s).forward i m _ y in let n = many_late r m from to x z in omega arith
 
     many_refuse : (s : S) → Refuses p (many f add none s) (many g add none s)
-    many_refuse s i from to k e (list_stops x) = list_stops (refuse s i from to k e x)
-    many_refuse s i from to k e (stops_later {later = r} {j = m} x y) =
-        let l = forward s i m _ x in
-        let n = many_late r m from to k y in
-        stops_later (keep s i m _ (low i (omega arith)) (omega arith) x) (many_refuse r m from to k e y)
+    many_refuse s i from to x v (list_stops y) = list_stops ((k s).refuse tt i from to x v y)
+    many_refuse s i from to x v (stops_later {later = r} {j = m} y z) =
+        let l = (k s).forward i m _ y in
+        let n = many_late r m from to x z in
+        stops_later ((k s).keep tt i m _ (low i (omega arith)) (omega arith) y) (many_refuse r m from to x v z)
 
-    module _ (Good : A → Type 0) (All : B → Type 0) (e : All none)
-        (adds : (a : A) (b : B) → Good a → All b → All (add a b))
-        (good : (s : S) (i j : ℕ) (x : More A S) → j ≤ p → f s i (Read x j) → good_more Good x) where
-      many_good : (s : S) (i j : ℕ) (b : B) → j ≤ p → many f add none s i (Read b j) → All b
-      many_good s i j b n (list_ends x) = e
-      many_good s i j b n (item_and_more {later = r} {j = m} x y) =
-          let k = many_forward r m j _ y in
-          adds _ _ (good s i m _ (omega arith) x) (many_good r m j _ n y)
+    keeps_list : {M : Type 0} (s : S) → KeepsOn p On M All (many f add none s) (many g add none s)
+    keeps_list s = record {
+      keep = λ h. many_keep s;
+      good = λ h. many_good s;
+      forward = many_forward s;
+      refuse = λ h. many_refuse s;
+      late = many_late s;
+    }
 
-  abbrev UpTo : ℕ → Type 0
-  UpTo i = i ≤ p
-
-  abbrev Below : ℕ → Type 0
-  Below i = i < p
-
-  pub keeps_many : {A S B : Type 0} {f g : S → Construct (More A S)} {add : A → B → B} {none : B} {s : S} →
-      ((s : S) → Keeps p (f s) (g s)) → Keeps p (many f add none s) (many g add none s)
-  keeps_many {f = f} {g = g} {add = add} {none = none} {s = s} k = record {
-    keep = many_keep UpTo f g add none (λ r. (k r).forward) (λ r. (k r).keep) (λ r i j x l n y. n) (λ i l. omega arith) (λ r. (k r).refuse) (λ r. (k r).late) s;
-    forward = many_forward UpTo f g add none (λ r. (k r).forward) (λ r. (k r).keep) (λ r i j x l n y. n) (λ i l. omega arith) (λ r. (k r).refuse) (λ r. (k r).late) s;
-    refuse = many_refuse UpTo f g add none (λ r. (k r).forward) (λ r. (k r).keep) (λ r i j x l n y. n) (λ i l. omega arith) (λ r. (k r).refuse) (λ r. (k r).late) s;
-    late = many_late UpTo f g add none (λ r. (k r).forward) (λ r. (k r).keep) (λ r i j x l n y. n) (λ i l. omega arith) (λ r. (k r).refuse) (λ r. (k r).late) s;
-  }
-
-  -- an item's value, where there is one, is good, and added to a good list it makes a good one
   pub if_many : {A S B : Type 0} {f g : S → Construct (More A S)} {add : A → B → B} {none : B} {s : S}
       {Good : A → Type 0} {All : B → Type 0} → ((s : S) → KeepsIf p (Unit {0}) (good_more Good) (f s) (g s)) →
       All none → ((a : A) (b : B) → Good a → All b → All (add a b)) →
       KeepsIf p (Unit {0}) All (many f add none s) (many g add none s)
-  if_many {f = f} {g = g} {add = add} {none = none} {s = s} {Good = Good} {All = All} k e adds = record {
-    keep = λ m. many_keep UpTo f g add none (λ r. (k r).forward) (λ r. (k r).keep tt) (λ r i j x l n y. n) (λ i l. omega arith) (λ r. (k r).refuse tt) (λ r. (k r).late) s;
-    good =
-        λ m. many_good UpTo f g add none (λ r. (k r).forward) (λ r. (k r).keep tt) (λ r i j x l n y. n) (λ i l. omega arith) (λ r. (k r).refuse tt) (λ r. (k r).late) Good All e adds
-        (λ r. (k r).good tt) s;
-    forward = many_forward UpTo f g add none (λ r. (k r).forward) (λ r. (k r).keep tt) (λ r i j x l n y. n) (λ i l. omega arith) (λ r. (k r).refuse tt) (λ r. (k r).late) s;
-    refuse = λ m. many_refuse UpTo f g add none (λ r. (k r).forward) (λ r. (k r).keep tt) (λ r i j x l n y. n) (λ i l. omega arith) (λ r. (k r).refuse tt) (λ r. (k r).late) s;
-    late = many_late UpTo f g add none (λ r. (k r).forward) (λ r. (k r).keep tt) (λ r i j x l n y. n) (λ i l. omega arith) (λ r. (k r).refuse tt) (λ r. (k r).late) s;
-  }
+  if_many {s = s} k e adds = keeps_list UpTo k (λ i l. omega arith) (λ r i j x l n y. n) e adds s
+
+  any_more : {A S : Type 0} (x : More A S) → good_more Any x
+  any_more no_item = tt
+  any_more (item a s) = tt
+
+  pub keeps_many : {A S B : Type 0} {f g : S → Construct (More A S)} {add : A → B → B} {none : B} {s : S} →
+      ((s : S) → Keeps p (f s) (g s)) → Keeps p (many f add none s) (many g add none s)
+  keeps_many k = simple {Good = Any} (if_many {Good = Any} (λ s. good_for_all any_more (k s)) tt (λ a b v w. tt))
 
   -- the same of items each of which begins before p
   pub below_many : {A S B : Type 0} {M : Type 0} {f g : S → Construct (More A S)} {add : A → B → B} {none : B} {s : S}
       {Good : A → Type 0} {All : B → Type 0} → ((s : S) → KeepsBelow p (Unit {0}) (good_more Good) (f s) (g s)) →
       ((s : S) → EndsBelow p (f s)) → All none → ((a : A) (b : B) → Good a → All b → All (add a b)) →
       KeepsBelow p M All (many f add none s) (many g add none s)
-  below_many {f = f} {g = g} {add = add} {none = none} {s = s} {Good = Good} {All = All} k q e adds = record {
-    keep = λ m. many_keep Below f g add none (λ r. (k r).forward) (λ r. (k r).keep tt) (λ r. (q r).ends) (λ i l. omega arith) (λ r. (k r).refuse tt) (λ r. (k r).late) s;
-    good =
-        λ m. many_good Below f g add none (λ r. (k r).forward) (λ r. (k r).keep tt) (λ r. (q r).ends) (λ i l. omega arith) (λ r. (k r).refuse tt) (λ r. (k r).late) Good All e adds
-        (λ r. (k r).good tt) s;
-    forward = many_forward Below f g add none (λ r. (k r).forward) (λ r. (k r).keep tt) (λ r. (q r).ends) (λ i l. omega arith) (λ r. (k r).refuse tt) (λ r. (k r).late) s;
-    refuse = λ m. many_refuse Below f g add none (λ r. (k r).forward) (λ r. (k r).keep tt) (λ r. (q r).ends) (λ i l. omega arith) (λ r. (k r).refuse tt) (λ r. (k r).late) s;
-    late = many_late Below f g add none (λ r. (k r).forward) (λ r. (k r).keep tt) (λ r. (q r).ends) (λ i l. omega arith) (λ r. (k r).refuse tt) (λ r. (k r).late) s;
-  }
-
-  -- ---- parts that begin before p
-
-  pub below_if : {A : Type 0} {M : Type 0} {Good : A → Type 0} {c d : Construct A} → KeepsIf p M Good c d →
-      KeepsBelow p M Good c d
-  below_if m = record {
-    keep = λ h i j a l. m.keep h i j a (omega arith);
-    good = m.good;
-    forward = m.forward;
-    refuse = m.refuse;
-    late = m.late;
-  }
-
-  below_keep : {A B : Type 0} (M : Type 0) (Mid : A → Type 0) (Good : B → Type 0) (c d : Construct A)
-      (f g : A → Construct B) → KeepsBelow p M Mid c d → ((a : A) → KeepsIf p (M × Mid a) Good (f a) (g a)) → M →
-      (i j : ℕ) (b : B) → i < p → j ≤ p → (c >>= f) i (Read b j) → (d >>= g) i (Read b j)
-  below_keep M Mid Good c d f g m k h i j b l n (goes_on {j = q} {a = a} x y) =
-      let w = (k a).forward q j b y in
-      goes_on (m.keep h i q a l (omega arith) x)
-      ((k a).keep (h, m.good h i q a (omega arith) x) q j b (omega arith) n y)
-
-  below_good : {A B : Type 0} (M : Type 0) (Mid : A → Type 0) (Good : B → Type 0) (c d : Construct A)
-      (f g : A → Construct B) → KeepsBelow p M Mid c d → ((a : A) → KeepsIf p (M × Mid a) Good (f a) (g a)) → M →
-      (i j : ℕ) (b : B) → j ≤ p → (c >>= f) i (Read b j) → Good b
-  below_good M Mid Good c d f g m k h i j b n (goes_on {j = q} {a = a} x y) =
-      let w = (k a).forward q j b y in (k a).good (h, m.good h i q a (omega arith) x) q j b n y
-
-  below_refuse : {A B : Type 0} (M : Type 0) (Mid : A → Type 0) (Good : B → Type 0) (c d : Construct A)
-      (f g : A → Construct B) → KeepsBelow p M Mid c d → ((a : A) → KeepsIf p (M × Mid a) Good (f a) (g a)) → M →
-      Refuses p (c >>= f) (d >>= g)
-  below_refuse M Mid Good c d f g m k h i from to x e (stops r) = stops (m.refuse h i from to x e r)
-  below_refuse M Mid Good c d f g m k h i from to x e (goes_on {j = q} {a = a} r y) =
-      let l = m.forward i q a r in
-      let n = (k a).late q from to x y in
-      goes_on (m.keep h i q a (omega arith) (omega arith) r) ((k a).refuse (h, m.good h i q a (omega arith) r) q from to x e y)
-
-  pub below_bind : {A B : Type 0} {M : Type 0} {Mid : A → Type 0} {Good : B → Type 0} {c d : Construct A}
-      {f g : A → Construct B} → KeepsBelow p M Mid c d → ((a : A) → KeepsIf p (M × Mid a) Good (f a) (g a)) →
-      KeepsBelow p M Good (c >>= f) (d >>= g)
-  below_bind {M = M} {Mid = Mid} {Good = Good} m k = record {
-    keep = below_keep M Mid Good _ _ _ _ m k;
-    good = below_good M Mid Good _ _ _ _ m k;
-    forward = bind_forward _ _ m.forward (λ a. (k a).forward);
-    refuse = below_refuse M Mid Good _ _ _ _ m k;
-    late = bind_late _ _ m.forward m.late (λ a. (k a).late);
-  }
-
-  then_keep : {A B : Type 0} (M : Type 0) (Mid : A → Type 0) (Good : B → Type 0) (c d : Construct A)
-      (f g : A → Construct B) → KeepsIf p M Mid c d → EndsBelow p c →
-      ((a : A) → KeepsBelow p (M × Mid a) Good (f a) (g a)) → M →
-      (i j : ℕ) (b : B) → i < p → j ≤ p → (c >>= f) i (Read b j) → (d >>= g) i (Read b j)
-  then_keep M Mid Good c d f g m v k h i j b l n (goes_on {j = q} {a = a} x y) =
-      let w = (k a).forward q j b y in
-      goes_on (m.keep h i q a (omega arith) (omega arith) x)
-      ((k a).keep (h, m.good h i q a (omega arith) x) q j b (v.ends i q a l (omega arith) x) n y)
-
-  then_good : {A B : Type 0} (M : Type 0) (Mid : A → Type 0) (Good : B → Type 0) (c d : Construct A)
-      (f g : A → Construct B) → KeepsIf p M Mid c d → ((a : A) → KeepsBelow p (M × Mid a) Good (f a) (g a)) → M →
-      (i j : ℕ) (b : B) → j ≤ p → (c >>= f) i (Read b j) → Good b
-  then_good M Mid Good c d f g m k h i j b n (goes_on {j = q} {a = a} x y) =
-      let w = (k a).forward q j b y in (k a).good (h, m.good h i q a (omega arith) x) q j b n y
-
-  then_refuse : {A B : Type 0} (M : Type 0) (Mid : A → Type 0) (Good : B → Type 0) (c d : Construct A)
-      (f g : A → Construct B) → KeepsIf p M Mid c d → ((a : A) → KeepsBelow p (M × Mid a) Good (f a) (g a)) → M →
-      Refuses p (c >>= f) (d >>= g)
-  then_refuse M Mid Good c d f g m k h i from to x e (stops r) = stops (m.refuse h i from to x e r)
-  then_refuse M Mid Good c d f g m k h i from to x e (goes_on {j = q} {a = a} r y) =
-      let l = m.forward i q a r in
-      let n = (k a).late q from to x y in
-      goes_on (m.keep h i q a (omega arith) (omega arith) r) ((k a).refuse (h, m.good h i q a (omega arith) r) q from to x e y)
-
-  -- behind a part that ends before p
-  pub below_then : {A B : Type 0} {M : Type 0} {Mid : A → Type 0} {Good : B → Type 0} {c d : Construct A}
-      {f g : A → Construct B} → KeepsIf p M Mid c d → EndsBelow p c →
-      ((a : A) → KeepsBelow p (M × Mid a) Good (f a) (g a)) → KeepsBelow p M Good (c >>= f) (d >>= g)
-  below_then {M = M} {Mid = Mid} {Good = Good} m v k = record {
-    keep = then_keep M Mid Good _ _ _ _ m v k;
-    good = then_good M Mid Good _ _ _ _ m k;
-    forward = bind_forward _ _ m.forward (λ a. (k a).forward);
-    refuse = then_refuse M Mid Good _ _ _ _ m k;
-    late = bind_late _ _ m.forward m.late (λ a. (k a).late);
-  }
+  below_many {s = s} k v e adds = keeps_list Below k (λ i l. omega arith) (λ r. (v r).ends) e adds s
 
   here_stays : (i j a : ℕ) → i < p → j ≤ p → here i (Read a j) → j < p
   here_stays i j a l n at_place = l

@@ -16,9 +16,9 @@ use Rattle.fluent_syntax_tree.specs.declared.spans.Span.{Span}
 use Rattle.fluent_syntax_tree.specs.declared.edition.Edition.{Edition}
 use Rattle.fluent_syntax_grammar.specs.Bytes.{is_letter, is_digit}
 use Rattle.fluent_syntax_grammar.specs.Places.{holds, Stretch, has, has_byte, has_eol, after_eol, InlineBlank}
-use Rattle.fluent_syntax_grammar.specs.Construct.{Read, Refused, Construct, ◌>>=◌, goes_on, stops, gives, given, at_place, fails, over}
-use Rattle.fluent_syntax_grammar.specs.Construct.{passed, at_each, chosen, either, first, second, More, no_item}
-use Rattle.fluent_syntax_grammar.specs.Construct.{item}
+use Rattle.fluent_syntax_grammar.specs.Construct.{Read, Refused, Construct, ◌>>=◌, goes_on, stops, gives, given}
+use Rattle.fluent_syntax_grammar.specs.Construct.{at_place, fails, over, passed, at_each, chosen, either, first, second}
+use Rattle.fluent_syntax_grammar.specs.Construct.{More, no_item, item}
 use Rattle.fluent_syntax_grammar.specs.Words.{token, inline_blank, blank, identifier}
 use Rattle.fluent_syntax_grammar.specs.Family.{Family}
 use Rattle.fluent_syntax_grammar.specs.Tiling.{failing_place}
@@ -42,20 +42,21 @@ use Rattle.fluent_syntax_grammar.proofs.locality.Kept.{is_head_byte, is_head}
 use Rattle.fluent_syntax_grammar.proofs.Cuts.{eol_cases, eol_forward}
 use Rattle.fluent_syntax_grammar.proofs.Facts.{lt_or_same}
 use Rattle.fluent_syntax_grammar.proofs.Tests.{differ}
-use Rattle.fluent_syntax_grammar.proofs.locality.Kept.{Shared, Keeps, KeepsIf, KeepsBelow, KeepsFrom, EndsBelow, Any, Within, Refuses, FailsLate, Early, fails_late}
-use Rattle.fluent_syntax_grammar.proofs.locality.Kept.{keeps_bind, keeps_gives, keeps_over}
-use Rattle.fluent_syntax_grammar.proofs.locality.Kept.{keeps_either, keeps_fails, keeps_at_head, keeps_at_each, if_eol}
-use Rattle.fluent_syntax_grammar.proofs.locality.Kept.{if_bind, if_gives, if_here, plain, simple, under, from_over}
-use Rattle.fluent_syntax_grammar.proofs.locality.Kept.{from_bind, keeps_many, if_many, below_many, below_bind, below_then, here_ends}
+use Rattle.fluent_syntax_grammar.proofs.locality.Kept.{Shared, Keeps, KeepsIf, KeepsBelow, KeepsFrom, EndsBelow, Any}
+use Rattle.fluent_syntax_grammar.proofs.locality.Kept.{Within, Refuses, FailsLate, Early, fails_late, keeps_bind}
+use Rattle.fluent_syntax_grammar.proofs.locality.Kept.{keeps_gives, keeps_over, keeps_either, keeps_fails}
+use Rattle.fluent_syntax_grammar.proofs.locality.Kept.{keeps_at_head, keeps_at_each, if_eol, if_bind, if_gives, if_here}
+use Rattle.fluent_syntax_grammar.proofs.locality.Kept.{plain, simple, under, from_over, from_bind, keeps_many, if_many}
+use Rattle.fluent_syntax_grammar.proofs.locality.Kept.{below_many, below_bind, below_then, here_ends}
 use Rattle.fluent_syntax_grammar.proofs.Sound.{good_more}
-use Rattle.fluent_syntax_grammar.proofs.locality.KeptWords.{other_byte, no_space, head_has, other_has}
-use Rattle.fluent_syntax_grammar.proofs.locality.KeptWords.{same_byte, same_eol, same_after, same_arrow, run_ends, run_leads}
-use Rattle.fluent_syntax_grammar.proofs.locality.KeptWords.{no_eol_head, no_eol_other, kept_steps, spaces_before, spaces_end}
-use Rattle.fluent_syntax_grammar.proofs.locality.KeptWords.{kept_inline, keeps_optional, keeps_token, keeps_then, token_below}
-use Rattle.fluent_syntax_grammar.proofs.locality.KeptWords.{token_forward, keeps_inline_blank, keeps_blank}
-use Rattle.fluent_syntax_grammar.proofs.locality.KeptWords.{keeps_blank_block, if_identifier, keeps_identifier}
-use Rattle.fluent_syntax_grammar.proofs.locality.KeptWords.{identifier_forward, keeps_number, number_forward}
-use Rattle.fluent_syntax_grammar.proofs.locality.KeptWords.{keeps_string}
+use Rattle.fluent_syntax_grammar.proofs.locality.KeptWords.{other_byte, no_space, head_has, other_has, same_byte}
+use Rattle.fluent_syntax_grammar.proofs.locality.KeptWords.{same_eol, same_after, same_arrow, run_ends, run_leads}
+use Rattle.fluent_syntax_grammar.proofs.locality.KeptWords.{no_eol_head, no_eol_other, kept_steps, spaces_before}
+use Rattle.fluent_syntax_grammar.proofs.locality.KeptWords.{spaces_end, kept_inline, keeps_optional, keeps_token}
+use Rattle.fluent_syntax_grammar.proofs.locality.KeptWords.{keeps_then, token_below, token_forward, keeps_inline_blank}
+use Rattle.fluent_syntax_grammar.proofs.locality.KeptWords.{keeps_blank, keeps_blank_block, if_identifier}
+use Rattle.fluent_syntax_grammar.proofs.locality.KeptWords.{keeps_identifier, identifier_forward, keeps_number}
+use Rattle.fluent_syntax_grammar.proofs.locality.KeptWords.{number_forward, keeps_string}
 use Rattle.fluent_syntax_grammar.proofs.locality.KeptLayouts.{PieceWithin, EndingWithin, LineWithin, LayoutWithin}
 use Rattle.fluent_syntax_grammar.proofs.locality.KeptLayouts.{same_pattern}
 

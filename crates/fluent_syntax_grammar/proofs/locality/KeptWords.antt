@@ -25,10 +25,9 @@ use Rattle.std.specs.Prelude.{nat_lt, slice_range}
 use Rattle.fluent_syntax_grammar.proofs.Cuts.{eol_forward, block_forward}
 use Rattle.fluent_syntax_grammar.proofs.Facts.{differs, lt_or_same, stretch_onward}
 use Rattle.fluent_syntax_grammar.proofs.Tests.{differ}
-use Rattle.fluent_syntax_grammar.proofs.locality.Kept.{Shared, Keeps, KeepsIf, Any, Within, SameLook}
-use Rattle.fluent_syntax_grammar.proofs.locality.Kept.{KeptWord, keeps_gives, keeps_over, keeps_either}
-use Rattle.fluent_syntax_grammar.proofs.locality.Kept.{keeps_fails, keeps_late, if_eol, plain, simple}
-use Rattle.fluent_syntax_grammar.proofs.locality.Kept.{from_over, keeping}
+use Rattle.fluent_syntax_grammar.proofs.locality.Kept.{Shared, Keeps, KeepsIf, Any, Within, SameLook, KeptWord}
+use Rattle.fluent_syntax_grammar.proofs.locality.Kept.{keeps_gives, keeps_over, keeps_either, keeps_fails, keeps_late}
+use Rattle.fluent_syntax_grammar.proofs.locality.Kept.{if_eol, plain, simple, from_over, keeping}
 
 -- no byte that begins an entry passes the test
 pub record NoHead (test : ℕ → Bool) : Type 0 where

@@ -62,6 +62,6 @@ replaces edition a r e blank c = λ before own s f g k d h m w.
       x.0,
       j.0,
       tree_there (length a) (a ++ u) u (behind a u) x.0 ∙ x.3,
-      j.1 ∙ ap (λ fs. faults before ++ map (moved_fault (length a)) fs) (faults_append x.0 (moved_tiles (length text + blank) own) x.2
-          ∙ faults_there (length text + blank) own),
+      j.1 ∙ ap (λ fs. faults before ++ map (moved_fault (length a)) fs)
+          (faults_append x.0 (moved_tiles (length text + blank) own) x.2 ∙ faults_there (length text + blank) own),
     )

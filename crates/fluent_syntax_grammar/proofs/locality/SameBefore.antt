@@ -23,7 +23,7 @@ use Rattle.fluent_syntax_grammar.proofs.SoundTiling.{entry_read}
 use Rattle.fluent_syntax_grammar.proofs.JunkAndSpans.{GoodGiven, good_body}
 use Rattle.fluent_syntax_grammar.proofs.locality.Moved.{Behind, behind}
 use Rattle.fluent_syntax_grammar.proofs.locality.Kept.{Head, Shared}
-use Rattle.fluent_syntax_grammar.proofs.locality.KeptEntries.{led_forward, entry_on, entry_in, junk_on, led_keep}
+use Rattle.fluent_syntax_grammar.proofs.locality.KeptTiles.{led_forward, entry_on, entry_in, junk_on, led_keep}
 use Rattle.fluent_syntax_grammar.proofs.locality.Edits.{begins_ends, get_left, range_left, line_byte, head_of}
 use Rattle.fluent_syntax_grammar.proofs.locality.SameTexts.{Agree, bodies_same}
 use Rattle.fluent_syntax_grammar.proofs.locality.InTiling.{settled_there, standing}

@@ -1,5 +1,6 @@
 -- The tree of tiles behind others is the tree of these and then theirs, where none of them hangs on the others' last.
-use Rattle.std.proofs.Common.{◌≡◌, ℕ, ◌+◌, ◌≤◌, List, arith, inl, [], ◌∷◌, ◌++◌, length, drop, take, map, Option, Some, None, Bool}
+use Rattle.std.proofs.Common.{◌≡◌, ℕ, ◌+◌, ◌≤◌, List, arith, inl, [], ◌∷◌, ◌++◌, length, drop, take, map, Option, Some}
+use Rattle.std.proofs.Common.{None, Bool}
 use Rattle.std.proofs.Common.{true, false, refl, sym, ◌∙◌, ap, subst, append_assoc}
 use Rattle.std.specs.Prelude.{◌==◌, if◌then◌else◌}
 use Rattle.std.proofs.lemmas.List.{map-append}
@@ -7,14 +8,16 @@ use Rattle.fluent_syntax_tree.specs.Entry.{EntryTree, comment, entry_map, group,
 use Rattle.fluent_syntax_tree.specs.Spans.{bytes_at}
 use Rattle.fluent_syntax_tree.specs.declared.edition.Edition.{Edition}
 use Rattle.fluent_syntax_tree.specs.declared.spans.Span.{Span}
-use Rattle.fluent_syntax_grammar.specs.Tiling.{Tile, Tiled, TileAt, Tiling, dropped, entry, next, reads, refused, refuses}
+use Rattle.fluent_syntax_grammar.specs.Tiling.{Tile, Tiled, TileAt, Tiling, dropped, entry, next, reads, refused}
+use Rattle.fluent_syntax_grammar.specs.Tiling.{refuses}
 use Rattle.fluent_syntax_grammar.specs.Canonical.{is_canonical}
 use Rattle.fluent_syntax_grammar.specs.Body.{alone, body, hangs, hung}
 use Rattle.fluent_syntax_grammar.specs.RoundTrip.{tree_of}
 use Rattle.fluent_syntax_grammar.specs.Written.{Text}
 use Rattle.fluent_syntax_grammar.specs.Locality.{KeepsTree, Led, arrives, blank_lines, ends_in_comment, entry_text}
 use Rattle.fluent_syntax_grammar.specs.Locality.{is_comment, is_comment_to, moved_tiles, onward, start_of}
-use Rattle.fluent_syntax_grammar.specs.Locality.{is_comment_tile, last_is_comment, Run, one, more, KeepsRun, InsertsTree}
+use Rattle.fluent_syntax_grammar.specs.Locality.{is_comment_tile, last_is_comment, Run, one, more, KeepsRun}
+use Rattle.fluent_syntax_grammar.specs.Locality.{InsertsTree}
 use Rattle.fluent_syntax_grammar.specs.Locality.{AppendsTree, RemovesTree, CutOff, NoCommentTakes, Settled, may_begin}
 use Rattle.fluent_syntax_grammar.proofs.Facts.{append_nothing}
 use Rattle.fluent_syntax_grammar.proofs.Sound.{IsSpan}
@@ -29,7 +32,8 @@ use Rattle.fluent_syntax_grammar.proofs.Facts.{differs}
 use Rattle.fluent_syntax_grammar.proofs.Functional.{single_block}
 use Rattle.fluent_syntax_grammar.proofs.OneTiling.{one_tile}
 use Rattle.fluent_syntax_grammar.proofs.locality.Edits.{begins_ends, joins, prefix_local, range_left}
-use Rattle.fluent_syntax_grammar.proofs.locality.InTiling.{RestAlone, appended, begins_may, changed, from_entry, led_on, no_tiles, rest_alone, settled_there, standing, without}
+use Rattle.fluent_syntax_grammar.proofs.locality.InTiling.{RestAlone, appended, begins_may, changed, from_entry, led_on}
+use Rattle.fluent_syntax_grammar.proofs.locality.InTiling.{no_tiles, rest_alone, settled_there, standing, without}
 use Rattle.fluent_syntax_grammar.proofs.locality.NewTexts.{text_begins}
 use Rattle.fluent_syntax_grammar.proofs.locality.SameBefore.{same_before}
 
@@ -171,7 +175,7 @@ apart_behind (x ∷ z ∷ xs) ys e = apart_behind (z ∷ xs) ys e
 -- ---- where the tiles behind others begin
 
 module _ (edition : Edition) (t : List ℕ) (p : ℕ) where
-  tile_start : (i j : ℕ) (x : Tile) → TileAt edition t i j x → start_of x ≡ i
+  pub tile_start : (i j : ℕ) (x : Tile) → TileAt edition t i j x → start_of x ≡ i
   tile_start i j x (reads r) = refl
   tile_start i j x (refuses r k) = refl
 

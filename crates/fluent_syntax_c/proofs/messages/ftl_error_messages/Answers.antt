@@ -6,8 +6,8 @@ use Rattle.fluent_syntax_c.proofs.messages.ftl_error_messages.Goals as goal
 pub returns-clause-leaves : goal.returns-clause-leaves
 returns-clause-leaves c =
     leaves_answered (AreEditionMessages c.args.edition c.args.input.now) (λ given. given.0.items) (λ given. given.1)
-    c.edition_messages.result c.args.out.now c.give.new.out c.give.new.count c.give.result c.edition_messages.ensures.lines
-    c.give.ensures.leaves
+    c.edition_messages.result c.args.out.now c.give.new.out c.give.new.count c.give.result
+    c.edition_messages.ensures.lines c.give.ensures.leaves
 
 pub returns-clause-argument : goal.returns-clause-argument
 returns-clause-argument c = told_where (c.give.ensures.refused Argument) c.edition_messages.ensures.argument

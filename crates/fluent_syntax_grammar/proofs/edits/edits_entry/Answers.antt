@@ -1,7 +1,8 @@
 -- Each clause is a law of the grammar.
 use Rattle.fluent_syntax_grammar.proofs.locality.InTiling.{appended, replaced, replaced_run, inserted, removed}
 use Rattle.fluent_syntax_grammar.proofs.locality.SameBefore.{same_before}
-use Rattle.fluent_syntax_grammar.proofs.locality.WholeTrees.{appends_tree, cut_off, inserts_tree, keeps_run, keeps_tree, removes_tree}
+use Rattle.fluent_syntax_grammar.proofs.locality.WholeTrees.{appends_tree, cut_off, inserts_tree, keeps_run, keeps_tree}
+use Rattle.fluent_syntax_grammar.proofs.locality.WholeTrees.{removes_tree}
 use Rattle.fluent_syntax_grammar.proofs.edits.edits_entry.Goals as goal
 
 pub returns-clause-replaced : goal.returns-clause-replaced

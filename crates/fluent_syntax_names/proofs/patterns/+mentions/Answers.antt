@@ -65,7 +65,8 @@ add_variants-loop-variant-preserved g t c =
     record {
       left = leaves_next all one c.args.list.now.items c.loop-variant.list.items c.args.variants.now
           c.loop-variant.variant-index (λ x xs tail. refl) _ c.variant-item.result c.loop-variant-test.true
-          c.variant-item.is c.loop-variant.invariant.left (rw (view-Variant (λ x. x) c.variant-item.result) c.in_ok-add_pattern.ensures);
+          c.variant-item.is c.loop-variant.invariant.left
+          (rw (view-Variant (λ x. x) c.variant-item.result) c.in_ok-add_pattern.ensures);
     }
 
 pub add_variants-returns : goal.add_variants-returns
@@ -103,7 +104,8 @@ add_nameds-loop-named-preserved g t c =
     record {
       left = leaves_next all one c.args.list.now.items c.loop-named.list.items c.args.nameds.now
           c.loop-named.named-index (λ x xs tail. refl) _ c.named-item.result c.loop-named-test.true
-          c.named-item.is c.loop-named.invariant.left (rw (view-NamedArgument (λ x. x) c.named-item.result) c.in_ok-add_inline.ensures);
+          c.named-item.is c.loop-named.invariant.left
+          (rw (view-NamedArgument (λ x. x) c.named-item.result) c.in_ok-add_inline.ensures);
     }
 
 pub add_nameds-returns : goal.add_nameds-returns

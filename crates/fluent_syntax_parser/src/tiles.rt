@@ -1,0 +1,85 @@
+//! What stands in a text, one after the other, and where.
+ghost use Rattle.std.specs.Prelude.{◌≡◌, ◌-◌, ◌<◌, ◌≤◌, length, IfErr, IfOk, IfSome, OnErr};
+ghost use Rattle.fluent_syntax_grammar.specs.Places.{BlankBlock};
+ghost use Rattle.fluent_syntax_parser.specs.Halts.{HaltsWithin};
+
+use crate::options::{Comments, Halt, Options};
+use crate::source::Source;
+use fluent_syntax_tree::ast::Entry;
+use fluent_syntax_tree::edition::Edition;
+use fluent_syntax_tree::errors::ParserError;
+use fluent_syntax_tree::spans::Span;
+use std::alloc::Global;
+
+/// An entry of a text, or junk with its error, and where it stands.
+#[derive(Debug, Drop)]
+pub struct FoundTile {
+    /// From its first byte to its end. Blank lines directly behind a message or a term are in it, those behind a
+    /// comment are not. Junk ends where the next line begins like an entry.
+    pub span: Span,
+    /// A comment stands by itself, also where it hangs on the entry that begins where it ends.
+    pub entry: Entry<Span>,
+    /// The error, where it is junk.
+    pub error: Option<ParserError>,
+}
+
+/// The entries and the junk of a text from a place on, read one by one: what stands between its blank lines.
+#[derive(Clone, Copy)]
+pub struct Tiles<'s> {
+    source: Source<'s>,
+    edition: Edition,
+    nesting: usize,
+    ptr: usize,
+    ghost within: { ptr ≤ length source.bytes.now },
+}
+
+impl<'s> Tiles<'s> {
+    ghost use Rattle.fluent_syntax_parser.specs.Tiles.{NextTile};
+
+    /// Those of the text from the place on, with at most `nesting` placeables and argument lists open at once.
+    pub fn new(text: &'s str, edition: Edition, nesting: usize, place: usize) -> Tiles<'s>
+        requires { place ≤ length text.now }
+        ensures text { result.source.bytes.now ≡ text.now }
+        ensures edition { result.edition ≡ edition }
+        ensures nesting { result.nesting ≡ nesting }
+        ensures start { result.ptr ≡ place }
+    {
+        Tiles {
+            source: Source {
+                bytes: text.as_bytes(),
+            },
+            edition,
+            nesting,
+            ptr: place,
+        }
+    }
+
+    /// Reads the next entry or junk; `None` where only blank lines are left.
+    ///
+    /// After a `Halt` it stands where it stood. It is never `TooDeep` where as many may nest as bytes are left.
+    pub fn next_tile(&mut self, alloc: Global) -> Result<Option<FoundTile>, Halt>
+        ensures text { self.new.source ≡ self.old.source }
+        ensures edition { self.new.edition ≡ self.old.edition }
+        ensures nesting { self.new.nesting ≡ self.old.nesting }
+        ensures next { let t = self.old.source.bytes.now in
+            IfOk result (NextTile self.old.edition t self.old.ptr self.new.ptr) }
+        ensures onward { IfOk result (λ found. IfSome found (λ read. self.old.ptr < self.new.ptr)) }
+        ensures stays { OnErr result (self.new.ptr ≡ self.old.ptr) }
+        ensures nests { let left = length self.old.source.bytes.now - self.old.ptr in
+            IfErr result (HaltsWithin self.old.nesting left) }
+    {
+        let start = self.source.skip_blank_block(self.ptr);
+        if start == self.source.bytes.len() {
+            return Ok(None);
+        }
+        let options = Options {
+            edition: self.edition,
+            comments: Comments::Kept,
+            nesting: self.nesting,
+        };
+        let (entry, error, end) = self.source.get_tile(alloc, options, start)?;
+        self.ptr = end;
+        let span = Span { start, end };
+        Ok(Some(FoundTile { span, entry, error }))
+    }
+}
