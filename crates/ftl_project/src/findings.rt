@@ -10,15 +10,13 @@ use std::fmt::Write;
 
 /// A file that was read.
 #[derive(Debug, Drop)]
-pub struct Source {
-    pub path: String,
-    pub text: String,
+pub(crate) struct Source {
+    pub(crate) path: String,
+    pub(crate) text: String,
 }
 
 /// What is told of the findings in the files.
-///
-/// `AllocError`: a growth was refused.
-pub fn report_findings(
+pub(crate) fn report_findings(
     alloc: Global,
     sources: &[Source],
     findings: &[Finding],

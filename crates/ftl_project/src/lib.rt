@@ -28,7 +28,6 @@ pub use checking::check_files;
 pub use comparing::{Pair, Share, compare_files, share_line};
 pub use converting::convert_files;
 pub use fault::Fault;
-pub use findings::{Source, report_findings};
 pub use form::Form;
 pub use formatting::{name_files, write_files};
 pub use linting::{Telling, lint_files};
