@@ -11,7 +11,7 @@ case "$self" in */*) top="${self%/*}" ;; *) top=. ;; esac
 made="$top/crates/ftl_program/out"
 page="$top/crates/ftl_program/help.txt"
 usage="usage: ftl check|format|runtime|json|check-two|format-two"
-words="|check|format|runtime|json|check-two|format-two|from-json|lsp|"
+words="|check|format|runtime|json|check-two|format-two|from-json|lint|compare|lsp|"
 room="" job=""
 
 say() { printf 'ftl: %s\n' "$*" >&2; }

@@ -3,15 +3,19 @@
 #![tactic(auto)]
 
 mod colors;
+mod compare;
 mod editor;
 mod help;
+mod lint;
 mod paths;
 mod standard;
 mod telling;
 mod words;
 
+use crate::compare::compare_paths;
 use crate::editor::serve_editor;
 use crate::help::page_of;
+use crate::lint::lint_paths;
 use crate::paths::answer_paths;
 use crate::standard::answer_input;
 use crate::telling::{print_page, refuse_words, refuse_writing};
@@ -35,6 +39,8 @@ fn answer_words(rt: &HostRuntime, words: &[String]) -> u8 {
     match request_of(rt.alloc(), words) {
         Ok(Request::Serve) => serve_editor(rt),
         Ok(Request::Answer(work)) => answer(rt, &work),
+        Ok(Request::Lint(lint)) => lint_paths(rt, &lint),
+        Ok(Request::Compare(compare)) => compare_paths(rt, &compare),
         Err(error) => refuse_words(rt, &error),
     }
 }

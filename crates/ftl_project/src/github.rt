@@ -26,7 +26,7 @@ pub(crate) fn push_github_line(
 }
 
 /// Adds what stands behind the second `::`, where `%` and line ends would be read otherwise.
-fn push_data(out: &mut String, text: &str) -> Result<(), AllocError> {
+pub(crate) fn push_data(out: &mut String, text: &str) -> Result<(), AllocError> {
     for c in text.chars() {
         push_data_char(out, c)?;
     }
@@ -43,7 +43,7 @@ fn push_data_char(out: &mut String, c: char) -> Result<(), AllocError> {
 }
 
 /// Adds the value of a property, where `:` and `,` would be read otherwise too.
-fn push_property(out: &mut String, text: &str) -> Result<(), AllocError> {
+pub(crate) fn push_property(out: &mut String, text: &str) -> Result<(), AllocError> {
     for c in text.chars() {
         match c {
             ':' => out.push_str("%3A")?,

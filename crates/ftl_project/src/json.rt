@@ -60,7 +60,7 @@ fn push_payload_text(out: &mut String, text: &str) -> Result<(), AllocError> {
 }
 
 /// Adds a text as JSON writes it.
-fn push_json_text(out: &mut String, text: &str) -> Result<(), AllocError> {
+pub(crate) fn push_json_text(out: &mut String, text: &str) -> Result<(), AllocError> {
     out.push('"')?;
     for c in text.chars() {
         push_json_char(out, c)?;

@@ -2,16 +2,21 @@
 #![tactic(auto)]
 
 mod checking;
+mod comparing;
 mod converting;
 mod fault;
+mod findings;
 mod form;
 mod formatting;
 mod github;
 mod json;
+mod line_starts;
+mod linting;
 mod paint;
 mod printing;
 mod reading;
 mod refused;
+mod remarks;
 mod replacement;
 mod reporting;
 mod rewriting;
@@ -20,10 +25,12 @@ mod tally;
 mod unsafe_entry;
 
 pub use checking::check_files;
+pub use comparing::{Pair, Share, compare_files, share_line};
 pub use converting::convert_files;
 pub use fault::Fault;
 pub use form::Form;
 pub use formatting::{name_files, write_files};
+pub use linting::{Telling, lint_files};
 pub use printing::print_files;
 pub use reading::Reading;
 pub use refused::Refused;

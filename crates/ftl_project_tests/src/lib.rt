@@ -8,6 +8,8 @@ mod excerpts;
 #[cfg(test)]
 mod files;
 #[cfg(test)]
+mod linting;
+#[cfg(test)]
 mod printing;
 #[cfg(test)]
 mod reports;

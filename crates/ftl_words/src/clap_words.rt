@@ -1,5 +1,7 @@
 //! The command line, as `clap` reads it.
 
+use crate::compare_words::compare_command;
+use crate::lint_words::lint_command;
 use clap::{Arg, ArgAction, Command, value_parser};
 use std::alloc::{AllocError, Global};
 
@@ -37,6 +39,8 @@ pub fn command_line<'a>(alloc: Global) -> Result<Command<'a>, AllocError> {
             "Examples:\n  ftl json menu.ftl > menu.json",
         )?)?
         .subcommand(from_json(alloc)?)?
+        .subcommand(lint_command(alloc)?)?
+        .subcommand(compare_command(alloc)?)?
         .subcommand(Command::new(alloc, "lsp").about("A language server, for editors"))
 }
 
@@ -47,13 +51,6 @@ fn check<'a>(alloc: Global, name: &'a str) -> Result<Command<'a>, AllocError> {
         .help("How an error is told: full where there are paths, else as a line of numbers")
         .action(ArgAction::Set)
         .value_parser(FORMS.as_slice());
-    let color = Arg::new(alloc, "color")
-        .long("color")
-        .value_name("WHEN")
-        .help("Colours of the full form; auto: on a terminal, where NO_COLOR is not set")
-        .action(ArgAction::Set)
-        .value_parser(COLORS.as_slice())
-        .default_value("auto");
     let stdin_name = Arg::new(alloc, "stdin-name")
         .long("stdin-name")
         .value_name("NAME")
@@ -70,8 +67,19 @@ fn check<'a>(alloc: Global, name: &'a str) -> Result<Command<'a>, AllocError> {
   ftl check < menu.ftl           a line of numbers for each error",
     )?
     .arg(output)?
-    .arg(color)?
+    .arg(color(alloc))?
     .arg(stdin_name)
+}
+
+/// The option for colours.
+pub(crate) fn color<'a>(alloc: Global) -> Arg<'a> {
+    Arg::new(alloc, "color")
+        .long("color")
+        .value_name("WHEN")
+        .help("Colours of the full form; auto: on a terminal, where NO_COLOR is not set")
+        .action(ArgAction::Set)
+        .value_parser(COLORS.as_slice())
+        .default_value("auto")
 }
 
 fn format<'a>(alloc: Global, name: &'a str) -> Result<Command<'a>, AllocError> {

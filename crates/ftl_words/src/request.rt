@@ -2,6 +2,8 @@
 ghost use Rattle.std.specs.Prelude.{◌≡◌};
 ghost use Rattle.ftl_words.specs.Request.{command_of};
 
+use crate::compare_words::Compare;
+use crate::lint_words::Lint;
 use fluent_syntax::parser::Edition;
 use ftl::Command;
 use ftl_project::{Form, Reading};
@@ -13,6 +15,10 @@ pub enum Request<'a> {
     Answer(Work<'a>),
     /// To serve an editor.
     Serve,
+    /// To search files for mistakes between names.
+    Lint(Lint<'a>),
+    /// To compare files with those of a reference language.
+    Compare(Compare<'a>),
 }
 
 /// Texts to answer.

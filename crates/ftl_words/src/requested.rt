@@ -1,6 +1,8 @@
 //! The request that a command line makes.
 
 use crate::clap_words::command_line;
+use crate::compare_words::compare_of;
+use crate::lint_words::lint_of;
 use crate::request::{Change, Color, Request, Task, Work};
 use clap::{ArgMatches, Error};
 use fluent_syntax::parser::Edition;
@@ -19,6 +21,14 @@ pub fn request_of<'a>(alloc: Global, words: &'a [String]) -> Result<Request<'a>,
     };
     if word == "lsp" {
         return Ok(Request::Serve);
+    }
+    if word == "lint" {
+        let reading = reading_of(word, options);
+        return Ok(Request::Lint(lint_of(alloc, reading, options)?));
+    }
+    if word == "compare" {
+        let reading = reading_of(word, options);
+        return Ok(Request::Compare(compare_of(alloc, reading, options)?));
     }
     Ok(Request::Answer(Work {
         task: task_of(word, options),
@@ -48,7 +58,8 @@ fn form_of(options: &ArgMatches<'_>) -> Option<Form> {
     }
 }
 
-fn color_of(options: &ArgMatches<'_>) -> Color {
+/// When errors are told in colours.
+pub(crate) fn color_of(options: &ArgMatches<'_>) -> Color {
     match options.get_str("color") {
         Some("always") => Color::Always,
         Some("never") => Color::Never,

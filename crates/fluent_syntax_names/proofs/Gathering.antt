@@ -1,0 +1,99 @@
+-- Tables that grow by the names of one mention after another.
+use Rattle.std.proofs.Common.{◌≡◌, ℕ, ◌+◌, ◌<◌, ◌≤◌, Bool, true, false}
+use Rattle.std.proofs.Common.{List, [], ◌∷◌, length, get_or, drop, refl, sym, ap}
+use Rattle.std.proofs.Common.{◌∙◌, Option, Some, None, Result, Ok, Err, subst}
+use Rattle.std.specs.Prelude.{◌||◌, is_some, if◌then◌else◌, OnOk}
+use Rattle.std.specs.List.{list_any}
+use Rattle.std.specs.Str.{bytes_eq}
+use Rattle.std.proofs.lemmas.List.{drop_more, drop_all}
+use Rattle.fluent_syntax_tree.specs.declared.spans.Span.{Span}
+use Rattle.fluent_syntax_names.specs.Mentions.{Mentions}
+use Rattle.fluent_syntax_names.specs.declared.mention.Mention.{Mention}
+use Rattle.fluent_syntax_names.specs.declared.outline.Outline.{Outline}
+use Rattle.fluent_syntax_names.specs.declared.spelled.EntryName.{EntryName}
+use Rattle.fluent_syntax_names.specs.Findings.{Text, put, gathered, defined_in, owner_after, nameless, defined_by}
+use Rattle.fluent_syntax_names.specs.Findings.{is_defined}
+use Rattle.fluent_syntax_names.specs.Places.{first_of, Notes}
+use Rattle.fluent_syntax_names.specs.Tables.{Lookup, has_name, NotesNames, LeavesNames}
+
+-- ---- One name
+
+is_found : (before : Option Span) (same : Bool) (place : Span) (others : Bool)
+    → (is_some (first_of before (if same then Some place else None)) || others)
+    ≡ (is_some before || (same || others))
+is_found None true place others = refl
+is_found None false place others = refl
+is_found (Some x) same place others = refl
+
+pub notes_one : (old new : Lookup) (noted : Text) (place : Span) → Notes old new noted place
+    → NotesNames old new (put (Some noted))
+notes_one old new noted place notes = λ rest name.
+    ap (λ o. is_some o || list_any (bytes_eq name) rest) (notes name)
+    ∙ is_found (old name) (bytes_eq name noted) place (list_any (bytes_eq name) rest)
+
+pub notes_one_ok : {A E : Type 0} (r : Result A E) (old new : Lookup) (bytes noted : Text) (place : Span)
+    → bytes ≡ noted → OnOk r (Notes old new bytes place) → OnOk r (NotesNames old new (put (Some noted)))
+notes_one_ok (Ok x) old new bytes noted place e notes =
+    let P : Text → Type 0 = λ n. NotesNames old new (put (Some n)) in
+    subst P e (notes_one old new bytes place notes)
+notes_one_ok (Err x) old new bytes noted place e notes = notes
+
+-- some names, and further ones where they were noted
+pub notes_last : {A E : Type 0} (r : Result A E) (a b c : Lookup) (f g : List Text → List Text) → NotesNames a b f
+    → OnOk r (NotesNames b c g) → OnOk r (NotesNames a c (λ tail. f (g tail)))
+notes_last (Ok x) a b c f g first second = λ rest name. second rest name ∙ first (g rest) name
+notes_last (Err x) a b c f g first second = second
+
+-- ---- The mentions of a file
+
+module _ (old now next : Lookup) (all : List Text → List Text)
+    (adds : EntryName → Mention Span → List Text → List Text) (owner : EntryName) (ms : Mentions Span) (i : ℕ) where
+  pub names_next : (m d : Mention Span) → i < length ms → m ≡ get_or ms i d
+      → LeavesNames old now (gathered adds owner (drop i ms)) all → NotesNames now next (adds owner m)
+      → LeavesNames old next (gathered adds (owner_after owner m) (drop (i + 1) ms)) all
+  names_next m d within is left notes = λ rest name.
+      let cut : drop i ms ≡ m ∷ drop (i + 1) ms = drop_more ms i d within ∙ ap (λ y. y ∷ drop (i + 1) ms) (sym is) in
+      notes (gathered adds (owner_after owner m) (drop (i + 1) ms) rest) name
+      ∙ ap (λ l. has_name now name || list_any (bytes_eq name) (gathered adds owner l rest)) (sym cut)
+      ∙ left rest name
+
+  pub names_none : length ms ≤ i → LeavesNames old now (gathered adds owner (drop i ms)) all
+      → NotesNames old now all
+  names_none end left = λ rest name.
+      ap (λ l. has_name now name || list_any (bytes_eq name) (gathered adds owner l rest)) (sym (drop_all i ms end))
+      ∙ left rest name
+
+-- ---- The files
+
+or_false : (b : Bool) → b ≡ (b || false)
+or_false true = refl
+or_false false = refl
+
+-- what is noted, where nothing was before
+pub noted_alone : (old new : Lookup) → ((name : Text) → old name ≡ None) → (all : List Text → List Text)
+    → NotesNames old new all → (name : Text) → has_name new name ≡ list_any (bytes_eq name) (all [])
+noted_alone old new none all notes = λ name.
+    or_false (has_name new name) ∙ notes [] name ∙ ap (λ o. is_some o || list_any (bytes_eq name) (all [])) (none name)
+
+module _ (files : List Outline) (now next : Lookup) (i : ℕ) where
+  abbrev pub left_of_files : Lookup → ℕ → Type 0
+  left_of_files known n = (name : Text) →
+      (has_name known name || list_any (bytes_eq name) (defined_by (drop n files))) ≡ is_defined files name
+
+  pub files_begin : ((name : Text) → now name ≡ None) → left_of_files now 0
+  files_begin none = λ name. ap (λ o. is_some o || is_defined files name) (none name)
+
+  pub files_next : (file : Outline) → i < length files → file ≡ get_or files i file → left_of_files now i
+      → NotesNames now next (defined_in file.text.now nameless file.mentions.items) → left_of_files next (i + 1)
+  files_next file within is left notes = λ name.
+      let cut : drop i files ≡ file ∷ drop (i + 1) files =
+      drop_more files i file within ∙ ap (λ y. y ∷ drop (i + 1) files) (sym is) in
+      notes (defined_by (drop (i + 1) files)) name
+      ∙ ap (λ l. has_name now name || list_any (bytes_eq name) (defined_by l)) (sym cut)
+      ∙ left name
+
+  pub files_none : length files ≤ i → left_of_files now i → (name : Text) → has_name now name ≡ is_defined files name
+  files_none end left = λ name.
+      or_false (has_name now name)
+      ∙ ap (λ l. has_name now name || list_any (bytes_eq name) (defined_by l)) (sym (drop_all i files end))
+      ∙ left name

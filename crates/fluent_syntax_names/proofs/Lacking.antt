@@ -1,0 +1,102 @@
+-- Lists of what is lacked, that grow by one mention after another.
+use Rattle.std.proofs.Common.{◌≡◌, ℕ, ◌+◌, ◌<◌, ◌≤◌, Bool, true, false, List, []}
+use Rattle.std.proofs.Common.{◌∷◌, ◌++◌, length, get_or, drop, refl, sym, ap, ◌∙◌}
+use Rattle.std.proofs.Common.{Option, None}
+use Rattle.std.specs.Prelude.{if◌then◌else◌, not}
+use Rattle.std.proofs.lemmas.List.{append-nil, drop_more, drop_all}
+use Rattle.fluent_syntax_tree.specs.declared.spans.Span.{Span}
+use Rattle.fluent_syntax_names.specs.declared.lack.Lack.{Lack}
+use Rattle.fluent_syntax_names.specs.declared.lack.Part.{Part}
+use Rattle.fluent_syntax_names.specs.declared.lack.Part.TheVariants as part
+use Rattle.fluent_syntax_names.specs.declared.mention.Mention.{Mention}
+use Rattle.fluent_syntax_names.specs.declared.mention.Mention.TheVariants as says
+use Rattle.fluent_syntax_names.specs.declared.spelled.EntryName.{EntryName}
+use Rattle.fluent_syntax_names.specs.Findings.{Text, put, owner_after, message_name, term_name}
+use Rattle.fluent_syntax_names.specs.Lacks.{Other, lack_at, lacked_entry, lacked_value, lacked_attribute, lacked_part}
+use Rattle.fluent_syntax_names.specs.Lacks.{lacked_reference, lacked_variable, lack_of, lacks_in, AddsLacks}
+use Rattle.fluent_syntax_names.specs.Mentions.{Mentions}
+use Rattle.fluent_syntax_names.specs.Spelled.{spelled, spelled_attribute, spelled_value, spelled_variable}
+use Rattle.fluent_syntax_names.specs.Spelled.{spelled_reference, spelled_references}
+
+-- ---- What is lacked depends on what the tables have alone
+
+module _ (text : Text) (D E : Other) (defines : (name : Text) → D.defines name ≡ E.defines name)
+    (uses : (name : Text) → D.uses name ≡ E.uses name) where
+  part_same : (owner : EntryName) (b c : Bool) → b ≡ c → (p : Part) (x : Span)
+      → lacked_part D text owner b p x ≡ lacked_part E text owner c p x
+  part_same owner b c e p x =
+      ap (λ d. if not d then None else if b then None else lack_of p x) (defines (spelled text owner))
+      ∙ ap (λ t. if not (E.defines (spelled text owner)) then None else if t then None else lack_of p x) e
+
+  value_same : (message : EntryName) (v : Bool) → lacked_value D text message v ≡ lacked_value E text message v
+  value_same message false = refl
+  value_same message true =
+      part_same message (D.defines (spelled_value text message)) (E.defines (spelled_value text message))
+      (defines (spelled_value text message)) part.Value message.name
+
+  entry_same : (entry : EntryName) (v : Bool) → lacked_entry D text entry v ≡ lacked_entry E text entry v
+  entry_same entry v =
+      ap (λ d. if d then lacked_value D text entry v else lack_of part.Entry entry.name) (defines (spelled text entry))
+      ∙ ap (λ o. if E.defines (spelled text entry) then o else lack_of part.Entry entry.name) (value_same entry v)
+
+  attribute_same : (owner : EntryName) (x : Span) → lacked_attribute D text owner x ≡ lacked_attribute E text owner x
+  attribute_same owner x =
+      let name = spelled_attribute text owner x in
+      ap (λ o. if owner.is_term then None else o)
+      (part_same owner (D.defines name) (E.defines name) (defines name) part.Attribute x)
+
+  reference_same : (owner target : EntryName)
+      → lacked_reference D text owner target ≡ lacked_reference E text owner target
+  reference_same owner target =
+      let name = spelled_reference text owner target in
+      part_same owner (D.uses name) (E.uses name) (uses name) part.Reference target.name
+
+  variable_same : (owner : EntryName) (x : Span) → lacked_variable D text owner x ≡ lacked_variable E text owner x
+  variable_same owner x =
+      let all = spelled_references text owner in
+      let name = spelled_variable text owner x in
+      ap (λ d. if owner.is_term then None else if d then None
+      else lacked_part D text owner (D.uses name) part.Variable x) (uses all)
+      ∙ ap (λ o. if owner.is_term then None else if E.uses all then None else o)
+      (part_same owner (D.uses name) (E.uses name) (uses name) part.Variable x)
+
+  lack_same : (owner : EntryName) (m : Mention Span) → lack_at D text owner m ≡ lack_at E text owner m
+  lack_same owner (says.Message x v) = entry_same (message_name x) v
+  lack_same owner (says.Term x) = entry_same (term_name x) false
+  lack_same owner (says.Attribute x) = attribute_same owner x
+  lack_same owner (says.Junk x) = refl
+  lack_same owner (says.MessageReference x a) = reference_same owner (message_name x)
+  lack_same owner (says.TermReference x a) = reference_same owner (term_name x)
+  lack_same owner (says.Variable x) = variable_same owner x
+  lack_same owner (says.Function x) = refl
+
+  pub lacks_same : (owner : EntryName) (ms : Mentions Span) (tail : List Lack)
+      → lacks_in D text owner ms tail ≡ lacks_in E text owner ms tail
+  lacks_same owner [] tail = refl
+  lacks_same owner (m ∷ ms) tail =
+      ap (λ o. put o (lacks_in D text (owner_after owner m) ms tail)) (lack_same owner m)
+      ∙ ap (put (lack_at E text owner m)) (lacks_same (owner_after owner m) ms tail)
+
+-- ---- The mentions of a file
+
+module _ (D : Other) (text : Text) (old now : List Lack) (all : List Lack → List Lack) (owner : EntryName)
+    (ms : Mentions Span) (i : ℕ) where
+  abbrev pub LeavesLacks : List Lack → EntryName → ℕ → Type 0
+  LeavesLacks list owner n = (rest : List Lack) → list ++ lacks_in D text owner (drop n ms) rest ≡ old ++ all rest
+
+  pub lack_next : (next : List Lack) (m d : Mention Span) (lack : Option Lack) → i < length ms → m ≡ get_or ms i d
+      → lack ≡ lack_at D text owner m → LeavesLacks now owner i → AddsLacks now next (put lack)
+      → LeavesLacks next (owner_after owner m) (i + 1)
+  lack_next next m d lack within is made left adds = λ rest.
+      let cut : drop i ms ≡ m ∷ drop (i + 1) ms = drop_more ms i d within ∙ ap (λ y. y ∷ drop (i + 1) ms) (sym is) in
+      let others = lacks_in D text (owner_after owner m) (drop (i + 1) ms) rest in
+      adds others
+      ∙ ap (λ o. now ++ put o others) made
+      ∙ ap (λ l. now ++ lacks_in D text owner l rest) (sym cut)
+      ∙ left rest
+
+  pub lack_none : length ms ≤ i → LeavesLacks now owner i → now ≡ old ++ all []
+  lack_none end left =
+      sym (append-nil now)
+      ∙ ap (λ l. now ++ lacks_in D text owner l []) (sym (drop_all i ms end))
+      ∙ left []

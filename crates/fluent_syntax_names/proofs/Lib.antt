@@ -1,0 +1,5 @@
+pub mod Adding
+pub mod Gathering
+pub mod Growing
+pub mod Lacking
+pub mod Placed

@@ -1,0 +1,87 @@
+-- What a table of names holds once a name was put in.
+use Rattle.std.proofs.Common.{◌≡◌, ℕ, Bool, true, false, List, [], ◌∷◌}
+use Rattle.std.proofs.Common.{Option, Some, None, Vec, refl, sym, ap, ◌∙◌, cond}
+use Rattle.std.specs.Prelude.{if◌then◌else◌}
+use Rattle.std.specs.BTreeMap.{is_at, insert_entry}
+use Rattle.std.specs.Map.{lookup}
+use Rattle.std.specs.Cmp.Lexicographic.{slice_cmp, bytes_decides}
+use Rattle.std.specs.Ordering.{nat_cmp, is_eq}
+use Rattle.std.specs.Str.{bytes_eq}
+use Rattle.std.specs.declared.alloc.Global.{Global}
+use Rattle.std.specs.declared.cmp.Ordering.{Ordering}
+use Rattle.std.specs.declared.cmp.Ordering.TheVariants.{Equal, Greater, Less}
+use Rattle.std.proofs.lemmas.Map.Text.{is_eq-slice_cmp}
+use Rattle.fluent_syntax_tree.specs.declared.spans.Span.{Span}
+use Rattle.fluent_syntax_names.specs.Places.{first_of, place_where}
+
+abbrev pub Key : Type 0
+Key = Vec ℕ Global
+
+abbrev pub Row : Type 0
+Row = Key × Span
+
+abbrev pub order : Key → Key → Ordering
+order x y = slice_cmp nat_cmp x.items y.items
+
+abbrev pub find : List ℕ → List Row → Option Span
+find name rows = lookup (is_at (λ k. slice_cmp nat_cmp name k.items)) rows
+
+pub first_of-None : (o : Option Span) → first_of o None ≡ o
+first_of-None None = refl
+first_of-None (Some x) = refl
+
+-- a name that is found stays as it is
+pub stays_found : (before : Option Span) (name noted : List ℕ) (place : Span)
+    → (bytes_eq name noted ≡ true → (found : Span) × (before ≡ Some found))
+    → before ≡ first_of before (place_where name noted place)
+stays_found before name noted place held =
+    let by : (b : Bool) → bytes_eq name noted ≡ b → before ≡ first_of before (if b then Some place else None) =
+    λ b. elim b as (λ b. bytes_eq name noted ≡ b → before ≡ first_of before (if b then Some place else None)) [
+      | true ↦ λ e. ap (λ o. o) ((held e).1) ∙ sym (ap (λ o. first_of o (Some place)) ((held e).1))
+      | false ↦ λ e. sym (first_of-None before)
+    ] in
+    by (bytes_eq name noted) refl
+
+module _ (key : Key) (place : Span) (name : List ℕ) where
+  abbrev wanted : List Row → Type 0
+  wanted rows =
+      find name (insert_entry order rows key place) ≡ first_of (find name rows) (place_where name key.items place)
+
+  -- in front of rows that do not have it
+  in_front : (rows : List Row) → find key.items rows ≡ None → (b : Bool) → bytes_eq name key.items ≡ b
+      → cond b (Some place) (find name rows) ≡ first_of (find name rows) (if b then Some place else None)
+  in_front rows absent true e =
+      let same : name ≡ key.items = (bytes_decides name key.items).0 e in
+      let nowhere : find name rows ≡ None = ap (λ n. find n rows) same ∙ absent in
+      sym (ap (λ o. first_of o (Some place)) nowhere)
+  in_front rows absent false e = sym (first_of-None (find name rows))
+
+  begun : (rows : List Row) → find key.items rows ≡ None
+      → find name ((key, place) ∷ rows) ≡ first_of (find name rows) (place_where name key.items place)
+  begun rows absent =
+      ap (λ b. cond b (Some place) (find name rows)) (is_eq-slice_cmp name key.items)
+      ∙ in_front rows absent (bytes_eq name key.items) refl
+
+  -- behind a row of another name
+  behind : (row : Row) (rows : List Row) (b : Bool) → wanted rows
+      → cond b (Some row.1) (find name (insert_entry order rows key place))
+      ≡ first_of (cond b (Some row.1) (find name rows)) (place_where name key.items place)
+  behind row rows true held = refl
+  behind row rows false held = held
+
+  by_order : (row : Row) (rows : List Row) (o : Ordering) → order key row.0 ≡ o → find key.items (row ∷ rows) ≡ None
+      → (find key.items rows ≡ None → wanted rows) → wanted (row ∷ rows)
+  by_order row rows Less e absent held = rw e (begun (row ∷ rows) absent)
+  by_order row rows Equal e absent held =
+      let there : find key.items (row ∷ rows) ≡ Some row.1 =
+      ap (λ o. cond (is_eq o) (Some row.1) (find key.items rows)) e in
+      let never : None ≡ Some row.1 = sym absent ∙ there in cc
+  by_order row rows Greater e absent held =
+      let rest : find key.items rows ≡ None =
+      sym (ap (λ o. cond (is_eq o) (Some row.1) (find key.items rows)) e) ∙ absent in
+      rw e (behind row rows (is_at (λ k. slice_cmp nat_cmp name k.items) row.0) (held rest))
+
+  -- a new name is put in
+  pub put_in : (rows : List Row) → find key.items rows ≡ None → wanted rows
+  put_in [] absent = begun [] absent
+  put_in (row ∷ rows) absent = by_order row rows (order key row.0) refl absent (put_in rows)

@@ -1,0 +1,27 @@
+use Rattle.std.proofs.Common.{[]}
+use Rattle.fluent_syntax_names.specs.Findings.{defined_in, nameless}
+use Rattle.fluent_syntax_names.specs.Lacks.{used_in, other_of}
+use Rattle.fluent_syntax_names.specs.Places.{place_of}
+use Rattle.fluent_syntax_names.specs.Tables.{other_by}
+use Rattle.fluent_syntax_names.proofs.Gathering.{noted_alone}
+use Rattle.fluent_syntax_names.proofs.Lacking.{lacks_same}
+use Rattle.fluent_syntax_names.proofs.comparing.lacks.Goals as goal
+
+pub returns : goal.returns
+returns c =
+    let one = c.args.one.now in
+    let other = c.args.other.now in
+    let defined = place_of c.note_definitions.new.table.table in
+    let used = place_of c.note_uses.new.table.table in
+    let defines =
+    noted_alone (place_of c.new-defined.result.table) defined c.new-defined.ensures
+    (defined_in other.text.now nameless other.mentions.items)
+    (rw c.deref.ensures.value at c.in_ok-note_definitions.ensures) in
+    let uses =
+    noted_alone (place_of c.new-used.result.table) used c.new-used.ensures
+    (used_in other.text.now nameless other.mentions.items)
+    (rw c.deref-2.ensures.value at c.in_ok-note_uses.ensures) in
+    let same =
+    lacks_same one.text.now (other_by defined used) (other_of other) defines uses nameless one.mentions.items [] in
+    let found = rw c.deref-3.ensures.value at c.lacks_by.ensures in
+    rw (← same) found

@@ -1,0 +1,27 @@
+use Rattle.std.proofs.Common.{false, refl, get_or}
+use Rattle.fluent_syntax_tree.specs.declared.spans.Span.{Span}
+use Rattle.fluent_syntax_names.specs.declared.mention.Mention.{Mention}
+use Rattle.fluent_syntax_names.specs.declared.mention.Mention.TheVariants as says
+use Rattle.fluent_syntax_names.specs.Findings.{defines, defined_in, nameless}
+use Rattle.fluent_syntax_names.specs.Places.{place_of}
+use Rattle.fluent_syntax_names.proofs.Gathering.{names_next, names_none}
+use Rattle.fluent_syntax_names.proofs.definitions.note_definitions.Goals as goal
+
+pub loop-mention-preserved : goal.loop-mention-preserved
+loop-mention-preserved c =
+    let none : Mention Span = says.Message (record { start = 0; end = 0 }) false in
+    let mention = get_or c.args.mentions.now c.loop-mention.mention-index none in
+    let left =
+    names_next (place_of c.args.table.now.table) (place_of c.loop-mention.table.table)
+    (place_of c.note_definition.new.table.table) (defined_in c.args.text.now nameless c.args.mentions.now)
+    (defines c.args.text.now) c.loop-mention.owner c.args.mentions.now c.loop-mention.mention-index mention none
+    c.loop-mention-test.true refl c.loop-mention.invariant.left c.in_ok-note_definition.ensures in
+    record { left = rw c.owner_after-owner.ensures left }
+
+pub returns : goal.returns
+returns c =
+    names_none (place_of c.args.table.now.table) (place_of c.loop-mention.table.table)
+    (place_of c.loop-mention.table.table) (defined_in c.args.text.now nameless c.args.mentions.now)
+    (defines c.args.text.now) c.loop-mention.owner c.args.mentions.now c.loop-mention.mention-index
+    c.loop-mention-test.false
+    c.loop-mention.invariant.left

@@ -1,0 +1,40 @@
+use Rattle.std.proofs.Common.{false, refl, get_or, ◌∙◌}
+use Rattle.fluent_syntax_tree.specs.declared.spans.Span.{Span}
+use Rattle.fluent_syntax_names.specs.declared.mention.Mention.{Mention}
+use Rattle.fluent_syntax_names.specs.declared.mention.Mention.TheVariants as says
+use Rattle.fluent_syntax_names.specs.Findings.{found_in, nothing, after}
+use Rattle.fluent_syntax_names.specs.Places.{place_of}
+use Rattle.fluent_syntax_names.specs.Tables.{has_name}
+use Rattle.fluent_syntax_names.proofs.Growing.{found_known, found_next, found_none}
+use Rattle.fluent_syntax_names.proofs.files.add_found.Goals as goal
+
+pub loop-mention-init : goal.loop-mention-init
+loop-mention-init c = (nothing, c.new-noted.ensures, λ rest. refl)
+
+pub loop-mention-preserved : goal.loop-mention-preserved
+loop-mention-preserved c =
+    let here = c.args.here.now in
+    let D = has_name (place_of here.defined.now.table) in
+    let names = place_of c.loop-mention.noted.names.table in
+    let attributes = place_of c.loop-mention.noted.attributes.table in
+    let none : Mention Span = says.Message (record { start = 0; end = 0 }) false in
+    let mention = get_or c.args.mentions.now c.loop-mention.mention-index none in
+    let known = c.loop-mention.invariant.0 in
+    let holds = c.loop-mention.invariant.1 in (
+      after here.text.now known mention,
+      c.in_ok-note.ensures known holds,
+      found_next D here.file here.text.now c.args.list.now.items c.loop-mention.list.items
+          (found_in D here.file here.text.now nothing c.args.mentions.now) c.args.mentions.now
+          c.loop-mention.mention-index c.add_finding.new.list.items known mention none c.in_ok-finding.finding
+          c.loop-mention-test.true refl
+          (c.in_ok-finding.ensures ∙ found_known here.file here.text.now D names attributes known holds mention)
+          c.loop-mention.invariant.2 c.in_ok-add_finding.ensures,
+    )
+
+pub returns : goal.returns
+returns c =
+    let D = has_name (place_of c.args.here.now.defined.now.table) in
+    let here = c.args.here.now in
+    found_none D here.file here.text.now c.args.list.now.items c.loop-mention.list.items
+    (found_in D here.file here.text.now nothing c.args.mentions.now) c.args.mentions.now c.loop-mention.mention-index
+    c.loop-mention.invariant.0 c.loop-mention-test.false c.loop-mention.invariant.2

@@ -1,0 +1,12 @@
+use Rattle.std.proofs.Common.{drop}
+use Rattle.fluent_syntax_names.specs.Findings.{nameless}
+use Rattle.fluent_syntax_names.specs.Lacks.{used_in}
+use Rattle.fluent_syntax_names.specs.Places.{place_of}
+use Rattle.fluent_syntax_names.specs.Tables.{LeavesNames}
+use Rattle.fluent_syntax_names.proofs.uses.note_uses.Given as goal
+
+abbrev pub invariant-loop-mention : goal.invariant-loop-mention
+invariant-loop-mention l = record {
+  left : LeavesNames (place_of l.fn.table.table) (place_of l.table.table)
+      (used_in l.text l.owner (drop l.mention-index l.mentions)) (used_in l.text nameless l.mentions);
+}

@@ -1,0 +1,108 @@
+-- What one file says and another lacks.
+use Rattle.std.specs.Prelude.{◌≡◌, Bool, true, false, not, List, [], ◌∷◌, ◌++◌, Option, Some, None, if◌then◌else◌}
+use Rattle.std.specs.List.{list_any}
+use Rattle.std.specs.Str.{bytes_eq}
+use Rattle.fluent_syntax_tree.specs.declared.spans.Span.{Span}
+use Rattle.fluent_syntax_names.specs.declared.lack.Lack.{Lack}
+use Rattle.fluent_syntax_names.specs.declared.lack.Part.{Part}
+use Rattle.fluent_syntax_names.specs.declared.lack.Part.TheVariants as part
+use Rattle.fluent_syntax_names.specs.declared.mention.Mention.{Mention}
+use Rattle.fluent_syntax_names.specs.declared.mention.Mention.TheVariants as says
+use Rattle.fluent_syntax_names.specs.declared.outline.Outline.{Outline}
+use Rattle.fluent_syntax_names.specs.declared.spelled.EntryName.{EntryName}
+use Rattle.fluent_syntax_names.specs.Findings.{Text, put, nameless, message_name, term_name, owner_after, is_defined}
+use Rattle.fluent_syntax_names.specs.Findings.{gathered}
+use Rattle.fluent_syntax_names.specs.Mentions.{Mentions}
+use Rattle.fluent_syntax_names.specs.Spelled.{spelled, spelled_attribute, spelled_value, spelled_variable}
+use Rattle.fluent_syntax_names.specs.Spelled.{spelled_reference, spelled_references}
+
+-- ---- What entries use
+
+-- what the mention uses in the entry, as it is spelled, before others: `name>message`, `name>`, `name>-term`,
+-- `name$variable`
+abbrev pub uses : Text → EntryName → Mention Span → List Text → List Text
+uses text owner (says.Message x v) tail = tail
+uses text owner (says.Term x) tail = tail
+uses text owner (says.Attribute x) tail = tail
+uses text owner (says.Junk x) tail = tail
+uses text owner (says.MessageReference x a) tail =
+    spelled_reference text owner (message_name x) ∷ (spelled_references text owner ∷ tail)
+uses text owner (says.TermReference x a) tail = spelled_reference text owner (term_name x) ∷ tail
+uses text owner (says.Variable x) tail = spelled_variable text owner x ∷ tail
+uses text owner (says.Function x) tail = tail
+
+abbrev pub used_in : Text → EntryName → Mentions Span → List Text → List Text
+used_in text owner ms tail = gathered (uses text) owner ms tail
+
+-- whether the file uses this, spelled so
+abbrev pub is_used : Outline → Text → Bool
+is_used file name = list_any (bytes_eq name) (used_in file.text.now nameless file.mentions.items [])
+
+-- ---- What the other file lacks
+
+-- what the other file defines, and what it uses
+pub record Other : Type 0 where
+  pub defines : Text → Bool
+  pub uses : Text → Bool
+
+abbrev pub lack_of : Part → Span → Option Lack
+lack_of part name = Some (record { part = part; name = name })
+
+-- a part of an entry that the other defines
+abbrev pub lacked_part : Other → Text → EntryName → (is_there : Bool) → Part → Span → Option Lack
+lacked_part other text owner is_there part name =
+    if not (other.defines (spelled text owner)) then None
+    else if is_there then None
+    else lack_of part name
+
+abbrev pub lacked_value : Other → Text → EntryName → (has_value : Bool) → Option Lack
+lacked_value other text message false = None
+lacked_value other text message true =
+    lacked_part other text message (other.defines (spelled_value text message)) part.Value message.name
+
+abbrev pub lacked_entry : Other → Text → EntryName → (has_value : Bool) → Option Lack
+lacked_entry other text entry has_value =
+    if other.defines (spelled text entry) then lacked_value other text entry has_value
+    else lack_of part.Entry entry.name
+
+abbrev pub lacked_attribute : Other → Text → EntryName → Span → Option Lack
+lacked_attribute other text owner attribute =
+    if owner.is_term then None
+    else lacked_part other text owner (other.defines (spelled_attribute text owner attribute)) part.Attribute attribute
+
+abbrev pub lacked_reference : Other → Text → EntryName → EntryName → Option Lack
+lacked_reference other text owner target =
+    lacked_part other text owner (other.uses (spelled_reference text owner target)) part.Reference target.name
+
+-- where the other's message refers to messages, what these use isn't sought
+abbrev pub lacked_variable : Other → Text → EntryName → Span → Option Lack
+lacked_variable other text owner variable =
+    if owner.is_term then None
+    else if other.uses (spelled_references text owner) then None
+    else lacked_part other text owner (other.uses (spelled_variable text owner variable)) part.Variable variable
+
+abbrev pub lack_at : Other → Text → EntryName → Mention Span → Option Lack
+lack_at other text owner (says.Message x v) = lacked_entry other text (message_name x) v
+lack_at other text owner (says.Term x) = lacked_entry other text (term_name x) false
+lack_at other text owner (says.Attribute x) = lacked_attribute other text owner x
+lack_at other text owner (says.Junk x) = None
+lack_at other text owner (says.MessageReference x a) = lacked_reference other text owner (message_name x)
+lack_at other text owner (says.TermReference x a) = lacked_reference other text owner (term_name x)
+lack_at other text owner (says.Variable x) = lacked_variable other text owner x
+lack_at other text owner (says.Function x) = None
+
+abbrev pub lacks_in : Other → Text → EntryName → Mentions Span → List Lack → List Lack
+lacks_in other text owner [] tail = tail
+lacks_in other text owner (m ∷ ms) tail =
+    put (lack_at other text owner m) (lacks_in other text (owner_after owner m) ms tail)
+
+abbrev pub other_of : Outline → Other
+other_of file = record { defines = is_defined (file ∷ []); uses = is_used file }
+
+-- what the one says and the other lacks, in the order of the one's text
+abbrev pub all_lacks : (one other : Outline) → List Lack
+all_lacks one other = lacks_in (other_of other) one.text.now nameless one.mentions.items []
+
+-- `new` is `old` with what `more` puts before others behind it
+abbrev pub AddsLacks : (old new : List Lack) → (more : List Lack → List Lack) → Type 0
+AddsLacks old new more = (rest : List Lack) → new ++ rest ≡ old ++ more rest

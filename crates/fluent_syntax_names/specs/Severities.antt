@@ -1,0 +1,23 @@
+-- How grave each kind is, and what it is called.
+use Rattle.std.specs.Prelude.{ℕ, List, codes}
+use Rattle.fluent_syntax_names.specs.declared.finding.Kind.{Kind}
+use Rattle.fluent_syntax_names.specs.declared.finding.Kind.TheVariants as kind
+use Rattle.fluent_syntax_names.specs.declared.finding.Severity.{Severity}
+use Rattle.fluent_syntax_names.specs.declared.finding.Severity.TheVariants.{Error}
+
+abbrev pub severity_of : Kind → Severity
+severity_of kind.DefinedTwice = Error
+severity_of kind.AttributeTwice = Error
+severity_of kind.UndefinedMessage = Error
+severity_of kind.UndefinedTerm = Error
+severity_of kind.UndefinedAttribute = Error
+severity_of kind.UndefinedValue = Error
+
+-- as a command line has it
+abbrev pub name_of : Kind → List ℕ
+name_of kind.DefinedTwice = codes "defined-twice"
+name_of kind.AttributeTwice = codes "attribute-twice"
+name_of kind.UndefinedMessage = codes "undefined-message"
+name_of kind.UndefinedTerm = codes "undefined-term"
+name_of kind.UndefinedAttribute = codes "undefined-attribute"
+name_of kind.UndefinedValue = codes "undefined-value"

@@ -1,0 +1,34 @@
+-- How the names of entries and of attributes are spelled.
+use Rattle.std.specs.Prelude.{ℕ, ◌&&◌, nat_le, List, [], ◌∷◌, ◌++◌, length, slice_range, if◌then◌else◌}
+use Rattle.fluent_syntax_tree.specs.Bytes.{hyphen, full_stop, equals_sign, dollar_sign, greater_than}
+use Rattle.fluent_syntax_tree.specs.declared.spans.Span.{Span}
+use Rattle.fluent_syntax_names.specs.declared.spelled.EntryName.{EntryName}
+
+-- the bytes of a range of the text; none where it reaches beyond the text
+abbrev pub name_at : List ℕ → Span → List ℕ
+name_at text span =
+    if nat_le span.start span.end && nat_le span.end (length text) then slice_range text span.start span.end else []
+
+-- `name`, and of a term `-name`
+abbrev pub spelled : List ℕ → EntryName → List ℕ
+spelled text entry = (if entry.is_term then hyphen ∷ [] else []) ++ name_at text entry.name
+
+-- `name.attribute`, and of a term `-name.attribute`
+abbrev pub spelled_attribute : List ℕ → EntryName → Span → List ℕ
+spelled_attribute text entry attribute = (spelled text entry ++ full_stop ∷ []) ++ name_at text attribute
+
+-- `name=`, the value of a message
+abbrev pub spelled_value : List ℕ → EntryName → List ℕ
+spelled_value text message = spelled text message ++ equals_sign ∷ []
+
+-- `name$variable`, a variable that an entry uses
+abbrev pub spelled_variable : List ℕ → EntryName → Span → List ℕ
+spelled_variable text entry variable = (spelled text entry ++ dollar_sign ∷ []) ++ name_at text variable
+
+-- `name>`, that an entry refers to some message
+abbrev pub spelled_references : List ℕ → EntryName → List ℕ
+spelled_references text entry = spelled text entry ++ greater_than ∷ []
+
+-- `name>other`, that an entry refers to another, or to an attribute of it
+abbrev pub spelled_reference : List ℕ → EntryName → EntryName → List ℕ
+spelled_reference text entry other = spelled_references text entry ++ spelled text other

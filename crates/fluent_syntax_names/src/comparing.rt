@@ -1,0 +1,72 @@
+//! What one file says and another lacks.
+ghost use Rattle.std.specs.Prelude.{◌≡◌, [], OnOk, IfOk};
+ghost use Rattle.fluent_syntax_names.specs.Findings.{nameless, put};
+ghost use Rattle.fluent_syntax_names.specs.Lacks.{lacks_in, all_lacks, AddsLacks};
+ghost use Rattle.fluent_syntax_names.specs.Places.{place_of};
+ghost use Rattle.fluent_syntax_names.specs.Tables.{other_by};
+
+use crate::beside::Beside;
+use crate::definitions::{NAMELESS, note_definitions, owner_after};
+use crate::lack::Lack;
+use crate::mention::Mention;
+use crate::outline::Outline;
+use crate::places::Places;
+use crate::uses::note_uses;
+use fluent_syntax_tree::spans::Span;
+use std::alloc::{AllocError, Global};
+
+/// What the one file says and the other lacks, in the order of the one's text:
+///
+/// - messages and terms;
+/// - of messages that both define the value, attributes, and each use of a variable, unless the other's message refers
+///   to messages, which may use it;
+/// - of messages and terms that both define each reference to a message or a term.
+///
+/// Attributes and variables of terms are for their own language alone. Of a reference and a translation it tells what
+/// the translation lacks; the other way round what is obsolete or unknown there.
+///
+/// Takes the memory of two tables of names, and of the list; `AllocError` where there is none. The time is that of
+/// looking each name up in a sorted table.
+pub fn lacks(alloc: Global, one: &Outline<'_>, other: &Outline<'_>) -> Result<Vec<Lack>, AllocError>
+    ensures { IfOk result (λ list. list.items ≡ all_lacks one.now other.now) }
+{
+    let mut defined = Places::new(alloc);
+    note_definitions(alloc, &mut defined, other.text, &other.mentions)?;
+    let mut used = Places::new(alloc);
+    note_uses(alloc, &mut used, other.text, &other.mentions)?;
+    let beside = Beside {
+        alloc,
+        defined: &defined,
+        used: &used,
+        text: one.text,
+    };
+    lacks_by(&beside, &one.mentions)
+}
+
+/// What the other file lacks of the mentions.
+fn lacks_by(beside: &Beside<'_>, mentions: &[Mention<Span>]) -> Result<Vec<Lack>, AllocError>
+    ensures { IfOk result (λ list. list.items ≡ lacks_in
+        (other_by (place_of beside.now.defined.now.table) (place_of beside.now.used.now.table)) beside.now.text.now
+        nameless mentions.now []) }
+{
+    let mut list = Vec::new(beside.alloc);
+    let mut owner = NAMELESS;
+    for mention in mentions {
+        let lack = beside.lack_at(owner, mention)?;
+        add_lack(&mut list, lack)?;
+        owner = owner_after(owner, mention);
+    }
+    Ok(list)
+}
+
+fn add_lack(list: &mut Vec<Lack>, lack: Option<Lack>) -> Result<(), AllocError>
+    ensures { OnOk result (AddsLacks list.old.items list.new.items (put lack)) }
+{
+    match lack {
+        Some(lack) => {
+            list.push(lack)?;
+            Ok(())
+        }
+        None => Ok(()),
+    }
+}

@@ -1,0 +1,95 @@
+//! All that is found in a set of files.
+ghost use Rattle.std.specs.Prelude.{◌≡◌, ℕ, List, [], None, OnOk, IfOk};
+ghost use Rattle.fluent_syntax_names.specs.Findings.{nothing, found_in, found_from, all_findings, put};
+ghost use Rattle.fluent_syntax_names.specs.Findings.{is_defined};
+ghost use Rattle.fluent_syntax_names.specs.Places.{place_of};
+ghost use Rattle.fluent_syntax_names.specs.Tables.{AddsFindings, has_name};
+
+use crate::definitions::note_definitions;
+use crate::finding::Finding;
+use crate::found::Here;
+use crate::mention::Mention;
+use crate::noted::Noted;
+use crate::outline::Outline;
+use crate::places::Places;
+use fluent_syntax_tree::spans::Span;
+use std::alloc::{AllocError, Global};
+
+/// All that is found in the files of one language, in the order of the files and of their texts.
+///
+/// - A name that a file defines twice, or an attribute that an entry has twice: at each place but the first.
+/// - A reference to a message or a term that no file defines, or to an attribute or a value that none has.
+///
+/// Takes the memory of tables of all names, and of the list; `AllocError` where there is none. The time is that of
+/// looking each name up in a sorted table.
+pub fn findings(alloc: Global, files: &[Outline<'_>]) -> Result<Vec<Finding>, AllocError>
+    ensures { IfOk result (λ list. list.items ≡ all_findings files.now) }
+{
+    let mut defined = Places::new(alloc);
+    note_files(alloc, &mut defined, files)?;
+    found_in_files(alloc, &defined, files)
+}
+
+/// Notes all names that the files define.
+fn note_files(alloc: Global, table: &mut Places, files: &[Outline<'_>]) -> Result<(), AllocError>
+    requires { (name : List ℕ) → place_of table.old.table name ≡ None }
+    ensures { OnOk result ((name : List ℕ) → has_name (place_of table.new.table) name ≡ is_defined files.now name) }
+{
+    for file in files {
+        note_definitions(alloc, table, file.text, &file.mentions)?;
+    }
+    Ok(())
+}
+
+/// What is found in each file, where the table has all names that they define.
+fn found_in_files(
+    alloc: Global,
+    defined: &Places,
+    files: &[Outline<'_>],
+) -> Result<Vec<Finding>, AllocError>
+    ensures { IfOk result (λ list.
+        list.items ≡ found_from (has_name (place_of defined.now.table)) 0 files.now []) }
+{
+    let mut list = Vec::new(alloc);
+    for (number, file) in files.iter().enumerate() {
+        let here = Here {
+            alloc,
+            defined,
+            file: number,
+            text: file.text,
+        };
+        add_found(&here, &file.mentions, &mut list)?;
+    }
+    Ok(list)
+}
+
+/// Adds what is found in a file.
+fn add_found(
+    here: &Here<'_>,
+    mentions: &[Mention<Span>],
+    list: &mut Vec<Finding>,
+) -> Result<(), AllocError>
+    ensures { OnOk result (AddsFindings list.old.items list.new.items
+        (found_in (has_name (place_of here.now.defined.now.table)) here.now.file here.now.text.now nothing
+        mentions.now)) }
+{
+    let mut noted = Noted::new(here.alloc);
+    for mention in mentions {
+        let finding = here.found(&noted, mention)?;
+        add_finding(list, finding)?;
+        noted.note(here.alloc, here.text, mention)?;
+    }
+    Ok(())
+}
+
+fn add_finding(list: &mut Vec<Finding>, finding: Option<Finding>) -> Result<(), AllocError>
+    ensures { OnOk result (AddsFindings list.old.items list.new.items (put finding)) }
+{
+    match finding {
+        Some(finding) => {
+            list.push(finding)?;
+            Ok(())
+        }
+        None => Ok(()),
+    }
+}

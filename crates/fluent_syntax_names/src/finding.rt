@@ -1,0 +1,78 @@
+//! What is found.
+ghost use Rattle.std.specs.Prelude.{◌≡◌};
+ghost use Rattle.fluent_syntax_names.specs.Severities.{severity_of, name_of};
+
+use fluent_syntax_tree::spans::Span;
+
+/// A mistake in a set of files.
+#[derive(Clone, Copy, Debug, PartialEq, Eq)]
+pub struct Finding {
+    pub kind: Kind,
+    /// The number of the file that has it, from 0.
+    pub file: usize,
+    /// The name there, as it stands in the text; `None` where the file has no place for what it lacks.
+    pub place: Option<Span>,
+    /// The other place that it speaks of: of a name that is given twice the first one.
+    pub other: Option<Place>,
+}
+
+/// A name in a file.
+#[derive(Clone, Copy, Debug, PartialEq, Eq)]
+pub struct Place {
+    /// The number of the file, from 0.
+    pub file: usize,
+    pub span: Span,
+}
+
+/// Which mistake it is.
+#[derive(Clone, Copy, Debug, PartialEq, Eq)]
+pub enum Kind {
+    /// The file has defined a message or term of this name before.
+    DefinedTwice,
+    /// The entry has an attribute of this name before.
+    AttributeTwice,
+    /// No file defines the message that is referred to.
+    UndefinedMessage,
+    /// No file defines the term that is referred to.
+    UndefinedTerm,
+    /// A file defines the message or term, and none the attribute of it that is referred to.
+    UndefinedAttribute,
+    /// A file defines the message that is referred to, and none with a value.
+    UndefinedValue,
+}
+
+/// How grave a finding is.
+#[derive(Clone, Copy, Debug, PartialEq, Eq)]
+pub enum Severity {
+    /// Users see it.
+    Error,
+    /// It may be meant so.
+    Warning,
+}
+
+impl Kind {
+    /// How grave a finding of this kind is.
+    pub fn severity(self) -> Severity
+        ensures { result ≡ severity_of self }
+    {
+        match self {
+            Kind::DefinedTwice | Kind::AttributeTwice => Severity::Error,
+            Kind::UndefinedMessage | Kind::UndefinedTerm => Severity::Error,
+            Kind::UndefinedAttribute | Kind::UndefinedValue => Severity::Error,
+        }
+    }
+
+    /// Its name, as a command line has it.
+    pub fn name(self) -> &'static str
+        ensures { result.now ≡ name_of self }
+    {
+        match self {
+            Kind::DefinedTwice => "defined-twice",
+            Kind::AttributeTwice => "attribute-twice",
+            Kind::UndefinedMessage => "undefined-message",
+            Kind::UndefinedTerm => "undefined-term",
+            Kind::UndefinedAttribute => "undefined-attribute",
+            Kind::UndefinedValue => "undefined-value",
+        }
+    }
+}

@@ -1,0 +1,151 @@
+//! What is found at a mention.
+ghost use Rattle.std.specs.Prelude.{◌≡◌, IfOk};
+ghost use Rattle.fluent_syntax_names.specs.Findings.{found, twice, undefined, undefined_attribute, finding_at};
+ghost use Rattle.fluent_syntax_names.specs.Findings.{undefined_part, undefined_value};
+ghost use Rattle.fluent_syntax_names.specs.Places.{place_of};
+ghost use Rattle.fluent_syntax_names.specs.Spelled.{spelled, spelled_attribute, spelled_value};
+ghost use Rattle.fluent_syntax_names.specs.Tables.{has_name};
+
+use crate::definitions::{message_name, term_name};
+use crate::finding::{Finding, Kind, Place};
+use crate::mention::Mention;
+use crate::noted::Noted;
+use crate::places::Places;
+use crate::spelled::{EntryName, name_at, spelled, spelled_attribute, spelled_value};
+use fluent_syntax_tree::spans::Span;
+use std::alloc::{AllocError, Global};
+
+/// A file as its findings are made: what all files define, its number and its text.
+#[derive(Clone, Copy)]
+pub(crate) struct Here<'a> {
+    pub(crate) alloc: Global,
+    pub(crate) defined: &'a Places,
+    pub(crate) file: usize,
+    pub(crate) text: &'a str,
+}
+
+impl Here<'_> {
+    /// What is found at the mention, where the file has defined so much before.
+    pub(crate) fn found(
+        &self,
+        noted: &Noted,
+        mention: &Mention<Span>,
+    ) -> Result<Option<Finding>, AllocError>
+        ensures { IfOk result (λ finding.
+            finding ≡ found (has_name (place_of self.now.defined.now.table)) self.now.file self.now.text.now
+            (record { names = place_of noted.now.names.table; attributes = place_of noted.now.attributes.table })
+            mention.now) }
+    {
+        match mention {
+            Mention::Message { name, .. } => self.entry_twice(noted, message_name(*name)),
+            Mention::Term { name } => self.entry_twice(noted, term_name(*name)),
+            Mention::Attribute { name } => {
+                let first = noted.attributes.place_of(name_at(self.text, *name));
+                Ok(self.twice(Kind::AttributeTwice, *name, first))
+            }
+            Mention::MessageReference { name, attribute } => {
+                self.undefined(Kind::UndefinedMessage, message_name(*name), *attribute)
+            }
+            Mention::TermReference { name, attribute } => {
+                self.undefined(Kind::UndefinedTerm, term_name(*name), *attribute)
+            }
+            _ => Ok(None),
+        }
+    }
+
+    fn entry_twice(&self, noted: &Noted, entry: EntryName) -> Result<Option<Finding>, AllocError>
+        ensures { IfOk result (λ finding. finding ≡ twice Kind.DefinedTwice self.now.file entry.name
+            (place_of noted.now.names.table (spelled self.now.text.now entry))) }
+    {
+        let name = spelled(self.alloc, self.text, entry)?;
+        let first = noted.names.place_of(&name);
+        Ok(self.twice(Kind::DefinedTwice, entry.name, first))
+    }
+
+    /// A name that was given before, where it was.
+    fn twice(&self, kind: Kind, place: Span, first: Option<Span>) -> Option<Finding>
+        ensures { result ≡ twice kind self.now.file place first }
+    {
+        let first = Place {
+            file: self.file,
+            span: first?,
+        };
+        Some(self.finding_at(kind, place, Some(first)))
+    }
+
+    /// A reference to an entry that no file defines, or to an attribute of it.
+    fn undefined(
+        &self,
+        kind: Kind,
+        entry: EntryName,
+        attribute: Option<Span>,
+    ) -> Result<Option<Finding>, AllocError>
+        ensures { IfOk result (λ finding.
+            finding ≡ undefined (has_name (place_of self.now.defined.now.table)) self.now.file self.now.text.now kind
+            entry attribute) }
+    {
+        let name = spelled(self.alloc, self.text, entry)?;
+        if self.defined.place_of(&name).is_none() {
+            return Ok(Some(self.finding_at(kind, entry.name, None)));
+        }
+        self.undefined_part(entry, attribute)
+    }
+
+    /// A reference to the value of an entry, or to an attribute of it, that no file defines.
+    fn undefined_part(
+        &self,
+        entry: EntryName,
+        attribute: Option<Span>,
+    ) -> Result<Option<Finding>, AllocError>
+        ensures { IfOk result (λ finding.
+            finding ≡ undefined_part (has_name (place_of self.now.defined.now.table)) self.now.file self.now.text.now
+            entry attribute) }
+    {
+        match attribute {
+            Some(attribute) => self.undefined_attribute(entry, attribute),
+            None => self.undefined_value(entry),
+        }
+    }
+
+    fn undefined_value(&self, entry: EntryName) -> Result<Option<Finding>, AllocError>
+        ensures { IfOk result (λ finding.
+            finding ≡ undefined_value (has_name (place_of self.now.defined.now.table)) self.now.file
+            self.now.text.now entry) }
+    {
+        if entry.is_term {
+            return Ok(None);
+        }
+        let name = spelled_value(self.alloc, self.text, entry)?;
+        if self.defined.place_of(&name).is_none() {
+            return Ok(Some(self.finding_at(Kind::UndefinedValue, entry.name, None)));
+        }
+        Ok(None)
+    }
+
+    fn undefined_attribute(
+        &self,
+        entry: EntryName,
+        attribute: Span,
+    ) -> Result<Option<Finding>, AllocError>
+        ensures { IfOk result (λ finding.
+            finding ≡ undefined_attribute (has_name (place_of self.now.defined.now.table)) self.now.file
+            self.now.text.now entry attribute) }
+    {
+        let name = spelled_attribute(self.alloc, self.text, entry, attribute)?;
+        if self.defined.place_of(&name).is_none() {
+            return Ok(Some(self.finding_at(Kind::UndefinedAttribute, attribute, None)));
+        }
+        Ok(None)
+    }
+
+    fn finding_at(&self, kind: Kind, place: Span, other: Option<Place>) -> Finding
+        ensures { result ≡ finding_at kind self.now.file place other }
+    {
+        Finding {
+            kind,
+            file: self.file,
+            place: Some(place),
+            other,
+        }
+    }
+}

@@ -1,0 +1,27 @@
+//! What Fluent files say of names: which messages, terms and attributes they define, which they refer to, and which
+//! variables and functions they use; and the mistakes that this shows.
+#![tactic(auto)]
+
+mod beside;
+mod comparing;
+mod definitions;
+mod entries;
+mod files;
+mod finding;
+mod found;
+mod lack;
+mod mention;
+mod noted;
+mod outline;
+mod patterns;
+mod places;
+mod spelled;
+mod uses;
+
+pub use comparing::lacks;
+pub use entries::{defined, mentions, references, variables};
+pub use files::findings;
+pub use finding::{Finding, Kind, Place, Severity};
+pub use lack::{Lack, Part};
+pub use mention::Mention;
+pub use outline::{Outline, outline_of};

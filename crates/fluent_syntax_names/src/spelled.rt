@@ -1,0 +1,111 @@
+//! How names are spelled.
+ghost use Rattle.std.specs.Prelude.{◌≡◌, IfOk};
+ghost use Rattle.fluent_syntax_names.specs.Spelled.{name_at, spelled, spelled_attribute, spelled_value};
+ghost use Rattle.fluent_syntax_names.specs.Spelled.{spelled_variable, spelled_reference, spelled_references};
+
+use fluent_syntax_tree::spans::Span;
+use std::alloc::{AllocError, Global};
+
+/// The name of a message or a term.
+#[derive(Clone, Copy)]
+pub(crate) struct EntryName {
+    /// Whether it is that of a term.
+    pub(crate) is_term: bool,
+    /// Where it stands, without the `-` of a term.
+    pub(crate) name: Span,
+}
+
+/// The bytes of a range of the text; none where it reaches beyond the text.
+pub(crate) fn name_at(text: &str, span: Span) -> &[u8]
+    ensures { result.now ≡ name_at text.now span }
+{
+    let bytes = text.as_bytes();
+    if span.start <= span.end && span.end <= bytes.len() {
+        &bytes[span.start..span.end]
+    } else {
+        &bytes[..0]
+    }
+}
+
+/// The name with the `-` of a term before it.
+pub(crate) fn spelled(alloc: Global, text: &str, entry: EntryName) -> Result<Vec<u8>, AllocError>
+    ensures { IfOk result (λ bytes. bytes.items ≡ spelled text.now entry) }
+{
+    let mut bytes = Vec::new(alloc);
+    if entry.is_term {
+        bytes.push(b'-')?;
+    }
+    bytes.extend_from_slice(name_at(text, entry.name))?;
+    Ok(bytes)
+}
+
+/// The name of an attribute behind that of its entry and a `.`.
+pub(crate) fn spelled_attribute(
+    alloc: Global,
+    text: &str,
+    entry: EntryName,
+    attribute: Span,
+) -> Result<Vec<u8>, AllocError>
+    ensures { IfOk result (λ bytes. bytes.items ≡ spelled_attribute text.now entry attribute) }
+{
+    let mut bytes = spelled(alloc, text, entry)?;
+    bytes.push(b'.')?;
+    bytes.extend_from_slice(name_at(text, attribute))?;
+    Ok(bytes)
+}
+
+/// The name of a message with a `=` behind it, which stands for its value.
+pub(crate) fn spelled_value(
+    alloc: Global,
+    text: &str,
+    message: EntryName,
+) -> Result<Vec<u8>, AllocError>
+    ensures { IfOk result (λ bytes. bytes.items ≡ spelled_value text.now message) }
+{
+    let mut bytes = spelled(alloc, text, message)?;
+    bytes.push(b'=')?;
+    Ok(bytes)
+}
+
+/// The name of a variable behind that of the entry that uses it and a `$`.
+pub(crate) fn spelled_variable(
+    alloc: Global,
+    text: &str,
+    entry: EntryName,
+    variable: Span,
+) -> Result<Vec<u8>, AllocError>
+    ensures { IfOk result (λ bytes. bytes.items ≡ spelled_variable text.now entry variable) }
+{
+    let mut bytes = spelled(alloc, text, entry)?;
+    bytes.push(b'$')?;
+    bytes.extend_from_slice(name_at(text, variable))?;
+    Ok(bytes)
+}
+
+/// The name of an entry with a `>` behind it, which stands for its references to messages.
+pub(crate) fn spelled_references(
+    alloc: Global,
+    text: &str,
+    entry: EntryName,
+) -> Result<Vec<u8>, AllocError>
+    ensures { IfOk result (λ bytes. bytes.items ≡ spelled_references text.now entry) }
+{
+    let mut bytes = spelled(alloc, text, entry)?;
+    bytes.push(b'>')?;
+    Ok(bytes)
+}
+
+/// The name of an entry behind that of one that refers to it and a `>`.
+pub(crate) fn spelled_reference(
+    alloc: Global,
+    text: &str,
+    entry: EntryName,
+    other: EntryName,
+) -> Result<Vec<u8>, AllocError>
+    ensures { IfOk result (λ bytes. bytes.items ≡ spelled_reference text.now entry other) }
+{
+    let mut bytes = spelled_references(alloc, text, entry)?;
+    let other = spelled(alloc, text, other)?;
+    bytes.extend_from_slice(&other)?;
+    Ok(bytes)
+}

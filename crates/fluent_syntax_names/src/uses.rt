@@ -1,0 +1,98 @@
+//! What the entries of a file use.
+ghost use Rattle.std.specs.Prelude.{◌≡◌, Some, OnOk};
+ghost use Rattle.fluent_syntax_names.specs.Findings.{nameless, message_name, put};
+ghost use Rattle.fluent_syntax_names.specs.Lacks.{uses, used_in};
+ghost use Rattle.fluent_syntax_names.specs.Places.{place_of};
+ghost use Rattle.fluent_syntax_names.specs.Spelled.{spelled_reference, spelled_references, spelled_variable};
+ghost use Rattle.fluent_syntax_names.specs.Tables.{NotesNames};
+
+use crate::definitions::{NAMELESS, message_name, owner_after, term_name};
+use crate::mention::Mention;
+use crate::places::Places;
+use crate::spelled::{EntryName, spelled_reference, spelled_references, spelled_variable};
+use fluent_syntax_tree::spans::Span;
+use std::alloc::{AllocError, Global};
+
+/// Notes all that the entries of a file use, each with the entry's name.
+pub(crate) fn note_uses(
+    alloc: Global,
+    table: &mut Places,
+    text: &str,
+    mentions: &[Mention<Span>],
+) -> Result<(), AllocError>
+    ensures { OnOk result (NotesNames (place_of table.old.table) (place_of table.new.table)
+        (used_in text.now nameless mentions.now)) }
+{
+    let mut owner = NAMELESS;
+    for mention in mentions {
+        note_use(alloc, table, text, owner, mention)?;
+        owner = owner_after(owner, mention);
+    }
+    Ok(())
+}
+
+/// Notes what the mention uses, if it uses anything.
+fn note_use(
+    alloc: Global,
+    table: &mut Places,
+    text: &str,
+    owner: EntryName,
+    mention: &Mention<Span>,
+) -> Result<(), AllocError>
+    ensures { OnOk result (NotesNames (place_of table.old.table) (place_of table.new.table)
+        (uses text.now owner mention.now)) }
+{
+    match mention {
+        Mention::MessageReference { name, .. } => {
+            note_reference(alloc, table, text, owner, message_name(*name))?;
+            note_references(alloc, table, text, owner)
+        }
+        Mention::TermReference { name, .. } => {
+            note_reference(alloc, table, text, owner, term_name(*name))
+        }
+        Mention::Variable { name } => note_variable(alloc, table, text, owner, *name),
+        _ => Ok(()),
+    }
+}
+
+/// Notes that the entry refers to messages.
+fn note_references(
+    alloc: Global,
+    table: &mut Places,
+    text: &str,
+    owner: EntryName,
+) -> Result<(), AllocError>
+    ensures { OnOk result (NotesNames (place_of table.old.table) (place_of table.new.table)
+        (put (Some (spelled_references text.now owner)))) }
+{
+    let name = spelled_references(alloc, text, owner)?;
+    table.note(name, owner.name)
+}
+
+fn note_reference(
+    alloc: Global,
+    table: &mut Places,
+    text: &str,
+    owner: EntryName,
+    target: EntryName,
+) -> Result<(), AllocError>
+    ensures { OnOk result (NotesNames (place_of table.old.table) (place_of table.new.table)
+        (put (Some (spelled_reference text.now owner target)))) }
+{
+    let name = spelled_reference(alloc, text, owner, target)?;
+    table.note(name, target.name)
+}
+
+fn note_variable(
+    alloc: Global,
+    table: &mut Places,
+    text: &str,
+    owner: EntryName,
+    variable: Span,
+) -> Result<(), AllocError>
+    ensures { OnOk result (NotesNames (place_of table.old.table) (place_of table.new.table)
+        (put (Some (spelled_variable text.now owner variable)))) }
+{
+    let name = spelled_variable(alloc, text, owner, variable)?;
+    table.note(name, variable)
+}

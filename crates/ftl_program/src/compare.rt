@@ -1,0 +1,116 @@
+//! Files and folders, compared with those of a reference language.
+
+use crate::colors::form_over_paths;
+use crate::lint::listed;
+use crate::telling::refuse_run;
+use ftl::RunFault;
+use ftl_files::Disk;
+use ftl_project::{Pair, Share, Streams, Tally, check_summary, compare_files, share_line};
+use ftl_words::Compare;
+use std::alloc::{AllocError, Global};
+use std::io;
+
+/// Compares what the paths name, one by one, with the reference; the exit status.
+pub(crate) fn compare_paths(rt: &HostRuntime, compare: &Compare<'_>) -> u8 {
+    let mut tally = Tally::new();
+    match compare_all(rt, compare, &mut tally) {
+        Ok(()) => (),
+        Err(fault) => return refuse_run(rt, fault),
+    }
+    match check_summary(rt.alloc(), &tally) {
+        Ok(line) => {
+            let _ = rt.eprint(line.as_str());
+        }
+        Err(AllocError) => return refuse_run(rt, RunFault::Memory),
+    }
+    tally.status()
+}
+
+fn compare_all(rt: &HostRuntime, compare: &Compare<'_>, tally: &mut Tally) -> Result<(), RunFault> {
+    let reference = listed(rt, compare.reference, tally)?;
+    for other in &compare.others {
+        let files = listed(rt, *other, tally)?;
+        let Ok(pairs) = pairs_of(rt.alloc(), compare.reference, &reference, *other, &files) else {
+            return Err(RunFault::Memory);
+        };
+        compare_one(rt, compare, *other, &pairs, tally)?;
+    }
+    Ok(())
+}
+
+/// Compares the pairs of one language, and tells how much of it is there.
+fn compare_one(
+    rt: &HostRuntime,
+    compare: &Compare<'_>,
+    other: &str,
+    pairs: &[Pair],
+    tally: &mut Tally,
+) -> Result<(), RunFault> {
+    let mut share = Share {
+        wanted: 0,
+        missing: 0,
+    };
+    let mut streams = Streams {
+        out: &mut io::writer(rt),
+        err: &mut rt.stderr(),
+    };
+    compare_files(
+        rt.alloc(),
+        &mut Disk::new(rt),
+        pairs,
+        compare.reading,
+        form_over_paths(rt, Some(compare.form), compare.color),
+        tally,
+        &mut share,
+        &mut streams,
+    )?;
+    match share_line(rt.alloc(), &share) {
+        Ok(line) => {
+            let _ = rt.eprint(other);
+            let _ = rt.eprint(": ");
+            let _ = rt.eprint(line.as_str());
+            Ok(())
+        }
+        Err(AllocError) => Err(RunFault::Memory),
+    }
+}
+
+/// The files of the reference with those of the other of the same path below; or the two files that are named.
+fn pairs_of(
+    alloc: Global,
+    reference: &str,
+    reference_files: &[String],
+    other: &str,
+    other_files: &[String],
+) -> Result<Vec<Pair>, AllocError> {
+    let mut there = Vec::new(alloc);
+    for file in other_files {
+        there.push(below(other, file.as_str()))?;
+    }
+    let mut pairs = Vec::new(alloc);
+    for file in reference_files {
+        let name = below(reference, file.as_str());
+        pairs.push(Pair {
+            reference: String::from_str(alloc, file.as_str())?,
+            other: path_below(alloc, other, name)?,
+            is_there: there.binary_search(&name).is_ok(),
+        })?;
+    }
+    Ok(pairs)
+}
+
+/// The path of the file below the folder; none of the file itself.
+fn below<'a>(folder: &str, file: &'a str) -> &'a str {
+    file.strip_prefix(folder)
+        .unwrap_or(file)
+        .trim_start_matches('/')
+}
+
+/// The path of the name below the folder; the folder itself without a name.
+fn path_below(alloc: Global, folder: &str, name: &str) -> Result<String, AllocError> {
+    if name.is_empty() {
+        return String::from_str(alloc, folder);
+    }
+    let folder = folder.trim_end_matches('/');
+    format!(in alloc; "{folder}/{name}")
+}

@@ -1,0 +1,85 @@
+//! Files and folders, searched for mistakes between names.
+
+use crate::colors::form_over_paths;
+use crate::telling::refuse_run;
+use ftl::RunFault;
+use ftl_files::{Disk, list};
+use ftl_project::{Fault, Streams, Tally, Telling, check_summary, lint_files, tell};
+use ftl_words::Lint;
+use std::alloc::AllocError;
+use std::io;
+
+/// Searches all files that the paths name, as one set; the exit status.
+pub(crate) fn lint_paths(rt: &HostRuntime, lint: &Lint<'_>) -> u8 {
+    let mut tally = Tally::new();
+    match lint_all(rt, lint, &mut tally) {
+        Ok(()) => (),
+        Err(fault) => return refuse_run(rt, fault),
+    }
+    match check_summary(rt.alloc(), &tally) {
+        Ok(line) => {
+            let _ = rt.eprint(line.as_str());
+        }
+        Err(AllocError) => return refuse_run(rt, RunFault::Memory),
+    }
+    tally.status()
+}
+
+fn lint_all(rt: &HostRuntime, lint: &Lint<'_>, tally: &mut Tally) -> Result<(), RunFault> {
+    let files = files_of(rt, lint, tally)?;
+    let telling = Telling {
+        form: form_over_paths(rt, Some(lint.form), lint.color),
+        ignored: &lint.ignored,
+    };
+    let mut streams = Streams {
+        out: &mut io::writer(rt),
+        err: &mut rt.stderr(),
+    };
+    lint_files(
+        rt.alloc(),
+        &mut Disk::new(rt),
+        &files,
+        lint.reading,
+        telling,
+        tally,
+        &mut streams,
+    )
+}
+
+/// The files that the paths name. What can't be listed is told.
+fn files_of(rt: &HostRuntime, lint: &Lint<'_>, tally: &mut Tally) -> Result<Vec<String>, RunFault> {
+    let mut files = Vec::new(rt.alloc());
+    for path in &lint.paths {
+        for file in listed(rt, *path, tally)? {
+            if files.push(file).is_err() {
+                return Err(RunFault::Memory);
+            }
+        }
+    }
+    Ok(files)
+}
+
+/// The files that the path names. What can't be listed is told.
+pub(crate) fn listed(
+    rt: &HostRuntime,
+    path: &str,
+    tally: &mut Tally,
+) -> Result<Vec<String>, RunFault> {
+    let Ok(listing) = list(rt, path) else {
+        return Err(RunFault::Memory);
+    };
+    for (path, error) in listing.faults {
+        let mut streams = Streams {
+            out: &mut io::writer(rt),
+            err: &mut rt.stderr(),
+        };
+        tell(
+            rt.alloc(),
+            tally,
+            path.as_str(),
+            &Fault::Read(error),
+            &mut streams,
+        )?;
+    }
+    Ok(listing.files)
+}

@@ -1,0 +1,70 @@
+//! The word `compare`.
+
+use crate::clap_words::color;
+use crate::lint_words::{form, form_of, nesting};
+use crate::request::Color;
+use crate::requested::color_of;
+use clap::{Arg, ArgAction, ArgMatches, Command};
+use ftl_project::{Form, Reading};
+use std::alloc::{AllocError, Global};
+
+/// Files of a reference language, and of others to compare with it.
+#[derive(Debug, Drop)]
+pub struct Compare<'a> {
+    /// How a text is read.
+    pub reading: Reading,
+    /// How a difference is told.
+    pub form: Form,
+    /// Whether it is told in colours.
+    pub color: Color,
+    /// A file, or a folder for every file below.
+    pub reference: &'a str,
+    /// Files or folders alike.
+    pub others: Vec<&'a str>,
+}
+
+/// The word, with its options.
+pub(crate) fn compare_command<'a>(alloc: Global) -> Result<Command<'a>, AllocError> {
+    let reference = Arg::new(alloc, "reference")
+        .value_name("REFERENCE")
+        .help("The file or the folder of the reference language")
+        .action(ArgAction::Set)
+        .required(true);
+    let others = Arg::new(alloc, "others")
+        .value_name("OTHER")
+        .help("Files, or folders whose files are matched by their paths below")
+        .action(ArgAction::Append)
+        .num_args(1..)
+        .required(true);
+    Command::new(alloc, "compare")
+        .about("Tells what files lack of those of a reference language, and what is obsolete there")
+        .after_help(
+            "Examples:
+  ftl compare en de fr            each .ftl file below en with those of de and of fr
+  ftl compare en/menu.ftl de/menu.ftl",
+        )
+        .arg(form(alloc))?
+        .arg(color(alloc))?
+        .arg(nesting(alloc))?
+        .arg(reference)?
+        .arg(others)
+}
+
+/// What the options ask for.
+pub(crate) fn compare_of<'a>(
+    alloc: Global,
+    reading: Reading,
+    options: &ArgMatches<'a>,
+) -> Result<Compare<'a>, AllocError> {
+    let others = match options.get_strs("others") {
+        Some(others) => Vec::from_slice(alloc, others)?,
+        None => Vec::new(alloc),
+    };
+    Ok(Compare {
+        reading,
+        form: form_of(options),
+        color: color_of(options),
+        reference: options.get_str("reference").unwrap_or(""),
+        others,
+    })
+}

@@ -1,0 +1,134 @@
+//! The word `lint`.
+
+use crate::clap_words::color;
+use crate::request::Color;
+use crate::requested::color_of;
+use clap::{Arg, ArgAction, ArgMatches, Command, value_parser};
+use fluent_syntax_names::Kind;
+use ftl_project::{Form, Reading};
+use std::alloc::{AllocError, Global};
+
+/// Files to search for mistakes between names.
+#[derive(Debug, Drop)]
+pub struct Lint<'a> {
+    /// How a text is read.
+    pub reading: Reading,
+    /// How a finding is told.
+    pub form: Form,
+    /// Whether it is told in colours.
+    pub color: Color,
+    /// Kinds that are not told.
+    pub ignored: Vec<Kind>,
+    /// Files and folders, which are one set.
+    pub paths: Vec<&'a str>,
+}
+
+static KIND_NAMES: [&str; 6] = [
+    "defined-twice",
+    "attribute-twice",
+    "undefined-message",
+    "undefined-term",
+    "undefined-attribute",
+    "undefined-value",
+];
+
+static FORMS: [&str; 4] = ["full", "lines", "json", "github"];
+
+/// The word, with its options.
+pub(crate) fn lint_command<'a>(alloc: Global) -> Result<Command<'a>, AllocError> {
+    let ignore = Arg::new(alloc, "ignore")
+        .long("ignore")
+        .value_name("KIND")
+        .help("A kind of finding that is not told; may be given again")
+        .action(ArgAction::Append)
+        .value_parser(KIND_NAMES.as_slice());
+    Command::new(alloc, "lint")
+        .about("Tells names that are given twice, and references to what no file defines")
+        .after_help(
+            "Examples:
+  ftl lint .                                every .ftl file below this folder, as one set
+  ftl lint --ignore undefined-message menu.ftl",
+        )
+        .arg(form(alloc))?
+        .arg(color(alloc))?
+        .arg(ignore)?
+        .arg(nesting(alloc))?
+        .arg(paths(alloc))
+}
+
+/// The option for the form.
+pub(crate) fn form<'a>(alloc: Global) -> Arg<'a> {
+    Arg::new(alloc, "output")
+        .long("output")
+        .value_name("FORM")
+        .help("How what is found is told")
+        .action(ArgAction::Set)
+        .value_parser(FORMS.as_slice())
+        .default_value("full")
+}
+
+/// The option for the nesting.
+pub(crate) fn nesting<'a>(alloc: Global) -> Arg<'a> {
+    Arg::new(alloc, "nesting")
+        .long("nesting")
+        .value_name("N")
+        .help(
+            "How many placeables and argument lists may be open at once; a deeper text has status 6",
+        )
+        .action(ArgAction::Set)
+        .value_parser(value_parser!(u32))
+        .default_value("2000")
+}
+
+fn paths<'a>(alloc: Global) -> Arg<'a> {
+    Arg::new(alloc, "paths")
+        .value_name("PATH")
+        .help("Files, and folders for every .ftl file below")
+        .action(ArgAction::Append)
+        .num_args(1..)
+        .required(true)
+}
+
+/// What the options ask for.
+pub(crate) fn lint_of<'a>(
+    alloc: Global,
+    reading: Reading,
+    options: &ArgMatches<'a>,
+) -> Result<Lint<'a>, AllocError> {
+    let paths = match options.get_strs("paths") {
+        Some(paths) => Vec::from_slice(alloc, paths)?,
+        None => Vec::new(alloc),
+    };
+    let mut ignored = Vec::new(alloc);
+    for name in options.get_strs("ignore").unwrap_or(&[]) {
+        ignored.push(kind_of(*name))?;
+    }
+    Ok(Lint {
+        reading,
+        form: form_of(options),
+        color: color_of(options),
+        ignored,
+        paths,
+    })
+}
+
+fn kind_of(name: &str) -> Kind {
+    match name {
+        "defined-twice" => Kind::DefinedTwice,
+        "attribute-twice" => Kind::AttributeTwice,
+        "undefined-message" => Kind::UndefinedMessage,
+        "undefined-term" => Kind::UndefinedTerm,
+        "undefined-attribute" => Kind::UndefinedAttribute,
+        _ => Kind::UndefinedValue,
+    }
+}
+
+/// The form that the options name.
+pub(crate) fn form_of(options: &ArgMatches<'_>) -> Form {
+    match options.get_str("output") {
+        Some("lines") => Form::Lines,
+        Some("json") => Form::Json,
+        Some("github") => Form::Github,
+        _ => Form::Full,
+    }
+}
