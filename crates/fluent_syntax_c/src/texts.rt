@@ -4,8 +4,8 @@ ghost use Rattle.std.specs.Str.{IsUtf8};
 
 use crate::status::Refusal;
 
-/// The input as a text. `Input` where it is not UTF-8; `Memory` where it has half as many bytes as the greatest `usize`,
-/// as no input that can be made has.
+/// The input as a text. `Input` where it is not UTF-8; `Memory` where it has half as many bytes as the greatest
+/// `usize`, as no input that can be made has.
 pub(crate) fn text_of(input: &[u8]) -> Result<&str, Refusal>
     ensures text { IfOk result (λ text. (text.now ≡ input.now) × (length text.now + 1 < 2 ^ 63) × IsUtf8 input.now) }
     ensures input { (result ≡ Err Refusal.Input) ↔ ¬ (IsUtf8 input.now) }

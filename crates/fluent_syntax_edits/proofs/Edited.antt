@@ -11,7 +11,8 @@ use Rattle.fluent_syntax_grammar.specs.Tiling.{Fault, Tile, Tiled, TileAt, Tilin
 use Rattle.fluent_syntax_grammar.specs.Body.{alone, body, faults, hangs, joined}
 use Rattle.fluent_syntax_grammar.specs.Canonical.{is_canonical}
 use Rattle.fluent_syntax_grammar.specs.Locality.{Led, NoCommentTakes, Settled, begins_comment, begins_entry}
-use Rattle.fluent_syntax_grammar.specs.Locality.{blank_lines, ends_in_comment, ends_line, ends_or_begins, entry_text, is_comment}
+use Rattle.fluent_syntax_grammar.specs.Locality.{blank_lines, ends_in_comment, ends_line, ends_or_begins, entry_text}
+use Rattle.fluent_syntax_grammar.specs.Locality.{is_comment}
 use Rattle.fluent_syntax_grammar.specs.Locality.{moved_fault, moved_tiles}
 use Rattle.fluent_syntax_grammar.specs.RoundTrip.{tree_of}
 use Rattle.fluent_syntax_grammar.specs.Written.{Text}

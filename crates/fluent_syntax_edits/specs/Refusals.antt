@@ -11,7 +11,8 @@ use Rattle.fluent_syntax_rules.specs.declared.rules.Rule.{Rule}
 use Rattle.fluent_syntax_edits.specs.Runs.{run_from}
 use Rattle.fluent_syntax_edits.specs.declared.fault.EditFault.{EditFault}
 use Rattle.fluent_syntax_edits.specs.declared.fault.EditFault.TheVariants.{CommentBefore, IsJunk, JunkBefore}
-use Rattle.fluent_syntax_edits.specs.declared.fault.EditFault.TheVariants.{JunkBehind, Memory, NoEntry, NoLineEnd, NotCanonical}
+use Rattle.fluent_syntax_edits.specs.declared.fault.EditFault.TheVariants.{JunkBehind, Memory, NoEntry, NoLineEnd}
+use Rattle.fluent_syntax_edits.specs.declared.fault.EditFault.TheVariants.{NotCanonical}
 use Rattle.fluent_syntax_edits.specs.declared.places.Place.{Place}
 use Rattle.fluent_syntax_edits.specs.declared.places.PlaceKind.{PlaceKind}
 use Rattle.fluent_syntax_edits.specs.declared.places.PlaceKind.TheVariants.{Field, Comment, OtherComment, Junk}

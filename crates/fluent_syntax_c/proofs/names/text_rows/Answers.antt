@@ -11,7 +11,8 @@ loop-found-init c = record {
   text = c.new-tiles.ensures.text;
   edition = c.new-tiles.ensures.edition;
   places = c.new-places.ensures;
-  names = rw (c.new-tiles.ensures.start, c.new-rows.ensures.items) (names_of_nothing c.args.edition c.args.text.now c.utf8.text);
+  names = rw (c.new-tiles.ensures.start, c.new-rows.ensures.items)
+      (names_of_nothing c.args.edition c.args.text.now c.utf8.text);
 }
 
 pub add_found-requires : goal.add_found-requires
