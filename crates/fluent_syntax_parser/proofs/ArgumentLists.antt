@@ -11,8 +11,9 @@ use Rattle.fluent_syntax_tree.specs.Tree.{no_inlines, no_named, inlines_of, name
 use Rattle.fluent_syntax_tree.specs.Tree.{named_map}
 use Rattle.fluent_syntax_tree.specs.View.{inline_view, named_view}
 use Rattle.fluent_syntax_tree.proofs.Views.{view-NamedArgument}
+use Rattle.fluent_syntax_tree.specs.declared.ast.Identifier.{Identifier}
 use Rattle.fluent_syntax_tree.specs.declared.ast.InlineExpression.{InlineExpression}
-use Rattle.fluent_syntax_tree.specs.declared.ast.NamedArgument.{NamedArgument}
+use Rattle.fluent_syntax_tree.specs.declared.ast.NamedArgument.{NamedArgument, roll-NamedArgument}
 use Rattle.fluent_syntax_tree.specs.declared.spans.Span.{Span}
 use Rattle.fluent_syntax_grammar.specs.Arguments as rules
 use Rattle.fluent_syntax_grammar.specs.Arguments.{Argument, add_argument, argument_name, argument_rest, argument_value}
@@ -112,6 +113,10 @@ module _ (t : List ℕ) (R : Family) where
       positional_rest t names e j (Refused PositionalArgumentFollowsNamed j (j + 1))
   late [] e j some = absurd (some refl)
   late (name ∷ names) e j some = failed refl
+
+-- a named argument of these parts
+abbrev pub argument_with : {S : Type 0} → Identifier S → InlineExpression S → NamedArgument S
+argument_with {S = S} name value = roll-NamedArgument S (record { name = name; value = value })
 
 -- What was gathered stands for what was read, with f of each text in its place.
 pub record MadeArguments {S X : Type 0} (t : List ℕ) (R : Family) (f : Span → X) (v : S → X) (from : ℕ)

@@ -49,4 +49,5 @@ pub mod Spelled
 pub mod Stars
 pub mod StringBytes
 pub mod TileForms
+pub mod Waiting
 pub mod Noted

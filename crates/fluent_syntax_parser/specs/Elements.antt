@@ -9,7 +9,7 @@ use Rattle.fluent_syntax_tree.specs.declared.spans.Span.{Span}
 use Rattle.fluent_syntax_grammar.specs.Elements.{pattern_of, trimmed_end}
 use Rattle.fluent_syntax_grammar.specs.Layout as grammar
 use Rattle.fluent_syntax_parser.specs.Layouts as layouts
-use Rattle.fluent_syntax_parser.specs.Layouts.{cut}
+use Rattle.fluent_syntax_parser.specs.Layouts.{cut, indented}
 use Rattle.fluent_syntax_parser.specs.Lines.{line_shape, line_view}
 use Rattle.fluent_syntax_parser.specs.declared.elements.Item.{Item}
 use Rattle.fluent_syntax_parser.specs.declared.elements.Item.TheVariants as item
@@ -49,6 +49,23 @@ module _ {E : Type 0} where
   leading (Some k) [] = []
   leading (Some k) (layouts.run from to ∷ ps) = layouts.run k to ∷ ps
   leading (Some k) (layouts.placed e ∷ ps) = layouts.placed e ∷ ps
+
+  -- the items, with the run that waits behind them
+  abbrev pub flushed : List (layouts.Item E) → Option (ℕ × ℕ) → List (layouts.Item E)
+  flushed xs None = xs
+  flushed xs (Some r) = xs ++ layouts.text r.0 r.1 ∷ []
+
+  -- what stands before the pieces of a line, by the first of them
+  abbrev pub indent_items : Edition → (kept first : ℕ) → List (layouts.Piece E) → List (layouts.Item E)
+  indent_items edition kept first [] = []
+  indent_items edition kept first (layouts.run from to ∷ ps) = []
+  indent_items edition kept first (layouts.placed e ∷ ps) = indented edition kept first
+
+  -- a line that holds nothing
+  abbrev pub bare_items : (kept : ℕ) → grammar.Ending → List (layouts.Item E)
+  bare_items kept (grammar.lf_at p) = layouts.text kept (p + 1) ∷ []
+  bare_items kept (grammar.crlf_at p) = layouts.text (p + 1) (p + 2) ∷ []
+  bare_items kept grammar.text_end = []
 
 -- where the leading spaces of a line beyond the common indent begin
 abbrev pub kept_place : Option ℕ → (start spaces : ℕ) → ℕ

@@ -1,6 +1,7 @@
 //! The items that the lines of a pattern spell.
 ghost use Rattle.std.specs.Prelude.{◌≡◌, ◌+◌, ◌<◌, ◌^◌, ◌++◌, [], map, IfOk, OnOk};
-ghost use Rattle.fluent_syntax_parser.specs.Elements.{item_shape, kept_place, layout_shape, leading, waiting};
+ghost use Rattle.fluent_syntax_parser.specs.Elements.{bare_items, flushed, indent_items, item_shape, kept_place};
+ghost use Rattle.fluent_syntax_parser.specs.Elements.{layout_shape, leading, waiting};
 ghost use Rattle.fluent_syntax_parser.specs.Layouts.{items_with, line_items, with_ending};
 ghost use Rattle.fluent_syntax_parser.specs.Endings.{EndsWithin};
 ghost use Rattle.fluent_syntax_parser.specs.Lines.{ending_view, line_shape, piece_shape};
@@ -22,6 +23,20 @@ pub(crate) enum Item<T> {
 pub(crate) struct Layout<T> {
     pub(crate) opening: Option<Line<T>>,
     pub(crate) lines: Vec<Line<T>>,
+}
+
+/// Adds the run that waits, if one does.
+fn add_waiting<T: Drop>(
+    pending: Option<(usize, usize)>,
+    items: &mut Vec<Item<T>>,
+) -> Result<(), AllocError>
+    ensures { OnOk result (map item_shape items.new.items ≡ flushed (map item_shape items.old.items) pending) }
+{
+    match pending {
+        Some((from, to)) => items.push(Item::Text { from, to })?,
+        None => {}
+    }
+    Ok(())
 }
 
 /// Adds the last run of a line, where one waits, and the line's ending: an LF belongs to the text before it.
@@ -75,9 +90,7 @@ fn add_pieces<T: Drop>(
     let mut led = led;
     let mut pending = None;
     for piece in pieces {
-        if let Some((from, to)) = pending {
-            items.push(Item::Text { from, to })?;
-        }
+        add_waiting(pending, items)?;
         pending = match piece {
             Piece::Run { from, to } => Some((led.unwrap_or(from), to)),
             Piece::Placed { expression } => {
@@ -101,6 +114,55 @@ fn kept_from(common: Option<usize>, start: usize, spaces: usize) -> usize
     }
 }
 
+/// Adds the leading spaces of a line beyond the common indent, where they are a text of their own.
+fn add_indent<T: Drop>(
+    edition: Edition,
+    kept: usize,
+    first: usize,
+    pieces: &[Piece<T>],
+    items: &mut Vec<Item<T>>,
+) -> Result<(), AllocError>
+    ensures { let found = indent_items edition kept first (map piece_shape pieces.now) in
+        OnOk result (map item_shape items.new.items ≡ map item_shape items.old.items ++ found) }
+{
+    match pieces.first() {
+        Some(Piece::Placed { .. }) => {
+            if edition == Edition::Two && kept < first {
+                items.push(Item::Text {
+                    from: kept,
+                    to: first,
+                })?;
+            }
+        }
+        _ => {}
+    }
+    Ok(())
+}
+
+/// Adds a line that holds nothing, whose leading spaces count from `kept` on.
+fn add_bare_line<T: Drop>(
+    kept: usize,
+    ending: Ending,
+    items: &mut Vec<Item<T>>,
+) -> Result<(), AllocError>
+    requires { EndsWithin ending }
+    ensures { OnOk result (map item_shape items.new.items
+        ≡ map item_shape items.old.items ++ bare_items kept (ending_view ending)) }
+{
+    match ending {
+        Ending::Lf(place) => items.push(Item::Text {
+            from: kept,
+            to: place + 1,
+        })?,
+        Ending::Crlf(place) => items.push(Item::Text {
+            from: place + 1,
+            to: place + 2,
+        })?,
+        Ending::TextEnd => {}
+    }
+    Ok(())
+}
+
 /// Adds a line that is not the opening line.
 fn add_line<T: Drop>(
     edition: Edition,
@@ -120,24 +182,10 @@ fn add_line<T: Drop>(
         ending,
     } = line;
     let kept = kept_from(common, start, spaces);
-    match (pieces.first(), ending) {
-        (None, Ending::Lf(place)) => {
-            items.push(Item::Text {
-                from: kept,
-                to: place + 1,
-            })?;
-            return Ok(());
-        }
-        (Some(Piece::Placed { .. }), _) => {
-            if edition == Edition::Two && kept < start + spaces {
-                items.push(Item::Text {
-                    from: kept,
-                    to: start + spaces,
-                })?;
-            }
-        }
-        _ => {}
+    if pieces.is_empty() {
+        return add_bare_line(kept, ending, items);
     }
+    add_indent(edition, kept, start + spaces, &pieces, items)?;
     add_pieces(Some(kept), pieces, ending, items)
 }
 

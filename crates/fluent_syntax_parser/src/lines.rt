@@ -23,7 +23,8 @@ use memchr::memchr3;
 /// The ending at a place, by where it ends.
 fn ending_at(place: usize, next: usize) -> Ending
     requires { place < next }
-    ensures { ending_view result ≡ (if next == place + 1 then lf_at place else crlf_at place) }
+    ensures seen { ending_view result ≡ (if next == place + 1 then lf_at place else crlf_at place) }
+    ensures ends { EndsWithin result }
 {
     if next == place + 1 {
         Ending::Lf(place)

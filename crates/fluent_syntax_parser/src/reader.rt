@@ -1,5 +1,5 @@
 //! What the readers are given that make texts.
-ghost use Rattle.std.specs.Prelude.{◌≡◌, option_map, IfOk};
+ghost use Rattle.std.specs.Prelude.{◌≡◌, ◌<◌, ◌^◌, length, option_map, IfOk};
 ghost use Rattle.fluent_syntax_tree.specs.Tree.{key_map, option_texts};
 ghost use Rattle.fluent_syntax_tree.specs.View.{identifier_view, key_view};
 
@@ -17,6 +17,7 @@ pub(crate) struct Reader<'s, 't, M> {
     pub(crate) alloc: Global,
     pub(crate) edition: Edition,
     pub(crate) texts: &'t M,
+    ghost small: { length source.bytes.now < 2 ^ 63 },
 }
 
 impl<'s, 't, M: MakeTexts> Reader<'s, 't, M> {

@@ -4,10 +4,8 @@ use Rattle.std.proofs.lemmas.Option.{gets}
 use Rattle.std.proofs.lemmas.Result.{err_from_is_err_and}
 use Rattle.fluent_syntax_tree.specs.Spans.{bytes_at}
 use Rattle.fluent_syntax_tree.specs.Tree.{inline, inline_placeable, number_literal, some_arguments, string_literal}
-use Rattle.fluent_syntax_tree.specs.Tree.{variable_reference, variant}
+use Rattle.fluent_syntax_tree.specs.Tree.{pattern_map, variable_reference, variant}
 use Rattle.fluent_syntax_tree.specs.View.{expression_view, key_view}
-use Rattle.fluent_syntax_tree.specs.declared.ast.NamedArgument.{NamedArgument, roll-NamedArgument}
-use Rattle.fluent_syntax_tree.specs.declared.ast.Variant.{Variant}
 use Rattle.fluent_syntax_tree.proofs.Views.{view-StringLiteral, view-NumberLiteral, view-TermReference}
 use Rattle.fluent_syntax_tree.proofs.Views.{view-VariableReference, view-InlinePlaceable, view-Inline, view-Select}
 use Rattle.fluent_syntax_tree.proofs.Views.{view-Variant, view-roll-CallArguments}
@@ -26,8 +24,8 @@ use Rattle.fluent_syntax_grammar.specs.Construct.{stops, goes_on, given, failed,
 use Rattle.fluent_syntax_grammar.specs.Construct.{at_place}
 use Rattle.fluent_syntax_grammar.specs.Grammar.{within}
 use Rattle.fluent_syntax_grammar.specs.Inline.{inline_of}
-use Rattle.fluent_syntax_grammar.specs.Lines.{no_byte, other_line, own_line}
-use Rattle.fluent_syntax_grammar.specs.Patterns.{layout_at}
+use Rattle.fluent_syntax_grammar.specs.Lines.{is_run_place, no_byte, other_line, own_line}
+use Rattle.fluent_syntax_grammar.specs.Patterns.{layout_at, pattern}
 use Rattle.fluent_syntax_grammar.specs.Placeables.{has_arrow, is_term_attribute, selector_fault}
 use Rattle.fluent_syntax_grammar.specs.Places.{has_byte}
 use Rattle.fluent_syntax_grammar.proofs.FunctionalRules.{functional_accessor, functional_ending, functional_inline}
@@ -41,18 +39,19 @@ use Rattle.fluent_syntax_parser.specs.Layouts.{placed}
 use Rattle.fluent_syntax_parser.specs.Lines.{line_view, piece_view}
 use Rattle.fluent_syntax_parser.specs.Made.{made}
 use Rattle.fluent_syntax_parser.specs.Meets.{no_memory, refused, too_deep}
-use Rattle.fluent_syntax_parser.proofs.ArgumentLists.{all_arguments, inline_fails, late, list_closed, list_open, named}
+use Rattle.fluent_syntax_parser.proofs.ArgumentLists.{all_arguments, argument_with, inline_fails, late, list_closed}
+use Rattle.fluent_syntax_parser.proofs.ArgumentLists.{list_open, named, no_arguments_yet}
 use Rattle.fluent_syntax_parser.proofs.ArgumentLists.{named_fails, one_named, one_positional, positional, token_there}
-use Rattle.fluent_syntax_parser.proofs.Behind.{all_made, item_fails, item_made}
+use Rattle.fluent_syntax_parser.proofs.Behind.{all_made, item_fails, item_made, no_items}
 use Rattle.fluent_syntax_parser.proofs.Fails.{braces, fails_braces, fails_first, fails_list, fails_next, fails_no}
 use Rattle.fluent_syntax_parser.proofs.Fails.{fails_seen, fails_yes, functional_arrow_end, functional_here}
 use Rattle.fluent_syntax_parser.proofs.Fails.{functional_look, functional_reaches, functional_star, functional_steps}
 use Rattle.fluent_syntax_parser.proofs.Fails.{list, no_call, no_placeable, out_of_memory}
-use Rattle.fluent_syntax_parser.proofs.GatheredVariants.{all_variants, variant_made}
+use Rattle.fluent_syntax_parser.proofs.GatheredVariants.{all_variants, no_variant, variant_made, variant_with}
 use Rattle.fluent_syntax_parser.proofs.InlineStarts.{by_number, by_start, by_value, no_value, referred, value_fails}
 use Rattle.fluent_syntax_parser.proofs.Made.{no_value_read, on_made, on_value, same_selector_fault, same_term_attribute}
 use Rattle.fluent_syntax_parser.proofs.Pieces.{bare_brace, end_pieces, line_read, no_lines, no_pieces, own_line_fails}
-use Rattle.fluent_syntax_parser.proofs.Pieces.{placed_fails, placed_piece, run_piece}
+use Rattle.fluent_syntax_parser.proofs.Pieces.{further, placed_fails, placed_piece, run_piece, run_there}
 use Rattle.fluent_syntax_parser.proofs.Selects.{is_selector, no_selector, selector_fails}
 use Rattle.fluent_syntax_parser.proofs.reader.Reader.+readers.Goals as goal
 use Rattle.fluent_syntax_parser.proofs.reader.Reader.+readers.Goals.{
@@ -501,8 +500,7 @@ get_arguments-loop-noted-preserved-then-is_byte_at g m c =
     let t = c.args.self.now.source.bytes.now in
     let old = c.loop-noted in
     let new = used_in_order t (bytes_at t c.in-Some.name) old.noted.names.items ∙ sym c.if-has.ensures in
-    let added : NamedArgument g.M.MakeTexts.Text = roll-NamedArgument g.M.MakeTexts.Text
-    (record { name = c.in_ok-name-in-Some.name; value = c.in_ok-value-in-Some.value }) in
+    let added = argument_with c.in_ok-name-in-Some.name c.in_ok-value-in-Some.value in
     on_made c.in_ok-expression.ensures.meets (λ e read same.
     on_made c.in_ok-value-in-Some.ensures.meets (λ value read_value same_value. record {
       forward =
@@ -727,8 +725,11 @@ get_variants-returns-in_err-value-clause-meets g m c =
 
 pub get_variants-returns-in_default-clause-meets : goal.get_variants-returns-in_default-clause-meets
 get_variants-returns-in_default-clause-meets g m c =
+    let t = c.args.self.now.source.bytes.now in
     let found = rw c.in_default.is at c.in_ok-value.ensures.meets in
+    let value_read = pattern c.args.self.now.edition t (within c.args.self.now.edition t c.args.nesting) in
     on_made found (λ o read same.
+    let none = no_value_read (pattern_map (g.M.MakeTexts.source c.args.self.now.texts.now)) value_read o read same in
     item_fails c.loop-starred.invariant.gathered.behind (refused (λ k from to (a, b, d). rw (a, b, d)
     (goes_on c.take_byte_if-star.ensures.meets
     (goes_on (second (one_false _ _ c.else-starred.either) given)
@@ -738,7 +739,7 @@ get_variants-returns-in_default-clause-meets g m c =
     (goes_on c.in_ok-key.ensures.meets
     (goes_on (passed c.skip_blank-next.ensures.blank)
     (goes_on c.in_ok-next.ensures.meets
-    (goes_on (no_value_read _ _ o read same)
+    (goes_on none
     (failed refl)))))))))))))
 
 pub get_variants-loop-starred-preserved : goal.get_variants-loop-starred-preserved
@@ -746,10 +747,11 @@ get_variants-loop-starred-preserved g m c =
     let t = c.args.self.now.source.bytes.now in
     let found = rw c.in-Some.is at c.in_ok-value.ensures.meets in
     let old = c.loop-starred in
-    let new : Variant g.M.MakeTexts.Text = record
-    { key = c.in_ok-key-2.key; value = c.in-Some.value; default = c.take_byte_if-star.result.0 } in
+    let new = variant_with c.in_ok-key-2.key c.in-Some.value c.take_byte_if-star.result.0 in
+    let value_read = pattern c.args.self.now.edition t (within c.args.self.now.edition t c.args.nesting) in
     on_made found (λ o read same.
-    on_value _ _ o read same (λ value there same_value. record {
+    on_value (pattern_map (g.M.MakeTexts.source c.args.self.now.texts.now)) value_read o read same
+    (λ value there same_value. record {
       forward =
           omega (
             arith,
@@ -905,7 +907,7 @@ get_lines-loop-lines-preserved g m c =
           (functional_next_line t (within c.args.self.now.edition t c.args.nesting)
           (functional_within c.args.self.now.edition t _)) _
           (own_line blank (sym c.in-Some.ensures) (sym c.if-not-belongs.ensures) (goes_on read given))
-          (rw (c.ending_at-ending.ensures, same) refl);
+          (rw (c.ending_at-ending.ensures.seen, same) refl);
     })
 
 pub get_expression-skip_blank_inline-ptr-requires : goal.get_expression-skip_blank_inline-ptr-requires
@@ -1023,3 +1025,53 @@ pub get_variants-returns-in_err-key-2-clause-meets :
 get_variants-returns-in_err-key-2-clause-meets g m c =
     rw (out_of_memory c.from_residual-in_err-key-2.result
     c.from_residual-in_err-key-2.ensures.1) no_memory
+
+-- ---- where a loop begins
+
+pub get_arguments-loop-noted-init : goal.get_arguments-loop-noted-init
+get_arguments-loop-noted-init g m c = record {
+  forward = omega arith;
+  within = c.requires;
+  gathered =
+      rw (c.new-positional.ensures.items, c.new-named.ensures.items, c.new-noted.ensures.names)
+      (no_arguments_yet c.args.self.now.source.bytes.now _ _ g.M.MakeTexts.made _);
+  noted = rw c.new-noted.ensures.names c.new-noted.ensures.noted;
+}
+
+pub get_variants-loop-starred-init : goal.get_variants-loop-starred-init
+get_variants-loop-starred-init g m c = record {
+  forward = omega arith;
+  within = c.requires;
+  gathered = rw c.new-variants.ensures.items (no_variant g.M.MakeTexts.made);
+}
+
+pub get_pieces-loop-pieces-init : goal.get_pieces-loop-pieces-init
+get_pieces-loop-pieces-init g m c = record {
+  forward = omega arith;
+  within = c.requires;
+  gathered = rw c.new-pieces.ensures.items (no_items (piece_view g.M.MakeTexts.made));
+}
+
+pub get_lines-loop-lines-init : goal.get_lines-loop-lines-init
+get_lines-loop-lines-init g m c = record {
+  forward = omega arith;
+  within = c.requires;
+  gathered = rw c.new-lines.ensures.items (no_items (line_view g.M.MakeTexts.made));
+}
+
+-- ---- numbers
+
+pub get_pieces-loop-pieces-smaller : goal.get_pieces-loop-pieces-smaller
+get_pieces-loop-pieces-smaller g m c =
+    let t = c.args.self.now.source.bytes.now in
+    let run = c.run_end-to.ensures.run in
+    let there = run_there t (within c.args.self.now.edition t c.args.nesting) _ _ (sym c.in-Some.ensures)
+    (sym c.if-is_eol_at.ensures) c.if-byte-eq125.false c.if-byte-eq123.false in
+    let longer = further (is_run_place t) c.loop-pieces.place c.run_end-to.result run there in
+    omega (arith, longer, c.run_end-to.ensures.within)
+
+pub get_lines-invariant_of-push-in-Some-eol_end-clause-ends : goal.get_lines-invariant_of-push-in-Some-eol_end-clause-ends
+get_lines-invariant_of-push-in-Some-eol_end-clause-ends g m c = c.ending_at-ending.ensures.ends
+
+pub get_expression-overflow_add-ptr : goal.get_expression-overflow_add-ptr
+get_expression-overflow_add-ptr g m c = omega (arith, c.skip_blank-ptr.ensures.within, c.args.self.now.small)
