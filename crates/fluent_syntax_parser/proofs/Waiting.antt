@@ -1,14 +1,16 @@
 -- What is added for a piece of a line, and what for those behind it, are together what is added from it on.
 use Rattle.std.proofs.Common.{◌≡◌, ℕ, ◌+◌, List, [], ◌∷◌, ◌++◌, append_assoc, map, Option, Some, None, unwrap_or}
-use Rattle.std.proofs.Common.{refl, sym, ap, ◌∙◌}
+use Rattle.std.proofs.Common.{Bool, true, false, refl, sym, ap, ◌∙◌}
+use Rattle.std.specs.Prelude.{nat_lt, if◌then◌else◌}
 use Rattle.fluent_syntax_tree.specs.declared.edition.Edition.{Edition}
+use Rattle.fluent_syntax_tree.specs.declared.edition.Edition.TheVariants.{One, Two}
 use Rattle.fluent_syntax_grammar.specs.Layout.{Ending, lf_at, crlf_at, text_end}
-use Rattle.fluent_syntax_parser.specs.Elements.{bare_items, flushed, indent_items, kept_place, leading, waiting}
+use Rattle.fluent_syntax_parser.specs.Elements.{bare_items, flushed, indent_of, kept_place, leading, waiting}
 use Rattle.fluent_syntax_parser.specs.Layouts.{Item, Line, Piece, filled, items_from, kept_from, line_items, placed}
 use Rattle.fluent_syntax_parser.specs.Layouts.{run, text, with_ending}
 
 module _ {E : Type 0} where
-  pub none_leads : (led : Option ℕ) → leading led ([] {A = Piece E}) ≡ []
+  pub none_leads : (led : Option ℕ) → leading {E = E} led [] ≡ []
   none_leads None = refl
   none_leads (Some k) = refl
 
@@ -51,17 +53,26 @@ module _ {E : Type 0} where
   kept_is (Some common) l = refl
 
   bare_from : (edition : Edition) (kept first : ℕ) (end : Ending) →
-      bare_items kept end ≡ items_from edition kept first ([] {A = Piece E}) end
+      bare_items {E = E} kept end ≡ items_from {E = E} edition kept first [] end
   bare_from edition kept first (lf_at p) = refl
   bare_from edition kept first (crlf_at p) = refl
   bare_from edition kept first text_end = refl
 
-  full_from : (edition : Edition) (kept first : ℕ) (ps : List (Piece E)) (end : Ending) → (ps ≡ [] → ⊥) →
-      indent_items edition kept first ps ++ with_ending (leading (Some kept) ps) end
-      ≡ items_from edition kept first ps end
-  full_from edition kept first [] end some = absurd (some refl)
-  full_from edition kept first (run from to ∷ ps) end some = refl
-  full_from edition kept first (placed e ∷ ps) end some = refl
+  indent_placed : (b : Bool) (xs rest : List (Item E)) (kept first : ℕ) →
+      flushed xs (if b then Some (kept, first) else None) ++ rest
+      ≡ xs ++ ((if b then text kept first ∷ [] else []) ++ rest)
+  indent_placed true xs rest kept first = append_assoc xs (text kept first ∷ []) rest
+  indent_placed false xs rest kept first = refl
+
+  full_from : (xs : List (Item E)) (edition : Edition) (kept first : ℕ) (ps : List (Piece E)) (end : Ending) →
+      (ps ≡ [] → ⊥) →
+      flushed xs (indent_of edition kept first ps) ++ with_ending (leading (Some kept) ps) end
+      ≡ xs ++ items_from edition kept first ps end
+  full_from xs edition kept first [] end some = absurd (some refl)
+  full_from xs edition kept first (run from to ∷ ps) end some = refl
+  full_from xs One kept first (placed e ∷ ps) end some = refl
+  full_from xs Two kept first (placed e ∷ ps) end some =
+      indent_placed (nat_lt kept first) xs (with_ending (placed e ∷ ps) end) kept first
 
   module _ (edition : Edition) (common : Option ℕ) (l : Line E) (kept : ℕ)
       (is : kept ≡ kept_place common l.start l.spaces) where
@@ -75,10 +86,12 @@ module _ {E : Type 0} where
         ∙ ap (λ ps. items_from edition kept (l.start + l.spaces) ps l.ending) (sym none)
         ∙ kept_items
 
-    pub full_line : (l.pieces ≡ [] → ⊥) →
-        indent_items edition kept (l.start + l.spaces) l.pieces ++ with_ending (leading (Some kept) l.pieces) l.ending
-        ≡ line_items edition common l
-    full_line some = full_from edition kept (l.start + l.spaces) l.pieces l.ending some ∙ kept_items
+    pub full_line : (xs : List (Item E)) → (l.pieces ≡ [] → ⊥) →
+        flushed xs (indent_of edition kept (l.start + l.spaces) l.pieces)
+        ++ with_ending (leading (Some kept) l.pieces) l.ending
+        ≡ xs ++ line_items edition common l
+    full_line xs some =
+        full_from xs edition kept (l.start + l.spaces) l.pieces l.ending some ∙ ap (λ ys. xs ++ ys) kept_items
 
 pub none_mapped : {A B : Type 0} (f : A → B) (xs : List A) → map f xs ≡ [] → xs ≡ []
 none_mapped f [] e = refl

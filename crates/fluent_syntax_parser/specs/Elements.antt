@@ -1,15 +1,17 @@
 -- What a layout spells, as a reader makes it.
 use Rattle.std.specs.Prelude.{◌≡◌, ℕ, ◌+◌, List, [], ◌∷◌, ◌++◌, map, Option, Some, None, option_map, min}
+use Rattle.std.specs.Prelude.{nat_lt, if◌then◌else◌}
 use Rattle.fluent_syntax_tree.specs.Tree.{ElementTree, ExpressionTree, text_element, pattern_map, placeable}
 use Rattle.fluent_syntax_tree.specs.View.{expression_view, pattern_view}
 use Rattle.fluent_syntax_tree.specs.declared.ast.Expression.{Expression}
 use Rattle.fluent_syntax_tree.specs.declared.ast.Pattern.{Pattern}
 use Rattle.fluent_syntax_tree.specs.declared.edition.Edition.{Edition}
+use Rattle.fluent_syntax_tree.specs.declared.edition.Edition.TheVariants.{One, Two}
 use Rattle.fluent_syntax_tree.specs.declared.spans.Span.{Span}
 use Rattle.fluent_syntax_grammar.specs.Elements.{pattern_of, trimmed_end}
 use Rattle.fluent_syntax_grammar.specs.Layout as grammar
 use Rattle.fluent_syntax_parser.specs.Layouts as layouts
-use Rattle.fluent_syntax_parser.specs.Layouts.{cut, indented}
+use Rattle.fluent_syntax_parser.specs.Layouts.{cut}
 use Rattle.fluent_syntax_parser.specs.Lines.{line_shape, line_view}
 use Rattle.fluent_syntax_parser.specs.declared.elements.Item.{Item}
 use Rattle.fluent_syntax_parser.specs.declared.elements.Item.TheVariants as item
@@ -55,11 +57,12 @@ module _ {E : Type 0} where
   flushed xs None = xs
   flushed xs (Some r) = xs ++ layouts.text r.0 r.1 ∷ []
 
-  -- what stands before the pieces of a line, by the first of them
-  abbrev pub indent_items : Edition → (kept first : ℕ) → List (layouts.Piece E) → List (layouts.Item E)
-  indent_items edition kept first [] = []
-  indent_items edition kept first (layouts.run from to ∷ ps) = []
-  indent_items edition kept first (layouts.placed e ∷ ps) = indented edition kept first
+  -- the leading spaces beyond the common indent, where they are a text of their own: before a placeable, in edition 2
+  abbrev pub indent_of : Edition → (kept first : ℕ) → List (layouts.Piece E) → Option (ℕ × ℕ)
+  indent_of edition kept first [] = None
+  indent_of edition kept first (layouts.run from to ∷ ps) = None
+  indent_of One kept first (layouts.placed e ∷ ps) = None
+  indent_of Two kept first (layouts.placed e ∷ ps) = if nat_lt kept first then Some (kept, first) else None
 
   -- a line that holds nothing
   abbrev pub bare_items : (kept : ℕ) → grammar.Ending → List (layouts.Item E)

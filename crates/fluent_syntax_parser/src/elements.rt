@@ -1,6 +1,6 @@
 //! The items that the lines of a pattern spell.
 ghost use Rattle.std.specs.Prelude.{◌≡◌, ◌+◌, ◌<◌, ◌^◌, ◌++◌, [], map, IfOk, OnOk};
-ghost use Rattle.fluent_syntax_parser.specs.Elements.{bare_items, flushed, indent_items, item_shape, kept_place};
+ghost use Rattle.fluent_syntax_parser.specs.Elements.{bare_items, flushed, indent_of, item_shape, kept_place};
 ghost use Rattle.fluent_syntax_parser.specs.Elements.{layout_shape, leading, waiting};
 ghost use Rattle.fluent_syntax_parser.specs.Layouts.{items_with, line_items, with_ending};
 ghost use Rattle.fluent_syntax_parser.specs.Endings.{EndsWithin};
@@ -114,29 +114,29 @@ fn kept_from(common: Option<usize>, start: usize, spaces: usize) -> usize
     }
 }
 
-/// Adds the leading spaces of a line beyond the common indent, where they are a text of their own.
-fn add_indent<T: Drop>(
+/// The leading spaces of a line beyond the common indent, where they are a text of their own.
+fn indent_of<T: Drop>(
     edition: Edition,
     kept: usize,
     first: usize,
     pieces: &[Piece<T>],
-    items: &mut Vec<Item<T>>,
-) -> Result<(), AllocError>
-    ensures { let found = indent_items edition kept first (map piece_shape pieces.now) in
-        OnOk result (map item_shape items.new.items ≡ map item_shape items.old.items ++ found) }
+) -> Option<(usize, usize)>
+    ensures { result ≡ indent_of edition kept first (map piece_shape pieces.now) }
 {
     match pieces.first() {
-        Some(Piece::Placed { .. }) => {
-            if edition == Edition::Two && kept < first {
-                items.push(Item::Text {
-                    from: kept,
-                    to: first,
-                })?;
+        None => None,
+        Some(Piece::Run { .. }) => None,
+        Some(Piece::Placed { .. }) => match edition {
+            Edition::One => None,
+            Edition::Two => {
+                if kept < first {
+                    Some((kept, first))
+                } else {
+                    None
+                }
             }
-        }
-        _ => {}
+        },
     }
-    Ok(())
 }
 
 /// Adds a line that holds nothing, whose leading spaces count from `kept` on.
@@ -185,7 +185,8 @@ fn add_line<T: Drop>(
     if pieces.is_empty() {
         return add_bare_line(kept, ending, items);
     }
-    add_indent(edition, kept, start + spaces, &pieces, items)?;
+    let indent = indent_of(edition, kept, start + spaces, &pieces);
+    add_waiting(indent, items)?;
     add_pieces(Some(kept), pieces, ending, items)
 }
 

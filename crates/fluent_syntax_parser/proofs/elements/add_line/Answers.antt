@@ -1,10 +1,9 @@
-use Rattle.std.proofs.Common.{◌≡◌, ◌+◌, List, [], ◌++◌, append_assoc, arith, length, map, ap, ◌∙◌, Some}
+use Rattle.std.proofs.Common.{◌≡◌, ◌+◌, ◌++◌, arith, length, map, ap, ◌∙◌, Some}
 use Rattle.std.specs.Prelude.{◌==◌, vec_len}
 use Rattle.std.proofs.lemmas.Result.{IfOk-equal}
-use Rattle.fluent_syntax_parser.specs.Elements.{indent_items, item_shape, leading}
+use Rattle.fluent_syntax_parser.specs.Elements.{flushed, indent_of, item_shape, leading}
 use Rattle.fluent_syntax_parser.specs.Layouts.{with_ending}
 use Rattle.fluent_syntax_parser.specs.Lines.{ending_view, line_shape, piece_shape}
-use Rattle.fluent_syntax_parser.specs.declared.line.Piece.{Piece}
 use Rattle.fluent_syntax_parser.proofs.Names.{none_named, some_named}
 use Rattle.fluent_syntax_parser.proofs.Waiting.{bare_line, full_line, none_mapped}
 use Rattle.fluent_syntax_parser.proofs.elements.add_line.Goals as goal
@@ -25,13 +24,11 @@ returns g c =
     let some = some_named l.pieces.items (c.if-is_empty.ensures ∙ ap (λ n. n == 0) size) in
     let old = map item_shape c.args.items.now.items in
     let kept = c.kept_from-kept.result in
-    let ps = map piece_shape l.pieces.items in
-    let before = λ (ps : List (Piece g.row.T.Denot)).
-        indent_items c.args.edition kept (l.start + l.spaces) (map piece_shape ps) in
-    let line = with_ending (leading (Some kept) ps) (ending_view l.ending) in
+    let line = with_ending (leading (Some kept) (map piece_shape l.pieces.items)) (ending_view l.ending) in
+    let indent =
+    c.indent_of-indent.ensures
+    ∙ ap (λ ps. indent_of c.args.edition kept (l.start + l.spaces) (map piece_shape ps)) c.deref.ensures.value in
     IfOk-equal c.add_pieces.result _ _ _ c.add_pieces.ensures
-    (ap (λ xs. xs ++ line) (c.in_ok-add_indent.ensures ∙ ap (λ ps. old ++ before ps) c.deref.ensures.value)
-    ∙ append_assoc old (before l.pieces.items) line
-    ∙ ap (λ xs. old ++ xs)
-    (full_line c.args.edition c.args.common (line_shape l) kept c.kept_from-kept.ensures
-    (λ e. some (none_mapped piece_shape l.pieces.items e))))
+    (ap (λ xs. xs ++ line) (c.in_ok-add_waiting.ensures ∙ ap (flushed old) indent)
+    ∙ full_line c.args.edition c.args.common (line_shape l) kept c.kept_from-kept.ensures old
+    (λ e. some (none_mapped piece_shape l.pieces.items e)))

@@ -36,7 +36,7 @@ loop-piece-preserved g c =
     let e = c.in-Placed.expression in
     let found : map piece_shape (into_iter_items old.piece-iterator) ≡ placed e ∷ rest =
     ap (map piece_shape) c.in-Some.ensures.steps.0 ∙ ap (λ p. piece_shape p ∷ rest) c.in-Placed.is in
-    let added : map item_shape c.push-in-Placed.new.self.items ≡ flushed xs old.pending ++ filled e ∷ [] =
+    let added : map item_shape c.push.new.self.items ≡ flushed xs old.pending ++ filled e ∷ [] =
     map_added item_shape _ _ _ (filled e) c.in_ok-push-in-Placed.ensures.items refl
     ∙ ap (λ ys. ys ++ filled e ∷ []) c.in_ok-add_waiting.ensures in
     record {
