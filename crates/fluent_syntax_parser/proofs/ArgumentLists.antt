@@ -1,5 +1,6 @@
 -- The next argument of a list, by what stands there.
-use Rattle.std.proofs.Common.{◌≡◌, ℕ, ◌+◌, ◌≤◌, ◌<◌, true, false, List, [], ◌∷◌, ◌++◌, length, map, Option, Some, None, refl}
+use Rattle.std.proofs.Common.{◌≡◌, ℕ, ◌+◌, ◌≤◌, ◌<◌, true, false, List, [], ◌∷◌, ◌++◌, length, map, Option, Some, None}
+use Rattle.std.proofs.Common.{refl}
 use Rattle.std.proofs.Common.{sym, ap, ◌∙◌, subst, inl, inr}
 use Rattle.std.specs.Prelude.{◌==◌, ◌⊎◌, slice_get}
 use Rattle.std.proofs.lemmas.List.{map-append}
@@ -17,7 +18,8 @@ use Rattle.fluent_syntax_tree.specs.declared.ast.NamedArgument.{NamedArgument, r
 use Rattle.fluent_syntax_tree.specs.declared.spans.Span.{Span}
 use Rattle.fluent_syntax_grammar.specs.Arguments as rules
 use Rattle.fluent_syntax_grammar.specs.Arguments.{Argument, add_argument, argument_name, argument_rest, argument_value}
-use Rattle.fluent_syntax_grammar.specs.Arguments.{is_used, named_rest, next_argument, next_argument_at, more_arguments, positional_rest}
+use Rattle.fluent_syntax_grammar.specs.Arguments.{is_used, named_rest, next_argument, next_argument_at, more_arguments}
+use Rattle.fluent_syntax_grammar.specs.Arguments.{positional_rest}
 use Rattle.fluent_syntax_grammar.specs.Arguments.{separator}
 use Rattle.fluent_syntax_grammar.specs.Bytes.{colon, right_parenthesis}
 use Rattle.fluent_syntax_grammar.specs.Construct.{Outcome, Read, Refused, ◌>>=◌, gives, at_each, goes_on, given}

@@ -49,7 +49,8 @@ no_argument_name (inline_placeable e) h = refl
 -- the name of a message reference, and where it ends
 module _ (t : List ℕ) (i : ℕ) where
   abbrev Named : InlineTree Span → Type 0
-  Named e = is_name e ≡ true → (name : Span) × (end : ℕ) × identifier t i (Read name end) × (argument_name e ≡ Some name)
+  Named e = is_name e ≡ true → (name : Span) × (end : ℕ) × identifier t i (Read name end) ×
+      (argument_name e ≡ Some name)
 
   gives_same : {A : Type 0} {a b : A} {i j : ℕ} → gives a i (Read b j) → b ≡ a
   gives_same given = refl

@@ -14,12 +14,14 @@ module _ {S X : Type 0} (v : S → X) (t : List ℕ) where
   before_some y x (z ∷ xs) = refl
 
   -- what stays ends the list
-  cut_stays : (xs : List (layouts.Item (ExpressionTree X))) (x : layouts.Item (ExpressionTree X)) → stays t x ≡ true → cut t (xs ++ x ∷ []) ≡ xs ++ x ∷ []
+  cut_stays : (xs : List (layouts.Item (ExpressionTree X))) (x : layouts.Item (ExpressionTree X)) → stays t x ≡ true →
+      cut t (xs ++ x ∷ []) ≡ xs ++ x ∷ []
   cut_stays [] x e = rw e refl
   cut_stays (y ∷ xs) x e = ap (cut_before t y) (cut_stays xs x e) ∙ before_some y x xs
 
   -- what falls is dropped
-  cut_falls : (xs : List (layouts.Item (ExpressionTree X))) (x : layouts.Item (ExpressionTree X)) → stays t x ≡ false → cut t (xs ++ x ∷ []) ≡ cut t xs
+  cut_falls : (xs : List (layouts.Item (ExpressionTree X))) (x : layouts.Item (ExpressionTree X)) → stays t x ≡ false →
+      cut t (xs ++ x ∷ []) ≡ cut t xs
   cut_falls [] x e = rw e refl
   cut_falls (y ∷ xs) x e = ap (cut_before t y) (cut_falls xs x e)
 
@@ -27,10 +29,12 @@ module _ {S X : Type 0} (v : S → X) (t : List ℕ) where
     split : map (item_view v) items ≡ map (item_view v) left ++ (item_view v) x ∷ []
     split = ap (map (item_view v)) last ∙ map-append (item_view v) left (x ∷ [])
 
-    pub popped_stays : stays t ((item_view v) x) ≡ true → cut t (map (item_view v) items) ≡ cut t (map (item_view v) all) →
+    pub popped_stays : stays t ((item_view v) x) ≡ true → cut t (map (item_view v) items) ≡ cut t
+        (map (item_view v) all) →
         cut t (map (item_view v) all) ≡ map (item_view v) left ++ (item_view v) x ∷ []
     popped_stays e same = sym same ∙ ap (cut t) split ∙ cut_stays (map (item_view v) left) ((item_view v) x) e
 
-    pub popped_falls : stays t ((item_view v) x) ≡ false → cut t (map (item_view v) items) ≡ cut t (map (item_view v) all) →
+    pub popped_falls : stays t ((item_view v) x) ≡ false → cut t (map (item_view v) items) ≡ cut t
+        (map (item_view v) all) →
         cut t (map (item_view v) left) ≡ cut t (map (item_view v) all)
     popped_falls e same = sym (cut_falls (map (item_view v) left) ((item_view v) x) e) ∙ ap (cut t) (sym split) ∙ same

@@ -14,7 +14,8 @@ use Rattle.fluent_syntax_grammar.specs.Layout as layout
 use Rattle.fluent_syntax_grammar.specs.Layout.{Ending, lf_at, crlf_at, text_end, least}
 use Rattle.fluent_syntax_parser.specs.Layouts.{Piece, Line, Layout, Item, text, filled, counted, counted_spaces}
 use Rattle.fluent_syntax_parser.specs.Layouts.{with_ending, kept_from, indented, items_from, line_items, opening_items}
-use Rattle.fluent_syntax_parser.specs.Layouts.{items_with, stays, cut, cut_before, piece_of, line_of, layout_of, item_of}
+use Rattle.fluent_syntax_parser.specs.Layouts.{items_with, stays, cut, cut_before, piece_of, line_of, layout_of}
+use Rattle.fluent_syntax_parser.specs.Layouts.{item_of}
 
 module _ {X : Type 0} (f : Span → X) where
   counted_of : (edition : Edition) (spaces : ℕ) (ps : List layout.Piece) →

@@ -200,7 +200,8 @@ impl<'s, 't, M: MakeTexts> Reader<'s, 't, M> {
         requires blank { InlineBlank self.now.source.bytes.now ptr start }
         ensures meets { let t = self.now.source.bytes.now in
             Makes t (option_map (pattern_map (M.source self.now.texts.now)))
-            (pattern self.now.edition t (within self.now.edition t nesting)) (option_map (pattern_view M.made)) ptr result }
+            (pattern self.now.edition t (within self.now.edition t nesting)) (option_map (pattern_view M.made)) ptr
+            result }
         ensures within { IfOk result (λ read. (ptr ≤ read.1) × (read.1 ≤ length self.now.source.bytes.now)) }
     {
         let (layout, end) = self.get_layout(nesting, start)?;
@@ -219,7 +220,8 @@ impl<'s, 't, M: MakeTexts> Reader<'s, 't, M> {
         requires { ptr ≤ length self.now.source.bytes.now }
         ensures meets { let t = self.now.source.bytes.now in
             Makes t (option_map (pattern_map (M.source self.now.texts.now)))
-            (pattern self.now.edition t (within self.now.edition t nesting)) (option_map (pattern_view M.made)) ptr result }
+            (pattern self.now.edition t (within self.now.edition t nesting)) (option_map (pattern_view M.made)) ptr
+            result }
         ensures within { IfOk result (λ read. (ptr ≤ read.1) × (read.1 ≤ length self.now.source.bytes.now)) }
     {
         let start = self.source.skip_blank_inline(ptr);

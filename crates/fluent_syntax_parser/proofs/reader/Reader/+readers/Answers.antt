@@ -108,7 +108,8 @@ get_term_reference-returns-in_err-attribute-clause-meets g m c =
     (goes_on c.in_ok-end.ensures.meets
     (stops (c.in_err-attribute.ensures.meets k from to h))))))
 
-pub get_term_reference-returns-in_err-arguments-clause-meets : goal.get_term_reference-returns-in_err-arguments-clause-meets
+pub get_term_reference-returns-in_err-arguments-clause-meets :
+    goal.get_term_reference-returns-in_err-arguments-clause-meets
 get_term_reference-returns-in_err-arguments-clause-meets g m c =
     let t = c.args.self.now.source.bytes.now in
     let p = err_from_is_err_and c.from_residual-in_err-arguments.result c.from_residual-in_err-arguments.ensures.1 in
@@ -167,21 +168,25 @@ get_inline_expression-returns-in_err-expression-in-Brace-clause-meets g m c =
     (fails_seen (inline_of t _) starts.brace c.in-Brace.ensures
     (fails_first c.in_err-expression-in-Brace.ensures.meets))
 
-pub get_inline_expression-returns-in_ok-value-in-Quote-2-clause-meets : goal.get_inline_expression-returns-in_ok-value-in-Quote-2-clause-meets
+pub get_inline_expression-returns-in_ok-value-in-Quote-2-clause-meets :
+    goal.get_inline_expression-returns-in_ok-value-in-Quote-2-clause-meets
 get_inline_expression-returns-in_ok-value-in-Quote-2-clause-meets g m c =
     made
     (by_start c.args.self.now.source.bytes.now _ _ starts.quote _ c.in-Quote.ensures
     (goes_on c.in_ok-value-in-Quote.ensures.meets
     given))
-    (view-StringLiteral g.M.MakeTexts.made c.in_ok-value-in-Quote-2.value ∙ ap string_literal c.in_ok-value-in-Quote-2.ensures)
+    (view-StringLiteral g.M.MakeTexts.made c.in_ok-value-in-Quote-2.value ∙ ap string_literal
+    c.in_ok-value-in-Quote-2.ensures)
 
-pub get_inline_expression-returns-in_ok-value-in-Digit-clause-meets : goal.get_inline_expression-returns-in_ok-value-in-Digit-clause-meets
+pub get_inline_expression-returns-in_ok-value-in-Digit-clause-meets :
+    goal.get_inline_expression-returns-in_ok-value-in-Digit-clause-meets
 get_inline_expression-returns-in_ok-value-in-Digit-clause-meets g m c =
     made
     (by_number c.args.self.now.source.bytes.now _ _ c.start.result _ c.in-Digit.is c.start.ensures
     (goes_on c.in_ok-end-in-Digit.ensures.meets
     given))
-    (view-NumberLiteral g.M.MakeTexts.made c.in_ok-value-in-Digit.value ∙ ap number_literal c.in_ok-value-in-Digit.ensures)
+    (view-NumberLiteral g.M.MakeTexts.made c.in_ok-value-in-Digit.value ∙ ap number_literal
+    c.in_ok-value-in-Digit.ensures)
 
 pub get_term_reference-returns-clause-meets : goal.get_term_reference-returns-clause-meets
 get_term_reference-returns-clause-meets g m c =
@@ -195,14 +200,16 @@ get_term_reference-returns-clause-meets g m c =
     (view-TermReference g.M.MakeTexts.made c.in_ok-id.id c.in_ok-attribute-2.attribute c.in_ok-arguments.arguments
     ∙ rw (c.in_ok-id.ensures, c.in_ok-attribute-2.ensures, same) refl))
 
-pub get_inline_expression-returns-in_ok-id-in-Dollar-clause-meets : goal.get_inline_expression-returns-in_ok-id-in-Dollar-clause-meets
+pub get_inline_expression-returns-in_ok-id-in-Dollar-clause-meets :
+    goal.get_inline_expression-returns-in_ok-id-in-Dollar-clause-meets
 get_inline_expression-returns-in_ok-id-in-Dollar-clause-meets g m c =
     made
     (by_start c.args.self.now.source.bytes.now _ _ starts.dollar _ c.in-Dollar.ensures
     (goes_on c.in_ok-start-in-Dollar.ensures.meets
     (goes_on c.in_ok-end-in-Dollar.ensures.meets
     given)))
-    (view-VariableReference g.M.MakeTexts.made c.in_ok-id-in-Dollar.id ∙ ap variable_reference c.in_ok-id-in-Dollar.ensures)
+    (view-VariableReference g.M.MakeTexts.made c.in_ok-id-in-Dollar.id ∙ ap variable_reference
+    c.in_ok-id-in-Dollar.ensures)
 
 pub get_reference-returns-clause-meets : goal.get_reference-returns-clause-meets
 get_reference-returns-clause-meets g m c =
@@ -210,7 +217,8 @@ get_reference-returns-clause-meets g m c =
     referred c.args.self.now.source.bytes.now _ _ _ _ _ (c.get_named_reference.ensures.meets a same) c.requires.starts
     c.in_ok-end.ensures.meets read (functional_within c.args.self.now.edition c.args.self.now.source.bytes.now _))
 
-pub get_inline_expression-returns-in_ok-expression-in-Brace-2-clause-meets : goal.get_inline_expression-returns-in_ok-expression-in-Brace-2-clause-meets
+pub get_inline_expression-returns-in_ok-expression-in-Brace-2-clause-meets :
+    goal.get_inline_expression-returns-in_ok-expression-in-Brace-2-clause-meets
 get_inline_expression-returns-in_ok-expression-in-Brace-2-clause-meets g m c =
     on_made c.in_ok-expression-in-Brace.ensures.meets (λ a read same. made
     (by_start c.args.self.now.source.bytes.now _ _ starts.brace _ c.in-Brace.ensures
@@ -276,7 +284,8 @@ get_expression-returns-in_err-expression-clause-meets g m c =
     let p = err_from_is_err_and c.from_residual.result c.from_residual.ensures.1 in
     rw (p.1, p.2) (fails_first c.in_err-expression.ensures.meets)
 
-pub get_expression-returns-then-is_term_attribute-clause-meets : goal.get_expression-returns-then-is_term_attribute-clause-meets
+pub get_expression-returns-then-is_term_attribute-clause-meets :
+    goal.get_expression-returns-then-is_term_attribute-clause-meets
 get_expression-returns-then-is_term_attribute-clause-meets g m c =
     on_made c.in_ok-expression.ensures.meets (λ e read same. refused (λ k from to (a, b, d). rw (a, b, d)
     (goes_on read
@@ -327,7 +336,8 @@ get_expression-returns-in_err-ptr-in-None-clause-meets g m c =
     (goes_on (passed c.skip_blank_inline-ptr.ensures.blank)
     (stops (c.in_err-ptr-in-None.ensures.meets k from to h))))))))))))
 
-pub get_expression-returns-in_err-variants-in-None-clause-meets : goal.get_expression-returns-in_err-variants-in-None-clause-meets
+pub get_expression-returns-in_err-variants-in-None-clause-meets :
+    goal.get_expression-returns-in_err-variants-in-None-clause-meets
 get_expression-returns-in_err-variants-in-None-clause-meets g m c =
     let t = c.args.self.now.source.bytes.now in
     let is = c.in-None.ensures t c.skip_blank-ptr.result in
@@ -348,7 +358,8 @@ get_expression-returns-in_err-variants-in-None-clause-meets g m c =
     (fails_next (functional_blank t) (passed c.skip_blank-ptr-in-None.ensures.blank)
     c.in_err-variants-in-None.ensures.meets)))))))))))
 
-pub get_expression-returns-in_ok-variants-in-None-clause-meets : goal.get_expression-returns-in_ok-variants-in-None-clause-meets
+pub get_expression-returns-in_ok-variants-in-None-clause-meets :
+    goal.get_expression-returns-in_ok-variants-in-None-clause-meets
 get_expression-returns-in_ok-variants-in-None-clause-meets g m c =
     let is = c.in-None.ensures c.args.self.now.source.bytes.now c.skip_blank-ptr.result in
     on_made c.in_ok-expression.ensures.meets (λ e read same.
@@ -370,7 +381,8 @@ get_expression-returns-in_ok-variants-in-None-clause-meets g m c =
 
 -- ---- the arguments of a reference
 
-pub get_call_arguments-returns-then-not-bracket-clause-meets : goal.get_call_arguments-returns-then-not-bracket-clause-meets
+pub get_call_arguments-returns-then-not-bracket-clause-meets :
+    goal.get_call_arguments-returns-then-not-bracket-clause-meets
 get_call_arguments-returns-then-not-bracket-clause-meets g m c =
     made
     (goes_on (passed c.skip_blank-start.ensures.blank)
@@ -418,7 +430,8 @@ get_argument_value-returns-in_err-value-in-Quote-clause-meets g m c =
     rw (p.1, p.2)
     (value_fails t _ c.args.ptr c.start.result c.in-Quote.is c.start.ensures c.in_err-value-in-Quote.ensures.meets)
 
-pub get_argument_value-returns-in_ok-value-in-Quote-clause-meets : goal.get_argument_value-returns-in_ok-value-in-Quote-clause-meets
+pub get_argument_value-returns-in_ok-value-in-Quote-clause-meets :
+    goal.get_argument_value-returns-in_ok-value-in-Quote-clause-meets
 get_argument_value-returns-in_ok-value-in-Quote-clause-meets g m c =
     on_made c.in_ok-value-in-Quote.ensures.meets (λ e read same. made
     (by_value c.args.self.now.source.bytes.now _ c.args.ptr c.start.result _ c.in-Quote.is c.start.ensures read)
@@ -466,7 +479,8 @@ get_arguments-returns-then-has-clause-meets g m c =
 pub get_arguments-skip_blank-start-requires : goal.get_arguments-skip_blank-start-requires
 get_arguments-skip_blank-start-requires g m c = grind (arith, gets)
 
-pub get_arguments-returns-in_err-value-in-Some-clause-meets : goal.get_arguments-returns-in_err-value-in-Some-clause-meets
+pub get_arguments-returns-in_err-value-in-Some-clause-meets :
+    goal.get_arguments-returns-in_err-value-in-Some-clause-meets
 get_arguments-returns-in_err-value-in-Some-clause-meets g m c =
     let t = c.args.self.now.source.bytes.now in
     let names = c.loop-noted.noted.names.items in
@@ -493,7 +507,8 @@ get_arguments-returns-clause-meets g m c =
       named = c.loop-noted.named;
     }) in
     on_made (all_arguments c.args.self.now.source.bytes.now _ _ _ _ _ _ _ _ _ c.loop-noted.invariant.gathered
-    (list_closed c.args.self.now.source.bytes.now _ _ _ (sym c.loop-noted-test.ensures))) (λ a read same. made read (whole ∙ same))
+    (list_closed c.args.self.now.source.bytes.now _ _ _ (sym c.loop-noted-test.ensures))) (λ a read same. made read
+    (whole ∙ same))
 
 pub get_arguments-loop-noted-preserved-then-is_byte_at : goal.get_arguments-loop-noted-preserved-then-is_byte_at
 get_arguments-loop-noted-preserved-then-is_byte_at g m c =
@@ -514,7 +529,8 @@ get_arguments-loop-noted-preserved-then-is_byte_at g m c =
           );
       within = c.skip_separator-place.ensures.within.1;
       gathered =
-          one_named t _ _ g.M.MakeTexts.made _ (functional_within c.args.self.now.edition t _) _ _ _ old.noted.names.items
+          one_named t _ _ g.M.MakeTexts.made _ (functional_within c.args.self.now.edition t _) _ _ _
+          old.noted.names.items
           old.invariant.gathered (omega (arith, c.if-place-self.false, old.invariant.within))
           (sym c.loop-noted-test.ensures) e _ read added c.in-Some.name
           (sym (c.in-Some.ensures c.args.nesting _ e read same)) (sym c.if-is_byte_at.ensures) new
@@ -562,7 +578,8 @@ get_arguments-loop-noted-preserved g m c =
           );
       within = c.skip_separator-place-in_default.ensures.within.1;
       gathered =
-          one_positional t _ _ g.M.MakeTexts.made _ (functional_within c.args.self.now.edition t _) _ _ _ old.noted.names.items
+          one_positional t _ _ g.M.MakeTexts.made _ (functional_within c.args.self.now.edition t _) _ _ _
+          old.noted.names.items
           old.invariant.gathered (omega (arith, c.if-place-self.false, old.invariant.within))
           (sym c.loop-noted-test.ensures) e _ read is none c.in_ok-expression.expression same _
           c.in_ok-push-in_default.ensures.items _ c.skip_separator-place-in_default.ensures.meets;
@@ -768,7 +785,8 @@ get_variants-loop-starred-preserved g m c =
       within = c.skip_blank-place.ensures.within;
       gathered =
           variant_made g.M.MakeTexts.made _ _ new c.in_ok-push.ensures.items old.invariant.gathered
-          (functional_next_variant c.args.self.now.edition t _ (functional_within c.args.self.now.edition t _) old.starred)
+          (functional_next_variant c.args.self.now.edition t _ (functional_within c.args.self.now.edition t _)
+          old.starred)
           (variant (key_view (λ s. s) c.in_ok-key.key) value c.take_byte_if-star.result.0) _
           (goes_on c.take_byte_if-star.ensures.meets
           (goes_on (second (one_false _ _ c.else-starred.either) given)
@@ -788,19 +806,22 @@ get_variants-loop-starred-preserved g m c =
 
 pub get_pieces-returns-in-None-clause-meets : goal.get_pieces-returns-in-None-clause-meets
 get_pieces-returns-in-None-clause-meets g m c =
-    all_made (piece_view g.M.MakeTexts.made) _ c.loop-pieces.invariant.gathered (end_pieces c.args.self.now.source.bytes.now
+    all_made (piece_view g.M.MakeTexts.made) _ c.loop-pieces.invariant.gathered (end_pieces
+    c.args.self.now.source.bytes.now
     (within c.args.self.now.edition c.args.self.now.source.bytes.now c.args.nesting) _ (sym c.in-None.ensures))
 
 pub get_pieces-returns-then-is_eol_at-clause-meets : goal.get_pieces-returns-then-is_eol_at-clause-meets
 get_pieces-returns-then-is_eol_at-clause-meets g m c =
     all_made (piece_view g.M.MakeTexts.made) _ c.loop-pieces.invariant.gathered
-    (no_pieces c.args.self.now.source.bytes.now (within c.args.self.now.edition c.args.self.now.source.bytes.now c.args.nesting) _ _
+    (no_pieces c.args.self.now.source.bytes.now (within c.args.self.now.edition c.args.self.now.source.bytes.now
+    c.args.nesting) _ _
     (sym c.in-Some.ensures) (λ e. cc) (sym c.if-is_eol_at.ensures))
 
 pub get_pieces-returns-then-byte-eq125-clause-meets : goal.get_pieces-returns-then-byte-eq125-clause-meets
 get_pieces-returns-then-byte-eq125-clause-meets g m c =
     item_fails c.loop-pieces.invariant.gathered.behind (refused (λ k from to (a, b, d). rw (a, b, d)
-    (bare_brace c.args.self.now.source.bytes.now (within c.args.self.now.edition c.args.self.now.source.bytes.now c.args.nesting) _ _
+    (bare_brace c.args.self.now.source.bytes.now (within c.args.self.now.edition c.args.self.now.source.bytes.now
+    c.args.nesting) _ _
     (sym c.in-Some.ensures) (sym c.if-is_eol_at.ensures)
     c.if-byte-eq125.true)))
 
@@ -810,7 +831,8 @@ get_pieces-returns-in_err-expression-in-Some-clause-meets g m c =
     let p = err_from_is_err_and c.from_residual.result c.from_residual.ensures.1 in
     rw (p.1, p.2)
     (item_fails c.loop-pieces.invariant.gathered.behind
-    (placed_fails c.args.self.now.source.bytes.now (within c.args.self.now.edition c.args.self.now.source.bytes.now c.args.nesting) _ _
+    (placed_fails c.args.self.now.source.bytes.now (within c.args.self.now.edition c.args.self.now.source.bytes.now
+    c.args.nesting) _ _
     (sym c.in-Some.ensures) (sym c.if-is_eol_at.ensures)
     c.if-byte-eq123.true (fails_first c.in_err-expression-in-Some.ensures.meets)))
 
@@ -822,7 +844,8 @@ get_pieces-loop-pieces-preserved-then-byte-eq123 g m c =
       forward = omega (arith, c.loop-pieces.invariant.forward, read.within.0);
       within = read.within.1;
       gathered =
-          item_made (piece_view g.M.MakeTexts.made) _ _ _ c.in_ok-push-in-Some.ensures.items c.loop-pieces.invariant.gathered
+          item_made (piece_view g.M.MakeTexts.made) _ _ _ c.in_ok-push-in-Some.ensures.items
+          c.loop-pieces.invariant.gathered
           (functional_next_piece t (within c.args.self.now.edition t c.args.nesting)
           (functional_within c.args.self.now.edition t _)) _
           (placed_piece t (within c.args.self.now.edition t c.args.nesting) _ _ (sym c.in-Some.ensures)
@@ -838,7 +861,8 @@ get_pieces-loop-pieces-preserved g m c =
       forward = omega (arith, c.loop-pieces.invariant.forward, run.forward);
       within = c.run_end-to.ensures.within;
       gathered =
-          item_made (piece_view g.M.MakeTexts.made) _ _ _ c.in_ok-push-in-Some-2.ensures.items c.loop-pieces.invariant.gathered
+          item_made (piece_view g.M.MakeTexts.made) _ _ _ c.in_ok-push-in-Some-2.ensures.items
+          c.loop-pieces.invariant.gathered
           (functional_next_piece t (within c.args.self.now.edition t c.args.nesting)
           (functional_within c.args.self.now.edition t _)) _
           (run_piece t (within c.args.self.now.edition t c.args.nesting) _ _ (sym c.in-Some.ensures)
@@ -884,7 +908,8 @@ get_lines-returns-in-None-eol_end-clause-meets g m c =
     let read = line_read t (within c.args.self.now.edition t c.args.nesting) _ _ blank _ _ _ _ there
     (ends_text t _ none) in
     all_made (line_view g.M.MakeTexts.made) _
-    (item_made (line_view g.M.MakeTexts.made) _ _ _ c.in_ok-push-in-None-eol_end.ensures.items c.loop-lines.invariant.gathered
+    (item_made (line_view g.M.MakeTexts.made) _ _ _ c.in_ok-push-in-None-eol_end.ensures.items
+    c.loop-lines.invariant.gathered
     (functional_next_line t (within c.args.self.now.edition t c.args.nesting)
     (functional_within c.args.self.now.edition t _)) _
     (own_line blank (sym c.in-Some.ensures) (sym c.if-not-belongs.ensures) (goes_on read given)) (rw same refl))
@@ -903,7 +928,8 @@ get_lines-loop-lines-preserved g m c =
       forward = omega (arith, c.loop-lines.invariant.forward, blank.forward, pieces.within.0, eol.within.0);
       within = eol.within.1;
       gathered =
-          item_made (line_view g.M.MakeTexts.made) _ _ _ c.in_ok-push-in-Some-eol_end.ensures.items c.loop-lines.invariant.gathered
+          item_made (line_view g.M.MakeTexts.made) _ _ _ c.in_ok-push-in-Some-eol_end.ensures.items
+          c.loop-lines.invariant.gathered
           (functional_next_line t (within c.args.self.now.edition t c.args.nesting)
           (functional_within c.args.self.now.edition t _)) _
           (own_line blank (sym c.in-Some.ensures) (sym c.if-not-belongs.ensures) (goes_on read given))
@@ -1070,7 +1096,8 @@ get_pieces-loop-pieces-smaller g m c =
     let longer = further (is_run_place t) c.loop-pieces.place c.run_end-to.result run there in
     omega (arith, longer, c.run_end-to.ensures.within)
 
-pub get_lines-invariant_of-push-in-Some-eol_end-clause-ends : goal.get_lines-invariant_of-push-in-Some-eol_end-clause-ends
+pub get_lines-invariant_of-push-in-Some-eol_end-clause-ends :
+    goal.get_lines-invariant_of-push-in-Some-eol_end-clause-ends
 get_lines-invariant_of-push-in-Some-eol_end-clause-ends g m c = c.ending_at-ending.ensures.ends
 
 pub get_expression-overflow_add-ptr : goal.get_expression-overflow_add-ptr

@@ -10,7 +10,8 @@ returns-in-None g c =
     let t = c.args.self.now.source.bytes.now in
     λ n end e read same.
     let is : is_name e ≡ true =
-    sym (same_name _ e) ∙ ap is_name (sym same) ∙ rw arm.is (name_of_reference g.M.MakeTexts.made arm.id arm.attribute c.in-None.is) in
+    sym (same_name _ e) ∙ ap is_name (sym same) ∙ rw arm.is (name_of_reference g.M.MakeTexts.made arm.id arm.attribute
+    c.in-None.is) in
     let found = name_read t c.args.place (within c.args.self.now.edition t n) e end read is in
     c.name_at.ensures found.0 found.1 found.2 ∙ sym found.3
 
@@ -19,7 +20,8 @@ returns-in-Some g c =
     let arm = c.in-MessageReference in
     λ n end e read same.
     let is : is_name e ≡ false =
-    sym (same_name _ e) ∙ ap is_name (sym same) ∙ rw arm.is (no_name_of_attribute g.M.MakeTexts.made arm.id arm.attribute _ c.in-Some.is) in
+    sym (same_name _ e) ∙ ap is_name (sym same) ∙ rw arm.is (no_name_of_attribute g.M.MakeTexts.made arm.id
+    arm.attribute _ c.in-Some.is) in
     sym (no_argument_name e is)
 
 pub returns-in_default : goal.returns-in_default

@@ -8,6 +8,8 @@ use Rattle.fluent_syntax_parser.proofs.reader.Reader.followed_elements.Given as 
 abbrev pub invariant-loop-item : goal.invariant-loop-item
 invariant-loop-item g l = record {
   whole :
-      map (element_view g.M.MakeTexts.made) l.elements.items ++ map (element_of (g.M.MakeTexts.source l.self.texts.now)) (map (item_view g.M.MakeTexts.made) (into_iter_items l.item-iterator))
-      ≡ map (element_of (g.M.MakeTexts.source l.self.texts.now)) (map (item_view g.M.MakeTexts.made) (into_iter_items l.initial.item-iterator));
+      map (element_view g.M.MakeTexts.made) l.elements.items ++ map (element_of (g.M.MakeTexts.source
+      l.self.texts.now)) (map (item_view g.M.MakeTexts.made) (into_iter_items l.item-iterator))
+      ≡ map (element_of (g.M.MakeTexts.source l.self.texts.now)) (map (item_view g.M.MakeTexts.made) (into_iter_items
+      l.initial.item-iterator));
 }

@@ -15,7 +15,8 @@ returns-in-None g c =
     let f = g.M.MakeTexts.source c.args.self.now.texts.now in
     let v = g.M.MakeTexts.made in
     let edition = c.args.self.now.edition in
-    let indent : c.common_indent-common.result ≡ least (flat_map (counted edition) (layout_view v c.args.layout).lines) =
+    let indent : c.common_indent-common.result ≡ least (flat_map (counted edition) (layout_view v
+    c.args.layout).lines) =
     c.common_indent-common.ensures
     ∙ ap (λ xs. least (flat_map (counted edition) (map (line_view v) xs))) c.deref.ensures.value in
     λ y same.
@@ -29,7 +30,8 @@ returns-in_ok-push-in-Some g c =
     let f = g.M.MakeTexts.source c.args.self.now.texts.now in
     let v = g.M.MakeTexts.made in
     let edition = c.args.self.now.edition in
-    let indent : c.common_indent-common.result ≡ least (flat_map (counted edition) (layout_view v c.args.layout).lines) =
+    let indent : c.common_indent-common.result ≡ least (flat_map (counted edition) (layout_view v
+    c.args.layout).lines) =
     c.common_indent-common.ensures
     ∙ ap (λ xs. least (flat_map (counted edition) (map (line_view v) xs))) c.deref.ensures.value in
     let found = c.in_ok-elements-in-Some.elements.items in

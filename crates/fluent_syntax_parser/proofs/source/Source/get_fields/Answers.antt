@@ -35,7 +35,8 @@ returns-in_err-attributes-clause-meets c =
     rw (p.1, p.2)
     (fails_next (functional_inline_blank t) (passed c.skip_blank_inline-equals.ensures.blank)
     (fails_next (functional_token t equals_sign) c.in_ok-start.ensures.meets
-    (fails_next (functional_pattern edition t _ (functional_within edition t _)) (as_read same_maybe_pattern c.in_ok-value.ensures.meets)
+    (fails_next (functional_pattern edition t _ (functional_within edition t _)) (as_read same_maybe_pattern
+    c.in_ok-value.ensures.meets)
     (fails_next (functional_blank_block t) (passed c.skip_blank_block-line.ensures.blank)
     (fails_first c.in_err-attributes.ensures.meets)))))
 
