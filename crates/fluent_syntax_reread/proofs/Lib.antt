@@ -1,0 +1,5 @@
+pub mod Back
+pub mod Unmoved
+pub mod Standing
+pub mod Shifting
+pub mod Keeping
