@@ -3,3 +3,4 @@ pub mod Unmoved
 pub mod Standing
 pub mod Shifting
 pub mod Keeping
+pub mod ErrorsTold

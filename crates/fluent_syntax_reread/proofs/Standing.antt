@@ -198,8 +198,7 @@ module _ (edition : Edition) (t : List ℕ) (u : IsUtf8 t) where
       let r = tiles_of (i + p.found.span.end) ps f.seam a.1 in (
         moved_tile i f.own ∷ r.0,
         next f.stands.blank f.stands.inside f.stands.stands r.1,
-        tells_of i p a.0.base f,
-        r.2,
+        (tells_of i p a.0.base f, r.2),
       )
 
   pub first_seam : IsSeam t 0

@@ -1,5 +1,5 @@
 //! Which tiles before a change stay.
-ghost use Rattle.std.specs.Prelude.{◌≡◌, ◌+◌, ◌-◌, ◌<◌, ◌≤◌, drop, length, slice_get, take, IsTrue, true};
+ghost use Rattle.std.specs.Prelude.{◌≡◌, ◌+◌, ◌-◌, ◌<◌, ◌≤◌, ◌&&◌, drop, IfSome, length, slice_get, take, IsTrue, true};
 ghost use Rattle.std.specs.List.{list_all};
 ghost use Rattle.fluent_syntax_tree.specs.Kind.{kind_of};
 ghost use Rattle.fluent_syntax_grammar.specs.Locality.{begins_attribute, begins_comment, ends_or_begins};
@@ -82,13 +82,20 @@ fn lacks_field(kind: &ErrorKind) -> bool
     )
 }
 
+/// Whether an attribute stands where a message or a term without its field broke off.
+fn breaks_at_attribute(rest: &[u8], error: &ParserError) -> bool
+    ensures { result ≡ (lacks_field (kind_of error.now.kind) && begins_attribute (drop error.now.pos.end rest.now)) }
+{
+    lacks_field(&error.kind) && begins_attribute(rest_of(rest, error.pos.end))
+}
+
 /// Whether junk of the rest stays as it is, whatever stands from the place on.
 fn stays_in(rest: &[u8], place: usize, span: Span, error: &ParserError) -> bool
     ensures { result ≡ stays_in rest.now place span (Some error.now) }
 {
     span.end.saturating_add(4) <= place
         && !begins_attribute(rest_of(rest, span.start))
-        && !(lacks_field(&error.kind) && begins_attribute(rest_of(rest, error.pos.end)))
+        && !breaks_at_attribute(rest, error)
 }
 
 /// Whether the tile is no junk or stays as it is, whatever stands from the place on.
@@ -145,6 +152,25 @@ fn stay(old: &[u8], new: &[u8], tiles: &[Placed], from: usize, index: usize, pla
         && all_stay(old, place, &tiles[..index])
 }
 
+/// Where the tile begins, if there is such a place.
+fn begin_of(tile: &Placed) -> Option<usize>
+    ensures { IfSome result (λ place. place ≡ tile.now.base + tile.now.found.span.start) }
+{
+    tile.base.checked_add(tile.found.span.start)
+}
+
+/// Whether the tiles before the tile of that number stay.
+fn stay_before(old: &[u8], new: &[u8], tiles: &[Placed], from: usize, index: usize) -> bool
+    requires some { 0 < index }
+    requires within { index < length tiles.now }
+    ensures { IsTrue result → Keeps old.now new.now from tiles.now index }
+{
+    match begin_of(&tiles[index]) {
+        Some(place) if place <= old.len() => stay(old, new, tiles, from, index, place),
+        _ => false,
+    }
+}
+
 /// How many of the tiles begin to be read at the place or before it.
 fn count_by(tiles: &[Placed], place: usize) -> usize
     ensures { result ≤ length tiles.now }
@@ -167,8 +193,7 @@ pub(crate) fn kept(old: &[u8], new: &[u8], tiles: &[Placed], from: usize) -> usi
             return 0;
         }
         index -= 1;
-        let place = tiles[index].base.saturating_add(tiles[index].found.span.start);
-        if place <= from && place <= old.len() && stay(old, new, tiles, from, index, place) {
+        if stay_before(old, new, tiles, from, index) {
             return index;
         }
     }

@@ -1,7 +1,7 @@
 //! What was read around a change, compared with the new text read whole.
 ghost use Rattle.fluent_syntax_reread.specs.Held.{IsHeld};
 
-use fluent_syntax::parser::Edition;
+use fluent_syntax::parser::{Edition, ParseFault};
 use fluent_syntax::spans::parse_spans;
 use fluent_syntax_reread::Reread;
 use fluent_syntax_reread::placed::Placed;
@@ -45,9 +45,12 @@ pub(crate) fn assert_as_anew(alloc: Global, shows: &str, held: &Reread) -> Resul
     let whole = read_whole(alloc, held.text())?;
     assert_holds(alloc, shows, are_same(held.tiles(), whole.tiles()))?;
     let errors = held.errors(alloc)?;
-    let wanted = match parse_spans(alloc, held.text()) {
-        Ok(_) => return assert_holds(alloc, shows, errors.is_empty()),
-        Err((_, wanted)) => wanted,
-    };
-    assert_holds(alloc, shows, errors == wanted)
+    if held.text().len() == usize::MAX {
+        return Err(Fail::from("too long"));
+    }
+    match parse_spans(alloc, held.text()) {
+        Ok(_) => assert_holds(alloc, shows, errors.is_empty()),
+        Err(ParseFault::Syntax(_, wanted)) => assert_holds(alloc, shows, errors == wanted),
+        Err(ParseFault::Memory) => Err(Fail::from("no memory")),
+    }
 }
