@@ -4,3 +4,4 @@ pub mod Standing
 pub mod Shifting
 pub mod Keeping
 pub mod ErrorsTold
+pub mod Answered

@@ -93,9 +93,10 @@ fn breaks_at_attribute(rest: &[u8], error: &ParserError) -> bool
 fn stays_in(rest: &[u8], place: usize, span: Span, error: &ParserError) -> bool
     ensures { result ≡ stays_in rest.now place span (Some error.now) }
 {
-    span.end.saturating_add(4) <= place
-        && !begins_attribute(rest_of(rest, span.start))
-        && !breaks_at_attribute(rest, error)
+    let early = span.end.saturating_add(4) <= place;
+    let begins = begins_attribute(rest_of(rest, span.start));
+    let breaks = breaks_at_attribute(rest, error);
+    early && (!begins && !breaks)
 }
 
 /// Whether the tile is no junk or stays as it is, whatever stands from the place on.
