@@ -81,7 +81,7 @@ const ROWS: [Row; 20] = [
         "the last of two",
         "a = b\nc = d\n",
         (6, 12, ""),
-        Ok(("a = b\n", 1)),
+        Ok(("a = b\n", 0)),
     ),
     (
         "a line end is away",
@@ -93,7 +93,7 @@ const ROWS: [Row; 20] = [
         "an arrow makes a select of a placeable",
         "a = { $b\nc = d\n",
         (9, 9, "->\n"),
-        Ok(("a = { $b\n->\nc = d\n", 2)),
+        Ok(("a = { $b\n->\nc = d\n", 1)),
     ),
     (
         "too deep",

@@ -1,4 +1,4 @@
-use Rattle.std.proofs.Common.{refl}
+use Rattle.std.proofs.Common.{refl, rules}
 use Rattle.fluent_syntax_reread.specs.Reading.{as_before, nothing}
 use Rattle.fluent_syntax_reread.proofs.reading.read_on.Goals as goal
 
@@ -6,7 +6,7 @@ pub returns-then-meets-clause-reads : goal.returns-then-meets-clause-reads
 returns-then-meets-clause-reads c = record {
   end = c.loop-alloc.place;
   leads = c.loop-alloc.invariant.leads;
-  left = as_before (c.if-meets.ensures c.if-meets.true);
+  left = as_before (c.if-meets.ensures (search rules));
 }
 
 pub returns-in-None-clause-reads : goal.returns-in-None-clause-reads
