@@ -161,12 +161,12 @@ kept_led edition t v place before same l line head new_head settled no_comment l
     in_place {x = x} {y = y} {n = n} e f g =
         let P : List ℕ → List ℕ → ℕ → Type 0 =
         λ x y n. starts_line x n ≡ true → Settled x n before → NoCommentTakes n before (drop place v) →
-            Led x (TileAt edition x) n 0 before → Led y (TileAt edition y) n 0 before in
+        Led x (TileAt edition x) n 0 before → Led y (TileAt edition y) n 0 before in
         subst (λ n. P x y n) g
         (subst (λ y. P x y (length (take place t))) f
         (subst (λ x. P x (take place t ++ drop place v) (length (take place t))) e
         (λ line settled no_comment led. prefix_local edition (take place t) (drop place t) (drop place v) before line
-            head new_head settled no_comment led)))
+        head new_head settled no_comment led)))
 
 module _ (edition : Edition) (t v : List ℕ) (u : IsUtf8 t) (w : IsUtf8 v) where
   seam_line : (i k : ℕ) → LineOrEnd v i → i ≤ k → k < length v → starts_line v i ≡ true
@@ -272,7 +272,7 @@ keeps edition t new from to ps k start u w l a (some_kept m {p = p} e there stay
     let in_new : place ≤ length v = omega arith in
     let comments : NoCommentTakes place led.tiles (drop place v) =
     λ c. stays.no_comment (comment_last place m ps led.tiles p (subst (λ k. slice_get ps k ≡ Some p) next there)
-        (subst (λ k. EachTells (take k ps) led.tiles) next led.each) c) in
+    (subst (λ k. EachTells (take k ps) led.tiles) next led.each) c) in
     let kept = kept_led edition t v place led.tiles same (omega arith) stays.line stays.head stays.new_head
     (settled_tiles t place (take k ps) led.tiles led.each stays.settled) comments led.led in
     let r = kept_on edition t v u w place 0 k ps p led.tiles s (first_seam edition v w) a there (omega arith) in_new

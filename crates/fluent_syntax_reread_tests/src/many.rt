@@ -6,7 +6,18 @@ use std::alloc::Global;
 use std::test::Fail;
 
 const NEW: [&str; 12] = [
-    "", "\n", "x", "#", "-", "}", "{", " .a = b\n", "# c\n", "x = y\n", "\n\n", "-> ",
+    "",
+    "\n",
+    "x",
+    "#",
+    "-",
+    "}",
+    "{",
+    " .a = b\n",
+    "# c\n",
+    "x = y\n",
+    "\n\n",
+    "-> ",
 ];
 
 /// Three changes, one after the other, at places in the text.
