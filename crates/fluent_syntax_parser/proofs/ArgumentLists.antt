@@ -1,18 +1,25 @@
 -- The next argument of a list, by what stands there.
-use Rattle.std.proofs.Common.{◌≡◌, ℕ, ◌+◌, ◌≤◌, ◌<◌, true, false, List, [], ◌∷◌, ◌++◌, length, Option, Some, None, refl}
+use Rattle.std.proofs.Common.{◌≡◌, ℕ, ◌+◌, ◌≤◌, ◌<◌, true, false, List, [], ◌∷◌, ◌++◌, length, map, Option, Some, None}
+use Rattle.std.proofs.Common.{refl}
 use Rattle.std.proofs.Common.{sym, ap, ◌∙◌, subst, inl, inr}
 use Rattle.std.specs.Prelude.{◌==◌, ◌⊎◌, slice_get}
+use Rattle.std.proofs.lemmas.List.{map-append}
 use Rattle.std.proofs.lemmas.Option.{slice_get-get_or, slice_get_past}
 use Rattle.fluent_syntax_tree.specs.Kind.{ExpectedToken, PositionalArgumentFollowsNamed}
 use Rattle.fluent_syntax_tree.specs.Spans.{bytes_at}
-use Rattle.fluent_syntax_tree.specs.Tree.{InlineTree, arguments, no_inlines, no_named}
-use Rattle.fluent_syntax_tree.specs.View.{inline_view}
+use Rattle.fluent_syntax_tree.specs.Tree.{ArgumentsTree, InlineTree, NamedTree, arguments, named_argument}
+use Rattle.fluent_syntax_tree.specs.Tree.{no_inlines, no_named, inlines_of, nameds_of, arguments_map, inline_map}
+use Rattle.fluent_syntax_tree.specs.Tree.{named_map}
+use Rattle.fluent_syntax_tree.specs.View.{inline_view, named_view}
+use Rattle.fluent_syntax_tree.proofs.Views.{view-NamedArgument}
+use Rattle.fluent_syntax_tree.specs.declared.ast.Identifier.{Identifier}
 use Rattle.fluent_syntax_tree.specs.declared.ast.InlineExpression.{InlineExpression}
-use Rattle.fluent_syntax_tree.specs.declared.ast.NamedArgument.{NamedArgument}
+use Rattle.fluent_syntax_tree.specs.declared.ast.NamedArgument.{NamedArgument, roll-NamedArgument}
 use Rattle.fluent_syntax_tree.specs.declared.spans.Span.{Span}
 use Rattle.fluent_syntax_grammar.specs.Arguments as rules
 use Rattle.fluent_syntax_grammar.specs.Arguments.{Argument, add_argument, argument_name, argument_rest, argument_value}
-use Rattle.fluent_syntax_grammar.specs.Arguments.{is_used, named_rest, next_argument, next_argument_at, positional_rest}
+use Rattle.fluent_syntax_grammar.specs.Arguments.{is_used, named_rest, next_argument, next_argument_at, more_arguments}
+use Rattle.fluent_syntax_grammar.specs.Arguments.{positional_rest}
 use Rattle.fluent_syntax_grammar.specs.Arguments.{separator}
 use Rattle.fluent_syntax_grammar.specs.Bytes.{colon, right_parenthesis}
 use Rattle.fluent_syntax_grammar.specs.Construct.{Outcome, Read, Refused, ◌>>=◌, gives, at_each, goes_on, given}
@@ -26,11 +33,13 @@ use Rattle.fluent_syntax_grammar.proofs.Facts.{byte_found}
 use Rattle.fluent_syntax_grammar.proofs.FunctionalRules.{IsFunctionalFamily, functional_inline}
 use Rattle.fluent_syntax_grammar.proofs.FunctionalRules.{functional_next_argument}
 use Rattle.fluent_syntax_parser.specs.Gathered.{names_in}
-use Rattle.fluent_syntax_parser.proofs.GatheredArguments.{put_arguments, put_named, put_positional}
+use Rattle.fluent_syntax_parser.proofs.GatheredArguments.{arguments_mapped, put_arguments, put_named, put_none}
+use Rattle.fluent_syntax_parser.proofs.GatheredArguments.{put_positional, put_whole}
 use Rattle.fluent_syntax_parser.proofs.Names.{names_added}
 use Rattle.fluent_syntax_parser.specs.Meets.{Fails}
 use Rattle.fluent_syntax_parser.specs.declared.fault.ReadFault.{ReadFault}
-use Rattle.fluent_syntax_parser.proofs.Behind.{Behind, one_behind}
+use Rattle.fluent_syntax_parser.specs.Made.{IsMade, made}
+use Rattle.fluent_syntax_parser.proofs.Behind.{Behind, list_read, one_behind}
 use Rattle.fluent_syntax_parser.proofs.Fails.{fails_first, fails_next, fails_no, fails_seen, functional_look}
 
 pub token_there : (t : List ℕ) (b i : ℕ) → has_byte t b i ≡ true → token t b i (Read tt (i + 1))
@@ -107,46 +116,102 @@ module _ (t : List ℕ) (R : Family) where
   late [] e j some = absurd (some refl)
   late (name ∷ names) e j some = failed refl
 
-module _ (t : List ℕ) (R : Family) (h : IsFunctionalFamily R) (ps : List (InlineExpression Span))
-    (ns : List (NamedArgument Span)) (from i : ℕ) where
-  abbrev Gathered : List (InlineExpression Span) → List (NamedArgument Span) → List (List ℕ) → ℕ → Type 0
-  Gathered ps ns names j =
-      Behind t (next_argument t R) add_argument (arguments no_inlines no_named) [] from (put_arguments ps ns) names j
+-- a named argument of these parts
+abbrev pub argument_with : {S : Type 0} → Identifier S → InlineExpression S → NamedArgument S
+argument_with {S = S} name value = roll-NamedArgument S (record { name = name; value = value })
 
-  module _ (gathered : Gathered ps ns (names_in t ns) i) (within : i < length t)
-      (no_end : has_byte t right_parenthesis i ≡ false) (e : InlineExpression Span) (j : ℕ)
-      (read : inline_expression t R i (Read (inline_view (λ s. s) e) j)) where
+-- What was gathered stands for what was read, with f of each text in its place.
+pub record MadeArguments {S X : Type 0} (t : List ℕ) (R : Family) (f : Span → X) (v : S → X) (from : ℕ)
+    (positional : List (InlineExpression S)) (named : List (NamedArgument S)) (names : List (List ℕ)) (j : ℕ) : Type 0
+  where
+    pub ps : List (InlineTree Span)
+    pub ns : List (NamedTree Span)
+    pub same_ps : map (inline_view v) positional ≡ map (inline_map f) ps
+    pub same_ns : map (named_view v) named ≡ map (named_map f) ns
+    pub behind : Behind t (next_argument t R) add_argument (arguments no_inlines no_named) [] from
+        (put_arguments ps ns) names j
+
+module _ {S X : Type 0} (t : List ℕ) (R : Family) (f : Span → X) (v : S → X) (from : ℕ) where
+  none_read : (b : ArgumentsTree Span) (end : ℕ) → more_arguments t R [] from (Read b end) →
+      more_arguments t R [] from (Read (put_arguments [] [] b) end)
+  none_read b end h = subst (λ a. more_arguments t R [] from (Read a end)) (sym (put_none b)) h
+
+  pub no_arguments_yet : MadeArguments t R f v from [] [] [] from
+  no_arguments_yet = record {
+    ps = [];
+    ns = [];
+    same_ps = refl;
+    same_ns = refl;
+    behind = record { read = none_read; fails = λ e h. h };
+  }
+
+  -- the list ends
+  pub all_arguments : (ps : List (InlineExpression S)) (ns : List (NamedArgument S)) (names : List (List ℕ))
+      (j m : ℕ) → MadeArguments t R f v from ps ns names j → next_argument t R names j (Read no_item m) →
+      IsMade (arguments_map f) (more_arguments t R []) from
+      (arguments (inlines_of (map (inline_view v) ps)) (nameds_of (map (named_view v) ns))) m
+  all_arguments ps ns names j m g x =
+      made (list_read (arguments (inlines_of g.ps) (nameds_of g.ns)) m g.behind (put_whole g.ps g.ns) x)
+      (rw (g.same_ps, g.same_ns) (arguments_mapped f g.ps g.ns))
+
+  module _ (h : IsFunctionalFamily R) (ps : List (InlineExpression S)) (ns : List (NamedArgument S)) (i : ℕ)
+      (names : List Span) (g : MadeArguments t R f v from ps ns (names_in t names) i) (within : i < length t)
+      (no_end : has_byte t right_parenthesis i ≡ false) (e : InlineTree Span) (j : ℕ)
+      (read : inline_expression t R i (Read e j)) where
     -- one more named argument
-    pub one_named : (x : NamedArgument Span) → argument_name (inline_view (λ s. s) e) ≡ Some x.name.name →
-        has_byte t colon j ≡ true → is_used (bytes_at t x.name.name) (names_in t ns) ≡ false →
-        (more : List (NamedArgument Span)) → more ≡ ns ++ x ∷ [] → (m end next : ℕ) → Blank t (j + 1) m →
-        at_each (start t) (argument_value t R) m (Read (inline_view (λ s. s) x.value) end) →
-        separator t end (Read tt next) → Gathered ps more (names_in t more) next
-    one_named x is mark new more pushed m end next blank value after =
-        let names : names_in t more ≡ bytes_at t x.name.name ∷ names_in t ns =
-        ap (names_in t) pushed ∙ names_added t ns x in
-        let added = rules.named x.name.name (inline_view (λ s. s) x.value) in
-        subst (λ xs. Gathered ps more xs next) (sym names)
-        (one_behind (put_arguments ps more) added (bytes_at t x.name.name ∷ names_in t ns) next gathered
-        (functional_next_argument t R h (names_in t ns)) (put_named ps ns more x pushed)
-        (named t R (names_in t ns) i within no_end (inline_view (λ s. s) e) j read x.name.name is mark
-        (Read (item added (bytes_at t x.name.name ∷ names_in t ns)) next)
-        (second new
-        (goes_on (token_there t colon j mark)
-        (goes_on (passed blank)
-        (goes_on value
-        (goes_on after given)))))))
+    pub one_named : (x : NamedArgument S) (name : Span) → argument_name e ≡ Some name → has_byte t colon j ≡ true →
+        is_used (bytes_at t name) (names_in t names) ≡ false → v x.name.name ≡ f name →
+        (more : List (NamedArgument S)) → more ≡ ns ++ x ∷ [] → (others : List Span) → others ≡ names ++ name ∷ [] →
+        (m end next : ℕ) → Blank t (j + 1) m → (value : InlineTree Span) →
+        at_each (start t) (argument_value t R) m (Read value end) → inline_view v x.value ≡ inline_map f value →
+        separator t end (Read tt next) → MadeArguments t R f v from ps more (names_in t others) next
+    one_named x name is mark new same more pushed others noted m end next blank value read_value same_value after =
+        let all : names_in t others ≡ bytes_at t name ∷ names_in t names =
+        ap (names_in t) noted ∙ names_added t names name in
+        let added = rules.named name value in
+        let tree : NamedTree Span = named_argument name value in
+        subst (λ xs. MadeArguments t R f v from ps more xs next) (sym all) (record {
+          ps = g.ps;
+          ns = g.ns ++ tree ∷ [];
+          same_ps = g.same_ps;
+          same_ns =
+              ap (map (named_view v)) pushed ∙ map-append (named_view v) ns (x ∷ [])
+              ∙ ap (λ zs. zs ++ named_view v x ∷ []) g.same_ns
+              ∙ ap (λ z. map (named_map f) g.ns ++ z ∷ [])
+              (view-NamedArgument v x ∙ rw (same, same_value) refl)
+              ∙ sym (map-append (named_map f) g.ns (tree ∷ []));
+          behind =
+              one_behind (put_arguments g.ps (g.ns ++ tree ∷ [])) added (bytes_at t name ∷ names_in t names) next
+              g.behind (functional_next_argument t R h (names_in t names)) (put_named g.ps g.ns name value)
+              (named t R (names_in t names) i within no_end e j read name is mark
+              (Read (item added (bytes_at t name ∷ names_in t names)) next)
+              (second new
+              (goes_on (token_there t colon j mark)
+              (goes_on (passed blank)
+              (goes_on read_value
+              (goes_on after given))))));
+        })
 
     -- one more positional argument
-    pub one_positional : (argument_name (inline_view (λ s. s) e) ≡ None) ⊎ (has_byte t colon j ≡ false) → ns ≡ [] →
-        (more : List (InlineExpression Span)) → more ≡ ps ++ e ∷ [] → (next : ℕ) → separator t j (Read tt next) →
-        Gathered more ns (names_in t ns) next
-    one_positional is none more pushed next after =
-        let names : names_in t ns ≡ [] = rw none refl in
-        let added = rules.positional (inline_view (λ s. s) e) in
-        subst (λ xs. Gathered more ns xs next) (sym names)
-        (one_behind (put_arguments more ns) added [] next gathered (functional_next_argument t R h (names_in t ns))
-        (put_positional ps more ns e pushed)
-        (positional t R (names_in t ns) i within no_end (inline_view (λ s. s) e) j read is (Read (item added []) next)
-        (subst (λ xs. positional_rest t xs (inline_view (λ s. s) e) j (Read (item added []) next)) (sym names)
-        (goes_on after given))))
+    pub one_positional : (argument_name e ≡ None) ⊎ (has_byte t colon j ≡ false) → names ≡ [] →
+        (x : InlineExpression S) → inline_view v x ≡ inline_map f e → (more : List (InlineExpression S)) →
+        more ≡ ps ++ x ∷ [] → (next : ℕ) → separator t j (Read tt next) →
+        MadeArguments t R f v from more ns (names_in t names) next
+    one_positional is none x same more pushed next after =
+        let all : names_in t names ≡ [] = rw none refl in
+        let added = rules.positional e in
+        subst (λ xs. MadeArguments t R f v from more ns xs next) (sym all) (record {
+          ps = g.ps ++ e ∷ [];
+          ns = g.ns;
+          same_ps =
+              ap (map (inline_view v)) pushed ∙ map-append (inline_view v) ps (x ∷ [])
+              ∙ ap (λ zs. zs ++ inline_view v x ∷ []) g.same_ps
+              ∙ ap (λ z. map (inline_map f) g.ps ++ z ∷ []) same ∙ sym (map-append (inline_map f) g.ps (e ∷ []));
+          same_ns = g.same_ns;
+          behind =
+              one_behind (put_arguments (g.ps ++ e ∷ []) g.ns) added [] next g.behind
+              (functional_next_argument t R h (names_in t names)) (put_positional g.ps g.ns e)
+              (positional t R (names_in t names) i within no_end e j read is (Read (item added []) next)
+              (subst (λ xs. positional_rest t xs e j (Read (item added []) next)) (sym all)
+              (goes_on after given)));
+        })

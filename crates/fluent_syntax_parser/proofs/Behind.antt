@@ -1,5 +1,6 @@
 -- Lists that a loop gathers: what stands where the loop is, stands where it began, behind what was gathered.
-use Rattle.std.proofs.Common.{◌≡◌, ℕ, List, [], ◌∷◌, ◌++◌, map, ap, subst, sym, ◌∙◌}
+use Rattle.std.proofs.Common.{◌≡◌, ℕ, List, [], ◌∷◌, ◌++◌, append_assoc, map, ap, refl, subst, sym, ◌∙◌}
+use Rattle.std.proofs.lemmas.List.{map-append}
 use Rattle.fluent_syntax_grammar.specs.Construct.{Construct, Read, More, no_item, item, many, list_ends, list_stops}
 use Rattle.fluent_syntax_grammar.specs.Construct.{item_and_more, list_of, stops_later}
 use Rattle.fluent_syntax_grammar.specs.Laws.{IsFunctional}
@@ -7,7 +8,7 @@ use Rattle.fluent_syntax_grammar.proofs.Facts.{append_nothing}
 use Rattle.fluent_syntax_grammar.proofs.Deeper.{deeper_item, deeper_later}
 use Rattle.fluent_syntax_parser.specs.declared.fault.ReadFault.{ReadFault}
 use Rattle.fluent_syntax_parser.specs.Meets.{Fails, refused, too_deep, no_memory}
-use Rattle.fluent_syntax_parser.proofs.Gathers.{map_more}
+use Rattle.fluent_syntax_parser.specs.Made.{IsMade, made}
 
 module _ {A S B : Type 0} (t : List ℕ) (next : S → Construct (More A S)) (add : A → B → B) (none : B) (s : S) (i : ℕ)
   where
@@ -50,20 +51,36 @@ module _ {A S B : Type 0} {t : List ℕ} {next : S → Construct (More A S)} {ad
 
 -- ---- plain lists
 
-abbrev pub BehindItems : {A X : Type 0} → List ℕ → Construct (More A (Unit {0})) → (X → A) → (i : ℕ) → List X →
-    (j : ℕ) → Type 0
-BehindItems t next view i xs j =
-    Behind t (λ u. next) (λ a rest. a ∷ rest) [] tt i (λ more. map view xs ++ more) tt j
+-- What was gathered stands for what was read, with f of each text in its place.
+pub record MadeItems {A B X : Type 0} (t : List ℕ) (next : Construct (More A (Unit {0}))) (f : A → B) (view : X → B)
+    (i : ℕ) (xs : List X) (j : ℕ) : Type 0 where
+  pub items : List A
+  pub same : map view xs ≡ map f items
+  pub behind : Behind t (λ u. next) (λ a rest. a ∷ rest) [] tt i (λ more. items ++ more) tt j
 
-module _ {A X : Type 0} {t : List ℕ} {next : Construct (More A (Unit {0}))} (view : X → A) {i j m : ℕ} where
-  -- one more item
-  pub item_behind : (xs ys : List X) (x : X) → ys ≡ xs ++ x ∷ [] → BehindItems t next view i xs j →
-      IsFunctional next → next j (Read (item (view x) tt) m) → BehindItems t next view i ys m
-  item_behind xs ys x same g h read =
-      one_behind (λ more. map view ys ++ more) (view x) tt m g h
-      (λ more. ap (λ zs. map view zs ++ more) same ∙ map_more view xs x more) read
+module _ {A B X : Type 0} {t : List ℕ} {next : Construct (More A (Unit {0}))} {f : A → B} (view : X → B) {i : ℕ} where
+  pub no_items : MadeItems t next f view i [] i
+  no_items = record {
+    items = [];
+    same = refl;
+    behind = record { read = λ b end h. h; fails = λ e h. h };
+  }
 
-  -- the list ends
-  pub all_behind : (xs : List X) → BehindItems t next view i xs j → next j (Read no_item m) →
-      list_of next i (Read (map view xs) m)
-  all_behind xs g x = list_read (map view xs) m g (append_nothing (map view xs)) x
+  module _ {j m : ℕ} where
+    -- one more item
+    pub item_made : (xs ys : List X) (x : X) → ys ≡ xs ++ x ∷ [] → MadeItems t next f view i xs j →
+        IsFunctional next → (a : A) → next j (Read (item a tt) m) → view x ≡ f a → MadeItems t next f view i ys m
+    item_made xs ys x all g h a read same = record {
+      items = g.items ++ a ∷ [];
+      same =
+          ap (map view) all ∙ map-append view xs (x ∷ []) ∙ ap (λ zs. zs ++ view x ∷ []) g.same
+          ∙ ap (λ z. map f g.items ++ z ∷ []) same ∙ sym (map-append f g.items (a ∷ []));
+      behind =
+          one_behind (λ more. (g.items ++ a ∷ []) ++ more) a tt m g.behind h
+          (λ more. append_assoc g.items (a ∷ []) more) read;
+    }
+
+    -- the list ends
+    pub all_made : (xs : List X) → MadeItems t next f view i xs j → next j (Read no_item m) →
+        IsMade (map f) (list_of next) i (map view xs) m
+    all_made xs g x = made (list_read g.items m g.behind (append_nothing g.items) x) g.same

@@ -1,13 +1,8 @@
 -- Gathered arguments before those of the rest of a list.
-use Rattle.std.proofs.Common.{◌≡◌, List, [], ◌∷◌, ◌++◌, map, refl, ap, ◌∙◌}
-use Rattle.std.proofs.lemmas.List.{map-append}
+use Rattle.std.proofs.Common.{◌≡◌, List, [], ◌∷◌, ◌++◌, map, refl, ap, sym, ◌∙◌}
 use Rattle.fluent_syntax_tree.specs.Tree.{InlineTree, ArgumentsTree, arguments, InlineTrees, no_inlines, inlines}
 use Rattle.fluent_syntax_tree.specs.Tree.{inlines_of, NamedTree, named_argument, NamedTrees, no_named, nameds}
-use Rattle.fluent_syntax_tree.specs.Tree.{nameds_of}
-use Rattle.fluent_syntax_tree.specs.View.{inline_view, named_view}
-use Rattle.fluent_syntax_tree.proofs.Views.{view-NamedArgument}
-use Rattle.fluent_syntax_tree.specs.declared.ast.InlineExpression.{InlineExpression}
-use Rattle.fluent_syntax_tree.specs.declared.ast.NamedArgument.{NamedArgument}
+use Rattle.fluent_syntax_tree.specs.Tree.{nameds_of, arguments_map, inline_map, inlines_map, named_map, nameds_map}
 use Rattle.fluent_syntax_tree.specs.declared.spans.Span.{Span}
 use Rattle.fluent_syntax_grammar.specs.Arguments.{add_positional, add_named}
 
@@ -19,21 +14,12 @@ abbrev nameds_before : List (NamedTree Span) → NamedTrees Span → NamedTrees 
 nameds_before [] es = es
 nameds_before (x ∷ xs) es = nameds x (nameds_before xs es)
 
-abbrev inline_trees : List (InlineExpression Span) → List (InlineTree Span)
-inline_trees = map (inline_view (λ s. s))
-
-abbrev named_trees : List (NamedArgument Span) → List (NamedTree Span)
-named_trees = map (named_view (λ s. s))
-
 -- the gathered arguments before others
-abbrev pub put_arguments : List (InlineExpression Span) → List (NamedArgument Span) → ArgumentsTree Span →
-    ArgumentsTree Span
-put_arguments ps ns (arguments es ms) =
-    arguments (inlines_before (inline_trees ps) es) (nameds_before (named_trees ns) ms)
+abbrev pub put_arguments : List (InlineTree Span) → List (NamedTree Span) → ArgumentsTree Span → ArgumentsTree Span
+put_arguments ps ns (arguments es ms) = arguments (inlines_before ps es) (nameds_before ns ms)
 
-pub put_none : (ps : List (InlineExpression Span)) (ns : List (NamedArgument Span)) → ps ≡ [] → ns ≡ [] →
-    (a : ArgumentsTree Span) → put_arguments ps ns a ≡ a
-put_none ps ns e f (arguments es ms) = rw (e, f) refl
+pub put_none : (a : ArgumentsTree Span) → put_arguments [] [] a ≡ a
+put_none (arguments es ms) = refl
 
 inlines_added : (xs : List (InlineTree Span)) (x : InlineTree Span) (es : InlineTrees Span) →
     inlines_before (xs ++ x ∷ []) es ≡ inlines_before xs (inlines x es)
@@ -46,25 +32,16 @@ nameds_added [] x es = refl
 nameds_added (y ∷ ys) x es = ap (nameds y) (nameds_added ys x es)
 
 -- one more positional argument
-pub put_positional : (ps more : List (InlineExpression Span)) (ns : List (NamedArgument Span))
-    (e : InlineExpression Span) → more ≡ ps ++ e ∷ [] → (a : ArgumentsTree Span) →
-    put_arguments more ns a ≡ put_arguments ps ns (add_positional (inline_view (λ s. s) e) a)
-put_positional ps more ns e is (arguments es ms) =
-    ap (λ xs. arguments (inlines_before xs es) (nameds_before (named_trees ns) ms))
-    (ap inline_trees is ∙ map-append (inline_view (λ s. s)) ps (e ∷ []))
-    ∙ ap (λ xs. arguments xs (nameds_before (named_trees ns) ms))
-    (inlines_added (inline_trees ps) (inline_view (λ s. s) e) es)
+pub put_positional : (ps : List (InlineTree Span)) (ns : List (NamedTree Span)) (e : InlineTree Span)
+    (a : ArgumentsTree Span) → put_arguments (ps ++ e ∷ []) ns a ≡ put_arguments ps ns (add_positional e a)
+put_positional ps ns e (arguments es ms) = ap (λ xs. arguments xs (nameds_before ns ms)) (inlines_added ps e es)
 
 -- one more named argument
-pub put_named : (ps : List (InlineExpression Span)) (ns more : List (NamedArgument Span)) (x : NamedArgument Span) →
-    more ≡ ns ++ x ∷ [] → (a : ArgumentsTree Span) →
-    put_arguments ps more a ≡ put_arguments ps ns (add_named x.name.name (inline_view (λ s. s) x.value) a)
-put_named ps ns more x is (arguments es ms) =
-    let tree = named_argument x.name.name (inline_view (λ s. s) x.value) in
-    ap (λ xs. arguments (inlines_before (inline_trees ps) es) (nameds_before xs ms))
-    (ap named_trees is ∙ map-append (named_view (λ s. s)) ns (x ∷ [])
-    ∙ ap (λ y. named_trees ns ++ y ∷ []) (view-NamedArgument (λ s. s) x))
-    ∙ ap (λ xs. arguments (inlines_before (inline_trees ps) es) xs) (nameds_added (named_trees ns) tree ms)
+pub put_named : (ps : List (InlineTree Span)) (ns : List (NamedTree Span)) (name : Span) (e : InlineTree Span)
+    (a : ArgumentsTree Span) →
+    put_arguments ps (ns ++ named_argument name e ∷ []) a ≡ put_arguments ps ns (add_named name e a)
+put_named ps ns name e (arguments es ms) =
+    ap (λ xs. arguments (inlines_before ps es) xs) (nameds_added ns (named_argument name e) ms)
 
 inlines_whole : (xs : List (InlineTree Span)) → inlines_before xs no_inlines ≡ inlines_of xs
 inlines_whole [] = refl
@@ -75,9 +52,24 @@ nameds_whole [] = refl
 nameds_whole (x ∷ xs) = ap (nameds x) (nameds_whole xs)
 
 -- no others
-pub put_whole : (ps : List (InlineExpression Span)) (ns : List (NamedArgument Span)) →
-    put_arguments ps ns (arguments no_inlines no_named)
-    ≡ arguments (inlines_of (inline_trees ps)) (nameds_of (named_trees ns))
+pub put_whole : (ps : List (InlineTree Span)) (ns : List (NamedTree Span)) →
+    put_arguments ps ns (arguments no_inlines no_named) ≡ arguments (inlines_of ps) (nameds_of ns)
 put_whole ps ns =
-    ap (λ xs. arguments xs (nameds_before (named_trees ns) no_named)) (inlines_whole (inline_trees ps))
-    ∙ ap (λ xs. arguments (inlines_of (inline_trees ps)) xs) (nameds_whole (named_trees ns))
+    ap (λ xs. arguments xs (nameds_before ns no_named)) (inlines_whole ps)
+    ∙ ap (λ xs. arguments (inlines_of ps) xs) (nameds_whole ns)
+
+-- ---- with f of each text in its place
+
+module _ {X : Type 0} (f : Span → X) where
+  inlines_mapped : (xs : List (InlineTree Span)) → inlines_of (map (inline_map f) xs) ≡ inlines_map f (inlines_of xs)
+  inlines_mapped [] = refl
+  inlines_mapped (x ∷ xs) = ap (inlines (inline_map f x)) (inlines_mapped xs)
+
+  nameds_mapped : (xs : List (NamedTree Span)) → nameds_of (map (named_map f) xs) ≡ nameds_map f (nameds_of xs)
+  nameds_mapped [] = refl
+  nameds_mapped (x ∷ xs) = ap (nameds (named_map f x)) (nameds_mapped xs)
+
+  pub arguments_mapped : (ps : List (InlineTree Span)) (ns : List (NamedTree Span)) →
+      arguments (inlines_of (map (inline_map f) ps)) (nameds_of (map (named_map f) ns))
+      ≡ arguments_map f (arguments (inlines_of ps) (nameds_of ns))
+  arguments_mapped ps ns = rw (inlines_mapped ps, nameds_mapped ns) refl

@@ -1,19 +1,24 @@
 -- An inline expression, by what stands at its start.
 use Rattle.std.proofs.Common.{◌≡◌, ℕ, ◌+◌, List, subst, refl, inl as left, inr}
-use Rattle.std.specs.Prelude.{◌⊎◌}
+use Rattle.std.specs.Prelude.{◌⊎◌, Result, Ok, Err}
 use Rattle.fluent_syntax_tree.specs.Kind.{ExpectedLiteral}
-use Rattle.fluent_syntax_tree.specs.Tree.{InlineTree, number_literal}
+use Rattle.fluent_syntax_tree.specs.Tree.{InlineTree, MaybeArguments, number_literal}
 use Rattle.fluent_syntax_tree.specs.declared.spans.Span.{Span}
 use Rattle.fluent_syntax_grammar.specs.Arguments.{argument_value}
-use Rattle.fluent_syntax_grammar.specs.Construct.{Outcome, Refused, ◌>>=◌, gives, at_each, chosen, failed}
-use Rattle.fluent_syntax_grammar.specs.Family.{Family}
-use Rattle.fluent_syntax_grammar.specs.Inline.{inline_expression, inline_of}
+use Rattle.fluent_syntax_grammar.specs.Construct.{Outcome, Read, Refused, ◌>>=◌, gives, at_each, chosen, failed}
+use Rattle.fluent_syntax_grammar.specs.Construct.{goes_on}
+use Rattle.fluent_syntax_grammar.specs.Family.{Family, call_arguments}
+use Rattle.fluent_syntax_grammar.specs.Inline.{inline_expression, inline_of, named_reference}
 use Rattle.fluent_syntax_grammar.specs.Starts.{Start, digit, letter, minus, quote, start}
-use Rattle.fluent_syntax_grammar.specs.Words.{number}
+use Rattle.fluent_syntax_grammar.specs.Words.{identifier, number}
+use Rattle.fluent_syntax_grammar.proofs.FunctionalRules.{IsFunctionalFamily, functional_call}
+use Rattle.fluent_syntax_grammar.proofs.FunctionalWords.{functional_identifier}
+use Rattle.fluent_syntax_parser.specs.Made.{Makes, made}
 use Rattle.fluent_syntax_parser.specs.Meets.{Fails}
 use Rattle.fluent_syntax_parser.specs.Starts.{start_view}
 use Rattle.fluent_syntax_parser.specs.declared.fault.ReadFault.{ReadFault}
-use Rattle.fluent_syntax_parser.proofs.Fails.{fails_seen}
+use Rattle.fluent_syntax_parser.proofs.Fails.{fails_next, fails_seen}
+use Rattle.fluent_syntax_parser.proofs.Made.{on_made}
 use Rattle.fluent_syntax_parser.specs.declared.starts.Start as found
 use Rattle.fluent_syntax_parser.specs.declared.starts.Start.TheVariants as starts
 
@@ -69,3 +74,14 @@ module _ (t : List ℕ) (R : Family) (i : ℕ) where
   no_value s a b c e =
       chosen (subst (λ x. argument_value t R x i (Refused ExpectedLiteral i (i + 1))) e
       (refused_value s a b c))
+
+-- a name with its arguments, by the reference that these are
+pub referred : {B X : Type 0} (t : List ℕ) (R : Family) (i : ℕ) (f : InlineTree Span → B) (view : X → B) {name : Span}
+    {a : MaybeArguments Span} {m j : ℕ} (r : Result (X × ℕ) ReadFault) →
+    Makes t f (named_reference t name a) view j r → letter ≡ start t i → identifier t i (Read name m) →
+    call_arguments t R m (Read a j) → IsFunctionalFamily R → Makes t f (inline_expression t R) view i r
+referred t R i f view (Ok x) h s n c g =
+    on_made h (λ e read same. made (by_start t R i letter _ s (goes_on n (goes_on c read))) same)
+referred t R i f view (Err e) h s n c g =
+    fails_seen (inline_of t R) letter s
+    (fails_next (functional_identifier t) n (fails_next (functional_call t R g) c h))

@@ -1,5 +1,6 @@
 pub mod AnswerOf
 pub mod ArgumentLists
+pub mod ArgumentNames
 pub mod Behind
 pub mod BlankLines
 pub mod Carried
@@ -13,12 +14,15 @@ pub mod FieldForms
 pub mod GatheredArguments
 pub mod GatheredVariants
 pub mod Gathers
+pub mod Given
 pub mod HangsOn
 pub mod InlineForms
 pub mod InlineStarts
 pub mod LaneRuns
+pub mod Layouts
 pub mod LineEndings
 pub mod LineEnds
+pub mod Made
 pub mod Names
 pub mod NextStarts
 pub mod PartsOfEntries
@@ -27,8 +31,10 @@ pub mod Pieces
 pub mod Ranges
 pub mod Rests
 pub mod Runs
+pub mod SameTrees
 pub mod Scans
 pub mod Selects
+pub mod Shapes
 pub mod ShortExamples
 pub mod ShortGrammar
 pub mod ShortLines
@@ -43,4 +49,5 @@ pub mod Spelled
 pub mod Stars
 pub mod StringBytes
 pub mod TileForms
+pub mod Waiting
 pub mod Noted

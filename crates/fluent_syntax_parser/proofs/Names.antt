@@ -9,57 +9,52 @@ use Rattle.std.proofs.lemmas.List.Folds.{list_any_at, list_any_more}
 use Rattle.std.proofs.lemmas.List.Sorted.{IsPermutation-reverse, list_any-IsPermutation}
 use lib.Pointwise.{pointwise}
 use Rattle.fluent_syntax_tree.specs.Spans.{bytes_at}
-use Rattle.fluent_syntax_tree.specs.declared.ast.NamedArgument.{NamedArgument}
 use Rattle.fluent_syntax_tree.specs.declared.spans.Span.{Span}
 use Rattle.fluent_syntax_tree.proofs.Lists.{list_any-map}
 use Rattle.fluent_syntax_grammar.specs.Arguments.{is_used}
 use Rattle.fluent_syntax_parser.specs.Gathered.{names_in, names_in_order}
 
 module _ (t : List ℕ) where
-  abbrev name_of : NamedArgument Span → List ℕ
-  name_of a = bytes_at t a.name.name
-
-  pub used_in_order : (name : List ℕ) (named : List (NamedArgument Span)) →
+  pub used_in_order : (name : List ℕ) (named : List Span) →
       is_used name (names_in t named) ≡ is_used name (names_in_order t named)
   used_in_order name named =
       sym (list_any-IsPermutation (pointwise nat_eq name) (names_in_order t named) (names_in t named)
       (IsPermutation-reverse (names_in_order t named)))
 
-  module _ (name : List ℕ) (named : List (NamedArgument Span)) (i : ℕ) (d : NamedArgument Span)
+  module _ (name : List ℕ) (named : List Span) (i : ℕ) (d : Span)
       (l : i < length named) where
-    abbrev is_name : NamedArgument Span → Bool
-    is_name a = pointwise nat_eq name (name_of a)
+    abbrev is_name : Span → Bool
+    is_name a = pointwise nat_eq name (bytes_at t a)
 
     pub name_found : is_name (get_or named i d) ≡ true → is_used name (names_in_order t named) ≡ true
-    name_found e = list_any-map (pointwise nat_eq name) name_of named ∙ list_any_at is_name named i d l e
+    name_found e = list_any-map (pointwise nat_eq name) (bytes_at t) named ∙ list_any_at is_name named i d l e
 
     pub name_not_yet : is_used name (names_in_order t (take i named)) ≡ false → is_name (get_or named i d) ≡ false →
         is_used name (names_in_order t (take (i + 1) named)) ≡ false
     name_not_yet before e =
         let used : list_any is_name (take i named) ≡ false =
-        sym (list_any-map (pointwise nat_eq name) name_of (take i named)) ∙ before in
-        list_any-map (pointwise nat_eq name) name_of (take (i + 1) named)
+        sym (list_any-map (pointwise nat_eq name) (bytes_at t) (take i named)) ∙ before in
+        list_any-map (pointwise nat_eq name) (bytes_at t) (take (i + 1) named)
         ∙ list_any_more is_name named i d l
         ∙ rw (used, e) refl
 
-  pub some_names : (named : List (NamedArgument Span)) → (named ≡ [] → ⊥) → names_in t named ≡ [] → ⊥
+  pub some_names : (named : List Span) → (named ≡ [] → ⊥) → names_in t named ≡ [] → ⊥
   some_names [] some e = some refl
   some_names (x ∷ xs) some e =
       let p = length-reverse (names_in_order t (x ∷ xs)) in
       let q : length (names_in t (x ∷ xs)) ≡ 0 = ap length e in
       absurd (omega arith)
 
-  pub names_added : (xs : List (NamedArgument Span)) (x : NamedArgument Span) →
-      names_in t (xs ++ x ∷ []) ≡ name_of x ∷ names_in t xs
+  pub names_added : (xs : List Span) (x : Span) →
+      names_in t (xs ++ x ∷ []) ≡ bytes_at t x ∷ names_in t xs
   names_added xs x =
-      ap reverse (map-append name_of xs (x ∷ [])) ∙ reverse-append (names_in_order t xs) (name_of x ∷ [])
+      ap reverse (map-append (bytes_at t) xs (x ∷ [])) ∙ reverse-append (names_in_order t xs) (bytes_at t x ∷ [])
 
-pub none_named : {A : Type 0} (n : ℕ) (xs : List A) → n ≡ length xs → true ≡ (n == 0) → xs ≡ []
-none_named n [] len e = refl
-none_named n (x ∷ xs) len e = let zero : n ≡ 0 = grind (arith, nat_tests) in absurd (omega arith)
+pub none_named : {A : Type 0} (xs : List A) → true ≡ (length xs == 0) → xs ≡ []
+none_named [] e = refl
+none_named (x ∷ xs) e = let zero : length (x ∷ xs) ≡ 0 = grind (arith, nat_tests) in absurd (omega arith)
 
-pub some_named : {A : Type 0} (n : ℕ) (xs : List A) → n ≡ length xs → false ≡ (n == 0) → xs ≡ [] → ⊥
-some_named n xs len e is =
-    let zero : n ≡ 0 = len ∙ ap length is in
-    let bad : (n == 0) ≡ true = rw zero refl in
+pub some_named : {A : Type 0} (xs : List A) → false ≡ (length xs == 0) → xs ≡ [] → ⊥
+some_named xs e is =
+    let bad : (length xs == 0) ≡ true = rw is refl in
     true≢false (sym bad ∙ sym e)

@@ -1,6 +1,6 @@
 -- The next piece of a line, by its first byte; and the lines of a pattern.
-use Rattle.std.proofs.Common.{◌≡◌, ℕ, ◌+◌, ◌-◌, List, Option, Some, None, Bool, true, false, not, refl}
-use Rattle.std.proofs.Common.{sym, subst, arith}
+use Rattle.std.proofs.Common.{◌≡◌, ℕ, ◌+◌, ◌-◌, ◌<◌, List, Option, Some, None, Bool, true, false, not, refl}
+use Rattle.std.proofs.Common.{sym, ap, ◌∙◌, subst, arith, true≢false}
 use Rattle.std.specs.Prelude.{slice_get, ◌==◌, ◌||◌, ◌&&◌, nat_lt}
 use Rattle.std.proofs.lemmas.Bool.Decides.{nat_tests}
 use Rattle.fluent_syntax_tree.specs.Kind.{UnbalancedClosingBrace}
@@ -63,6 +63,12 @@ module _ (t : List ℕ) (R : Family) (i b : ℕ) (e : slice_get t i ≡ Some b) 
 
     pub run_there : is_run_place t i ≡ true
     run_there = run_test (slice_get t i) b (has_eol t i) e eol close opening no_line
+
+-- a stretch that begins with what it is of
+pub further : (test : ℕ → Bool) (i j : ℕ) → Stretch test i j → test i ≡ true → i < j
+further test i j w here =
+    let apart : i ≡ j → ⊥ = λ same. true≢false (sym here ∙ ap test same ∙ w.longest) in
+    omega (arith, w.forward, apart)
 
 module _ (t : List ℕ) (R : Family) where
   pub no_pieces : (i : ℕ) (o : Option ℕ) → slice_get t i ≡ o → (o ≡ None → ⊥) → has_eol t i ≡ true →

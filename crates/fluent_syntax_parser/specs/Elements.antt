@@ -1,62 +1,99 @@
 -- What a layout spells, as a reader makes it.
 use Rattle.std.specs.Prelude.{◌≡◌, ℕ, ◌+◌, List, [], ◌∷◌, ◌++◌, map, Option, Some, None, option_map, min}
-use Rattle.std.specs.List.{flat_map}
-use Rattle.fluent_syntax_tree.specs.Tree.{ElementTree, text_element, placeable}
-use Rattle.fluent_syntax_tree.specs.View.{expression_view}
+use Rattle.std.specs.Prelude.{nat_lt, if◌then◌else◌}
+use Rattle.fluent_syntax_tree.specs.Tree.{ElementTree, ExpressionTree, text_element, pattern_map, placeable}
+use Rattle.fluent_syntax_tree.specs.View.{expression_view, pattern_view}
+use Rattle.fluent_syntax_tree.specs.declared.ast.Expression.{Expression}
+use Rattle.fluent_syntax_tree.specs.declared.ast.Pattern.{Pattern}
 use Rattle.fluent_syntax_tree.specs.declared.edition.Edition.{Edition}
+use Rattle.fluent_syntax_tree.specs.declared.edition.Edition.TheVariants.{One, Two}
 use Rattle.fluent_syntax_tree.specs.declared.spans.Span.{Span}
-use Rattle.fluent_syntax_grammar.specs.Elements as elements
-use Rattle.fluent_syntax_grammar.specs.Elements.{cut, line_items, opening_items, trimmed_end}
-use Rattle.fluent_syntax_grammar.specs.Layout as layout
-use Rattle.fluent_syntax_parser.specs.Lines.{line_view}
+use Rattle.fluent_syntax_grammar.specs.Elements.{pattern_of, trimmed_end}
+use Rattle.fluent_syntax_grammar.specs.Layout as grammar
+use Rattle.fluent_syntax_parser.specs.Layouts as layouts
+use Rattle.fluent_syntax_parser.specs.Layouts.{cut}
+use Rattle.fluent_syntax_parser.specs.Lines.{line_shape, line_view}
 use Rattle.fluent_syntax_parser.specs.declared.elements.Item.{Item}
 use Rattle.fluent_syntax_parser.specs.declared.elements.Item.TheVariants as item
 use Rattle.fluent_syntax_parser.specs.declared.elements.Layout.{Layout}
 
-abbrev pub item_view : Item → elements.Item
-item_view (item.Text from to) = elements.text from to
-item_view (item.Filled e) = elements.filled (expression_view (λ s. s) e)
+module _ {S X : Type 0} (text : S → X) where
+  abbrev pub item_view : Item S → layouts.Item (ExpressionTree X)
+  item_view (item.Text from to) = layouts.text from to
+  item_view (item.Filled e) = layouts.filled (expression_view text e)
 
-abbrev pub layout_view : Layout → layout.Layout
-layout_view y = record { opening = option_map line_view y.opening; lines = map line_view y.lines.items }
+  abbrev pub layout_view : Layout S → layouts.Layout (ExpressionTree X)
+  layout_view y = record { opening = option_map (line_view text) y.opening; lines = map (line_view text) y.lines.items }
 
--- a run that waits for what follows it, and what follows
-abbrev pub waiting : Option (ℕ × ℕ) → List layout.Piece → List layout.Piece
-waiting None ps = ps
-waiting (Some r) ps = layout.run r.0 r.1 ∷ ps
+  -- The items are cut to those that are left and a last one; or none is left.
+  abbrev pub CutsTo : List ℕ → (all left : List (Item S)) → (last : Option (Item S)) → Type 0
+  CutsTo t all left None = cut t (map item_view all) ≡ []
+  CutsTo t all left (Some last) = cut t (map item_view all) ≡ map item_view left ++ item_view last ∷ []
 
--- the pieces, of which a run that begins them begins at another place, if one is given
-abbrev pub leading : Option ℕ → List layout.Piece → List layout.Piece
-leading None ps = ps
-leading (Some k) [] = []
-leading (Some k) (layout.run from to ∷ ps) = layout.run k to ∷ ps
-leading (Some k) (layout.placed e ∷ ps) = layout.placed e ∷ ps
+-- with each placeable as it is
+module _ {S : Type 0} where
+  abbrev pub item_shape : Item S → layouts.Item (Expression S)
+  item_shape (item.Text from to) = layouts.text from to
+  item_shape (item.Filled e) = layouts.filled e
+
+  abbrev pub layout_shape : Layout S → layouts.Layout (Expression S)
+  layout_shape y = record { opening = option_map line_shape y.opening; lines = map line_shape y.lines.items }
+
+module _ {E : Type 0} where
+  -- a run that waits for what follows it, and what follows
+  abbrev pub waiting : Option (ℕ × ℕ) → List (layouts.Piece E) → List (layouts.Piece E)
+  waiting None ps = ps
+  waiting (Some r) ps = layouts.run r.0 r.1 ∷ ps
+
+  -- the pieces, of which a run that begins them begins at another place, if one is given
+  abbrev pub leading : Option ℕ → List (layouts.Piece E) → List (layouts.Piece E)
+  leading None ps = ps
+  leading (Some k) [] = []
+  leading (Some k) (layouts.run from to ∷ ps) = layouts.run k to ∷ ps
+  leading (Some k) (layouts.placed e ∷ ps) = layouts.placed e ∷ ps
+
+  -- the items, with the run that waits behind them
+  abbrev pub flushed : List (layouts.Item E) → Option (ℕ × ℕ) → List (layouts.Item E)
+  flushed xs None = xs
+  flushed xs (Some r) = xs ++ layouts.text r.0 r.1 ∷ []
+
+  -- the leading spaces beyond the common indent, where they are a text of their own: before a placeable, in edition 2
+  abbrev pub indent_of : Edition → (kept first : ℕ) → List (layouts.Piece E) → Option (ℕ × ℕ)
+  indent_of edition kept first [] = None
+  indent_of edition kept first (layouts.run from to ∷ ps) = None
+  indent_of One kept first (layouts.placed e ∷ ps) = None
+  indent_of Two kept first (layouts.placed e ∷ ps) = if nat_lt kept first then Some (kept, first) else None
+
+  -- a line that holds nothing
+  abbrev pub bare_items : (kept : ℕ) → grammar.Ending → List (layouts.Item E)
+  bare_items kept (grammar.lf_at p) = layouts.text kept (p + 1) ∷ []
+  bare_items kept (grammar.crlf_at p) = layouts.text (p + 1) (p + 2) ∷ []
+  bare_items kept grammar.text_end = []
 
 -- where the leading spaces of a line beyond the common indent begin
 abbrev pub kept_place : Option ℕ → (start spaces : ℕ) → ℕ
 kept_place None start spaces = start + spaces
 kept_place (Some common) start spaces = start + min spaces common
 
--- the items of all lines, joined, under a common indent
-abbrev pub items_with : Edition → Option ℕ → layout.Layout → List elements.Item
-items_with edition common y = opening_items y.opening ++ flat_map (line_items edition common) y.lines
-
 -- the number, if there is one
 abbrev pub listed : Option ℕ → List ℕ
 listed None = []
 listed (Some n) = n ∷ []
 
--- The items are cut to those that are left and a last one; or none is left.
-abbrev pub CutsTo : List ℕ → (all left : List Item) → (last : Option Item) → Type 0
-CutsTo t all left None = cut t (map item_view all) ≡ []
-CutsTo t all left (Some last) = cut t (map item_view all) ≡ map item_view left ++ item_view last ∷ []
+module _ {X : Type 0} (f : Span → X) where
+  -- the element that an item is which others follow
+  abbrev pub element_of : layouts.Item (ExpressionTree X) → ElementTree X
+  element_of (layouts.text from to) = text_element (f (record { start = from; end = to }))
+  element_of (layouts.filled e) = placeable e
 
--- the element that an item is which others follow
-abbrev pub element_of : elements.Item → ElementTree Span
-element_of (elements.text from to) = text_element (record { start = from; end = to })
-element_of (elements.filled e) = placeable e
+  -- the element that the last item is: a text is trimmed at its end
+  abbrev pub last_of : List ℕ → layouts.Item (ExpressionTree X) → ElementTree X
+  last_of t (layouts.text from to) = text_element (f (record { start = from; end = trimmed_end t from to }))
+  last_of t (layouts.filled e) = placeable e
 
--- the element that the last item is: a text is trimmed at its end
-abbrev pub last_of : List ℕ → elements.Item → ElementTree Span
-last_of t (elements.text from to) = text_element (record { start = from; end = trimmed_end t from to })
-last_of t (elements.filled e) = placeable e
+-- The pattern is what the layout spells: that of any layout of the grammar of which it is made, with f of each text.
+abbrev pub MakesPattern : {S X : Type 0} → (Span → X) → (S → X) → Edition → List ℕ → Layout S → Option (Pattern S) →
+    Type 0
+MakesPattern f v edition t layout pattern =
+    (y : grammar.Layout) → layout_view v layout ≡ layouts.layout_of f y →
+    option_map (pattern_view v) pattern ≡ option_map (pattern_map f) (pattern_of edition t y)

@@ -7,7 +7,9 @@ pub mod Fields
 pub mod Gathered
 pub mod Halts
 pub mod Lanes
+pub mod Layouts
 pub mod Lines
+pub mod Made
 pub mod Meets
 pub mod Parts
 pub mod Rest

@@ -1,26 +1,45 @@
--- The lines of the grammar that a reader has found.
+-- The lines that a reader has found.
 use Rattle.std.specs.Prelude.{map}
+use Rattle.fluent_syntax_tree.specs.Tree.{ExpressionTree}
 use Rattle.fluent_syntax_tree.specs.View.{expression_view}
-use Rattle.fluent_syntax_grammar.specs.Layout as layout
+use Rattle.fluent_syntax_tree.specs.declared.ast.Expression.{Expression}
+use Rattle.fluent_syntax_grammar.specs.Layout as grammar
+use Rattle.fluent_syntax_parser.specs.Layouts as layout
 use Rattle.fluent_syntax_parser.specs.declared.line.Ending.{Ending}
 use Rattle.fluent_syntax_parser.specs.declared.line.Ending.TheVariants as ends
 use Rattle.fluent_syntax_parser.specs.declared.line.Line.{Line}
 use Rattle.fluent_syntax_parser.specs.declared.line.Piece.{Piece}
 use Rattle.fluent_syntax_parser.specs.declared.line.Piece.TheVariants as piece
 
-abbrev pub piece_view : Piece → layout.Piece
-piece_view (piece.Run from to) = layout.run from to
-piece_view (piece.Placed e) = layout.placed (expression_view (λ s. s) e)
+abbrev pub ending_view : Ending → grammar.Ending
+ending_view (ends.Lf p) = grammar.lf_at p
+ending_view (ends.Crlf p) = grammar.crlf_at p
+ending_view ends.TextEnd = grammar.text_end
 
-abbrev pub ending_view : Ending → layout.Ending
-ending_view (ends.Lf p) = layout.lf_at p
-ending_view (ends.Crlf p) = layout.crlf_at p
-ending_view ends.TextEnd = layout.text_end
+module _ {S X : Type 0} (text : S → X) where
+  abbrev pub piece_view : Piece S → layout.Piece (ExpressionTree X)
+  piece_view (piece.Run from to) = layout.run from to
+  piece_view (piece.Placed e) = layout.placed (expression_view text e)
 
-abbrev pub line_view : Line → layout.Line
-line_view l = record {
-  start = l.start;
-  spaces = l.spaces;
-  pieces = map piece_view l.pieces.items;
-  ending = ending_view l.ending;
-}
+  abbrev pub line_view : Line S → layout.Line (ExpressionTree X)
+  line_view l = record {
+    start = l.start;
+    spaces = l.spaces;
+    pieces = map piece_view l.pieces.items;
+    ending = ending_view l.ending;
+  }
+
+-- ---- with each placeable as it is
+
+module _ {S : Type 0} where
+  abbrev pub piece_shape : Piece S → layout.Piece (Expression S)
+  piece_shape (piece.Run from to) = layout.run from to
+  piece_shape (piece.Placed e) = layout.placed e
+
+  abbrev pub line_shape : Line S → layout.Line (Expression S)
+  line_shape l = record {
+    start = l.start;
+    spaces = l.spaces;
+    pieces = map piece_shape l.pieces.items;
+    ending = ending_view l.ending;
+  }

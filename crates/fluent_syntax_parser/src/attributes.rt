@@ -6,7 +6,9 @@ ghost use Rattle.fluent_syntax_grammar.specs.Grammar.{within};
 ghost use Rattle.fluent_syntax_parser.specs.Meets.{Meets};
 
 use crate::fault::{Fault, ReadFault, Refusal};
+use crate::reader::Reader;
 use crate::source::Source;
+use crate::texts::AsSpans;
 use fluent_syntax_tree::ast::{Attribute, Identifier};
 use fluent_syntax_tree::edition::Edition;
 use fluent_syntax_tree::spans::Span;
@@ -30,7 +32,14 @@ impl<'s> Source<'s> {
         let end = self.identifier_end(start)?;
         let equals = self.skip_blank_inline(end);
         let behind = self.expect_byte(b'=', equals)?;
-        let (value, place) = self.get_pattern(alloc, edition, nesting, behind)?;
+        let texts = AsSpans;
+        let reader = Reader {
+            source: *self,
+            alloc,
+            edition,
+            texts: &texts,
+        };
+        let (value, place) = reader.get_pattern(nesting, behind)?;
         match value {
             Some(value) => {
                 let name = Span { start, end };

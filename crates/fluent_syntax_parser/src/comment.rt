@@ -24,6 +24,7 @@ fn add_line(content: &mut Vec<Span>, line: Option<Span>) -> Result<(), AllocErro
 
 impl<'s> Source<'s> {
     /// Reads a comment: the longest run of comment lines of one level, which is the number of their leading `#`.
+    #[inline(never)]
     pub(crate) fn get_comment(
         &self,
         alloc: Global,

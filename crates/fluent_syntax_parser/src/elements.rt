@@ -1,39 +1,53 @@
 //! The items that the lines of a pattern spell.
 ghost use Rattle.std.specs.Prelude.{◌≡◌, ◌+◌, ◌<◌, ◌^◌, ◌++◌, [], map, IfOk, OnOk};
-ghost use Rattle.fluent_syntax_grammar.specs.Elements.{line_items, with_ending};
-ghost use Rattle.fluent_syntax_parser.specs.Elements.{item_view, items_with, kept_place, layout_view, leading, waiting};
+ghost use Rattle.fluent_syntax_parser.specs.Elements.{bare_items, flushed, indent_of, item_shape, kept_place};
+ghost use Rattle.fluent_syntax_parser.specs.Elements.{layout_shape, leading, waiting};
+ghost use Rattle.fluent_syntax_parser.specs.Layouts.{items_with, line_items, with_ending};
 ghost use Rattle.fluent_syntax_parser.specs.Endings.{EndsWithin};
-ghost use Rattle.fluent_syntax_parser.specs.Lines.{ending_view, line_view, piece_view};
+ghost use Rattle.fluent_syntax_parser.specs.Lines.{ending_view, line_shape, piece_shape};
 
 use crate::line::{Ending, Line, Piece};
 use fluent_syntax_tree::ast::Expression;
 use fluent_syntax_tree::edition::Edition;
-use fluent_syntax_tree::spans::Span;
 use std::alloc::{AllocError, Global};
 
 /// An element before the tail is cut.
 #[derive(Drop)]
-pub(crate) enum Item {
+pub(crate) enum Item<T> {
     Text { from: usize, to: usize },
-    Filled { expression: Expression<Span> },
+    Filled { expression: Expression<T> },
 }
 
 /// The source of a pattern: the line on which it opens, if something stands there, and the later lines.
 #[derive(Drop)]
-pub(crate) struct Layout {
-    pub(crate) opening: Option<Line>,
-    pub(crate) lines: Vec<Line>,
+pub(crate) struct Layout<T> {
+    pub(crate) opening: Option<Line<T>>,
+    pub(crate) lines: Vec<Line<T>>,
+}
+
+/// Adds the run that waits, if one does.
+fn add_waiting<T: Drop>(
+    pending: Option<(usize, usize)>,
+    items: &mut Vec<Item<T>>,
+) -> Result<(), AllocError>
+    ensures { OnOk result (map item_shape items.new.items ≡ flushed (map item_shape items.old.items) pending) }
+{
+    match pending {
+        Some((from, to)) => items.push(Item::Text { from, to })?,
+        None => {}
+    }
+    Ok(())
 }
 
 /// Adds the last run of a line, where one waits, and the line's ending: an LF belongs to the text before it.
-fn add_ending(
+fn add_ending<T: Drop>(
     pending: Option<(usize, usize)>,
     ending: Ending,
-    items: &mut Vec<Item>,
+    items: &mut Vec<Item<T>>,
 ) -> Result<(), AllocError>
     requires { EndsWithin ending }
-    ensures { OnOk result (map item_view items.new.items
-        ≡ map item_view items.old.items ++ with_ending (waiting pending []) (ending_view ending)) }
+    ensures { OnOk result (map item_shape items.new.items
+        ≡ map item_shape items.old.items ++ with_ending (waiting pending []) (ending_view ending)) }
 {
     match (pending, ending) {
         (Some((from, _)), Ending::Lf(place)) => items.push(Item::Text {
@@ -62,23 +76,21 @@ fn add_ending(
 }
 
 /// Adds the pieces of a line and its ending. A run that begins the line begins at `led`, if that is given.
-fn add_pieces(
+fn add_pieces<T: Drop>(
     led: Option<usize>,
-    pieces: Vec<Piece>,
+    pieces: Vec<Piece<T>>,
     ending: Ending,
-    items: &mut Vec<Item>,
+    items: &mut Vec<Item<T>>,
 ) -> Result<(), AllocError>
     requires { EndsWithin ending }
-    ensures { let found = leading led (map piece_view pieces.items) in
-        OnOk result (map item_view items.new.items
-        ≡ map item_view items.old.items ++ with_ending found (ending_view ending)) }
+    ensures { let found = leading led (map piece_shape pieces.items) in
+        OnOk result (map item_shape items.new.items
+        ≡ map item_shape items.old.items ++ with_ending found (ending_view ending)) }
 {
     let mut led = led;
     let mut pending = None;
     for piece in pieces {
-        if let Some((from, to)) = pending {
-            items.push(Item::Text { from, to })?;
-        }
+        add_waiting(pending, items)?;
         pending = match piece {
             Piece::Run { from, to } => Some((led.unwrap_or(from), to)),
             Piece::Placed { expression } => {
@@ -102,17 +114,66 @@ fn kept_from(common: Option<usize>, start: usize, spaces: usize) -> usize
     }
 }
 
+/// The leading spaces of a line beyond the common indent, where they are a text of their own.
+fn indent_of<T: Drop>(
+    edition: Edition,
+    kept: usize,
+    first: usize,
+    pieces: &[Piece<T>],
+) -> Option<(usize, usize)>
+    ensures { result ≡ indent_of edition kept first (map piece_shape pieces.now) }
+{
+    match pieces.first() {
+        None => None,
+        Some(Piece::Run { .. }) => None,
+        Some(Piece::Placed { .. }) => match edition {
+            Edition::One => None,
+            Edition::Two => {
+                if kept < first {
+                    Some((kept, first))
+                } else {
+                    None
+                }
+            }
+        },
+    }
+}
+
+/// Adds a line that holds nothing, whose leading spaces count from `kept` on.
+fn add_bare_line<T: Drop>(
+    kept: usize,
+    ending: Ending,
+    items: &mut Vec<Item<T>>,
+) -> Result<(), AllocError>
+    requires { EndsWithin ending }
+    ensures { OnOk result (map item_shape items.new.items
+        ≡ map item_shape items.old.items ++ bare_items kept (ending_view ending)) }
+{
+    match ending {
+        Ending::Lf(place) => items.push(Item::Text {
+            from: kept,
+            to: place + 1,
+        })?,
+        Ending::Crlf(place) => items.push(Item::Text {
+            from: place + 1,
+            to: place + 2,
+        })?,
+        Ending::TextEnd => {}
+    }
+    Ok(())
+}
+
 /// Adds a line that is not the opening line.
-fn add_line(
+fn add_line<T: Drop>(
     edition: Edition,
     common: Option<usize>,
-    line: Line,
-    items: &mut Vec<Item>,
+    line: Line<T>,
+    items: &mut Vec<Item<T>>,
 ) -> Result<(), AllocError>
     requires spaces { line.start + line.spaces < 2 ^ 64 }
     requires ending { EndsWithin line.ending }
-    ensures { OnOk result (map item_view items.new.items
-        ≡ map item_view items.old.items ++ line_items edition common (line_view line)) }
+    ensures { OnOk result (map item_shape items.new.items
+        ≡ map item_shape items.old.items ++ line_items edition common (line_shape line)) }
 {
     let Line {
         start,
@@ -121,35 +182,22 @@ fn add_line(
         ending,
     } = line;
     let kept = kept_from(common, start, spaces);
-    match (pieces.first(), ending) {
-        (None, Ending::Lf(place)) => {
-            items.push(Item::Text {
-                from: kept,
-                to: place + 1,
-            })?;
-            return Ok(());
-        }
-        (Some(Piece::Placed { .. }), _) => {
-            if edition == Edition::Two && kept < start + spaces {
-                items.push(Item::Text {
-                    from: kept,
-                    to: start + spaces,
-                })?;
-            }
-        }
-        _ => {}
+    if pieces.is_empty() {
+        return add_bare_line(kept, ending, items);
     }
+    let indent = indent_of(edition, kept, start + spaces, &pieces);
+    add_waiting(indent, items)?;
     add_pieces(Some(kept), pieces, ending, items)
 }
 
 /// The items of all lines, under a common indent.
-pub(crate) fn items_of(
+pub(crate) fn items_of<T: Drop>(
     alloc: Global,
     edition: Edition,
     common: Option<usize>,
-    layout: Layout,
-) -> Result<Vec<Item>, AllocError>
-    ensures { IfOk result (λ items. map item_view items.items ≡ items_with edition common (layout_view layout)) }
+    layout: Layout<T>,
+) -> Result<Vec<Item<T>>, AllocError>
+    ensures { IfOk result (λ items. map item_shape items.items ≡ items_with edition common (layout_shape layout)) }
 {
     let Layout { opening, lines } = layout;
     let mut items = Vec::new(alloc);

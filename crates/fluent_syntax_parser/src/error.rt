@@ -102,6 +102,7 @@ impl<'s> Source<'s> {
     }
 
     /// The error of a refusal, whose junk is that part of the text.
+    #[inline(never)]
     pub(crate) fn error_of(
         &self,
         alloc: Global,

@@ -3,13 +3,12 @@ ghost use Rattle.std.specs.Prelude.{◌+◌, ◌<◌, ◌^◌};
 ghost use Rattle.fluent_syntax_parser.specs.Endings.{EndsWithin};
 
 use fluent_syntax_tree::ast::Expression;
-use fluent_syntax_tree::spans::Span;
 
 /// A run of text, or a placeable.
 #[derive(Drop)]
-pub(crate) enum Piece {
+pub(crate) enum Piece<T> {
     Run { from: usize, to: usize },
-    Placed { expression: Expression<Span> },
+    Placed { expression: Expression<T> },
 }
 
 /// How a line ends: LF or CRLF, which begins at the place, or the text's end.
@@ -22,10 +21,10 @@ pub(crate) enum Ending {
 
 /// A line of a pattern: its leading spaces, what follows them, and its ending.
 #[derive(Drop)]
-pub(crate) struct Line {
+pub(crate) struct Line<T> {
     pub(crate) start: usize,
     pub(crate) spaces: usize,
-    pub(crate) pieces: Vec<Piece>,
+    pub(crate) pieces: Vec<Piece<T>>,
     pub(crate) ending: Ending,
     ghost fits: { start + spaces < 2 ^ 64 },
     ghost ends: { EndsWithin ending },

@@ -6,23 +6,25 @@ ghost use Rattle.fluent_syntax_grammar.specs.Grammar.{within};
 ghost use Rattle.fluent_syntax_grammar.specs.Layout.{crlf_at, lf_at};
 ghost use Rattle.fluent_syntax_grammar.specs.Lines.{belongs, ending, is_run_place, more_lines, more_pieces};
 ghost use Rattle.fluent_syntax_grammar.specs.Places.{has_eol, Stretch, Word};
-ghost use Rattle.fluent_syntax_parser.specs.Meets.{Meets};
+ghost use Rattle.fluent_syntax_parser.specs.Made.{Makes};
 ghost use Rattle.fluent_syntax_parser.specs.Endings.{EndsWithin};
 ghost use Rattle.fluent_syntax_parser.specs.Lanes.{is_passed};
+ghost use Rattle.fluent_syntax_parser.specs.Layouts.{line_of, piece_of};
 ghost use Rattle.fluent_syntax_parser.specs.Lines.{ending_view, line_view, piece_view};
 
 use crate::fault::{Fault, ReadFault, Refusal};
 use crate::lanes::{LANES, text_run};
 use crate::line::{Ending, Line, Piece};
+use crate::reader::Reader;
 use crate::source::Source;
-use fluent_syntax_tree::edition::Edition;
+use crate::texts::MakeTexts;
 use memchr::memchr3;
-use std::alloc::Global;
 
 /// The ending at a place, by where it ends.
 fn ending_at(place: usize, next: usize) -> Ending
     requires { place < next }
-    ensures { ending_view result ≡ (if next == place + 1 then lf_at place else crlf_at place) }
+    ensures seen { ending_view result ≡ (if next == place + 1 then lf_at place else crlf_at place) }
+    ensures ends { EndsWithin result }
 {
     if next == place + 1 {
         Ending::Lf(place)
@@ -96,30 +98,31 @@ impl<'s> Source<'s> {
             None => (Ending::TextEnd, ptr),
         }
     }
+}
 
+impl<'s, 't, M: MakeTexts> Reader<'s, 't, M> {
     /// Reads the rest of a line, up to its ending.
     #[cycle(readers)]
     pub(crate) fn get_pieces(
         &self,
-        alloc: Global,
-        edition: Edition,
         nesting: usize,
         ptr: usize,
-    ) -> Result<(Vec<Piece>, usize), ReadFault>
-        requires { ptr ≤ length self.now.bytes.now }
-        ensures meets { let t = self.now.bytes.now in
-            Meets t (more_pieces t (within edition t nesting)) (λ pieces. map piece_view pieces.items) ptr result }
-        ensures within { IfOk result (λ read. (ptr ≤ read.1) × (read.1 ≤ length self.now.bytes.now)) }
-        ensures stops { let t = self.now.bytes.now in
+    ) -> Result<(Vec<Piece<M::Text>>, usize), ReadFault>
+        requires { ptr ≤ length self.now.source.bytes.now }
+        ensures meets { let t = self.now.source.bytes.now in
+            Makes t (map (piece_of (M.source self.now.texts.now))) (more_pieces t (within self.now.edition t nesting))
+            (λ pieces. map (piece_view M.made) pieces.items) ptr result }
+        ensures within { IfOk result (λ read. (ptr ≤ read.1) × (read.1 ≤ length self.now.source.bytes.now)) }
+        ensures stops { let t = self.now.source.bytes.now in
             IfOk result (λ read. has_eol t read.1 ≡ false → slice_get t read.1 ≡ None) }
     {
-        let mut pieces = Vec::new(alloc);
+        let mut pieces = Vec::new(self.alloc);
         let mut place = ptr;
         loop {
-            match self.byte_at(place) {
+            match self.source.byte_at(place) {
                 None => return Ok((pieces, place)),
                 Some(byte) => {
-                    if self.is_eol_at(place) {
+                    if self.source.is_eol_at(place) {
                         return Ok((pieces, place));
                     }
                     if byte == b'}' {
@@ -129,13 +132,11 @@ impl<'s> Source<'s> {
                         }));
                     }
                     if byte == b'{' {
-                        let (expression, next) = self.get_placeable(
-                            alloc, edition, nesting, place,
-                        )?;
+                        let (expression, next) = self.get_placeable(nesting, place)?;
                         pieces.push(Piece::Placed { expression })?;
                         place = next;
                     } else {
-                        let to = self.run_end(place);
+                        let to = self.source.run_end(place);
                         pieces.push(Piece::Run { from: place, to })?;
                         place = to;
                     }
@@ -148,29 +149,28 @@ impl<'s> Source<'s> {
     #[cycle(readers)]
     pub(crate) fn get_lines(
         &self,
-        alloc: Global,
-        edition: Edition,
         nesting: usize,
         ptr: usize,
-    ) -> Result<(Vec<Line>, usize), ReadFault>
-        requires { ptr ≤ length self.now.bytes.now }
-        ensures meets { let t = self.now.bytes.now in
-            Meets t (more_lines t (within edition t nesting)) (λ lines. map line_view lines.items) ptr result }
-        ensures within { IfOk result (λ read. (ptr ≤ read.1) × (read.1 ≤ length self.now.bytes.now)) }
+    ) -> Result<(Vec<Line<M::Text>>, usize), ReadFault>
+        requires { ptr ≤ length self.now.source.bytes.now }
+        ensures meets { let t = self.now.source.bytes.now in
+            Makes t (map (line_of (M.source self.now.texts.now))) (more_lines t (within self.now.edition t nesting))
+            (λ lines. map (line_view M.made) lines.items) ptr result }
+        ensures within { IfOk result (λ read. (ptr ≤ read.1) × (read.1 ≤ length self.now.source.bytes.now)) }
     {
-        let mut lines = Vec::new(alloc);
+        let mut lines = Vec::new(self.alloc);
         let mut start = ptr;
         loop {
-            let first = self.skip_blank_inline(start);
-            match self.byte_at(first) {
+            let first = self.source.skip_blank_inline(start);
+            match self.source.byte_at(first) {
                 None => return Ok((lines, first)),
                 Some(byte) => {
-                    if !self.belongs(byte, first > start, first) {
+                    if !self.source.belongs(byte, first > start, first) {
                         return Ok((lines, start));
                     }
                     let spaces = first - start;
-                    let (pieces, end) = self.get_pieces(alloc, edition, nesting, first)?;
-                    match self.eol_end(end) {
+                    let (pieces, end) = self.get_pieces(nesting, first)?;
+                    match self.source.eol_end(end) {
                         None => {
                             let ending = Ending::TextEnd;
                             lines.push(Line {

@@ -8,7 +8,9 @@ ghost use Rattle.fluent_syntax_parser.specs.Fields.{fields, fields_view};
 ghost use Rattle.fluent_syntax_parser.specs.Meets.{Meets};
 
 use crate::fault::{Fault, ReadFault, Refusal};
+use crate::reader::Reader;
 use crate::source::Source;
+use crate::texts::AsSpans;
 use fluent_syntax_tree::ast::{Attribute, Identifier, Message, Pattern, Term};
 use fluent_syntax_tree::edition::Edition;
 use fluent_syntax_tree::spans::Span;
@@ -37,7 +39,14 @@ impl<'s> Source<'s> {
     {
         let equals = self.skip_blank_inline(ptr);
         let start = self.expect_byte(b'=', equals)?;
-        let (value, end) = self.get_pattern(alloc, edition, nesting, start)?;
+        let texts = AsSpans;
+        let reader = Reader {
+            source: *self,
+            alloc,
+            edition,
+            texts: &texts,
+        };
+        let (value, end) = reader.get_pattern(nesting, start)?;
         let line = self.skip_blank_block(end);
         let (attributes, place) = self.get_attributes(alloc, edition, nesting, line)?;
         Ok((Fields { value, attributes }, place))
@@ -75,6 +84,7 @@ impl<'s> Source<'s> {
         Ok((message, place))
     }
 
+    #[inline(never)]
     pub(crate) fn get_term(
         &self,
         alloc: Global,

@@ -1,23 +1,27 @@
 //! Patterns.
 ghost use Rattle.std.specs.Prelude.{◌≡◌, ◌-◌, ◌≤◌, ℕ, length, option_map, IfErr, IfOk, IfSome, IsSomeAnd, None, Some};
 ghost use Rattle.std.specs.Prelude.{[]};
+ghost use Rattle.fluent_syntax_tree.specs.Tree.{pattern_map};
 ghost use Rattle.fluent_syntax_tree.specs.View.{pattern_view};
 ghost use Rattle.fluent_syntax_grammar.specs.Construct.{Read, at_each};
 ghost use Rattle.fluent_syntax_grammar.specs.Grammar.{more_lines, within};
 ghost use Rattle.fluent_syntax_grammar.specs.Patterns.{layout_at, pattern};
-ghost use Rattle.fluent_syntax_grammar.specs.Places.{BlankBlock, after_eol};
+ghost use Rattle.fluent_syntax_grammar.specs.Places.{BlankBlock, InlineBlank, after_eol};
 ghost use Rattle.fluent_syntax_parser.specs.Elements.{layout_view};
-ghost use Rattle.fluent_syntax_parser.specs.Meets.{Meets};
+ghost use Rattle.fluent_syntax_parser.specs.Layouts.{layout_of};
+ghost use Rattle.fluent_syntax_parser.specs.Made.{Makes, OpensMade};
 ghost use Rattle.fluent_syntax_parser.specs.ShortPatterns.{EndsBlank, EndsLine, NoLines, OpensAs, text_pattern};
 
 use crate::elements::Layout;
 use crate::fault::ReadFault;
 use crate::line::Line;
+use crate::reader::Reader;
 use crate::source::Source;
+use crate::texts::MakeTexts;
 use fluent_syntax_tree::ast::{Pattern, PatternElement};
 use fluent_syntax_tree::edition::Edition;
 use fluent_syntax_tree::spans::Span;
-use std::alloc::{AllocError, Global};
+use std::alloc::AllocError;
 
 impl<'s> Source<'s> {
     /// Where a pattern ends that has no line from a line's start on.
@@ -106,27 +110,6 @@ impl<'s> Source<'s> {
         None
     }
 
-    /// The pattern that `short_text` reads.
-    fn get_short_pattern(
-        &self,
-        alloc: Global,
-        edition: Edition,
-        start: usize,
-    ) -> Result<Option<(Pattern<Span>, usize)>, AllocError>
-        requires { start ≤ length self.now.bytes.now }
-        ensures opens { IfOk result (λ short. IfSome short
-            (λ read. OpensAs edition self.now.bytes.now start (Some (pattern_view (λ s. s) read.0)) read.1)) }
-        ensures within { IfOk result (λ short. IfSome short
-            (λ read. (start ≤ read.1) × (read.1 ≤ length self.now.bytes.now))) }
-    {
-        let Some((value, end)) = self.short_text(edition, start) else {
-            return Ok(None);
-        };
-        let mut elements = Vec::with_capacity(alloc, 1)?;
-        elements.push(PatternElement::TextElement { value })?;
-        Ok(Some((Pattern { elements }, end)))
-    }
-
     /// Where a pattern ends that holds nothing, after the inline blank that opens it, if a line ends there.
     pub(crate) fn end_without_text(&self, edition: Edition, start: usize) -> Option<usize>
         requires { start ≤ length self.now.bytes.now }
@@ -143,25 +126,43 @@ impl<'s> Source<'s> {
         let end = self.end_without_lines(edition, self.skip_blank_block(next))?;
         Some(end)
     }
+}
+
+impl<'s, 't, M: MakeTexts> Reader<'s, 't, M> {
+    /// The pattern that `short_text` reads.
+    fn get_short_pattern(
+        &self,
+        start: usize,
+    ) -> Result<Option<(Pattern<M::Text>, usize)>, AllocError>
+        requires { start ≤ length self.now.source.bytes.now }
+        ensures opens { IfOk result (λ short. IfSome short
+            (λ read. OpensMade (M.source self.now.texts.now) self.now.edition self.now.source.bytes.now start
+            (pattern_view M.made read.0) read.1)) }
+        ensures within { IfOk result (λ short. IfSome short
+            (λ read. (start ≤ read.1) × (read.1 ≤ length self.now.source.bytes.now))) }
+    {
+        let Some((value, end)) = self.source.short_text(self.edition, start) else {
+            return Ok(None);
+        };
+        let value = self.text(value)?;
+        let mut elements = Vec::with_capacity(self.alloc, 1)?;
+        elements.push(PatternElement::TextElement { value })?;
+        Ok(Some((Pattern { elements }, end)))
+    }
 
     /// Reads the layout of a pattern, after the inline blank that opens it.
     #[cycle(readers)]
-    fn get_layout(
-        &self,
-        alloc: Global,
-        edition: Edition,
-        nesting: usize,
-        ptr: usize,
-    ) -> Result<(Layout, usize), ReadFault>
-        requires { ptr ≤ length self.now.bytes.now }
-        ensures meets { let t = self.now.bytes.now in
-            Meets t (at_each (after_eol t) (layout_at t (within edition t nesting))) layout_view ptr result }
-        ensures within { IfOk result (λ read. (ptr ≤ read.1) × (read.1 ≤ length self.now.bytes.now)) }
+    fn get_layout(&self, nesting: usize, ptr: usize) -> Result<(Layout<M::Text>, usize), ReadFault>
+        requires { ptr ≤ length self.now.source.bytes.now }
+        ensures meets { let t = self.now.source.bytes.now in
+            Makes t (layout_of (M.source self.now.texts.now))
+            (at_each (after_eol t) (layout_at t (within self.now.edition t nesting))) (layout_view M.made) ptr result }
+        ensures within { IfOk result (λ read. (ptr ≤ read.1) × (read.1 ≤ length self.now.source.bytes.now)) }
     {
-        match self.eol_end(ptr) {
+        match self.source.eol_end(ptr) {
             Some(next) => {
-                let first = self.skip_blank_block(next);
-                let (lines, end) = self.get_lines(alloc, edition, nesting, first)?;
+                let first = self.source.skip_blank_block(next);
+                let (lines, end) = self.get_lines(nesting, first)?;
                 Ok((
                     Layout {
                         opening: None,
@@ -171,9 +172,9 @@ impl<'s> Source<'s> {
                 ))
             }
             None => {
-                let (pieces, end) = self.get_pieces(alloc, edition, nesting, ptr)?;
-                let (ending, next) = self.get_ending(end);
-                let (lines, end) = self.get_lines(alloc, edition, nesting, next)?;
+                let (pieces, end) = self.get_pieces(nesting, ptr)?;
+                let (ending, next) = self.source.get_ending(end);
+                let (lines, end) = self.get_lines(nesting, next)?;
                 let opening = Some(Line {
                     start: ptr,
                     spaces: 0,
@@ -185,30 +186,49 @@ impl<'s> Source<'s> {
         }
     }
 
+    /// Reads a pattern that does not stand on one line, or that has a placeable. The inline blank that opens it ends at
+    /// `start`.
+    #[cycle(readers)]
+    #[inline(never)]
+    fn get_long_pattern(
+        &self,
+        nesting: usize,
+        ptr: usize,
+        start: usize,
+    ) -> Result<(Option<Pattern<M::Text>>, usize), ReadFault>
+        requires within { start ≤ length self.now.source.bytes.now }
+        requires blank { InlineBlank self.now.source.bytes.now ptr start }
+        ensures meets { let t = self.now.source.bytes.now in
+            Makes t (option_map (pattern_map (M.source self.now.texts.now)))
+            (pattern self.now.edition t (within self.now.edition t nesting)) (option_map (pattern_view M.made)) ptr
+            result }
+        ensures within { IfOk result (λ read. (ptr ≤ read.1) × (read.1 ≤ length self.now.source.bytes.now)) }
+    {
+        let (layout, end) = self.get_layout(nesting, start)?;
+        let pattern = self.pattern_of(layout)?;
+        Ok((pattern, end))
+    }
+
     /// Reads a pattern, if one stands there. That of one line without placeable is read by itself, and takes one
     /// allocation.
     #[cycle(readers)]
     pub(crate) fn get_pattern(
         &self,
-        alloc: Global,
-        edition: Edition,
         nesting: usize,
         ptr: usize,
-    ) -> Result<(Option<Pattern<Span>>, usize), ReadFault>
-        requires { ptr ≤ length self.now.bytes.now }
-        ensures meets { let t = self.now.bytes.now in
-            Meets t (pattern edition t (within edition t nesting)) (option_map (pattern_view (λ s. s))) ptr result }
-        ensures within { IfOk result (λ read. (ptr ≤ read.1) × (read.1 ≤ length self.now.bytes.now)) }
+    ) -> Result<(Option<Pattern<M::Text>>, usize), ReadFault>
+        requires { ptr ≤ length self.now.source.bytes.now }
+        ensures meets { let t = self.now.source.bytes.now in
+            Makes t (option_map (pattern_map (M.source self.now.texts.now)))
+            (pattern self.now.edition t (within self.now.edition t nesting)) (option_map (pattern_view M.made)) ptr
+            result }
+        ensures within { IfOk result (λ read. (ptr ≤ read.1) × (read.1 ≤ length self.now.source.bytes.now)) }
     {
-        let start = self.skip_blank_inline(ptr);
-        let short = self.get_short_pattern(alloc, edition, start)?;
+        let start = self.source.skip_blank_inline(ptr);
+        let short = self.get_short_pattern(start)?;
         match short {
             Some((pattern, end)) => Ok((Some(pattern), end)),
-            None => {
-                let (layout, end) = self.get_layout(alloc, edition, nesting, start)?;
-                let pattern = self.pattern_of(alloc, edition, layout)?;
-                Ok((pattern, end))
-            }
+            None => self.get_long_pattern(nesting, ptr, start),
         }
     }
 }

@@ -2,14 +2,19 @@
 ghost use Rattle.std.specs.Prelude.{◌≡◌, ◌≤◌, length, option_map, IfOk};
 ghost use Rattle.std.specs.List.{list_all};
 ghost use Rattle.fluent_syntax_tree.specs.Spans.{bytes_at};
-ghost use Rattle.fluent_syntax_tree.specs.Tree.{arguments_of};
-ghost use Rattle.fluent_syntax_tree.specs.View.{arguments_view, identifier_view, inline_view};
+ghost use Rattle.fluent_syntax_tree.specs.Tree.{MaybeArguments, inline_map, maybe_map};
+ghost use Rattle.fluent_syntax_tree.specs.View.{identifier_view, inline_view};
+ghost use Rattle.fluent_syntax_tree.specs.declared.spans.Span.{Span};
 ghost use Rattle.fluent_syntax_grammar.specs.Arguments.{accessor};
 ghost use Rattle.fluent_syntax_grammar.specs.Inline.{is_callee_byte, named_reference};
+ghost use Rattle.fluent_syntax_parser.specs.Gathered.{maybe_view};
+ghost use Rattle.fluent_syntax_parser.specs.Made.{Makes};
 ghost use Rattle.fluent_syntax_parser.specs.Meets.{Answers};
 
-use crate::fault::{Fault, Refusal};
+use crate::fault::{Fault, ReadFault, Refusal};
+use crate::reader::Reader;
 use crate::source::Source;
+use crate::texts::MakeTexts;
 use fluent_syntax_tree::ast::{CallArguments, Identifier, InlineExpression};
 use fluent_syntax_tree::spans::Span;
 
@@ -43,33 +48,38 @@ impl<'s> Source<'s> {
             Ok((None, start))
         }
     }
+}
 
-    /// The reference that an identifier with its arguments is: of a function with arguments, and without of a message,
-    /// perhaps with an attribute.
+impl<'s, 't, M: MakeTexts> Reader<'s, 't, M> {
+    /// The reference that a name with its arguments is: of a function with arguments, and without of a message, perhaps
+    /// with an attribute.
     pub(crate) fn get_named_reference(
         &self,
-        id: Identifier<Span>,
-        arguments: Option<CallArguments<Span>>,
+        name: Span,
+        arguments: Option<CallArguments<M::Text>>,
         ptr: usize,
-    ) -> Result<(InlineExpression<Span>, usize), Refusal>
-        requires { ptr ≤ length self.now.bytes.now }
-        ensures meets { let t = self.now.bytes.now in
-            let given = arguments_of (option_map (arguments_view (λ s. s)) arguments) in
-            Answers t (named_reference t id.name given) (inline_view (λ s. s)) ptr result }
-        ensures within { IfOk result (λ read. (ptr ≤ read.1) × (read.1 ≤ length self.now.bytes.now)) }
+    ) -> Result<(InlineExpression<M::Text>, usize), ReadFault>
+        requires { ptr ≤ length self.now.source.bytes.now }
+        ensures meets { let t = self.now.source.bytes.now in let f = M.source self.now.texts.now in
+            (given : MaybeArguments Span) → maybe_view M.made arguments ≡ maybe_map f given →
+            Makes t (inline_map f) (named_reference t name given) (inline_view M.made) ptr result }
+        ensures within { IfOk result (λ read. (ptr ≤ read.1) × (read.1 ≤ length self.now.source.bytes.now)) }
     {
         match arguments {
             Some(arguments) => {
-                if !self.is_callee(id.name) {
-                    return Err(Refusal {
+                if !self.source.is_callee(name) {
+                    return Err(ReadFault::Refused(Refusal {
                         fault: Fault::Callee,
                         place: ptr,
-                    });
+                    }));
                 }
+                let id = self.identifier(name)?;
                 Ok((InlineExpression::FunctionReference { id, arguments }, ptr))
             }
             None => {
-                let (attribute, ptr) = self.get_attribute_accessor(ptr)?;
+                let (attribute, ptr) = self.source.get_attribute_accessor(ptr)?;
+                let id = self.identifier(name)?;
+                let attribute = self.attribute(attribute)?;
                 Ok((InlineExpression::MessageReference { id, attribute }, ptr))
             }
         }

@@ -1,49 +1,21 @@
 //! The tail of a pattern's items, and the elements that are left.
-ghost use Rattle.std.specs.Prelude.{◌≡◌, map, option_map, IfOk};
+ghost use Rattle.std.specs.Prelude.{◌≡◌, map, IfOk};
 ghost use Rattle.fluent_syntax_tree.specs.Spans.{bytes_at};
-ghost use Rattle.fluent_syntax_tree.specs.View.{element_view, pattern_view};
-ghost use Rattle.fluent_syntax_grammar.specs.Elements.{is_nonblank, pattern_of, stays, trimmed_end};
-ghost use Rattle.fluent_syntax_parser.specs.Elements.{CutsTo, element_of, item_view, last_of, layout_view};
+ghost use Rattle.fluent_syntax_tree.specs.View.{element_view};
+ghost use Rattle.fluent_syntax_grammar.specs.Elements.{is_nonblank, trimmed_end};
+ghost use Rattle.fluent_syntax_parser.specs.Elements.{CutsTo, MakesPattern, element_of, item_view, last_of};
+ghost use Rattle.fluent_syntax_parser.specs.Layouts.{stays};
 
 use crate::elements::{Item, Layout, items_of};
 use crate::indents::common_indent;
+use crate::reader::Reader;
 use crate::source::Source;
+use crate::texts::MakeTexts;
 use fluent_syntax_grammar::texts;
 use fluent_syntax_tree::ast::{Pattern, PatternElement};
-use fluent_syntax_tree::edition::Edition;
 use fluent_syntax_tree::spans::Span;
 use fluent_syntax_tree::trimming::trimmed_len;
-use std::alloc::{AllocError, Global};
-
-/// The element that an item is which others follow.
-fn element(item: Item) -> PatternElement<Span>
-    ensures { element_view (λ s. s) result ≡ element_of (item_view item) }
-{
-    match item {
-        Item::Text { from, to } => PatternElement::TextElement {
-            value: Span {
-                start: from,
-                end: to,
-            },
-        },
-        Item::Filled { expression } => PatternElement::Placeable { expression },
-    }
-}
-
-/// The elements that items are which one more follows, with room for that.
-fn followed_elements(
-    alloc: Global,
-    items: Vec<Item>,
-) -> Result<Vec<PatternElement<Span>>, AllocError>
-    ensures { IfOk result (λ elements. map (element_view (λ s. s)) elements.items
-        ≡ map element_of (map item_view items.items)) }
-{
-    let mut elements = Vec::with_capacity(alloc, items.len().saturating_add(1))?;
-    for item in items {
-        elements.push(element(item))?;
-    }
-    Ok(elements)
-}
+use std::alloc::AllocError;
 
 impl<'s> Source<'s> {
     /// Whether a text holds a byte other than space apart from an ending LF.
@@ -51,31 +23,6 @@ impl<'s> Source<'s> {
         ensures { result ≡ is_nonblank (bytes_at self.now.bytes.now text) }
     {
         texts::is_nonblank(self.bytes_of(text))
-    }
-
-    /// Whether it is a placeable, or a nonblank text.
-    fn stays(&self, item: &Item) -> bool
-        ensures { result ≡ stays self.now.bytes.now (item_view item.now) }
-    {
-        match item {
-            Item::Filled { .. } => true,
-            Item::Text { from, to } => self.is_nonblank(Span {
-                start: *from,
-                end: *to,
-            }),
-        }
-    }
-
-    /// Takes the items from the end on, up to the last one that stays there.
-    fn pop_last(&self, items: &mut Vec<Item>) -> Option<Item>
-        ensures { CutsTo self.now.bytes.now items.old.items items.new.items result }
-    {
-        while let Some(last) = items.pop() {
-            if self.stays(&last) {
-                return Some(last);
-            }
-        }
-        None
     }
 
     /// The end of a text without its ending spaces, CRs and LFs.
@@ -87,39 +34,100 @@ impl<'s> Source<'s> {
             end: to,
         }))
     }
+}
 
-    /// The element that the last item is.
-    fn last_element(&self, item: Item) -> PatternElement<Span>
-        ensures { element_view (λ s. s) result ≡ last_of self.now.bytes.now (item_view item) }
+impl<'s, 't, M: MakeTexts> Reader<'s, 't, M> {
+    /// Whether it is a placeable, or a nonblank text.
+    fn stays(&self, item: &Item<M::Text>) -> bool
+        ensures { result ≡ stays self.now.source.bytes.now (item_view M.made item.now) }
     {
         match item {
-            Item::Text { from, to } => PatternElement::TextElement {
-                value: Span {
+            Item::Filled { .. } => true,
+            Item::Text { from, to } => self.source.is_nonblank(Span {
+                start: *from,
+                end: *to,
+            }),
+        }
+    }
+
+    /// Takes the items from the end on, up to the last one that stays there.
+    fn pop_last(&self, items: &mut Vec<Item<M::Text>>) -> Option<Item<M::Text>>
+        ensures { CutsTo M.made self.now.source.bytes.now items.old.items items.new.items result }
+    {
+        while let Some(last) = items.pop() {
+            if self.stays(&last) {
+                return Some(last);
+            }
+        }
+        None
+    }
+
+    /// The element that an item is which others follow.
+    fn element(&self, item: Item<M::Text>) -> Result<PatternElement<M::Text>, AllocError>
+        ensures { IfOk result (λ element. element_view M.made element
+            ≡ element_of (M.source self.now.texts.now) (item_view M.made item)) }
+    {
+        match item {
+            Item::Text { from, to } => {
+                let value = self.text(Span {
                     start: from,
-                    end: self.trimmed_end(from, to),
-                },
-            },
-            Item::Filled { expression } => PatternElement::Placeable { expression },
+                    end: to,
+                })?;
+                Ok(PatternElement::TextElement { value })
+            }
+            Item::Filled { expression } => Ok(PatternElement::Placeable { expression }),
+        }
+    }
+
+    /// The elements that items are which one more follows, with room for that.
+    fn followed_elements(
+        &self,
+        items: Vec<Item<M::Text>>,
+    ) -> Result<Vec<PatternElement<M::Text>>, AllocError>
+        ensures { IfOk result (λ elements. map (element_view M.made) elements.items
+            ≡ map (element_of (M.source self.now.texts.now)) (map (item_view M.made) items.items)) }
+    {
+        let mut elements = Vec::with_capacity(self.alloc, items.len().saturating_add(1))?;
+        for item in items {
+            let element = self.element(item)?;
+            elements.push(element)?;
+        }
+        Ok(elements)
+    }
+
+    /// The element that the last item is.
+    fn last_element(&self, item: Item<M::Text>) -> Result<PatternElement<M::Text>, AllocError>
+        ensures { IfOk result (λ element. element_view M.made element
+            ≡ last_of (M.source self.now.texts.now) self.now.source.bytes.now (item_view M.made item)) }
+    {
+        match item {
+            Item::Text { from, to } => {
+                let value = self.text(Span {
+                    start: from,
+                    end: self.source.trimmed_end(from, to),
+                })?;
+                Ok(PatternElement::TextElement { value })
+            }
+            Item::Filled { expression } => Ok(PatternElement::Placeable { expression }),
         }
     }
 
     /// The pattern that a layout spells, if it spells one.
     pub(crate) fn pattern_of(
         &self,
-        alloc: Global,
-        edition: Edition,
-        layout: Layout,
-    ) -> Result<Option<Pattern<Span>>, AllocError>
-        ensures { IfOk result (λ pattern. option_map (pattern_view (λ s. s)) pattern
-            ≡ pattern_of edition self.now.bytes.now (layout_view layout)) }
+        layout: Layout<M::Text>,
+    ) -> Result<Option<Pattern<M::Text>>, AllocError>
+        ensures { let t = self.now.source.bytes.now in
+            IfOk result (MakesPattern (M.source self.now.texts.now) M.made self.now.edition t layout) }
     {
-        let common = common_indent(edition, &layout.lines);
-        let mut items = items_of(alloc, edition, common, layout)?;
+        let common = common_indent::<M>(self.edition, &layout.lines);
+        let mut items = items_of(self.alloc, self.edition, common, layout)?;
         match self.pop_last(&mut items) {
             None => Ok(None),
             Some(last) => {
-                let mut elements = followed_elements(alloc, items)?;
-                elements.push(self.last_element(last))?;
+                let mut elements = self.followed_elements(items)?;
+                let element = self.last_element(last)?;
+                elements.push(element)?;
                 Ok(Some(Pattern { elements }))
             }
         }

@@ -1,5 +1,6 @@
 //! Marks, names and numbers.
-ghost use Rattle.std.specs.Prelude.{◌≡◌, ◌<◌, ◌≤◌, length, IfOk, IsTrue};
+ghost use Rattle.std.specs.Prelude.{◌≡◌, ◌<◌, ◌≤◌, ℕ, length, IfOk, IsTrue, Some};
+ghost use Rattle.fluent_syntax_tree.specs.declared.spans.Span.{Span};
 ghost use Rattle.fluent_syntax_grammar.specs.Bytes.{is_digit, is_name_byte};
 ghost use Rattle.fluent_syntax_grammar.specs.Construct.{Read};
 ghost use Rattle.fluent_syntax_grammar.specs.Places.{Word};
@@ -9,6 +10,7 @@ ghost use Rattle.fluent_syntax_parser.specs.Meets.{MeetsEnd, MeetsText};
 use crate::fault::{Fault, Refusal};
 use crate::lanes::{LANES, name_run};
 use crate::source::Source;
+use fluent_syntax_tree::spans::Span;
 
 fn is_name_byte(byte: u8) -> bool
     ensures { result ≡ is_name_byte byte }
@@ -80,6 +82,17 @@ impl<'s> Source<'s> {
             });
         }
         Ok(self.name_end(ptr))
+    }
+
+    /// The name that stands at a place, if one does.
+    pub(crate) fn name_at(&self, start: usize) -> Option<Span>
+        requires { start ≤ length self.now.bytes.now }
+        ensures { (name : Span) (end : ℕ) → identifier self.now.bytes.now start (Read name end) → result ≡ Some name }
+    {
+        match self.identifier_end(start) {
+            Ok(end) => Some(Span { start, end }),
+            Err(_) => None,
+        }
     }
 
     /// The end of the longest run of digits.

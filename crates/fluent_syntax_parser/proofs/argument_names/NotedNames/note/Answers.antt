@@ -1,33 +1,33 @@
-use Rattle.std.proofs.Common.{◌≡◌, ◌∙◌, ◌≤◌, arith, length, subst, sym}
+use Rattle.std.proofs.Common.{◌∷◌, [], ◌≤◌, arith, ap, length, length-append}
 use Rattle.std.specs.Cmp.Lexicographic.{slice_cmp}
 use Rattle.std.specs.Ordering.{nat_cmp}
-use Rattle.std.proofs.lemmas.List.{length-map}
+use Rattle.std.proofs.lemmas.List.{length-map, map-append}
 use Rattle.std.proofs.lemmas.Map.Lookups.{exact_bytes}
 use Rattle.fluent_syntax_tree.specs.Spans.{bytes_at}
 use Rattle.fluent_syntax_parser.specs.Gathered.{names_in_order}
-use Rattle.fluent_syntax_parser.specs.Noted.{NotesAll}
 use Rattle.fluent_syntax_parser.proofs.Noted.{notes_many}
 use Rattle.fluent_syntax_parser.proofs.argument_names.NotedNames.note.Goals as goal
-use Rattle.fluent_syntax_parser.proofs.argument_names.NotedNames.note.Goals.{
-  then-named-2+in_ok-note_all,
-  else-named-2,
-}
 
-pub returns : goal.returns
-returns c =
+pub returns-clause-noted : goal.returns-clause-noted
+returns-clause-noted c =
     let t = c.args.source.now.bytes.now in
-    let named = c.args.named.now in
-    let names = names_in_order t named in
-    let size = length-map named (λ a. bytes_at t a.name.name) in
-    let not_few = c.if-named.false in
-    let noted : NotesAll (λ k. k.now) c.if-named-2.self.table.keys names =
-    elim c.if-named-2.branch [
-      | then-named-2+in_ok-note_all w ↦
-          subst (λ s. NotesAll (λ k. k.now) s.table.keys names) (sym w.self-is) w.in_ok-note_all.ensures
-      | else-named-2 w ↦
-          (let more = w.if-named-2.false in let many : 32 ≤ length names = omega (arith, size, not_few, more) in
-          subst (λ s. NotesAll (λ k. k.now) s.table.keys names) (sym w.self-is) (c.requires.1 many))
-    ] in
-    notes_many (λ k. k.now) (λ x y. slice_cmp nat_cmp x.now y.now) (λ x y e. exact_bytes x.now y.now e)
-    c.if-named-2.self.table.keys _ names c.bytes_of.result _ noted c.in_ok-insert.ensures.keys c.bytes_of.ensures
-    (omega (arith, size, not_few))
+    let old = c.args.self.now.names.items in
+    let size = length-map old (bytes_at t) in
+    let added = ap length c.in_ok-push.ensures.items in
+    let one = length-append old (c.args.name ∷ []) in
+    let many : 32 ≤ length (names_in_order t old) =
+    omega (
+      arith,
+      size,
+      added,
+      one,
+      c.if-len-lt-MANY.false,
+      c.if-len-eq-MANY.false,
+      c.len.ensures,
+      c.len-2.ensures,
+      c.push.new.self.ok.0,
+    ) in
+    rw (c.in_ok-push.ensures.items, map-append (bytes_at t) old (c.args.name ∷ []))
+    (notes_many (λ k. k.now) (λ x y. slice_cmp nat_cmp x.now y.now) (λ x y e. exact_bytes x.now y.now e)
+    c.args.self.now.table.keys _ (names_in_order t old) c.bytes_of.result _ (c.requires.1 many)
+    c.in_ok-insert.ensures.keys c.bytes_of.ensures (omega (arith, many)))

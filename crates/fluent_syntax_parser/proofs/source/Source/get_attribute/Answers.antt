@@ -5,6 +5,8 @@ use Rattle.fluent_syntax_grammar.specs.Bytes.{equals_sign, full_stop}
 use Rattle.fluent_syntax_grammar.proofs.FunctionalWords.{functional_identifier, functional_inline_blank}
 use Rattle.fluent_syntax_grammar.proofs.FunctionalWords.{functional_token}
 use Rattle.fluent_syntax_parser.specs.Meets.{refused}
+use Rattle.fluent_syntax_parser.proofs.Made.{as_read}
+use Rattle.fluent_syntax_parser.proofs.SameTrees.{same_maybe_pattern}
 use Rattle.fluent_syntax_parser.proofs.Fails.{fails_first, fails_next}
 use Rattle.fluent_syntax_parser.proofs.source.Source.get_attribute.Goals as goal
 
@@ -47,7 +49,8 @@ returns-in_err-value-clause-meets c =
 
 pub returns-in-Some-clause-meets : goal.returns-in-Some-clause-meets
 returns-in-Some-clause-meets c =
-    let value = rw c.in-Some.is at c.in_ok-value.ensures.meets in
+    let read = as_read same_maybe_pattern c.in_ok-value.ensures.meets in
+    let value = rw c.in-Some.is at read in
     goes_on (passed c.skip_blank_inline-dot.ensures.blank)
     (goes_on c.in_ok-start.ensures.meets
     (goes_on c.in_ok-end.ensures.meets
@@ -58,7 +61,8 @@ returns-in-Some-clause-meets c =
 
 pub returns-in-None-clause-meets : goal.returns-in-None-clause-meets
 returns-in-None-clause-meets c =
-    let value = rw c.in-None.is at c.in_ok-value.ensures.meets in
+    let read = as_read same_maybe_pattern c.in_ok-value.ensures.meets in
+    let value = rw c.in-None.is at read in
     refused (λ k from to (a, b, d). rw (a, b, d)
     (goes_on (passed c.skip_blank_inline-dot.ensures.blank)
     (goes_on c.in_ok-start.ensures.meets

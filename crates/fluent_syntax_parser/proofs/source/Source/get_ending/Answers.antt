@@ -4,7 +4,7 @@ use Rattle.fluent_syntax_parser.proofs.source.Source.get_ending.Goals as goal
 
 pub returns-in-Some-clause-meets : goal.returns-in-Some-clause-meets
 returns-in-Some-clause-meets c =
-    rw c.ending_at.ensures (ends_line c.args.self.now.bytes.now _ _ (sym c.in-Some.ensures.eol))
+    rw c.ending_at.ensures.seen (ends_line c.args.self.now.bytes.now _ _ (sym c.in-Some.ensures.eol))
 
 pub returns-in-None-clause-meets : goal.returns-in-None-clause-meets
 returns-in-None-clause-meets c = ends_text c.args.self.now.bytes.now _ (sym c.in-None.ensures.eol)

@@ -6,6 +6,8 @@ use Rattle.fluent_syntax_grammar.proofs.FunctionalWords.{functional_blank_block,
 use Rattle.fluent_syntax_grammar.proofs.FunctionalWords.{functional_token}
 use Rattle.fluent_syntax_grammar.proofs.Nesting.{functional_within}
 use Rattle.fluent_syntax_parser.specs.Meets.{refused}
+use Rattle.fluent_syntax_parser.proofs.Made.{as_read}
+use Rattle.fluent_syntax_parser.proofs.SameTrees.{same_maybe_pattern}
 use Rattle.fluent_syntax_parser.proofs.Fails.{fails_first, fails_next}
 use Rattle.fluent_syntax_parser.proofs.source.Source.get_fields.Goals as goal
 
@@ -33,7 +35,8 @@ returns-in_err-attributes-clause-meets c =
     rw (p.1, p.2)
     (fails_next (functional_inline_blank t) (passed c.skip_blank_inline-equals.ensures.blank)
     (fails_next (functional_token t equals_sign) c.in_ok-start.ensures.meets
-    (fails_next (functional_pattern edition t _ (functional_within edition t _)) c.in_ok-value.ensures.meets
+    (fails_next (functional_pattern edition t _ (functional_within edition t _)) (as_read same_maybe_pattern
+    c.in_ok-value.ensures.meets)
     (fails_next (functional_blank_block t) (passed c.skip_blank_block-line.ensures.blank)
     (fails_first c.in_err-attributes.ensures.meets)))))
 
@@ -41,7 +44,7 @@ pub returns-clause-meets : goal.returns-clause-meets
 returns-clause-meets c =
     goes_on (passed c.skip_blank_inline-equals.ensures.blank)
     (goes_on c.in_ok-start.ensures.meets
-    (goes_on c.in_ok-value.ensures.meets
+    (goes_on (as_read same_maybe_pattern c.in_ok-value.ensures.meets)
     (goes_on (passed c.skip_blank_block-line.ensures.blank)
     (goes_on c.in_ok-attributes.ensures.meets
     given))))

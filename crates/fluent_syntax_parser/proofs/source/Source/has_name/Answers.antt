@@ -7,13 +7,13 @@ pub returns-then-eq : goal.returns-then-eq
 returns-then-eq c =
     let t = c.args.self.now.bytes.now in
     let test = sym c.eq.ensures ∙ c.if-eq.true in
-    let same = rw (c.bytes_of.ensures, c.bytes_of-in-loop-other.ensures, c.other-item.is) at test in
-    sym (name_found t (bytes_at t c.args.name) c.args.named.now c.loop-other.other-index _ c.loop-other-test.true same)
+    let same = rw (c.bytes_of.ensures, c.bytes_of-in-loop-other.ensures) at test in
+    sym (name_found t (bytes_at t c.args.name) c.args.names.now c.loop-other.other-index _ c.loop-other-test.true same)
 
 pub loop-other-preserved : goal.loop-other-preserved
 loop-other-preserved c =
     let t = c.args.self.now.bytes.now in
     let test = sym c.eq.ensures ∙ c.if-eq.false in
-    let same = rw (c.bytes_of.ensures, c.bytes_of-in-loop-other.ensures, c.other-item.is) at test in
-    name_not_yet t (bytes_at t c.args.name) c.args.named.now c.loop-other.other-index _ c.loop-other-test.true
+    let same = rw (c.bytes_of.ensures, c.bytes_of-in-loop-other.ensures) at test in
+    name_not_yet t (bytes_at t c.args.name) c.args.names.now c.loop-other.other-index _ c.loop-other-test.true
     c.loop-other.invariant same

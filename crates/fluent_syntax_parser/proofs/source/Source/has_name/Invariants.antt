@@ -7,4 +7,4 @@ use Rattle.fluent_syntax_parser.proofs.source.Source.has_name.Given as goal
 abbrev pub invariant-loop-other : goal.invariant-loop-other
 invariant-loop-other l =
     let t = l.self.bytes.now in
-    is_used (bytes_at t l.name) (names_in_order t (take l.other-index l.named)) ≡ false
+    is_used (bytes_at t l.name) (names_in_order t (take l.other-index l.names)) ≡ false

@@ -1,0 +1,105 @@
+-- The name of an argument that is a message reference, by where it begins.
+use Rattle.std.proofs.Common.{◌≡◌, ℕ, List, Option, Some, None, Bool, true, false, refl, sym, subst, ap, ◌∙◌}
+use Rattle.std.proofs.Common.{true≢false}
+use Rattle.fluent_syntax_tree.specs.Kind.{Kind}
+use Rattle.fluent_syntax_tree.specs.Tree.{InlineTree, inline_map, string_literal, number_literal, function_reference}
+use Rattle.fluent_syntax_tree.specs.Tree.{message_reference, term_reference, variable_reference, inline_placeable}
+use Rattle.fluent_syntax_tree.specs.Tree.{MaybeArguments, no_arguments, some_arguments}
+use Rattle.fluent_syntax_tree.specs.declared.spans.Span.{Span}
+use Rattle.fluent_syntax_grammar.specs.Arguments.{argument_name}
+use Rattle.fluent_syntax_grammar.specs.Construct.{Outcome, Read, Refused, gives, given, goes_on, chosen, first}
+use Rattle.fluent_syntax_grammar.specs.Construct.{second}
+use Rattle.fluent_syntax_grammar.specs.Family.{Family}
+use Rattle.fluent_syntax_grammar.specs.Inline.{inline_expression, inline_of, named_reference}
+use Rattle.fluent_syntax_grammar.specs.Starts.{Start, brace, digit, dollar, letter, minus, other, quote, start, term}
+use Rattle.fluent_syntax_grammar.specs.Words.{identifier}
+use Rattle.fluent_syntax_grammar.proofs.FunctionalWords.{functional_identifier}
+
+-- a message reference without attribute
+abbrev pub is_name : {X : Type 0} → InlineTree X → Bool
+is_name (string_literal v) = false
+is_name (number_literal v) = false
+is_name (function_reference id a) = false
+is_name (message_reference id None) = true
+is_name (message_reference id (Some a)) = false
+is_name (term_reference id attribute a) = false
+is_name (variable_reference id) = false
+is_name (inline_placeable e) = false
+
+pub same_name : {X Y : Type 0} (f : X → Y) (e : InlineTree X) → is_name (inline_map f e) ≡ is_name e
+same_name f (string_literal x) = refl
+same_name f (number_literal x) = refl
+same_name f (function_reference x a) = refl
+same_name f (message_reference x None) = refl
+same_name f (message_reference x (Some a)) = refl
+same_name f (term_reference x a c) = refl
+same_name f (variable_reference x) = refl
+same_name f (inline_placeable e) = refl
+
+pub no_argument_name : (e : InlineTree Span) → is_name e ≡ false → argument_name e ≡ None
+no_argument_name (string_literal x) h = refl
+no_argument_name (number_literal x) h = refl
+no_argument_name (function_reference x a) h = refl
+no_argument_name (message_reference x None) h = absurd (true≢false h)
+no_argument_name (message_reference x (Some a)) h = refl
+no_argument_name (term_reference x a c) h = refl
+no_argument_name (variable_reference x) h = refl
+no_argument_name (inline_placeable e) h = refl
+
+-- the name of a message reference, and where it ends
+module _ (t : List ℕ) (i : ℕ) where
+  abbrev Named : InlineTree Span → Type 0
+  Named e = is_name e ≡ true → (name : Span) × (end : ℕ) × identifier t i (Read name end) ×
+      (argument_name e ≡ Some name)
+
+  gives_same : {A : Type 0} {a b : A} {i j : ℕ} → gives a i (Read b j) → b ≡ a
+  gives_same given = refl
+
+  no_named : (e a : InlineTree Span) {k j : ℕ} → is_name a ≡ false → gives a k (Read e j) → Named e
+  no_named e a none h is = absurd (true≢false (sym is ∙ ap is_name (gives_same h) ∙ none))
+
+  is_of : (id : Span) (a : Option Span) → is_name (message_reference id a) ≡ true →
+      argument_name (message_reference id a) ≡ Some id
+  is_of id None is = refl
+  is_of id (Some a) is = absurd (true≢false (sym is))
+
+  by_reference : (id : Span) (m : ℕ) → identifier t i (Read id m) → (a : MaybeArguments Span)
+      (e : InlineTree Span) (k j : ℕ) → named_reference t id a k (Read e j) → Named e
+  by_reference id m read (some_arguments a) e k j (first test h) is = no_named e (function_reference id a) refl h is
+  by_reference id m read (some_arguments a) e k j (second test h) is = elim h [ ]
+  by_reference id m read no_arguments e k j (goes_on {a = a} x h) is = (
+    id,
+    m,
+    read,
+    ap argument_name (gives_same h)
+        ∙ is_of id a (ap is_name (sym (gives_same h)) ∙ is),
+  )
+
+  module _ (R : Family) where
+    by_start : (s : Start) (e : InlineTree Span) (j : ℕ) → inline_of t R s i (Read e j) → Named e
+    by_start quote e j (goes_on {a = v} x h) is = no_named e (string_literal v) refl h is
+    by_start digit e j (goes_on {a = v} x h) is = no_named e (number_literal v) refl h is
+    by_start minus e j (goes_on {a = v} x h) is = no_named e (number_literal v) refl h is
+    by_start term e j (goes_on x (goes_on {a = id} y (goes_on {a = a} z (goes_on {a = c} w h)))) is =
+        no_named e (term_reference id a c) refl h is
+    by_start dollar e j (goes_on x (goes_on {a = id} y h)) is = no_named e (variable_reference id) refl h is
+    by_start letter e j (goes_on {j = m} {a = id} x (goes_on {a = a} y h)) is = by_reference id m x a e _ j h is
+    by_start brace e j (goes_on {a = v} x h) is = no_named e (inline_placeable v) refl h is
+    by_start other e j h is = elim h [ ]
+
+    pub name_read : (e : InlineTree Span) (j : ℕ) → inline_expression t R i (Read e j) → Named e
+    name_read e j (chosen h) = by_start (start t i) e j h
+
+-- ---- a name that was looked for
+
+abbrev value_of : {A : Type 0} → Outcome A → Option A
+value_of (Read a j) = Some a
+value_of (Refused k from to) = None
+
+pub name_found : (t : List ℕ) {i j m : ℕ} {a b : Span} → identifier t i (Read a j) → identifier t i (Read b m) →
+    Some a ≡ Some b
+name_found t h r = let f = functional_identifier t in ap value_of (f.same _ _ _ h r)
+
+pub none_found : (t : List ℕ) {i m from to : ℕ} {k : Kind} {b : Span} → identifier t i (Refused k from to) →
+    identifier t i (Read b m) → None ≡ Some b
+none_found t h r = let f = functional_identifier t in ap value_of (f.same _ _ _ h r)

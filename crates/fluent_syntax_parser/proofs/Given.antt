@@ -1,0 +1,18 @@
+-- The arguments of a reference that were given to it.
+use Rattle.std.proofs.Common.{◌≡◌, ap, refl}
+use Rattle.fluent_syntax_tree.specs.Tree.{ArgumentsTree, MaybeArguments, arguments_map, maybe_map, no_arguments}
+use Rattle.fluent_syntax_tree.specs.Tree.{some_arguments}
+
+abbrev or : {X : Type 0} → ArgumentsTree X → MaybeArguments X → ArgumentsTree X
+or b no_arguments = b
+or b (some_arguments c) = c
+
+module _ {X Y : Type 0} (f : X → Y) where
+  pub some_given : (given : MaybeArguments X) {b : ArgumentsTree Y} → some_arguments b ≡ maybe_map f given →
+      (a : ArgumentsTree X) × (given ≡ some_arguments a) × (b ≡ arguments_map f a)
+  some_given no_arguments e = cc
+  some_given (some_arguments a) {b = b} e = (a, refl, ap (or b) e)
+
+  pub none_given : (given : MaybeArguments X) → no_arguments ≡ maybe_map f given → given ≡ no_arguments
+  none_given no_arguments e = refl
+  none_given (some_arguments a) e = cc

@@ -1,0 +1,61 @@
+-- What is known of a construct whose value a reader made.
+use Rattle.std.proofs.Common.{◌≡◌, ℕ, List, Option, Some, None, Bool, true, false, option_map, refl, sym, subst, ap}
+use Rattle.std.proofs.Common.{◌∙◌}
+use Rattle.fluent_syntax_tree.specs.Kind.{Kind}
+use Rattle.fluent_syntax_tree.specs.Tree.{InlineTree, inline_map, string_literal, number_literal, function_reference}
+use Rattle.fluent_syntax_tree.specs.Tree.{message_reference, term_reference, variable_reference, inline_placeable}
+use Rattle.fluent_syntax_tree.specs.declared.spans.Span.{Span}
+use Rattle.fluent_syntax_grammar.specs.Arguments.{argument_name}
+use Rattle.fluent_syntax_grammar.specs.Construct.{Construct, Read}
+use Rattle.fluent_syntax_grammar.specs.Placeables.{is_term_attribute, selector_fault}
+use Rattle.fluent_syntax_parser.specs.Made.{IsMade, made}
+
+module _ {A B : Type 0} {f : A → B} {c : Construct A} {i j : ℕ} {b : B} where
+  pub on_made : {G : Type 0} → IsMade f c i b j → ((a : A) → c i (Read a j) → b ≡ f a → G) → G
+  on_made (made {a = a} h e) g = g a h e
+
+-- as the construct itself, where nothing is put in the place of a text
+pub as_read : {A : Type 0} {f : A → A} {c : Construct A} {i j : ℕ} {b : A} → ((a : A) → f a ≡ a) → IsMade f c i b j →
+    c i (Read b j)
+as_read {c = c} {i = i} {j = j} same (made {a = a} h e) = subst (λ x. c i (Read x j)) (sym (e ∙ same a)) h
+
+-- ---- an optional value
+
+abbrev or : {B : Type 0} → B → Option B → B
+or b None = b
+or b (Some c) = c
+
+pub no_value_read : {A B : Type 0} (g : A → B) (c : Construct (Option A)) {i j : ℕ} (o : Option A) →
+    c i (Read o j) → None ≡ option_map g o → c i (Read None j)
+no_value_read g c None h e = h
+no_value_read g c (Some a) h e = cc
+
+pub on_value : {A B G : Type 0} (g : A → B) (c : Construct (Option A)) {i j : ℕ} {b : B} (o : Option A) →
+    c i (Read o j) → Some b ≡ option_map g o → ((a : A) → c i (Read (Some a) j) → b ≡ g a → G) → G
+on_value g c None h e k = cc
+on_value g c {b = b} (Some a) h e k = k a h (ap (or b) e)
+
+-- ---- what a test of an expression finds, it finds in any texts
+
+pub same_term_attribute : {X Y : Type 0} (f : X → Y) (e : InlineTree X) →
+    is_term_attribute (inline_map f e) ≡ is_term_attribute e
+same_term_attribute f (string_literal x) = refl
+same_term_attribute f (number_literal x) = refl
+same_term_attribute f (function_reference x a) = refl
+same_term_attribute f (message_reference x a) = refl
+same_term_attribute f (term_reference x None c) = refl
+same_term_attribute f (term_reference x (Some a) c) = refl
+same_term_attribute f (variable_reference x) = refl
+same_term_attribute f (inline_placeable e) = refl
+
+pub same_selector_fault : {X Y : Type 0} (f : X → Y) (e : InlineTree X) →
+    selector_fault (inline_map f e) ≡ selector_fault e
+same_selector_fault f (string_literal x) = refl
+same_selector_fault f (number_literal x) = refl
+same_selector_fault f (function_reference x a) = refl
+same_selector_fault f (message_reference x None) = refl
+same_selector_fault f (message_reference x (Some a)) = refl
+same_selector_fault f (term_reference x None c) = refl
+same_selector_fault f (term_reference x (Some a) c) = refl
+same_selector_fault f (variable_reference x) = refl
+same_selector_fault f (inline_placeable e) = refl

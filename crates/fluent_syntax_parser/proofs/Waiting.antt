@@ -1,0 +1,98 @@
+-- What is added for a piece of a line, and what for those behind it, are together what is added from it on.
+use Rattle.std.proofs.Common.{◌≡◌, ℕ, ◌+◌, List, [], ◌∷◌, ◌++◌, append_assoc, map, Option, Some, None, unwrap_or}
+use Rattle.std.proofs.Common.{Bool, true, false, refl, sym, ap, ◌∙◌}
+use Rattle.std.specs.Prelude.{nat_lt, if◌then◌else◌}
+use Rattle.fluent_syntax_tree.specs.declared.edition.Edition.{Edition}
+use Rattle.fluent_syntax_tree.specs.declared.edition.Edition.TheVariants.{One, Two}
+use Rattle.fluent_syntax_grammar.specs.Layout.{Ending, lf_at, crlf_at, text_end}
+use Rattle.fluent_syntax_parser.specs.Elements.{bare_items, flushed, indent_of, kept_place, leading, waiting}
+use Rattle.fluent_syntax_parser.specs.Layouts.{Item, Line, Piece, filled, items_from, kept_from, line_items, placed}
+use Rattle.fluent_syntax_parser.specs.Layouts.{run, text, with_ending}
+
+module _ {E : Type 0} where
+  pub none_leads : (led : Option ℕ) → leading {E = E} led [] ≡ []
+  none_leads None = refl
+  none_leads (Some k) = refl
+
+  run_leads : (led : Option ℕ) (from to : ℕ) (ps : List (Piece E)) →
+      leading led (run from to ∷ ps) ≡ run (unwrap_or led from) to ∷ ps
+  run_leads None from to ps = refl
+  run_leads (Some k) from to ps = refl
+
+  placed_leads : (led : Option ℕ) (e : E) (ps : List (Piece E)) → leading led (placed e ∷ ps) ≡ placed e ∷ ps
+  placed_leads None e ps = refl
+  placed_leads (Some k) e ps = refl
+
+  module _ (end : Ending) where
+    flush : (xs : List (Item E)) (pending : Option (ℕ × ℕ)) (p : Piece E) (ps : List (Piece E)) →
+        flushed xs pending ++ with_ending (p ∷ ps) end ≡ xs ++ with_ending (waiting pending (p ∷ ps)) end
+    flush xs None p ps = refl
+    flush xs (Some r) p ps = append_assoc xs (text r.0 r.1 ∷ []) (with_ending (p ∷ ps) end)
+
+    pub run_waits : (xs : List (Item E)) (pending : Option (ℕ × ℕ)) (led : Option ℕ) (from to : ℕ)
+        (ps : List (Piece E)) →
+        flushed xs pending ++ with_ending (run (unwrap_or led from) to ∷ ps) end
+        ≡ xs ++ with_ending (waiting pending (leading led (run from to ∷ ps))) end
+    run_waits xs pending led from to ps =
+        flush xs pending (run (unwrap_or led from) to) ps
+        ∙ ap (λ qs. xs ++ with_ending (waiting pending qs) end) (sym (run_leads led from to ps))
+
+    pub placed_added : (xs : List (Item E)) (pending : Option (ℕ × ℕ)) (led : Option ℕ) (e : E)
+        (ps : List (Piece E)) →
+        (flushed xs pending ++ filled e ∷ []) ++ with_ending ps end
+        ≡ xs ++ with_ending (waiting pending (leading led (placed e ∷ ps))) end
+    placed_added xs pending led e ps =
+        append_assoc (flushed xs pending) (filled e ∷ []) (with_ending ps end)
+        ∙ flush xs pending (placed e) ps
+        ∙ ap (λ qs. xs ++ with_ending (waiting pending qs) end) (sym (placed_leads led e ps))
+
+  -- ---- a line, by whether it holds something
+
+  kept_is : (common : Option ℕ) (l : Line E) → kept_place common l.start l.spaces ≡ kept_from common l
+  kept_is None l = refl
+  kept_is (Some common) l = refl
+
+  bare_from : (edition : Edition) (kept first : ℕ) (end : Ending) →
+      bare_items {E = E} kept end ≡ items_from {E = E} edition kept first [] end
+  bare_from edition kept first (lf_at p) = refl
+  bare_from edition kept first (crlf_at p) = refl
+  bare_from edition kept first text_end = refl
+
+  indent_placed : (b : Bool) (xs rest : List (Item E)) (kept first : ℕ) →
+      flushed xs (if b then Some (kept, first) else None) ++ rest
+      ≡ xs ++ ((if b then text kept first ∷ [] else []) ++ rest)
+  indent_placed true xs rest kept first = append_assoc xs (text kept first ∷ []) rest
+  indent_placed false xs rest kept first = refl
+
+  full_from : (xs : List (Item E)) (edition : Edition) (kept first : ℕ) (ps : List (Piece E)) (end : Ending) →
+      (ps ≡ [] → ⊥) →
+      flushed xs (indent_of edition kept first ps) ++ with_ending (leading (Some kept) ps) end
+      ≡ xs ++ items_from edition kept first ps end
+  full_from xs edition kept first [] end some = absurd (some refl)
+  full_from xs edition kept first (run from to ∷ ps) end some = refl
+  full_from xs One kept first (placed e ∷ ps) end some = refl
+  full_from xs Two kept first (placed e ∷ ps) end some =
+      indent_placed (nat_lt kept first) xs (with_ending (placed e ∷ ps) end) kept first
+
+  module _ (edition : Edition) (common : Option ℕ) (l : Line E) (kept : ℕ)
+      (is : kept ≡ kept_place common l.start l.spaces) where
+    kept_items : items_from edition kept (l.start + l.spaces) l.pieces l.ending ≡ line_items edition common l
+    kept_items =
+        ap (λ k. items_from edition k (l.start + l.spaces) l.pieces l.ending) (is ∙ kept_is common l)
+
+    pub bare_line : l.pieces ≡ [] → bare_items kept l.ending ≡ line_items edition common l
+    bare_line none =
+        bare_from edition kept (l.start + l.spaces) l.ending
+        ∙ ap (λ ps. items_from edition kept (l.start + l.spaces) ps l.ending) (sym none)
+        ∙ kept_items
+
+    pub full_line : (xs : List (Item E)) → (l.pieces ≡ [] → ⊥) →
+        flushed xs (indent_of edition kept (l.start + l.spaces) l.pieces)
+        ++ with_ending (leading (Some kept) l.pieces) l.ending
+        ≡ xs ++ line_items edition common l
+    full_line xs some =
+        full_from xs edition kept (l.start + l.spaces) l.pieces l.ending some ∙ ap (λ ys. xs ++ ys) kept_items
+
+pub none_mapped : {A B : Type 0} (f : A → B) (xs : List A) → map f xs ≡ [] → xs ≡ []
+none_mapped f [] e = refl
+none_mapped f (x ∷ xs) e = cc

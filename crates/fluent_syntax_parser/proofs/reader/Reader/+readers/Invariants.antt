@@ -1,0 +1,117 @@
+use Rattle.std.proofs.Common.{◌+◌, ◌*◌, length, ◌-◌, ◌≤◌}
+use Rattle.fluent_syntax_grammar.specs.Grammar as grammar
+use Rattle.fluent_syntax_grammar.specs.Lines.{next_line, next_piece}
+use Rattle.fluent_syntax_grammar.specs.Variants.{next_variant}
+use Rattle.fluent_syntax_parser.specs.Layouts.{line_of, piece_of}
+use Rattle.fluent_syntax_parser.specs.Lines.{line_view, piece_view}
+use Rattle.fluent_syntax_parser.specs.Gathered.{names_in, names_in_order}
+use Rattle.fluent_syntax_parser.specs.Noted.{Notes}
+use Rattle.fluent_syntax_parser.proofs.ArgumentLists.{MadeArguments}
+use Rattle.fluent_syntax_parser.proofs.Behind.{MadeItems}
+use Rattle.fluent_syntax_parser.proofs.GatheredVariants.{MadeVariants}
+use Rattle.fluent_syntax_parser.proofs.reader.Reader.+readers.Given as goal
+
+-- how much deeper it may nest, times the number of ranks, and the reader's rank
+
+abbrev pub decreases-get_placeable : goal.decreases-get_placeable
+decreases-get_placeable g l = 10 * l.nesting
+
+abbrev pub decreases-get_call_arguments : goal.decreases-get_call_arguments
+decreases-get_call_arguments g l = 10 * l.nesting
+
+abbrev pub decreases-get_inline_expression : goal.decreases-get_inline_expression
+decreases-get_inline_expression g l = 10 * l.nesting + 2
+
+abbrev pub decreases-get_term_reference : goal.decreases-get_term_reference
+decreases-get_term_reference g l = 10 * l.nesting + 1
+
+abbrev pub decreases-get_reference : goal.decreases-get_reference
+decreases-get_reference g l = 10 * l.nesting + 1
+
+abbrev pub decreases-get_argument_value : goal.decreases-get_argument_value
+decreases-get_argument_value g l = 10 * l.nesting + 3
+
+abbrev pub decreases-get_arguments : goal.decreases-get_arguments
+decreases-get_arguments g l = 10 * l.nesting + 4
+
+abbrev pub decreases-get_pieces : goal.decreases-get_pieces
+decreases-get_pieces g l = 10 * l.nesting + 1
+
+abbrev pub decreases-get_lines : goal.decreases-get_lines
+decreases-get_lines g l = 10 * l.nesting + 2
+
+abbrev pub decreases-get_layout : goal.decreases-get_layout
+decreases-get_layout g l = 10 * l.nesting + 3
+
+abbrev pub decreases-get_pattern : goal.decreases-get_pattern
+decreases-get_pattern g l = 10 * l.nesting + 5
+
+abbrev pub decreases-get_long_pattern : goal.decreases-get_long_pattern
+decreases-get_long_pattern g l = 10 * l.nesting + 4
+
+abbrev pub decreases-get_variants : goal.decreases-get_variants
+decreases-get_variants g l = 10 * l.nesting + 6
+
+abbrev pub decreases-get_expression : goal.decreases-get_expression
+decreases-get_expression g l = 10 * l.nesting + 7
+
+-- ---- loops
+
+abbrev pub invariant-get_arguments-loop-noted : goal.invariant-get_arguments-loop-noted
+invariant-get_arguments-loop-noted g l =
+    let t = l.self.source.bytes.now in
+    record {
+      forward : l.ptr ≤ l.place;
+      within : l.place ≤ length t;
+      gathered :
+          MadeArguments t (grammar.within l.self.edition t l.nesting) (g.M.MakeTexts.source l.self.texts.now)
+          g.M.MakeTexts.made l.ptr l.positional.items l.named.items (names_in t l.noted.names.items) l.place;
+      noted : Notes (λ k. k.now) l.noted.table.keys (names_in_order t l.noted.names.items);
+    }
+
+abbrev pub decreases-get_arguments-loop-noted : goal.decreases-get_arguments-loop-noted
+decreases-get_arguments-loop-noted g l = length l.self.source.bytes.now - l.place
+
+abbrev pub invariant-get_variants-loop-starred : goal.invariant-get_variants-loop-starred
+invariant-get_variants-loop-starred g l =
+    let t = l.self.source.bytes.now in
+    record {
+      forward : l.ptr ≤ l.place;
+      within : l.place ≤ length t;
+      gathered :
+          MadeVariants t (next_variant l.self.edition t (grammar.within l.self.edition t l.nesting))
+          (g.M.MakeTexts.source l.self.texts.now) g.M.MakeTexts.made l.ptr l.variants.items l.starred l.place;
+    }
+
+abbrev pub decreases-get_variants-loop-starred : goal.decreases-get_variants-loop-starred
+decreases-get_variants-loop-starred g l = length l.self.source.bytes.now - l.place
+
+abbrev pub invariant-get_pieces-loop-pieces : goal.invariant-get_pieces-loop-pieces
+invariant-get_pieces-loop-pieces g l =
+    let t = l.self.source.bytes.now in
+    record {
+      forward : l.ptr ≤ l.place;
+      within : l.place ≤ length t;
+      gathered :
+          MadeItems t (next_piece t (grammar.within l.self.edition t l.nesting))
+          (piece_of (g.M.MakeTexts.source l.self.texts.now)) (piece_view g.M.MakeTexts.made) l.ptr l.pieces.items
+          l.place;
+    }
+
+abbrev pub decreases-get_pieces-loop-pieces : goal.decreases-get_pieces-loop-pieces
+decreases-get_pieces-loop-pieces g l = length l.self.source.bytes.now - l.place
+
+abbrev pub invariant-get_lines-loop-lines : goal.invariant-get_lines-loop-lines
+invariant-get_lines-loop-lines g l =
+    let t = l.self.source.bytes.now in
+    record {
+      forward : l.ptr ≤ l.start;
+      within : l.start ≤ length t;
+      gathered :
+          MadeItems t (next_line t (grammar.within l.self.edition t l.nesting))
+          (line_of (g.M.MakeTexts.source l.self.texts.now)) (line_view g.M.MakeTexts.made) l.ptr l.lines.items
+          l.start;
+    }
+
+abbrev pub decreases-get_lines-loop-lines : goal.decreases-get_lines-loop-lines
+decreases-get_lines-loop-lines g l = length l.self.source.bytes.now - l.start

@@ -1,0 +1,20 @@
+use Rattle.std.proofs.Common.{◌∷◌, [], ◌++◌, ◌∙◌, ap, refl}
+use Rattle.fluent_syntax_tree.proofs.Views.{view-Pattern, view-TextElement}
+use Rattle.fluent_syntax_tree.specs.declared.ast.PatternElement as elem
+use Rattle.fluent_syntax_parser.specs.ShortPatterns.{text_pattern}
+use Rattle.fluent_syntax_parser.proofs.reader.Reader.get_short_pattern.Goals as goal
+
+pub returns-clause-opens : goal.returns-clause-opens
+returns-clause-opens g c =
+    let text = c.in_ok-value.value in
+    let items = c.in_ok-push.ensures.items ∙ ap (λ xs. xs ++ elem.TextElement text ∷ []) c.in_ok-elements.ensures.items
+    in (
+      text_pattern c.in-Some.value,
+      c.in-Some.ensures.opens,
+      rw (
+        view-Pattern g.M.MakeTexts.made (record { elements = c.push.new.self }),
+        items,
+        view-TextElement g.M.MakeTexts.made text,
+        c.in_ok-value.ensures,
+      ) refl,
+    )

@@ -1,0 +1,21 @@
+use Rattle.std.proofs.Common.{sym}
+use Rattle.fluent_syntax_parser.proofs.Cut.{popped_stays, popped_falls}
+use Rattle.fluent_syntax_parser.proofs.reader.Reader.pop_last.Goals as goal
+
+pub returns-then-stays : goal.returns-then-stays
+returns-then-stays g c =
+    popped_stays g.M.MakeTexts.made c.args.self.now.source.bytes.now c.args.items.now.items c.loop-last.items.items
+    c.pop.new.self.items
+    c.in-Some.last c.in-Some.ensures.items
+    (sym c.if-stays.ensures)
+    c.loop-last.invariant.same
+
+pub loop-last-preserved : goal.loop-last-preserved
+loop-last-preserved g c = record {
+  same =
+      popped_falls g.M.MakeTexts.made c.args.self.now.source.bytes.now c.args.items.now.items c.loop-last.items.items
+      c.pop.new.self.items
+      c.in-Some.last c.in-Some.ensures.items
+      (sym c.if-stays.ensures)
+      c.loop-last.invariant.same;
+}
