@@ -6,7 +6,7 @@ use std::alloc::Global;
 use std::test::Fail;
 
 /// The tree of a text, and its errors.
-pub fn tree_and_errors<'t>(
+pub(crate) fn tree_and_errors<'t>(
     alloc: Global,
     text: &'t str,
 ) -> Result<(Resource<&'t str>, Vec<ParserError>), Fail> {
@@ -17,7 +17,7 @@ pub fn tree_and_errors<'t>(
 }
 
 /// The same, with texts of their own.
-pub fn owned_tree_and_errors(
+pub(crate) fn owned_tree_and_errors(
     alloc: Global,
     text: &str,
 ) -> Result<(Resource<String>, Vec<ParserError>), Fail> {

@@ -160,7 +160,7 @@ const ROWS: [Row; 27] = [
 ];
 
 /// The outline of a text, whose errors are left.
-pub fn outline<'a>(alloc: Global, text: &'a str) -> Result<Outline<'a>, Fail> {
+pub(crate) fn outline<'a>(alloc: Global, text: &'a str) -> Result<Outline<'a>, Fail> {
     let (tree, _) = recovered(alloc, parse_spans(alloc, text))?;
     Ok(outline_of(alloc, text, &tree.body)?)
 }
