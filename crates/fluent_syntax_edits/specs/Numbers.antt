@@ -1,0 +1,18 @@
+-- Entries by their names.
+use Rattle.std.specs.Prelude.{Bool, false}
+use Rattle.std.specs.Str.{bytes_eq}
+use Rattle.fluent_syntax_tree.specs.Entry.{EntryTree, message, term, comment, junk}
+use Rattle.fluent_syntax_grammar.specs.Written.{Text}
+use Rattle.fluent_syntax_edits.specs.declared.numbers.EntryName.{EntryName}
+use Rattle.fluent_syntax_edits.specs.declared.numbers.EntryName.TheVariants as name
+
+-- whether it is the message or the term of that name
+abbrev pub is_named : EntryName → EntryTree Text → Bool
+is_named (name.Message it) (message m) = bytes_eq m.id it.now
+is_named (name.Message it) (term m) = false
+is_named (name.Message it) (comment level lines) = false
+is_named (name.Message it) (junk content) = false
+is_named (name.Term it) (message m) = false
+is_named (name.Term it) (term m) = bytes_eq m.id it.now
+is_named (name.Term it) (comment level lines) = false
+is_named (name.Term it) (junk content) = false
