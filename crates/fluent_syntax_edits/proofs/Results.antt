@@ -5,17 +5,17 @@ use Rattle.std.proofs.Common.{length-drop}
 use Rattle.std.proofs.Common.{Option, Some, None}
 use Rattle.std.proofs.lemmas.Bool.Decides.{nat_tests}
 use Rattle.std.proofs.lemmas.List.{append-nil, length-map, length-take-le}
-use Rattle.std.specs.Prelude.{Result, Ok, Err, if◌then◌else◌, slice_get}
+use Rattle.std.specs.Prelude.{Result, Ok, Err, IfErr, IfOk, if◌then◌else◌, slice_get}
 use Rattle.std.specs.Str.{IsCharBoundary, IsUtf8}
 use Rattle.fluent_syntax_tree.specs.Entry.{EntryTree, entry_map}
 use Rattle.fluent_syntax_tree.specs.Spans.{bytes_at}
 use Rattle.fluent_syntax_tree.specs.declared.edition.Edition.{Edition}
 use Rattle.fluent_syntax_tree.specs.declared.spans.Span.{Span}
-use Rattle.fluent_syntax_grammar.specs.Tiling.{Tile, Tiled, TileAt, Tiling, entry, is_entry_byte}
+use Rattle.fluent_syntax_grammar.specs.Tiling.{Tile, Tiled, TileAt, Tiling, is_entry_byte}
 use Rattle.fluent_syntax_grammar.specs.Body.{body, faults}
 use Rattle.fluent_syntax_grammar.specs.Canonical.{is_canonical}
 use Rattle.fluent_syntax_grammar.specs.Locality.{NoCommentTakes, Settled, begins_comment, begins_entry, ends_line}
-use Rattle.fluent_syntax_grammar.specs.Locality.{ends_or_begins, entry_text, is_comment, may_begin, moved_fault}
+use Rattle.fluent_syntax_grammar.specs.Locality.{ends_or_begins, entry_text, is_comment, may_begin}
 use Rattle.fluent_syntax_grammar.specs.Locality.{start_of as tile_begin}
 use Rattle.fluent_syntax_grammar.specs.RoundTrip.{tree_of}
 use Rattle.fluent_syntax_grammar.specs.Written.{Text}
@@ -25,7 +25,8 @@ use Rattle.fluent_syntax_grammar.proofs.locality.EntryEnds.{AtLine}
 use Rattle.fluent_syntax_grammar.proofs.locality.InTiling.{RestAlone, begins_may, changed, from_entry}
 use Rattle.fluent_syntax_grammar.proofs.locality.Moved.{behind_place}
 use Rattle.fluent_syntax_edits.specs.Edits.{InsertsBytes, IsInserted, IsRemoved, IsReplaced, RemovesBytes, ReplacesBytes}
-use Rattle.fluent_syntax_edits.specs.Edits.{StretchFound, TreeEdited, blank_behind, spliced, stretch_of}
+use Rattle.fluent_syntax_edits.specs.Edits.{RefusedBy, StretchFound, TreeEdited, blank_behind, refused, spliced}
+use Rattle.fluent_syntax_edits.specs.Edits.{stretch_of}
 use Rattle.fluent_syntax_edits.specs.Places.{Outlines, place_of}
 use Rattle.fluent_syntax_edits.specs.Spliced.{Cuts}
 use Rattle.fluent_syntax_edits.specs.Refusals.{before_entry, begin_of, comment_before, entry_at, in_place_of, of_run}
@@ -39,7 +40,7 @@ use Rattle.fluent_syntax_edits.specs.declared.stretches.Edit.{Edit}
 use Rattle.fluent_syntax_edits.specs.declared.stretches.Edit.TheVariants.{Insert, Remove, Replace}
 use Rattle.fluent_syntax_edits.proofs.Apart.{tree_apart}
 use Rattle.fluent_syntax_edits.proofs.CommentsBefore.{FreeBefore, free_before}
-use Rattle.fluent_syntax_edits.proofs.Edited.{Away, Comes, Put, Spot, behind_put, drop_all, end_changed, end_spot}
+use Rattle.fluent_syntax_edits.proofs.Edited.{Comes, Put, Spot, behind_put, drop_all, end_changed, end_spot}
 use Rattle.fluent_syntax_edits.proofs.Edited.{entry_spot, put, put_entry, put_length, take_away}
 use Rattle.fluent_syntax_edits.proofs.Sound.{AtSpot, NoJunk, SoundRun, at_spot, ends, entry_keeps, first_places}
 use Rattle.fluent_syntax_edits.proofs.Sound.{no_junk, place_behind, sound_of, spot_keeps, stands}
@@ -555,6 +556,21 @@ module _ (t : List ℕ) (utf8 : IsUtf8 t) where
     edit_cuts Replace text h = replace_cuts text h
     edit_cuts Insert text h = insert_cuts text h
     edit_cuts Remove text h = remove_cuts h
+
+    by_places : (edit : Edit) (text : List ℕ) → stretch_of edit t places index text ≡ Ok s → Cuts t s
+    by_places edit text h =
+        edit_cuts edit text (subst (λ ps. stretch_of edit t ps index text ≡ Ok s) o.places_of h)
+
+  module _ (edition : Edition) (places : List Place) (o : Outlines edition t places) (index : ℕ) (edit : Edit)
+      (text : List ℕ) where
+    pub stretch_cuts : (r : Result Stretch EditFault) → stretch_of edit t places index text ≡ r → IfOk r (Cuts t)
+    stretch_cuts (Ok s) h = by_places edition places o index s edit text h
+    stretch_cuts (Err fault) h = tt
+
+    pub stretch_refused : (r : Result Stretch EditFault) → stretch_of edit t places index text ≡ r →
+        IfErr r (RefusedBy edit edition t index text)
+    stretch_refused (Ok s) h = tt
+    stretch_refused (Err fault) h = refused places o h
 
 -- ---- what was made
 
