@@ -24,7 +24,8 @@ use Rattle.fluent_syntax_grammar.proofs.locality.Edits.{begins_ends, faults_appe
 use Rattle.fluent_syntax_grammar.proofs.locality.EntryEnds.{AtLine}
 use Rattle.fluent_syntax_grammar.proofs.locality.InTiling.{RestAlone, begins_may, changed, from_entry}
 use Rattle.fluent_syntax_grammar.proofs.locality.Moved.{behind_place}
-use Rattle.fluent_syntax_edits.specs.Edits.{InsertsBytes, IsInserted, IsRemoved, IsReplaced, RemovesBytes, ReplacesBytes}
+use Rattle.fluent_syntax_edits.specs.Edits.{InsertsBytes, IsInserted, IsRemoved, IsReplaced}
+use Rattle.fluent_syntax_edits.specs.Edits.{RemovesBytes, ReplacesBytes}
 use Rattle.fluent_syntax_edits.specs.Edits.{RefusedBy, StretchFound, TreeEdited, blank_behind, refused, spliced}
 use Rattle.fluent_syntax_edits.specs.Edits.{stretch_of}
 use Rattle.fluent_syntax_edits.specs.Places.{Outlines, place_of}
@@ -552,7 +553,8 @@ module _ (t : List ℕ) (utf8 : IsUtf8 t) where
           end = boundary s.end b.inside (ends_may (drop s.end t) b.begins);
         }
 
-    pub edit_cuts : (edit : Edit) (text : List ℕ) → stretch_of edit t (map place_of o.tiles) index text ≡ Ok s → Cuts t s
+    edit_cuts : (edit : Edit) (text : List ℕ) → stretch_of edit t (map place_of o.tiles) index text ≡ Ok s →
+        Cuts t s
     edit_cuts Replace text h = replace_cuts text h
     edit_cuts Insert text h = insert_cuts text h
     edit_cuts Remove text h = remove_cuts h
