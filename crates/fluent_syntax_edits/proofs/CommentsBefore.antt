@@ -1,17 +1,17 @@
 -- Where no comment that ends at a place would take what comes to stand there.
-use Rattle.std.proofs.Common.{◌≡◌, ℕ, suc, ◌-◌, List, [], ◌∷◌, ◌++◌, length, map, Option, Some, None, Bool, true, false}
-use Rattle.std.proofs.Common.{refl, sym, ◌∙◌, ap, subst, arith}
+use Rattle.std.proofs.Common.{◌≡◌, ℕ, suc, ◌-◌, List, [], ◌∷◌, length, map, Some, None, Bool, true, false}
+use Rattle.std.proofs.Common.{refl, sym, ◌∙◌, ap, arith}
 use Rattle.std.specs.Prelude.{slice_get, ◌==◌, ◌&&◌, if◌then◌else◌}
-use Rattle.fluent_syntax_tree.specs.Entry.{EntryTree, comment, group, junk, message, regular, resource, term}
+use Rattle.fluent_syntax_tree.specs.Entry.{comment, group, junk, message, regular, resource, term}
 use Rattle.fluent_syntax_tree.specs.declared.spans.Span.{Span}
 use Rattle.fluent_syntax_grammar.specs.Tiling.{Tile, dropped, entry, refused}
-use Rattle.fluent_syntax_grammar.specs.Body.{hangs, hung}
+use Rattle.fluent_syntax_grammar.specs.Body.{hangs}
 use Rattle.fluent_syntax_grammar.specs.Locality.{begins_comment, ends_in_comment, is_comment_to, start_of}
 use Rattle.fluent_syntax_grammar.proofs.Facts.{differs}
 use Rattle.fluent_syntax_edits.specs.Places.{place_of}
 use Rattle.fluent_syntax_edits.specs.Refusals.{comment_before, ending_there}
 use Rattle.fluent_syntax_edits.specs.declared.places.Place.{Place}
-use Rattle.fluent_syntax_edits.proofs.Apart.{AloneBefore, Apart}
+use Rattle.fluent_syntax_edits.proofs.Apart.{Apart}
 
 -- the tile is no comment that ends at the place and takes what comes there
 record TakesNothing (p : ℕ) (next : List ℕ) (x : Tile) : Type 0 where

@@ -1,5 +1,5 @@
 -- The tree of a text in which an entry was replaced, inserted or removed.
-use Rattle.std.proofs.Common.{◌≡◌, ℕ, ◌+◌, ◌≤◌, ◌<◌, List, [], ◌∷◌, ◌++◌, length, drop, take, map, Bool, true, false}
+use Rattle.std.proofs.Common.{◌≡◌, ℕ, ◌+◌, ◌≤◌, List, [], ◌∷◌, ◌++◌, length, drop, take, map, Bool, true, false}
 use Rattle.std.proofs.Common.{refl, sym, ◌∙◌, ap, subst, arith, inl, inr, length-append, length-drop}
 use Rattle.std.proofs.lemmas.List.{append-nil, length-take-le}
 use Rattle.std.specs.Prelude.{◌⊎◌, Option, Some, None}
@@ -7,7 +7,7 @@ use Rattle.fluent_syntax_tree.specs.Entry.{EntryTree, comment, entry_map, junk, 
 use Rattle.fluent_syntax_tree.specs.Spans.{bytes_at}
 use Rattle.fluent_syntax_tree.specs.declared.edition.Edition.{Edition}
 use Rattle.fluent_syntax_tree.specs.declared.spans.Span.{Span}
-use Rattle.fluent_syntax_grammar.specs.Tiling.{Fault, Tile, Tiled, TileAt, Tiling, dropped, entry, refused}
+use Rattle.fluent_syntax_grammar.specs.Tiling.{Fault, Tile, TileAt, Tiling, dropped, entry, refused}
 use Rattle.fluent_syntax_grammar.specs.Body.{alone, body, faults, hangs, joined}
 use Rattle.fluent_syntax_grammar.specs.Canonical.{is_canonical}
 use Rattle.fluent_syntax_grammar.specs.Locality.{Led, NoCommentTakes, Settled, begins_comment, begins_entry}

@@ -1,12 +1,12 @@
 -- The tiles of an entry that is found by its number.
 use Rattle.std.proofs.Common.{◌≡◌, ℕ, zero, suc, ◌+◌, List, [], ◌∷◌}
 use Rattle.std.proofs.Common.{◌++◌, length, map, Option, Some, None, Bool, true, false}
-use Rattle.std.proofs.Common.{refl, sym, ◌∙◌, ap, subst, arith}
-use Rattle.std.specs.Prelude.{◌==◌, ◌&&◌, if◌then◌else◌}
+use Rattle.std.proofs.Common.{refl, ◌∙◌, ap, subst, arith}
+use Rattle.std.specs.Prelude.{◌==◌, if◌then◌else◌}
 use Rattle.fluent_syntax_tree.specs.Entry.{EntryTree, comment, group, junk, message, regular, resource, term}
 use Rattle.fluent_syntax_tree.specs.declared.spans.Span.{Span}
 use Rattle.fluent_syntax_grammar.specs.Tiling.{Tile, dropped, entry, refused}
-use Rattle.fluent_syntax_grammar.specs.Body.{alone, body, hangs, hung}
+use Rattle.fluent_syntax_grammar.specs.Body.{alone, body, hangs}
 use Rattle.fluent_syntax_edits.specs.Places.{place_of}
 use Rattle.fluent_syntax_edits.specs.Runs.{hangs_on, run_from, this_or}
 use Rattle.fluent_syntax_edits.specs.declared.runs.Run.{Run}

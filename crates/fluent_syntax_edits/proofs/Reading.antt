@@ -3,13 +3,13 @@ use Rattle.std.proofs.Common.{◌≡◌, ℕ, List, [], ◌∷◌, ◌++◌, len
 use Rattle.std.proofs.Common.{◌∙◌, ap, subst}
 use Rattle.std.specs.Prelude.{option_map}
 use Rattle.std.proofs.lemmas.List.{append_assoc, append-nil, map-append}
-use Rattle.fluent_syntax_tree.specs.Entry.{EntryTree, junk}
+use Rattle.fluent_syntax_tree.specs.Entry.{junk}
 use Rattle.fluent_syntax_tree.specs.declared.ast.Entry.{Entry}
 use Rattle.fluent_syntax_tree.specs.declared.edition.Edition.{Edition}
 use Rattle.fluent_syntax_tree.specs.declared.errors.ParserError.{ParserError}
 use Rattle.fluent_syntax_tree.specs.declared.spans.Span.{Span}
 use Rattle.fluent_syntax_grammar.specs.Places.{BlankBlock}
-use Rattle.fluent_syntax_grammar.specs.Tiling.{Fault, Tile, Tiled, TileAt, done, entry, next, reads, refused, refuses}
+use Rattle.fluent_syntax_grammar.specs.Tiling.{Fault, Tile, Tiled, TileAt, done, next, reads, refuses}
 use Rattle.fluent_syntax_parser.specs.Faults.{fault_of}
 use Rattle.fluent_syntax_parser.specs.Rest.{faults_of, tree_of}
 use Rattle.fluent_syntax_parser.specs.Tiles.{Gives, TileTo}

@@ -5,17 +5,17 @@ use Rattle.std.proofs.Common.{length-drop}
 use Rattle.std.proofs.Common.{Option, Some, None}
 use Rattle.std.proofs.lemmas.Bool.Decides.{nat_tests}
 use Rattle.std.proofs.lemmas.List.{append-nil, length-map, length-take-le}
-use Rattle.std.specs.Prelude.{Result, Ok, Err, if◌then◌else◌, slice_get}
+use Rattle.std.specs.Prelude.{Result, Ok, Err, IfErr, IfOk, if◌then◌else◌, slice_get}
 use Rattle.std.specs.Str.{IsCharBoundary, IsUtf8}
 use Rattle.fluent_syntax_tree.specs.Entry.{EntryTree, entry_map}
 use Rattle.fluent_syntax_tree.specs.Spans.{bytes_at}
 use Rattle.fluent_syntax_tree.specs.declared.edition.Edition.{Edition}
 use Rattle.fluent_syntax_tree.specs.declared.spans.Span.{Span}
-use Rattle.fluent_syntax_grammar.specs.Tiling.{Tile, Tiled, TileAt, Tiling, entry, is_entry_byte}
+use Rattle.fluent_syntax_grammar.specs.Tiling.{Tile, Tiled, TileAt, Tiling, is_entry_byte}
 use Rattle.fluent_syntax_grammar.specs.Body.{body, faults}
 use Rattle.fluent_syntax_grammar.specs.Canonical.{is_canonical}
 use Rattle.fluent_syntax_grammar.specs.Locality.{NoCommentTakes, Settled, begins_comment, begins_entry, ends_line}
-use Rattle.fluent_syntax_grammar.specs.Locality.{ends_or_begins, entry_text, is_comment, may_begin, moved_fault}
+use Rattle.fluent_syntax_grammar.specs.Locality.{ends_or_begins, entry_text, is_comment, may_begin}
 use Rattle.fluent_syntax_grammar.specs.Locality.{start_of as tile_begin}
 use Rattle.fluent_syntax_grammar.specs.RoundTrip.{tree_of}
 use Rattle.fluent_syntax_grammar.specs.Written.{Text}
@@ -24,8 +24,12 @@ use Rattle.fluent_syntax_grammar.proofs.locality.Edits.{begins_ends, faults_appe
 use Rattle.fluent_syntax_grammar.proofs.locality.EntryEnds.{AtLine}
 use Rattle.fluent_syntax_grammar.proofs.locality.InTiling.{RestAlone, begins_may, changed, from_entry}
 use Rattle.fluent_syntax_grammar.proofs.locality.Moved.{behind_place}
-use Rattle.fluent_syntax_edits.specs.Edits.{IsInserted, IsRemoved, IsReplaced, TreeEdited, spliced}
+use Rattle.fluent_syntax_edits.specs.Edits.{InsertsBytes, IsInserted, IsRemoved, IsReplaced}
+use Rattle.fluent_syntax_edits.specs.Edits.{RemovesBytes, ReplacesBytes}
+use Rattle.fluent_syntax_edits.specs.Edits.{RefusedBy, StretchFound, TreeEdited, blank_behind, refused, spliced}
+use Rattle.fluent_syntax_edits.specs.Edits.{stretch_of}
 use Rattle.fluent_syntax_edits.specs.Places.{Outlines, place_of}
+use Rattle.fluent_syntax_edits.specs.Spliced.{Cuts}
 use Rattle.fluent_syntax_edits.specs.Refusals.{before_entry, begin_of, comment_before, entry_at, in_place_of, of_run}
 use Rattle.fluent_syntax_edits.specs.Refusals.{removed_run, sound_run, sound_spot, spot_at, start_of, unless_comment}
 use Rattle.fluent_syntax_edits.specs.Refusals.{up_to_behind, up_to_entry, up_to_next}
@@ -33,9 +37,11 @@ use Rattle.fluent_syntax_edits.specs.declared.fault.EditFault.{EditFault}
 use Rattle.fluent_syntax_edits.specs.declared.places.Place.{Place}
 use Rattle.fluent_syntax_edits.specs.declared.refusals.Stretch.{Stretch}
 use Rattle.fluent_syntax_edits.specs.declared.runs.Run.{Run}
+use Rattle.fluent_syntax_edits.specs.declared.stretches.Edit.{Edit}
+use Rattle.fluent_syntax_edits.specs.declared.stretches.Edit.TheVariants.{Insert, Remove, Replace}
 use Rattle.fluent_syntax_edits.proofs.Apart.{tree_apart}
 use Rattle.fluent_syntax_edits.proofs.CommentsBefore.{FreeBefore, free_before}
-use Rattle.fluent_syntax_edits.proofs.Edited.{Away, Comes, Put, Spot, behind_put, drop_all, end_changed, end_spot}
+use Rattle.fluent_syntax_edits.proofs.Edited.{Comes, Put, Spot, behind_put, drop_all, end_changed, end_spot}
 use Rattle.fluent_syntax_edits.proofs.Edited.{entry_spot, put, put_entry, put_length, take_away}
 use Rattle.fluent_syntax_edits.proofs.Sound.{AtSpot, NoJunk, SoundRun, at_spot, ends, entry_keeps, first_places}
 use Rattle.fluent_syntax_edits.proofs.Sound.{no_junk, place_behind, sound_of, spot_keeps, stands}
@@ -251,7 +257,7 @@ module _ (edition : Edition) (t : List ℕ) (tiles : List Tile) (a : Tiling edit
         let f = x.found in
         faults_before ∙ ap (λ fs. faults f.before ++ fs) (faults_append f.own f.after st.no_faults)
 
-  pub replaced : (e : EntryTree Text) (blank : ℕ) (s : Stretch) → is_canonical edition (e ∷ []) ≡ true →
+  replaced : (e : EntryTree Text) (blank : ℕ) (s : Stretch) → is_canonical edition (e ∷ []) ≡ true →
       in_place_of t (map place_of tiles) index (entry_text e) ≡ Ok s → is_comment e ≡ false →
       IsReplaced edition t index e (spliced t s (entry_text e) blank)
   replaced e blank s c h d =
@@ -392,7 +398,7 @@ module _ (edition : Edition) (t : List ℕ) (tiles : List Tile) (a : Tiling edit
   inserted_at e blank run x c o g (ends l) free d = inserted_last e blank run x c g l free d
   inserted_at e blank run x c o g (stands n) free d = inserted_before e blank run x c (subst NoJunk (sym g) n) free d
 
-  pub inserted : (e : EntryTree Text) (blank : ℕ) (s : Stretch) → is_canonical edition (e ∷ []) ≡ true →
+  inserted : (e : EntryTree Text) (blank : ℕ) (s : Stretch) → is_canonical edition (e ∷ []) ≡ true →
       before_entry t (map place_of tiles) index (entry_text e) ≡ Ok s → is_comment e ≡ false →
       IsInserted edition t index e (spliced t s (entry_text e) blank)
   inserted e blank s c h d =
@@ -407,7 +413,7 @@ module _ (edition : Edition) (t : List ℕ) (tiles : List Tile) (a : Tiling edit
       inserted_at e blank r.run x c _ refl there (λ p g. free_there t tiles (spot_at t) index r.run x p w g r.free) d in
       subst (λ (s : Stretch). TreeEdited edition t index (spliced t s w blank) [] (e ∷ [])) (ok_same r.gives) edited
 
-  pub removed : (s : Stretch) → up_to_next t (map place_of tiles) index ≡ Ok s →
+  removed : (s : Stretch) → up_to_next t (map place_of tiles) index ≡ Ok s →
       IsRemoved edition t index (take s.start t ++ drop s.end t)
   removed s h =
       let places = map place_of tiles in
@@ -460,11 +466,6 @@ ends_may : (bs : List ℕ) → ends_or_begins bs ≡ true → may_begin bs ≡ t
 ends_may [] e = refl
 ends_may (b ∷ bs) e = begins_may (b ∷ bs) e
 
--- Both ends of the stretch are boundaries of characters.
-pub record Cuts (t : List ℕ) (s : Stretch) : Type 0 where
-  pub start : IsCharBoundary t s.start
-  pub end : IsCharBoundary t s.end
-
 module _ (t : List ℕ) (utf8 : IsUtf8 t) where
   at_bytes : (q : ℕ) (bs : List ℕ) → q ≤ length t → drop q t ≡ bs → may_begin bs ≡ true → IsCharBoundary t q
   at_bytes q [] l e m =
@@ -512,7 +513,7 @@ module _ (t : List ℕ) (utf8 : IsUtf8 t) where
         (found_stands edition t o.tiles (spot_at t) index run x o.tiling (kept_tiles edition t 0 o.tiles o.tiling)
         (subst NoJunk (sym g) n)) e
 
-    pub replace_cuts : (text : List ℕ) → in_place_of t (map place_of o.tiles) index text ≡ Ok s → Cuts t s
+    replace_cuts : (text : List ℕ) → in_place_of t (map place_of o.tiles) index text ≡ Ok s → Cuts t s
     replace_cuts text h =
         let ps = map place_of o.tiles in
         let r =
@@ -524,7 +525,7 @@ module _ (t : List ℕ) (utf8 : IsUtf8 t) where
         let b = behind_of edition t (start_of t ps r.run) st.end x.found.after s st.end_line st.more gives in
         record { start = run_start r.run r.is b.start; end = boundary s.end b.inside b.may }
 
-    pub insert_cuts : (text : List ℕ) → before_entry t (map place_of o.tiles) index text ≡ Ok s → Cuts t s
+    insert_cuts : (text : List ℕ) → before_entry t (map place_of o.tiles) index text ≡ Ok s → Cuts t s
     insert_cuts text h =
         let ps = map place_of o.tiles in
         let r =
@@ -537,7 +538,7 @@ module _ (t : List ℕ) (utf8 : IsUtf8 t) where
         let both : s.start ≡ s.end = subst (λ (s : Stretch). s.start ≡ s.end) same refl in
         record { start = start; end = subst (IsCharBoundary t) both start }
 
-    pub remove_cuts : up_to_next t (map place_of o.tiles) index ≡ Ok s → Cuts t s
+    remove_cuts : up_to_next t (map place_of o.tiles) index ≡ Ok s → Cuts t s
     remove_cuts h =
         let ps = map place_of o.tiles in
         let r = by_removed t ps (sound_run t ps index) s h in
@@ -551,3 +552,53 @@ module _ (t : List ℕ) (utf8 : IsUtf8 t) where
           start = run_start r.run r.is b.start;
           end = boundary s.end b.inside (ends_may (drop s.end t) b.begins);
         }
+
+    edit_cuts : (edit : Edit) (text : List ℕ) → stretch_of edit t (map place_of o.tiles) index text ≡ Ok s →
+        Cuts t s
+    edit_cuts Replace text h = replace_cuts text h
+    edit_cuts Insert text h = insert_cuts text h
+    edit_cuts Remove text h = remove_cuts h
+
+    by_places : (edit : Edit) (text : List ℕ) → stretch_of edit t places index text ≡ Ok s → Cuts t s
+    by_places edit text h =
+        edit_cuts edit text (subst (λ ps. stretch_of edit t ps index text ≡ Ok s) o.places_of h)
+
+  module _ (edition : Edition) (places : List Place) (o : Outlines edition t places) (index : ℕ) (edit : Edit)
+      (text : List ℕ) where
+    pub stretch_cuts : (r : Result Stretch EditFault) → stretch_of edit t places index text ≡ r → IfOk r (Cuts t)
+    stretch_cuts (Ok s) h = by_places edition places o index s edit text h
+    stretch_cuts (Err fault) h = tt
+
+    pub stretch_refused : (r : Result Stretch EditFault) → stretch_of edit t places index text ≡ r →
+        IfErr r (RefusedBy edit edition t index text)
+    stretch_refused (Ok s) h = tt
+    stretch_refused (Err fault) h = refused places o h
+
+-- ---- what was made
+
+module _ (edition : Edition) (t : List ℕ) (index : ℕ) where
+  by_tiles : {edit : Edit} {text : Text} {s : Stretch} (x : StretchFound edit edition t index text s) →
+      stretch_of edit t (map place_of x.outlines.tiles) index text ≡ Ok s
+  by_tiles {edit} {text} {s} x =
+      subst (λ ps. stretch_of edit t ps index text ≡ Ok s) x.outlines.places_of x.there
+
+  pub replaced_by : (e : EntryTree Text) (u : List ℕ) → is_canonical edition (e ∷ []) ≡ true →
+      ReplacesBytes edition t index e u → is_comment e ≡ false → IsReplaced edition t index e u
+  replaced_by e u c x d =
+      let o = x.found.outlines in
+      subst (IsReplaced edition t index e) (sym x.bytes)
+      (replaced edition t o.tiles o.tiling index e (blank_behind Replace t x.stretch (entry_text e)) x.stretch c
+      (by_tiles x.found) d)
+
+  pub inserted_by : (e : EntryTree Text) (u : List ℕ) → is_canonical edition (e ∷ []) ≡ true →
+      InsertsBytes edition t index e u → is_comment e ≡ false → IsInserted edition t index e u
+  inserted_by e u c x d =
+      let o = x.found.outlines in
+      subst (IsInserted edition t index e) (sym x.bytes)
+      (inserted edition t o.tiles o.tiling index e 0 x.stretch c (by_tiles x.found) d)
+
+  pub removed_by : (u : List ℕ) → RemovesBytes edition t index u → IsRemoved edition t index u
+  removed_by u x =
+      let o = x.found.outlines in
+      subst (IsRemoved edition t index) (sym x.bytes)
+      (removed edition t o.tiles o.tiling index x.stretch (by_tiles x.found))

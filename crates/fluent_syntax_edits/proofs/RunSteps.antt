@@ -1,10 +1,8 @@
 -- The places of an entry, from entry to entry.
-use Rattle.std.proofs.Common.{◌≡◌, ℕ, zero, suc, ◌+◌, ◌-◌, ◌<◌, ◌≤◌, List, [], ◌∷◌, length, drop, Option, Some, None}
-use Rattle.std.proofs.Common.{Bool, true, false, refl, sym, ◌∙◌, ap, subst, arith, length-drop}
-use Rattle.std.specs.Prelude.{if◌then◌else◌}
+use Rattle.std.proofs.Common.{◌≡◌, ℕ, zero, suc, ◌+◌, ◌-◌, ◌<◌, List, [], ◌∷◌, length, drop, Some}
+use Rattle.std.proofs.Common.{Bool, true, false, refl, sym, ◌∙◌, ap, arith, length-drop}
 use Rattle.fluent_syntax_edits.specs.Runs.{hangs_on, own_end, run_from}
 use Rattle.fluent_syntax_edits.specs.declared.places.Place.{Place}
-use Rattle.fluent_syntax_edits.specs.declared.runs.Run.{Run}
 
 drop_on : {X : Type 0} (n m : ℕ) (xs : List X) → drop m (drop n xs) ≡ drop (n + m) xs
 drop_on zero m xs = let e : 0 + m ≡ m = omega arith in ap (λ k. drop k xs) (sym e)

@@ -12,7 +12,7 @@ use Rattle.fluent_syntax_grammar.specs.Body.{faults}
 use Rattle.fluent_syntax_grammar.specs.Locality.{Settled, begins_attribute, ends_line, is_settled, lacks_field}
 use Rattle.fluent_syntax_edits.specs.Places.{place_of}
 use Rattle.fluent_syntax_edits.specs.Refusals.{behind_settled, ends_at_attribute, entry_at, first_loose, found_run}
-use Rattle.fluent_syntax_edits.specs.Refusals.{is_junk, settled_run, spot_at, start_of, stays, unless_junk}
+use Rattle.fluent_syntax_edits.specs.Refusals.{is_junk, settled_run, spot_at, start_of, stays}
 use Rattle.fluent_syntax_edits.specs.Runs.{run_from}
 use Rattle.fluent_syntax_edits.specs.declared.fault.EditFault.{EditFault}
 use Rattle.fluent_syntax_edits.specs.declared.places.Place.{Place}

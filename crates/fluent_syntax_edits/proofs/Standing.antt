@@ -1,7 +1,7 @@
 -- Where an entry that was found stands, and what stands behind it.
-use Rattle.std.proofs.Common.{◌≡◌, ℕ, ◌≤◌, ◌<◌, List, [], ◌∷◌, ◌++◌, length, drop, map, Option, Some, None}
-use Rattle.std.proofs.Common.{true, false, refl, sym, ◌∙◌, ap, subst, arith, append_assoc, inl, inr}
-use Rattle.std.specs.Prelude.{Ok, slice_get}
+use Rattle.std.proofs.Common.{◌≡◌, ℕ, ◌≤◌, ◌<◌, List, [], ◌∷◌, ◌++◌, length, map, Option, Some}
+use Rattle.std.proofs.Common.{true, refl, sym, ◌∙◌, ap, subst, arith, append_assoc, inl, inr}
+use Rattle.std.specs.Prelude.{slice_get}
 use Rattle.fluent_syntax_tree.specs.Entry.{EntryTree, comment, entry_map, group, junk, message, regular, resource, term}
 use Rattle.fluent_syntax_tree.specs.Spans.{bytes_at}
 use Rattle.fluent_syntax_tree.specs.declared.edition.Edition.{Edition}
@@ -20,7 +20,7 @@ use Rattle.fluent_syntax_grammar.proofs.locality.InTiling.{RestAlone, Standing, 
 use Rattle.fluent_syntax_edits.specs.Places.{place_of}
 use Rattle.fluent_syntax_edits.specs.Refusals.{begin_of, is_junk, start_of}
 use Rattle.fluent_syntax_edits.specs.declared.places.Place.{Place}
-use Rattle.fluent_syntax_edits.proofs.FoundRuns.{AreKept, Found, OwnTiles, at_end, hang_yes, one, two}
+use Rattle.fluent_syntax_edits.proofs.FoundRuns.{AreKept, OwnTiles, at_end, hang_yes, one, two}
 use Rattle.fluent_syntax_edits.proofs.Sound.{NoJunk, SoundRun}
 
 -- ---- tiles that were not dropped

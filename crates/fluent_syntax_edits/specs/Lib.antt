@@ -1,4 +1,5 @@
 pub mod Edits
+pub mod Numbers
 pub mod Places
 pub mod Refusals
 pub mod Runs

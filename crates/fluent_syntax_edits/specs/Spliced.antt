@@ -1,7 +1,14 @@
--- The blank lines of a text.
+-- Where a text is cut, and its blank lines.
 use Rattle.std.specs.Prelude.{ℕ, zero, suc, ◌+◌, ◌-◌, ◌==◌, ◌||◌, Bool, List, length}
 use Rattle.std.specs.Prelude.{Option, Some, None, slice_get, if◌then◌else◌}
+use Rattle.std.specs.Str.{IsCharBoundary}
 use Rattle.fluent_syntax_grammar.specs.Bytes.{cr, lf, space}
+use Rattle.fluent_syntax_edits.specs.declared.refusals.Stretch.{Stretch}
+
+-- Both ends of the stretch are boundaries of characters.
+pub record Cuts (t : List ℕ) (s : Stretch) : Type 0 where
+  pub start : IsCharBoundary t s.start
+  pub end : IsCharBoundary t s.end
 
 -- whether the byte is a space or of a line end
 abbrev pub is_blank : ℕ → Bool

@@ -3,12 +3,15 @@
 
 mod edits;
 pub mod fault;
+pub mod numbers;
 mod outline;
 mod places;
 mod refusals;
 mod runs;
 mod splice;
+mod stretches;
 mod text;
 
 pub use edits::{insert, remove, replace};
 pub use fault::EditFault;
+pub use numbers::{EntryName, number_of};

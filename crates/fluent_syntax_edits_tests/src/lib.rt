@@ -4,6 +4,8 @@
 #[cfg(test)]
 mod many;
 #[cfg(test)]
+mod numbers;
+#[cfg(test)]
 mod table;
 #[cfg(test)]
 mod trees;

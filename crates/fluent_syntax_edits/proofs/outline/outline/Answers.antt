@@ -1,5 +1,5 @@
-use Rattle.std.proofs.Common.{ap, subst, sym, ◌∙◌}
-use Rattle.fluent_syntax_edits.proofs.Reading.{ReadTo, read_all, read_on}
+use Rattle.std.proofs.Common.{ap, ◌∙◌}
+use Rattle.fluent_syntax_edits.proofs.Reading.{read_all, read_on}
 use Rattle.fluent_syntax_edits.proofs.outline.outline.Goals as goal
 
 pub loop-found-preserved : goal.loop-found-preserved

@@ -1,4 +1,4 @@
-use Rattle.std.proofs.Common.{ℕ, ◌≡◌, suc, ◌-◌, sym, ◌∙◌, ap, drop, arith}
+use Rattle.std.proofs.Common.{◌≡◌, suc, ◌-◌, sym, ◌∙◌, ap, drop, arith}
 use Rattle.fluent_syntax_edits.specs.Runs.{run_from}
 use Rattle.fluent_syntax_edits.proofs.RunSteps.{entry_behind, entry_here}
 use Rattle.fluent_syntax_edits.proofs.runs.run_of.Goals as goal
