@@ -1,0 +1,58 @@
+;;; fluent-mode.el --- Fluent files, and their language server  -*- lexical-binding: t -*-
+
+;; Version: 0.0.1
+;; Package-Requires: ((emacs "27.1"))
+;; Keywords: languages
+;; URL: https://projectfluent.org
+;; SPDX-License-Identifier: Apache-2.0 OR MIT
+
+;;; Commentary:
+
+;; A mode for the files of Project Fluent.  With eglot, which Emacs has from 29 on, it shows the errors of a file as
+;; it is typed, lists its messages and terms, and formats it, by the program `ftl'.
+
+;;; Code:
+
+(defgroup fluent nil
+  "Files of Project Fluent."
+  :group 'languages)
+
+(defcustom fluent-program "ftl"
+  "The program whose word `lsp' is the language server."
+  :type 'string)
+
+(defconst fluent--name "[a-zA-Z][a-zA-Z0-9_-]*")
+
+(defconst fluent--keywords
+  `(("^#\\{1,3\\}\\(?: .*\\)?$" . font-lock-comment-face)
+    (,(concat "^\\(-?" fluent--name "\\) *=") 1 font-lock-function-name-face)
+    (,(concat "^ *\\(\\." fluent--name "\\) *=") 1 font-lock-type-face)
+    ("^[ \t]*\\(\\*?\\[[^]\n]*\\]\\)" 1 font-lock-constant-face)
+    ("{[^{}]*?\\(\"\\(?:[^\"\\\n]\\|\\\\.\\)*\"\\)" 1 font-lock-string-face)
+    (,(concat "\\$" fluent--name) . font-lock-variable-name-face)
+    ("{[ \t\n]*\\([A-Z][A-Z0-9_-]*\\)[ \t]*(" 1 font-lock-builtin-face))
+  "What stands out in a Fluent file.")
+
+;;;###autoload
+(define-derived-mode fluent-mode prog-mode "Fluent"
+  "A mode for the files of Project Fluent."
+  (setq-local comment-start "# ")
+  (setq-local comment-end "")
+  (setq-local indent-tabs-mode nil)
+  (setq-local tab-width 4)
+  (setq-local font-lock-defaults '(fluent--keywords t)))
+
+;;;###autoload
+(add-to-list 'auto-mode-alist '("\\.ftl\\'" . fluent-mode))
+
+(defvar eglot-server-programs)
+
+(defun fluent--server (&rest _)
+  "What eglot runs."
+  (list fluent-program "lsp"))
+
+(with-eval-after-load 'eglot
+  (add-to-list 'eglot-server-programs '(fluent-mode . fluent--server)))
+
+(provide 'fluent-mode)
+;;; fluent-mode.el ends here

@@ -1,0 +1,15 @@
+// Starts the language server `ftl lsp` for Fluent files.
+const { workspace } = require("vscode");
+const { LanguageClient } = require("vscode-languageclient/node");
+
+let client;
+
+exports.activate = () => {
+  const command = workspace.getConfiguration("fluent").get("program", "ftl");
+  client = new LanguageClient("ftl", "Fluent", { command, args: ["lsp"] }, {
+    documentSelector: [{ language: "fluent" }],
+  });
+  return client.start();
+};
+
+exports.deactivate = () => client && client.stop();
