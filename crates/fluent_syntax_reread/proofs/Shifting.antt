@@ -1,0 +1,126 @@
+-- Tiles behind a change stand in the new text where they are moved to.
+use Rattle.std.proofs.Common.{◌≡◌, ℕ, zero, suc, ◌+◌, ◌-◌, ◌≤◌, ◌<◌, List, [], ◌∷◌, ◌++◌, length, drop, take, map}
+use Rattle.std.proofs.Common.{Some, None, refl, sym, ◌∙◌, ap, arith, subst, length-drop}
+use Rattle.std.proofs.lemmas.List.{append_assoc, drop-append-le, drop-drop, length-append, length-take-le}
+use Rattle.std.specs.List.{All}
+use Rattle.std.specs.Prelude.{slice_get}
+use Rattle.std.proofs.lemmas.List.Elements.{All-cons, All-nil}
+use Rattle.std.specs.Str.{IsUtf8}
+use Rattle.fluent_syntax_tree.specs.declared.edition.Edition.{Edition}
+use Rattle.fluent_syntax_parser.specs.Tiles.{TileTo}
+use Rattle.fluent_syntax_grammar.specs.Places.{BlankBlock}
+use Rattle.fluent_syntax_reread.specs.Placed.{IsSeam, ReadAt, Rest, StandsAt}
+use Rattle.fluent_syntax_reread.specs.Reading.{Leads, Left, Meets, ReadsOn, as_before, changed, nothing, shifted}
+use Rattle.fluent_syntax_reread.specs.declared.placed.Placed.{Placed}
+use Rattle.fluent_syntax_reread.specs.declared.shifted.Shift.{Shift}
+use Rattle.fluent_syntax_reread.proofs.Standing.{found_at}
+
+-- ---- the rest of a changed text
+
+drop_behind : (xs ys : List ℕ) (n : ℕ) → length xs ≡ n → drop n (xs ++ ys) ≡ ys
+drop_behind [] ys n e = rw (sym e) refl
+drop_behind (x ∷ xs) ys n e = rw (sym e) (drop_behind xs ys (length xs) refl)
+
+pub same_behind : (t new : List ℕ) (from to : ℕ) → from ≤ length t →
+    drop (from + length new) (changed t from to new) ≡ drop to t
+same_behind t new from to l =
+    let n = length-take-le from t l in
+    let whole = append_assoc (take from t) new (drop to t) in
+    let size : length (take from t ++ new) ≡ from + length new =
+    length-append (take from t) new ∙ ap (λ k. k + length new) n in
+    ap (drop (from + length new)) (sym whole)
+    ∙ drop_behind (take from t ++ new) (drop to t) (from + length new) size
+
+module _ (edition : Edition) where
+  -- ---- one more tile
+
+  pub leads_on : (t : List ℕ) (i j : ℕ) (ps : List Placed) (p : Placed) → Leads edition t i j ps →
+      StandsAt edition t j p → Leads edition t i (j + p.found.span.end) (ps ++ (p ∷ []))
+  leads_on t i j ps p a s = record {
+    whole = λ more r. subst (Rest edition t i) (sym (append_assoc ps (p ∷ []) more)) (a.whole (p ∷ more) (s, r));
+  }
+
+  -- ---- the rest of the old tiles
+
+  module _ (t : List ℕ) (u : IsUtf8 t) where
+    -- from the base of one of the tiles on stand it and those behind it
+    pub rest_from : (i k : ℕ) (ps : List Placed) (p : Placed) → Rest edition t i ps → slice_get ps k ≡ Some p →
+        Rest edition t p.base (drop k ps)
+    rest_from i k [] p a e = absurd cc
+    rest_from i zero (q ∷ ps) p a e =
+        let same : q ≡ p = cc in
+        subst (λ j. Rest edition t j (q ∷ ps)) (sym a.0.base ∙ ap (λ (q : Placed). q.base) same) a
+    rest_from i (suc k) (q ∷ ps) p a e = rest_from (i + q.found.span.end) k ps p a.1 e
+
+    -- none begins before the place from which on they stand
+    pub base_behind : (i k : ℕ) (ps : List Placed) (p : Placed) → IsSeam t i → Rest edition t i ps →
+        slice_get ps k ≡ Some p → i ≤ p.base
+    base_behind i k [] p s a e = absurd cc
+    base_behind i zero (q ∷ ps) p s a e =
+        let same : q ≡ p = cc in
+        let b = a.0.base in
+        let c : q.base ≡ p.base = ap (λ (q : Placed). q.base) same in
+        omega arith
+    base_behind i (suc k) (q ∷ ps) p s a e =
+        let f = found_at edition t u i q s a.0 in
+        let h = base_behind (i + q.found.span.end) k ps p f.seam a.1 e in
+        omega arith
+
+    pub bases_from : (i low : ℕ) (ps : List Placed) → IsSeam t i → Rest edition t i ps → low ≤ i →
+        All (λ p. low ≤ p.base) ps
+    bases_from i low [] s a l = All-nil (λ (p : Placed). low ≤ p.base)
+    bases_from i low (p ∷ ps) s a l =
+        let f = found_at edition t u i p s a.0 in
+        let b = a.0.base in
+        All-cons (λ (p : Placed). low ≤ p.base) p ps (omega arith)
+        (bases_from (i + p.found.span.end) low ps f.seam a.1 (omega arith))
+
+    pub bases_within : (i : ℕ) (shift : Shift) (ps : List Placed) → IsSeam t i → Rest edition t i (map (shifted shift) ps) →
+        All (λ p. (shifted shift p).base ≤ length t) ps
+    bases_within i shift [] s a = All-nil (λ (p : Placed). (shifted shift p).base ≤ length t)
+    bases_within i shift (p ∷ ps) s a =
+        let f = found_at edition t u i (shifted shift p) s a.0 in
+        let l = s.boundary.0 in
+        All-cons (λ (p : Placed). (shifted shift p).base ≤ length t) p ps
+        (subst (λ k. k ≤ length t) (sym a.0.base) l)
+        (bases_within (i + p.found.span.end) shift ps f.seam a.1)
+
+  -- ---- moved
+
+  module _ (t v : List ℕ) (shift : Shift) (same : drop shift.old t ≡ drop shift.new v) where
+    same_at : (n : ℕ) → drop (shift.old + n) t ≡ drop (shift.new + n) v
+    same_at n = sym (drop-drop n shift.old t) ∙ (ap (drop n) same ∙ drop-drop n shift.new v)
+
+    rest_at : (n : ℕ) (ps : List Placed) → Rest edition t (shift.old + n) ps →
+        Rest edition v (shift.new + n) (map (shifted shift) ps)
+    rest_at n [] b = subst (λ w. BlankBlock w 0 (length w)) (same_at n) b
+    rest_at n (p ∷ ps) a =
+        let b = a.0.base in
+        let moved : shift.new + (p.base - shift.old) ≡ shift.new + n = omega arith in
+        let one : (shift.old + n) + p.found.span.end ≡ shift.old + (n + p.found.span.end) = omega arith in
+        let two : shift.new + (n + p.found.span.end) ≡ (shift.new + n) + p.found.span.end = omega arith in
+        let more = rest_at (n + p.found.span.end) ps (subst (λ k. Rest edition t k ps) one a.1) in (
+          record {
+            base = moved;
+            own = subst (λ w. TileTo edition w 0 p.found.span.end p.found) (same_at n) a.0.own;
+          },
+          subst (λ k. Rest edition v k (map (shifted shift) ps)) two more,
+        )
+
+    pub rest_moved : (i j : ℕ) (ps : List Placed) → Rest edition t i ps → shift.old ≤ i →
+        shift.new + (i - shift.old) ≡ j → Rest edition v j (map (shifted shift) ps)
+    rest_moved i j ps a l e =
+        let one : i ≡ shift.old + (i - shift.old) = omega arith in
+        subst (λ k. Rest edition v k (map (shifted shift) ps)) e
+        (rest_at (i - shift.old) ps (subst (λ k. Rest edition t k ps) one a))
+
+    -- what is left in the new text
+    pub left_stands : (u : IsUtf8 t) (ps : List Placed) (place k : ℕ) → Rest edition t 0 ps →
+        Left edition v ps shift place k → Rest edition v place (map (shifted shift) (drop k ps))
+    left_stands u ps place k a (nothing e r) = rw (e, drop_length ps) r
+      where
+        drop_length : (ps : List Placed) → drop (length ps) ps ≡ []
+        drop_length [] = refl
+        drop_length (p ∷ ps) = drop_length ps
+    left_stands u ps place k a (as_before m) =
+        rest_moved m.tile.base place (drop k ps) (rest_from t u 0 k ps m.tile a m.there) m.behind m.same
