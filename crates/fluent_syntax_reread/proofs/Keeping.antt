@@ -242,30 +242,23 @@ pub record KeptTo (edition : Edition) (v : List ℕ) (ps : List Placed) (k start
   pub leads : Leads edition v 0 start (take k ps)
   pub seam : IsSeam v start
 
-shared : (t new : List ℕ) (from to place : ℕ) → from ≤ length t → place ≤ from →
-    take place t ≡ take place (changed t from to new)
-shared t new from to place l m =
-    let n = length-take-le from t l in
-    let o : place ≤ length (take from t) = omega arith in
-    sym (take-append-le place (take from t) (new ++ drop to t) o ∙ take-take place from t m)
+shared : (t v : List ℕ) (from place : ℕ) → take from v ≡ take from t → place ≤ from → take place t ≡ take place v
+shared t v from place e m =
+    sym (take-take place from t m) ∙ (ap (take place) (sym e) ∙ take-take place from v m)
 
-pub keeps : (edition : Edition) (t new : List ℕ) (from to : ℕ) (ps : List Placed) (k start : ℕ) → IsUtf8 t →
-    IsUtf8 (changed t from to new) → from ≤ length t → Rest edition t 0 ps →
-    Keeps t (changed t from to new) from ps k → (k ≡ 0 → start ≡ 0) →
-    ((p : Placed) → 0 < k → slice_get ps k ≡ Some p → start ≡ p.base) →
-    KeptTo edition (changed t from to new) ps k start
-keeps edition t new from to ps k start u w l a (none_kept e) first behind =
-    let v = changed t from to new in
+pub keeps : (edition : Edition) (t v : List ℕ) (from : ℕ) (ps : List Placed) (k start : ℕ) → IsUtf8 t → IsUtf8 v →
+    from ≤ length t → take from v ≡ take from t → Rest edition t 0 ps → Keeps t v from ps k → (k ≡ 0 → start ≡ 0) →
+    ((p : Placed) → 0 < k → slice_get ps k ≡ Some p → start ≡ p.base) → KeptTo edition v ps k start
+keeps edition t v from ps k start u w l same_before a (none_kept e) first behind =
     let zero_start = first e in
     rw (e, zero_start) (record { leads = record { whole = λ more r. r }; seam = first_seam edition v w })
-keeps edition t new from to ps k start u w l a (some_kept m {p = p} e there stays) first behind =
-    let v = changed t from to new in
+keeps edition t v from ps k start u w l same_before a (some_kept m {p = p} e there stays) first behind =
     let place = p.base + p.found.span.start in
     let s = first_seam edition t u in
     let next : k ≡ suc m = omega arith in
     let led = led_to edition t u 0 k ps p s a there in
     let in_old = stays.unchanged in
-    let same = shared t new from to place l in_old in
+    let same = shared t v from place same_before in_old in
     let size : length (take place t) ≡ length (take place v) = ap length same in
     let one = length-take place t in
     let two = length-take place v in

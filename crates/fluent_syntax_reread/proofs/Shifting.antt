@@ -2,8 +2,9 @@
 use Rattle.std.proofs.Common.{◌≡◌, ℕ, zero, suc, ◌+◌, ◌-◌, ◌≤◌, ◌<◌, List, [], ◌∷◌, ◌++◌, length, drop, take, map}
 use Rattle.std.proofs.Common.{Some, None, refl, sym, ◌∙◌, ap, arith, subst, length-drop}
 use Rattle.std.proofs.lemmas.List.{append_assoc, drop-append-le, drop-drop, length-append, length-take-le}
+use Rattle.std.proofs.lemmas.List.{take-append-le, take-take}
 use Rattle.std.specs.List.{All}
-use Rattle.std.specs.Prelude.{slice_get}
+use Rattle.std.specs.Prelude.{slice_get, slice_index_or, slice_set}
 use Rattle.std.proofs.lemmas.List.Elements.{All-cons, All-nil}
 use Rattle.std.specs.Str.{IsUtf8}
 use Rattle.fluent_syntax_tree.specs.declared.edition.Edition.{Edition}
@@ -13,9 +14,34 @@ use Rattle.fluent_syntax_reread.specs.Placed.{IsSeam, ReadAt, Rest, StandsAt}
 use Rattle.fluent_syntax_reread.specs.Reading.{Leads, Left, Meets, ReadsOn, as_before, changed, nothing, shifted}
 use Rattle.fluent_syntax_reread.specs.declared.placed.Placed.{Placed}
 use Rattle.fluent_syntax_reread.specs.declared.shifted.Shift.{Shift}
-use Rattle.fluent_syntax_reread.proofs.Standing.{found_at}
+use Rattle.fluent_syntax_reread.proofs.Standing.{first_seam, found_at}
+
+-- ---- one tile after the other
+
+set_next : {A : Type 0} (f : A → A) (xs : List A) (i : ℕ) (d : A) → i < length xs →
+    slice_set (map f (take i xs) ++ drop i xs) i (f (slice_index_or (map f (take i xs) ++ drop i xs) i d))
+    ≡ map f (take (suc i) xs) ++ drop (suc i) xs
+set_next f [] i d l = absurd (omega arith)
+set_next f (x ∷ xs) zero d l = refl
+set_next f (x ∷ xs) (suc i) d l = ap (λ ys. f x ∷ ys) (set_next f xs i d (omega arith))
+
+-- where those before a number were moved, and it is too
+pub next_moved : {A : Type 0} (f : A → A) (xs ys : List A) (i : ℕ) (d : A) → i < length xs →
+    ys ≡ map f (take i xs) ++ drop i xs → slice_set ys i (f (slice_index_or ys i d)) ≡ map f (take (i + 1) xs) ++ drop (i + 1) xs
+next_moved f xs ys i d l e =
+    let one : suc i ≡ i + 1 = omega arith in
+    ap (λ ys. slice_set ys i (f (slice_index_or ys i d))) e
+    ∙ subst (λ k. slice_set (map f (take i xs) ++ drop i xs) i (f (slice_index_or (map f (take i xs) ++ drop i xs) i d))
+    ≡ map f (take k xs) ++ drop k xs) one (set_next f xs i d l)
 
 -- ---- the rest of a changed text
+
+pub same_before : (t new : List ℕ) (from to : ℕ) → from ≤ length t → take from (changed t from to new) ≡ take from t
+same_before t new from to l =
+    let n = length-take-le from t l in
+    let o : from ≤ length (take from t) = omega arith in
+    let m : from ≤ from = omega arith in
+    take-append-le from (take from t) (new ++ drop to t) o ∙ take-take from from t m
 
 drop_behind : (xs ys : List ℕ) (n : ℕ) → length xs ≡ n → drop n (xs ++ ys) ≡ ys
 drop_behind [] ys n e = rw (sym e) refl
@@ -30,6 +56,10 @@ same_behind t new from to l =
     length-append (take from t) new ∙ ap (λ k. k + length new) n in
     ap (drop (from + length new)) (sym whole)
     ∙ drop_behind (take from t ++ new) (drop to t) (from + length new) size
+
+drop_length : (ps : List Placed) → drop (length ps) ps ≡ []
+drop_length [] = refl
+drop_length (p ∷ ps) = drop_length ps
 
 module _ (edition : Edition) where
   -- ---- one more tile
@@ -65,6 +95,17 @@ module _ (edition : Edition) where
         let f = found_at edition t u i q s a.0 in
         let h = base_behind (i + q.found.span.end) k ps p f.seam a.1 e in
         omega arith
+
+    -- where one of them begins reading can begin
+    pub seam_at : (i k : ℕ) (ps : List Placed) (p : Placed) → IsSeam t i → Rest edition t i ps →
+        slice_get ps k ≡ Some p → IsSeam t p.base
+    seam_at i k [] p s a e = absurd cc
+    seam_at i zero (q ∷ ps) p s a e =
+        let same : q ≡ p = cc in
+        subst (λ j. IsSeam t j) (sym a.0.base ∙ ap (λ (q : Placed). q.base) same) s
+    seam_at i (suc k) (q ∷ ps) p s a e =
+        let f = found_at edition t u i q s a.0 in
+        seam_at (i + q.found.span.end) k ps p f.seam a.1 e
 
     pub bases_from : (i low : ℕ) (ps : List Placed) → IsSeam t i → Rest edition t i ps → low ≤ i →
         All (λ p. low ≤ p.base) ps
@@ -118,9 +159,19 @@ module _ (edition : Edition) where
     pub left_stands : (u : IsUtf8 t) (ps : List Placed) (place k : ℕ) → Rest edition t 0 ps →
         Left edition v ps shift place k → Rest edition v place (map (shifted shift) (drop k ps))
     left_stands u ps place k a (nothing e r) = rw (e, drop_length ps) r
-      where
-        drop_length : (ps : List Placed) → drop (length ps) ps ≡ []
-        drop_length [] = refl
-        drop_length (p ∷ ps) = drop_length ps
     left_stands u ps place k a (as_before m) =
         rest_moved m.tile.base place (drop k ps) (rest_from t u 0 k ps m.tile a m.there) m.behind m.same
+
+    -- what is left began behind the change
+    pub left_behind : (u : IsUtf8 t) (ps : List Placed) (place k : ℕ) → Rest edition t 0 ps →
+        Left edition v ps shift place k → All (λ p. shift.old ≤ p.base) (drop k ps)
+    left_behind u ps place k a (nothing e r) = rw (e, drop_length ps) (All-nil (λ (p : Placed). shift.old ≤ p.base))
+    left_behind u ps place k a (as_before m) =
+        bases_from t u m.tile.base shift.old (drop k ps)
+        (seam_at t u 0 k ps m.tile (first_seam edition t u) a m.there)
+        (rest_from t u 0 k ps m.tile a m.there) m.behind
+
+    -- and begins within the new text
+    pub left_within : (u : IsUtf8 t) (w : IsUtf8 v) (ps : List Placed) (place k : ℕ) → Rest edition t 0 ps →
+        IsSeam v place → Left edition v ps shift place k → All (λ p. (shifted shift p).base ≤ length v) (drop k ps)
+    left_within u w ps place k a s l = bases_within v w place shift (drop k ps) s (left_stands u ps place k a l)

@@ -1,7 +1,7 @@
 -- Reading on behind a change.
 use Rattle.std.specs.Prelude.{◌≡◌, ℕ, ◌+◌, ◌-◌, ◌≤◌, List, [], ◌++◌, drop, length, map, slice_get, Some, take}
 use Rattle.fluent_syntax_tree.specs.declared.edition.Edition.{Edition}
-use Rattle.fluent_syntax_reread.specs.Placed.{Rest}
+use Rattle.fluent_syntax_reread.specs.Placed.{IsSeam, Rest}
 use Rattle.fluent_syntax_reread.specs.declared.placed.Placed.{Placed}
 use Rattle.fluent_syntax_reread.specs.declared.shifted.Shift.{Shift}
 
@@ -12,6 +12,10 @@ changed t from to new = take from t ++ (new ++ drop to t)
 -- the tile where it stands behind the change
 abbrev pub shifted : Shift → Placed → Placed
 shifted shift p = record { base = shift.new + (p.base - shift.old); found = p.found }
+
+-- the first of the old tiles, others, and the old ones from the number `next` on where they stand behind the change
+abbrev pub together : List Placed → Shift → (first next : ℕ) → List Placed → List Placed
+together old shift first next others = take first old ++ (others ++ map (shifted shift) (drop next old))
 
 -- These tiles lead from the one place to the other.
 pub record Leads (edition : Edition) (t : List ℕ) (i j : ℕ) (places : List Placed) : Type 0 where
@@ -33,5 +37,6 @@ pub data Left (edition : Edition) (t : List ℕ) (old : List Placed) (shift : Sh
 pub record ReadsOn (edition : Edition) (t : List ℕ) (old : List Placed) (shift : Shift) (start : ℕ)
     (places : List Placed) (k : ℕ) : Type 0 where
   pub end : ℕ
+  pub seam : IsSeam t end
   pub leads : Leads edition t start end places
   pub left : Left edition t old shift end k

@@ -1,14 +1,15 @@
 //! A text that is changed.
-ghost use Rattle.std.specs.Prelude.{◌≡◌, ◌<◌, slice_get, IfOk, OnErr, OnOk, Some, string_bytes};
-ghost use Rattle.fluent_syntax_reread.specs.Held.{bytes_of, HoldsTiling, IsHeld, TellsFaults};
+ghost use Rattle.std.specs.Prelude.{◌≡◌, ◌+◌, IfErr, IfOk, length, OnErr, OnOk, string_bytes};
+ghost use Rattle.fluent_syntax_parser.specs.Halts.{HaltsWithin};
+ghost use Rattle.fluent_syntax_reread.specs.Faults.{IsRange, Refuses};
+ghost use Rattle.fluent_syntax_reread.specs.Held.{bytes_of, HoldsTiling, IsHeld, Rereads, TellsFaults};
 ghost use Rattle.fluent_syntax_reread.specs.Placed.{Reads};
 ghost use Rattle.fluent_syntax_reread.specs.Reading.{changed};
-ghost use Rattle.fluent_syntax_reread.specs.declared.placed.Placed.{Placed};
 
-use crate::cut::changed;
+use crate::around::read_around;
+use crate::cut::{changed, is_range};
 use crate::errors::errors_of;
 use crate::fault::ChangeFault;
-use crate::kept::kept;
 use crate::placed::{How, Placed};
 use crate::reading::read_on;
 use crate::shifted::{Shift, put_between};
@@ -27,18 +28,6 @@ pub struct Reread {
     read: usize,
 }
 
-/// Where reading begins, behind that many tiles that are kept.
-fn start_behind(tiles: &[Placed], count: usize) -> usize
-    ensures first { count ≡ 0 → result ≡ 0 }
-    ensures behind { (tile : Placed) → 0 < count → slice_get tiles.now count ≡ Some tile → result ≡ tile.base }
-{
-    if count == 0 || count >= tiles.len() {
-        0
-    } else {
-        tiles[count].base
-    }
-}
-
 impl Reread {
     /// Reads the whole text, with at most `nesting` placeables and argument lists open at once.
     ///
@@ -54,6 +43,7 @@ impl Reread {
         ensures nesting { IfOk result (λ made. made.nesting ≡ nesting) }
         ensures held { IfOk result IsHeld }
         ensures tiling { IfOk result HoldsTiling }
+        ensures nests { IfErr result (HaltsWithin nesting (length (string_bytes text))) }
     {
         let how = How { edition, nesting };
         let shift = Shift { old: 0, new: 0 };
@@ -86,13 +76,19 @@ impl Reread {
         ensures nesting { self.new.nesting ≡ self.old.nesting }
         ensures held { IsHeld self.new }
         ensures tiling { HoldsTiling self.new }
+        ensures rereads { let shift = record { old = to; new = from + length new.now } in
+            OnOk result (Rereads self.old self.new shift) }
+        ensures range { OnOk result (IsRange (bytes_of self.old) from to) }
+        ensures fault { let size = length (changed (bytes_of self.old) from to new.now) in
+            IfErr result (Refuses (bytes_of self.old) from to self.old.nesting size) }
         ensures same_text { OnErr result (self.new.text ≡ self.old.text) }
         ensures same_tiles { OnErr result (self.new.tiles.items ≡ self.old.tiles.items) }
         ensures same_count { OnErr result (self.new.read ≡ self.old.read) }
     {
+        if !is_range(self.text.as_str(), from, to) {
+            return Err(ChangeFault::NoRange);
+        }
         let text = changed(alloc, self.text.as_str(), from, to, new)?;
-        let first = kept(self.text.as_bytes(), text.as_bytes(), &self.tiles, from);
-        let start = start_behind(&self.tiles, first);
         let shift = Shift {
             old: to,
             new: from + new.len(),
@@ -101,9 +97,10 @@ impl Reread {
             edition: self.edition,
             nesting: self.nesting,
         };
-        let stretch = read_on(alloc, text.as_str(), how, start, &self.tiles, first, shift)?;
-        let read = stretch.tiles.len();
-        put_between(&mut self.tiles, first, stretch.next, stretch.tiles, shift)?;
+        let old = self.text.as_str();
+        let around = read_around(alloc, how, old, text.as_str(), &self.tiles, from, shift)?;
+        let read = around.tiles.len();
+        put_between(&mut self.tiles, around.first, around.next, around.tiles, shift)?;
         self.text = text;
         self.read = read;
         Ok(())

@@ -1,43 +1,30 @@
 //! New texts from old ones.
-ghost use Rattle.std.specs.Prelude.{◌≡◌, ◌≤◌, length, IfErr, IfOk, string_bytes};
-ghost use Rattle.std.specs.Str.{IsCharBoundary};
+ghost use Rattle.std.specs.Prelude.{◌≡◌, ◌↔◌, IfOk, IsTrue, string_bytes};
+ghost use Rattle.fluent_syntax_reread.specs.Faults.{IsRange};
 ghost use Rattle.fluent_syntax_reread.specs.Reading.{changed};
 
-use crate::fault::ChangeFault;
 use std::alloc::{AllocError, Global};
 
-/// The text with another in place of the range.
-fn joined(
-    alloc: Global,
-    source: &str,
-    from: usize,
-    to: usize,
-    new: &str,
-) -> Result<String, AllocError>
-    requires from_boundary { IsCharBoundary source.now from }
-    requires to_boundary { IsCharBoundary source.now to }
-    ensures { IfOk result (λ made. string_bytes made ≡ changed source.now from to new.now) }
+/// Whether the range is one of whole characters in the text.
+pub(crate) fn is_range(source: &str, from: usize, to: usize) -> bool
+    ensures { IsTrue result ↔ IsRange source.now from to }
 {
-    let mut made = String::from_str(alloc, &source[..from])?;
-    made.push_str(new)?;
-    made.push_str(&source[to..])?;
-    Ok(made)
+    from <= to && source.is_char_boundary(from) && source.is_char_boundary(to)
 }
 
-/// The text with another in place of the range, if that is one of whole characters.
+/// The text with another in place of the range.
 pub(crate) fn changed(
     alloc: Global,
     source: &str,
     from: usize,
     to: usize,
     new: &str,
-) -> Result<String, ChangeFault>
-    ensures bytes { IfOk result (λ made. string_bytes made ≡ changed source.now from to new.now) }
-    ensures order { IfOk result (λ _. from ≤ to) }
-    ensures within { IfOk result (λ _. to ≤ length source.now) }
+) -> Result<String, AllocError>
+    requires { IsRange source.now from to }
+    ensures { IfOk result (λ made. string_bytes made ≡ changed source.now from to new.now) }
 {
-    if from > to || !source.is_char_boundary(from) || !source.is_char_boundary(to) {
-        return Err(ChangeFault::NoRange);
-    }
-    Ok(joined(alloc, source, from, to, new)?)
+    let mut made = String::from_str(alloc, &source[..from])?;
+    made.push_str(new)?;
+    made.push_str(&source[to..])?;
+    Ok(made)
 }

@@ -1,5 +1,5 @@
 //! Which tiles before a change stay.
-ghost use Rattle.std.specs.Prelude.{◌≡◌, ◌+◌, ◌-◌, ◌<◌, ◌≤◌, ◌&&◌, drop, IfSome, length, slice_get, take, IsTrue, true};
+ghost use Rattle.std.specs.Prelude.{◌≡◌, ◌+◌, ◌-◌, ◌<◌, ◌≤◌, ◌&&◌, drop, IfSome, length, nat_le, slice_get, take, IsTrue, true};
 ghost use Rattle.std.specs.List.{list_all};
 ghost use Rattle.fluent_syntax_tree.specs.Kind.{kind_of};
 ghost use Rattle.fluent_syntax_grammar.specs.Locality.{begins_attribute, begins_comment, ends_or_begins};
@@ -89,14 +89,19 @@ fn breaks_at_attribute(rest: &[u8], error: &ParserError) -> bool
     lacks_field(&error.kind) && begins_attribute(rest_of(rest, error.pos.end))
 }
 
+/// Whether what ends there ends four bytes before the place, or earlier.
+fn ends_early(end: usize, place: usize) -> bool
+    ensures { result ≡ nat_le (end + 4) place }
+{
+    place.saturating_sub(end) >= 4
+}
+
 /// Whether junk of the rest stays as it is, whatever stands from the place on.
 fn stays_in(rest: &[u8], place: usize, span: Span, error: &ParserError) -> bool
     ensures { result ≡ stays_in rest.now place span (Some error.now) }
 {
-    let early = span.end.saturating_add(4) <= place;
-    let begins = begins_attribute(rest_of(rest, span.start));
-    let breaks = breaks_at_attribute(rest, error);
-    early && (!begins && !breaks)
+    ends_early(span.end, place)
+        && (!begins_attribute(rest_of(rest, span.start)) && !breaks_at_attribute(rest, error))
 }
 
 /// Whether the tile is no junk or stays as it is, whatever stands from the place on.

@@ -1,6 +1,7 @@
 //! A text with its entries, and changes of it: each reads only what stands around it.
 #![tactic(auto)]
 
+mod around;
 pub mod changes;
 mod cut;
 mod errors;

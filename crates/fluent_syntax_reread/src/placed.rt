@@ -1,6 +1,7 @@
 //! A tile, and where reading it began.
-ghost use Rattle.std.specs.Prelude.{◌≡◌, ◌+◌, ◌^◌, ◌<◌, ◌≤◌, length, IfOk, IfSome};
+ghost use Rattle.std.specs.Prelude.{◌≡◌, ◌+◌, ◌^◌, ◌<◌, ◌≤◌, length, IfErr, IfOk, IfSome};
 ghost use Rattle.std.specs.Str.{IsCharBoundary};
+ghost use Rattle.fluent_syntax_parser.specs.Halts.{HaltsWithin};
 ghost use Rattle.fluent_syntax_reread.specs.Placed.{GoesOn, IsSeam, ReadAt};
 
 use fluent_syntax_parser::options::Halt;
@@ -34,6 +35,7 @@ pub(crate) fn read_tile(
     requires { IsSeam text.now base }
     ensures next { IfOk result (ReadAt how.edition text.now base) }
     ensures onward { IfOk result (λ found. IfSome found (GoesOn text.now)) }
+    ensures nests { IfErr result (HaltsWithin how.nesting (length text.now)) }
 {
     let mut tiles = Tiles::new(&text[base..], how.edition, how.nesting, 0);
     match tiles.next_tile(alloc)? {

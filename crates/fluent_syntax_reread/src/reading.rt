@@ -1,5 +1,6 @@
 //! Reading on, until all is as it was.
-ghost use Rattle.std.specs.Prelude.{◌≡◌, ◌+◌, ◌-◌, ◌≤◌, false, length, IfOk, IsTrue};
+ghost use Rattle.std.specs.Prelude.{◌≡◌, ◌+◌, ◌-◌, ◌≤◌, false, length, IfErr, IfOk, IsTrue};
+ghost use Rattle.fluent_syntax_parser.specs.Halts.{HaltsWithin};
 ghost use Rattle.fluent_syntax_reread.specs.Placed.{IsSeam};
 ghost use Rattle.fluent_syntax_reread.specs.Reading.{Meets, ReadsOn};
 
@@ -56,6 +57,7 @@ pub(crate) fn read_on(
         ReadsOn how.edition text.now tiles.now shift start stretch.tiles.items stretch.next) }
     ensures low { IfOk result (λ stretch. first ≤ stretch.next) }
     ensures high { IfOk result (λ stretch. stretch.next ≤ length tiles.now) }
+    ensures nests { IfErr result (HaltsWithin how.nesting (length text.now)) }
 {
     let mut read = Vec::new(alloc);
     let mut next = first;

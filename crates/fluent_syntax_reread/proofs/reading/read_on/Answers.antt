@@ -5,6 +5,7 @@ use Rattle.fluent_syntax_reread.proofs.reading.read_on.Goals as goal
 pub returns-then-meets-clause-reads : goal.returns-then-meets-clause-reads
 returns-then-meets-clause-reads c = record {
   end = c.loop-alloc.place;
+  seam = c.loop-alloc.invariant.seam;
   leads = c.loop-alloc.invariant.leads;
   left = as_before (c.if-meets.ensures (search rules));
 }
@@ -14,6 +15,7 @@ returns-in-None-clause-reads c =
     let rest = rw c.in-None.is at c.in_ok-placed.ensures.next in
     record {
       end = c.loop-alloc.place;
+      seam = c.loop-alloc.invariant.seam;
       leads = c.loop-alloc.invariant.leads;
       left = nothing refl rest;
     }
