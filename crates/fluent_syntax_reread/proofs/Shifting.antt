@@ -1,8 +1,9 @@
 -- Tiles behind a change stand in the new text where they are moved to.
 use Rattle.std.proofs.Common.{◌≡◌, ℕ, zero, suc, ◌+◌, ◌-◌, ◌≤◌, ◌<◌, List, [], ◌∷◌, ◌++◌, length, drop, take, map}
 use Rattle.std.proofs.Common.{Some, None, refl, sym, ◌∙◌, ap, arith, subst, length-drop}
-use Rattle.std.proofs.lemmas.List.{append_assoc, drop-append-le, drop-drop, length-append, length-take-le}
-use Rattle.std.proofs.lemmas.List.{take-append-le, take-take}
+use Rattle.std.proofs.lemmas.List.{append_assoc, append-nil, drop_all, drop_at, drop-drop, length-append, length-take-le}
+use Rattle.std.proofs.lemmas.List.{take_at, take-append-le, take-take}
+use borrow.Rule.Slice.PartMut.{post_of, put_mid}
 use Rattle.std.specs.List.{All}
 use Rattle.std.specs.Prelude.{slice_get, slice_index_or, slice_set}
 use Rattle.std.proofs.lemmas.List.Elements.{All-cons, All-nil}
@@ -43,23 +44,40 @@ same_before t new from to l =
     let m : from ≤ from = omega arith in
     take-append-le from (take from t) (new ++ drop to t) o ∙ take-take from from t m
 
-drop_behind : (xs ys : List ℕ) (n : ℕ) → length xs ≡ n → drop n (xs ++ ys) ≡ ys
-drop_behind [] ys n e = rw (sym e) refl
-drop_behind (x ∷ xs) ys n e = rw (sym e) (drop_behind xs ys (length xs) refl)
+-- behind what was put in place of a range is what was behind the range
+pub drop_put : {A : Type 0} (xs ys : List A) (from to n : ℕ) → from ≤ length xs → n ≡ from + length ys →
+    drop n (take from xs ++ (ys ++ drop to xs)) ≡ drop to xs
+drop_put xs ys from to n l e =
+    let size = length-append (take from xs) ys in
+    let before = length-take-le from xs l in
+    ap (drop n) (sym (append_assoc (take from xs) ys (drop to xs)))
+    ∙ drop_at (take from xs ++ ys) (drop to xs) n (omega arith)
+
+pub take_put : {A : Type 0} (xs ys : List A) (from to n : ℕ) → from ≤ length xs → n ≡ from + length ys →
+    take n (take from xs ++ (ys ++ drop to xs)) ≡ take from xs ++ ys
+take_put xs ys from to n l e =
+    let size = length-append (take from xs) ys in
+    let before = length-take-le from xs l in
+    ap (take n) (sym (append_assoc (take from xs) ys (drop to xs)))
+    ∙ take_at (take from xs ++ ys) (drop to xs) n (omega arith)
 
 pub same_behind : (t new : List ℕ) (from to : ℕ) → from ≤ length t →
     drop (from + length new) (changed t from to new) ≡ drop to t
-same_behind t new from to l =
-    let n = length-take-le from t l in
-    let whole = append_assoc (take from t) new (drop to t) in
-    let size : length (take from t ++ new) ≡ from + length new =
-    length-append (take from t) new ∙ ap (λ k. k + length new) n in
-    ap (drop (from + length new)) (sym whole)
-    ∙ drop_behind (take from t ++ new) (drop to t) (from + length new) size
+same_behind t new from to l = drop_put t new from to (from + length new) l refl
 
-drop_length : (ps : List Placed) → drop (length ps) ps ≡ []
-drop_length [] = refl
-drop_length (p ∷ ps) = drop_length ps
+-- where the tail of a list was changed
+pub tail_put : {A : Type 0} (xs ys : List A) (first len : ℕ) → first ≤ length xs → len ≡ length xs →
+    length ys ≡ length xs - first →
+    take len (put_mid first (length xs - first) xs ys ++ drop (length (put_mid first (length xs - first) xs ys)) xs)
+    ≡ take first xs ++ ys
+tail_put xs ys first len l e k =
+    let part = put_mid first (length xs - first) xs ys in
+    let none : post_of first (length xs - first) xs ≡ [] =
+    let rest = length-drop first xs in drop_all (length xs - first) (drop first xs) (omega arith) in
+    let same : part ≡ take first xs ++ ys = rw (none, append-nil) refl in
+    let before = length-take-le first xs l in
+    let size : length part ≡ len = ap length same ∙ (length-append (take first xs) ys ∙ (omega arith)) in
+    take_at part (drop (length part) xs) len size ∙ same
 
 module _ (edition : Edition) where
   -- ---- one more tile
@@ -158,14 +176,14 @@ module _ (edition : Edition) where
     -- what is left in the new text
     pub left_stands : (u : IsUtf8 t) (ps : List Placed) (place k : ℕ) → Rest edition t 0 ps →
         Left edition v ps shift place k → Rest edition v place (map (shifted shift) (drop k ps))
-    left_stands u ps place k a (nothing e r) = rw (e, drop_length ps) r
+    left_stands u ps place k a (nothing e r) = rw (e, drop_all (length ps) ps (omega arith)) r
     left_stands u ps place k a (as_before m) =
         rest_moved m.tile.base place (drop k ps) (rest_from t u 0 k ps m.tile a m.there) m.behind m.same
 
     -- what is left began behind the change
     pub left_behind : (u : IsUtf8 t) (ps : List Placed) (place k : ℕ) → Rest edition t 0 ps →
         Left edition v ps shift place k → All (λ p. shift.old ≤ p.base) (drop k ps)
-    left_behind u ps place k a (nothing e r) = rw (e, drop_length ps) (All-nil (λ (p : Placed). shift.old ≤ p.base))
+    left_behind u ps place k a (nothing e r) = rw (e, drop_all (length ps) ps (omega arith)) (All-nil (λ (p : Placed). shift.old ≤ p.base))
     left_behind u ps place k a (as_before m) =
         bases_from t u m.tile.base shift.old (drop k ps)
         (seam_at t u 0 k ps m.tile (first_seam edition t u) a m.there)

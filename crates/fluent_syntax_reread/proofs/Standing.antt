@@ -2,7 +2,7 @@
 use Rattle.std.proofs.Common.{◌≡◌, ℕ, ◌+◌, ◌≤◌, ◌<◌, List, [], ◌∷◌, ◌++◌, length, drop, refl, sym, ◌∙◌, ap, arith}
 use Rattle.std.proofs.Common.{inl, inr, length-drop, subst, true}
 use Rattle.std.specs.Str.{IsCharBoundary, IsUtf8}
-use Rattle.std.proofs.lemmas.Str.{IsCharBoundary-start}
+use Rattle.std.proofs.lemmas.Str.{IsCharBoundary-start, IsUtf8-had}
 use Rattle.fluent_syntax_tree.specs.declared.edition.Edition.{Edition}
 use Rattle.fluent_syntax_tree.specs.declared.spans.Span.{Span}
 use Rattle.fluent_syntax_grammar.specs.Locality.{moved_tile, moved_tiles}
@@ -20,8 +20,10 @@ use Rattle.fluent_syntax_grammar.proofs.locality.Moved.{behind_place, leads_bloc
 use Rattle.fluent_syntax_grammar.proofs.locality.Tiles.{tiled_there}
 use Rattle.fluent_syntax_parser.specs.Tiles.{Gives, TileTo}
 use Rattle.fluent_syntax_parser.specs.declared.tiles.FoundTile.{FoundTile}
+use Rattle.fluent_syntax_reread.specs.Held.{HoldsTiling, IsHeld}
 use Rattle.fluent_syntax_reread.specs.Placed.{EachTells, GoesOn, IsRead, IsSeam, LineOrEnd, Reads, Rest, StandsAt}
 use Rattle.fluent_syntax_reread.specs.Placed.{Tells, end_of, span_of}
+use Rattle.fluent_syntax_reread.specs.declared.changes.Reread.{Reread}
 use Rattle.fluent_syntax_reread.specs.declared.placed.Placed.{Placed}
 use Rattle.fluent_syntax_reread.proofs.Unmoved.{same_unmoved}
 
@@ -207,3 +209,6 @@ module _ (edition : Edition) (t : List ℕ) (u : IsUtf8 t) where
   -- so what was read from the text's begin on tells of its tiling
   pub reads_all : (ps : List Placed) → IsRead edition t ps → Reads edition t ps
   reads_all ps a = let r = tiles_of 0 ps first_seam a in record { tiles = r.0; tiling = r.1; each = r.2 }
+
+pub held_tiling : (r : Reread) → IsHeld r → HoldsTiling r
+held_tiling r held = reads_all r.edition r.text.bytes.items (IsUtf8-had r.text.bytes.items r.text.ok) r.tiles.items held

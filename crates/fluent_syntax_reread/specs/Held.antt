@@ -6,10 +6,9 @@ use Rattle.fluent_syntax_grammar.specs.Locality.{moved_fault}
 use Rattle.fluent_syntax_grammar.specs.Tiling.{Fault, Tile, Tiling}
 use Rattle.fluent_syntax_parser.specs.Faults.{fault_of}
 use Rattle.fluent_syntax_reread.specs.Placed.{IsRead, Reads}
-use Rattle.fluent_syntax_reread.specs.Reading.{together}
+use Rattle.fluent_syntax_reread.specs.Reading.{shift_to, together}
 use Rattle.fluent_syntax_reread.specs.declared.changes.Reread.{Reread}
 use Rattle.fluent_syntax_reread.specs.declared.placed.Placed.{Placed}
-use Rattle.fluent_syntax_reread.specs.declared.shifted.Shift.{Shift}
 
 -- the bytes of the text
 abbrev pub bytes_of : Reread → List ℕ
@@ -37,12 +36,12 @@ abbrev pub TellsFaults : Reread → List ParserError → Type 0
 TellsFaults r errors =
     (tiles : List Tile) → Tiling r.edition (bytes_of r) tiles → map fault_of errors ≡ map Some (faults tiles)
 
--- Of the old tiles only some in the middle went: in their place are as many as it says that it read, and those behind
--- them were moved.
-pub record Rereads (old new : Reread) (shift : Shift) : Type 0 where
+-- Of the old tiles only some in the middle went: in their place are as many as it says that it read. Those behind them
+-- were moved as far as what stood at the one place, which stands at the other now.
+pub record Rereads (old new : Reread) (to place : ℕ) : Type 0 where
   pub first : ℕ
   pub next : ℕ
   pub read : List Placed
   pub order : first ≤ next
-  pub tiles : new.tiles.items ≡ together old.tiles.items shift first next read
+  pub tiles : new.tiles.items ≡ together old.tiles.items (shift_to to place) first next read
   pub count : new.read ≡ length read

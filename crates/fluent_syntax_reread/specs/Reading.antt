@@ -9,6 +9,10 @@ use Rattle.fluent_syntax_reread.specs.declared.shifted.Shift.{Shift}
 abbrev pub changed : List ℕ → (from to : ℕ) → List ℕ → List ℕ
 changed t from to new = take from t ++ (new ++ drop to t)
 
+-- what began at the one place begins at the other
+abbrev pub shift_to : (to place : ℕ) → Shift
+shift_to to place = record { old = to; new = place }
+
 -- the tile where it stands behind the change
 abbrev pub shifted : Shift → Placed → Placed
 shifted shift p = record { base = shift.new + (p.base - shift.old); found = p.found }

@@ -76,8 +76,7 @@ impl Reread {
         ensures nesting { self.new.nesting ≡ self.old.nesting }
         ensures held { IsHeld self.new }
         ensures tiling { HoldsTiling self.new }
-        ensures rereads { let shift = record { old = to; new = from + length new.now } in
-            OnOk result (Rereads self.old self.new shift) }
+        ensures rereads { OnOk result (Rereads self.old self.new to (from + length new.now)) }
         ensures range { OnOk result (IsRange (bytes_of self.old) from to) }
         ensures fault { let size = length (changed (bytes_of self.old) from to new.now) in
             IfErr result (Refuses (bytes_of self.old) from to self.old.nesting size) }
