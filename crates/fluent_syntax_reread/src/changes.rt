@@ -43,6 +43,7 @@ impl Reread {
         ensures nesting { IfOk result (λ made. made.nesting ≡ nesting) }
         ensures held { IfOk result IsHeld }
         ensures tiling { IfOk result HoldsTiling }
+        ensures count { IfOk result (λ made. made.read ≡ length made.tiles.items) }
         ensures nests { IfErr result (HaltsWithin nesting (length (string_bytes text))) }
     {
         let how = How { edition, nesting };
@@ -84,10 +85,11 @@ impl Reread {
         ensures same_tiles { OnErr result (self.new.tiles.items ≡ self.old.tiles.items) }
         ensures same_count { OnErr result (self.new.read ≡ self.old.read) }
     {
-        if !is_range(self.text.as_str(), from, to) {
+        let old = self.text.as_str();
+        if !is_range(old, from, to) {
             return Err(ChangeFault::NoRange);
         }
-        let text = changed(alloc, self.text.as_str(), from, to, new)?;
+        let text = changed(alloc, old, from, to, new)?;
         let shift = Shift {
             old: to,
             new: from + new.len(),
@@ -96,10 +98,15 @@ impl Reread {
             edition: self.edition,
             nesting: self.nesting,
         };
-        let old = self.text.as_str();
         let around = read_around(alloc, how, old, text.as_str(), &self.tiles, from, shift)?;
         let read = around.tiles.len();
-        put_between(&mut self.tiles, around.first, around.next, around.tiles, shift)?;
+        put_between(
+            &mut self.tiles,
+            around.first,
+            around.next,
+            around.tiles,
+            shift,
+        )?;
         self.text = text;
         self.read = read;
         Ok(())
@@ -109,7 +116,7 @@ impl Reread {
     pub fn text(&self) -> &str
         ensures { result.now ≡ bytes_of self.now }
     {
-        self.text.as_str()
+        &self.text
     }
 
     /// What stands in the text, in order: its tiles, one by one.
@@ -118,7 +125,7 @@ impl Reread {
         ensures value { result.now ≡ self.now.tiles.items }
         ensures reads { Reads self.now.edition (bytes_of self.now) result.now }
     {
-        &self.tiles
+        self.tiles.as_slice()
     }
 
     /// The errors of the text, in order, with their places counted from its start: those that parsing it gives.

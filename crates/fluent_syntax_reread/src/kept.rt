@@ -181,11 +181,7 @@ fn stay_before(old: &[u8], new: &[u8], tiles: &[Placed], from: usize, index: usi
 fn count_by(tiles: &[Placed], place: usize) -> usize
     ensures { result ≤ length tiles.now }
 {
-    let mut count = 0;
-    while count < tiles.len() && tiles[count].base <= place {
-        count += 1;
-    }
-    count
+    tiles.partition_point(|tile| tile.base <= place)
 }
 
 /// How many of the old tiles stay before a change of the text at `from`.
