@@ -1,11 +1,10 @@
 -- What reading on, keeping and changing come to.
-use Rattle.std.proofs.Common.{◌≡◌, ℕ, ◌+◌, ◌-◌, ◌<◌, List, [], ◌∷◌, ◌++◌, length, drop, map, take, Some, refl, sym, ◌∙◌, arith, subst}
+use Rattle.std.proofs.Common.{◌≡◌, ℕ, List, [], ◌++◌, drop, map, sym, subst}
 use Rattle.std.proofs.lemmas.List.{append-nil}
-use Rattle.std.specs.Prelude.{slice_get}
 use Rattle.std.specs.Str.{IsUtf8}
 use Rattle.fluent_syntax_tree.specs.declared.edition.Edition.{Edition}
 use Rattle.fluent_syntax_reread.specs.Placed.{IsRead, Rest}
-use Rattle.fluent_syntax_reread.specs.Reading.{Left, Leads, Meets, ReadsOn, as_before, nothing, shifted, together}
+use Rattle.fluent_syntax_reread.specs.Reading.{Left, ReadsOn, as_before, nothing, shifted, together}
 use Rattle.fluent_syntax_reread.specs.declared.placed.Placed.{Placed}
 use Rattle.fluent_syntax_reread.specs.declared.shifted.Shift.{Shift}
 use Rattle.fluent_syntax_reread.proofs.Keeping.{KeptTo}
@@ -26,4 +25,5 @@ pub all_read : (edition : Edition) (t v : List ℕ) (shift : Shift) (ps qs : Lis
     ReadsOn edition v ps shift start qs k → IsRead edition v (together ps shift first k qs)
 all_read edition t v shift ps qs first start k u same a kept r =
     let behind = map (shifted shift) (drop k ps) in
-    kept.leads.whole (qs ++ behind) (r.leads.whole behind (left_stands edition t v shift (sym same) u ps r.end k a r.left))
+    let left = left_stands edition t v shift (sym same) u ps r.end k a r.left in
+    kept.leads.whole (qs ++ behind) (r.leads.whole behind left)

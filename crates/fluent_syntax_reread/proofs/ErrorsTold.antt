@@ -1,5 +1,5 @@
 -- The errors that tiles tell are the faults of the tiling.
-use Rattle.std.proofs.Common.{◌≡◌, ℕ, List, [], ◌∷◌, ◌++◌, map, Option, Some, None, refl, sym, ◌∙◌, ap, subst}
+use Rattle.std.proofs.Common.{◌≡◌, ℕ, List, [], ◌∷◌, ◌++◌, map, Option, Some, None, refl, sym, ◌∙◌, ap}
 use Rattle.std.specs.Prelude.{option_map}
 use Rattle.fluent_syntax_tree.specs.declared.ast.Entry.{Entry}
 use Rattle.fluent_syntax_tree.specs.declared.edition.Edition.{Edition}
@@ -7,12 +7,12 @@ use Rattle.fluent_syntax_tree.specs.declared.errors.ParserError.{ParserError}
 use Rattle.fluent_syntax_tree.specs.declared.spans.Span.{Span}
 use Rattle.fluent_syntax_grammar.specs.Body.{faults}
 use Rattle.fluent_syntax_grammar.specs.Locality.{moved_fault, moved_tile}
-use Rattle.fluent_syntax_grammar.specs.Tiling.{Fault, Tile, Tiling, dropped, entry, refused}
+use Rattle.fluent_syntax_grammar.specs.Tiling.{Tile, Tiling, dropped, entry, refused}
 use Rattle.fluent_syntax_grammar.proofs.OneTiling.{one_tiling}
 use Rattle.fluent_syntax_parser.specs.Faults.{fault_of}
 use Rattle.fluent_syntax_parser.specs.Tiles.{Gives}
 use Rattle.fluent_syntax_reread.specs.Held.{told_by, told_errors}
-use Rattle.fluent_syntax_reread.specs.Placed.{EachTells, Reads, Tells}
+use Rattle.fluent_syntax_reread.specs.Placed.{EachTells, Reads}
 use Rattle.fluent_syntax_reread.specs.declared.placed.Placed.{Placed}
 
 one_told : (b : ℕ) (own : Tile) (v : Entry Span) (error : Option ParserError) (xs : List Tile) → Gives own v error →

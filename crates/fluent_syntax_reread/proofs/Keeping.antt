@@ -1,20 +1,20 @@
 -- Tiles that stay before a change stand in the new text where they stood.
-use Rattle.std.proofs.Common.{◌≡◌, ℕ, zero, suc, ◌+◌, ◌-◌, ◌≤◌, ◌<◌, List, [], ◌∷◌, ◌++◌, length, drop, take, map}
-use Rattle.std.proofs.Common.{Option, Some, None, Bool, true, false, refl, sym, ◌∙◌, ap, arith, subst, inl, inr}
+use Rattle.std.proofs.Common.{◌≡◌, ℕ, zero, suc, ◌+◌, ◌-◌, ◌≤◌, ◌<◌, List, [], ◌∷◌, ◌++◌, length, drop, take}
+use Rattle.std.proofs.Common.{Option, Some, None, Bool, true, refl, sym, ◌∙◌, ap, arith, subst, inl, inr}
 use Rattle.std.proofs.Common.{length-take}
 use Rattle.std.proofs.lemmas.Bool.Decides.{nat_tests}
-use Rattle.std.proofs.lemmas.List.{drop-drop, length-take-le, take-append-drop, take-append-le, take-take}
+use Rattle.std.proofs.lemmas.List.{drop-drop, length-take-le, take-append-drop, take-take}
 use Rattle.std.specs.List.{list_all}
 use Rattle.std.specs.Prelude.{◌&&◌, not, nat_le, option_map, slice_get}
 use Rattle.std.specs.Str.{IsUtf8}
-use Rattle.fluent_syntax_tree.specs.Entry.{EntryTree, comment, junk, message, term}
+use Rattle.fluent_syntax_tree.specs.Entry.{comment, junk, message, term}
 use Rattle.fluent_syntax_tree.specs.Kind.{Kind, kind_of}
 use Rattle.fluent_syntax_tree.specs.declared.ast.Entry.{Entry}
 use Rattle.fluent_syntax_tree.specs.declared.edition.Edition.{Edition}
 use Rattle.fluent_syntax_tree.specs.declared.errors.ParserError.{ParserError}
 use Rattle.fluent_syntax_tree.specs.declared.spans.Span.{Span}
-use Rattle.fluent_syntax_grammar.specs.Body.{alone, faults}
-use Rattle.fluent_syntax_grammar.specs.Locality.{Led, NoCommentTakes, Settled, arrives, begins_attribute, begins_comment}
+use Rattle.fluent_syntax_grammar.specs.Body.{faults}
+use Rattle.fluent_syntax_grammar.specs.Locality.{Led, NoCommentTakes, Settled, arrives, begins_attribute}
 use Rattle.fluent_syntax_grammar.specs.Locality.{ends_in_comment, ends_or_begins, is_comment, is_comment_to, is_settled}
 use Rattle.fluent_syntax_grammar.specs.Locality.{lacks_field, moved_fault, moved_tile, onward}
 use Rattle.fluent_syntax_grammar.specs.Places.{BlankBlock, starts_line}
@@ -22,11 +22,11 @@ use Rattle.fluent_syntax_grammar.specs.Tiling.{Fault, Tile, TileAt, dropped, ent
 use Rattle.fluent_syntax_grammar.proofs.Facts.{left_true, right_true}
 use Rattle.fluent_syntax_grammar.proofs.locality.Edits.{prefix_local}
 use Rattle.fluent_syntax_parser.specs.Faults.{fault_of}
-use Rattle.fluent_syntax_parser.specs.Rest.{faults_of, tree_of}
-use Rattle.fluent_syntax_parser.specs.Tiles.{Gives, TileTo}
-use Rattle.fluent_syntax_reread.specs.Kept.{Keeps, Stays, is_comment_there, none_kept, some_kept, stays_in, stays_put}
+use Rattle.fluent_syntax_parser.specs.Rest.{tree_of}
+use Rattle.fluent_syntax_parser.specs.Tiles.{Gives}
+use Rattle.fluent_syntax_reread.specs.Kept.{Keeps, is_comment_there, none_kept, some_kept, stays_in, stays_put}
 use Rattle.fluent_syntax_reread.specs.Placed.{EachTells, IsSeam, LineOrEnd, Rest, StandsAt, Tells, span_of}
-use Rattle.fluent_syntax_reread.specs.Reading.{Leads, changed}
+use Rattle.fluent_syntax_reread.specs.Reading.{Leads}
 use Rattle.fluent_syntax_reread.specs.declared.placed.Placed.{Placed}
 use Rattle.fluent_syntax_reread.proofs.Shifting.{base_behind}
 use Rattle.fluent_syntax_reread.proofs.Standing.{Stands, first_seam, found_at, own_first, span_at, tells_of}

@@ -1,8 +1,8 @@
 -- Tiles behind a change stand in the new text where they are moved to.
 use Rattle.std.proofs.Common.{◌≡◌, ℕ, zero, suc, ◌+◌, ◌-◌, ◌≤◌, ◌<◌, List, [], ◌∷◌, ◌++◌, length, drop, take, map}
-use Rattle.std.proofs.Common.{Some, None, refl, sym, ◌∙◌, ap, arith, subst, length-drop}
-use Rattle.std.proofs.lemmas.List.{append_assoc, append-nil, drop_all, drop_at, drop-drop, length-append, length-take-le}
-use Rattle.std.proofs.lemmas.List.{take_at, take-append-le, take-take}
+use Rattle.std.proofs.Common.{Some, refl, sym, ◌∙◌, ap, arith, subst, length-drop}
+use Rattle.std.proofs.lemmas.List.{append_assoc, append-nil, drop_all, drop_at, drop-drop, length-append}
+use Rattle.std.proofs.lemmas.List.{length-take-le, take_at, take-append-le, take-take}
 use borrow.Rule.Slice.PartMut.{post_of, put_mid}
 use Rattle.std.specs.List.{All}
 use Rattle.std.specs.Prelude.{slice_get, slice_index_or, slice_set}
@@ -11,8 +11,8 @@ use Rattle.std.specs.Str.{IsUtf8}
 use Rattle.fluent_syntax_tree.specs.declared.edition.Edition.{Edition}
 use Rattle.fluent_syntax_parser.specs.Tiles.{TileTo}
 use Rattle.fluent_syntax_grammar.specs.Places.{BlankBlock}
-use Rattle.fluent_syntax_reread.specs.Placed.{IsSeam, ReadAt, Rest, StandsAt}
-use Rattle.fluent_syntax_reread.specs.Reading.{Leads, Left, Meets, ReadsOn, as_before, changed, nothing, shifted}
+use Rattle.fluent_syntax_reread.specs.Placed.{IsSeam, Rest, StandsAt}
+use Rattle.fluent_syntax_reread.specs.Reading.{Leads, Left, as_before, changed, nothing, shifted}
 use Rattle.fluent_syntax_reread.specs.declared.placed.Placed.{Placed}
 use Rattle.fluent_syntax_reread.specs.declared.shifted.Shift.{Shift}
 use Rattle.fluent_syntax_reread.proofs.Standing.{first_seam, found_at}
@@ -28,7 +28,8 @@ set_next f (x ∷ xs) (suc i) d l = ap (λ ys. f x ∷ ys) (set_next f xs i d (o
 
 -- where those before a number were moved, and it is too
 pub next_moved : {A : Type 0} (f : A → A) (xs ys : List A) (i : ℕ) (d : A) → i < length xs →
-    ys ≡ map f (take i xs) ++ drop i xs → slice_set ys i (f (slice_index_or ys i d)) ≡ map f (take (i + 1) xs) ++ drop (i + 1) xs
+    ys ≡ map f (take i xs) ++ drop i xs →
+    slice_set ys i (f (slice_index_or ys i d)) ≡ map f (take (i + 1) xs) ++ drop (i + 1) xs
 next_moved f xs ys i d l e =
     let one : suc i ≡ i + 1 = omega arith in
     ap (λ ys. slice_set ys i (f (slice_index_or ys i d))) e
@@ -134,8 +135,8 @@ module _ (edition : Edition) where
         All-cons (λ (p : Placed). low ≤ p.base) p ps (omega arith)
         (bases_from (i + p.found.span.end) low ps f.seam a.1 (omega arith))
 
-    pub bases_within : (i : ℕ) (shift : Shift) (ps : List Placed) → IsSeam t i → Rest edition t i (map (shifted shift) ps) →
-        All (λ p. (shifted shift p).base ≤ length t) ps
+    pub bases_within : (i : ℕ) (shift : Shift) (ps : List Placed) → IsSeam t i →
+        Rest edition t i (map (shifted shift) ps) → All (λ p. (shifted shift p).base ≤ length t) ps
     bases_within i shift [] s a = All-nil (λ (p : Placed). (shifted shift p).base ≤ length t)
     bases_within i shift (p ∷ ps) s a =
         let f = found_at edition t u i (shifted shift p) s a.0 in
@@ -183,7 +184,8 @@ module _ (edition : Edition) where
     -- what is left began behind the change
     pub left_behind : (u : IsUtf8 t) (ps : List Placed) (place k : ℕ) → Rest edition t 0 ps →
         Left edition v ps shift place k → All (λ p. shift.old ≤ p.base) (drop k ps)
-    left_behind u ps place k a (nothing e r) = rw (e, drop_all (length ps) ps (omega arith)) (All-nil (λ (p : Placed). shift.old ≤ p.base))
+    left_behind u ps place k a (nothing e r) =
+        rw (e, drop_all (length ps) ps (omega arith)) (All-nil (λ (p : Placed). shift.old ≤ p.base))
     left_behind u ps place k a (as_before m) =
         bases_from t u m.tile.base shift.old (drop k ps)
         (seam_at t u 0 k ps m.tile (first_seam edition t u) a m.there)

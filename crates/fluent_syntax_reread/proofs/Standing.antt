@@ -1,5 +1,5 @@
 -- What was read at a place of a text stands there in the text.
-use Rattle.std.proofs.Common.{◌≡◌, ℕ, ◌+◌, ◌≤◌, ◌<◌, List, [], ◌∷◌, ◌++◌, length, drop, refl, sym, ◌∙◌, ap, arith}
+use Rattle.std.proofs.Common.{◌≡◌, ℕ, ◌+◌, ◌≤◌, ◌<◌, List, [], ◌∷◌, length, drop, refl, sym, ◌∙◌, ap, arith}
 use Rattle.std.proofs.Common.{inl, inr, length-drop, subst, true}
 use Rattle.std.specs.Str.{IsCharBoundary, IsUtf8}
 use Rattle.std.proofs.lemmas.Str.{IsCharBoundary-start, IsUtf8-had}
@@ -10,19 +10,19 @@ use Rattle.fluent_syntax_grammar.specs.Places.{BlankBlock, starts_line}
 use Rattle.fluent_syntax_grammar.specs.Tiling.{Tile, Tiled, TileAt, Tiling, done, dropped, entry, next, reads, refused}
 use Rattle.fluent_syntax_grammar.specs.Tiling.{refuses}
 use Rattle.fluent_syntax_grammar.proofs.Boundaries.{boundary_cuts}
-use Rattle.fluent_syntax_grammar.proofs.Cuts.{block_forward, block_place}
+use Rattle.fluent_syntax_grammar.proofs.Cuts.{block_place}
 use Rattle.fluent_syntax_grammar.proofs.Functional.{single_block}
 use Rattle.fluent_syntax_grammar.proofs.OneTiling.{one_tile}
 use Rattle.fluent_syntax_grammar.proofs.SomeTiling.{some_tiling}
 use Rattle.fluent_syntax_grammar.proofs.SoundTiling.{tile_good}
-use Rattle.fluent_syntax_grammar.proofs.locality.EntryEnds.{block_line, tile_line}
+use Rattle.fluent_syntax_grammar.proofs.locality.EntryEnds.{tile_line}
 use Rattle.fluent_syntax_grammar.proofs.locality.Moved.{behind_place, leads_block}
 use Rattle.fluent_syntax_grammar.proofs.locality.Tiles.{tiled_there}
 use Rattle.fluent_syntax_parser.specs.Tiles.{Gives, TileTo}
 use Rattle.fluent_syntax_parser.specs.declared.tiles.FoundTile.{FoundTile}
 use Rattle.fluent_syntax_reread.specs.Held.{HoldsTiling, IsHeld}
 use Rattle.fluent_syntax_reread.specs.Placed.{EachTells, GoesOn, IsRead, IsSeam, LineOrEnd, Reads, Rest, StandsAt}
-use Rattle.fluent_syntax_reread.specs.Placed.{Tells, end_of, span_of}
+use Rattle.fluent_syntax_reread.specs.Placed.{Tells, span_of}
 use Rattle.fluent_syntax_reread.specs.declared.changes.Reread.{Reread}
 use Rattle.fluent_syntax_reread.specs.declared.placed.Placed.{Placed}
 use Rattle.fluent_syntax_reread.proofs.Unmoved.{same_unmoved}
@@ -116,7 +116,8 @@ module _ (edition : Edition) where
 -- ---- tiles with where they were read
 
 -- a tile that was read up to its end
-pub own_of : (edition : Edition) (t : List ℕ) (j : ℕ) (found : FoundTile) → TileTo edition t 0 j found → TileTo edition t 0 found.span.end found
+pub own_of : (edition : Edition) (t : List ℕ) (j : ℕ) (found : FoundTile) → TileTo edition t 0 j found →
+    TileTo edition t 0 found.span.end found
 own_of edition t j found a = record {
   tile = a.tile;
   blank = a.blank;

@@ -4,7 +4,6 @@ use Rattle.fluent_syntax_tree.specs.Entry.{entry_map}
 use Rattle.fluent_syntax_tree.specs.declared.spans.Span.{Span}
 use Rattle.fluent_syntax_grammar.specs.Locality.{moved, moved_tile}
 use Rattle.fluent_syntax_grammar.specs.Tiling.{Tile, dropped, entry, refused}
-use Rattle.fluent_syntax_reread.specs.Placed.{span_of}
 use Rattle.fluent_syntax_reread.proofs.Back.{Undoes, entry_back}
 
 abbrev back : ℕ → Span → Span

@@ -1,11 +1,12 @@
 -- Which tiles before a change stay.
-use Rattle.std.specs.Prelude.{◌≡◌, ℕ, ◌+◌, ◌-◌, ◌≤◌, ◌&&◌, Bool, true, false, not, List, [], ◌∷◌, drop, nat_le, take}
+use Rattle.std.specs.Prelude.{◌≡◌, ℕ, ◌+◌, ◌-◌, ◌≤◌, ◌&&◌, Bool, true, false, not, List, drop, nat_le, take}
 use Rattle.std.specs.Prelude.{Option, Some, None, slice_get}
 use Rattle.std.specs.List.{list_all}
 use Rattle.fluent_syntax_tree.specs.Kind.{kind_of}
 use Rattle.fluent_syntax_tree.specs.declared.errors.ParserError.{ParserError}
 use Rattle.fluent_syntax_tree.specs.declared.spans.Span.{Span}
-use Rattle.fluent_syntax_grammar.specs.Locality.{begins_attribute, begins_comment, ends_or_begins, is_comment, lacks_field}
+use Rattle.fluent_syntax_grammar.specs.Locality.{begins_attribute, begins_comment, ends_or_begins, is_comment}
+use Rattle.fluent_syntax_grammar.specs.Locality.{lacks_field}
 use Rattle.fluent_syntax_grammar.specs.Places.{starts_line}
 use Rattle.fluent_syntax_parser.specs.Rest.{tree_of}
 use Rattle.fluent_syntax_reread.specs.declared.placed.Placed.{Placed}
@@ -26,8 +27,8 @@ is_comment_there None = false
 is_comment_there (Some p) = is_comment (tree_of p.found.entry)
 
 -- The tiles before a place are in the new text what they are in the old one: it is before the change, at the start of a
--- line, and what stands there is empty or begins like an entry, in both texts; the junk before it stays as it is; and no
--- comment, the tile with the number `last`, takes the new text there.
+-- line, and what stands there is empty or begins like an entry, in both texts. The junk before it stays as it is. No
+-- comment, which the tile `last` may be, takes the new text there.
 pub record Stays (old new : List ℕ) (from : ℕ) (before : List Placed) (last : Option Placed) (place : ℕ) :
     Type 0 where
   pub unchanged : place ≤ from

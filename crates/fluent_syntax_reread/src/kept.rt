@@ -1,5 +1,6 @@
 //! Which tiles before a change stay.
-ghost use Rattle.std.specs.Prelude.{◌≡◌, ◌+◌, ◌-◌, ◌<◌, ◌≤◌, ◌&&◌, drop, IfSome, length, nat_le, slice_get, take, IsTrue, true};
+ghost use Rattle.std.specs.Prelude.{◌≡◌, ◌+◌, ◌-◌, ◌<◌, ◌≤◌, ◌&&◌, drop, IfSome, length, nat_le, slice_get, take};
+ghost use Rattle.std.specs.Prelude.{IsTrue, true};
 ghost use Rattle.std.specs.List.{list_all};
 ghost use Rattle.fluent_syntax_tree.specs.Kind.{kind_of};
 ghost use Rattle.fluent_syntax_grammar.specs.Locality.{begins_attribute, begins_comment, ends_or_begins};

@@ -1,4 +1,4 @@
-use Rattle.std.proofs.Common.{◌≡◌, ◌-◌, length, refl, subst, take, arith}
+use Rattle.std.proofs.Common.{◌-◌, length, refl, subst, take, arith}
 use Rattle.std.proofs.lemmas.Option.{slice_get_read}
 use Rattle.std.specs.Prelude.{slice_get}
 use Rattle.fluent_syntax_reread.specs.Kept.{Stays, some_kept}
