@@ -6,6 +6,7 @@
 ghost use Rattle.std.specs.Prelude.{◌+◌, ◌^◌, ◌<◌, length};
 
 mod calls;
+mod changes;
 mod clock;
 mod json;
 mod parsing;

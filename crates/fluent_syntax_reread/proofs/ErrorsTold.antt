@@ -1,0 +1,42 @@
+-- The errors that tiles tell are the faults of the tiling.
+use Rattle.std.proofs.Common.{◌≡◌, ℕ, List, [], ◌∷◌, ◌++◌, map, Option, Some, None, refl, sym, ◌∙◌, ap}
+use Rattle.std.specs.Prelude.{option_map}
+use Rattle.fluent_syntax_tree.specs.declared.ast.Entry.{Entry}
+use Rattle.fluent_syntax_tree.specs.declared.edition.Edition.{Edition}
+use Rattle.fluent_syntax_tree.specs.declared.errors.ParserError.{ParserError}
+use Rattle.fluent_syntax_tree.specs.declared.spans.Span.{Span}
+use Rattle.fluent_syntax_grammar.specs.Body.{faults}
+use Rattle.fluent_syntax_grammar.specs.Locality.{moved_fault, moved_tile}
+use Rattle.fluent_syntax_grammar.specs.Tiling.{Tile, Tiling, dropped, entry, refused}
+use Rattle.fluent_syntax_grammar.proofs.OneTiling.{one_tiling}
+use Rattle.fluent_syntax_parser.specs.Faults.{fault_of}
+use Rattle.fluent_syntax_parser.specs.Tiles.{Gives}
+use Rattle.fluent_syntax_reread.specs.Held.{told_by, told_errors}
+use Rattle.fluent_syntax_reread.specs.Placed.{EachTells, Reads}
+use Rattle.fluent_syntax_reread.specs.declared.placed.Placed.{Placed}
+
+one_told : (b : ℕ) (own : Tile) (v : Entry Span) (error : Option ParserError) (xs : List Tile) → Gives own v error →
+    told_by b error ++ map Some (faults xs) ≡ map Some (faults (moved_tile b own ∷ xs))
+one_told b (entry s e) v None xs g = refl
+one_told b (entry s e) v (Some error) xs g = let given = g.errors in absurd cc
+one_told b dropped v None xs g = refl
+one_told b dropped v (Some error) xs g = let given = g.errors in absurd cc
+one_told b (refused f) v None xs g = let given = g.errors in absurd cc
+one_told b (refused f) v (Some error) xs g =
+    let given : Some f ≡ fault_of error = let told = g.errors in cc in
+    ap (λ o. option_map (moved_fault b) o ∷ map Some (faults xs)) (sym given)
+
+pub told_all : (ps : List Placed) (xs : List Tile) → EachTells ps xs → told_errors ps ≡ map Some (faults xs)
+told_all [] [] told = refl
+told_all [] (x ∷ xs) told = absurd told
+told_all (p ∷ ps) [] told = absurd told
+told_all (p ∷ ps) (x ∷ xs) told =
+    ap (λ es. told_by p.base p.found.error ++ es) (told_all ps xs told.1)
+    ∙ (one_told p.base told.0.own p.found.entry p.found.error xs told.0.gives
+    ∙ ap (λ x. map Some (faults (x ∷ xs))) (sym told.0.there))
+
+-- so they tell the faults of the text's tiling, which is the only one
+pub told_tiling : (edition : Edition) (t : List ℕ) (ps : List Placed) (xs : List Tile) → Reads edition t ps →
+    Tiling edition t xs → told_errors ps ≡ map Some (faults xs)
+told_tiling edition t ps xs r tiling =
+    told_all ps r.tiles r.each ∙ ap (λ xs. map Some (faults xs)) (one_tiling edition t r.tiles xs r.tiling tiling)

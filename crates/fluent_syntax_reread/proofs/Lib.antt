@@ -1,0 +1,7 @@
+pub mod Back
+pub mod Unmoved
+pub mod Standing
+pub mod Shifting
+pub mod Keeping
+pub mod ErrorsTold
+pub mod Answered

@@ -1,0 +1,5 @@
+pub mod Faults
+pub mod Held
+pub mod Kept
+pub mod Placed
+pub mod Reading
