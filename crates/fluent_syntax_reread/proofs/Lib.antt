@@ -4,4 +4,5 @@ pub mod Standing
 pub mod Shifting
 pub mod Keeping
 pub mod ErrorsTold
+pub mod Needed
 pub mod Answered

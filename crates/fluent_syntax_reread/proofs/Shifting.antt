@@ -12,7 +12,7 @@ use Rattle.fluent_syntax_tree.specs.declared.edition.Edition.{Edition}
 use Rattle.fluent_syntax_parser.specs.Tiles.{TileTo}
 use Rattle.fluent_syntax_grammar.specs.Places.{BlankBlock}
 use Rattle.fluent_syntax_reread.specs.Placed.{IsSeam, Rest, StandsAt}
-use Rattle.fluent_syntax_reread.specs.Reading.{Leads, Left, as_before, changed, nothing, shifted}
+use Rattle.fluent_syntax_reread.specs.Reading.{Ascend, Leads, Left, as_before, changed, nothing, shifted}
 use Rattle.fluent_syntax_reread.specs.declared.placed.Placed.{Placed}
 use Rattle.fluent_syntax_reread.specs.declared.shifted.Shift.{Shift}
 use Rattle.fluent_syntax_reread.proofs.Standing.{first_seam, found_at}
@@ -134,6 +134,19 @@ module _ (edition : Edition) where
         let b = a.0.base in
         All-cons (λ (p : Placed). low ≤ p.base) p ps (omega arith)
         (bases_from (i + p.found.span.end) low ps f.seam a.1 (omega arith))
+
+    pub ascend : (i : ℕ) (ps : List Placed) → IsSeam t i → Rest edition t i ps → Ascend ps
+    ascend i [] s a j k p q l e f = absurd cc
+    ascend i (x ∷ xs) s a zero k p q l e f =
+        let same : x ≡ p = cc in
+        let base = a.0.base in
+        let here : x.base ≡ p.base = ap (λ (p : Placed). p.base) same in
+        let low = base_behind i k (x ∷ xs) q s a f in
+        omega arith
+    ascend i (x ∷ xs) s a (suc j) zero p q l e f = absurd (omega arith)
+    ascend i (x ∷ xs) s a (suc j) (suc k) p q l e f =
+        let here = found_at edition t u i x s a.0 in
+        ascend (i + x.found.span.end) xs here.seam a.1 j k p q (omega arith) e f
 
     pub bases_within : (i : ℕ) (shift : Shift) (ps : List Placed) → IsSeam t i →
         Rest edition t i (map (shifted shift) ps) → All (λ p. (shifted shift p).base ≤ length t) ps

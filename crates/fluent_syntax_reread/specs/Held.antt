@@ -1,13 +1,19 @@
 -- A text with what was read of it.
 use Rattle.std.specs.Prelude.{◌≡◌, ℕ, ◌≤◌, List, [], ◌∷◌, ◌++◌, length, map, option_map, Option, Some, None}
-use Rattle.std.specs.Prelude.{string_bytes}
+use Rattle.std.specs.Prelude.{All, Err, Ok, Result, string_bytes}
 use Rattle.fluent_syntax_tree.specs.declared.errors.ParserError.{ParserError}
-use Rattle.fluent_syntax_grammar.specs.Body.{faults}
+use Rattle.fluent_syntax_tree.specs.View.{resource_view}
+use Rattle.fluent_syntax_tree.specs.declared.ast.Resource.{Resource}
+use Rattle.fluent_syntax_tree.specs.declared.spans.Span.{Span}
+use Rattle.fluent_syntax_grammar.specs.Body.{body, faults}
 use Rattle.fluent_syntax_grammar.specs.Locality.{moved_fault}
 use Rattle.fluent_syntax_grammar.specs.Tiling.{Fault, Tile, Tiling}
+use Rattle.fluent_syntax_parser.specs.Answers.{AnswersSpans}
 use Rattle.fluent_syntax_parser.specs.Faults.{fault_of}
-use Rattle.fluent_syntax_reread.specs.Placed.{IsRead, Reads}
-use Rattle.fluent_syntax_reread.specs.Reading.{shift_to, together}
+use Rattle.fluent_syntax_parser.specs.declared.fault.ParseFault.{ParseFault}
+use Rattle.fluent_syntax_parser.specs.declared.fault.ParseFault.TheVariants.{Memory, Syntax}
+use Rattle.fluent_syntax_reread.specs.Placed.{EachTells, IsRead, Reads}
+use Rattle.fluent_syntax_reread.specs.Reading.{IsNeeded, shift_to, together}
 use Rattle.fluent_syntax_reread.specs.declared.changes.Reread.{Reread}
 use Rattle.fluent_syntax_reread.specs.declared.placed.Placed.{Placed}
 
@@ -37,8 +43,26 @@ abbrev pub TellsFaults : Reread → List ParserError → Type 0
 TellsFaults r errors =
     (tiles : List Tile) → Tiling r.edition (bytes_of r) tiles → map fault_of errors ≡ map Some (faults tiles)
 
+-- The tree is the body of its tiles.
+pub record IsBody (r : Reread) (tree : Resource Span) : Type 0 where
+  pub tiles : List Tile
+  pub each : EachTells r.tiles.items tiles
+  pub whole : resource_view (λ s. s) tree ≡ body tiles
+
+-- The answer of parsing is made of what it has: its tree is that of the tiles, and its errors tell what theirs tell.
+abbrev pub AsParsed : Reread → Result (Resource Span) (ParseFault Span) → Type 0
+AsParsed r (Ok tree) = IsBody r tree × (told_errors r.tiles.items ≡ [])
+AsParsed r (Err (Syntax tree errors)) = IsBody r tree × (map fault_of errors.items ≡ told_errors r.tiles.items)
+AsParsed r (Err Memory) = Unit {0}
+
+-- So is whatever parsing its text answers.
+abbrev pub HoldsAnswer : Reread → Type 0
+HoldsAnswer r =
+    (answer : Result (Resource Span) (ParseFault Span)) → AnswersSpans r.edition (bytes_of r) answer → AsParsed r answer
+
 -- Of the old tiles only some in the middle went: in their place are as many as it says that it read. Those behind them
--- were moved as far as what stood at the one place, which stands at the other now.
+-- were moved as far as what stood at the one place, which stands at the other now. And no tile was read where an old one
+-- stood.
 pub record Rereads (old new : Reread) (to place : ℕ) : Type 0 where
   pub first : ℕ
   pub next : ℕ
@@ -46,3 +70,4 @@ pub record Rereads (old new : Reread) (to place : ℕ) : Type 0 where
   pub order : first ≤ next
   pub tiles : new.tiles.items ≡ together old.tiles.items (shift_to to place) first next read
   pub count : new.read ≡ length read
+  pub needed : All (IsNeeded old.tiles.items (shift_to to place) first) read

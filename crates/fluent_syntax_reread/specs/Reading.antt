@@ -32,6 +32,18 @@ pub record Meets (old : List Placed) (shift : Shift) (place k : ℕ) : Type 0 wh
   pub behind : shift.old ≤ tile.base
   pub same : shift.new + (tile.base - shift.old) ≡ place
 
+-- where in the old text what stands at the place stood, behind the change
+abbrev pub old_place : Shift → ℕ → ℕ
+old_place shift place = shift.old + (place - shift.new)
+
+-- none of the old tiles from the number `first` on stands where this one begins
+abbrev pub IsNeeded : List Placed → Shift → (first : ℕ) → Placed → Type 0
+IsNeeded old shift first p = (k : ℕ) → first ≤ k → Meets old shift p.base k → ⊥
+
+-- each begins where those before it do, or behind that
+abbrev pub Ascend : List Placed → Type 0
+Ascend ps = (j k : ℕ) (a b : Placed) → j ≤ k → slice_get ps j ≡ Some a → slice_get ps k ≡ Some b → a.base ≤ b.base
+
 -- What is left from the place on is the old tiles from the number k on, or nothing.
 pub data Left (edition : Edition) (t : List ℕ) (old : List Placed) (shift : Shift) (place : ℕ) : ℕ → Type 0 where
   nothing : {k : ℕ} → k ≡ length old → Rest edition t place [] → Left edition t old shift place k

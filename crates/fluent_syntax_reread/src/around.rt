@@ -2,7 +2,7 @@
 ghost use Rattle.std.specs.Prelude.{◌≡◌, ◌<◌, ◌≤◌, All, drop, IfErr, IfOk, length, slice_get, Some, take};
 ghost use Rattle.fluent_syntax_parser.specs.Halts.{HaltsWithin};
 ghost use Rattle.fluent_syntax_reread.specs.Placed.{IsRead};
-ghost use Rattle.fluent_syntax_reread.specs.Reading.{shifted, together};
+ghost use Rattle.fluent_syntax_reread.specs.Reading.{shifted, together, IsNeeded};
 ghost use Rattle.fluent_syntax_reread.specs.declared.placed.Placed.{Placed};
 
 use crate::kept::kept;
@@ -50,6 +50,7 @@ pub(crate) fn read_around(
     requires held { IsRead how.edition old.now tiles.now }
     ensures reads { IfOk result (λ around.
         IsRead how.edition new.now (together tiles.now shift around.first around.next around.tiles.items)) }
+    ensures needed { IfOk result (λ around. All (IsNeeded tiles.now shift around.first) around.tiles.items) }
     ensures order { IfOk result (λ around. around.first ≤ around.next) }
     ensures within { IfOk result (λ around. around.next ≤ length tiles.now) }
     ensures left { IfOk result (λ around. All (λ p. shift.old ≤ p.base) (drop around.next tiles.now)) }

@@ -2,7 +2,7 @@
 ghost use Rattle.std.specs.Prelude.{◌≡◌, ◌+◌, IfErr, IfOk, length, OnErr, OnOk, string_bytes};
 ghost use Rattle.fluent_syntax_parser.specs.Halts.{HaltsWithin};
 ghost use Rattle.fluent_syntax_reread.specs.Faults.{IsRange, Refuses};
-ghost use Rattle.fluent_syntax_reread.specs.Held.{bytes_of, HoldsTiling, IsHeld, Rereads, TellsFaults};
+ghost use Rattle.fluent_syntax_reread.specs.Held.{bytes_of, HoldsAnswer, HoldsTiling, IsHeld, Rereads, TellsFaults};
 ghost use Rattle.fluent_syntax_reread.specs.Placed.{Reads};
 ghost use Rattle.fluent_syntax_reread.specs.Reading.{changed};
 
@@ -124,6 +124,7 @@ impl Reread {
         requires { IsHeld self.now }
         ensures value { result.now ≡ self.now.tiles.items }
         ensures reads { Reads self.now.edition (bytes_of self.now) result.now }
+        ensures parsed { HoldsAnswer self.now }
     {
         self.tiles.as_slice()
     }

@@ -1,4 +1,5 @@
 //! What was read around a change, compared with the new text read whole.
+ghost use Rattle.std.specs.Prelude.{IfOk};
 ghost use Rattle.fluent_syntax_reread.specs.Held.{IsHeld};
 
 use fluent_syntax::parser::{Edition, ParseFault};

@@ -1,7 +1,8 @@
 use Rattle.std.proofs.Common.{sym}
 use Rattle.fluent_syntax_reread.proofs.Answered.{all_read}
 use Rattle.fluent_syntax_reread.proofs.Keeping.{keeps}
-use Rattle.fluent_syntax_reread.proofs.Shifting.{left_behind, left_within}
+use Rattle.fluent_syntax_reread.proofs.Shifting.{ascend, left_behind, left_within}
+use Rattle.fluent_syntax_reread.proofs.Standing.{first_seam}
 use Rattle.fluent_syntax_reread.proofs.around.read_around.Goals as goal
 
 pub read_on-requires-clause-seam : goal.read_on-requires-clause-seam
@@ -11,6 +12,11 @@ read_on-requires-clause-seam c =
     (keeps c.args.how.edition c.args.old.now c.args.new.now c.args.from c.args.tiles.now c.kept-first.result
     c.start_behind-start.result c.utf8.old c.utf8.new r.inside r.before r.held k c.start_behind-start.ensures.first
     c.start_behind-start.ensures.behind).seam
+
+pub read_on-requires-clause-ascend : goal.read_on-requires-clause-ascend
+read_on-requires-clause-ascend c =
+    ascend c.args.how.edition c.args.old.now c.utf8.old 0 c.args.tiles.now
+    (first_seam c.args.how.edition c.args.old.now c.utf8.old) c.requires.held
 
 pub returns-clause-reads : goal.returns-clause-reads
 returns-clause-reads c =

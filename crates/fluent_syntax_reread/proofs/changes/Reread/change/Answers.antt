@@ -1,5 +1,6 @@
-use Rattle.std.proofs.Common.{◌≤◌, ◌+◌, ◌∙◌, drop, length, ap, sym, arith}
+use Rattle.std.proofs.Common.{◌≤◌, ◌+◌, ◌∙◌, All, drop, length, ap, subst, sym, arith}
 use Rattle.std.proofs.lemmas.Str.{IsUtf8-had}
+use Rattle.fluent_syntax_reread.specs.Reading.{IsNeeded, shift_to}
 use Rattle.fluent_syntax_reread.proofs.Shifting.{same_behind}
 use Rattle.fluent_syntax_reread.proofs.Standing.{held_tiling, reads_all}
 use Rattle.fluent_syntax_reread.proofs.changes.Reread.change.Goals as goal
@@ -35,3 +36,18 @@ returns-clause-tiling c =
     let text = c.in_ok-text.text in
     rw c.in_ok-put_between.ensures.ok
     (reads_all c.args.self.now.edition text.bytes.items (IsUtf8-had text.bytes.items text.ok) _ reads)
+
+pub returns-clause-rereads : goal.returns-clause-rereads
+returns-clause-rereads c =
+    let around = c.in_ok-around.around in
+    let shift = shift_to c.args.to (c.args.from + length c.args.new.now) in
+    record {
+      first = around.first;
+      next = around.next;
+      read = around.tiles.items;
+      order = c.in_ok-around.ensures.order;
+      tiles = c.in_ok-put_between.ensures.ok;
+      count = omega (arith, around.tiles.ok.0);
+      needed = subst (λ ps. All (IsNeeded ps shift around.first) around.tiles.items) c.deref.ensures.value
+          c.in_ok-around.ensures.needed;
+    }
