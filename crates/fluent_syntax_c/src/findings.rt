@@ -1,5 +1,5 @@
 //! What is found in the texts of one language, as rows.
-ghost use Rattle.std.specs.Prelude.{◌≡◌, ◌≢◌, ◌↔◌, ◌⊎◌, ◌<◌, length, map, Err, IfOk};
+ghost use Rattle.std.specs.Prelude.{◌≡◌, ◌≢◌, ◌↔◌, ◌⊎◌, ◌+◌, ◌<◌, ◌^◌, length, map, Err, IfOk};
 ghost use Rattle.std.specs.List.{All, Any};
 ghost use Rattle.fluent_syntax_names.specs.Findings.{all_findings};
 ghost use Rattle.fluent_syntax_c.specs.Arguments.{IsNoEdition};
