@@ -1,5 +1,6 @@
 //! What texts say of names.
-ghost use Rattle.std.specs.Prelude.{◌≡◌, ◌≢◌, ◌↔◌, ◌⊎◌, ◌+◌, ◌<◌, ◌^◌, length, true, Err, IfErr, IfOk};
+ghost use Rattle.std.specs.Prelude.{◌≡◌, ◌≢◌, ◌↔◌, ◌⊎◌, ◌++◌, ◌<◌, [], ◌∷◌, length, true, Err, IfErr, IfOk};
+ghost use Rattle.std.specs.Prelude.{OnOk};
 ghost use Rattle.std.specs.List.{All, Any};
 ghost use Rattle.std.specs.Str.{IsUtf8};
 ghost use Rattle.fluent_syntax_c.specs.Arguments.{IsNoEdition};
@@ -24,11 +25,17 @@ pub(crate) fn are_texts(texts: &[FtlText<'_>]) -> bool
     ensures { (result ≡ true) ↔ All IsText texts.now }
 {
     for text in texts {
-        if str::from_utf8(text.text).is_err() {
+        if !is_text(text) {
             return false;
         }
     }
     true
+}
+
+fn is_text(text: &FtlText<'_>) -> bool
+    ensures { (result ≡ true) ↔ IsText text.now }
+{
+    str::from_utf8(text.text).is_ok()
 }
 
 /// What the texts say of names, read by the edition of the number, and whether a text has errors.
@@ -56,12 +63,19 @@ pub(crate) fn outlines<'t>(
     let mut outcome = Outcome::Clean;
     for text in texts {
         let (outline, found) = outline(alloc, edition, nesting, text.text)?;
-        if outlines.push(outline).is_err() {
+        let Ok(()) = add_outline(&mut outlines, outline) else {
             return Err(Refusal::Memory);
-        }
+        };
         outcome = either_outcome(outcome, found);
     }
     Ok((outlines, outcome))
+}
+
+fn add_outline<'t>(outlines: &mut Vec<Outline<'t>>, outline: Outline<'t>) -> Result<(), AllocError>
+    ensures { OnOk result (outlines.new.items ≡ outlines.old.items ++ outline.entry ∷ []) }
+{
+    outlines.push(outline)?;
+    Ok(())
 }
 
 /// What a text says of names, read by the edition of the number, and whether it has errors; refused as `outlines`.

@@ -6,8 +6,8 @@ use Rattle.fluent_syntax_c.proofs.outlines.outlines.Given as goal
 
 abbrev pub invariant-loop-text : goal.invariant-loop-text
 invariant-loop-text l = record {
-  so_far : AreOutlines l.fn.edition (take l.text-index l.text-items) l.outlines.items l.outcome;
+  so_far : AreOutlines l.fn.edition (take l.text-index l.texts) l.outlines.items l.outcome;
   short : All IsShort l.outlines.items;
   shallow : All (λ text. EditionReadsDeeper l.fn.edition text.text.now l.fn.nesting → ⊥)
-      (take l.text-index l.text-items);
+      (take l.text-index l.texts);
 }
