@@ -169,7 +169,8 @@ class Findings(unittest.TestCase):
                          lambda: dovelectern.compare(other, ""), lambda: dovelectern.compare("", other)):
                 with self.assertRaises(TypeError):
                     call()
-        for call in (lambda: dovelectern.lint(["a = A\n", b"b = \xff\n"]), lambda: dovelectern.compare("", b"b = \xff\n")):
+        bad = b"b = \xff\n"
+        for call in (lambda: dovelectern.lint(["a = A\n", bad]), lambda: dovelectern.compare("", bad)):
             with self.assertRaises(UnicodeDecodeError) as raised:
                 call()
             self.assertEqual(raised.exception.start, 4)

@@ -21,6 +21,6 @@ __version__ = "1.1.0"
 
 __all__ = [
     "Error", "Finding", "FluentError", "NESTING", "NoTree", "Place", "SyntaxErrors", "Text", "TooDeep", "Transformer",
-    "Visitor", "ast", "check", "check_file", "compare", "format", "format_file", "joined", "lint", "parse", "parse_file",
-    "serialize", "serialize_entry",
+    "Visitor", "ast", "check", "check_file", "compare", "format", "format_file", "joined", "lint", "parse",
+    "parse_file", "serialize", "serialize_entry",
 ]

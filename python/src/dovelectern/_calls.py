@@ -125,8 +125,8 @@ def lint(texts: Union[Text, Iterable[Text]], *, edition: int = 1, nesting: int =
 
 
 def compare(reference: Text, other: Text, *, edition: int = 1, nesting: int = NESTING) -> List[Finding]:
-    """What a text, as a translation, lacks of its reference, in the reference's order; and behind it what is obsolete or
-    unknown in the text, in its own order. It raises what `check` raises.
+    """What a text, as a translation, lacks of its reference, in the reference's order; and behind it what is obsolete
+    or unknown in the text, in its own order. It raises what `check` raises.
 
     The number of the reference is 0, and that of the other text 1.
     """
