@@ -11,7 +11,8 @@
 #include <string.h>
 #include <sys/mman.h>
 
-enum { ROOM = 1 << 22, PAGE = 4096, MARK = 0xA5, CALLS = 13, FROM_JSON = 12 };
+enum { ROOM = 1 << 22, PAGE = 4096, MARK = 0xA5, CALLS = 17, ERRORS = 6, NAMES = 8, MESSAGES = 10, FINDINGS = 12 };
+enum { COMPARISON = 14, FROM_JSON = 16 };
 
 /* ---- memory */
 
@@ -77,27 +78,41 @@ static void fault(int call, const char *what, size_t text_len, size_t number)
         printf("call %d over %zu bytes, %zu: %s\n", call, text_len, number, what);
 }
 
-/* ---- the calls: the six commands over texts, the errors, names and messages by either edition, and from JSON; that
-   is made over the JSON of the text */
+/* ---- the calls: the six commands over texts; the errors, names and messages by either edition; the findings in the
+   text and another one, and its comparison with that, likewise; and from JSON, made over the JSON of the text */
+
+_Static_assert(sizeof(struct ftl_text) == 2 * sizeof(size_t), "a text is a pointer and a length");
+
+static const char other[] =
+    "key = Key { foo } { $var }\n    .attr = { -term }\nfoo =\n    .attr = A\n-term = T\nkey = Key\n";
 
 static size_t size_of(int call)
 {
-    return call < 6 || call >= 10 ? 1 : call < 8 ? sizeof(struct ftl_error) : sizeof(struct ftl_name);
+    if (call < ERRORS || call == FROM_JSON || (call >= MESSAGES && call < FINDINGS))
+        return 1;
+    return call < NAMES     ? sizeof(struct ftl_error)
+           : call < MESSAGES ? sizeof(struct ftl_name)
+                             : sizeof(struct ftl_finding);
 }
 
 static uint32_t made(int call, size_t nesting, const uint8_t *text, size_t text_len, void *array, size_t room,
                      size_t *count)
 {
     uint32_t edition = call % 2 == 0 ? FTL_EDITION_ONE : FTL_EDITION_TWO;
+    struct ftl_text texts[] = {{text, text_len}, {NULL, 0}, {(const uint8_t *)other, sizeof other - 1}};
     calls++;
-    if (call < 6)
+    if (call < ERRORS)
         return ftl_answer((uint32_t)call, nesting, text, text_len, array, room, count);
-    if (call < 8)
+    if (call < NAMES)
         return ftl_errors(edition, nesting, text, text_len, array, room, count);
-    if (call < 10)
+    if (call < MESSAGES)
         return ftl_names(edition, nesting, text, text_len, array, room, count);
-    if (call < FROM_JSON)
+    if (call < FINDINGS)
         return ftl_error_messages(edition, nesting, text, text_len, array, room, count);
+    if (call < COMPARISON)
+        return ftl_findings(edition, nesting, texts, 3, array, room, count);
+    if (call < FROM_JSON)
+        return ftl_comparison(edition, nesting, text, text_len, texts[2].text, texts[2].text_len, array, room, count);
     return ftl_answer(FTL_FROM_JSON, nesting, text, text_len, array, room, count);
 }
 
@@ -198,18 +213,23 @@ static void odd_calls(void)
             !is_untouched(array_end - 4 * size_of(call), array_end))
             fault(call, "bytes that are no text", sizeof bad, count);
         count = 99;
-        size_t line_end = call == FTL_JSON ? strlen("{\"body\":[]}\n") : 0;
+        /* the JSON of no entries; `key` is defined twice in the other text, whose three entries the text lacks */
+        size_t given = call == FTL_JSON ? strlen("{\"body\":[]}\n") : call < FINDINGS || call == FROM_JSON ? 0 :
+                       call < COMPARISON ? 2 : 4;
         uint32_t status = tried(call, NULL, 0, 0, &count);
-        uint32_t wants = line_end != 0 ? FTL_TOO_SMALL : call == FROM_JSON ? FTL_NO_TREE : FTL_CLEAN;
-        if (status != wants || count != line_end)
+        uint32_t wants = given != 0 ? FTL_TOO_SMALL : call == FROM_JSON ? FTL_NO_TREE : FTL_CLEAN;
+        if (status != wants || count != given)
             fault(call, "no bytes", 0, count);
     }
     for (size_t i = 0; i < sizeof wrong / sizeof wrong[0]; i++) {
         uint8_t out[4] = {MARK, MARK, MARK, MARK};
         struct ftl_error error;
         struct ftl_name name;
+        struct ftl_finding finding;
+        struct ftl_text none = {bad, sizeof bad};
         memset(&error, MARK, sizeof error);
         memset(&name, MARK, sizeof name);
+        memset(&finding, MARK, sizeof finding);
         count = 99;
         if (ftl_answer(wrong[i], FTL_NESTING, bad, 3, out, 4, &count) != FTL_WRONG_ARGUMENT || count != 0 ||
             out[0] != MARK)
@@ -217,51 +237,79 @@ static void odd_calls(void)
         count = 99;
         if (ftl_errors(wrong[i], FTL_NESTING, bad, 3, &error, 1, &count) != FTL_WRONG_ARGUMENT || count != 0 ||
             *(uint8_t *)&error != MARK)
-            fault(6, "no edition has that number", 3, wrong[i]);
+            fault(ERRORS, "no edition has that number", 3, wrong[i]);
         count = 99;
         if (ftl_names(wrong[i], FTL_NESTING, bad, 3, &name, 1, &count) != FTL_WRONG_ARGUMENT || count != 0 ||
             *(uint8_t *)&name != MARK)
-            fault(8, "no edition has that number", 3, wrong[i]);
+            fault(NAMES, "no edition has that number", 3, wrong[i]);
+        count = 99;
+        if (ftl_findings(wrong[i], FTL_NESTING, &none, 1, &finding, 1, &count) != FTL_WRONG_ARGUMENT || count != 0 ||
+            *(uint8_t *)&finding != MARK)
+            fault(FINDINGS, "no edition has that number", 3, wrong[i]);
+        count = 99;
+        if (ftl_comparison(wrong[i], FTL_NESTING, bad, 3, bad, sizeof bad, &finding, 1, &count) !=
+                FTL_WRONG_ARGUMENT || count != 0 || *(uint8_t *)&finding != MARK)
+            fault(COMPARISON, "no edition has that number", 3, wrong[i]);
     }
+    if (ftl_findings(FTL_EDITION_ONE, FTL_NESTING, NULL, 0, NULL, 0, &count) != FTL_CLEAN || count != 0)
+        fault(FINDINGS, "no texts", 0, count);
+    if (ftl_findings(0, FTL_NESTING, NULL, 0, NULL, 0, &count) != FTL_WRONG_ARGUMENT || count != 0)
+        fault(FINDINGS, "no texts by no edition", 0, count);
+    if (ftl_comparison(FTL_EDITION_ONE, FTL_NESTING, NULL, 0, bad, sizeof bad, NULL, 0, &count) != FTL_NOT_UTF8 ||
+        count != 0)
+        fault(COMPARISON, "bytes that are no text beside a reference", sizeof bad, count);
     if (ftl_errors(0, FTL_NESTING, bad, 3, NULL, 0, &count) != FTL_WRONG_ARGUMENT)
-        fault(6, "edition 0", 3, 0);
+        fault(ERRORS, "edition 0", 3, 0);
     uint8_t out[4] = {MARK, MARK, MARK, MARK};
     count = 99;
     if (ftl_error_messages(3, FTL_NESTING, bad, 3, out, 4, &count) != FTL_WRONG_ARGUMENT || count != 0 ||
         out[0] != MARK)
-        fault(10, "no edition has that number", 3, 3);
+        fault(MESSAGES, "no edition has that number", 3, 3);
 }
 
-/* The names of the kinds, with room for no byte, for each number of them and for more, and without memory. */
+/* The name of a kind, with room for no byte, for each number of them and for more, and without memory. */
+static void kind_name(uint32_t (*name)(uint32_t, uint8_t *, size_t, size_t *), uint32_t kind)
+{
+    size_t whole = 0, count;
+    if (name(kind, NULL, 0, &whole) != FTL_TOO_SMALL || whole == 0)
+        fault(CALLS, "no name of a kind", 0, kind);
+    name(kind, want, ROOM, &count);
+    for (size_t room = 0; room <= whole + 2; room++) {
+        uint8_t *array = array_end - room;
+        memset(array - PAGE, MARK, room + PAGE);
+        uint32_t status = name(kind, array, room, &count);
+        look(0, FTL_CLEAN, whole, kind, room, status, count);
+        if (!is_untouched(array - PAGE, array))
+            fault(CALLS, "a byte before the array was written", kind, room);
+    }
+    left = 0;
+    uint32_t status = name(kind, want, ROOM, &count);
+    if (left < 0 && (status != FTL_NO_MEMORY || count != 0))
+        fault(CALLS, "a name given without memory", 0, kind);
+    left = -1;
+    if (live != 0)
+        fault(CALLS, "a block was not given back", 0, kind);
+}
+
+/* The names of the kinds of errors and of findings. */
 static void kind_names(void)
 {
     size_t count;
-    for (uint32_t kind = FTL_EXPECTED_TOKEN; kind <= FTL_EXPECTED_LITERAL; kind++) {
-        size_t whole = 0;
-        if (ftl_kind_name(kind, NULL, 0, &whole) != FTL_TOO_SMALL || whole == 0)
-            fault(CALLS, "no name of a kind", 0, kind);
-        ftl_kind_name(kind, want, ROOM, &count);
-        for (size_t room = 0; room <= whole + 2; room++) {
-            uint8_t *array = array_end - room;
-            memset(array - PAGE, MARK, room + PAGE);
-            uint32_t status = ftl_kind_name(kind, array, room, &count);
-            look(0, FTL_CLEAN, whole, kind, room, status, count);
-            if (!is_untouched(array - PAGE, array))
-                fault(CALLS, "a byte before the array was written", kind, room);
-        }
-        left = 0;
-        uint32_t status = ftl_kind_name(kind, want, ROOM, &count);
-        if (left < 0 && (status != FTL_NO_MEMORY || count != 0))
-            fault(CALLS, "a name given without memory", 0, kind);
-        left = -1;
-        if (live != 0)
-            fault(CALLS, "a block was not given back", 0, kind);
-    }
-    static const uint32_t wrong[] = {0, FTL_EXPECTED_LITERAL + 1, 0xFFFFFFFF};
+    for (uint32_t kind = FTL_EXPECTED_TOKEN; kind <= FTL_EXPECTED_LITERAL; kind++)
+        kind_name(ftl_kind_name, kind);
+    for (uint32_t kind = FTL_FINDING_DEFINED_TWICE; kind <= FTL_FINDING_UNDEFINED_VALUE; kind++)
+        kind_name(ftl_finding_kind_name, kind);
+    for (uint32_t kind = FTL_FINDING_MISSING; kind <= FTL_FINDING_UNKNOWN_VARIABLE; kind++)
+        kind_name(ftl_finding_kind_name, kind);
+    static const uint32_t wrong[] = {0, FTL_EXPECTED_LITERAL + 1, FTL_FINDING_MISSING - 1,
+                                     FTL_FINDING_UNKNOWN_VARIABLE + 1, 0xFFFFFFFF};
     for (size_t i = 0; i < sizeof wrong / sizeof wrong[0]; i++) {
         count = 99;
         if (ftl_kind_name(wrong[i], want, ROOM, &count) != FTL_WRONG_ARGUMENT || count != 0)
             fault(CALLS, "no kind has that number", 0, wrong[i]);
+        count = 99;
+        if (ftl_finding_kind_name(wrong[i], want, ROOM, &count) != FTL_WRONG_ARGUMENT || count != 0)
+            fault(CALLS, "no kind of findings has that number", 0, wrong[i]);
     }
 }
 

@@ -8,12 +8,14 @@ import dovelectern
 from dovelectern import ast
 from texts import all_texts
 
+OTHER = "key = { foo } { $var }\n    .attr = { -term }\nkey = Key\n"
 LIBRARY = ctypes.CDLL(os.environ["DOVELECTERN_LIBRARY"])
 
 
 def calls_over(text: str, tree: ast.Resource) -> "list[Callable[[], Any]]":
     return [lambda: dovelectern.parse(text), lambda: dovelectern.check(text), lambda: dovelectern.serialize(tree),
-            lambda: dovelectern.format(text, drop_junk=True)]
+            lambda: dovelectern.format(text, drop_junk=True), lambda: dovelectern.lint([text, OTHER]),
+            lambda: dovelectern.compare(OTHER, text)]
 
 
 @unittest.skipUnless(hasattr(LIBRARY, "refuse_request"), "the library refuses no request")

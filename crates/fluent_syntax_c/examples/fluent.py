@@ -4,6 +4,8 @@
     library.answer("format", b"key=value\n")      # (b"key = value\n", False)
     library.errors(b"bro ken\n")                  # [Error(line=1, column=5, ..)]
     library.names(b"key = value\n    .a = b\n")   # [Name(..), Name(..)]
+    library.findings([b"a = { b }\n"])            # [Finding(text=0, line=1, column=7, ..)]
+    library.comparison(b"a = A\n", b"b = B\n")    # [Finding(..), Finding(..)]
 """
 import collections
 import ctypes
@@ -21,15 +23,21 @@ class NoTree(ValueError):
     """The text is no JSON, or JSON that spells no tree."""
 
 
-def _record(name, fields):
-    """A C struct of numbers of type size_t and a last one of 32 bits, and a tuple with its names."""
-    types = [(field, ctypes.c_size_t) for field in fields[:-1]] + [(fields[-1], ctypes.c_uint32)]
-    return type(f"_{name}", (ctypes.Structure,), {"_fields_": types}), collections.namedtuple(name, fields)
+def _record(name, fields, last):
+    """A C struct of numbers of type size_t and last ones of 32 bits, and a tuple with its names."""
+    types = [(field, ctypes.c_size_t) for field in fields] + [(field, ctypes.c_uint32) for field in last]
+    return type(f"_{name}", (ctypes.Structure,), {"_fields_": types}), collections.namedtuple(name, fields + last)
 
 
 _PLACE = ["line", "column", "column_utf16", "column_characters", "start", "end"]
-_ERROR, Error = _record("Error", [*_PLACE, "junk_start", "junk_end", "kind"])
-_NAME, Name = _record("Name", [*_PLACE, "owner", "entry_start", "entry_end", "kind"])
+_ERROR, Error = _record("Error", [*_PLACE, "junk_start", "junk_end"], ["kind"])
+_NAME, Name = _record("Name", [*_PLACE, "owner", "entry_start", "entry_end"], ["kind"])
+_FINDING, Finding = _record("Finding", ["text", *_PLACE, "other_text", "other_start", "other_end"],
+                            ["kind", "severity"])
+
+
+class _TEXT(ctypes.Structure):
+    _fields_ = [("text", ctypes.c_char_p), ("text_len", ctypes.c_size_t)]
 
 
 class Fluent:
@@ -38,27 +46,30 @@ class Fluent:
     def __init__(self, path):
         library = ctypes.CDLL(str(path))
         self._calls = {}
-        self._kind_name = library.ftl_kind_name
-        self._kind_name.restype = ctypes.c_uint32
-        self._kind_name.argtypes = [ctypes.c_uint32, ctypes.c_void_p, ctypes.c_size_t, ctypes.POINTER(ctypes.c_size_t)]
-        for name in ("ftl_answer", "ftl_errors", "ftl_names", "ftl_error_messages"):
+        read = [ctypes.c_uint32, ctypes.c_size_t]
+        text = [ctypes.c_char_p, ctypes.c_size_t]
+        written = [ctypes.c_void_p, ctypes.c_size_t, ctypes.POINTER(ctypes.c_size_t)]
+        for name, arguments in {
+            "ftl_answer": [*read, *text], "ftl_errors": [*read, *text], "ftl_names": [*read, *text],
+            "ftl_error_messages": [*read, *text], "ftl_findings": [*read, ctypes.POINTER(_TEXT), ctypes.c_size_t],
+            "ftl_comparison": [*read, *text, *text], "ftl_kind_name": read[:1], "ftl_finding_kind_name": read[:1],
+        }.items():
             call = self._calls[name] = getattr(library, name)
             call.restype = ctypes.c_uint32
-            call.argtypes = [ctypes.c_uint32, ctypes.c_size_t, ctypes.c_char_p, ctypes.c_size_t, ctypes.c_void_p,
-                             ctypes.c_size_t, ctypes.POINTER(ctypes.c_size_t)]
+            call.argtypes = [*arguments, *written]
 
-    def _items(self, name, number, nesting, text, kind, room):
-        """The array that a call wrote, how many items of it, and whether the text has errors."""
+    def _items(self, name, arguments, kind, room):
+        """The array that a call wrote, how many items of it, and whether a text has errors."""
         needed = ctypes.c_size_t()
         while True:
             array = (kind * room)()
-            status = self._calls[name](number, nesting, text, len(text), array, room, ctypes.byref(needed))
+            status = self._calls[name](*arguments, array, room, ctypes.byref(needed))
             if status == TOO_SMALL:
                 room = needed.value
             elif status in (CLEAN, SYNTAX_ERRORS):
                 return array, needed.value, status == SYNTAX_ERRORS
             elif status == NOT_UTF8:
-                raise UnicodeDecodeError("utf-8", text, 0, len(text), "no UTF-8")
+                raise UnicodeDecodeError("utf-8", b"", 0, 0, "no UTF-8")
             elif status == NO_MEMORY:
                 raise MemoryError
             elif status == TOO_DEEP:
@@ -66,32 +77,50 @@ class Fluent:
             elif status == NO_TREE:
                 raise NoTree
             else:
-                raise ValueError(f"{name} has no {number}")
+                raise ValueError(f"{name} has no {arguments[0]}")
+
+    def _rows(self, name, arguments, kind, made, room):
+        rows, count, _ = self._items(name, arguments, kind, room)
+        return [made(*(getattr(row, field) for field in made._fields)) for row in rows[:count]]
+
+    def _name(self, call, kind):
+        out, length, _ = self._items(call, [kind], ctypes.c_char, 64)
+        return out.raw[:length].decode()
 
     def answer(self, command, text, nesting=NESTING):
         """What the command writes for the bytes, and whether they have syntax errors."""
-        out, length, has_errors = self._items("ftl_answer", COMMANDS[command], nesting, text, ctypes.c_char,
-                                              2 * len(text) + 1024)
+        arguments = [COMMANDS[command], nesting, text, len(text)]
+        out, length, has_errors = self._items("ftl_answer", arguments, ctypes.c_char, 2 * len(text) + 1024)
         return out.raw[:length], has_errors
 
     def errors(self, text, edition=1, nesting=NESTING):
         """The syntax errors of the bytes, in order."""
-        rows, count, _ = self._items("ftl_errors", edition, nesting, text, _ERROR, 8)
-        return [Error(*(getattr(row, field) for field in Error._fields)) for row in rows[:count]]
+        return self._rows("ftl_errors", [edition, nesting, text, len(text)], _ERROR, Error, 8)
 
     def messages(self, text, edition=1, nesting=NESTING):
         """The messages of the syntax errors of the bytes, in order: each is one line."""
-        out, length, _ = self._items("ftl_error_messages", edition, nesting, text, ctypes.c_char, 1024)
+        arguments = [edition, nesting, text, len(text)]
+        out, length, _ = self._items("ftl_error_messages", arguments, ctypes.c_char, 1024)
         return out.raw[:length].decode().split("\n")[:-1]
 
     def kind_name(self, kind):
         """The name of a kind of errors."""
-        out, length = ctypes.create_string_buffer(64), ctypes.c_size_t()
-        if self._kind_name(kind, out, len(out), ctypes.byref(length)) != CLEAN:
-            raise ValueError(f"no kind has the number {kind}")
-        return out.raw[:length.value].decode()
+        return self._name("ftl_kind_name", kind)
 
     def names(self, text, edition=1, nesting=NESTING):
         """The names of the messages, terms and attributes of the bytes, in order."""
-        rows, count, _ = self._items("ftl_names", edition, nesting, text, _NAME, 64)
-        return [Name(*(getattr(row, field) for field in Name._fields)) for row in rows[:count]]
+        return self._rows("ftl_names", [edition, nesting, text, len(text)], _NAME, Name, 64)
+
+    def findings(self, texts, edition=1, nesting=NESTING):
+        """What is found in the texts, each of bytes, which are those of one language; in order."""
+        array = (_TEXT * len(texts))(*((text, len(text)) for text in texts))
+        return self._rows("ftl_findings", [edition, nesting, array, len(texts)], _FINDING, Finding, 8)
+
+    def comparison(self, reference, other, edition=1, nesting=NESTING):
+        """What the other text lacks of the reference, and behind it what is obsolete or unknown there."""
+        arguments = [edition, nesting, reference, len(reference), other, len(other)]
+        return self._rows("ftl_comparison", arguments, _FINDING, Finding, 8)
+
+    def finding_kind_name(self, kind):
+        """The name of a kind of findings."""
+        return self._name("ftl_finding_kind_name", kind)

@@ -1,19 +1,19 @@
 /* fluent.h: Fluent Translation Lists for C and C++. Link libfluent.a, or libfluent.so by -lfluent.
 
-   Each call reads a text, which is UTF-8, and writes into memory of the caller's: an array, and a number that tells how
-   many items there are to give. It writes all of them or none, and nothing behind them. It keeps nothing, and may be
-   made from several threads at once, but not from a signal handler. `nesting` bounds the stack that it takes, so that
-   no text ends the host.
+   Each call reads a text, which is UTF-8, or several, and writes into memory of the caller's: an array, and a number
+   that tells how many items there are to give. It writes all of them or none, and nothing behind them. It keeps
+   nothing, and may be made from several threads at once, but not from a signal handler. `nesting` bounds the stack that
+   it takes, so that no text ends the host.
 
-   A pointer may be null where its length is 0. `needed` and `count` are not null. The text and what is written to
+   A pointer may be null where its length is 0. `needed` and `count` are not null. What is read and what is written to
    do not overlap. */
 #ifndef FLUENT_H
 #define FLUENT_H
 
 /* The version. Of a later one with the same first number each call and number of this one is as it is here. */
 #define FTL_VERSION_MAJOR 2
-#define FTL_VERSION_MINOR 0
-#define FTL_VERSION "2.0"
+#define FTL_VERSION_MINOR 1
+#define FTL_VERSION "2.1"
 
 #include <stddef.h>
 #include <stdint.h>
@@ -22,7 +22,7 @@
 extern "C" {
 #endif
 
-/* How a call ended. After the first two all was given. After the others nothing was written to the array; `needed` or
+/* How a call ended; of several texts each is meant. After the first two all was given. After the others nothing was written to the array; `needed` or
    `count` is 0, but after FTL_TOO_SMALL it is the number of items that there are. */
 enum ftl_status {
     FTL_CLEAN = 0,          /* the text has no syntax error */
@@ -116,6 +116,53 @@ struct ftl_name {
     uint32_t kind;            /* an ftl_name_kind */
 };
 
+/* A text: its bytes, and how many they are. */
+struct ftl_text {
+    const uint8_t *text;
+    size_t text_len;
+};
+
+/* What is found. docs/LINT.md says of each kind when it is. */
+enum ftl_finding_kind {
+    FTL_FINDING_DEFINED_TWICE = 1, /* in the texts of one language, by ftl_findings */
+    FTL_FINDING_ATTRIBUTE_TWICE = 2,
+    FTL_FINDING_UNDEFINED_MESSAGE = 3,
+    FTL_FINDING_UNDEFINED_TERM = 4,
+    FTL_FINDING_UNDEFINED_ATTRIBUTE = 5,
+    FTL_FINDING_UNDEFINED_VALUE = 6,
+    FTL_FINDING_MISSING = 101, /* between a reference and another text, by ftl_comparison: the reference has it, */
+    FTL_FINDING_MISSING_VALUE = 102,
+    FTL_FINDING_MISSING_ATTRIBUTE = 103,
+    FTL_FINDING_MISSING_REFERENCE = 104,
+    FTL_FINDING_OBSOLETE = 105, /* and from here on the other text has it */
+    FTL_FINDING_OBSOLETE_VALUE = 106,
+    FTL_FINDING_OBSOLETE_ATTRIBUTE = 107,
+    FTL_FINDING_UNKNOWN_VARIABLE = 108
+};
+
+/* How grave a finding is: each kind has one severity. */
+enum ftl_severity {
+    FTL_SEVERITY_ERROR = 1,  /* users see it */
+    FTL_SEVERITY_WARNING = 2 /* it may be meant so */
+};
+
+/* What is found at a name: that of a message, a term, an attribute or a variable, where it is defined or referred to. */
+struct ftl_finding {
+    size_t text;              /* the number of the text that has the name, from 0; of ftl_comparison the reference's is
+                                 0, and the other text's is 1 */
+    size_t line;              /* where it is: the line, from 1 */
+    size_t column;            /* and the column, from 1, in bytes, */
+    size_t column_utf16;      /* in UTF-16 units */
+    size_t column_characters; /* and in characters */
+    size_t start;             /* the bytes of the text that spell it, without a '-', '.' or '$': from start */
+    size_t end;               /* up to end */
+    size_t other_text;        /* of a name that is given twice the first one, likewise: the number of its text, */
+    size_t other_start;       /* and its bytes; of all other kinds each of the three is 0 */
+    size_t other_end;
+    uint32_t kind;            /* an ftl_finding_kind */
+    uint32_t severity;        /* an ftl_severity */
+};
+
 /* Writes what the command, an ftl_command, writes for the text: `*needed` bytes of UTF-8 without a 0 behind them.
    FTL_FROM_JSON does not look at `nesting`. Returns an ftl_status. */
 uint32_t ftl_answer(uint32_t command, size_t nesting, const uint8_t *text, size_t text_len,
@@ -136,6 +183,22 @@ uint32_t ftl_names(uint32_t edition, size_t nesting, const uint8_t *text, size_t
    Returns an ftl_status. */
 uint32_t ftl_error_messages(uint32_t edition, size_t nesting, const uint8_t *text, size_t text_len,
                             uint8_t *out, size_t out_len, size_t *needed);
+
+/* Writes a row for each finding in the texts, which are those of one language, in the order of the texts and of the
+   names in each: `*count` rows. They may refer to one another. `edition` is an ftl_edition. Returns an ftl_status. */
+uint32_t ftl_findings(uint32_t edition, size_t nesting, const struct ftl_text *texts, size_t texts_len,
+                      struct ftl_finding *rows, size_t rows_len, size_t *count);
+
+/* Writes a row for all that the other text, a translation of the reference, lacks of it, in the order of the reference;
+   and behind them one for all that is obsolete or unknown in the other text, in its order: `*count` rows. `edition` is
+   an ftl_edition. Returns an ftl_status. */
+uint32_t ftl_comparison(uint32_t edition, size_t nesting, const uint8_t *reference, size_t reference_len,
+                        const uint8_t *other, size_t other_len,
+                        struct ftl_finding *rows, size_t rows_len, size_t *count);
+
+/* Writes the name of an ftl_finding_kind, as defined-twice: `*needed` bytes without a 0 behind them.
+   Returns FTL_CLEAN, or why nothing was written. */
+uint32_t ftl_finding_kind_name(uint32_t kind, uint8_t *out, size_t out_len, size_t *needed);
 
 /* Writes the name of an ftl_error_kind, as ExpectedToken: `*needed` bytes without a 0 behind them.
    Returns FTL_CLEAN, or why nothing was written. */

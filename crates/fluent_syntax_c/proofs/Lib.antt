@@ -5,3 +5,4 @@ mod Recovered
 mod Told
 mod Commands
 mod Spelled
+mod Outlined

@@ -1,12 +1,15 @@
 -- The bytes of a line before a place, and sums over them.
-use Rattle.std.proofs.Common.{◌≡◌, ◌<◌, ◌≤◌, ◌+◌, ◌-◌, ◌^◌, ◌==◌, ◌++◌, ℕ, List, length, take, drop, get_or, not}
-use Rattle.std.proofs.Common.{Bool, true, false, cond, arith, sym, ap, ◌∙◌, length-append}
+use Rattle.std.proofs.Common.{◌≡◌, ◌<◌, ◌≤◌, ◌+◌, ◌-◌, ◌*◌, ◌^◌, ◌==◌, ◌++◌, [], ℕ, List, length, take, drop, get_or, not}
+use Rattle.std.proofs.Common.{Bool, true, false, cond, arith, refl, sym, ap, ◌∙◌, length-append}
 use Rattle.std.specs.Prelude.{slice_range}
 use Rattle.std.specs.List.{sum_by}
-use Rattle.std.proofs.lemmas.List.{drop-take, length-take-le, take-append-drop, take_all}
-use Rattle.std.proofs.lemmas.List.Sums.{suffix_len-le-length, sum_by-le, sum_by_more_le}
+use Rattle.std.proofs.lemmas.List.{drop-drop, drop-take, length-take, length-take-le, take-append-drop, take_all}
+use Rattle.std.proofs.lemmas.List.Sums.{suffix_len-le-length, sum_by-le, sum_by-take-drop, sum_by_more_le}
 use Rattle.fluent_syntax.specs.Lines.{column_at}
-use Rattle.fluent_syntax_c.specs.Columns.{characters, line_before, utf16_units}
+use Rattle.fluent_syntax_c.specs.Columns.{IsOnLine, IsPlaced, characters, column_characters, column_utf16, line_before}
+use Rattle.fluent_syntax_c.specs.Columns.{place_at, utf16_units}
+use Rattle.fluent_syntax_c.specs.declared.columns.OnLine.{OnLine}
+use Rattle.fluent_syntax_c.specs.declared.columns.Placed.{Placed}
 
 module _ (t : List ℕ) (place : ℕ) (inside : place ≤ length t) where
   -- a column is at most 1 and the place
@@ -26,35 +29,97 @@ module _ (t : List ℕ) (place : ℕ) (inside : place ≤ length t) where
       sym (drop-take start (place - start) t) ∙ ap (λ n. drop start (take n t)) whole
       ∙ ap (λ n. drop n (take place t)) (sym from)
 
--- the sum over all of them
-pub line_sum : (f : ℕ → ℕ) (s t : List ℕ) (place column i found : ℕ) → s ≡ t → place ≤ length t →
-    column ≡ column_at t place → length (slice_range s (place - (column - 1)) place) ≤ i →
-    found ≡ 1 + sum_by f (take i (slice_range s (place - (column - 1)) place)) →
-    found ≡ 1 + sum_by f (line_before t place)
-line_sum f s t place column i found source inside same end so_far =
-    let start = place - (column - 1) in
-    so_far
-    ∙ ap (λ bytes. 1 + sum_by f bytes)
-    (take_all i (slice_range s start place) end ∙ ap (λ u. slice_range u start place) source
-    ∙ line_before_is t place inside column same)
+  -- the sum over them
+  pub line_sum : (f : ℕ → ℕ) (column start found : ℕ) → column ≡ column_at t place → start ≡ place - (column - 1) →
+      found ≡ 1 + sum_by f (slice_range t start place) → found ≡ 1 + sum_by f (line_before t place)
+  line_sum f column start found same from is =
+      is ∙ ap (λ a. 1 + sum_by f (slice_range t a place)) from
+      ∙ ap (λ bytes. 1 + sum_by f bytes) (line_before_is column same)
+
+-- the beginning of a text has the first line and the first column
+pub first_place : (t : List ℕ) (first : Placed) → first.byte ≡ 0 → first.place ≡ place_at [] 0 → IsPlaced t first
+first_place t first at is = record {
+  within = omega (arith, at);
+  place_is = is ∙ ap (place_at t) (sym at);
+}
+
+-- a place that is known is on the line that begins where its own does
+pub known_on_line : (t : List ℕ) (last : Placed) (start : ℕ) (known : OnLine) → IsPlaced t last →
+    last.byte - (last.place.column - 1) ≡ start → known.byte ≡ last.byte →
+    known.column_utf16 ≡ last.place.column_utf16 → known.column_characters ≡ last.place.column_characters →
+    IsOnLine t start known
+known_on_line t last start known placed from at units chars =
+    let before =
+    line_before_is t last.byte placed.within last.place.column (ap (λ place. place.column) placed.place_is) in
+    let range : slice_range t start known.byte ≡ line_before t last.byte =
+    ap (λ b. slice_range t start b) at ∙ ap (λ a. slice_range t a last.byte) (sym from) ∙ before in
+    record {
+      behind = omega (arith, from, at);
+      units_are =
+          units ∙ ap (λ place. place.column_utf16) placed.place_is
+          ∙ ap (λ bytes. 1 + sum_by utf16_units bytes) (sym range);
+      characters_are =
+          chars ∙ ap (λ place. place.column_characters) placed.place_is
+          ∙ ap (λ bytes. 1 + sum_by characters bytes) (sym range);
+    }
+
+no_range : (t : List ℕ) (a : ℕ) → slice_range t a a ≡ []
+no_range t a = let none : a - a ≡ 0 = omega arith in ap (λ n. take n (drop a t)) none
+
+-- so is the line's start
+pub start_on_line : (t : List ℕ) (start : ℕ) (known : OnLine) → known.byte ≡ start → known.column_utf16 ≡ 1 →
+    known.column_characters ≡ 1 → IsOnLine t start known
+start_on_line t start known at units chars =
+    let none : slice_range t start known.byte ≡ [] = ap (λ b. slice_range t start b) at ∙ no_range t start in
+    record {
+      behind = omega (arith, at);
+      units_are = units ∙ ap (λ bytes. 1 + sum_by utf16_units bytes) (sym none);
+      characters_are = chars ∙ ap (λ bytes. 1 + sum_by characters bytes) (sym none);
+    }
+
+-- ---- sums over ranges
+
+rest_sum : (f : ℕ → ℕ) (t : List ℕ) (a b : ℕ) → a ≤ b →
+    sum_by f (slice_range t a b) + sum_by f (drop b t) ≡ sum_by f (drop a t)
+rest_sum f t a b l =
+    let whole : a + (b - a) ≡ b = omega arith in
+    ap (λ rest. sum_by f (slice_range t a b) + sum_by f rest)
+    (sym (drop-drop (b - a) a t ∙ ap (λ n. drop n t) whole))
+    ∙ sum_by-take-drop f (drop a t) (b - a)
+
+-- a sum over a range and one over the range behind it
+range_sums : (f : ℕ → ℕ) (t : List ℕ) (a b c : ℕ) → a ≤ b → b ≤ c →
+    sum_by f (slice_range t a b) + sum_by f (slice_range t b c) ≡ sum_by f (slice_range t a c)
+range_sums f t a b c l m =
+    omega (arith, rest_sum f t a b l, rest_sum f t b c m, rest_sum f t a c (omega (arith, l, m)))
+
+-- what was counted on over the whole range
+pub counted_all : (f : ℕ → ℕ) (t s : List ℕ) (start from to i known found : ℕ) → s ≡ t → start ≤ from → from ≤ to →
+    length (slice_range s from to) ≤ i → known ≡ 1 + sum_by f (slice_range t start from) →
+    found ≡ known + sum_by f (take i (slice_range s from to)) → found ≡ 1 + sum_by f (slice_range t start to)
+counted_all f t s start from to i known found source l m end before is =
+    let all = ap (sum_by f) (take_all i (slice_range s from to) end ∙ ap (λ u. slice_range u from to) source) in
+    omega (arith, all, range_sums f t start from to l m, before, is)
 
 -- ---- how large sums are
 
-in_two : (n : ℕ) (xs : List ℕ) → length (take n xs) + length (drop n xs) ≡ length xs
-in_two n xs = sym (length-append (take n xs) (drop n xs)) ∙ ap length (take-append-drop n xs)
+range_length : (t : List ℕ) (a b : ℕ) → length (slice_range t a b) ≤ b - a
+range_length t a b = omega (arith, length-take (b - a) (drop a t))
 
--- a part of a short text is short
-pub range_short : (s t : List ℕ) (a b : ℕ) → s ≡ t → length t < 2 ^ 63 → length (slice_range s a b) < 2 ^ 63
-range_short s t a b source short =
-    omega (arith, in_two (b - a) (drop a s), in_two a s, ap length source, short)
+range_sum_small : (f : ℕ → ℕ) (t : List ℕ) (a b : ℕ) → ((n : ℕ) → f n ≤ 2) → sum_by f (slice_range t a b) ≤ (b - a) * 2
+range_sum_small f t a b small =
+    let most = sum_by-le f 2 (slice_range t a b) (λ k d l. small (get_or (slice_range t a b) k d)) in
+    omega (arith, most, range_length t a b)
 
--- 1 and a sum of small numbers, with one of them more
-pub sum_fits : (f : ℕ → ℕ) (bytes : List ℕ) (i d found given : ℕ) → ((b : ℕ) → f b ≤ 2) → length bytes < 2 ^ 63 →
-    i < length bytes → found ≡ 1 + sum_by f (take i bytes) → given ≡ f (get_or bytes i d) → found + given < 2 ^ 64
-sum_fits f bytes i d found given small short inside so_far is =
-    let more = sum_by_more_le f bytes i d inside in
-    let most = sum_by-le f 2 bytes (λ k d l. small (get_or bytes k d)) in
-    omega (arith, more, most, short, so_far, is)
+-- 1 and sums of small numbers over two ranges, with one number more
+pub counted_fits : (f : ℕ → ℕ) (t s : List ℕ) (start from to i d known found given : ℕ) → ((b : ℕ) → f b ≤ 2) →
+    length t < 2 ^ 63 → start ≤ from → from ≤ to → to ≤ length t → i < length (slice_range s from to) →
+    known ≡ 1 + sum_by f (slice_range t start from) → found ≡ known + sum_by f (take i (slice_range s from to)) →
+    given ≡ f (get_or (slice_range s from to) i d) → found + given < 2 ^ 64
+counted_fits f t s start from to i d known found given small short l m inside at before is one =
+    let more = sum_by_more_le f (slice_range s from to) i d at in
+    omega
+    (arith, more, range_sum_small f s from to small, range_sum_small f t start from small, before, is, one, short, inside)
 
 chosen_small : (goes_on is_long : Bool) → cond goes_on 0 (cond is_long 2 1) ≤ 2
 chosen_small true is_long = omega arith

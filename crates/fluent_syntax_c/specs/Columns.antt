@@ -1,8 +1,11 @@
 -- Lines and columns, all from 1. Each place of a text has them, also one within a character.
-use Rattle.std.specs.Prelude.{ℕ, ◌+◌, ◌-◌, ◌&&◌, List, drop, length, nat_le, take, if◌then◌else◌}
+use Rattle.std.specs.Prelude.{◌≡◌, ℕ, ◌+◌, ◌-◌, ◌≤◌, ◌&&◌, List, drop, length, nat_le, take, slice_range}
+use Rattle.std.specs.Prelude.{if◌then◌else◌}
 use Rattle.std.specs.List.{sum_by}
 use Rattle.fluent_syntax.specs.Lines.{column_at, line_at}
+use Rattle.fluent_syntax_c.specs.declared.columns.OnLine.{OnLine}
 use Rattle.fluent_syntax_c.specs.declared.columns.Place.{Place}
+use Rattle.fluent_syntax_c.specs.declared.columns.Placed.{Placed}
 
 -- how many characters begin with the byte: none with 0x80 to 0xBF, which go on with one
 abbrev pub characters : ℕ → ℕ
@@ -32,3 +35,14 @@ place_at t place = record {
   column_utf16 = column_utf16 t place;
   column_characters = column_characters t place;
 }
+
+-- The line and the columns are those of the byte, which is one of the text's or its end.
+pub record IsPlaced (t : List ℕ) (last : Placed) : Type 0 where
+  pub within : last.byte ≤ length t
+  pub place_is : last.place ≡ place_at t last.byte
+
+-- The columns are those of the byte on a line that begins at `start`.
+pub record IsOnLine (t : List ℕ) (start : ℕ) (known : OnLine) : Type 0 where
+  pub behind : start ≤ known.byte
+  pub units_are : known.column_utf16 ≡ 1 + sum_by utf16_units (slice_range t start known.byte)
+  pub characters_are : known.column_characters ≡ 1 + sum_by characters (slice_range t start known.byte)

@@ -9,3 +9,7 @@ pub mod Columns
 pub mod Errors
 pub mod Names
 pub mod Messages
+pub mod FoundKinds
+pub mod Outlines
+pub mod Findings
+pub mod Comparison

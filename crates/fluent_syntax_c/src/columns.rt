@@ -1,7 +1,9 @@
 //! Lines and columns of places.
-ghost use Rattle.std.specs.Prelude.{◌≡◌, ◌+◌, ◌<◌, ◌≤◌, ◌^◌, ℕ, List, length};
+ghost use Rattle.std.specs.Prelude.{◌≡◌, ◌+◌, ◌<◌, ◌≤◌, ◌^◌, ℕ, List, length, min, slice_range};
+ghost use Rattle.std.specs.List.{sum_by};
 ghost use Rattle.fluent_syntax.specs.Lines.{column_at};
-ghost use Rattle.fluent_syntax_c.specs.Columns.{characters, column_characters, column_utf16, place_at, utf16_units};
+ghost use Rattle.fluent_syntax_c.specs.Columns.{IsOnLine, IsPlaced, characters, column_characters, column_utf16};
+ghost use Rattle.fluent_syntax_c.specs.Columns.{place_at, utf16_units};
 
 use fluent_syntax::spans::Lines;
 use std::marker::Model;
@@ -16,14 +18,23 @@ pub(crate) struct Place {
     pub(crate) column_characters: usize,
 }
 
-/// The places of one text. Where they come in order and on lines of their own, the text is read once or twice for all
-/// of them. In a clause it is the bytes of the text.
+/// A place of a text, in bytes.
+#[derive(Clone, Copy)]
+pub(crate) struct Placed {
+    byte: usize,
+    place: Place,
+}
+
+/// The places of one text. Where they come in order, the text is read once or twice for all of them. In a clause it is
+/// the bytes of the text.
 #[derive(Drop)]
 pub(crate) struct Places<'t> {
     text: &'t str,
     lines: Lines<'t>,
+    last: Placed,
     ghost same: { lines ≡ text.now },
     ghost short: { length text.now < 2 ^ 63 },
+    ghost placed: { IsPlaced text.now last },
 }
 
 impl<'t> Model for Places<'t> {
@@ -41,39 +52,104 @@ impl<'t> Places<'t> {
         Places {
             text,
             lines: Lines::new(text),
+            last: Placed {
+                byte: 0,
+                place: Place {
+                    line: 1,
+                    column: 1,
+                    column_utf16: 1,
+                    column_characters: 1,
+                },
+            },
         }
     }
 
-    /// The line and the columns of a byte of the text, or of its end. It reads what lies before it on its line, and
-    /// what `Lines` reads.
+    /// The line and the columns of a byte of the text, or of its end. It reads what lies between the last place and this
+    /// one, and where this one lies before it or on another line, what lies before this one on its line, and what
+    /// `Lines` reads.
     pub(crate) fn place(&mut self, byte: usize) -> Place
         requires { byte ≤ length self.old }
         ensures text { self.new ≡ self.old }
         ensures place { result ≡ place_at self.old byte }
     {
         let (line, column) = self.lines.line_column(byte);
-        let (column_utf16, column_characters) = wide_columns(self.text, byte, column);
-        Place {
+        let (column_utf16, column_characters) = wide_columns(self.text, self.last, byte, column);
+        let place = Place {
             line,
             column,
             column_utf16,
             column_characters,
+        };
+        self.last = Placed { byte, place };
+        place
+    }
+
+    /// The line and the columns of a byte of the text, or of the text's end where it lies beyond.
+    pub(crate) fn place_within(&mut self, byte: usize) -> Place
+        ensures text { self.new ≡ self.old }
+        ensures place { result ≡ place_at self.old (min byte (length self.old)) }
+    {
+        self.place(byte.min(self.text.len()))
+    }
+}
+
+/// A place on a line, and the columns there.
+#[derive(Clone, Copy)]
+pub(crate) struct OnLine {
+    byte: usize,
+    column_utf16: usize,
+    column_characters: usize,
+}
+
+/// The columns of a place in UTF-16 units and in characters, by its column in bytes. They are counted on from the last
+/// place where that stands before it on the same line.
+fn wide_columns(text: &str, last: Placed, byte: usize, column: usize) -> (usize, usize)
+    requires in_text { byte ≤ length text.now }
+    requires short { length text.now < 2 ^ 63 }
+    requires column { column ≡ column_at text.now byte }
+    requires placed { IsPlaced text.now last }
+    ensures utf16 { result.0 ≡ column_utf16 text.now byte }
+    ensures characters { result.1 ≡ column_characters text.now byte }
+{
+    let start = byte - (column - 1);
+    counted_on(text, start, known(text, last, start, byte), byte)
+}
+
+/// A place on the line that begins at `start`, no farther than `byte`: the last one, or the line's start.
+fn known(text: &str, last: Placed, start: usize, byte: usize) -> OnLine
+    requires in_text { byte ≤ length text.now }
+    requires before { start ≤ byte }
+    requires placed { IsPlaced text.now last }
+    ensures on_line { IsOnLine text.now start result }
+    ensures before { result.byte ≤ byte }
+{
+    if last.byte <= byte && last.byte - (last.place.column - 1) == start {
+        OnLine {
+            byte: last.byte,
+            column_utf16: last.place.column_utf16,
+            column_characters: last.place.column_characters,
+        }
+    } else {
+        OnLine {
+            byte: start,
+            column_utf16: 1,
+            column_characters: 1,
         }
     }
 }
 
-/// The columns of a place in UTF-16 units and in characters, by its column in bytes.
-fn wide_columns(text: &str, place: usize, column: usize) -> (usize, usize)
-    requires in_text { place ≤ length text.now }
+/// The columns of a place in UTF-16 units and in characters, counted on from an earlier place of its line.
+fn counted_on(text: &str, start: usize, from: OnLine, byte: usize) -> (usize, usize)
+    requires in_text { byte ≤ length text.now }
     requires short { length text.now < 2 ^ 63 }
-    requires column { column ≡ column_at text.now place }
-    ensures utf16 { result.0 ≡ column_utf16 text.now place }
-    ensures characters { result.1 ≡ column_characters text.now place }
+    requires on_line { IsOnLine text.now start from }
+    requires before { from.byte ≤ byte }
+    ensures utf16 { result.0 ≡ 1 + sum_by utf16_units (slice_range text.now start byte) }
+    ensures characters { result.1 ≡ 1 + sum_by characters (slice_range text.now start byte) }
 {
-    let before = &text.as_bytes()[place - (column - 1)..place];
-    let mut column_utf16 = 1;
-    let mut column_characters = 1;
-    for byte in before {
+    let mut column_utf16 = from.column_utf16;
+    let mut column_characters = from.column_characters;
+    for byte in &text.as_bytes()[from.byte..byte] {
         column_utf16 += utf16_units(*byte);
         column_characters += characters(*byte);
     }

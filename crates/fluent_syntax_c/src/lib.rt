@@ -7,16 +7,23 @@
 mod answers;
 mod arguments;
 mod columns;
+mod comparison;
 mod errors;
+mod findings;
+mod found_kinds;
 mod kinds;
 mod messages;
 mod names;
+mod outlines;
 mod outputs;
 mod readings;
 mod status;
 mod texts;
 
 pub use answers::ftl_answer;
+pub use comparison::ftl_comparison;
 pub use errors::{FtlError, ftl_errors};
+pub use findings::{FtlFinding, ftl_finding_kind_name, ftl_findings};
 pub use messages::{ftl_error_messages, ftl_kind_name};
 pub use names::{FtlName, ftl_names};
+pub use outlines::FtlText;

@@ -8,16 +8,19 @@
     'hello = Hello, { $name }!\\n'
     >>> [str(error) for error in dovelectern.check("bro ken")]
     ['1:5: Expected a token starting with "="']
+    >>> [str(finding) for finding in dovelectern.lint("about = About { -brand }")]
+    ['1:18: error[undefined-term]: no text defines the term `-brand`']
 """
 from . import ast
-from ._calls import check, check_file, format, format_file, parse, parse_file, serialize, serialize_entry
+from ._calls import check, check_file, compare, format, format_file, lint, parse, parse_file, serialize, serialize_entry
 from ._library import NESTING, Text
-from .errors import Error, FluentError, NoTree, SyntaxErrors, TooDeep
+from .errors import Error, Finding, FluentError, NoTree, Place, SyntaxErrors, TooDeep
 from .visitor import Transformer, Visitor, joined
 
-__version__ = "1.0.0"
+__version__ = "1.1.0"
 
 __all__ = [
-    "Error", "FluentError", "NESTING", "NoTree", "SyntaxErrors", "Text", "TooDeep", "Transformer", "Visitor", "ast",
-    "check", "check_file", "format", "format_file", "joined", "parse", "parse_file", "serialize", "serialize_entry",
+    "Error", "Finding", "FluentError", "NESTING", "NoTree", "Place", "SyntaxErrors", "Text", "TooDeep", "Transformer",
+    "Visitor", "ast", "check", "check_file", "compare", "format", "format_file", "joined", "lint", "parse",
+    "parse_file", "serialize", "serialize_entry",
 ]

@@ -4,12 +4,12 @@ import os
 from contextlib import contextmanager
 from functools import lru_cache
 from itertools import chain
-from typing import Iterator, List, Tuple, Union
+from typing import Iterable, Iterator, List, Tuple, Union
 
-from . import _library, _places, _reading, _writing, ast
+from . import _findings, _library, _places, _reading, _writing, ast
 from ._library import NESTING, Text
 from .ast import Span
-from .errors import Error, NoTree, SyntaxErrors, TooDeep
+from .errors import Error, Finding, NoTree, SyntaxErrors, TooDeep
 
 Path = Union[str, "os.PathLike[str]", bytes, "os.PathLike[bytes]"]
 
@@ -112,6 +112,26 @@ def format(text: Text, *, edition: int = 1, comments: bool = True, drop_junk: bo
     if has_errors and not drop_junk:
         raise SyntaxErrors(_errors(data, edition, depth))
     return written
+
+
+def lint(texts: Union[Text, Iterable[Text]], *, edition: int = 1, nesting: int = NESTING) -> List[Finding]:
+    """The mistakes between names in a text, or in the texts of one language, which may refer to one another; in order.
+
+    What was refused defines nothing, and no syntax error is told: `check` tells those. It raises what `check` raises.
+    """
+    given = [texts] if isinstance(texts, (str, bytes, bytearray, memoryview)) else list(texts)
+    data = [_library.as_bytes(text) for text in given]
+    return _findings.of_one_language(data, _as_edition(edition), _library.as_nesting(nesting))
+
+
+def compare(reference: Text, other: Text, *, edition: int = 1, nesting: int = NESTING) -> List[Finding]:
+    """What a text, as a translation, lacks of its reference, in the reference's order; and behind it what is obsolete
+    or unknown in the text, in its own order. It raises what `check` raises.
+
+    The number of the reference is 0, and that of the other text 1.
+    """
+    one, two = _library.as_bytes(reference), _library.as_bytes(other)
+    return _findings.between(one, two, _as_edition(edition), _library.as_nesting(nesting))
 
 
 def parse_file(path: Path, *, nesting: int = NESTING, with_spans: bool = True) -> ast.Resource:

@@ -3,7 +3,7 @@ import ctypes
 import operator
 import os
 import struct
-from typing import List, NamedTuple, Tuple, Union
+from typing import Any, List, NamedTuple, Sequence, Tuple, Union
 
 from .errors import NoTree, TooDeep
 
@@ -32,9 +32,34 @@ class ErrorRow(NamedTuple):
     kind: int
 
 
-# struct ftl_error and struct ftl_name: numbers of type size_t, one of 32 bits, and what is added for the next row
+class FindingRow(NamedTuple):
+    """What is found at a name, and its places, in bytes; its column also in UTF-16 units and in characters."""
+
+    text: int
+    line: int
+    column: int
+    column_utf16: int
+    column_characters: int
+    start: int
+    end: int
+    other_text: int
+    other_start: int
+    other_end: int
+    kind: int
+    severity: int
+
+
+# struct ftl_error, ftl_name and ftl_finding: numbers of type size_t, one or two of 32 bits, and what is added for the
+# next row
 ROW = struct.Struct("@8NI0N")
 NAME_ROW = struct.Struct("@9NI0N")
+FINDING_ROW = struct.Struct("@10N2I0N")
+
+
+class _Text(ctypes.Structure):
+    """struct ftl_text."""
+
+    _fields_ = [("text", ctypes.c_char_p), ("text_len", ctypes.c_size_t)]
 
 
 def _load() -> ctypes.CDLL:
@@ -45,13 +70,16 @@ def _load() -> ctypes.CDLL:
         library = ctypes.CDLL(path)
     except OSError as error:
         raise ImportError(f"dovelectern has no library for this machine: {error}") from error
-    number, size, sizes = ctypes.c_uint32, ctypes.c_size_t, ctypes.POINTER(ctypes.c_size_t)
-    for name in ("ftl_answer", "ftl_errors", "ftl_names", "ftl_error_messages"):
+    number, size = ctypes.c_uint32, ctypes.c_size_t
+    text, written = [ctypes.c_char_p, size], [ctypes.c_void_p, size, ctypes.POINTER(size)]
+    for name, read in (
+        ("ftl_answer", [size, *text]), ("ftl_errors", [size, *text]), ("ftl_names", [size, *text]),
+        ("ftl_error_messages", [size, *text]), ("ftl_findings", [size, ctypes.POINTER(_Text), size]),
+        ("ftl_comparison", [size, *text, *text]), ("ftl_kind_name", []), ("ftl_finding_kind_name", []),
+    ):
         call = getattr(library, name)
         call.restype = number
-        call.argtypes = [number, size, ctypes.c_char_p, size, ctypes.c_void_p, size, sizes]
-    library.ftl_kind_name.restype = number
-    library.ftl_kind_name.argtypes = [number, ctypes.c_void_p, size, sizes]
+        call.argtypes = [number, *read, *written]
     return library
 
 
@@ -76,37 +104,46 @@ def as_nesting(nesting: int) -> int:
     return depth
 
 
-def _items(name: str, number: int, nesting: int, text: bytes, width: int, room: int) -> Tuple[memoryview, bool]:
-    """The items that a call wrote, each of so many bytes, and whether the text has errors."""
+def _items(name: str, number: int, nesting: int, texts: Sequence[bytes], width: int,
+           room: int) -> Tuple[memoryview, bool]:
+    """The items that a call wrote, each of so many bytes, and whether a text has errors."""
     needed = ctypes.c_size_t()
     call = getattr(_library, name)
+    given = _given(texts) if name == "ftl_findings" else [it for text in texts for it in (text, len(text))]
     while True:
         # a type of an array for each length would take longer than most calls
         array = bytearray(width * room)
         front = ctypes.byref(ctypes.c_char.from_buffer(array))
         # the interpreter's lock is let go meanwhile
-        status = call(number, nesting, text, len(text), front, room, ctypes.byref(needed))
+        status = call(number, nesting, *given, front, room, ctypes.byref(needed))
         if status == _TOO_SMALL:
             room = needed.value
         elif status in (_CLEAN, _SYNTAX_ERRORS):
             return memoryview(array)[:width * needed.value], status == _SYNTAX_ERRORS
         else:
-            raise _refusal(name, number, nesting, text, status)
+            raise _refusal(name, number, nesting, texts, status)
 
 
-def _refusal(name: str, number: int, nesting: int, text: bytes, status: int) -> Exception:
+def _given(texts: Sequence[bytes]) -> List[Any]:
+    """The texts as an array, and how many they are."""
+    return [(_Text * len(texts))(*((text, len(text)) for text in texts)), len(texts)]
+
+
+def _refusal(name: str, number: int, nesting: int, texts: Sequence[bytes], status: int) -> Exception:
     """Why a call gave nothing."""
     if status == _NOT_UTF8:
-        try:
-            text.decode()
-        except UnicodeDecodeError as error:
-            return error
+        for text in texts:
+            try:
+                text.decode()
+            except UnicodeDecodeError as error:
+                return error
     if status == _NO_MEMORY:
         return MemoryError("the library was refused memory")
     if status == _TOO_DEEP:
         if name == "ftl_answer" and number == FROM_JSON:
             return TooDeep("the tree nests more deeply than the library takes trees")
-        return TooDeep(f"the text nests placeables and argument lists more than {nesting} deep")
+        which = "the text" if len(texts) == 1 else "one of the texts"
+        return TooDeep(f"{which} nests placeables and argument lists more than {nesting} deep")
     if status == _NO_TREE:
         return NoTree("this spells no tree")
     return ValueError(f"{name} has no number {number}")
@@ -115,36 +152,57 @@ def _refusal(name: str, number: int, nesting: int, text: bytes, status: int) -> 
 def answer(command: int, text: bytes, nesting: int) -> Tuple[str, bool]:
     """What the command writes for the text, and whether the text has syntax errors."""
     room = (8 if command == JSON else 2) * len(text) + 1024
-    out, has_errors = _items("ftl_answer", command, nesting, text, 1, room)
+    out, has_errors = _items("ftl_answer", command, nesting, [text], 1, room)
     return str(out, "utf-8"), has_errors
 
 
 def errors(text: bytes, edition: int, nesting: int) -> List[ErrorRow]:
     """The syntax errors of the text, in order."""
-    rows, _ = _items("ftl_errors", edition, nesting, text, ROW.size, 8)
+    rows, _ = _items("ftl_errors", edition, nesting, [text], ROW.size, 8)
     return [ErrorRow(*numbers) for numbers in ROW.iter_unpack(rows)]
 
 
 def messages(text: bytes, edition: int, nesting: int) -> List[str]:
     """The messages of the syntax errors of the text, in order."""
-    out, _ = _items("ftl_error_messages", edition, nesting, text, 1, 1024)
+    out, _ = _items("ftl_error_messages", edition, nesting, [text], 1, 1024)
     return str(out, "utf-8").split("\n")[:-1]
 
 
 def names(text: bytes, edition: int, nesting: int) -> Tuple[List[int], List[int]]:
     """Where the names of messages, terms and attributes of the text begin, in order, and where they end, in bytes."""
-    rows, _ = _items("ftl_names", edition, nesting, text, NAME_ROW.size, 16 + len(text) // 64)
+    rows, _ = _items("ftl_names", edition, nesting, [text], NAME_ROW.size, 16 + len(text) // 64)
     # each row is as wide as so many numbers; its start and its end are the fifth and the sixth
     width = NAME_ROW.size // ctypes.sizeof(ctypes.c_size_t)
     numbers = rows.cast("N")
     return numbers[4::width].tolist(), numbers[5::width].tolist()
 
 
+def findings(texts: Sequence[bytes], edition: int, nesting: int) -> List[FindingRow]:
+    """What is found in the texts of one language, in order."""
+    rows, _ = _items("ftl_findings", edition, nesting, texts, FINDING_ROW.size, 16)
+    return [FindingRow(*numbers) for numbers in FINDING_ROW.iter_unpack(rows)]
+
+
+def comparison(reference: bytes, other: bytes, edition: int, nesting: int) -> List[FindingRow]:
+    """What the other text lacks of the reference, and behind it what is obsolete or unknown there."""
+    rows, _ = _items("ftl_comparison", edition, nesting, [reference, other], FINDING_ROW.size, 16)
+    return [FindingRow(*numbers) for numbers in FINDING_ROW.iter_unpack(rows)]
+
+
 def kind_name(kind: int) -> str:
     """The name of a kind of errors."""
+    return _name("ftl_kind_name", kind)
+
+
+def finding_kind_name(kind: int) -> str:
+    """The name of a kind of findings."""
+    return _name("ftl_finding_kind_name", kind)
+
+
+def _name(call: str, kind: int) -> str:
     needed = ctypes.c_size_t()
     out = ctypes.create_string_buffer(64)
-    status = _library.ftl_kind_name(kind, out, len(out), ctypes.byref(needed))
+    status = getattr(_library, call)(kind, out, len(out), ctypes.byref(needed))
     if status == _NO_MEMORY:
         raise MemoryError("the library was refused memory")
     if status != _CLEAN:

@@ -1,5 +1,6 @@
 """Places in bytes as places in characters."""
-from typing import Dict, Iterable
+import re
+from typing import Dict, Iterable, List
 
 # the bytes of UTF-8 that begin no character
 _CONTINUATIONS = bytes(range(0x80, 0xC0))
@@ -8,6 +9,16 @@ _CONTINUATIONS = bytes(range(0x80, 0xC0))
 def characters(text: bytes) -> int:
     """How many characters begin in the bytes."""
     return len(text.translate(None, _CONTINUATIONS))
+
+
+def utf16_units(text: bytes) -> int:
+    """How many UTF-16 units the characters are that begin in the bytes: two each of those that four bytes spell."""
+    return characters(text) + sum(byte >= 0xF0 for byte in text)
+
+
+def line_starts(text: bytes) -> List[int]:
+    """Where the lines of the bytes begin."""
+    return [0, *(it.end() for it in re.finditer(b"\n", text))]
 
 
 def in_characters(text: bytes, places: Iterable[int]) -> Dict[int, int]:

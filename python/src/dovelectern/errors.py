@@ -29,6 +29,48 @@ class Error:
         return f"{self.line}:{self.column}: {self.message}"
 
 
+@dataclass(frozen=True)
+class Place:
+    """A name in one of several texts. Lines and columns count from 1; spans count characters from 0."""
+
+    text: int
+    """The number of the text, from 0."""
+    line: int
+    column: int
+    """The column in characters."""
+    column_utf16: int
+    """The column in UTF-16 units, as editors count."""
+    column_bytes: int
+    """The column in bytes of UTF-8."""
+    span: Span
+    """The name, without the `-` of a term, the `.` of an attribute and the `$` of a variable."""
+
+    def __str__(self) -> str:
+        return f"{self.line}:{self.column}"
+
+
+@dataclass(frozen=True)
+class Finding:
+    """A mistake between names: of one text, of several, or of a text beside its reference."""
+
+    kind: str
+    """Which mistake it is: one of 14 names, as `undefined-term`."""
+    severity: str
+    """`error`, which users see, or `warning`, which may be meant so."""
+    message: str
+    """The same in a sentence."""
+    name: str
+    """The name that it is about, as its place has it."""
+    place: Optional[Place]
+    """Where it is; `None` where a text has no place for what it lacks."""
+    other: Optional[Place]
+    """The place that it speaks of: of a name that is given twice the first one, and where the reference has it."""
+
+    def __str__(self) -> str:
+        before = f"{self.place}: " if self.place is not None else ""
+        return f"{before}{self.severity}[{self.kind}]: {self.message}"
+
+
 class FluentError(ValueError):
     """A text or a tree that can't be taken."""
 

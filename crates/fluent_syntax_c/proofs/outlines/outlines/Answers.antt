@@ -1,0 +1,44 @@
+use Rattle.std.proofs.Common.{arith, subst, sym}
+use Rattle.std.proofs.lemmas.List.{take_all}
+use Rattle.std.proofs.lemmas.List.Elements.{All-more, All-nil, All-push, All-same}
+use Rattle.fluent_syntax_c.specs.Depth.{EditionReadsDeeper}
+use Rattle.fluent_syntax_c.specs.Outlines.{AreOutlines, IsShort, no_outlines}
+use Rattle.fluent_syntax_c.proofs.Outlined.{outlines_on}
+use Rattle.fluent_syntax_c.proofs.outlines.outlines.Goals as goal
+
+pub loop-text-init : goal.loop-text-init
+loop-text-init c = record {
+  so_far = rw c.new-outlines.ensures.items no_outlines;
+  short = rw c.new-outlines.ensures.items (All-nil IsShort);
+  shallow = λ k d l. absurd (omega (arith, l));
+}
+
+pub loop-text-preserved : goal.loop-text-preserved
+loop-text-preserved c =
+    let texts = c.args.texts.now in
+    let i = c.loop-text.text-index in
+    let inv = c.loop-text.invariant in
+    let here = c.in_ok-outline in
+    let added = c.in-Ok.ensures in
+    record {
+      so_far =
+          outlines_on c.args.edition texts i _ c.loop-text.outlines.items c.add_outline.new.outlines.items here.outline
+          c.loop-text.outcome here.found c.either_outcome-outcome.result inv.so_far here.ensures.outline
+          c.loop-text-test.true added c.either_outcome-outcome.ensures;
+      short = rw added (All-push IsShort c.loop-text.outlines.items here.outline inv.short here.ensures.short);
+      shallow =
+          All-more (λ text. EditionReadsDeeper c.args.edition text.text.now c.args.nesting → ⊥) texts i _
+          c.loop-text-test.true inv.shallow here.ensures.shallow;
+    }
+
+pub returns-clause-outlines : goal.returns-clause-outlines
+returns-clause-outlines c =
+    subst (λ texts. AreOutlines c.args.edition texts c.loop-text.outlines.items c.loop-text.outcome)
+    (take_all c.loop-text.text-index c.args.texts.now c.loop-text-test.false) c.loop-text.invariant.so_far
+
+pub returns-clause-shallow : goal.returns-clause-shallow
+returns-clause-shallow c =
+    let texts = c.args.texts.now in
+    let all = sym (take_all c.loop-text.text-index texts c.loop-text-test.false) in
+    All-same (λ text. EditionReadsDeeper c.args.edition text.text.now c.args.nesting → ⊥) texts _ all
+    c.loop-text.invariant.shallow

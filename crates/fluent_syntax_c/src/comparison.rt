@@ -1,0 +1,182 @@
+//! What one of two texts has and the other lacks, as rows.
+ghost use Rattle.std.specs.Prelude.{◌≡◌, ◌≢◌, ◌↔◌, ◌⊎◌, ◌++◌, ◌+◌, ◌<◌, ◌^◌, length, Err, IfOk, OnOk};
+ghost use Rattle.std.specs.List.{flat_map};
+ghost use Rattle.std.specs.Str.{IsUtf8};
+ghost use Rattle.fluent_syntax_c.specs.Arguments.{IsNoEdition};
+ghost use Rattle.fluent_syntax_c.specs.Comparison.{AreDifferences, compared_rows, lack_rows, side_difference};
+ghost use Rattle.fluent_syntax_c.specs.Comparison.{side_number};
+ghost use Rattle.fluent_syntax_c.specs.Depth.{EditionReadsDeeper};
+ghost use Rattle.fluent_syntax_c.specs.Output.{Leaves};
+ghost use Rattle.fluent_syntax_c.specs.Outlines.{IsShort};
+ghost use Rattle.fluent_syntax_c.specs.Status.{EndsAs};
+
+use crate::arguments::edition_of;
+use crate::columns::Places;
+use crate::findings::{FtlFinding, found_row};
+use crate::found_kinds::{Difference, FoundKind};
+use crate::outlines::{either_outcome, outline};
+use crate::outputs::give;
+use crate::status::Refusal;
+use fluent_syntax_names::{Lack, Outline, Part, lacks};
+use ftl::Outcome;
+use std::alloc::{AllocError, Global};
+
+/// One of the two texts.
+#[derive(Clone, Copy)]
+pub(crate) enum Side {
+    Reference,
+    Other,
+}
+
+impl Side {
+    /// The number of the text.
+    fn number(self) -> usize
+        ensures { result ≡ side_number self }
+    {
+        match self {
+            Side::Reference => 0,
+            Side::Other => 1,
+        }
+    }
+
+    /// What is told of a part that this text has and the other one lacks. A variable may be left out, and the other text
+    /// may refer to more.
+    fn difference(self, part: Part) -> Option<Difference>
+        ensures { result ≡ side_difference self part }
+    {
+        match (self, part) {
+            (Side::Reference, Part::Entry) => Some(Difference::Missing),
+            (Side::Reference, Part::Value) => Some(Difference::MissingValue),
+            (Side::Reference, Part::Attribute) => Some(Difference::MissingAttribute),
+            (Side::Reference, Part::Reference) => Some(Difference::MissingReference),
+            (Side::Reference, Part::Variable) => None,
+            (Side::Other, Part::Entry) => Some(Difference::Obsolete),
+            (Side::Other, Part::Value) => Some(Difference::ObsoleteValue),
+            (Side::Other, Part::Attribute) => Some(Difference::ObsoleteAttribute),
+            (Side::Other, Part::Reference) => None,
+            (Side::Other, Part::Variable) => Some(Difference::UnknownVariable),
+        }
+    }
+}
+
+/// Writes what the other text lacks of the reference, and behind it what is obsolete or unknown in the other text, to
+/// the front of `rows`, and their number to `count`. Both are read by the edition of the number. A row's text is 0 for
+/// the reference and 1 for the other; each part is in the order of the text that has it.
+///
+/// Returns 0, or 1 where one of the texts has syntax errors. Where it returns 5 there are more than `rows` has room for:
+/// `count` tells how many, and `rows` is as it was. Otherwise `count` is 0 and `rows` as it was: 2 where no edition has
+/// the number, 3 where one of the texts is not UTF-8, 4 where a growth was refused, 6 where placeables and argument lists
+/// of one of them nest more than `nesting` deep.
+#[unsafe(no_mangle)]
+pub extern "C" fn ftl_comparison(
+    alloc: Global,
+    edition: u32,
+    nesting: usize,
+    reference: &[u8],
+    other: &[u8],
+    rows: &mut [FtlFinding],
+    count: &mut usize,
+) -> u32
+    ensures leaves { EndsAs result
+        (Leaves (AreDifferences edition reference.now other.now) rows.old rows.new count.new) }
+    ensures argument { (result ≡ 2) ↔ IsNoEdition edition }
+    ensures input { ¬ (IsNoEdition edition) →
+        ((result ≡ 3) ↔ ¬ (IsUtf8 reference.now × IsUtf8 other.now)) }
+    ensures deep { result ≡ 6 → (nesting < length reference.now) ⊎ (nesting < length other.now) }
+    ensures deeper { result ≡ 6 →
+        EditionReadsDeeper edition reference.now nesting ⊎ EditionReadsDeeper edition other.now nesting }
+    ensures shallow { EditionReadsDeeper edition reference.now nesting ⊎ EditionReadsDeeper edition other.now nesting →
+        (result ≡ 3) ⊎ (result ≡ 4) ⊎ (result ≡ 6) }
+{
+    give(
+        edition_differences(alloc, edition, nesting, reference, other),
+        rows,
+        count,
+    )
+}
+
+/// The differences by the edition of the number.
+fn edition_differences(
+    alloc: Global,
+    edition: u32,
+    nesting: usize,
+    reference: &[u8],
+    other: &[u8],
+) -> Result<(Vec<FtlFinding>, Outcome), Refusal>
+    ensures rows { IfOk result (λ found. AreDifferences edition reference.now other.now found.0.items found.1) }
+    ensures argument { (result ≡ Err Refusal.Argument) ↔ IsNoEdition edition }
+    ensures input { ¬ (IsNoEdition edition) →
+        ((result ≡ Err Refusal.Input) ↔ ¬ (IsUtf8 reference.now × IsUtf8 other.now)) }
+    ensures deep { result ≡ Err Refusal.Depth → (nesting < length reference.now) ⊎ (nesting < length other.now) }
+    ensures deeper { result ≡ Err Refusal.Depth →
+        EditionReadsDeeper edition reference.now nesting ⊎ EditionReadsDeeper edition other.now nesting }
+    ensures shallow { IfOk result (λ found.
+        EditionReadsDeeper edition reference.now nesting ⊎ EditionReadsDeeper edition other.now nesting → ⊥) }
+    ensures tree { result ≢ Err Refusal.Tree }
+{
+    if edition_of(edition).is_none() {
+        return Err(Refusal::Argument);
+    }
+    if str::from_utf8(reference).is_err() || str::from_utf8(other).is_err() {
+        return Err(Refusal::Input);
+    }
+    let (reference, found) = outline(alloc, edition, nesting, reference)?;
+    let (other, more) = outline(alloc, edition, nesting, other)?;
+    match compared_rows(alloc, &reference, &other) {
+        Ok(rows) => Ok((rows, either_outcome(found, more))),
+        Err(AllocError) => Err(Refusal::Memory),
+    }
+}
+
+/// A row for each difference.
+fn compared_rows(
+    alloc: Global,
+    reference: &Outline<'_>,
+    other: &Outline<'_>,
+) -> Result<Vec<FtlFinding>, AllocError>
+    requires reference { IsShort reference.now }
+    requires other { IsShort other.now }
+    ensures { IfOk result (λ rows. rows.items ≡ compared_rows reference.now other.now) }
+{
+    let mut rows = Vec::new(alloc);
+    let missing = lacks(alloc, reference, other)?;
+    add_lacks(&mut rows, Side::Reference, reference.text, &missing)?;
+    let more = lacks(alloc, other, reference)?;
+    add_lacks(&mut rows, Side::Other, other.text, &more)?;
+    Ok(rows)
+}
+
+/// Adds the rows of what this text has and the other one lacks.
+fn add_lacks(
+    rows: &mut Vec<FtlFinding>,
+    side: Side,
+    text: &str,
+    lacks: &[Lack],
+) -> Result<(), AllocError>
+    requires { length text.now + 1 < 2 ^ 63 }
+    ensures { OnOk result (rows.new.items ≡ rows.old.items ++ flat_map (lack_rows side text.now) lacks.now) }
+{
+    let mut places = Places::new(text);
+    for lack in lacks {
+        add_lack(rows, &mut places, side, lack)?;
+    }
+    Ok(())
+}
+
+/// Adds the row of what this text has and the other one lacks, if it is told.
+fn add_lack<'t>(
+    rows: &mut Vec<FtlFinding>,
+    places: &mut Places<'t>,
+    side: Side,
+    lack: &Lack,
+) -> Result<(), AllocError>
+    ensures rows { OnOk result (rows.new.items ≡ rows.old.items ++ lack_rows side places.old lack.now) }
+    ensures text { places.new ≡ places.old }
+{
+    let Some(difference) = side.difference(lack.part) else {
+        return Ok(());
+    };
+    let kind = FoundKind::Between(difference);
+    rows.push(found_row(places, kind, side.number(), lack.name, None))?;
+    Ok(())
+}
