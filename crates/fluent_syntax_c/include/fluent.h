@@ -22,8 +22,8 @@
 extern "C" {
 #endif
 
-/* How a call ended; of several texts each is meant. After the first two all was given. After the others nothing was written to the array; `needed` or
-   `count` is 0, but after FTL_TOO_SMALL it is the number of items that there are. */
+/* How a call ended; of several texts each is meant. After the first two all was given. After the others nothing was
+   written to the array; `needed` or `count` is 0, but after FTL_TOO_SMALL it is the number of items that there are. */
 enum ftl_status {
     FTL_CLEAN = 0,          /* the text has no syntax error */
     FTL_SYNTAX_ERRORS = 1,  /* it has some */
@@ -146,7 +146,7 @@ enum ftl_severity {
     FTL_SEVERITY_WARNING = 2 /* it may be meant so */
 };
 
-/* What is found at a name: that of a message, a term, an attribute or a variable, where it is defined or referred to. */
+/* What is found at a name, of a message, a term, an attribute or a variable, where it is defined or referred to. */
 struct ftl_finding {
     size_t text;              /* the number of the text that has the name, from 0; of ftl_comparison the reference's is
                                  0, and the other text's is 1 */

@@ -1,13 +1,12 @@
 -- The bytes of a line before a place, and sums over them.
-use Rattle.std.proofs.Common.{◌≡◌, ◌<◌, ◌≤◌, ◌+◌, ◌-◌, ◌*◌, ◌^◌, ◌==◌, ◌++◌, [], ℕ, List, length, take, drop, get_or, not}
-use Rattle.std.proofs.Common.{Bool, true, false, cond, arith, refl, sym, ap, ◌∙◌, length-append}
+use Rattle.std.proofs.Common.{◌≡◌, ◌<◌, ◌≤◌, ◌+◌, ◌-◌, ◌*◌, ◌^◌, ◌==◌, ◌++◌, ℕ, List, length, take, drop, get_or}
+use Rattle.std.proofs.Common.{not, Bool, true, false, cond, arith, sym, ap, ◌∙◌, length-append}
 use Rattle.std.specs.Prelude.{slice_range}
 use Rattle.std.specs.List.{sum_by}
 use Rattle.std.proofs.lemmas.List.{drop-drop, drop-take, length-take, length-take-le, take-append-drop, take_all}
 use Rattle.std.proofs.lemmas.List.Sums.{suffix_len-le-length, sum_by-le, sum_by-take-drop, sum_by_more_le}
 use Rattle.fluent_syntax.specs.Lines.{column_at}
-use Rattle.fluent_syntax_c.specs.Columns.{IsOnLine, IsPlaced, characters, column_characters, column_utf16, line_before}
-use Rattle.fluent_syntax_c.specs.Columns.{place_at, utf16_units}
+use Rattle.fluent_syntax_c.specs.Columns.{IsOnLine, IsPlaced, characters, line_before, utf16_units}
 use Rattle.fluent_syntax_c.specs.declared.columns.OnLine.{OnLine}
 use Rattle.fluent_syntax_c.specs.declared.columns.Placed.{Placed}
 
@@ -36,13 +35,6 @@ module _ (t : List ℕ) (place : ℕ) (inside : place ≤ length t) where
       is ∙ ap (λ a. 1 + sum_by f (slice_range t a place)) from
       ∙ ap (λ bytes. 1 + sum_by f bytes) (line_before_is column same)
 
--- the beginning of a text has the first line and the first column
-pub first_place : (t : List ℕ) (first : Placed) → first.byte ≡ 0 → first.place ≡ place_at [] 0 → IsPlaced t first
-first_place t first at is = record {
-  within = omega (arith, at);
-  place_is = is ∙ ap (place_at t) (sym at);
-}
-
 -- a place that is known is on the line that begins where its own does
 pub known_on_line : (t : List ℕ) (last : Placed) (start : ℕ) (known : OnLine) → IsPlaced t last →
     last.byte - (last.place.column - 1) ≡ start → known.byte ≡ last.byte →
@@ -61,20 +53,6 @@ known_on_line t last start known placed from at units chars =
       characters_are =
           chars ∙ ap (λ place. place.column_characters) placed.place_is
           ∙ ap (λ bytes. 1 + sum_by characters bytes) (sym range);
-    }
-
-no_range : (t : List ℕ) (a : ℕ) → slice_range t a a ≡ []
-no_range t a = let none : a - a ≡ 0 = omega arith in ap (λ n. take n (drop a t)) none
-
--- so is the line's start
-pub start_on_line : (t : List ℕ) (start : ℕ) (known : OnLine) → known.byte ≡ start → known.column_utf16 ≡ 1 →
-    known.column_characters ≡ 1 → IsOnLine t start known
-start_on_line t start known at units chars =
-    let none : slice_range t start known.byte ≡ [] = ap (λ b. slice_range t start b) at ∙ no_range t start in
-    record {
-      behind = omega (arith, at);
-      units_are = units ∙ ap (λ bytes. 1 + sum_by utf16_units bytes) (sym none);
-      characters_are = chars ∙ ap (λ bytes. 1 + sum_by characters bytes) (sym none);
     }
 
 -- ---- sums over ranges
@@ -118,8 +96,9 @@ pub counted_fits : (f : ℕ → ℕ) (t s : List ℕ) (start from to i d known f
     given ≡ f (get_or (slice_range s from to) i d) → found + given < 2 ^ 64
 counted_fits f t s start from to i d known found given small short l m inside at before is one =
     let more = sum_by_more_le f (slice_range s from to) i d at in
-    omega
-    (arith, more, range_sum_small f s from to small, range_sum_small f t start from small, before, is, one, short, inside)
+    let behind = range_sum_small f s from to small in
+    let ahead = range_sum_small f t start from small in
+    omega (arith, more, behind, ahead, before, is, one, short, inside)
 
 chosen_small : (goes_on is_long : Bool) → cond goes_on 0 (cond is_long 2 1) ≤ 2
 chosen_small true is_long = omega arith

@@ -51,8 +51,8 @@ compared_rows reference other =
     flat_map (lack_rows Reference reference.text.now) (all_lacks reference other)
     ++ flat_map (lack_rows Other other.text.now) (all_lacks other reference)
 
--- The two texts are UTF-8, and the rows are those of what each of them says of names and the other lacks, by the edition
--- of the number, with the outcome of both.
+-- The two texts are UTF-8, and the rows are those of what each of them says of names and the other lacks, by the
+-- edition of the number, with the outcome of both.
 pub record AreDifferences (number : ℕ) (reference other : List ℕ) (rows : List FtlFinding) (outcome : Outcome)
     : Type 0 where
   pub reference_outline : Outline

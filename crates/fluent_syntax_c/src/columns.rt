@@ -64,8 +64,8 @@ impl<'t> Places<'t> {
         }
     }
 
-    /// The line and the columns of a byte of the text, or of its end. It reads what lies between the last place and this
-    /// one, and where this one lies before it or on another line, what lies before this one on its line, and what
+    /// The line and the columns of a byte of the text, or of its end. It reads what lies between the last place and
+    /// this one, and where this one lies before it or on another line, what lies before this one on its line, and what
     /// `Lines` reads.
     pub(crate) fn place(&mut self, byte: usize) -> Place
         requires { byte ≤ length self.old }

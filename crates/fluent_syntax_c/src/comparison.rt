@@ -39,8 +39,8 @@ impl Side {
         }
     }
 
-    /// What is told of a part that this text has and the other one lacks. A variable may be left out, and the other text
-    /// may refer to more.
+    /// What is told of a part that this text has and the other one lacks. A variable may be left out, and the other
+    /// text may refer to more.
     fn difference(self, part: Part) -> Option<Difference>
         ensures { result ≡ side_difference self part }
     {
@@ -63,10 +63,10 @@ impl Side {
 /// the front of `rows`, and their number to `count`. Both are read by the edition of the number. A row's text is 0 for
 /// the reference and 1 for the other; each part is in the order of the text that has it.
 ///
-/// Returns 0, or 1 where one of the texts has syntax errors. Where it returns 5 there are more than `rows` has room for:
-/// `count` tells how many, and `rows` is as it was. Otherwise `count` is 0 and `rows` as it was: 2 where no edition has
-/// the number, 3 where one of the texts is not UTF-8, 4 where a growth was refused, 6 where placeables and argument lists
-/// of one of them nest more than `nesting` deep.
+/// Returns 0, or 1 where one of the texts has syntax errors. Where it returns 5 there are more than `rows` has room
+/// for: `count` tells how many, and `rows` is as it was. Otherwise `count` is 0 and `rows` as it was: 2 where no edition
+/// has the number, 3 where one of the texts is not UTF-8, 4 where a growth was refused, 6 where placeables and argument
+/// lists of one of them nest more than `nesting` deep.
 #[unsafe(no_mangle)]
 pub extern "C" fn ftl_comparison(
     alloc: Global,

@@ -6,9 +6,10 @@ use Rattle.fluent_syntax_c.proofs.comparison.ftl_comparison.Goals as goal
 
 pub returns-clause-leaves : goal.returns-clause-leaves
 returns-clause-leaves c =
-    leaves_answered (AreDifferences c.args.edition c.args.reference.now c.args.other.now) (λ given. given.0.items) (λ given. given.1)
-    c.edition_differences.result c.args.rows.now c.give.new.out c.give.new.count c.give.result c.edition_differences.ensures.rows
-    c.give.ensures.leaves
+    let given = c.edition_differences in
+    leaves_answered (AreDifferences c.args.edition c.args.reference.now c.args.other.now)
+    (λ rows. rows.0.items) (λ rows. rows.1) given.result c.args.rows.now c.give.new.out c.give.new.count c.give.result
+    given.ensures.rows c.give.ensures.leaves
 
 pub returns-clause-argument : goal.returns-clause-argument
 returns-clause-argument c = told_where (c.give.ensures.refused Argument) c.edition_differences.ensures.argument
@@ -24,5 +25,6 @@ returns-clause-deeper c = λ told. c.edition_differences.ensures.deeper ((c.give
 
 pub returns-clause-shallow : goal.returns-clause-shallow
 returns-clause-shallow c = λ deeper.
-    refused_deeper c.edition_differences.result c.give.result _ c.give.ensures.refused c.edition_differences.ensures.shallow
-    (λ e d. no_edition_deeper _ _ _ _ (c.edition_differences.ensures.argument.0 e) d) (λ e d. c.edition_differences.ensures.tree e) deeper
+    let given = c.edition_differences in
+    refused_deeper given.result c.give.result _ c.give.ensures.refused given.ensures.shallow
+    (λ e d. no_edition_deeper _ _ _ _ (given.ensures.argument.0 e) d) (λ e d. given.ensures.tree e) deeper

@@ -5,9 +5,10 @@ use Rattle.fluent_syntax_c.proofs.findings.ftl_findings.Goals as goal
 
 pub returns-clause-leaves : goal.returns-clause-leaves
 returns-clause-leaves c =
-    leaves_answered (AreFindings c.args.edition c.args.texts.now) (λ given. given.0.items) (λ given. given.1)
-    c.edition_findings.result c.args.rows.now c.give.new.out c.give.new.count c.give.result c.edition_findings.ensures.rows
-    c.give.ensures.leaves
+    let given = c.edition_findings in
+    leaves_answered (AreFindings c.args.edition c.args.texts.now)
+    (λ rows. rows.0.items) (λ rows. rows.1) given.result c.args.rows.now c.give.new.out c.give.new.count c.give.result
+    given.ensures.rows c.give.ensures.leaves
 
 pub returns-clause-argument : goal.returns-clause-argument
 returns-clause-argument c = told_where (c.give.ensures.refused Argument) c.edition_findings.ensures.argument
@@ -23,5 +24,6 @@ returns-clause-deeper c = λ told. c.edition_findings.ensures.deeper ((c.give.en
 
 pub returns-clause-shallow : goal.returns-clause-shallow
 returns-clause-shallow c = λ deeper.
-    refused_deeper c.edition_findings.result c.give.result _ c.give.ensures.refused c.edition_findings.ensures.shallow
-    (λ e d. c.edition_findings.ensures.argument.0 e d.4.0 d.4.1) (λ e d. c.edition_findings.ensures.tree e) deeper
+    let given = c.edition_findings in
+    refused_deeper given.result c.give.result _ c.give.ensures.refused given.ensures.shallow
+    (λ e d. given.ensures.argument.0 e d.4.0 d.4.1) (λ e d. given.ensures.tree e) deeper
