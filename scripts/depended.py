@@ -88,7 +88,7 @@ def cited_by(item):
 def depended(top, crate, below):
     """The texts that the crate's edits depend on, the edits aside. `below` are the crates that it stands on."""
     crates = pathlib.Path(top) / "crates"
-    own = [path for part in ("src", "specs", "proofs") for path in (crates / crate / part).glob("**/*") if path.is_file()]
+    own = [path for it in ("src", "specs", "proofs") for path in (crates / crate / it).glob("**/*") if path.is_file()]
     texts = {str(path.relative_to(top)): path.read_text() for path in own}
     words = {word for text in texts.values() for word in words_of(text)}
     left = {it for text in texts.values() for it in CITED.findall(text)}

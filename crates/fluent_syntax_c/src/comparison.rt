@@ -64,9 +64,9 @@ impl Side {
 /// the reference and 1 for the other; each part is in the order of the text that has it.
 ///
 /// Returns 0, or 1 where one of the texts has syntax errors. Where it returns 5 there are more than `rows` has room
-/// for: `count` tells how many, and `rows` is as it was. Otherwise `count` is 0 and `rows` as it was: 2 where no edition
-/// has the number, 3 where one of the texts is not UTF-8, 4 where a growth was refused, 6 where placeables and argument
-/// lists of one of them nest more than `nesting` deep.
+/// for: `count` tells how many, and `rows` is as it was. Otherwise `count` is 0 and `rows` as it was: 2 where no
+/// edition has the number, 3 where one of the texts is not UTF-8, 4 where a growth was refused, 6 where placeables and
+/// argument lists of one of them nest more than `nesting` deep.
 #[unsafe(no_mangle)]
 pub extern "C" fn ftl_comparison(
     alloc: Global,

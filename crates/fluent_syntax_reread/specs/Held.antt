@@ -61,8 +61,8 @@ HoldsAnswer r =
     (answer : Result (Resource Span) (ParseFault Span)) → AnswersSpans r.edition (bytes_of r) answer → AsParsed r answer
 
 -- Of the old tiles only some in the middle went: in their place are as many as it says that it read. Those behind them
--- were moved as far as what stood at the one place, which stands at the other now. And no tile was read where an old one
--- stood.
+-- were moved as far as what stood at the one place, which stands at the other now. And no tile was read where an old
+-- one stood.
 pub record Rereads (old new : Reread) (to place : ℕ) : Type 0 where
   pub first : ℕ
   pub next : ℕ
