@@ -374,8 +374,10 @@ static void deep_calls(void)
             for (size_t more = 0; more < 3; more++) {
                 size_t times = more < 2 ? fits + more : 20000;
                 size_t len = nested(forms[form].open, forms[form].close, times);
-                uint32_t wants = more == 0 ? FTL_CLEAN : FTL_TOO_DEEP;
                 for (int call = 0; call < FROM_JSON; call++) {
+                    /* the text beside which findings are sought nests one deep */
+                    int is_within = more == 0 && (call < FINDINGS || bounds[i] > 0);
+                    uint32_t wants = is_within ? FTL_CLEAN : FTL_TOO_DEEP;
                     size_t bytes = ROOM / 2 / size_of(call) * size_of(call);
                     uint32_t status =
                         made(call, bounds[i], text_end - len, len, array_end - bytes, bytes / size_of(call), &count);

@@ -20,7 +20,9 @@ pub(crate) fn hold_text<R: Clock + AllocGlobal>(rt: &R, text: &str) -> io::Resul
 pub(crate) fn change_text<R: Clock + AllocGlobal>(rt: &R, text: &str) -> io::Result<Duration> {
     let copy = String::from_str(rt.alloc(), text)?;
     let half = text.len() / 2;
-    let next = text.as_bytes()[half..].iter().position(|byte| *byte == b'=');
+    let next = text.as_bytes()[half..]
+        .iter()
+        .position(|byte| *byte == b'=');
     let place = half.saturating_add(next.unwrap_or(0)).saturating_add(1);
     // Not `duration_of`: what is known of the text that is held doesn't reach a closure.
     let Ok(mut held) = Reread::new(rt.alloc(), copy, Edition::One, NESTING) else {
