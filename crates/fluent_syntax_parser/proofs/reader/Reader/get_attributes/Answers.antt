@@ -7,44 +7,54 @@ use Rattle.fluent_syntax_grammar.specs.Grammar.{within}
 use Rattle.fluent_syntax_grammar.proofs.DeeperEntries.{deeper_attribute, deeper_attributes}
 use Rattle.fluent_syntax_grammar.proofs.Nesting.{functional_within}
 use Rattle.fluent_syntax_parser.specs.Meets.{no_memory, too_deep}
+use Rattle.fluent_syntax_parser.proofs.Made.{on_made}
 use Rattle.fluent_syntax_parser.proofs.Fails.{out_of_memory, shown, too_deep_there}
-use Rattle.fluent_syntax_parser.proofs.source.Source.get_attributes.Goals as goal
+use Rattle.fluent_syntax_parser.proofs.reader.Reader.get_attributes.Goals as goal
 
 pub loop-attribute-preserved : goal.loop-attribute-preserved
-loop-attribute-preserved c =
-    let t = c.args.self.now.bytes.now in
-    let R = within c.args.edition t c.args.nesting in
+loop-attribute-preserved g c =
+    let t = c.args.self.now.source.bytes.now in
+    let R = within c.args.self.now.edition t c.args.nesting in
     let old = c.loop-attribute.invariant in
     let read = c.in-Ok.ensures in
-    record {
+    on_made read.meets (λ a there same. record {
       forward = omega (arith, old.forward, read.within.0);
       within = read.within.1;
       gathered =
-          gathers.one_more (attributes_of c.args.edition t R) (attribute_view (λ s. s)) c.args.ptr _ _ _ _ _
-          c.in_ok-push-in-Ok.ensures.items old.gathered (λ more end h. one_more read.meets h)
-          (λ k from to h. elim h [ ]);
+          gathers.one_made (attributes_of c.args.self.now.edition t R) _ (attribute_view g.M.MakeTexts.made) c.args.ptr
+          _ _ _ _ _ c.in_ok-push-in-Ok.ensures.items old.gathered a same (λ more end h. one_more there h);
       deeper = λ h. old.deeper
-          (deeper_attributes c.args.edition t R (functional_within c.args.edition t c.args.nesting) read.meets h);
-    }
+          (deeper_attributes c.args.self.now.edition t R
+          (functional_within c.args.self.now.edition t c.args.nesting) there h);
+    })
 
 pub returns-in-Err-Refused-clause-meets : goal.returns-in-Err-Refused-clause-meets
-returns-in-Err-Refused-clause-meets c =
-    let t = c.args.self.now.bytes.now in
-    let R = within c.args.edition t c.args.nesting in
+returns-in-Err-Refused-clause-meets g c =
+    let t = c.args.self.now.source.bytes.now in
+    let R = within c.args.self.now.edition t c.args.nesting in
     let found = rw c.in-Err-Refused.field-0-is at c.in-Err-Refused.ensures.meets in
-    gathers.all (attributes_of c.args.edition t R) (attribute_view (λ s. s)) c.args.ptr _ _ _
+    gathers.list_made (attributes_of c.args.self.now.edition t R) _ (attribute_view g.M.MakeTexts.made) c.args.ptr _ _ _
     c.loop-attribute.invariant.gathered (no_more (shown found))
 
 pub returns-in-Err-TooDeep-clause-meets : goal.returns-in-Err-TooDeep-clause-meets
-returns-in-Err-TooDeep-clause-meets c =
-    let t = c.args.self.now.bytes.now in
+returns-in-Err-TooDeep-clause-meets g c =
+    let t = c.args.self.now.source.bytes.now in
     let found = rw c.in-Err-TooDeep.field-0-is at c.in-Err-TooDeep.ensures.meets in
     too_deep (c.loop-attribute.invariant.deeper
-    (deeper_attribute c.args.edition t (within c.args.edition t c.args.nesting) (too_deep_there found)))
+    (deeper_attribute c.args.self.now.edition t (within c.args.self.now.edition t c.args.nesting)
+    (too_deep_there found)))
 
 pub returns-in_err-push-in-Ok-clause-meets : goal.returns-in_err-push-in-Ok-clause-meets
-returns-in_err-push-in-Ok-clause-meets c =
+returns-in_err-push-in-Ok-clause-meets g c =
     rw (out_of_memory c.from_residual.result c.from_residual.ensures.1) no_memory
 
 pub returns-in-Err-Memory-clause-meets : goal.returns-in-Err-Memory-clause-meets
-returns-in-Err-Memory-clause-meets c = no_memory
+returns-in-Err-Memory-clause-meets g c = no_memory
+
+pub loop-attribute-init : goal.loop-attribute-init
+loop-attribute-init g c = record {
+  forward = omega arith;
+  within = c.requires;
+  gathered = rw c.new-attributes.ensures.items (gathers.no_list _ _ _ _);
+  deeper = λ h. h;
+}
