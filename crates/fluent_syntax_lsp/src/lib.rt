@@ -2,15 +2,19 @@
 #![tactic(auto)]
 
 mod breaks;
+mod changes;
 mod diagnostics;
+mod documents;
 mod endings;
 mod fields;
 mod formatting;
 mod frames;
+mod held;
 mod inbox;
 mod limits;
 mod messages;
 mod methods;
+mod offsets;
 mod outbox;
 mod phases;
 mod places;
@@ -20,11 +24,14 @@ mod sessions;
 mod symbols;
 
 pub use diagnostics::{Diagnostic, diagnostics_in};
+pub use documents::Document;
 pub use endings::Ending;
 pub use formatting::formatted;
 pub use frames::{FrameFault, Framing, first_frame};
 pub use limits::{BODY_LIMIT, HEADER_LIMIT, NESTING_LIMIT};
+pub use held::Held;
 pub use methods::Method;
+pub use offsets::byte_of;
 pub use phases::{ErrorCode, Phase};
 pub use places::{Place, Places};
 pub use server::Server;

@@ -87,7 +87,7 @@ impl Places<'_> {
 }
 
 /// Whether a line ends with the byte: an LF, or a CR before anything but an LF.
-fn is_line_end(text: &[u8], at: usize) -> bool
+pub(crate) fn is_line_end(text: &[u8], at: usize) -> bool
     requires { at < length text.now }
     ensures { result ≡ ends_line text.now at }
 {
@@ -100,7 +100,7 @@ fn is_line_end(text: &[u8], at: usize) -> bool
 
 /// How many UTF-16 units begin with a byte of a text: two for a character of four bytes, one for any other, and none
 /// for the bytes that go on with a character.
-fn units(byte: u8) -> usize
+pub(crate) fn units(byte: u8) -> usize
     ensures { result ≡ utf16_units byte }
 {
     match byte {

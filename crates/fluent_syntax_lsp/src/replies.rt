@@ -23,7 +23,7 @@ pub fn capabilities(alloc: Global) -> Result<Value, AllocError> {
     json!(in alloc; {
         "capabilities": {
             "positionEncoding": "utf-16",
-            "textDocumentSync": {"openClose": true, "change": 1, "save": true},
+            "textDocumentSync": {"openClose": true, "change": 2, "save": true},
             "documentSymbolProvider": true,
             "documentFormattingProvider": true,
             "foldingRangeProvider": true

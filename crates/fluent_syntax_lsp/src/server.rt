@@ -1,6 +1,7 @@
 //! The open documents, and the answer to each message.
 
-use crate::diagnostics::diagnostics_in;
+use crate::changes::change_of;
+use crate::documents::Document;
 use crate::endings::Ending;
 use crate::formatting::formatted;
 use crate::messages::{Message, message_of};
@@ -19,8 +20,8 @@ use std::collections::BTreeMap;
 pub struct Server {
     alloc: Global,
     phase: Phase,
-    /// The texts of the open documents, by their names.
-    documents: BTreeMap<String, String>,
+    /// The open documents, by their names.
+    documents: BTreeMap<String, Document>,
 }
 
 impl Server {
@@ -94,8 +95,7 @@ impl Server {
 
     /// The open document that the message names.
     fn text_of(&self, message: &Value) -> Option<&str> {
-        let text = self.documents.get(uri_of(message)?)?;
-        Some(text.as_str())
+        Some(self.documents.get(uri_of(message)?)?.text())
     }
 
     fn symbols(&self, message: &Value) -> Result<Option<Value>, AllocError> {
@@ -139,10 +139,8 @@ impl Server {
             return Ok(None);
         };
         match method {
-            Some(Method::DidOpen) => self.set(uri, opened_text(message)),
-            Some(Method::DidChange) if self.documents.contains_key(uri) => {
-                self.set(uri, changed_text(message))
-            }
+            Some(Method::DidOpen) => self.open(uri, opened_text(message)),
+            Some(Method::DidChange) => self.change(uri, changes_in(message)),
             Some(Method::DidSave) => self.publish(uri),
             Some(Method::DidClose) => self.close(uri),
             _ => {
@@ -152,23 +150,44 @@ impl Server {
         }
     }
 
-    /// Sets the text of a document, and tells of its diagnostics.
-    fn set(&mut self, uri: &str, text: Option<&str>) -> Result<Option<Value>, AllocError> {
+    /// Opens a document, and tells of its diagnostics.
+    fn open(&mut self, uri: &str, text: Option<&str>) -> Result<Option<Value>, AllocError> {
         let Some(text) = text else {
             return Ok(None);
         };
         let name = String::from_str(self.alloc, uri)?;
-        let text = String::from_str(self.alloc, text)?;
-        drop(self.documents.insert(name, text)?);
+        let document = Document::new(self.alloc, text)?;
+        drop(self.documents.insert(name, document)?);
+        self.publish(uri)
+    }
+
+    /// Makes the changes of an open document, in order, and tells of its diagnostics. Nothing is changed where one of
+    /// them is none.
+    fn change(
+        &mut self,
+        uri: &str,
+        changes: Option<&Vec<Value>>,
+    ) -> Result<Option<Value>, AllocError> {
+        let (Some(changes), Some(document)) = (changes, self.documents.get_mut(uri)) else {
+            return Ok(None);
+        };
+        if changes.iter().any(|value| change_of(value).is_none()) {
+            return Ok(None);
+        }
+        for value in changes {
+            if let Some(change) = change_of(value) {
+                change.apply(self.alloc, document)?;
+            }
+        }
         self.publish(uri)
     }
 
     /// The diagnostics of a document; None where it is not open.
     fn publish(&self, uri: &str) -> Result<Option<Value>, AllocError> {
-        let Some(text) = self.documents.get(uri) else {
+        let Some(document) = self.documents.get(uri) else {
             return Ok(None);
         };
-        let found = diagnostics_in(self.alloc, text.as_str())?;
+        let found = document.diagnostics(self.alloc)?;
         Ok(Some(diagnostics_notification(self.alloc, uri, &found)?))
     }
 
@@ -198,10 +217,9 @@ fn opened_text(message: &Value) -> Option<&str> {
         .and_then(Value::as_str)
 }
 
-/// The whole text that the last change of a document sets.
-fn changed_text(message: &Value) -> Option<&str> {
-    let changes = message
+/// The changes that a message tells of.
+fn changes_in(message: &Value) -> Option<&Vec<Value>> {
+    message
         .pointer("/params/contentChanges")
-        .and_then(Value::as_array)?;
-    changes.last()?.get("text").and_then(Value::as_str)
+        .and_then(Value::as_array)
 }
