@@ -6,6 +6,7 @@ use serde_json::Value;
 use std::alloc::{AllocError, Global};
 
 /// A change: another text, or another stretch between two places.
+#[derive(Clone, Copy, Drop)]
 pub enum Change<'m> {
     Whole(&'m str),
     Between {
@@ -19,7 +20,7 @@ pub enum Change<'m> {
 pub fn change_of(value: &Value) -> Option<Change<'_>> {
     let text = value.get("text").and_then(Value::as_str)?;
     match value.get("range") {
-        None => Some(Change::Whole(text)),
+        None | Some(Value::Null) => Some(Change::Whole(text)),
         Some(range) => Some(Change::Between {
             start: place_of(range.get("start")?)?,
             end: place_of(range.get("end")?)?,

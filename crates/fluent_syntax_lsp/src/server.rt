@@ -171,13 +171,15 @@ impl Server {
         let (Some(changes), Some(document)) = (changes, self.documents.get_mut(uri)) else {
             return Ok(None);
         };
-        if changes.iter().any(|value| change_of(value).is_none()) {
-            return Ok(None);
-        }
+        let mut made = Vec::new(self.alloc);
         for value in changes {
-            if let Some(change) = change_of(value) {
-                change.apply(self.alloc, document)?;
-            }
+            let Some(change) = change_of(value) else {
+                return Ok(None);
+            };
+            made.push(change)?;
+        }
+        for change in &made {
+            change.apply(self.alloc, document)?;
         }
         self.publish(uri)
     }

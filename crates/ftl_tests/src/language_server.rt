@@ -558,7 +558,7 @@ const EXIT: &str = "{\"jsonrpc\":\"2.0\",\"method\":\"exit\"}";
 const INITIALIZED: &str =
     "{\"id\":1,\"jsonrpc\":\"2.0\",\"result\":{\"capabilities\":{\"documentFormattingProvider\":true,\
     \"documentSymbolProvider\":true,\"foldingRangeProvider\":true,\"positionEncoding\":\"utf-16\",\
-    \"textDocumentSync\":{\"change\":1,\"openClose\":true,\"save\":true}},\"serverInfo\":{\"name\":\"ftl\"}}}";
+    \"textDocumentSync\":{\"change\":2,\"openClose\":true,\"save\":true}},\"serverInfo\":{\"name\":\"ftl\"}}}";
 
 const STOPPED: &str = "{\"id\":1,\"jsonrpc\":\"2.0\",\"result\":null}";
 
