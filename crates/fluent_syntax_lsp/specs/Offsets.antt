@@ -1,5 +1,5 @@
 -- The byte of a place.
-use Rattle.std.specs.Prelude.{◌≡◌, ℕ, ◌+◌, ◌<◌, ◌≤◌, ◌==◌, ◌||◌, ◌⊎◌, Bool, true, List, length, nat_le, slice_index}
+use Rattle.std.specs.Prelude.{◌≡◌, ℕ, ◌+◌, ◌<◌, ◌≤◌, ◌==◌, ◌&&◌, ◌||◌, ◌⊎◌, Bool, true, List, length, nat_le, slice_index}
 use Rattle.std.specs.Str.{IsCharBoundary}
 use Rattle.fluent_syntax_grammar.specs.Bytes.{cr, lf}
 use Rattle.fluent_syntax_lsp.specs.Places.{character_at, line_at, utf16_units}
@@ -14,7 +14,11 @@ is_break b = (b == lf) || (b == cr)
 abbrev pub stops_at : (byte character column : ℕ) → Bool
 stops_at byte character column = is_break byte || nat_le (column + 1) (character + utf16_units byte)
 
--- The byte stands in the place's line, not behind the column; and the text ends there, or the column is reached.
+-- whether the place is reached before the byte, which has the place `here`
+abbrev pub is_reached : (byte : ℕ) (here place : Place) → Bool
+is_reached byte here place = (here.line == place.line) && stops_at byte here.character place.character
+
+-- The byte stands in the place's line, not behind the column; and the text ends there, or the place is reached.
 pub record IsInLine (t : List ℕ) (place : Place) (byte : ℕ) : Type 0 where
   pub line : line_at t byte ≡ place.line
   pub column : character_at t byte ≤ place.character

@@ -1,8 +1,8 @@
 //! The byte of a place that the protocol names.
 ghost use Rattle.std.specs.Prelude.{◌≡◌, ◌-◌, ◌^◌, ◌<◌};
-ghost use Rattle.fluent_syntax_lsp.specs.Offsets.{is_break, IsByteOf, stops_at};
+ghost use Rattle.fluent_syntax_lsp.specs.Offsets.{is_break, is_reached, IsByteOf, stops_at};
 
-use crate::places::{Place, is_line_end, units};
+use crate::places::{Place, START, place_behind, units};
 
 /// Whether a line's text ends before the byte: an LF or a CR.
 fn is_break(byte: u8) -> bool
@@ -20,24 +20,26 @@ fn stops_at(byte: u8, character: usize, column: usize) -> bool
     is_break(byte) || character + units(byte) > column
 }
 
+/// Whether the place is reached before the byte, which has the place `here`.
+fn is_reached(byte: u8, here: Place, place: Place) -> bool
+    requires { here.character < 2 ^ 64 - 2 }
+    ensures { result ≡ is_reached byte here place }
+{
+    here.line == place.line && stops_at(byte, here.character, place.character)
+}
+
 /// The byte of a place of the text. Where the line has fewer UTF-16 units, the line's end, and where the text has fewer
 /// lines, the text's end. Within a character that has two units, the character's first byte.
 pub fn byte_of(text: &str, place: Place) -> usize
     ensures { IsByteOf text.now place result }
 {
     let bytes = text.as_bytes();
-    let mut line = 0;
-    let mut character = 0;
+    let mut here = START;
     for at in 0..bytes.len() {
-        if line == place.line && stops_at(bytes[at], character, place.character) {
+        if is_reached(bytes[at], here, place) {
             return at;
         }
-        if is_line_end(bytes, at) {
-            line += 1;
-            character = 0;
-        } else {
-            character += units(bytes[at]);
-        }
+        here = place_behind(bytes, at, here);
     }
     bytes.len()
 }
