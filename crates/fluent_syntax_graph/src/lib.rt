@@ -9,11 +9,10 @@ pub use parting::components;
 #[cfg(test)]
 mod tests {
     use super::components;
-    use std::alloc::AllocError;
-    use std::io::HostRuntime;
+    use std::test::Fail;
 
     #[test]
-    fn circle_and_chain(rt: HostRuntime) -> Result<(), AllocError> {
+    fn circle_and_chain(rt: HostRuntime) -> Result<(), Fail> {
         let alloc = rt.alloc();
         // 0 -> 1 -> 2 -> 0, 2 -> 3 -> 4, 5 -> 5
         let mut graph = Vec::new(alloc);
@@ -24,11 +23,11 @@ mod tests {
         graph.push(vec![in alloc]?)?;
         graph.push(vec![in alloc; 5]?)?;
         let numbers = components(alloc, &graph)?;
-        assert_eq!(numbers[0], numbers[1]);
-        assert_eq!(numbers[0], numbers[2]);
-        assert_ne!(numbers[0], numbers[3]);
-        assert_ne!(numbers[3], numbers[4]);
-        assert_ne!(numbers[4], numbers[5]);
+        assert_eq!(rt; numbers[0], numbers[1]);
+        assert_eq!(rt; numbers[0], numbers[2]);
+        assert_ne!(rt; numbers[0], numbers[3]);
+        assert_ne!(rt; numbers[3], numbers[4]);
+        assert_ne!(rt; numbers[4], numbers[5]);
         Ok(())
     }
 }
