@@ -1,3 +1,5 @@
 pub mod Entering
 pub mod Lists
+pub mod Looking
 pub mod Reaching
+pub mod Same

@@ -96,3 +96,11 @@ abbrev pub number_of : State → ℕ
 number_of state.New = 0
 number_of (state.Open place) = 0
 number_of (state.Done component) = component
+
+-- no segment starts behind the place
+abbrev pub IsBehind : (starts : List ℕ) → (place : ℕ) → Type 0
+IsBehind starts place = (k : ℕ) → k < length starts → at starts k ≤ place
+
+-- an edge from the place, whichever it is, to this target is not to come
+abbrev pub IsSeen : Search → (place t : ℕ) → Type 0
+IsSeen s place t = (k : ℕ) → Looked s.states.items s.starts.items [] place k t

@@ -1,9 +1,9 @@
 //! A search through a graph that goes along one path of segments.
 ghost use Rattle.std.specs.Prelude.{◌≡◌, ◌<◌, ◌≤◌, ◌+◌, ◌-◌, ℕ, IfOk, OnOk, false, length, map, slice_set, MatchOption};
 ghost use Rattle.std.specs.Prelude.{get_or, Option, Some, None, vec_len, take};
-ghost use Rattle.fluent_syntax_graph.specs.Graph.{IsGraph, SameComponents, targets_of};
+ghost use Rattle.fluent_syntax_graph.specs.Graph.{IsGraph, Leads, targets_of};
 ghost use Rattle.fluent_syntax_graph.specs.Search.{IsSound, Fresh, NoneNewer, State_of, news, last_of, at, pending_at};
-ghost use Rattle.fluent_syntax_graph.specs.Search.{IsLastPending, number_of};
+ghost use Rattle.fluent_syntax_graph.specs.Search.{IsBehind, IsLastPending, IsSeen, number_of};
 
 use std::alloc::{AllocError, Global};
 
@@ -166,15 +166,39 @@ impl Search {
         let targets = &graph[node];
         for next in pending.next..targets.len() {
             let target = targets[next];
-            match self.states[target] {
-                State::New => return Some(target),
-                State::Open { place } => self.merge(place),
-                State::Done { .. } => {}
+            if let State::New = self.states[target] {
+                return Some(target);
             }
-            self.pending[last].next = next + 1;
+            self.see(graph, pending.place, target);
+            self.pending[last] = Pending {
+                place: pending.place,
+                next: next + 1,
+            };
         }
         self.pending.pop();
         None
+    }
+
+    /// Looks at an edge from the node at the place to one that is not new.
+    fn see(&mut self, graph: &[Vec<usize>], from: usize, target: usize)
+        requires sound { IsSound (targets_of graph.now) self.old }
+        requires from { from < length self.old.stack.items }
+        requires before { IsBehind self.old.starts.items from }
+        requires leads { Leads (targets_of graph.now) (at self.old.stack.items from) target }
+        requires target { target < length graph.now }
+        requires known { State_of self.old.states.items target ≡ State.New → ⊥ }
+        ensures sound { IsSound (targets_of graph.now) self.new }
+        ensures before { IsBehind self.new.starts.items from }
+        ensures seen { IsSeen self.new from target }
+        ensures states { self.new.states ≡ self.old.states }
+        ensures stack { self.new.stack ≡ self.old.stack }
+        ensures pending { self.new.pending ≡ self.old.pending }
+    {
+        match self.states[target] {
+            State::Open { place } => self.merge(place),
+            State::Done { .. } => {}
+            State::New => {}
+        }
     }
 
     /// Makes one segment of all from that of the place on.
