@@ -1,5 +1,6 @@
 pub mod Entering
 pub mod Lists
 pub mod Looking
+pub mod Places
 pub mod Reaching
 pub mod Same

@@ -1,7 +1,7 @@
 //! A search through a graph that goes along one path of segments.
 ghost use Rattle.std.specs.Prelude.{◌≡◌, ◌<◌, ◌≤◌, ◌+◌, ◌-◌, ℕ, IfOk, OnOk, false, length, map, slice_set, MatchOption};
 ghost use Rattle.std.specs.Prelude.{get_or, Option, Some, None, vec_len, take};
-ghost use Rattle.fluent_syntax_graph.specs.Graph.{IsGraph, Leads, targets_of};
+ghost use Rattle.fluent_syntax_graph.specs.Graph.{IsGraph, Leads, edges, targets_of};
 ghost use Rattle.fluent_syntax_graph.specs.Search.{IsSound, Fresh, NoneNewer, State_of, news, last_of, at, pending_at};
 ghost use Rattle.fluent_syntax_graph.specs.Search.{IsBehind, IsLastPending, IsSeen, number_of};
 
@@ -163,7 +163,7 @@ impl Search {
     {
         let last = self.pending.len() - 1;
         let node = self.stack[pending.place];
-        let targets = &graph[node];
+        let targets = edges_of(graph, node);
         for next in pending.next..targets.len() {
             let target = targets[next];
             if let State::New = self.states[target] {
@@ -253,6 +253,14 @@ impl Search {
             .map(|state| number_of(*state))
             .collect(alloc)
     }
+}
+
+/// The nodes that the edges of the node lead to.
+fn edges_of(graph: &[Vec<usize>], node: usize) -> &[usize]
+    requires { node < length graph.now }
+    ensures { result.now ≡ edges (targets_of graph.now) node }
+{
+    &graph[node]
 }
 
 fn number_of(state: State) -> usize
