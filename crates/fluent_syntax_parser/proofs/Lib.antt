@@ -23,6 +23,7 @@ pub mod Layouts
 pub mod LineEndings
 pub mod LineEnds
 pub mod Made
+pub mod MadeEntries
 pub mod Names
 pub mod NextStarts
 pub mod PartsOfEntries
@@ -43,7 +44,6 @@ pub mod ShortPatterns
 pub mod ShortPieces
 pub mod ShortReferences
 pub mod ShortStands
-pub mod ShortTrees
 pub mod ShortWhole
 pub mod Spelled
 pub mod Stars

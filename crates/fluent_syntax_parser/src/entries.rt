@@ -1,5 +1,5 @@
 //! Entries one by one.
-ghost use Rattle.std.specs.Prelude.{◌≡◌, ◌-◌, ◌<◌, ◌≤◌, [], ℕ, length, IfErr, IfNone, IfOk, IfSome, IsSomeAnd};
+ghost use Rattle.std.specs.Prelude.{◌≡◌, ◌-◌, ◌^◌, ◌<◌, ◌≤◌, [], ℕ, length, IfErr, IfNone, IfOk, IfSome, IsSomeAnd};
 ghost use Rattle.std.specs.Prelude.{None, Ok, OnErr};
 ghost use Rattle.fluent_syntax_grammar.specs.Nesting.{TextDeeper};
 ghost use Rattle.fluent_syntax_grammar.specs.Places.{BlankBlock};
@@ -9,8 +9,10 @@ ghost use Rattle.fluent_syntax_parser.specs.ShortGrammar.{NextStart, ShortMessag
 ghost use Rattle.fluent_syntax_parser.specs.ShortMessages.{short_message};
 
 use crate::options::{Halt, Options};
+use crate::reader::Reader;
 use crate::short::ShortPart;
 use crate::source::Source;
+use crate::texts::AsSpans;
 use fluent_syntax_tree::ast::Entry;
 use fluent_syntax_tree::errors::ParserError;
 use fluent_syntax_tree::spans::Span;
@@ -23,6 +25,7 @@ pub struct Entries<'s> {
     options: Options,
     ptr: usize,
     ghost within: { ptr ≤ length source.bytes.now },
+    ghost small: { length source.bytes.now < 2 ^ 63 },
 }
 
 impl<'s> Entries<'s> {
@@ -66,7 +69,18 @@ impl<'s> Entries<'s> {
             let at = TileIn options.comments options.edition t in
             IfOk result (ComesTo (TextDeeper options.edition t at options.nesting) self.old.ptr self.new.ptr) }
     {
-        match self.source.next_entry(alloc, self.options, self.ptr)? {
+        let Options {
+            edition,
+            comments,
+            nesting,
+        } = self.options;
+        let reader = Reader {
+            source: self.source,
+            alloc,
+            edition,
+            texts: &AsSpans,
+        };
+        match reader.next_entry(comments, nesting, self.ptr)? {
             Some((entry, error, end)) => {
                 self.ptr = end;
                 Ok(Some((entry, error)))
