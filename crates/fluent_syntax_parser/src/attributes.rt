@@ -1,9 +1,13 @@
 //! Attributes.
-ghost use Rattle.std.specs.Prelude.{◌<◌, ◌≤◌, length, map, IfOk};
+ghost use Rattle.std.specs.Prelude.{◌<◌, ◌≤◌, ℕ, length, map, IfOk};
 ghost use Rattle.fluent_syntax_tree.specs.Entry.{attribute_map};
 ghost use Rattle.fluent_syntax_tree.specs.View.{attribute_view};
 ghost use Rattle.fluent_syntax_grammar.specs.Entries.{attribute_of, attributes_of};
+ghost use Rattle.fluent_syntax_grammar.specs.Bytes.{full_stop};
+ghost use Rattle.fluent_syntax_grammar.specs.Construct.{Read};
 ghost use Rattle.fluent_syntax_grammar.specs.Grammar.{within};
+ghost use Rattle.fluent_syntax_grammar.specs.Places.{InlineBlank};
+ghost use Rattle.fluent_syntax_grammar.specs.Words.{token};
 ghost use Rattle.fluent_syntax_parser.specs.Made.{Makes};
 
 use crate::fault::{Fault, ReadFault, Refusal};
@@ -26,6 +30,25 @@ impl<'s, 't, M: MakeTexts> Reader<'s, 't, M> {
     {
         let dot = self.source.skip_blank_inline(ptr);
         let start = self.source.expect_byte(b'.', dot)?;
+        self.get_attribute_behind(nesting, ptr, start)
+    }
+
+    /// Reads an attribute that begins with an inline blank and `.`, behind these.
+    #[inline(never)]
+    fn get_attribute_behind(
+        &self,
+        nesting: usize,
+        ptr: usize,
+        start: usize,
+    ) -> Result<(Attribute<M::Text>, usize), ReadFault>
+        requires within { start ≤ length self.now.source.bytes.now }
+        requires opens { let t = self.now.source.bytes.now in
+            (dot : ℕ) × InlineBlank t ptr dot × token t full_stop dot (Read tt start) }
+        ensures meets { let t = self.now.source.bytes.now in
+            Makes t (attribute_map (M.source self.now.texts.now))
+            (attribute_of self.now.edition t (within self.now.edition t nesting)) (attribute_view M.made) ptr result }
+        ensures within { IfOk result (λ read. (start < read.1) × (read.1 ≤ length self.now.source.bytes.now)) }
+    {
         let end = self.source.identifier_end(start)?;
         let equals = self.source.skip_blank_inline(end);
         let behind = self.source.expect_byte(b'=', equals)?;

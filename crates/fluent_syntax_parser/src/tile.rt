@@ -1,19 +1,23 @@
 //! Entries and junk, each with the comment that hangs on it.
 ghost use Rattle.std.specs.Prelude.{◌≡◌, ◌-◌, ◌<◌, ◌≤◌, length, IfErr, IfOk, None, Some, false};
+ghost use Rattle.fluent_syntax_tree.specs.Entry.{junk};
+ghost use Rattle.fluent_syntax_tree.specs.View.{entry_view};
 ghost use Rattle.fluent_syntax_tree.specs.declared.ast.Entry.TheVariants as entries;
 ghost use Rattle.fluent_syntax_grammar.specs.Grammar.{within};
 ghost use Rattle.fluent_syntax_grammar.specs.Nesting.{TextDeeper, TooDeep};
-ghost use Rattle.fluent_syntax_grammar.specs.Tiling.{TileIn, entry_in};
+ghost use Rattle.fluent_syntax_grammar.specs.Tiling.{JunkEnd, TileIn, entry_in};
+ghost use Rattle.fluent_syntax_parser.specs.Faults.{fault_of, refused_as};
 ghost use Rattle.fluent_syntax_parser.specs.Halts.{HaltsWithin, OnHalt};
 ghost use Rattle.fluent_syntax_parser.specs.MadeEntries.{HangsMade, MadeTile, commented, is_comment};
 
-use crate::fault::ReadFault;
+use crate::fault::{ReadFault, Refusal};
 use crate::options::Halt;
 use crate::reader::Reader;
 use crate::texts::MakeTexts;
 use fluent_syntax_tree::ast::{Comment, Entry, Message, Term};
 use fluent_syntax_tree::errors::ParserError;
 use fluent_syntax_tree::spans::Span;
+use std::alloc::AllocError;
 
 /// The comment of level 1 that an entry is, or the entry, if it is none.
 pub(crate) fn as_comment<S>(entry: Entry<S>) -> Result<Comment<S>, Entry<S>>
@@ -45,6 +49,27 @@ fn with_comment<S: Drop>(comment: Comment<S>, entry: Entry<S>) -> Result<Entry<S
 }
 
 impl<'s, 't, M: MakeTexts> Reader<'s, 't, M> {
+    /// Reads junk up to the next place where an entry may start, with its error; and where it ends.
+    #[inline(never)]
+    fn get_junk(
+        &self,
+        refusal: Refusal,
+        start: usize,
+    ) -> Result<(Entry<M::Text>, ParserError, usize), AllocError>
+        requires { refusal.place ≤ length self.now.source.bytes.now }
+        ensures entry { IfOk result (λ read. entry_view M.made read.0
+            ≡ junk (M.source self.now.texts.now (record { start = start; end = read.2 }))) }
+        ensures error { let t = self.now.source.bytes.now in IfOk result (λ read.
+            fault_of read.1 ≡ Some (refused_as t refusal (record { start = start; end = read.2 }))) }
+        ensures ends { IfOk result (λ read. JunkEnd self.now.source.bytes.now refusal.place read.2) }
+    {
+        let end = self.source.next_entry_start(refusal.place);
+        let stretch = Span { start, end };
+        let error = self.source.error_of(self.alloc, refusal, stretch)?;
+        let content = self.text(stretch)?;
+        Ok((Entry::Junk { content }, error, end))
+    }
+
     /// Reads an entry, or junk up to the next place where one may start, with its error; and where it ends.
     pub(crate) fn get_tile(
         &self,
@@ -63,11 +88,8 @@ impl<'s, 't, M: MakeTexts> Reader<'s, 't, M> {
         match self.get_entry(nesting, start) {
             Ok((entry, end)) => Ok((entry, None, end)),
             Err(ReadFault::Refused(refusal)) => {
-                let end = self.source.next_entry_start(refusal.place);
-                let junk = Span { start, end };
-                let error = self.source.error_of(self.alloc, refusal, junk)?;
-                let content = self.text(junk)?;
-                Ok((Entry::Junk { content }, Some(error), end))
+                let (entry, error, end) = self.get_junk(refusal, start)?;
+                Ok((entry, Some(error), end))
             }
             Err(ReadFault::TooDeep) => Err(Halt::TooDeep),
             Err(ReadFault::Memory) => Err(Halt::Memory),
@@ -76,6 +98,7 @@ impl<'s, 't, M: MakeTexts> Reader<'s, 't, M> {
 
     /// The entry on which a comment hangs that ends at a place, with it, and where that entry ends. The comment itself,
     /// if it hangs on none.
+    #[inline(never)]
     pub(crate) fn hang(
         &self,
         nesting: usize,
