@@ -17,37 +17,22 @@ use fluent_syntax_tree::ast::Attribute;
 use fluent_syntax_tree::spans::Span;
 
 impl<'s, 't, M: MakeTexts> Reader<'s, 't, M> {
-    pub(crate) fn get_attribute(
+    /// Reads an attribute that begins with an inline blank and `.`, behind these, and adds it.
+    fn add_attribute(
         &self,
-        nesting: usize,
-        ptr: usize,
-    ) -> Result<(Attribute<M::Text>, usize), ReadFault>
-        requires { ptr ≤ length self.now.source.bytes.now }
-        ensures meets { let t = self.now.source.bytes.now in
-            Makes t (attribute_map (M.source self.now.texts.now))
-            (attribute_of self.now.edition t (within self.now.edition t nesting)) (attribute_view M.made) ptr result }
-        ensures within { IfOk result (λ read. (ptr < read.1) × (read.1 ≤ length self.now.source.bytes.now)) }
-    {
-        let dot = self.source.skip_blank_inline(ptr);
-        let start = self.source.expect_byte(b'.', dot)?;
-        self.get_attribute_behind(nesting, ptr, start)
-    }
-
-    /// Reads an attribute that begins with an inline blank and `.`, behind these.
-    #[inline(never)]
-    fn get_attribute_behind(
-        &self,
+        attributes: &mut Vec<Attribute<M::Text>>,
         nesting: usize,
         ptr: usize,
         start: usize,
-    ) -> Result<(Attribute<M::Text>, usize), ReadFault>
+    ) -> Result<usize, ReadFault>
         requires within { start ≤ length self.now.source.bytes.now }
         requires opens { let t = self.now.source.bytes.now in
             (dot : ℕ) × InlineBlank t ptr dot × token t full_stop dot (Read tt start) }
-        ensures meets { let t = self.now.source.bytes.now in
-            Makes t (attribute_map (M.source self.now.texts.now))
-            (attribute_of self.now.edition t (within self.now.edition t nesting)) (attribute_view M.made) ptr result }
-        ensures within { IfOk result (λ read. (start < read.1) × (read.1 ≤ length self.now.source.bytes.now)) }
+        ensures adds { let t = self.now.source.bytes.now in
+            Adds t (attribute_map (M.source self.now.texts.now))
+            (attribute_of self.now.edition t (within self.now.edition t nesting)) (attribute_view M.made)
+            attributes.old.items attributes.new.items ptr result }
+        ensures within { IfOk result (λ end. (start < end) × (end ≤ length self.now.source.bytes.now)) }
     {
         let end = self.source.identifier_end(start)?;
         let equals = self.source.skip_blank_inline(end);
@@ -56,7 +41,8 @@ impl<'s, 't, M: MakeTexts> Reader<'s, 't, M> {
         match value {
             Some(value) => {
                 let id = self.identifier(Span { start, end })?;
-                Ok((Attribute { id, value }, place))
+                attributes.push(Attribute { id, value })?;
+                Ok(place)
             }
             None => Err(ReadFault::Refused(Refusal {
                 fault: Fault::Value,
@@ -65,7 +51,32 @@ impl<'s, 't, M: MakeTexts> Reader<'s, 't, M> {
         }
     }
 
-    /// Reads the longest list of attributes. One that is refused ends it, where it would begin.
+    /// Reads the longest list of attributes, and adds them. One that is refused ends it, where it would begin.
+    #[inline(never)]
+    fn add_attributes(
+        &self,
+        attributes: &mut Vec<Attribute<M::Text>>,
+        nesting: usize,
+        ptr: usize,
+    ) -> Result<usize, ReadFault>
+    {
+        let mut place = ptr;
+        loop {
+            let dot = self.source.skip_blank_inline(place);
+            if !self.source.is_byte_at(b'.', dot) {
+                return Ok(place);
+            }
+            match self.add_attribute(attributes, nesting, place, dot + 1) {
+                Ok(next) => place = next,
+                Err(ReadFault::Refused(_)) => return Ok(place),
+                Err(ReadFault::TooDeep) => return Err(ReadFault::TooDeep),
+                Err(ReadFault::Memory) => return Err(ReadFault::Memory),
+            }
+        }
+    }
+
+    /// Reads the longest list of attributes.
+    #[inline(always)]
     pub(crate) fn get_attributes(
         &self,
         nesting: usize,
@@ -80,16 +91,9 @@ impl<'s, 't, M: MakeTexts> Reader<'s, 't, M> {
     {
         let mut attributes = Vec::new(self.alloc);
         let mut place = ptr;
-        loop {
-            match self.get_attribute(nesting, place) {
-                Ok((attribute, next)) => {
-                    attributes.push(attribute)?;
-                    place = next;
-                }
-                Err(ReadFault::Refused(_)) => return Ok((attributes, place)),
-                Err(ReadFault::TooDeep) => return Err(ReadFault::TooDeep),
-                Err(ReadFault::Memory) => return Err(ReadFault::Memory),
-            }
+        if self.source.is_byte_at(b'.', self.source.skip_blank_inline(ptr)) {
+            place = self.add_attributes(&mut attributes, nesting, ptr)?;
         }
+        Ok((attributes, place))
     }
 }

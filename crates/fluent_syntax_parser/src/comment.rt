@@ -58,24 +58,24 @@ impl<'s> Source<'s> {
 }
 
 impl<'s, 't, M: MakeTexts> Reader<'s, 't, M> {
-    /// Reads a comment: the longest run of comment lines of one level, which is the number of their leading `#`.
+    /// Reads a comment, and adds it: the longest run of comment lines of one level, which is the number of their
+    /// leading `#`.
     #[inline(never)]
-    pub(crate) fn get_comment(&self, ptr: usize) -> Result<(Entry<M::Text>, usize), ReadFault>
-        requires within { ptr ≤ length self.now.source.bytes.now }
-        requires hash { 0 < hashes self.now.source.bytes.now ptr }
-        ensures meets { let t = self.now.source.bytes.now in
-            Makes t (entry_map (M.source self.now.texts.now)) (comment_entry t) (entry_view M.made) ptr result }
-        ensures within { IfOk result (λ read. (ptr < read.1) × (read.1 ≤ length self.now.source.bytes.now)) }
+    pub(crate) fn add_comment(
+        &self,
+        body: &mut Vec<Entry<M::Text>>,
+        ptr: usize,
+    ) -> Result<usize, ReadFault>
     {
         let level = self.source.comment_level(ptr);
         let (content, end) = self.get_comment_content(level, ptr)?;
         let comment = Comment { content };
-        let entry = match level {
+        body.push(match level {
             1 => Entry::Comment(comment),
             2 => Entry::GroupComment(comment),
             _ => Entry::ResourceComment(comment),
-        };
-        Ok((entry, end))
+        })?;
+        Ok(end)
     }
 
     /// Adds the text of a line, if there is one.

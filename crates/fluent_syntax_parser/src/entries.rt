@@ -80,11 +80,14 @@ impl<'s> Entries<'s> {
             edition,
             texts: &AsSpans,
         };
-        match reader.next_entry(comments, nesting, self.ptr)? {
-            Some((entry, error, end)) => {
-                self.ptr = end;
-                Ok(Some((entry, error)))
-            }
+        let mut body = Vec::with_capacity(alloc, 1)?;
+        let mut errors = Vec::new(alloc);
+        let Some(end) = reader.add_next(&mut body, &mut errors, comments, nesting, self.ptr)? else {
+            return Ok(None);
+        };
+        self.ptr = end;
+        match body.pop() {
+            Some(entry) => Ok(Some((entry, errors.pop()))),
             None => Ok(None),
         }
     }

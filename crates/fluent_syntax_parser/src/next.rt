@@ -18,7 +18,7 @@ use crate::reader::Reader;
 use crate::short::ShortPart;
 use crate::source::Source;
 use crate::texts::MakeTexts;
-use crate::tile::as_comment;
+use crate::tile::ends_with_comment;
 use fluent_syntax_tree::ast::Entry;
 use fluent_syntax_tree::errors::ParserError;
 use fluent_syntax_tree::spans::Span;
@@ -104,39 +104,26 @@ impl<'s> Source<'s> {
 }
 
 impl<'s, 't, M: MakeTexts> Reader<'s, 't, M> {
-    /// Reads the next entry from a place on, with its error where it is junk; and where it ends.
-    pub(crate) fn next_entry(
+    /// Reads the next entry from a place on and adds it, with its error where it is junk; says where it ends. `None`
+    /// where none is left.
+    pub(crate) fn add_next(
         &self,
+        body: &mut Vec<Entry<M::Text>>,
+        errors: &mut Vec<ParserError>,
         comments: Comments,
         nesting: usize,
         ptr: usize,
-    ) -> Result<Option<(Entry<M::Text>, Option<ParserError>, usize)>, Halt>
-        requires { ptr ≤ length self.now.source.bytes.now }
-        ensures next { let t = self.now.source.bytes.now in IfOk result
-            (NextMade (M.source self.now.texts.now) M.made comments self.now.edition t ptr) }
-        ensures blank { let t = self.now.source.bytes.now in BlankBlock t ptr (length t) → result ≡ Ok None }
-        ensures within { let t = self.now.source.bytes.now in
-            IfOk result (λ found. IfSome found (λ read. (ptr < read.2) × (read.2 ≤ length t))) }
-        ensures nests { IfErr result (HaltsWithin nesting (length self.now.source.bytes.now - ptr)) }
-        ensures deeper { let t = self.now.source.bytes.now in let at = TileIn comments self.now.edition t in
-            IfErr result (OnHalt (TextDeeper self.now.edition t at nesting ptr)) }
-        ensures behind { let t = self.now.source.bytes.now in let at = TileIn comments self.now.edition t in
-            let deeper = TextDeeper self.now.edition t at nesting in
-            IfOk result (λ found. IfSome found (λ read. deeper read.2 → deeper ptr)) }
-        ensures shallow { let t = self.now.source.bytes.now in let at = TileIn comments self.now.edition t in
-            IfOk result (ComesNext (TextDeeper self.now.edition t at nesting) ptr) }
+    ) -> Result<Option<usize>, Halt>
     {
         let start = self.source.tile_start(comments, ptr);
         if start == self.source.bytes.len() {
             return Ok(None);
         }
-        let (entry, error, end) = self.get_tile(nesting, start)?;
-        match as_comment(entry) {
-            Ok(comment) => {
-                let (entry, end) = self.hang(nesting, comment, end)?;
-                Ok(Some((entry, error, end)))
-            }
-            Err(entry) => Ok(Some((entry, error, end))),
+        let end = self.add_tile(body, errors, nesting, start)?;
+        if ends_with_comment(body) {
+            let end = self.hang(body, nesting, end)?;
+            return Ok(Some(end));
         }
+        Ok(Some(end))
     }
 }

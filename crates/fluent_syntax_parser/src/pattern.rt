@@ -89,6 +89,7 @@ impl<'s> Source<'s> {
 
     /// Reads a pattern of one line without placeable, after the inline blank that opens it, if that stands there: its
     /// text.
+    #[inline(always)]
     pub(crate) fn short_text(&self, edition: Edition, start: usize) -> Option<(Span, usize)>
         requires { start ≤ length self.now.bytes.now }
         ensures opens { IfSome result
@@ -129,25 +130,13 @@ impl<'s> Source<'s> {
 }
 
 impl<'s, 't, M: MakeTexts> Reader<'s, 't, M> {
-    /// The pattern that `short_text` reads.
-    fn get_short_pattern(
-        &self,
-        start: usize,
-    ) -> Result<Option<(Pattern<M::Text>, usize)>, AllocError>
-        requires { start ≤ length self.now.source.bytes.now }
-        ensures opens { IfOk result (λ short. IfSome short
-            (λ read. OpensMade (M.source self.now.texts.now) self.now.edition self.now.source.bytes.now start
-            (pattern_view M.made read.0) read.1)) }
-        ensures within { IfOk result (λ short. IfSome short
-            (λ read. (start ≤ read.1) × (read.1 ≤ length self.now.source.bytes.now))) }
+    /// The pattern that is one text.
+    fn short_pattern(&self, value: Span) -> Result<Pattern<M::Text>, AllocError>
     {
-        let Some((value, end)) = self.source.short_text(self.edition, start) else {
-            return Ok(None);
-        };
         let value = self.text(value)?;
         let mut elements = Vec::with_capacity(self.alloc, 1)?;
         elements.push(PatternElement::TextElement { value })?;
-        Ok(Some((Pattern { elements }, end)))
+        Ok(Pattern { elements })
     }
 
     /// Reads the layout of a pattern, after the inline blank that opens it.
@@ -225,9 +214,12 @@ impl<'s, 't, M: MakeTexts> Reader<'s, 't, M> {
         ensures within { IfOk result (λ read. (ptr ≤ read.1) × (read.1 ≤ length self.now.source.bytes.now)) }
     {
         let start = self.source.skip_blank_inline(ptr);
-        let short = self.get_short_pattern(start)?;
-        match short {
-            Some((pattern, end)) => Ok((Some(pattern), end)),
+        if let Some((value, end)) = self.source.short_text(self.edition, start) {
+            let pattern = self.short_pattern(value)?;
+            return Ok((Some(pattern), end));
+        }
+        match self.source.end_without_text(self.edition, start) {
+            Some(end) => Ok((None, end)),
             None => self.get_long_pattern(nesting, ptr, start),
         }
     }

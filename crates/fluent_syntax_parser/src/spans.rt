@@ -43,11 +43,9 @@ impl<'s, 't, M: MakeTexts> Reader<'s, 't, M> {
         let mut errors = Vec::new(self.alloc);
         let mut ptr = 0;
         loop {
-            let Some((entry, error, end)) = self.next_entry(comments, nesting, ptr)? else {
+            let Some(end) = self.add_next(&mut body, &mut errors, comments, nesting, ptr)? else {
                 return Ok((body, errors));
             };
-            body.push(entry)?;
-            add_error(&mut errors, error)?;
             ptr = end;
         }
     }

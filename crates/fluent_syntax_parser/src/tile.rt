@@ -48,88 +48,89 @@ fn with_comment<S: Drop>(comment: Comment<S>, entry: Entry<S>) -> Result<Entry<S
     }
 }
 
+/// Whether the last entry is a comment of level 1.
+pub(crate) fn ends_with_comment<S: Drop>(body: &[Entry<S>]) -> bool {
+    matches!(body.last(), Some(Entry::Comment(_)))
+}
+
 impl<'s, 't, M: MakeTexts> Reader<'s, 't, M> {
-    /// Reads junk up to the next place where an entry may start, with its error; and where it ends.
+    /// Adds junk up to the next place where an entry may start, with its error, and says where it ends.
     #[inline(never)]
-    fn get_junk(
+    fn add_junk(
         &self,
+        body: &mut Vec<Entry<M::Text>>,
+        errors: &mut Vec<ParserError>,
         refusal: Refusal,
         start: usize,
-    ) -> Result<(Entry<M::Text>, ParserError, usize), AllocError>
-        requires { refusal.place ≤ length self.now.source.bytes.now }
-        ensures entry { IfOk result (λ read. entry_view M.made read.0
-            ≡ junk (M.source self.now.texts.now (record { start = start; end = read.2 }))) }
-        ensures error { let t = self.now.source.bytes.now in IfOk result (λ read.
-            fault_of read.1 ≡ Some (refused_as t refusal (record { start = start; end = read.2 }))) }
-        ensures ends { IfOk result (λ read. JunkEnd self.now.source.bytes.now refusal.place read.2) }
+    ) -> Result<usize, AllocError>
     {
         let end = self.source.next_entry_start(refusal.place);
         let stretch = Span { start, end };
         let error = self.source.error_of(self.alloc, refusal, stretch)?;
         let content = self.text(stretch)?;
-        Ok((Entry::Junk { content }, error, end))
+        body.push(Entry::Junk { content })?;
+        errors.push(error)?;
+        Ok(end)
     }
 
-    /// Reads an entry, or junk up to the next place where one may start, with its error; and where it ends.
-    pub(crate) fn get_tile(
+    /// Reads an entry and adds it, or junk up to the next place where one may start, with its error; says where it
+    /// ends.
+    pub(crate) fn add_tile(
         &self,
+        body: &mut Vec<Entry<M::Text>>,
+        errors: &mut Vec<ParserError>,
         nesting: usize,
         start: usize,
-    ) -> Result<(Entry<M::Text>, Option<ParserError>, usize), Halt>
-        requires { start < length self.now.source.bytes.now }
-        ensures gives { let t = self.now.source.bytes.now in IfOk result (λ read.
-            MadeTile (M.source self.now.texts.now) M.made self.now.edition t nesting start read.2 read.0 read.1) }
-        ensures within { IfOk result (λ read. (start < read.2) × (read.2 ≤ length self.now.source.bytes.now)) }
-        ensures nests { IfErr result (HaltsWithin nesting (length self.now.source.bytes.now - start)) }
-        ensures deeper { let t = self.now.source.bytes.now in
-            let R = within self.now.edition t nesting in
-            IfErr result (OnHalt (TooDeep (entry_in self.now.edition t R) start)) }
+    ) -> Result<usize, Halt>
     {
-        match self.get_entry(nesting, start) {
-            Ok((entry, end)) => Ok((entry, None, end)),
+        match self.add_entry(body, nesting, start) {
+            Ok(end) => Ok(end),
             Err(ReadFault::Refused(refusal)) => {
-                let (entry, error, end) = self.get_junk(refusal, start)?;
-                Ok((entry, Some(error), end))
+                let end = self.add_junk(body, errors, refusal, start)?;
+                Ok(end)
             }
             Err(ReadFault::TooDeep) => Err(Halt::TooDeep),
             Err(ReadFault::Memory) => Err(Halt::Memory),
         }
     }
 
-    /// The entry on which a comment hangs that ends at a place, with it, and where that entry ends. The comment itself,
-    /// if it hangs on none.
+    /// Hangs the comment that was added last, and ends at a place, on the entry there, if it hangs on one; and says
+    /// where that ends.
     #[inline(never)]
     pub(crate) fn hang(
         &self,
+        body: &mut Vec<Entry<M::Text>>,
         nesting: usize,
-        comment: Comment<M::Text>,
         ptr: usize,
-    ) -> Result<(Entry<M::Text>, usize), Halt>
-        requires { ptr ≤ length self.now.source.bytes.now }
-        ensures hangs { let t = self.now.source.bytes.now in IfOk result (λ read.
-            HangsMade (M.source self.now.texts.now) M.made self.now.edition t comment ptr read.0 read.1) }
-        ensures within { IfOk result (λ read. (ptr ≤ read.1) × (read.1 ≤ length self.now.source.bytes.now)) }
-        ensures nests { IfErr result (HaltsWithin nesting (length self.now.source.bytes.now - ptr)) }
-        ensures deeper { let t = self.now.source.bytes.now in let edition = self.now.edition in
-            IfErr result (OnHalt (TextDeeper edition t (TileIn edition t) nesting ptr)) }
-        ensures behind { let t = self.now.source.bytes.now in let edition = self.now.edition in
-            let deeper = TextDeeper edition t (TileIn edition t) nesting in
-            IfOk result (λ read. deeper read.1 → deeper ptr) }
-        ensures shallow { let t = self.now.source.bytes.now in let edition = self.now.edition in
-            let deeper = TextDeeper edition t (TileIn edition t) nesting in
-            IfOk result (λ read. deeper ptr → deeper read.1) }
+    ) -> Result<usize, Halt>
     {
         if self.source.is_byte_at(b'#', ptr) || self.source.skip_blank_block(ptr) != ptr {
-            return Ok((Entry::Comment(comment), ptr));
+            return Ok(ptr);
         }
-        match self.get_entry(nesting, ptr) {
-            Ok((entry, end)) => match with_comment(comment, entry) {
-                Ok(entry) => Ok((entry, end)),
-                Err(comment) => Ok((Entry::Comment(comment), ptr)),
-            },
-            Err(ReadFault::Refused(_)) => Ok((Entry::Comment(comment), ptr)),
+        match self.add_entry(body, nesting, ptr) {
+            Ok(end) => {
+                hang_last(body)?;
+                Ok(end)
+            }
+            Err(ReadFault::Refused(_)) => Ok(ptr),
             Err(ReadFault::TooDeep) => Err(Halt::TooDeep),
             Err(ReadFault::Memory) => Err(Halt::Memory),
         }
     }
+}
+
+/// The last two entries as one, if they are a comment and what it can hang on.
+fn hang_last<S: Drop>(body: &mut Vec<Entry<S>>) -> Result<(), AllocError> {
+    let Some(entry) = body.pop() else {
+        return Ok(());
+    };
+    match body.pop() {
+        Some(Entry::Comment(comment)) => match with_comment(comment, entry) {
+            Ok(entry) => body.push(entry)?,
+            Err(comment) => body.push(Entry::Comment(comment))?,
+        },
+        Some(other) => { body.push(other)?; body.push(entry)?; }
+        None => body.push(entry)?,
+    }
+    Ok(())
 }

@@ -81,9 +81,15 @@ impl<'s> Tiles<'s> {
             edition: self.edition,
             texts: &AsSpans,
         };
-        let (entry, error, end) = reader.get_tile(self.nesting, start)?;
+        let mut body = Vec::with_capacity(alloc, 1)?;
+        let mut errors = Vec::new(alloc);
+        let end = reader.add_tile(&mut body, &mut errors, self.nesting, start)?;
         self.ptr = end;
         let span = Span { start, end };
-        Ok(Some(FoundTile { span, entry, error }))
+        let error = errors.pop();
+        match body.pop() {
+            Some(entry) => Ok(Some(FoundTile { span, entry, error })),
+            None => Ok(None),
+        }
     }
 }
