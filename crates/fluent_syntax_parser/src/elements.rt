@@ -11,13 +11,6 @@ use fluent_syntax_tree::ast::Expression;
 use fluent_syntax_tree::edition::Edition;
 use std::alloc::{AllocError, Global};
 
-/// An element before the tail is cut.
-#[derive(Drop)]
-pub(crate) enum Item<T> {
-    Text { from: usize, to: usize },
-    Filled { expression: Expression<T> },
-}
-
 /// The source of a pattern: the line on which it opens, if something stands there, and the later lines.
 #[derive(Drop)]
 pub(crate) struct Layout<T> {
@@ -28,12 +21,12 @@ pub(crate) struct Layout<T> {
 /// Adds the run that waits, if one does.
 fn add_waiting<T: Drop>(
     pending: Option<(usize, usize)>,
-    items: &mut Vec<Item<T>>,
+    items: &mut Vec<Piece<T>>,
 ) -> Result<(), AllocError>
     ensures { OnOk result (map item_shape items.new.items ≡ flushed (map item_shape items.old.items) pending) }
 {
     match pending {
-        Some((from, to)) => items.push(Item::Text { from, to })?,
+        Some((from, to)) => items.push(Piece::Run { from, to })?,
         None => {}
     }
     Ok(())
@@ -43,33 +36,33 @@ fn add_waiting<T: Drop>(
 fn add_ending<T: Drop>(
     pending: Option<(usize, usize)>,
     ending: Ending,
-    items: &mut Vec<Item<T>>,
+    items: &mut Vec<Piece<T>>,
 ) -> Result<(), AllocError>
     requires { EndsWithin ending }
     ensures { OnOk result (map item_shape items.new.items
         ≡ map item_shape items.old.items ++ with_ending (waiting pending []) (ending_view ending)) }
 {
     match (pending, ending) {
-        (Some((from, _)), Ending::Lf(place)) => items.push(Item::Text {
+        (Some((from, _)), Ending::Lf(place)) => items.push(Piece::Run {
             from,
             to: place + 1,
         })?,
-        (None, Ending::Lf(place)) => items.push(Item::Text {
+        (None, Ending::Lf(place)) => items.push(Piece::Run {
             from: place,
             to: place + 1,
         })?,
         (Some((from, to)), Ending::Crlf(place)) => {
-            items.push(Item::Text { from, to })?;
-            items.push(Item::Text {
+            items.push(Piece::Run { from, to })?;
+            items.push(Piece::Run {
                 from: place + 1,
                 to: place + 2,
             })?;
         }
-        (None, Ending::Crlf(place)) => items.push(Item::Text {
+        (None, Ending::Crlf(place)) => items.push(Piece::Run {
             from: place + 1,
             to: place + 2,
         })?,
-        (Some((from, to)), Ending::TextEnd) => items.push(Item::Text { from, to })?,
+        (Some((from, to)), Ending::TextEnd) => items.push(Piece::Run { from, to })?,
         (None, Ending::TextEnd) => {}
     }
     Ok(())
@@ -80,7 +73,7 @@ fn add_pieces<T: Drop>(
     led: Option<usize>,
     pieces: Vec<Piece<T>>,
     ending: Ending,
-    items: &mut Vec<Item<T>>,
+    items: &mut Vec<Piece<T>>,
 ) -> Result<(), AllocError>
     requires { EndsWithin ending }
     ensures { let found = leading led (map piece_shape pieces.items) in
@@ -94,7 +87,7 @@ fn add_pieces<T: Drop>(
         pending = match piece {
             Piece::Run { from, to } => Some((led.unwrap_or(from), to)),
             Piece::Placed { expression } => {
-                items.push(Item::Filled { expression })?;
+                items.push(Piece::Placed { expression })?;
                 None
             }
         };
@@ -143,18 +136,18 @@ fn indent_of<T: Drop>(
 fn add_bare_line<T: Drop>(
     kept: usize,
     ending: Ending,
-    items: &mut Vec<Item<T>>,
+    items: &mut Vec<Piece<T>>,
 ) -> Result<(), AllocError>
     requires { EndsWithin ending }
     ensures { OnOk result (map item_shape items.new.items
         ≡ map item_shape items.old.items ++ bare_items kept (ending_view ending)) }
 {
     match ending {
-        Ending::Lf(place) => items.push(Item::Text {
+        Ending::Lf(place) => items.push(Piece::Run {
             from: kept,
             to: place + 1,
         })?,
-        Ending::Crlf(place) => items.push(Item::Text {
+        Ending::Crlf(place) => items.push(Piece::Run {
             from: place + 1,
             to: place + 2,
         })?,
@@ -168,7 +161,7 @@ fn add_line<T: Drop>(
     edition: Edition,
     common: Option<usize>,
     line: Line<T>,
-    items: &mut Vec<Item<T>>,
+    items: &mut Vec<Piece<T>>,
 ) -> Result<(), AllocError>
     requires spaces { line.start + line.spaces < 2 ^ 64 }
     requires ending { EndsWithin line.ending }
@@ -190,22 +183,53 @@ fn add_line<T: Drop>(
     add_pieces(Some(kept), pieces, ending, items)
 }
 
+/// The pieces of the line on which a pattern opens, with its ending, as items: an LF belongs to the text before it.
+fn opening_items<T: Drop>(opening: Line<T>) -> Result<Vec<Piece<T>>, AllocError>
+{
+    let mut items = opening.pieces;
+    let run = match items.last() {
+        Some(Piece::Run { from, to }) => Some((*from, *to)),
+        _ => None,
+    };
+    if let Some(_) = run {
+        items.pop();
+    }
+    add_ending(run, opening.ending, &mut items)?;
+    Ok(items)
+}
+
+/// Adds the items of the other lines, under a common indent.
+#[inline(never)]
+fn add_lines<T: Drop>(
+    edition: Edition,
+    common: Option<usize>,
+    lines: Vec<Line<T>>,
+    items: &mut Vec<Piece<T>>,
+) -> Result<(), AllocError>
+{
+    for line in lines {
+        add_line(edition, common, line, items)?;
+    }
+    Ok(())
+}
+
 /// The items of all lines, under a common indent.
 pub(crate) fn items_of<T: Drop>(
     alloc: Global,
     edition: Edition,
     common: Option<usize>,
     layout: Layout<T>,
-) -> Result<Vec<Item<T>>, AllocError>
+) -> Result<Vec<Piece<T>>, AllocError>
     ensures { IfOk result (λ items. map item_shape items.items ≡ items_with edition common (layout_shape layout)) }
 {
     let Layout { opening, lines } = layout;
-    let mut items = Vec::new(alloc);
-    if let Some(line) = opening {
-        add_pieces(None, line.pieces, line.ending, &mut items)?;
+    let mut items = match opening {
+        Some(line) => opening_items(line)?,
+        None => Vec::new(alloc),
+    };
+    if lines.is_empty() {
+        return Ok(items);
     }
-    for line in lines {
-        add_line(edition, common, line, &mut items)?;
-    }
+    add_lines(edition, common, lines, &mut items)?;
     Ok(items)
 }

@@ -13,6 +13,7 @@ use fluent_syntax_tree::ast::Entry;
 
 impl<'s, 't, M: MakeTexts> Reader<'s, 't, M> {
     /// Reads an entry, and adds it: the first byte decides which.
+    #[inline(always)]
     pub(crate) fn add_entry(
         &self,
         body: &mut Vec<Entry<M::Text>>,
