@@ -1,5 +1,6 @@
 -- Where the parts of a message or a term stand.
-use Rattle.std.specs.Prelude.{◌≡◌, ℕ, List, [], ◌∷◌, Option, Some, None, option_map, Result, Ok, Err, Vec, Global}
+use Rattle.std.specs.Prelude.{◌≡◌, ℕ, List, [], ◌∷◌, Option, Some, None, option_map, Result, Ok, Err, Vec, true}
+use Rattle.std.specs.Global.{Global}
 use Rattle.fluent_syntax_tree.specs.Entry.{AttributeTree, EntryTree, Level, comment, message, term}
 use Rattle.fluent_syntax_tree.specs.Kind.{Kind}
 use Rattle.fluent_syntax_tree.specs.Tree.{PatternTree, pattern_map}
@@ -51,27 +52,28 @@ module _ (edition : Edition) (t : List ℕ) (R : Family) where
         {rest : List (AttributeTree Span)} → x.span.start ≡ i → AttributeStands x a →
         AttributesStand x.span.end xs rest end → AttributesStand i (x ∷ xs) (a ∷ rest) end
 
-  -- Behind the name stand the value and the attributes, up to the end: an inline blank, `=`, the value, where there is
-  -- one, a blank block, the attributes.
-  pub record FieldsStand (x : EntryExtents) (f : FieldTrees Span) (end : ℕ) : Type 0 where
+  -- From the place behind a name up to the end stand the value and the attributes: an inline blank, `=`, the value,
+  -- where there is one, a blank block, the attributes.
+  pub record FieldsStand (i : ℕ) (value_at : Option Span) (attributes_at : List AttributeExtents) (f : FieldTrees Span)
+      (end : ℕ) : Type 0 where
     pub equals : ℕ
-    pub behind : InlineBlank t x.name.end equals
+    pub behind : InlineBlank t i equals
     pub place : Span
     pub sign : token t equals_sign equals (Read tt place.start)
     pub value : ReadAt (pattern edition t R) f.0 place
-    pub there : x.value ≡ option_map (λ v. place) f.0
+    pub there : value_at ≡ option_map (λ v. place) f.0
     pub line : ℕ
     pub blank : BlankBlock t place.end line
-    pub attributes : AttributesStand line x.attributes.items f.1 end
+    pub attributes : AttributesStand line attributes_at f.1 end
 
   -- The entry has its parts there: a message begins with its name, a term with a `-` and its name.
   pub data EntryStands (i : ℕ) (x : EntryExtents) : EntryTree Span → ℕ → Type 0 where
     message_stands : {f : FieldTrees Span} {end : ℕ} → x.name.start ≡ i → ReadAt (identifier t) x.name x.name →
-        FieldsStand x f end →
+        FieldsStand x.name.end x.value x.attributes.items f end →
         EntryStands i x (message (record { id = x.name; value = f.0; attributes = f.1; comment = None })) end
     term_stands : {value : PatternTree Span} {rest : List (AttributeTree Span)} {end : ℕ} →
         token t hyphen i (Read tt x.name.start) → ReadAt (identifier t) x.name x.name →
-        FieldsStand x (Some value, rest) end →
+        FieldsStand x.name.end x.value x.attributes.items (Some value, rest) end →
         EntryStands i x (term (record { id = x.name; value = value; attributes = rest; comment = None })) end
 
   -- An entry is read at the place, and has its parts there.
@@ -96,10 +98,10 @@ module _ (edition : Edition) (t : List ℕ) (R : Family) where
   FindsAttributes i (Ok x) = (rest : List (AttributeTree Span)) × AttributesStand i x.0.items rest x.1
   FindsAttributes i (Err e) = Fails t (attributes_of edition t R) i e
 
-  -- What stands behind the name has its parts there; or the fault is that of it.
-  abbrev pub FindsFields : Span → Result (EntryExtents × ℕ) ReadFault → Type 0
-  FindsFields name (Ok x) = (f : FieldTrees Span) × FieldsStand x.0 f x.1 × (x.0.name ≡ name)
-  FindsFields name (Err e) = Fails t (fields edition t R) name.end e
+  -- The value and the attributes stand from the place behind a name on; or the fault is that of what stands there.
+  abbrev pub FindsFields : ℕ → Result (Option Span × Vec AttributeExtents Global × ℕ) ReadFault → Type 0
+  FindsFields i (Ok x) = (f : FieldTrees Span) × FieldsStand i x.0 x.1.items f x.2
+  FindsFields i (Err e) = Fails t (fields edition t R) i e
 
   -- The entry that the construct is has its parts there; or the fault is the construct's.
   abbrev pub FindsParts : Construct (EntryTree Span) → ℕ → Result EntryExtents ReadFault → Type 0

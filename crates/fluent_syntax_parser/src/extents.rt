@@ -1,5 +1,5 @@
 //! Where the parts of a message or a term stand.
-ghost use Rattle.std.specs.Prelude.{◌≡◌, ◌-◌, ◌<◌, ◌≤◌, length, IfErr, IfOk, IfSome};
+ghost use Rattle.std.specs.Prelude.{◌≡◌, ◌-◌, ◌<◌, ◌≤◌, length, option_map, IfErr, IfOk};
 ghost use Rattle.fluent_syntax_grammar.specs.Entries.{message_of, term_of};
 ghost use Rattle.fluent_syntax_grammar.specs.Grammar.{within};
 ghost use Rattle.fluent_syntax_grammar.specs.Nesting.{TooDeep};
@@ -42,6 +42,16 @@ pub struct EntryExtents {
     /// Its pattern, if it has one: from directly behind the `=` to its end. Blank lines behind it are in it.
     pub value: Option<Span>,
     pub attributes: Vec<AttributeExtents>,
+}
+
+/// The place, if there is a value.
+fn place_if<T>(value: &Option<T>, place: Span) -> Option<Span>
+    ensures { result ≡ option_map (λ v. place) value.now }
+{
+    match value {
+        Some(_) => Some(place),
+        None => None,
+    }
 }
 
 impl<'s, 't, M: MakeTexts> Reader<'s, 't, M> {
@@ -109,27 +119,22 @@ impl<'s, 't, M: MakeTexts> Reader<'s, 't, M> {
         }
     }
 
-    /// Where the parts of the entry of that name stand, and where it ends.
-    fn field_parts(&self, nesting: usize, name: Span) -> Result<(EntryExtents, usize), ReadFault>
-        requires { name.end ≤ length self.now.source.bytes.now }
-        ensures finds { let t = self.now.source.bytes.now in
-            FindsFields self.now.edition t (within self.now.edition t nesting) name result }
+    /// Where the value and the attributes behind a name stand, and where they end.
+    fn field_parts(
+        &self,
+        nesting: usize,
+        ptr: usize,
+    ) -> Result<(Option<Span>, Vec<AttributeExtents>, usize), ReadFault>
+        requires { ptr ≤ length self.now.source.bytes.now }
+        ensures { let t = self.now.source.bytes.now in
+            FindsFields self.now.edition t (within self.now.edition t nesting) ptr result }
     {
-        let equals = self.source.skip_blank_inline(name.end);
+        let equals = self.source.skip_blank_inline(ptr);
         let start = self.source.expect_byte(b'=', equals)?;
         let (value, end) = self.get_pattern(nesting, start)?;
         let line = self.source.skip_blank_block(end);
         let (attributes, place) = self.attribute_list_parts(nesting, line)?;
-        let value = match value {
-            Some(_) => Some(Span { start, end }),
-            None => None,
-        };
-        let extents = EntryExtents {
-            name,
-            value,
-            attributes,
-        };
-        Ok((extents, place))
+        Ok((place_if(&value, Span { start, end }), attributes, place))
     }
 
     fn message_parts(&self, nesting: usize, start: usize) -> Result<EntryExtents, ReadFault>
@@ -140,14 +145,18 @@ impl<'s, 't, M: MakeTexts> Reader<'s, 't, M> {
     {
         let end = self.source.identifier_end(start)?;
         let name = Span { start, end };
-        let (extents, place) = self.field_parts(nesting, name)?;
-        if extents.value.is_none() && extents.attributes.is_empty() {
+        let (value, attributes, place) = self.field_parts(nesting, end)?;
+        if value.is_none() && attributes.is_empty() {
             return Err(ReadFault::Refused(Refusal {
                 fault: Fault::MessageField(name),
                 place,
             }));
         }
-        Ok(extents)
+        Ok(EntryExtents {
+            name,
+            value,
+            attributes,
+        })
     }
 
     fn term_parts(&self, nesting: usize, start: usize) -> Result<EntryExtents, ReadFault>
@@ -159,14 +168,18 @@ impl<'s, 't, M: MakeTexts> Reader<'s, 't, M> {
         let letter = self.source.expect_byte(b'-', start)?;
         let end = self.source.identifier_end(letter)?;
         let name = Span { start: letter, end };
-        let (extents, place) = self.field_parts(nesting, name)?;
-        if extents.value.is_none() {
+        let (value, attributes, place) = self.field_parts(nesting, end)?;
+        if value.is_none() {
             return Err(ReadFault::Refused(Refusal {
                 fault: Fault::TermField { start, name },
                 place,
             }));
         }
-        Ok(extents)
+        Ok(EntryExtents {
+            name,
+            value,
+            attributes,
+        })
     }
 
     /// Where the parts of the entry stand, by its first byte. `None` where that is a `#`.

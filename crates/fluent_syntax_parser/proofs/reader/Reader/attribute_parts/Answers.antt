@@ -57,26 +57,31 @@ returns-in-Some-clause-finds g c =
     let found = rw c.in-Some.is at c.in_ok-value.ensures.meets in
     on_made found (λ o read same.
     on_value (pattern_map (g.M.MakeTexts.source c.args.self.now.texts.now)) (pattern edition t (within edition t n)) o
-    read same (λ value there same_value. (_, record {
-      whole =
-          goes_on (passed c.skip_blank_inline-dot.ensures.blank)
-          (goes_on c.in_ok-letter.ensures.meets
-          (goes_on c.in_ok-name_end.ensures.meets
-          (goes_on (passed c.skip_blank_inline-equals.ensures.blank)
-          (goes_on c.in_ok-start.ensures.meets
-          (goes_on there
-          given)))));
-      dot = _;
-      before = c.skip_blank_inline-dot.ensures.blank;
-      point = c.in_ok-letter.ensures.meets;
-      name = c.in_ok-name_end.ensures.meets;
-      named = refl;
-      equals = _;
-      behind = c.skip_blank_inline-equals.ensures.blank;
-      sign = c.in_ok-start.ensures.meets;
-      value = there;
-      ends = refl;
-    }, refl, same_value)))
+    read same (λ value there same_value. (
+      _,
+      record {
+        whole =
+            goes_on (passed c.skip_blank_inline-dot.ensures.blank)
+            (goes_on c.in_ok-letter.ensures.meets
+            (goes_on c.in_ok-name_end.ensures.meets
+            (goes_on (passed c.skip_blank_inline-equals.ensures.blank)
+            (goes_on c.in_ok-start.ensures.meets
+            (goes_on there
+            given)))));
+        dot = _;
+        before = c.skip_blank_inline-dot.ensures.blank;
+        point = c.in_ok-letter.ensures.meets;
+        name = c.in_ok-name_end.ensures.meets;
+        named = refl;
+        equals = _;
+        behind = c.skip_blank_inline-equals.ensures.blank;
+        sign = c.in_ok-start.ensures.meets;
+        value = there;
+        ends = refl;
+      },
+      refl,
+      same_value,
+    )))
 
 pub returns-in-None-clause-finds : goal.returns-in-None-clause-finds
 returns-in-None-clause-finds g c =
