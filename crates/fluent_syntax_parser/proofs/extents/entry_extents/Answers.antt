@@ -1,13 +1,18 @@
-use Rattle.std.proofs.Common.{arith}
+use Rattle.std.proofs.Common.{Ok, arith, subst}
+use Rattle.fluent_syntax_grammar.specs.Grammar.{within}
 use Rattle.fluent_syntax_grammar.proofs.TotalEntries.{too_deep_left}
+use Rattle.fluent_syntax_parser.specs.Extents.{FindsEntry}
 use Rattle.fluent_syntax_parser.proofs.ExtentForms.{has_extents, none_is_read}
 use Rattle.fluent_syntax_parser.proofs.Fails.{shown, too_deep_there}
 use Rattle.fluent_syntax_parser.proofs.extents.entry_extents.Goals as goal
 
 pub returns-in-Ok-clause-extents : goal.returns-in-Ok-clause-extents
 returns-in-Ok-clause-extents c =
-    has_extents c.args.edition c.args.text.now c.args.nesting c.args.start _
-    (rw c.as_bytes.ensures.value at c.in-Ok.ensures)
+    let edition = c.args.edition in
+    let n = c.args.nesting in
+    has_extents edition c.args.text.now n c.args.start _
+    (subst (λ t. FindsEntry edition t (within edition t n) c.args.start (Ok c.in-Ok.found)) c.as_bytes.ensures.value
+    c.in-Ok.ensures)
 
 pub returns-in-Err-Refused-clause-extents : goal.returns-in-Err-Refused-clause-extents
 returns-in-Err-Refused-clause-extents c = λ e end read.
