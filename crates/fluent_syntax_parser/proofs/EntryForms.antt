@@ -58,7 +58,7 @@ module _ (edition : Edition) (t : List ℕ) (R : Family) (i : ℕ) (o : Outcome 
 -- ---- and the other way round
 
 module _ (edition : Edition) (t : List ℕ) (R : Family) (i : ℕ) (o : Outcome (EntryTree Span)) where
-  of_hash : (here : Option ℕ) → holds (λ b. b == hash) here ≡ true → entry_of edition t R here i o →
+  pub of_hash : (here : Option ℕ) → holds (λ b. b == hash) here ≡ true → entry_of edition t R here i o →
       comment_entry t i o
   of_hash None there x = cc
   of_hash (Some b) there (first f x) = x

@@ -8,6 +8,7 @@ pub mod CommentEntries
 pub mod Cut
 pub mod DeeperTiles
 pub mod EntryForms
+pub mod ExtentForms
 pub mod ErrorPlaces
 pub mod Fails
 pub mod FieldForms

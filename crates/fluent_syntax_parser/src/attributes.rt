@@ -6,11 +6,10 @@ ghost use Rattle.fluent_syntax_grammar.specs.Entries.{attribute_of, attributes_o
 ghost use Rattle.fluent_syntax_grammar.specs.Grammar.{within};
 ghost use Rattle.fluent_syntax_parser.specs.Made.{Makes};
 
-use crate::fault::{Fault, ReadFault, Refusal};
+use crate::fault::ReadFault;
 use crate::reader::Reader;
 use crate::texts::MakeTexts;
 use fluent_syntax_tree::ast::Attribute;
-use fluent_syntax_tree::spans::Span;
 
 impl<'s, 't, M: MakeTexts> Reader<'s, 't, M> {
     pub(crate) fn get_attribute(
@@ -24,22 +23,9 @@ impl<'s, 't, M: MakeTexts> Reader<'s, 't, M> {
             (attribute_of self.now.edition t (within self.now.edition t nesting)) (attribute_view M.made) ptr result }
         ensures within { IfOk result (λ read. (ptr < read.1) × (read.1 ≤ length self.now.source.bytes.now)) }
     {
-        let dot = self.source.skip_blank_inline(ptr);
-        let start = self.source.expect_byte(b'.', dot)?;
-        let end = self.source.identifier_end(start)?;
-        let equals = self.source.skip_blank_inline(end);
-        let behind = self.source.expect_byte(b'=', equals)?;
-        let (value, place) = self.get_pattern(nesting, behind)?;
-        match value {
-            Some(value) => {
-                let id = self.identifier(Span { start, end })?;
-                Ok((Attribute { id, value }, place))
-            }
-            None => Err(ReadFault::Refused(Refusal {
-                fault: Fault::Value,
-                place,
-            })),
-        }
+        let (extents, value) = self.attribute_parts(nesting, ptr)?;
+        let id = self.identifier(extents.name)?;
+        Ok((Attribute { id, value }, extents.span.end))
     }
 
     /// Reads the longest list of attributes. One that is refused ends it, where it would begin.
