@@ -1,9 +1,7 @@
 -- The errors that tiles tell are the faults of the tiling.
-use Rattle.std.proofs.Common.{◌≡◌, ℕ, ◌≤◌, List, [], ◌∷◌, ◌++◌, length, map, Option, Some, None, refl, sym, ◌∙◌, ap}
-use Rattle.std.proofs.Common.{arith, subst}
-use Rattle.std.specs.Prelude.{All, Err, Ok, option_map, Result}
-use Rattle.std.proofs.lemmas.List.Elements.{All-nil, All-cons}
-use Rattle.fluent_syntax_tree.specs.Kind.{kind_of}
+use Rattle.std.proofs.Common.{◌≡◌, ℕ, List, [], ◌∷◌, ◌++◌, map, Option, Some, None, refl, sym, ◌∙◌, ap}
+use Rattle.std.proofs.Common.{subst}
+use Rattle.std.specs.Prelude.{Err, Ok, option_map, Result}
 use Rattle.fluent_syntax_tree.specs.View.{resource_view}
 use Rattle.fluent_syntax_tree.specs.declared.ast.Resource.{Resource}
 use Rattle.fluent_syntax_tree.specs.declared.ast.Entry.{Entry}
@@ -11,9 +9,8 @@ use Rattle.fluent_syntax_tree.specs.declared.edition.Edition.{Edition}
 use Rattle.fluent_syntax_tree.specs.declared.errors.ParserError.{ParserError}
 use Rattle.fluent_syntax_tree.specs.declared.spans.Span.{Span}
 use Rattle.fluent_syntax_grammar.specs.Body.{body, faults}
-use Rattle.fluent_syntax_grammar.specs.Laws.{Ascend}
 use Rattle.fluent_syntax_grammar.specs.Locality.{moved_fault, moved_tile}
-use Rattle.fluent_syntax_grammar.specs.Tiling.{Fault, Tile, Tiling, dropped, entry, refused}
+use Rattle.fluent_syntax_grammar.specs.Tiling.{Tile, Tiling, dropped, entry, refused}
 use Rattle.fluent_syntax_grammar.proofs.JunkAndSpans.{errors_ascend}
 use Rattle.fluent_syntax_grammar.proofs.OneTiling.{one_tiling}
 use Rattle.fluent_syntax_parser.specs.Faults.{fault_of}
@@ -21,6 +18,7 @@ use Rattle.fluent_syntax_parser.specs.Tiles.{Gives}
 use Rattle.fluent_syntax_parser.specs.Answers.{Answers}
 use Rattle.fluent_syntax_parser.specs.declared.fault.ParseFault.{ParseFault}
 use Rattle.fluent_syntax_parser.specs.declared.fault.ParseFault.TheVariants.{Memory, Syntax}
+use Rattle.fluent_syntax_parser.proofs.ErrorPlaces.{told_in_text}
 use Rattle.fluent_syntax_reread.specs.Held.{AsParsed, BeginWithin, bytes_of, HoldsAnswer, IsBody, IsHeld, told_by}
 use Rattle.fluent_syntax_reread.specs.Held.{told_errors}
 use Rattle.fluent_syntax_reread.specs.Placed.{EachTells, Reads}
@@ -73,42 +71,7 @@ pub told_tiling : (edition : Edition) (t : List ℕ) (ps : List Placed) (xs : Li
 told_tiling edition t ps xs r tiling =
     told_all ps r.tiles r.each ∙ ap (λ xs. map Some (faults xs)) (one_tiling edition t r.tiles xs r.tiling tiling)
 
-same_begin : {R : Type 0} (junk : Option R) (begin : ℕ) (fault : R → Fault) (f : Fault) →
-    ((r : R) → (fault r).pos.start ≡ begin) → option_map fault junk ≡ Some f → begin ≡ f.pos.start
-same_begin None begin fault f same e = absurd cc
-same_begin (Some r) begin fault f same e =
-    let told : fault r ≡ f = cc in
-    let here = ap (λ g. g.pos.start) told in
-    let there = same r in
-    cc
-
--- an error begins where the fault begins that it tells of
-begin_told : (e : ParserError) (f : Fault) → fault_of e ≡ Some f → e.pos.start ≡ f.pos.start
-begin_told e f told = same_begin e.slice e.pos.start (λ slice. record {
-  kind = kind_of e.kind;
-  pos = record { start = e.pos.start; end = e.pos.end };
-  slice = record { start = slice.start; end = slice.end };
-}) f (λ slice. refl) told
-
-module _ (t : List ℕ) where
-  ends_within : (from : ℕ) (fs : List Fault) → Ascend t from fs → from ≤ length t
-  ends_within from [] up = up
-  ends_within from (f ∷ fs) up = let after = ends_within f.slice.end fs up.4 in omega (arith, up.0, up.1)
-
-  -- errors that tell of faults which ascend begin within the text
-  told_in_text : (from : ℕ) (errors : List ParserError) (fs : List Fault) → map fault_of errors ≡ map Some fs →
-      Ascend t from fs → All (λ e. e.pos.start ≤ length t) errors
-  told_in_text from [] fs told up = All-nil (λ e. e.pos.start ≤ length t)
-  told_in_text from (e ∷ errors) [] told up = absurd cc
-  told_in_text from (e ∷ errors) (f ∷ fs) told up =
-      let first : fault_of e ≡ Some f = cc in
-      let others : map fault_of errors ≡ map Some fs = cc in
-      let after = ends_within f.slice.end fs up.4 in
-      let place = begin_told e f first in
-      All-cons (λ e. e.pos.start ≤ length t) e errors (omega (arith, up.3))
-      (told_in_text f.slice.end errors fs others up.4)
-
--- so do those that it tells
+-- those that tell what it tells begin within the text
 pub told_within : (r : Reread) (errors : List ParserError) → IsHeld r →
     map fault_of errors ≡ told_errors r.tiles.items → BeginWithin r errors
 told_within r errors held told =

@@ -1,6 +1,4 @@
-use Rattle.std.proofs.Common.{refl}
 use Rattle.std.proofs.lemmas.Result.{err_from_is_err_and}
-use Rattle.fluent_syntax_parser.specs.Made.{made}
 use Rattle.fluent_syntax_parser.specs.Meets.{no_memory}
 use Rattle.fluent_syntax_parser.proofs.Fails.{out_of_memory}
 use Rattle.fluent_syntax_parser.proofs.reader.Reader.get_attribute.Goals as goal
