@@ -8,7 +8,7 @@ use Rattle.fluent_syntax_tree.specs.declared.edition.Edition.{Edition}
 use Rattle.fluent_syntax_tree.specs.declared.spans.Span.{Span}
 use Rattle.fluent_syntax_grammar.specs.Bytes.{hash}
 use Rattle.fluent_syntax_grammar.specs.Comments.{comment_entry}
-use Rattle.fluent_syntax_grammar.specs.Construct.{Read, Refused, goes_on, given, passed, chosen, first, second}
+use Rattle.fluent_syntax_grammar.specs.Construct.{Read, Refused, goes_on, given, passed, chosen}
 use Rattle.fluent_syntax_grammar.specs.Entries.{attribute_of, attributes_of, no_more, one_more}
 use Rattle.fluent_syntax_grammar.specs.Family.{Family}
 use Rattle.fluent_syntax_grammar.specs.Grammar.{family, within}
