@@ -2,6 +2,7 @@
 use Rattle.std.specs.Prelude.{◌≡◌, ℕ, List, [], ◌∷◌, Option, Some, None, option_map, Result, Ok, Err, Vec, true}
 use Rattle.std.specs.Global.{Global}
 use Rattle.fluent_syntax_tree.specs.Entry.{AttributeTree, EntryTree, Level, comment, message, term}
+use Rattle.fluent_syntax_tree.specs.Every.{list_every, option_every}
 use Rattle.fluent_syntax_tree.specs.Kind.{Kind}
 use Rattle.fluent_syntax_tree.specs.Tree.{PatternTree, pattern_map}
 use Rattle.fluent_syntax_tree.specs.View.{pattern_view}
@@ -120,3 +121,10 @@ HasExtents edition t i (Some x) = EntryFound edition t (family edition t) i x
 HasExtents edition t i None =
     (e : EntryTree Span) (end : ℕ) → entry_at edition t i (Read e end) →
     (level : Level) × (content : List Span) × (e ≡ comment level content)
+
+-- all ranges of the extents
+abbrev pub attribute_ranges : (Span → Type 0) → AttributeExtents → Type 0
+attribute_ranges good x = good x.span × good x.name × good x.value
+
+abbrev pub ranges : (Span → Type 0) → EntryExtents → Type 0
+ranges good x = good x.name × option_every good x.value × list_every (attribute_ranges good) x.attributes.items

@@ -1,5 +1,5 @@
 //! Where the parts of a message or a term stand.
-ghost use Rattle.std.specs.Prelude.{◌≡◌, ◌-◌, ◌<◌, ◌≤◌, length, option_map, IfErr, IfOk};
+ghost use Rattle.std.specs.Prelude.{◌≡◌, ◌-◌, ◌<◌, ◌≤◌, length, option_map, IfErr, IfOk, IfSome};
 ghost use Rattle.fluent_syntax_grammar.specs.Entries.{message_of, term_of};
 ghost use Rattle.fluent_syntax_grammar.specs.Grammar.{within};
 ghost use Rattle.fluent_syntax_grammar.specs.Nesting.{TooDeep};
@@ -11,7 +11,9 @@ ghost use Rattle.fluent_syntax_parser.specs.Extents.{
   FindsFields,
   FindsParts,
   HasExtents,
+  ranges,
 };
+ghost use Rattle.fluent_syntax_tree.specs.Spans.{IsPart};
 ghost use Rattle.fluent_syntax_parser.specs.Halts.{HaltsWithin, OnHalt};
 
 use crate::fault::{Fault, ReadFault, Refusal};
@@ -213,6 +215,7 @@ pub fn entry_extents(
 ) -> Result<Option<EntryExtents>, Halt>
     requires { start ≤ length text.now }
     ensures extents { IfOk result (HasExtents edition text.now start) }
+    ensures parts { IfOk result (λ found. IfSome found (ranges (IsPart text.now))) }
     ensures nests { IfErr result (HaltsWithin nesting (length text.now - start)) }
     ensures deeper { let R = within edition text.now nesting in
         IfErr result (OnHalt (TooDeep (entry_in edition text.now R) start)) }

@@ -3,6 +3,7 @@ use Rattle.fluent_syntax_grammar.specs.Grammar.{within}
 use Rattle.fluent_syntax_grammar.proofs.TotalEntries.{too_deep_left}
 use Rattle.fluent_syntax_parser.specs.Extents.{FindsEntry}
 use Rattle.fluent_syntax_parser.proofs.ExtentForms.{has_extents, none_is_read}
+use Rattle.fluent_syntax_parser.proofs.ExtentRanges.{extents_in_text}
 use Rattle.fluent_syntax_parser.proofs.Fails.{shown, too_deep_there}
 use Rattle.fluent_syntax_parser.proofs.extents.entry_extents.Goals as goal
 
@@ -13,6 +14,10 @@ returns-in-Ok-clause-extents c =
     has_extents edition c.args.text.now n c.args.start _
     (subst (λ t. FindsEntry edition t (within edition t n) c.args.start (Ok c.in-Ok.found)) c.as_bytes.ensures.value
     c.in-Ok.ensures)
+
+pub returns-in-Ok-clause-parts : goal.returns-in-Ok-clause-parts
+returns-in-Ok-clause-parts c =
+    extents_in_text c.args.edition c.args.text.now c.utf8.text c.args.start _ (returns-in-Ok-clause-extents c)
 
 pub returns-in-Err-Refused-clause-extents : goal.returns-in-Err-Refused-clause-extents
 returns-in-Err-Refused-clause-extents c = λ e end read.
