@@ -85,6 +85,15 @@ impl Document {
         self.change(alloc, first.min(last), first.max(last), new)
     }
 
+    /// The entry or junk at the byte, as it stands in the text, with the comment that hangs on it, up to the next one or
+    /// to the text's end. None where there is none, and of a text that nests too deeply.
+    pub fn entry_at(&self, byte: usize) -> Option<&str> {
+        match self {
+            Document::Held(held) => held.text().get(held.entry_at(byte)?),
+            Document::TooDeep(_) => None,
+        }
+    }
+
     /// A diagnostic for each of the text's errors, in order; a lone one where it nests deeper than `NESTING_LIMIT`.
     /// `AllocError` where a growth was refused.
     pub fn diagnostics(&self, alloc: Global) -> Result<Vec<Diagnostic>, AllocError>

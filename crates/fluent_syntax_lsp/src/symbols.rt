@@ -31,7 +31,7 @@ pub struct Fold {
 }
 
 /// The tree of a text, with junk for what was refused. None where it nests deeper than `NESTING_LIMIT`.
-fn tree_of(alloc: Global, text: &str) -> Result<Option<Resource<Span>>, AllocError> {
+pub fn tree_of(alloc: Global, text: &str) -> Result<Option<Resource<Span>>, AllocError> {
     match parse_spans_within(alloc, text, Edition::One, NESTING_LIMIT) {
         Ok(Ok(tree)) => Ok(Some(tree)),
         Ok(Err(ParseFault::Syntax(tree, _errors))) => Ok(Some(tree)),
