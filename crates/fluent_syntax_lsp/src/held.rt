@@ -7,14 +7,12 @@ ghost use Rattle.fluent_syntax_lsp.specs.Held.{TellsAll};
 ghost use Rattle.fluent_syntax_lsp.specs.declared.limits.TheConstants.{NESTING_LIMIT};
 
 use crate::limits::NESTING_LIMIT;
-use fluent_syntax::ast::Entry;
 use fluent_syntax::parser::{Edition, ParserError};
 use fluent_syntax_parser::options::Halt;
 use fluent_syntax_reread::placed::Placed;
 use fluent_syntax_reread::{ChangeFault, Reread};
 use std::alloc::{AllocError, Global};
 use std::marker::Model;
-use std::ops::Range;
 
 /// A text with its tiles. In a clause it is the bytes of the text.
 #[derive(Drop)]
@@ -72,24 +70,9 @@ impl Held {
         self.reread.change(alloc, from, to, new)
     }
 
-    /// The bytes of the entry or junk at the byte, with the comment that hangs on it. None where there is none.
-    pub fn entry_at(&self, byte: usize) -> Option<Range<usize>> {
-        let mut comment: Option<Range<usize>> = None;
-        for tile in self.reread.tiles() {
-            let stretch = stretch_of(tile);
-            if byte < stretch.end {
-                return if byte < stretch.start {
-                    None
-                } else {
-                    Some(with_comment(comment, stretch))
-                };
-            }
-            comment = match tile.found.entry {
-                Entry::Comment(_) => Some(stretch),
-                _ => None,
-            };
-        }
-        None
+    /// What stands in the text, tile by tile.
+    pub fn tiles(&self) -> &[Placed] {
+        self.reread.tiles()
     }
 
     /// The errors of the text, in order. `AllocError` where a growth was refused.
@@ -98,19 +81,5 @@ impl Held {
         ensures places { IfOk result (λ errors. All (λ e. e.pos.start ≤ length self.now) errors.items) }
     {
         self.reread.errors(alloc)
-    }
-}
-
-/// Where a tile stands.
-fn stretch_of(tile: &Placed) -> Range<usize> {
-    let span = tile.found.span;
-    tile.base.saturating_add(span.start)..tile.base.saturating_add(span.end)
-}
-
-/// The stretch with the one before it, where that ends where it begins.
-fn with_comment(comment: Option<Range<usize>>, stretch: Range<usize>) -> Range<usize> {
-    match comment {
-        Some(before) if before.end == stretch.start => before.start..stretch.end,
-        _ => stretch,
     }
 }

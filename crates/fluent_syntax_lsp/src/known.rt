@@ -32,7 +32,7 @@ pub fn known_documents(
         found.push(Known {
             uri: uri.as_str(),
             open,
-            occurrences: occurrences_in(alloc, open.document.text())?,
+            occurrences: occurrences_in(alloc, &open.document)?,
         })?;
     }
     Ok(found)

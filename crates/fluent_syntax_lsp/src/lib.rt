@@ -26,6 +26,7 @@ mod renaming;
 mod replies;
 mod server;
 mod sessions;
+mod stretches;
 mod symbols;
 
 pub use diagnostics::{Diagnostic, diagnostics_in};

@@ -1,8 +1,9 @@
 //! The names in a text, each where it stands.
 
-use crate::symbols::tree_of;
+use crate::documents::Document;
+use crate::stretches::moved;
 use fluent_syntax::spans::Span;
-use fluent_syntax_names::{Mention, outline_of};
+use fluent_syntax_names::{Mention, mentions};
 use std::alloc::{AllocError, Global};
 
 /// What a name is one of.
@@ -64,50 +65,51 @@ pub fn name_of(text: &str, occurrence: Occurrence) -> Name<'_> {
     }
 }
 
-/// The names of a text, in order. None of a text that nests deeper than `NESTING_LIMIT`.
-pub fn occurrences_in(alloc: Global, text: &str) -> Result<Vec<Occurrence>, AllocError> {
+/// The names in a document, in order. None of one that nests deeper than `NESTING_LIMIT`.
+pub fn occurrences_in(alloc: Global, document: &Document) -> Result<Vec<Occurrence>, AllocError> {
     let mut found = Vec::new(alloc);
-    if let Some(tree) = tree_of(alloc, text)? {
-        let outline = outline_of(alloc, text, &tree.body)?;
+    for tile in document.tiles() {
         let mut owner = None;
-        for mention in &outline.mentions {
-            owner = add_occurrences(&mut found, owner, *mention)?;
+        for mention in mentions(alloc, &tile.found.entry)?.iter() {
+            owner = add_occurrences(&mut found, owner, tile.base, *mention)?;
         }
     }
     Ok(found)
 }
 
-/// Adds the names of a mention, behind the message or term whose attributes may follow; gives the one whose may follow
+/// Adds the names of a mention, whose places are counted from the base, behind the message or term whose attributes may follow; gives the one whose may follow
 /// then.
 fn add_occurrences(
     found: &mut Vec<Occurrence>,
     owner: Option<Occurrence>,
+    base: usize,
     mention: Mention<Span>,
 ) -> Result<Option<Occurrence>, AllocError> {
     let named = |kind, name, defines| Occurrence {
         kind,
-        name,
+        name: moved(base, name),
         attribute: None,
         defines,
     };
+    let behind = |attribute: Option<Span>| attribute.map(|span| moved(base, span));
     match mention {
         Mention::Message { name, .. } => add_owner(found, named(NameKind::Message, name, true)),
         Mention::Term { name } => add_owner(found, named(NameKind::Term, name, true)),
         Mention::Attribute { name } => {
-            add_attribute(found, owner, Some(name))?;
+            add_attribute(found, owner, behind(Some(name)))?;
             Ok(owner)
         }
         Mention::Junk { .. } => Ok(owner),
         Mention::MessageReference { name, attribute } => {
             let message = named(NameKind::Message, name, false);
             found.push(message)?;
-            add_attribute(found, Some(message), attribute)?;
+            add_attribute(found, Some(message), behind(attribute))?;
             Ok(owner)
         }
         Mention::TermReference { name, attribute } => {
             let term = named(NameKind::Term, name, false);
             found.push(term)?;
-            add_attribute(found, Some(term), attribute)?;
+            add_attribute(found, Some(term), behind(attribute))?;
             Ok(owner)
         }
         Mention::Variable { name } => {

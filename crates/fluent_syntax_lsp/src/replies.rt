@@ -2,7 +2,7 @@
 
 use crate::diagnostics::Diagnostic;
 use crate::known::Known;
-use crate::occurrences::{NameKind, Occurrence, name_of};
+use crate::occurrences::{NameKind, Occurrence, bytes_of, name_of};
 use crate::phases::ErrorCode;
 use crate::places::{Place, Places};
 use crate::symbols::{Fold, Symbol, SymbolKind};
@@ -85,44 +85,57 @@ pub fn symbol_list(alloc: Global, text: &str, symbols: &Vec<Symbol>) -> Result<V
     let mut places = Places::new(text);
     let mut list = Vec::new(alloc);
     for symbol in symbols {
-        let mut children = Vec::new(alloc);
-        for name in &symbol.attributes {
-            let none = Value::Array(Vec::new(alloc));
-            children.push(symbol_form(
-                alloc,
-                text,
-                &mut places,
-                SymbolKind::Attribute,
-                *name,
-                none,
-            )?)?;
-        }
-        let children = Value::Array(children);
-        list.push(symbol_form(alloc, text, &mut places, symbol.kind, symbol.name, children)?)?;
+        list.push(symbol_form(alloc, text, &mut places, symbol)?)?;
     }
     Ok(Value::Array(list))
 }
 
-/// A symbol, with those under it.
+/// A symbol, with its attributes under it.
 fn symbol_form(
     alloc: Global,
     text: &str,
     places: &mut Places<'_>,
-    kind: SymbolKind,
-    name: Span,
-    children: Value,
+    symbol: &Symbol,
 ) -> Result<Value, AllocError> {
-    let shown = text.get(name.start..name.end).unwrap_or("");
-    let start = places.place_or_end(name.start);
-    let end = places.place_or_end(name.end);
-    let range = range_form(alloc, start, end)?;
-    let selection = range_form(alloc, start, end)?;
+    let selected = match symbol.kind {
+        SymbolKind::Term => Span {
+            start: symbol.name.start.saturating_sub(1),
+            end: symbol.name.end,
+        },
+        SymbolKind::Message | SymbolKind::Attribute => symbol.name,
+    };
+    let range = span_form(alloc, places, symbol.whole)?;
+    let selection = span_form(alloc, places, selected)?;
+    let mut children = Vec::new(alloc);
+    for name in &symbol.attributes {
+        children.push(attribute_form(alloc, text, places, *name)?)?;
+    }
+    let children = Value::Array(children);
     json!(in alloc; {
-        "name": shown,
-        "kind": (kind_number(kind)),
+        "name": (bytes_of(text, selected)),
+        "kind": (kind_number(symbol.kind)),
         "range": range,
         "selectionRange": selection,
         "children": children
+    })
+}
+
+/// An attribute, by its name.
+fn attribute_form(
+    alloc: Global,
+    text: &str,
+    places: &mut Places<'_>,
+    name: Span,
+) -> Result<Value, AllocError> {
+    let range = span_form(alloc, places, name)?;
+    let selection = span_form(alloc, places, name)?;
+    let none = Value::Array(Vec::new(alloc));
+    json!(in alloc; {
+        "name": (bytes_of(text, name)),
+        "kind": (kind_number(SymbolKind::Attribute)),
+        "range": range,
+        "selectionRange": selection,
+        "children": none
     })
 }
 

@@ -111,31 +111,32 @@ impl Server {
     }
 
     /// The open document that the message names.
-    fn text_of(&self, message: &Value) -> Option<&str> {
-        Some(self.documents.get(uri_of(message)?)?.document.text())
+    fn document_of(&self, message: &Value) -> Option<&Document> {
+        Some(&self.documents.get(uri_of(message)?)?.document)
     }
 
     fn symbols(&self, message: &Value) -> Result<Option<Value>, AllocError> {
-        let Some(text) = self.text_of(message) else {
+        let Some(document) = self.document_of(message) else {
             return Ok(None);
         };
-        let symbols = symbols_in(self.alloc, text)?;
-        Ok(Some(symbol_list(self.alloc, text, &symbols)?))
+        let symbols = symbols_in(self.alloc, document)?;
+        Ok(Some(symbol_list(self.alloc, document.text(), &symbols)?))
     }
 
     fn folds(&self, message: &Value) -> Result<Option<Value>, AllocError> {
-        let Some(text) = self.text_of(message) else {
+        let Some(document) = self.document_of(message) else {
             return Ok(None);
         };
-        let folds = folds_in(self.alloc, text)?;
+        let folds = folds_in(self.alloc, document)?;
         Ok(Some(fold_list(self.alloc, &folds)?))
     }
 
     /// The edit that formats the document; null where it stays as it is.
     fn formatting(&self, message: &Value) -> Result<Option<Value>, AllocError> {
-        let Some(text) = self.text_of(message) else {
+        let Some(document) = self.document_of(message) else {
             return Ok(None);
         };
+        let text = document.text();
         match formatted(self.alloc, text)? {
             Some(written) if written.as_str() != text => {
                 Ok(Some(whole_edit(self.alloc, text, written.as_str())?))
