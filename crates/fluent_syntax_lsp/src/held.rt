@@ -21,15 +21,17 @@ pub struct Held {
 }
 
 impl Model for Held {
-    ghost use Rattle.std.specs.Prelude.{◌≡◌, ◌×◌, ℕ, List};
+    ghost use Rattle.std.specs.Prelude.{◌≡◌, ℕ, List};
     ghost use Rattle.fluent_syntax_tree.specs.declared.edition.Edition.TheVariants.{One};
     ghost use Rattle.fluent_syntax_reread.specs.Held.{bytes_of, IsHeld};
+    ghost use Rattle.fluent_syntax_lsp.specs.declared.limits.TheConstants.{NESTING_LIMIT};
 
     ghost Value = { List ℕ };
 
     ghost view = { λ held. bytes_of held.reread };
 
-    ghost invariant = { λ held. IsHeld held.reread × (held.reread.edition ≡ One) };
+    ghost invariant = { λ held.
+        IsHeld held.reread × (held.reread.edition ≡ One) × (held.reread.nesting ≡ NESTING_LIMIT) };
 }
 
 impl Held {
