@@ -30,7 +30,7 @@ pub fn change_of(value: &Value) -> Option<Change<'_>> {
 }
 
 /// The place that a value tells of. None where it tells of none.
-fn place_of(value: &Value) -> Option<Place> {
+pub fn place_of(value: &Value) -> Option<Place> {
     Some(Place {
         line: number_of(value.get("line")?)?,
         character: number_of(value.get("character")?)?,

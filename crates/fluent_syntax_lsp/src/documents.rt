@@ -9,7 +9,9 @@ use crate::diagnostics::{Diagnostic, diagnostics_in, diagnostics_of};
 use crate::held::Held;
 use crate::offsets::byte_of;
 use crate::places::Place;
+use crate::stretches::Stretches;
 use fluent_syntax_parser::options::Halt;
+use fluent_syntax_reread::placed::Placed;
 use fluent_syntax_reread::{ChangeFault, changed};
 use std::alloc::{AllocError, Global};
 
@@ -83,6 +85,31 @@ impl Document {
         let first = byte_of(self.text(), start);
         let last = byte_of(self.text(), end);
         self.change(alloc, first.min(last), first.max(last), new)
+    }
+
+    /// What stands in the text, tile by tile; none of a text that nests too deeply.
+    pub fn tiles(&self) -> &[Placed] {
+        match self {
+            Document::Held(held) => held.tiles(),
+            Document::TooDeep(_) => &[],
+        }
+    }
+
+    /// The entry or junk at the byte, as it stands in the text, with the comment that hangs on it. None where there is
+    /// none, and of a text that nests too deeply.
+    pub fn entry_at(&self, byte: usize) -> Option<&str> {
+        let mut stretches = Stretches::new(self.text());
+        for tile in self.tiles() {
+            let whole = stretches.next(tile);
+            if byte < whole.end {
+                return if byte < whole.start {
+                    None
+                } else {
+                    self.text().get(whole.start..whole.end)
+                };
+            }
+        }
+        None
     }
 
     /// A diagnostic for each of the text's errors, in order; a lone one where it nests deeper than `NESTING_LIMIT`.

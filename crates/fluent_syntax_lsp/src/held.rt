@@ -9,6 +9,7 @@ ghost use Rattle.fluent_syntax_lsp.specs.declared.limits.TheConstants.{NESTING_L
 use crate::limits::NESTING_LIMIT;
 use fluent_syntax::parser::{Edition, ParserError};
 use fluent_syntax_parser::options::Halt;
+use fluent_syntax_reread::placed::Placed;
 use fluent_syntax_reread::{ChangeFault, Reread};
 use std::alloc::{AllocError, Global};
 use std::marker::Model;
@@ -20,15 +21,17 @@ pub struct Held {
 }
 
 impl Model for Held {
-    ghost use Rattle.std.specs.Prelude.{◌≡◌, ◌×◌, ℕ, List};
+    ghost use Rattle.std.specs.Prelude.{◌≡◌, ℕ, List};
     ghost use Rattle.fluent_syntax_tree.specs.declared.edition.Edition.TheVariants.{One};
     ghost use Rattle.fluent_syntax_reread.specs.Held.{bytes_of, IsHeld};
+    ghost use Rattle.fluent_syntax_lsp.specs.declared.limits.TheConstants.{NESTING_LIMIT};
 
     ghost Value = { List ℕ };
 
     ghost view = { λ held. bytes_of held.reread };
 
-    ghost invariant = { λ held. IsHeld held.reread × (held.reread.edition ≡ One) };
+    ghost invariant = { λ held.
+        IsHeld held.reread × (held.reread.edition ≡ One) × (held.reread.nesting ≡ NESTING_LIMIT) };
 }
 
 impl Held {
@@ -67,6 +70,11 @@ impl Held {
             IfErr result (Refuses self.old from to NESTING_LIMIT size) }
     {
         self.reread.change(alloc, from, to, new)
+    }
+
+    /// What stands in the text, tile by tile.
+    pub fn tiles(&self) -> &[Placed] {
+        self.reread.tiles()
     }
 
     /// The errors of the text, in order. `AllocError` where a growth was refused.

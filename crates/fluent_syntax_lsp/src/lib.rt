@@ -1,8 +1,10 @@
 //! A language server for Fluent Translation Lists: the protocol's frames, places and answers.
 #![tactic(auto)]
 
+mod asked;
 mod breaks;
 mod changes;
+mod completion;
 mod diagnostics;
 mod documents;
 mod endings;
@@ -11,16 +13,20 @@ mod formatting;
 mod frames;
 mod held;
 mod inbox;
+mod known;
 mod limits;
 mod messages;
 mod methods;
+mod occurrences;
 mod offsets;
 mod outbox;
 mod phases;
 mod places;
+mod renaming;
 mod replies;
 mod server;
 mod sessions;
+mod stretches;
 mod symbols;
 
 pub use diagnostics::{Diagnostic, diagnostics_in};
