@@ -18,24 +18,23 @@ enum Expected<'t> {
     Nothing,
 }
 
+fn is_name_byte(byte: u8) -> bool {
+    byte.is_ascii_alphanumeric() || byte == b'_' || byte == b'-'
+}
+
 /// Where the name begins that ends at the byte: names have letters, digits, `_` and `-`.
 fn begin_of_name(text: &[u8], end: usize) -> usize {
-    let mut begin = end.min(text.len());
-    while begin > 0 {
-        let byte = text[begin - 1];
-        if !(byte.is_ascii_alphanumeric() || byte == b'_' || byte == b'-') {
-            return begin;
+    for at in (0..end.min(text.len())).rev() {
+        if !is_name_byte(text[at]) {
+            return at + 1;
         }
-        begin -= 1;
     }
-    begin
+    0
 }
 
 /// Whether the last brace before the byte opens a placeable.
 fn is_in_placeable(text: &[u8], end: usize) -> bool {
-    let mut at = end.min(text.len());
-    while at > 0 {
-        at -= 1;
+    for at in (0..end.min(text.len())).rev() {
         match text[at] {
             b'{' => return true,
             b'}' => return false,
@@ -49,17 +48,20 @@ fn is_in_placeable(text: &[u8], end: usize) -> bool {
 fn expected_at(text: &str, byte: usize) -> Expected<'_> {
     let bytes = text.as_bytes();
     let begin = begin_of_name(bytes, byte);
-    let before = if begin > 0 { bytes[begin - 1] } else { b'\n' };
     if !is_in_placeable(bytes, begin) {
         return Expected::Nothing;
     }
-    match before {
-        b'$' => Expected::Variables,
-        b'.' => {
-            let owner = begin_of_name(bytes, begin - 1);
-            Expected::AttributesOf(text.get(owner..begin - 1).unwrap_or(""))
+    let word = text.get(begin..byte).unwrap_or("");
+    let Some(before) = begin.checked_sub(1) else {
+        return Expected::Nothing;
+    };
+    match bytes.get(before) {
+        Some(b'$') => Expected::Variables,
+        Some(b'.') => {
+            let owner = begin_of_name(bytes, before);
+            Expected::AttributesOf(text.get(owner..before).unwrap_or(""))
         }
-        _ if begin < bytes.len() && bytes[begin] == b'-' && begin < byte => Expected::Terms,
+        _ if word.starts_with('-') => Expected::Terms,
         _ => Expected::MessagesAndTerms,
     }
 }

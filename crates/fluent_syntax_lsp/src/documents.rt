@@ -3,7 +3,7 @@ ghost use Rattle.std.specs.Prelude.{◌≡◌, IfOk, map, OnErr, OnOk};
 ghost use Rattle.fluent_syntax_reread.specs.Faults.{IsRange};
 ghost use Rattle.fluent_syntax_reread.specs.Reading.{changed};
 ghost use Rattle.fluent_syntax_lsp.specs.Diagnostics.{DiagnosesDocument, shown};
-ghost use Rattle.fluent_syntax_lsp.specs.Documents.{ChangesBetween, document_text};
+ghost use Rattle.fluent_syntax_lsp.specs.Documents.{ChangesBetween, document_text, HasTiles};
 
 use crate::diagnostics::{Diagnostic, diagnostics_in, diagnostics_of};
 use crate::held::Held;
@@ -88,7 +88,9 @@ impl Document {
     }
 
     /// What stands in the text, tile by tile; none of a text that nests too deeply.
-    pub fn tiles(&self) -> &[Placed] {
+    pub fn tiles(&self) -> &[Placed]
+        ensures { HasTiles self.now result.now }
+    {
         match self {
             Document::Held(held) => held.tiles(),
             Document::TooDeep(_) => &[],
@@ -97,7 +99,7 @@ impl Document {
 
     /// The entry or junk at the byte, as it stands in the text, with the comment that hangs on it. None where there is
     /// none, and of a text that nests too deeply.
-    pub fn entry_at(&self, byte: usize) -> Option<&str> {
+    pub(crate) fn entry_at(&self, byte: usize) -> Option<&str> {
         let mut stretches = Stretches::new(self.text());
         for tile in self.tiles() {
             let whole = stretches.next(tile);

@@ -2,7 +2,9 @@
 ghost use Rattle.std.specs.Prelude.{◌≡◌, ◌≤◌, All, IfErr, IfOk, length, OnErr, OnOk};
 ghost use Rattle.fluent_syntax_parser.specs.Halts.{HaltsWithin};
 ghost use Rattle.fluent_syntax_reread.specs.Faults.{IsRange, Refuses};
+ghost use Rattle.fluent_syntax_reread.specs.Placed.{Reads};
 ghost use Rattle.fluent_syntax_reread.specs.Reading.{changed};
+ghost use Rattle.fluent_syntax_tree.specs.declared.edition.Edition.TheVariants.{One};
 ghost use Rattle.fluent_syntax_lsp.specs.Held.{TellsAll};
 ghost use Rattle.fluent_syntax_lsp.specs.declared.limits.TheConstants.{NESTING_LIMIT};
 
@@ -73,7 +75,9 @@ impl Held {
     }
 
     /// What stands in the text, tile by tile.
-    pub fn tiles(&self) -> &[Placed] {
+    pub fn tiles(&self) -> &[Placed]
+        ensures { Reads One self.now result.now }
+    {
         self.reread.tiles()
     }
 

@@ -13,9 +13,9 @@ fn is_identifier(text: &str) -> bool {
     match text.as_bytes() {
         [first, rest @ ..] => {
             first.is_ascii_alphabetic()
-                && rest
-                    .iter()
-                    .all(|byte| byte.is_ascii_alphanumeric() || *byte == b'_' || *byte == b'-')
+                && rest.iter().all(|byte| byte.is_ascii_alphanumeric()
+                    || *byte == b'_'
+                    || *byte == b'-')
         }
         [] => false,
     }
@@ -27,7 +27,11 @@ fn identifier_of(kind: NameKind, new_name: &str) -> Option<&str> {
         NameKind::Term => new_name.strip_prefix('-').unwrap_or(new_name),
         _ => new_name,
     };
-    if is_identifier(name) { Some(name) } else { None }
+    if is_identifier(name) {
+        Some(name)
+    } else {
+        None
+    }
 }
 
 /// The name with another in its place, or in the place of its attribute's.
@@ -54,9 +58,10 @@ pub fn renaming(
     let Some(name) = asked.name() else {
         return Ok(None);
     };
-    let (NameKind::Message | NameKind::Term, Some(identifier)) =
-        (name.kind, identifier_of(name.kind, new_name))
-    else {
+    let (NameKind::Message | NameKind::Term, Some(identifier)) = (
+        name.kind,
+        identifier_of(name.kind, new_name),
+    ) else {
         return Ok(None);
     };
     let mut changes = Vec::new(alloc);
@@ -89,10 +94,5 @@ fn edits_in(
     for span in &found {
         edits.push(edit_form(alloc, &mut places, *span, identifier)?)?;
     }
-    Ok(Some(edits_of_document(
-        alloc,
-        known.uri,
-        known.open.version,
-        Value::Array(edits),
-    )?))
+    Ok(Some(edits_of_document(alloc, known.uri, known.open.version, Value::Array(edits))?))
 }

@@ -55,9 +55,10 @@ impl<'t> Stretches<'t> {
 
 /// Where what ends at the byte ends without spaces and line ends.
 fn trimmed_end(text: &[u8], end: usize) -> usize {
-    let mut end = end.min(text.len());
-    while end > 0 && matches!(text[end - 1], b' ' | b'\n' | b'\r') {
-        end -= 1;
+    for at in (0..end.min(text.len())).rev() {
+        if !matches!(text[at], b' ' | b'\n' | b'\r') {
+            return at + 1;
+        }
     }
-    end
+    0
 }

@@ -108,6 +108,17 @@ fn changes_of_a_document(rt: HostRuntime) -> Result<(), Fail> {
     Ok(())
 }
 
+#[test]
+fn tiles_of_a_document(rt: HostRuntime) -> Result<(), Fail> {
+    let alloc = rt.alloc();
+    let mut document = Document::new(alloc, "# c\na = b\nbro ken\n")?;
+    assert_same(alloc, "tiles", &document.tiles().len(), &3)?;
+    document.change(alloc, 10, 18, "-d = e\n")?;
+    assert_same_text(alloc, "text", document.text(), "# c\na = b\n-d = e\n")?;
+    assert_same(alloc, "tiles", &document.tiles().len(), &3)?;
+    assert_holds(alloc, "no junk", document.tiles().iter().all(|tile| tile.found.error.is_none()))
+}
+
 /// A message whose value nests that deeply.
 fn nested(alloc: Global, depth: usize) -> Result<String, Fail> {
     let mut text = String::from_str(alloc, "a = ")?;
