@@ -91,11 +91,15 @@ abbrev pub probe_slot : Slot → Slot
 probe_slot Value = Value
 probe_slot (Attribute n) = Attribute 0
 
--- The text is what the serializer writes for the pattern behind the `=`.
-pub record PatternText (edition : Edition) (slot : Slot) (v : PatternTree Text) (text : Text) : Type 0 where
+-- The text is that of the pattern which the written message has in the slot.
+pub record PatternIn (edition : Edition) (written : Text) (slot : Slot) (text : Text) : Type 0 where
   pub span : Span
-  pub there : SlotAt edition (entry_text (probe slot v)) 0 (probe_slot slot) (Some span)
-  pub is : text ≡ bytes_at (entry_text (probe slot v)) span
+  pub there : SlotAt edition written 0 (probe_slot slot) (Some span)
+  pub is : text ≡ bytes_at written span
+
+-- The text is what the serializer writes for the pattern behind the `=`.
+abbrev pub PatternText : Edition → Slot → PatternTree Text → Text → Type 0
+PatternText edition slot v text = PatternIn edition (entry_text (probe slot v)) slot text
 
 -- ---- bytes
 
@@ -110,13 +114,18 @@ pub record BeginsAt (edition : Edition) (t : List ℕ) (index start : ℕ) : Typ
   pub kind : place.kind ≡ Field
   pub begins : place.span.start ≡ start
 
--- In place of the value there is the text of the new one, with the blank lines that were behind the old one.
+-- In place of the slot of the entry that begins at the place there is the text, with the blank lines that were behind
+-- what stood there.
+pub record TextSet (edition : Edition) (t : List ℕ) (start : ℕ) (slot : Slot) (text : Text) (u : List ℕ) : Type 0 where
+  pub span : Span
+  pub there : SlotAt edition t start slot (Some span)
+  pub bytes : u ≡ take span.start t ++ (text ++ (blank_lines (kept_lines t span.end text) ++ drop span.end t))
+
+-- In place of the slot of the entry of that number there is the text of the pattern.
 pub record SetsBytes (edition : Edition) (t : List ℕ) (index : ℕ) (slot : Slot) (v : PatternTree Text) (u : List ℕ) :
     Type 0 where
   pub start : ℕ
   pub begins : BeginsAt edition t index start
-  pub span : Span
-  pub there : SlotAt edition t start slot (Some span)
   pub text : Text
   pub written : PatternText edition slot v text
-  pub bytes : u ≡ take span.start t ++ (text ++ (blank_lines (kept_lines t span.end text) ++ drop span.end t))
+  pub set : TextSet edition t start slot text u

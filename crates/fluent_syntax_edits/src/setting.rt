@@ -1,7 +1,10 @@
 //! Trees with a pattern set.
-ghost use Rattle.std.specs.Prelude.{◌≡◌, map, string_bytes, IfOk, IfSome, IsTrue};
-ghost use Rattle.fluent_syntax_tree.specs.Entry.{message, term};
-ghost use Rattle.fluent_syntax_edits.specs.Values.{at_number, with_slot};
+ghost use Rattle.std.specs.Prelude.{◌≡◌, ◌<◌, ◌∷◌, [], length, map, string_bytes, IfOk, IfSome, IsTrue};
+ghost use Rattle.fluent_syntax_tree.specs.Entry.{AttributeTree, message, term};
+ghost use Rattle.fluent_syntax_edits.specs.Values.{at_number, probe, with_slot};
+ghost use Rattle.fluent_syntax_edits.specs.declared.slots.Slot.{Slot};
+ghost use Rattle.fluent_syntax_grammar.specs.Written.{Text};
+ghost use Rattle.fluent_syntax_tree.specs.Tree.{PatternTree};
 ghost use Rattle.fluent_syntax_tree.specs.View.{attribute_view, entry_view, message_view, pattern_view};
 ghost use Rattle.fluent_syntax_tree.specs.View.{resource_view, term_view};
 
@@ -10,62 +13,99 @@ use fluent_syntax_tree::ast::{Attribute, Entry, Message, Pattern, Resource, Term
 use fluent_syntax_tree::laws::same_texts;
 use std::alloc::AllocError;
 
-/// The one pattern of the message, which is its value or that of its attribute.
-pub(crate) fn wanted_pattern(probe: Entry<String>) -> Option<Pattern<String>> {
-    match probe {
-        Entry::Message(message) => match message.value {
-            Some(value) => Some(value),
-            None => {
-                let mut attributes = message.attributes;
-                match attributes.pop() {
-                    Some(attribute) => Some(attribute.value),
-                    None => None,
-                }
-            }
-        },
-        _ => None,
+/// The value of the only attribute.
+fn only_value(attributes: Vec<Attribute<String>>) -> Option<Pattern<String>>
+    ensures { (a : AttributeTree Text) → map (attribute_view (λ s. string_bytes s)) attributes.items ≡ a ∷ [] →
+        IfSome result (λ found. pattern_view (λ s. string_bytes s) found ≡ a.value) }
+{
+    let mut attributes = attributes;
+    match attributes.pop() {
+        Some(attribute) => {
+            let Attribute { id: _id, value } = attribute;
+            Some(value)
+        }
+        None => None,
     }
 }
 
-/// The attributes with the pattern as the value of the one of that number.
+/// The one pattern of a message that has no other: its value, or that of its attribute.
+pub(crate) fn wanted_pattern(entry: Entry<String>) -> Option<Pattern<String>>
+    ensures { (slot : Slot) (v : PatternTree Text) →
+        entry_view (λ s. string_bytes s) entry ≡ probe slot v →
+        IfSome result (λ found. pattern_view (λ s. string_bytes s) found ≡ v) }
+{
+    match entry {
+        Entry::Message(message) => {
+            let Message {
+                value,
+                attributes,
+                ..
+            } = message;
+            match value {
+                Some(value) => Some(value),
+                None => only_value(attributes),
+            }
+        }
+        _other => None,
+    }
+}
+
+/// The attributes with the pattern as the value of the one of that number, which is there.
+fn with_value_of(
+    attributes: Vec<Attribute<String>>,
+    number: usize,
+    value: Pattern<String>,
+) -> Result<Vec<Attribute<String>>, AllocError>
+    requires { number < length attributes.items }
+    ensures { IfOk result (λ made. map (attribute_view (λ s. string_bytes s)) made.items
+        ≡ at_number (λ a. record a { value = pattern_view (λ s. string_bytes s) value }) number
+        (map (attribute_view (λ s. string_bytes s)) attributes.items)) }
+{
+    let mut attributes = attributes;
+    let Attribute { id, value: _old } = attributes.remove(number);
+    attributes.insert(number, Attribute { id, value })?;
+    Ok(attributes)
+}
+
+/// The same, where it may not be there.
 fn with_attribute(
     attributes: Vec<Attribute<String>>,
     number: usize,
     value: Pattern<String>,
 ) -> Result<Vec<Attribute<String>>, AllocError>
-    ensures { let text = λ s. string_bytes s in IfOk result (λ made. map (attribute_view text) made.items
-        ≡ at_number (λ a. record a { value = pattern_view text value }) number
-        (map (attribute_view text) attributes.items)) }
+    ensures { IfOk result (λ made. map (attribute_view (λ s. string_bytes s)) made.items
+        ≡ at_number (λ a. record a { value = pattern_view (λ s. string_bytes s) value }) number
+        (map (attribute_view (λ s. string_bytes s)) attributes.items)) }
 {
-    let mut attributes = attributes;
     if number < attributes.len() {
-        let Attribute { id, value: _ } = attributes.remove(number);
-        attributes.insert(number, Attribute { id, value })?;
+        with_value_of(attributes, number, value)
+    } else {
+        Ok(attributes)
     }
-    Ok(attributes)
 }
 
 /// The message with the pattern in the slot.
 fn message_with(
-    message: Message<String>,
+    inner: Message<String>,
     slot: Slot,
     value: Pattern<String>,
 ) -> Result<Message<String>, AllocError>
-    ensures { let text = λ s. string_bytes s in IfOk result (λ made. message (message_view text made)
-        ≡ with_slot slot (pattern_view text value) (message (message_view text message))) }
+    ensures { IfOk result (λ made. message (message_view (λ s. string_bytes s) made)
+        ≡ with_slot slot (pattern_view (λ s. string_bytes s) value)
+        (message (message_view (λ s. string_bytes s) inner))) }
 {
     match slot {
         Slot::Value => Ok(Message {
             value: Some(value),
-            ..message
+            ..inner
         }),
         Slot::Attribute(number) => {
-            let attributes = with_attribute(message.attributes, number, value)?;
+            let attributes = with_attribute(inner.attributes, number, value)?;
             Ok(Message {
-                id: message.id,
-                value: message.value,
+                id: inner.id,
+                value: inner.value,
                 attributes,
-                comment: message.comment,
+                comment: inner.comment,
             })
         }
     }
@@ -73,22 +113,23 @@ fn message_with(
 
 /// The term with the pattern in the slot.
 fn term_with(
-    term: Term<String>,
+    inner: Term<String>,
     slot: Slot,
     value: Pattern<String>,
 ) -> Result<Term<String>, AllocError>
-    ensures { let text = λ s. string_bytes s in IfOk result (λ made. term (term_view text made)
-        ≡ with_slot slot (pattern_view text value) (term (term_view text term))) }
+    ensures { IfOk result (λ made. term (term_view (λ s. string_bytes s) made)
+        ≡ with_slot slot (pattern_view (λ s. string_bytes s) value)
+        (term (term_view (λ s. string_bytes s) inner))) }
 {
     match slot {
-        Slot::Value => Ok(Term { value, ..term }),
+        Slot::Value => Ok(Term { value, ..inner }),
         Slot::Attribute(number) => {
-            let attributes = with_attribute(term.attributes, number, value)?;
+            let attributes = with_attribute(inner.attributes, number, value)?;
             Ok(Term {
-                id: term.id,
-                value: term.value,
+                id: inner.id,
+                value: inner.value,
                 attributes,
-                comment: term.comment,
+                comment: inner.comment,
             })
         }
     }
@@ -100,8 +141,8 @@ fn entry_with(
     slot: Slot,
     value: Pattern<String>,
 ) -> Result<Entry<String>, AllocError>
-    ensures { let text = λ s. string_bytes s in IfOk result (λ made. entry_view text made
-        ≡ with_slot slot (pattern_view text value) (entry_view text entry)) }
+    ensures { IfOk result (λ made. entry_view (λ s. string_bytes s) made
+        ≡ with_slot slot (pattern_view (λ s. string_bytes s) value) (entry_view (λ s. string_bytes s) entry)) }
 {
     match entry {
         Entry::Message(message) => {
@@ -124,8 +165,8 @@ pub(crate) fn has_slot_set(
     slot: Slot,
     value: Pattern<String>,
 ) -> Result<bool, AllocError>
-    ensures { let text = λ s. string_bytes s in IfOk result (λ so. IsTrue so → resource_view text new.now
-        ≡ at_number (with_slot slot (pattern_view text value)) index (resource_view text old)) }
+    ensures { IfOk result (λ so. IsTrue so → resource_view (λ s. string_bytes s) new.now
+        ≡ at_number (with_slot slot (pattern_view (λ s. string_bytes s) value)) index (resource_view (λ s. string_bytes s) old)) }
 {
     let mut body = old.body;
     if index >= body.len() {

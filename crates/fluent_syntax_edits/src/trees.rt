@@ -56,7 +56,7 @@ pub(crate) fn tree_of_text(
 {
     let tree = match parse_spans_edition(alloc, text, edition) {
         Ok(tree) => tree,
-        Err(ParseFault::Syntax(tree, _)) => tree,
+        Err(ParseFault::Syntax(tree, _errors)) => tree,
         Err(ParseFault::Memory) => return Err(AllocError),
     };
     entries::resource(&TextsOf(text), alloc, &tree)

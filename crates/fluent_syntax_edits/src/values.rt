@@ -1,9 +1,10 @@
 //! Values in place of those of messages, terms and attributes.
 ghost use Rattle.std.specs.Prelude.{◌≡◌, ◌+◌, ◌^◌, ◌<◌, ◌≤◌, length, string_bytes, IfOk, IsTrue};
-ghost use Rattle.fluent_syntax_edits.specs.Values.{BeginsAt, PatternText, ReadAs, SetsBytes, ValueSet, at_number};
-ghost use Rattle.fluent_syntax_edits.specs.Values.{with_slot};
+ghost use Rattle.fluent_syntax_edits.specs.Values.{BeginsAt, PatternIn, SetsBytes, TextSet, ValueSet, probe};
 ghost use Rattle.fluent_syntax_edits.specs.declared.slots.Slot.TheVariants.{Attribute, Value};
-ghost use Rattle.fluent_syntax_tree.specs.View.{entry_view, pattern_view, resource_view};
+ghost use Rattle.fluent_syntax_grammar.specs.Written.{Text};
+ghost use Rattle.fluent_syntax_tree.specs.Tree.{PatternTree};
+ghost use Rattle.fluent_syntax_tree.specs.View.{entry_view, pattern_view};
 
 use crate::fault::EditFault;
 use crate::outline::outline;
@@ -28,6 +29,7 @@ fn entry_start(
 ) -> Result<usize, EditFault>
     requires { length source.now + 1 < 2 ^ 64 }
     ensures begins { IfOk result (BeginsAt edition source.now index) }
+    ensures within { IfOk result (λ start. start ≤ length source.now) }
 {
     let places = outline(alloc, source, edition)?;
     let Some(run) = run_of(&places, index) else {
@@ -38,7 +40,8 @@ fn entry_start(
     }
     let place = places[run.end - 1];
     match place.kind {
-        PlaceKind::Field => Ok(place.span.start),
+        PlaceKind::Field if place.span.start <= source.len() => Ok(place.span.start),
+        PlaceKind::Field => Err(EditFault::NoEntry),
         PlaceKind::Junk => Err(EditFault::IsJunk(place.span)),
         PlaceKind::Comment | PlaceKind::OtherComment => Err(EditFault::NoValue),
     }
@@ -50,7 +53,9 @@ fn pattern_text<'t>(
     edition: Edition,
     slot: Slot,
     written: &'t str,
-) -> Result<&'t str, EditFault> {
+) -> Result<&'t str, EditFault>
+    ensures { IfOk result (λ text. PatternIn edition written.now slot text.now) }
+{
     match slot_at(alloc, written, edition, 0, probe_slot(slot))? {
         Some(span) => Ok(&written[span.start..span.end]),
         None => Err(EditFault::NoValue),
@@ -67,6 +72,7 @@ fn with_text(
     text: &str,
 ) -> Result<String, EditFault>
     requires { start ≤ length source.now }
+    ensures { IfOk result (λ made. TextSet edition source.now start slot text.now (string_bytes made)) }
 {
     let Some(span) = slot_at(alloc, source, edition, start, slot)? else {
         return Err(EditFault::NoValue);
@@ -79,7 +85,7 @@ fn with_text(
     Ok(spliced(alloc, source, stretch, text, blank)?)
 }
 
-/// Whether the new text is read as the source is, with the probe's pattern in the slot.
+/// Whether the new text is read as the source is, with the pattern of the entry in the slot.
 fn is_read_so(
     alloc: Global,
     source: &str,
@@ -87,14 +93,16 @@ fn is_read_so(
     edition: Edition,
     index: usize,
     slot: Slot,
-    probe: &Entry<&str>,
+    entry: &Entry<&str>,
 ) -> Result<bool, AllocError>
     requires source { length source.now + 1 < 2 ^ 64 }
     requires made { length made.now + 1 < 2 ^ 64 }
+    ensures { (v : PatternTree Text) → entry_view (λ text. text.now) entry.now ≡ probe slot v →
+        IfOk result (λ so. IsTrue so → ValueSet edition source.now index slot v made.now) }
 {
     let old = tree_of_text(alloc, source, edition)?;
     let new = tree_of_text(alloc, made, edition)?;
-    let Some(value) = wanted_pattern(own_entry(alloc, probe)?) else {
+    let Some(value) = wanted_pattern(own_entry(alloc, entry)?) else {
         return Ok(false);
     };
     has_slot_set(old, &new, index, slot, value)
@@ -109,6 +117,10 @@ fn set(
     value: &Pattern<&str>,
 ) -> Result<String, EditFault>
     requires { length source.now + 1 < 2 ^ 64 }
+    ensures bytes { let v = pattern_view (λ text. text.now) value.now in
+        IfOk result (λ made. SetsBytes edition source.now index slot v (string_bytes made)) }
+    ensures tree { let v = pattern_view (λ text. text.now) value.now in
+        IfOk result (λ made. ValueSet edition source.now index slot v (string_bytes made)) }
 {
     let probe = probe_of(alloc, slot, value)?;
     let written = entry_text(alloc, edition, &probe)?;
@@ -132,6 +144,10 @@ pub fn set_value(
     value: &Pattern<&str>,
 ) -> Result<String, EditFault>
     requires { length source.now + 1 < 2 ^ 64 }
+    ensures bytes { let v = pattern_view (λ text. text.now) value.now in
+        IfOk result (λ made. SetsBytes edition source.now index Value v (string_bytes made)) }
+    ensures tree { let v = pattern_view (λ text. text.now) value.now in
+        IfOk result (λ made. ValueSet edition source.now index Value v (string_bytes made)) }
 {
     set(alloc, source, edition, index, Slot::Value, value)
 }
@@ -147,6 +163,10 @@ pub fn set_attribute(
     value: &Pattern<&str>,
 ) -> Result<String, EditFault>
     requires { length source.now + 1 < 2 ^ 64 }
+    ensures bytes { let v = pattern_view (λ text. text.now) value.now in
+        IfOk result (λ made. SetsBytes edition source.now index (Attribute attribute) v (string_bytes made)) }
+    ensures tree { let v = pattern_view (λ text. text.now) value.now in
+        IfOk result (λ made. ValueSet edition source.now index (Attribute attribute) v (string_bytes made)) }
 {
     set(
         alloc,
