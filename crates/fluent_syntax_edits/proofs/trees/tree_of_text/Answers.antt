@@ -8,11 +8,11 @@ returns c =
     let copied = c.resource.ensures.copy in
     elim c.match-parse_spans_edition.branch [
       | in-Ok w ↦
-          (let (tiles, tiling, same, none) = w.in-Ok.ensures.tiling in
-          read_as c.args.edition c.args.text.now (λ s. string_bytes s) _ w.in-Ok.tree tiles tiling same
+          (let (tiles, tiling, same) = w.in-Ok.ensures.tiling in
+          read_as c.args.edition c.args.text.now (λ s. string_bytes s) _ w.in-Ok.tree tiles tiling same.0
           (rw w.tree-is at copied))
       | in-Err-Syntax w ↦
-          (let (tiles, tiling, same, told) = w.in-Err-Syntax.ensures.tiling in
-          read_as c.args.edition c.args.text.now (λ s. string_bytes s) _ w.in-Err-Syntax.tree tiles tiling same
+          (let (tiles, tiling, same) = rw w.in-Err-Syntax.field-0-is at w.in-Err-Syntax.ensures.tiling in
+          read_as c.args.edition c.args.text.now (λ s. string_bytes s) _ w.in-Err-Syntax.tree tiles tiling same.0
           (rw w.tree-is at copied))
     ]
