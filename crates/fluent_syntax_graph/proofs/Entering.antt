@@ -98,18 +98,14 @@ module _ (g : Graph) (states : List State) (stack starts : List ℕ) (pending : 
       (omega (arith, length_push stack node, old.0), pushed_before stack node 0 i old.0 ∙ old.1)
   ]
 
-  ascending : (k l : ℕ) → k ≤ l → l < length now_starts → at now_starts k ≤ at now_starts l
-  ascending k l le h = elim (pushed starts n 0 l h) [
+  ascending : (k l : ℕ) → k < l → l < length now_starts → at now_starts k < at now_starts l
+  ascending k l before h = elim (pushed starts n 0 l h) [
     | inl w ↦
       let k_in : k < length starts = omega (arith, w.0) in
-      let is_k = pushed_before starts n 0 k k_in in
-      omega (arith, is_k, w.1, sound.ascending k l le w.0)
+      omega (arith, pushed_before starts n 0 k k_in, w.1, sound.ascending k l before w.0)
     | inr w ↦
-      let k_in : k < length now_starts = omega (arith, h) in
-      elim (pushed starts n 0 k k_in) [
-        | inl v ↦ omega (arith, v.1, w.1, sound.within k v.0)
-        | inr v ↦ omega (arith, v.1, w.1)
-      ]
+      let k_in : k < length starts = omega (arith, w.0) in
+      omega (arith, pushed_before starts n 0 k k_in, w.1, sound.within k k_in)
   ]
 
   within : (k : ℕ) → k < length now_starts → at now_starts k < length now_stack

@@ -1,3 +1,4 @@
+pub mod Closing
 pub mod Entering
 pub mod Lists
 pub mod Looking

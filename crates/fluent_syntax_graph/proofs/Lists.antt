@@ -28,3 +28,11 @@ written xs i y d l j = elim (cases_eq j i) [
   | inl e ↦ inl (e, ap (λ k. get_or (set xs i y) k d) e ∙ get_or-set_same xs i y d l)
   | inr n ↦ inr (n, get_or-set_other xs i j y d n)
 ]
+
+-- what ascends never descends
+pub never_down : (xs : List ℕ) → ((k l : ℕ) → k < l → l < length xs → get_or xs k 0 < get_or xs l 0)
+    → (k l : ℕ) → k ≤ l → l < length xs → get_or xs k 0 ≤ get_or xs l 0
+never_down xs ascends k l le within = elim (cases_eq k l) [
+  | inl e ↦ omega (arith, ap (λ (x : ℕ). get_or xs x 0) e)
+  | inr n ↦ let before : k < l = omega (arith, n) in omega (arith, ascends k l before within)
+]

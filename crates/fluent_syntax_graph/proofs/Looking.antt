@@ -8,7 +8,7 @@ use Rattle.fluent_syntax_graph.specs.Search.{Sound, State_of, at, pending_at, Ba
 use Rattle.fluent_syntax_graph.specs.declared.search.Pending.{Pending}
 use Rattle.fluent_syntax_graph.specs.declared.search.State.{State}
 use Rattle.fluent_syntax_graph.specs.declared.search.State.TheVariants as state
-use Rattle.fluent_syntax_graph.proofs.Lists.{written}
+use Rattle.fluent_syntax_graph.proofs.Lists.{never_down, written}
 use Rattle.fluent_syntax_graph.proofs.Reaching.{reaches_on, reaches_next}
 
 module _ (g : Graph) (states : List State) (stack starts : List ℕ) (pending : List Pending) (done : ℕ)
@@ -90,7 +90,7 @@ module _ (g : Graph) (states : List State) (stack starts : List ℕ) (pending : 
     back_to_target last = λ k h le.
         let k_in : k < m = omega (arith, short) in
         let below : k ≤ m - 1 = omega arith in
-        omega (arith, at_short k k_in, sound.ascending k (m - 1) below (omega (arith, fewer)), last (omega arith))
+        omega (arith, at_short k k_in, never_down starts sound.ascending k (m - 1) below (omega (arith, fewer)), last (omega arith))
 
   -- ---- An edge of the last pending node was looked at
 

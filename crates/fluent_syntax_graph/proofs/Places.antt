@@ -9,6 +9,7 @@ use Rattle.fluent_syntax_graph.specs.Search.{Sound, State_of, at, pending_at, Is
 use Rattle.fluent_syntax_graph.specs.declared.search.Pending.{Pending}
 use Rattle.fluent_syntax_graph.specs.declared.search.State.{State}
 use Rattle.fluent_syntax_graph.specs.declared.search.State.TheVariants as state
+use Rattle.fluent_syntax_graph.proofs.Lists.{never_down}
 use Rattle.fluent_syntax_graph.proofs.Reaching.{reaches_next}
 
 -- a node that is not new is one of the graph
@@ -35,7 +36,7 @@ module _ (g : Graph) (states : List State) (stack starts : List ℕ) (pending : 
   pub last_is_behind : (p : ℕ) → last_of starts ≤ p → IsBehind starts p
   last_is_behind p le = λ k h.
       let below : k ≤ length starts - 1 = omega arith in
-      omega (arith, sound.ascending k (length starts - 1) below (omega arith))
+      omega (arith, never_down starts sound.ascending k (length starts - 1) below (omega arith))
 
   -- all open nodes reach what an edge of the last segment leads to
   pub all_reach : (p v : ℕ) → p < length stack → IsBehind starts p → Leads g (at stack p) v

@@ -55,7 +55,7 @@ pub record Sound (g : Graph) (states : List State) (stack starts : List ℕ) (pe
   pub opened : (i : ℕ) → i < length stack → State_of states (at stack i) ≡ state.Open i
   pub placed : (u i : ℕ) → State_of states u ≡ state.Open i → (i < length stack) × (at stack i ≡ u)
   -- the segments
-  pub ascending : (k l : ℕ) → k ≤ l → l < length starts → at starts k ≤ at starts l
+  pub ascending : (k l : ℕ) → k < l → l < length starts → at starts k < at starts l
   pub within : (k : ℕ) → k < length starts → at starts k < length stack
   pub reach : (i j : ℕ) → i < length stack → j < length stack → Back starts i j
       → Reaches g (at stack i) (at stack j)
