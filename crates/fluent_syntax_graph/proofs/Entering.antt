@@ -1,32 +1,25 @@
 -- A new node that all open nodes reach is opened.
 use Rattle.std.proofs.Common.{◌≡◌, ℕ, ◌+◌, ◌<◌, ◌≤◌, ◌⊎◌, inl, inr, Bool, true, false, List, [], ◌∷◌, ◌++◌, length}
 use Rattle.std.proofs.Common.{get_or, set, map, refl, sym, ap, ◌∙◌, arith, subst, cond}
-use Rattle.std.specs.List.{sum_by}
-use Rattle.std.proofs.lemmas.List.{length_push, length-set, map-set, length-map, get_or-map}
-use Rattle.std.proofs.lemmas.List.Sums.{sum_by-set}
+use Rattle.std.proofs.lemmas.List.{length_push, length-set, map-set, length-map}
 use Rattle.fluent_syntax_graph.specs.Graph.{Graph, Reaches, here, edges, target}
 use Rattle.fluent_syntax_graph.specs.Search.{Sound, State_of, at, pending_at, Back, Looked, at_done, at_open, to_come}
 use Rattle.fluent_syntax_graph.specs.Search.{LeadsToDone, is_new, news, count_new}
 use Rattle.fluent_syntax_graph.specs.declared.search.Pending.{Pending}
 use Rattle.fluent_syntax_graph.specs.declared.search.State.{State}
 use Rattle.fluent_syntax_graph.specs.declared.search.State.TheVariants as state
+use Rattle.fluent_syntax_graph.proofs.News.{held, held_less, news_at}
 use Rattle.fluent_syntax_graph.proofs.Lists.{pushed, pushed_last, pushed_before, written}
 
 -- one node less is new
 pub fewer_new : (states : List State) (node : ℕ) (now : State) → node < length states
     → State_of states node ≡ state.New → is_new now ≡ false → count_new (set states node now) + 1 ≡ count_new states
 fewer_new states node now within fresh old =
-    let one : Bool → ℕ = λ b. cond b 1 0 in
     let made : news (set states node now) ≡ set (news states) node false =
     map-set is_new states node now ∙ ap (set (news states) node) old in
-    let was : get_or (news states) node false ≡ true = get_or-map is_new states node state.New false within ∙ ap is_new fresh in
+    let was : get_or (news states) node false ≡ true = news_at states node within ∙ ap is_new fresh in
     let inside : node < length (news states) = omega (arith, length-map states is_new) in
-    let sums : sum_by one (set (news states) node false) + one (get_or (news states) node false)
-    ≡ sum_by one (news states) + 0 = sum_by-set one (news states) node false false inside in
-    let here : sum_by one (set (news states) node false) + 1 ≡ sum_by one (news states) + 0 =
-    subst (λ (b : Bool). sum_by one (set (news states) node false) + one b ≡ sum_by one (news states) + 0) was sums in
-    let counted : count_new (set states node now) ≡ sum_by one (set (news states) node false) = ap (sum_by one) made in
-    omega arith
+    ap (λ (x : List Bool). held x + 1) made ∙ held_less (news states) node inside was
 
 module _ (g : Graph) (states : List State) (stack starts : List ℕ) (pending : List Pending) (done : ℕ)
     (sound : Sound g states stack starts pending done) (node : ℕ) (in_graph : node < length g)

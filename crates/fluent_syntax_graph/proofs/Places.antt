@@ -38,6 +38,13 @@ module _ (g : Graph) (states : List State) (stack starts : List ℕ) (pending : 
       let below : k ≤ length starts - 1 = omega arith in
       omega (arith, never_down starts sound.ascending k (length starts - 1) below (omega arith))
 
+  -- the last start is that of an open node
+  pub last_within : 0 < length stack → last_of starts < length stack
+  last_within some = elim (cases_lt 0 (length starts)) [
+    | inl w ↦ sound.within (length starts - 1) (omega (arith, w))
+    | inr w ↦ omega (arith, get_or_past starts (length starts - 1) 0 (omega (arith, w)))
+  ]
+
   -- all open nodes reach what an edge of the last segment leads to
   pub all_reach : (p v : ℕ) → p < length stack → IsBehind starts p → Leads g (at stack p) v
       → (i : ℕ) → i < length stack → Reaches g (at stack i) v
