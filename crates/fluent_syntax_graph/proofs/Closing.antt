@@ -1,14 +1,14 @@
 -- The last segment is closed: it is a component.
 use Rattle.std.proofs.Common.{◌≡◌, ℕ, ◌+◌, ◌-◌, ◌<◌, ◌≤◌, ◌⊎◌, inl, inr, Bool, true, false, cond, List, [], ◌∷◌, ◌++◌, length}
-use Rattle.std.proofs.Common.{get_or, take, set, map, refl, sym, ap, ◌∙◌, arith, subst, nat_lt}
+use Rattle.std.proofs.Common.{get_or, take, set, refl, sym, ap, ◌∙◌, arith, subst, nat_lt}
 use Rattle.std.specs.List.{count_by}
 use Rattle.std.proofs.lemmas.Bool.{cases_lt, cases_eq}
 use Rattle.std.proofs.lemmas.Bool.Decides.{nat_tests}
 use Rattle.std.proofs.lemmas.List.{length-take-le, get_or-take, get_or_past, get_or_push, length_push, take_at, take-take}
 use Rattle.std.proofs.Math.Seq.{map-set_same}
-use Rattle.fluent_syntax_graph.specs.Graph.{Graph, Leads, Reaches, edges, target}
+use Rattle.fluent_syntax_graph.specs.Graph.{Graph, Reaches, edges, target}
 use Rattle.fluent_syntax_graph.specs.Search.{Sound, State_of, at, pending_at, Back, Looked, at_done, at_open, to_come}
-use Rattle.fluent_syntax_graph.specs.Search.{LeadsToDone, is_new, last_of, news, count_new}
+use Rattle.fluent_syntax_graph.specs.Search.{LeadsToDone, is_new, last_of, news}
 use Rattle.fluent_syntax_graph.specs.declared.search.Pending.{Pending}
 use Rattle.fluent_syntax_graph.specs.declared.search.State.{State}
 use Rattle.fluent_syntax_graph.specs.declared.search.State.TheVariants as state
@@ -40,9 +40,9 @@ module _ (m c : ℕ) where
   open_still state.New i e = absurd (cc)
   open_still (state.Open j) i e = elim (cases_lt j m) [
     | inl w ↦
-      let same : state.Open j ≡ state.Open i = sym (closed_before j w) ∙ e in
-      let is : j ≡ i = cc in
-      (same, omega (arith, w))
+        let same : state.Open j ≡ state.Open i = sym (closed_before j w) ∙ e in
+        let is : j ≡ i = cc in
+        (same, omega (arith, w))
     | inr w ↦ let never : state.Done c ≡ state.Open i = sym (closed_behind j w) ∙ e in absurd (cc)
   ]
   open_still (state.Done d) i e = absurd (cc)
@@ -54,9 +54,9 @@ module _ (m c : ℕ) where
   done_still (state.Open j) d e = elim (cases_lt j m) [
     | inl w ↦ let never : state.Open j ≡ state.Done d = sym (closed_before j w) ∙ e in absurd (cc)
     | inr w ↦
-      let same : state.Done c ≡ state.Done d = sym (closed_behind j w) ∙ e in
-      let is : d ≡ c = cc in
-      inr (j, refl, w, is)
+        let same : state.Done c ≡ state.Done d = sym (closed_behind j w) ∙ e in
+        let is : d ≡ c = cc in
+        inr (j, refl, w, is)
   ]
   done_still (state.Done e') d e = inl e
 
@@ -131,15 +131,15 @@ module _ (g : Graph) (states : List State) (stack starts : List ℕ) (pending : 
         → State_of (set now node (state.Done done)) u ≡ closed_at place done (State_of states u)
     now_closed_to u = elim (written now node (state.Done done) state.New node_in u) [
       | inl w ↦
-        w.1
-        ∙ sym (ap (closed_at place done) (ap (State_of states) w.0 ∙ was_open_there)
-        ∙ closed_behind place done place (omega arith))
+          w.1
+          ∙ sym (ap (closed_at place done) (ap (State_of states) w.0 ∙ was_open_there)
+          ∙ closed_behind place done place (omega arith))
       | inr w ↦
-        let other : u ≡ at stack place → ⊥ = λ e. w.0 (e ∙ node_is) in
-        w.1
-        ∙ now_is u
-        ∙ ap (λ (x : ℕ). closed_at x done (State_of states u)) one_more
-        ∙ one_closed place place_in u other (State_of states u) refl
+          let other : u ≡ at stack place → ⊥ = λ e. w.0 (e ∙ node_is) in
+          w.1
+          ∙ now_is u
+          ∙ ap (λ (x : ℕ). closed_at x done (State_of states u)) one_more
+          ∙ one_closed place place_in u other (State_of states u) refl
     ]
 
   module _ (start : ℕ) (start_is : start ≡ last_of starts) (start_in : start < length stack)
@@ -197,11 +197,11 @@ module _ (g : Graph) (states : List State) (stack starts : List ℕ) (pending : 
     in_segment : (i j : ℕ) → start ≤ i → Back starts i j → start ≤ j
     in_segment i j h back = elim (cases_lt 0 (length starts)) [
       | inl some ↦
-        let within : m < length starts = omega (arith, some) in
-        omega (arith, back m within (omega arith))
+          let within : m < length starts = omega (arith, some) in
+          omega (arith, back m within (omega arith))
       | inr none ↦
-        let past : at starts m ≡ 0 = get_or_past starts m 0 (omega (arith, none)) in
-        omega (arith, past)
+          let past : at starts m ≡ 0 = get_or_past starts m 0 (omega (arith, none)) in
+          omega (arith, past)
     ]
 
     one_segment : (i j : ℕ) → start ≤ j → Back starts i j
@@ -221,11 +221,11 @@ module _ (g : Graph) (states : List State) (stack starts : List ℕ) (pending : 
     back_long : (i j : ℕ) → i < start → Back short_starts i j → Back starts i j
     back_long i j i_in back = λ k h le. elim (cases_lt k m) [
       | inl w ↦
-        let is = at_starts k w in
-        omega (arith, is, back k (omega (arith, starts_length, w)) (omega (arith, is)))
+          let is = at_starts k w in
+          omega (arith, is, back k (omega (arith, starts_length, w)) (omega (arith, is)))
       | inr w ↦
-        let same : k ≡ m = omega (arith, w) in
-        absurd (omega (arith, ap (at starts) same))
+          let same : k ≡ m = omega (arith, w) in
+          absurd (omega (arith, ap (at starts) same))
     ]
 
     reach : (i j : ℕ) → i < length short_stack → j < length short_stack → Back short_starts i j
@@ -265,12 +265,12 @@ module _ (g : Graph) (states : List State) (stack starts : List ℕ) (pending : 
     closed u c e k l = elim (was_done u c e) [
       | inl w ↦ let old = sound.closed u c w k l in (old.0, now_done (target g u k) old.0 old.1, old.2)
       | inr w ↦
-        let i = w.0 in
-        let place = sound.placed u i w.1 in
-        let l_at : k < length (edges g (at stack i)) = subst (λ (x : ℕ). k < length (edges g x)) (sym place.1) l in
-        let at_place = leads_closed i k (target g (at stack i) k) w.2 (sound.looked i place.0 k l_at) in
-        subst (λ (x : ℕ). LeadsToDone g now x (target g u k)) (sym w.3)
-        (subst (λ (x : ℕ). LeadsToDone g now done (target g x k)) place.1 at_place)
+          let i = w.0 in
+          let place = sound.placed u i w.1 in
+          let l_at : k < length (edges g (at stack i)) = subst (λ (x : ℕ). k < length (edges g x)) (sym place.1) l in
+          let at_place = leads_closed i k (target g (at stack i) k) w.2 (sound.looked i place.0 k l_at) in
+          subst (λ (x : ℕ). LeadsToDone g now x (target g u k)) (sym w.3)
+          (subst (λ (x : ℕ). LeadsToDone g now done (target g x k)) place.1 at_place)
     ]
 
     joined : (u v c : ℕ) → State_of now u ≡ state.Done c → State_of now v ≡ state.Done c → Reaches g u v
@@ -282,11 +282,11 @@ module _ (g : Graph) (states : List State) (stack starts : List ℕ) (pending : 
       | inr w ↦ elim (was_done v c f) [
         | inl x ↦ absurd (omega (arith, w.3, sound.numbered v c x))
         | inr x ↦
-          let i = sound.placed u w.0 w.1 in
-          let j = sound.placed v x.0 x.1 in
-          subst (λ (y : ℕ). Reaches g y v) i.1
-          (subst (λ (y : ℕ). Reaches g (at stack w.0) y) j.1
-          (sound.reach w.0 x.0 i.0 j.0 (one_segment w.0 x.0 x.2)))
+            let i = sound.placed u w.0 w.1 in
+            let j = sound.placed v x.0 x.1 in
+            subst (λ (y : ℕ). Reaches g y v) i.1
+            (subst (λ (y : ℕ). Reaches g (at stack w.0) y) j.1
+            (sound.reach w.0 x.0 i.0 j.0 (one_segment w.0 x.0 x.2)))
       ]
     ]
 

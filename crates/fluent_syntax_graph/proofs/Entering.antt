@@ -1,6 +1,6 @@
 -- A new node that all open nodes reach is opened.
 use Rattle.std.proofs.Common.{◌≡◌, ℕ, ◌+◌, ◌<◌, ◌≤◌, ◌⊎◌, inl, inr, Bool, true, false, List, [], ◌∷◌, ◌++◌, length}
-use Rattle.std.proofs.Common.{get_or, set, map, refl, sym, ap, ◌∙◌, arith, subst, cond}
+use Rattle.std.proofs.Common.{get_or, set, refl, sym, ap, ◌∙◌, arith, subst}
 use Rattle.std.proofs.lemmas.List.{length_push, length-set, map-set, length-map}
 use Rattle.fluent_syntax_graph.specs.Graph.{Graph, Reaches, here, edges, target}
 use Rattle.fluent_syntax_graph.specs.Search.{Sound, State_of, at, pending_at, Back, Looked, at_done, at_open, to_come}
@@ -73,7 +73,7 @@ module _ (g : Graph) (states : List State) (stack starts : List ℕ) (pending : 
   opened : (i : ℕ) → i < length now_stack → State_of now_states (at now_stack i) ≡ state.Open i
   opened i h = elim (pushed stack node 0 i h) [
     | inl w ↦
-      ap (State_of now_states) w.1 ∙ keeps (at stack i) (state.Open i) (sound.opened i w.0) (open_known i)
+        ap (State_of now_states) w.1 ∙ keeps (at stack i) (state.Open i) (sound.opened i w.0) (open_known i)
     | inr w ↦ elim (state_now node) [
       | inl v ↦ ap (State_of now_states) w.1 ∙ v.1 ∙ ap state.Open (sym w.0)
       | inr v ↦ absurd (v.0 refl)
@@ -83,22 +83,22 @@ module _ (g : Graph) (states : List State) (stack starts : List ℕ) (pending : 
   placed : (u i : ℕ) → State_of now_states u ≡ state.Open i → (i < length now_stack) × (at now_stack i ≡ u)
   placed u i e = elim (state_now u) [
     | inl w ↦
-      let same : state.Open n ≡ state.Open i = sym w.1 ∙ e in
-      let is : i ≡ n = cc in
-      (omega (arith, length_push stack node), ap (at now_stack) is ∙ pushed_last stack node 0 ∙ sym w.0)
+        let same : state.Open n ≡ state.Open i = sym w.1 ∙ e in
+        let is : i ≡ n = cc in
+        (omega (arith, length_push stack node), ap (at now_stack) is ∙ pushed_last stack node 0 ∙ sym w.0)
     | inr w ↦
-      let old = sound.placed u i (sym w.1 ∙ e) in
-      (omega (arith, length_push stack node, old.0), pushed_before stack node 0 i old.0 ∙ old.1)
+        let old = sound.placed u i (sym w.1 ∙ e) in
+        (omega (arith, length_push stack node, old.0), pushed_before stack node 0 i old.0 ∙ old.1)
   ]
 
   ascending : (k l : ℕ) → k < l → l < length now_starts → at now_starts k < at now_starts l
   ascending k l before h = elim (pushed starts n 0 l h) [
     | inl w ↦
-      let k_in : k < length starts = omega (arith, w.0) in
-      omega (arith, pushed_before starts n 0 k k_in, w.1, sound.ascending k l before w.0)
+        let k_in : k < length starts = omega (arith, w.0) in
+        omega (arith, pushed_before starts n 0 k k_in, w.1, sound.ascending k l before w.0)
     | inr w ↦
-      let k_in : k < length starts = omega (arith, w.0) in
-      omega (arith, pushed_before starts n 0 k k_in, w.1, sound.within k k_in)
+        let k_in : k < length starts = omega (arith, w.0) in
+        omega (arith, pushed_before starts n 0 k k_in, w.1, sound.within k k_in)
   ]
 
   within : (k : ℕ) → k < length now_starts → at now_starts k < length now_stack
@@ -126,23 +126,23 @@ module _ (g : Graph) (states : List State) (stack starts : List ℕ) (pending : 
   reach i j i_in j_in back = elim (pushed stack node 0 i i_in) [
     | inl w ↦ elim (pushed stack node 0 j j_in) [
       | inl v ↦
-        let old = sound.reach i j w.0 v.0 (back_before i j back) in
-        subst (λ (x : ℕ). Reaches g x (at now_stack j)) (sym w.1)
-        (subst (λ (x : ℕ). Reaches g (at stack i) x) (sym v.1) old)
+          let old = sound.reach i j w.0 v.0 (back_before i j back) in
+          subst (λ (x : ℕ). Reaches g x (at now_stack j)) (sym w.1)
+          (subst (λ (x : ℕ). Reaches g (at stack i) x) (sym v.1) old)
       | inr v ↦
-        subst (λ (x : ℕ). Reaches g x (at now_stack j)) (sym w.1)
-        (subst (λ (x : ℕ). Reaches g (at stack i) x) (sym v.1) (reached i w.0))
+          subst (λ (x : ℕ). Reaches g x (at now_stack j)) (sym w.1)
+          (subst (λ (x : ℕ). Reaches g (at stack i) x) (sym v.1) (reached i w.0))
     ]
     | inr w ↦
-      let k_in : length starts < length now_starts = omega (arith, length_push starts n) in
-      let is = pushed_last starts n 0 in
-      let far : n ≤ j = omega (arith, is, back (length starts) k_in (omega (arith, is, w.0))) in
-      elim (pushed stack node 0 j j_in) [
-        | inl v ↦ absurd (omega (arith, v.0))
-        | inr v ↦
-          subst (λ (x : ℕ). Reaches g x (at now_stack j)) (sym w.1)
-          (subst (λ (x : ℕ). Reaches g node x) (sym v.1) (here node))
-      ]
+        let k_in : length starts < length now_starts = omega (arith, length_push starts n) in
+        let is = pushed_last starts n 0 in
+        let far : n ≤ j = omega (arith, is, back (length starts) k_in (omega (arith, is, w.0))) in
+        elim (pushed stack node 0 j j_in) [
+          | inl v ↦ absurd (omega (arith, v.0))
+          | inr v ↦
+              subst (λ (x : ℕ). Reaches g x (at now_stack j)) (sym w.1)
+              (subst (λ (x : ℕ). Reaches g node x) (sym v.1) (here node))
+        ]
   ]
 
   looked_keeps : (i k t : ℕ) → i < n → Looked states starts pending i k t
@@ -160,14 +160,14 @@ module _ (g : Graph) (states : List State) (stack starts : List ℕ) (pending : 
       → Looked now_states now_starts now_pending i k (target g (at now_stack i) k)
   looked i h k l = elim (pushed stack node 0 i h) [
     | inl w ↦
-      let old_l : k < length (edges g (at stack i)) = subst (λ (x : ℕ). k < length (edges g x)) w.1 l in
-      let old = looked_keeps i k (target g (at stack i) k) w.0 (sound.looked i w.0 k old_l) in
-      subst (λ (x : ℕ). Looked now_states now_starts now_pending i k (target g x k)) (sym w.1) old
+        let old_l : k < length (edges g (at stack i)) = subst (λ (x : ℕ). k < length (edges g x)) w.1 l in
+        let old = looked_keeps i k (target g (at stack i) k) w.0 (sound.looked i w.0 k old_l) in
+        subst (λ (x : ℕ). Looked now_states now_starts now_pending i k (target g x k)) (sym w.1) old
     | inr w ↦
-      let none : Pending = record { place = 0; next = 0 } in
-      let is = pushed_last pending last none in
-      to_come (length pending) (omega (arith, length_push pending last))
-      (ap (λ (x : Pending). x.place) is ∙ sym w.0) (omega (arith, ap (λ (x : Pending). x.next) is))
+        let none : Pending = record { place = 0; next = 0 } in
+        let is = pushed_last pending last none in
+        to_come (length pending) (omega (arith, length_push pending last))
+        (ap (λ (x : Pending). x.place) is ∙ sym w.0) (omega (arith, ap (λ (x : Pending). x.next) is))
   ]
 
   pending_ascending : (p q : ℕ) → p ≤ q → q < length now_pending
@@ -177,13 +177,21 @@ module _ (g : Graph) (states : List State) (stack starts : List ℕ) (pending : 
       let p_in : p < length now_pending = omega arith in
       elim (pushed pending last none q h) [
         | inl w ↦
-          let p_old : p < length pending = omega (arith, w.0) in
-          omega (arith, ap (λ (x : Pending). x.place) (pushed_before pending last none p p_old),
-          ap (λ (x : Pending). x.place) w.1, sound.pending_ascending p q le w.0)
+            let p_old : p < length pending = omega (arith, w.0) in
+            omega (
+              arith,
+              ap (λ (x : Pending). x.place) (pushed_before pending last none p p_old),
+              ap (λ (x : Pending). x.place) w.1,
+              sound.pending_ascending p q le w.0,
+            )
         | inr w ↦ elim (pushed pending last none p p_in) [
           | inl v ↦
-            omega (arith, ap (λ (x : Pending). x.place) v.1, ap (λ (x : Pending). x.place) w.1,
-            sound.pending_within p v.0)
+              omega (
+                arith,
+                ap (λ (x : Pending). x.place) v.1,
+                ap (λ (x : Pending). x.place) w.1,
+                sound.pending_within p v.0,
+              )
           | inr v ↦ omega (arith, ap (λ (x : Pending). x.place) v.1, ap (λ (x : Pending). x.place) w.1)
         ]
       ]
@@ -193,7 +201,7 @@ module _ (g : Graph) (states : List State) (stack starts : List ℕ) (pending : 
       let none : Pending = record { place = 0; next = 0 } in
       elim (pushed pending last none p h) [
         | inl w ↦
-          omega (arith, ap (λ (x : Pending). x.place) w.1, sound.pending_within p w.0, length_push stack node)
+            omega (arith, ap (λ (x : Pending). x.place) w.1, sound.pending_within p w.0, length_push stack node)
         | inr w ↦ omega (arith, ap (λ (x : Pending). x.place) w.1, length_push stack node)
       ]
 

@@ -3,6 +3,7 @@ pub mod Entering
 pub mod Lists
 pub mod Looking
 pub mod News
+pub mod Parts
 pub mod Places
 pub mod Reaching
 pub mod Same

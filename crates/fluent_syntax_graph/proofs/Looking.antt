@@ -1,19 +1,17 @@
 -- The edges of the last pending node are looked at, one after another.
-use Rattle.std.proofs.Common.{◌≡◌, ℕ, ◌+◌, ◌-◌, ◌<◌, ◌≤◌, ◌⊎◌, inl, inr, List, [], length, get_or, set, take}
+use Rattle.std.proofs.Common.{◌≡◌, ℕ, ◌+◌, ◌-◌, ◌<◌, ◌≤◌, ◌⊎◌, inl, inr, List, [], length, set, take}
 use Rattle.std.proofs.Common.{refl, sym, ap, ◌∙◌, arith, subst}
 use Rattle.std.proofs.lemmas.Bool.{cases_lt}
 use Rattle.std.proofs.lemmas.List.{length-take-le, get_or-take, length-set}
-use Rattle.fluent_syntax_graph.specs.Graph.{Graph, IsGraph, Leads, Reaches, edges, target}
-use Rattle.fluent_syntax_graph.specs.Search.{Sound, State_of, at, pending_at, Back, Looked, at_done, at_open, to_come}
+use Rattle.fluent_syntax_graph.specs.Graph.{Graph, Leads, Reaches, edges, target}
+use Rattle.fluent_syntax_graph.specs.Search.{Sound, at, pending_at, Back, Looked, at_done, at_open, to_come}
 use Rattle.fluent_syntax_graph.specs.declared.search.Pending.{Pending}
 use Rattle.fluent_syntax_graph.specs.declared.search.State.{State}
-use Rattle.fluent_syntax_graph.specs.declared.search.State.TheVariants as state
 use Rattle.fluent_syntax_graph.proofs.Lists.{never_down, written}
 use Rattle.fluent_syntax_graph.proofs.Reaching.{reaches_on, reaches_next}
 
 module _ (g : Graph) (states : List State) (stack starts : List ℕ) (pending : List Pending) (done : ℕ)
     (sound : Sound g states stack starts pending done) where
-
   -- ---- An edge back makes one segment of all from its target on
 
   module _ (p j : ℕ) (p_in : p < length stack) (j_in : j < length stack)
@@ -46,16 +44,16 @@ module _ (g : Graph) (states : List State) (stack starts : List ℕ) (pending : 
         let kept : (k : ℕ) → k < length starts → at starts k ≤ j → at starts k ≤ i → at starts k ≤ l =
         λ k h le far. elim (cases_lt k m) [
           | inl w ↦
-            let is = at_short k w in
-            let k_in : k < length fewer_starts = omega (arith, short, w) in
-            omega (arith, is, back k k_in (omega (arith, is)))
+              let is = at_short k w in
+              let k_in : k < length fewer_starts = omega (arith, short, w) in
+              omega (arith, is, back k k_in (omega (arith, is)))
           | inr w ↦ absurd (omega (arith, behind k w h))
         ] in
         elim (cases_lt i j) [
           | inl w ↦ sound.reach i l i_in l_in (λ k h le. kept k h (omega (arith, w)) le)
           | inr w ↦
-            reaches_on g (at stack i) (at stack j) (at stack l) (reaches_target i i_in)
-            (sound.reach j l j_in l_in (λ k h le. kept k h le (omega (arith, w))))
+              reaches_on g (at stack i) (at stack j) (at stack l) (reaches_target i i_in)
+              (sound.reach j l j_in l_in (λ k h le. kept k h le (omega (arith, w))))
         ]
 
     looked_short : (i k t : ℕ) → Looked states starts pending i k t → Looked states fewer_starts pending i k t
@@ -116,9 +114,9 @@ module _ (g : Graph) (states : List State) (stack starts : List ℕ) (pending : 
     same_places : (q : ℕ) → (pending_at now_pending q).place ≡ (pending_at pending q).place
     same_places q = elim (now_at q) [
       | inl w ↦
-        ap (λ (x : Pending). x.place) w.1
-        ∙ sym (ap (λ (x : Pending). x.place) is_last)
-        ∙ ap (λ (x : ℕ). (pending_at pending x).place) (sym w.0)
+          ap (λ (x : Pending). x.place) w.1
+          ∙ sym (ap (λ (x : Pending). x.place) is_last)
+          ∙ ap (λ (x : ℕ). (pending_at pending x).place) (sym w.0)
       | inr w ↦ ap (λ (x : Pending). x.place) w.1
     ]
 
@@ -135,24 +133,24 @@ module _ (g : Graph) (states : List State) (stack starts : List ℕ) (pending : 
         → (pending_at pending q).next ≤ k → Looked states starts now_pending i k (target g (at stack i) k)
     looked_left i k q h place n = elim (now_at q) [
       | inl w ↦
-        let is_p : i ≡ p =
-        sym place ∙ ap (λ (x : ℕ). (pending_at pending x).place) w.0 ∙ ap (λ (x : Pending). x.place) is_last in
-        let from : (pending_at pending q).next ≡ k₀ =
-        ap (λ (x : ℕ). (pending_at pending x).next) w.0 ∙ ap (λ (x : Pending). x.next) is_last in
-        elim (cases_lt k₀ k) [
-          | inl v ↦
-            to_come q (omega (arith, same_length)) (same_places q ∙ place)
-            (omega (arith, v, ap (λ (x : Pending). x.next) w.1))
-          | inr v ↦
-            let same : k₀ ≡ k = omega (arith, v, from) in
-            let here : Looked states starts now_pending p k₀ (target g (at stack p) k₀) =
-            looked_seen k₀ (target g (at stack p) k₀) seen in
-            subst (λ (x : ℕ). Looked states starts now_pending x k (target g (at stack x) k)) (sym is_p)
-            (subst (λ (x : ℕ). Looked states starts now_pending p x (target g (at stack p) x)) same here)
-        ]
+          let is_p : i ≡ p =
+          sym place ∙ ap (λ (x : ℕ). (pending_at pending x).place) w.0 ∙ ap (λ (x : Pending). x.place) is_last in
+          let from : (pending_at pending q).next ≡ k₀ =
+          ap (λ (x : ℕ). (pending_at pending x).next) w.0 ∙ ap (λ (x : Pending). x.next) is_last in
+          elim (cases_lt k₀ k) [
+            | inl v ↦
+                to_come q (omega (arith, same_length)) (same_places q ∙ place)
+                (omega (arith, v, ap (λ (x : Pending). x.next) w.1))
+            | inr v ↦
+                let same : k₀ ≡ k = omega (arith, v, from) in
+                let here : Looked states starts now_pending p k₀ (target g (at stack p) k₀) =
+                looked_seen k₀ (target g (at stack p) k₀) seen in
+                subst (λ (x : ℕ). Looked states starts now_pending x k (target g (at stack x) k)) (sym is_p)
+                (subst (λ (x : ℕ). Looked states starts now_pending p x (target g (at stack p) x)) same here)
+          ]
       | inr w ↦
-        to_come q (omega (arith, same_length)) (same_places q ∙ place)
-        (omega (arith, ap (λ (x : Pending). x.next) w.1))
+          to_come q (omega (arith, same_length)) (same_places q ∙ place)
+          (omega (arith, ap (λ (x : Pending). x.next) w.1))
     ]
 
     looked_now : (i k t : ℕ) → target g (at stack i) k ≡ t → Looked states starts pending i k t
@@ -201,18 +199,18 @@ module _ (g : Graph) (states : List State) (stack starts : List ℕ) (pending : 
     looked_rest i k t k_in (at_open j e back) = at_open j e back
     looked_rest i k t k_in (to_come q h place n) = elim (cases_lt q last) [
       | inl w ↦
-        let is = before_last q w in
-        to_come q (omega (arith, one_less, w)) (ap (λ (x : Pending). x.place) is ∙ place)
-        (omega (arith, ap (λ (x : Pending). x.next) is))
+          let is = before_last q w in
+          to_come q (omega (arith, one_less, w)) (ap (λ (x : Pending). x.place) is ∙ place)
+          (omega (arith, ap (λ (x : Pending). x.next) is))
       | inr w ↦
-        let is_q : q ≡ last = omega (arith, w) in
-        let is_p : i ≡ p =
-        sym place ∙ ap (λ (x : ℕ). (pending_at pending x).place) is_q ∙ ap (λ (x : Pending). x.place) is_last in
-        let from : (pending_at pending q).next ≡ k₀ =
-        ap (λ (x : ℕ). (pending_at pending x).next) is_q ∙ ap (λ (x : Pending). x.next) is_last in
-        let lengths : length (edges g (at stack i)) ≡ length (edges g (at stack p)) =
-        ap (λ (x : ℕ). length (edges g (at stack x))) is_p in
-        absurd (omega (arith, from, lengths))
+          let is_q : q ≡ last = omega (arith, w) in
+          let is_p : i ≡ p =
+          sym place ∙ ap (λ (x : ℕ). (pending_at pending x).place) is_q ∙ ap (λ (x : Pending). x.place) is_last in
+          let from : (pending_at pending q).next ≡ k₀ =
+          ap (λ (x : ℕ). (pending_at pending x).next) is_q ∙ ap (λ (x : Pending). x.next) is_last in
+          let lengths : length (edges g (at stack i)) ≡ length (edges g (at stack p)) =
+          ap (λ (x : ℕ). length (edges g (at stack x))) is_p in
+          absurd (omega (arith, from, lengths))
     ]
 
     pub looked_over : Sound g states stack starts fewer_pending done
@@ -228,8 +226,12 @@ module _ (g : Graph) (states : List State) (stack starts : List ℕ) (pending : 
       pending_ascending = λ q r le h.
           let r_in : r < last = omega (arith, one_less) in
           let q_in : q < last = omega arith in
-          omega (arith, ap (λ (x : Pending). x.place) (before_last q q_in),
-          ap (λ (x : Pending). x.place) (before_last r r_in), sound.pending_ascending q r le (omega arith));
+          omega (
+            arith,
+            ap (λ (x : Pending). x.place) (before_last q q_in),
+            ap (λ (x : Pending). x.place) (before_last r r_in),
+            sound.pending_ascending q r le (omega arith),
+          );
       pending_within = λ q h.
           let q_in : q < last = omega (arith, one_less) in
           omega (arith, ap (λ (x : Pending). x.place) (before_last q q_in), sound.pending_within q (omega arith));

@@ -1,9 +1,9 @@
 -- Which nodes are new.
-use Rattle.std.proofs.Common.{◌≡◌, ℕ, ◌+◌, ◌<◌, ◌≤◌, ◌⊎◌, inl, inr, Bool, true, false, cond, List, length, get_or, set}
-use Rattle.std.proofs.Common.{map, refl, sym, ap, ◌∙◌, arith, subst}
-use Rattle.std.specs.List.{sum_by, count_by}
-use Rattle.std.proofs.lemmas.Bool.{cases_eq, cases_lt, false≢true}
-use Rattle.std.proofs.lemmas.List.{get_or-map, get_or-set_other, get_or-set_same, get_or_past, length-map}
+use Rattle.std.proofs.Common.{◌≡◌, ℕ, ◌+◌, ◌<◌, inl, inr, Bool, true, false, cond, List, length, get_or, set}
+use Rattle.std.proofs.Common.{refl, sym, ◌∙◌, arith, subst}
+use Rattle.std.specs.List.{count_by}
+use Rattle.std.proofs.lemmas.Bool.{false≢true}
+use Rattle.std.proofs.lemmas.List.{get_or-map}
 use Rattle.std.proofs.lemmas.List.Sums.{sum_by-set}
 use Rattle.fluent_syntax_graph.specs.Search.{State_of, is_new, news}
 use Rattle.fluent_syntax_graph.specs.declared.search.State.{State}

@@ -1,9 +1,9 @@
 -- What is read of a search and of its graph.
-use Rattle.std.proofs.Common.{◌≡◌, ℕ, ◌+◌, ◌-◌, ◌<◌, ◌≤◌, ◌⊎◌, inl, inr, List, [], Vec, length, get_or, map}
-use Rattle.std.proofs.Common.{refl, sym, ap, ◌∙◌, arith, subst}
+use Rattle.std.proofs.Common.{◌≡◌, ℕ, ◌-◌, ◌<◌, ◌≤◌, inl, inr, List, [], Vec, length, get_or}
+use Rattle.std.proofs.Common.{sym, ap, ◌∙◌, arith, subst}
 use Rattle.std.specs.declared.alloc.Global.{Global}
 use Rattle.std.proofs.lemmas.Bool.{cases_lt}
-use Rattle.std.proofs.lemmas.List.{get_or_past, get_or-map, get_or_read, length-map}
+use Rattle.std.proofs.lemmas.List.{get_or_past, get_or-map, length-map}
 use Rattle.fluent_syntax_graph.specs.Graph.{Graph, Leads, Reaches, edges, target, targets_of}
 use Rattle.fluent_syntax_graph.specs.Search.{Sound, State_of, at, pending_at, IsBehind, last_of}
 use Rattle.fluent_syntax_graph.specs.declared.search.Pending.{Pending}

@@ -1,5 +1,5 @@
 -- What reaches what, and the numbers of components.
-use Rattle.std.proofs.Common.{◌≡◌, ℕ, ◌+◌, ◌<◌, ◌≤◌, List, length, get_or, refl, sym, ap, ◌∙◌, arith}
+use Rattle.std.proofs.Common.{ℕ, ◌<◌, length, refl}
 use Rattle.fluent_syntax_graph.specs.Graph.{Graph, Leads, Reaches, here, onward, edges, target}
 
 module _ (g : Graph) where

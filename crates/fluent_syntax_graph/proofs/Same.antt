@@ -1,5 +1,5 @@
 -- What is known of a search, where its lists are given by other names.
-use Rattle.std.proofs.Common.{◌≡◌, ℕ, ◌<◌, List, length, get_or, sym, ap, ◌∙◌, subst}
+use Rattle.std.proofs.Common.{◌≡◌, ℕ, ◌<◌, List, length, get_or, sym, ◌∙◌, subst}
 use Rattle.std.proofs.lemmas.List.{get_or_read}
 use Rattle.fluent_syntax_graph.specs.Graph.{Graph}
 use Rattle.fluent_syntax_graph.specs.Search.{Sound, State_of}

@@ -1,7 +1,7 @@
 -- What a search through a graph knows.
-use Rattle.std.specs.Prelude.{◌≡◌, ◌<◌, ◌≤◌, ◌+◌, ◌-◌, ℕ, Bool, true, false, List, [], length, map, get_or, Option, None, Some}
+use Rattle.std.specs.Prelude.{◌≡◌, ◌<◌, ◌≤◌, ◌+◌, ◌-◌, ℕ, Bool, true, false, List, [], length, map, get_or}
 use Rattle.std.specs.List.{count_by}
-use Rattle.fluent_syntax_graph.specs.Graph.{Graph, Leads, Reaches, edges, target}
+use Rattle.fluent_syntax_graph.specs.Graph.{Graph, Reaches, edges, target}
 use Rattle.fluent_syntax_graph.specs.declared.search.Pending.{Pending}
 use Rattle.fluent_syntax_graph.specs.declared.search.Search.{Search}
 use Rattle.fluent_syntax_graph.specs.declared.search.State.{State}

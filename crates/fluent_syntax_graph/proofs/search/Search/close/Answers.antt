@@ -1,10 +1,8 @@
-use Rattle.std.proofs.Common.{◌≡◌, ◌<◌, ◌≤◌, ◌+◌, ◌-◌, ℕ, List, [], length, take, set, refl, sym, ap, ◌∙◌, subst, arith}
+use Rattle.std.proofs.Common.{◌≡◌, ◌<◌, ◌+◌, ◌-◌, ℕ, List, length, take, set, refl, sym, ap, ◌∙◌, arith}
 use Rattle.std.proofs.Common.{vec_len}
 use Rattle.std.proofs.lemmas.List.{length-set, take_all}
 use Rattle.fluent_syntax_graph.specs.Graph.{targets_of}
-use Rattle.fluent_syntax_graph.specs.Search.{State_of, news, last_of}
-use Rattle.fluent_syntax_graph.specs.declared.search.Pending.{Pending}
-use Rattle.fluent_syntax_graph.specs.declared.search.State.{State}
+use Rattle.fluent_syntax_graph.specs.Search.{State_of, news}
 use Rattle.fluent_syntax_graph.specs.declared.search.State.TheVariants as state
 use Rattle.fluent_syntax_graph.proofs.Closing.{closed_segment, none_closed, one_more, fewer_is, node_in, news_still}
 use Rattle.fluent_syntax_graph.proofs.Closing.{now_closed_to, closed_at}
@@ -34,9 +32,12 @@ index_mut-requires c =
     let s = c.args.self.now in
     let l = c.loop-self.self in
     let inv = c.loop-self.invariant in
-    omega (arith, node_in g s.states.items s.stack.items s.starts.items s.pending.items s.done c.requires.sound
-    l.states.items inv.sizes l.stack.items c.pop.new.self.items c.in-Some.node inv.within inv.stack inv.now_is
-    c.in-Some.ensures.items)
+    omega (
+      arith,
+      node_in g s.states.items s.stack.items s.starts.items s.pending.items s.done c.requires.sound
+          l.states.items inv.sizes l.stack.items c.pop.new.self.items c.in-Some.node inv.within inv.stack inv.now_is
+          c.in-Some.ensures.items,
+    )
 
 pub loop-self-preserved-in-Some : goal.loop-self-preserved-in-Some
 loop-self-preserved-in-Some c =

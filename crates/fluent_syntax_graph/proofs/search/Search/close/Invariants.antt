@@ -1,4 +1,4 @@
-use Rattle.std.proofs.Common.{◌≡◌, ℕ, ◌<◌, ◌≤◌, length, take}
+use Rattle.std.proofs.Common.{◌≡◌, ℕ, ◌≤◌, length, take}
 use Rattle.fluent_syntax_graph.specs.Search.{State_of, news}
 use Rattle.fluent_syntax_graph.proofs.Closing.{closed_at}
 use Rattle.fluent_syntax_graph.proofs.search.Search.close.Given as goal

@@ -1,4 +1,4 @@
-use Rattle.std.proofs.Common.{refl, sym, ◌∙◌, ◌≡◌, length, arith}
+use Rattle.std.proofs.Common.{sym, ◌≡◌, length, arith}
 use Rattle.std.proofs.lemmas.List.{map-set}
 use Rattle.fluent_syntax_graph.specs.Graph.{targets_of}
 use Rattle.fluent_syntax_graph.specs.Search.{is_new}

@@ -1,16 +1,16 @@
-use Rattle.std.proofs.Common.{◌≡◌, ◌<◌, ◌≤◌, ◌+◌, ◌-◌, ℕ, List, [], Vec, length, take, refl, sym, ap, ◌∙◌, subst, arith}
-use Rattle.std.proofs.Common.{get_or, set, vec_len}
+use Rattle.std.proofs.Common.{◌≡◌, ◌<◌, ◌≤◌, ◌+◌, ◌-◌, ℕ, List, [], Vec, length, take, sym, ap, ◌∙◌, subst, arith}
+use Rattle.std.proofs.Common.{get_or, vec_len}
 use Rattle.std.specs.declared.alloc.Global.{Global}
 use Rattle.std.proofs.lemmas.List.{get_or_read, get_or-set_same, length-set}
 use Rattle.fluent_syntax_graph.specs.Graph.{targets_of, Leads, edges, target}
-use Rattle.fluent_syntax_graph.specs.Search.{State_of, at, Looked, IsBehind, pending_at, Sound}
+use Rattle.fluent_syntax_graph.specs.Search.{at, Looked, pending_at, Sound}
 use Rattle.fluent_syntax_graph.specs.declared.search.Pending.{Pending}
 use Rattle.fluent_syntax_graph.specs.declared.search.State.{State}
 use Rattle.fluent_syntax_graph.specs.declared.search.State.TheVariants as state
 use Rattle.fluent_syntax_graph.proofs.Looking.{looked_at, looked_over}
-use Rattle.fluent_syntax_graph.proofs.Places.{place_within, stack_within, last_is_behind, all_reach, nodes, edge_read}
+use Rattle.fluent_syntax_graph.proofs.Places.{place_within, stack_within, all_reach, nodes, edge_read}
 use Rattle.fluent_syntax_graph.proofs.Places.{list_is}
-use Rattle.fluent_syntax_graph.proofs.Same.{sound_same, state_read}
+use Rattle.fluent_syntax_graph.proofs.Same.{state_read}
 use Rattle.fluent_syntax_graph.proofs.search.Search.look.Goals as goal
 
 pub edges_of-targets-requires : goal.edges_of-targets-requires

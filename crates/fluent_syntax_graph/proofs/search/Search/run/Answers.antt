@@ -1,4 +1,4 @@
-use Rattle.std.proofs.Common.{◌≡◌, ◌+◌, ◌<◌, ◌∙◌, List, Bool, true, false, length, get_or, set, sym, ap, arith}
+use Rattle.std.proofs.Common.{◌≡◌, ◌<◌, ◌∙◌, true, false, length, get_or, set, ap, arith}
 use Rattle.std.proofs.lemmas.List.{length-map}
 use Rattle.fluent_syntax_graph.specs.Search.{news, is_new}
 use Rattle.fluent_syntax_graph.proofs.News.{held, held_less, news_at}

@@ -1,8 +1,8 @@
-use Rattle.std.proofs.Common.{◌≡◌, ◌<◌, ℕ, List, [], Vec, length, take, refl, sym, ap, ◌∙◌, subst, arith, vec_len}
+use Rattle.std.proofs.Common.{◌≡◌, ◌<◌, ℕ, List, Vec, length, take, sym, ap, ◌∙◌, subst, arith, vec_len}
 use Rattle.std.specs.declared.alloc.Global.{Global}
 use Rattle.std.proofs.lemmas.List.{length-map}
 use Rattle.fluent_syntax_graph.specs.Graph.{targets_of, Leads}
-use Rattle.fluent_syntax_graph.specs.Search.{State_of, at, Back, Looked, at_done, at_open}
+use Rattle.fluent_syntax_graph.specs.Search.{State_of, at, Back, at_done, at_open}
 use Rattle.fluent_syntax_graph.specs.declared.search.Pending.{Pending}
 use Rattle.fluent_syntax_graph.specs.declared.search.State.{State}
 use Rattle.fluent_syntax_graph.specs.declared.search.State.TheVariants as state
