@@ -13,8 +13,10 @@ use Rattle.fluent_syntax_names.specs.declared.spelled.EntryName.{EntryName}
 use Rattle.fluent_syntax_names.specs.declared.finding.Finding.{Finding}
 use Rattle.fluent_syntax_names.specs.declared.finding.Kind.{Kind}
 use Rattle.fluent_syntax_names.specs.declared.finding.Kind.TheVariants as kind
-use Rattle.fluent_syntax_names.specs.Findings.{Text, Known, put, found, found_in, found_from, after, nothing, twice}
-use Rattle.fluent_syntax_names.specs.Findings.{undefined, undefined_part, finding_at, message_name, term_name}
+use Rattle.fluent_syntax_names.specs.Findings.{Known, put, found, found_in, found_from, after, nothing, twice}
+use Rattle.fluent_syntax_names.specs.Spelled.{Text}
+use Rattle.fluent_syntax_names.specs.Findings.{undefined, undefined_part, finding_at}
+use Rattle.fluent_syntax_names.specs.Spelled.{message_name, term_name}
 use Rattle.fluent_syntax_names.specs.Spelled.{spelled, spelled_attribute, spelled_value}
 use Rattle.fluent_syntax_names.specs.Tables.{Lookup, Holds, AddsFindings}
 
