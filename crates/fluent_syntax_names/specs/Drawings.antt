@@ -29,6 +29,9 @@ nodes_of drawing = place_of drawing.numbers.table
 abbrev pub IsDrawn : List Link → Drawing → Type 0
 IsDrawn all drawing = Drawn all (nodes_of drawing) (targets_of drawing.targets.items)
 
+abbrev pub IsSomeDrawing : Drawing → Type 0
+IsSomeDrawing drawing = (all : List Link) × IsDrawn all drawing
+
 -- what was drawn is drawn still, with what `more` puts before other links
 abbrev pub DrawsLinks : Drawing → Drawing → (more : List Link → List Link) → Type 0
 DrawsLinks old new more = (before : List Link) → IsDrawn before old

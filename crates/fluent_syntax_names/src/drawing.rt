@@ -1,7 +1,7 @@
 //! The graph of what patterns refer to.
 ghost use Rattle.std.specs.Prelude.{◌≡◌, ◌<◌, List, ℕ, Some, [], OnOk, IfOk, length};
 ghost use Rattle.fluent_syntax_names.specs.Circles.{link_of, link_to, links_in, links, no_pattern};
-ghost use Rattle.fluent_syntax_names.specs.Drawings.{AddsName, DrawsLinks, IsDrawn};
+ghost use Rattle.fluent_syntax_names.specs.Drawings.{AddsName, DrawsLinks, IsDrawn, IsSomeDrawing};
 ghost use Rattle.fluent_syntax_names.specs.Places.{place_of};
 
 use crate::mention::Mention;
@@ -43,6 +43,7 @@ impl Drawing {
         text: &str,
         mentions: &[Mention<Span>],
     ) -> Result<(), AllocError>
+        requires { IsSomeDrawing self.old }
         ensures { OnOk result (DrawsLinks self.old self.new (links_in text.now no_pattern mentions.now)) }
     {
         let mut pattern = NO_PATTERN;
@@ -61,6 +62,7 @@ impl Drawing {
         pattern: PatternName,
         target: Option<PatternName>,
     ) -> Result<(), AllocError>
+        requires { IsSomeDrawing self.old }
         ensures { OnOk result (DrawsLinks self.old self.new (link_to text.now pattern target)) }
     {
         match target {
@@ -76,6 +78,7 @@ impl Drawing {
         pattern: PatternName,
         target: PatternName,
     ) -> Result<(), AllocError>
+        requires { IsSomeDrawing self.old }
         ensures { OnOk result (DrawsLinks self.old self.new (link_to text.now pattern (Some target))) }
     {
         let from = spelled_pattern(alloc, text, pattern)?;

@@ -1,0 +1,24 @@
+use Rattle.std.proofs.Common.{[], refl, ap, sym, subst, ◌≡◌}
+use Rattle.fluent_syntax_graph.specs.Graph.{Graph, targets_of}
+use Rattle.fluent_syntax_names.specs.Drawings.{Drawn}
+use Rattle.fluent_syntax_names.specs.Places.{place_of}
+use Rattle.fluent_syntax_names.proofs.Linking.{link_files_next, link_files_none, nothing_drawn}
+use Rattle.fluent_syntax_names.proofs.drawing.drawing_of.Goals as goal
+
+pub loop-file-init : goal.loop-file-init
+loop-file-init c = ?
+
+pub add_file-requires : goal.add_file-requires
+add_file-requires c = (c.loop-file.invariant.left.0, c.loop-file.invariant.left.1)
+
+pub loop-file-preserved : goal.loop-file-preserved
+loop-file-preserved c = record {
+  left = link_files_next c.args.files.now c.loop-file.drawing c.loop-file.file-index c.add_file.new.self
+      c.file-item.result c.loop-file-test.true c.file-item.is c.loop-file.invariant.left
+      (rw c.deref.ensures.value at c.in_ok-add_file.ensures);
+}
+
+pub returns : goal.returns
+returns c =
+    link_files_none c.args.files.now c.loop-file.drawing c.loop-file.file-index c.loop-file-test.false
+    c.loop-file.invariant.left
