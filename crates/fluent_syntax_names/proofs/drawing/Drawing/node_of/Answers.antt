@@ -22,8 +22,8 @@ returns c =
     ∙ map_push (λ (v : Vec ℕ Global). v.items) s.targets.items c.new.result
     ∙ ap (λ (l : List ℕ). g ++ l ∷ []) c.new.ensures.items) in
     record {
-      known = name_known old new name node absent c.in_ok-note.ensures;
-      stays = name_stays old new name node c.in_ok-note.ensures;
+      known = name_known [] old new g name node last absent c.in_ok-note.ensures;
+      stays = name_stays [] old new g name node last absent c.in_ok-note.ensures;
       drawn = λ all drawn.
           subst (λ (h : Graph). Drawn all new h) more
           (named_more all old new g name node last absent c.in_ok-note.ensures drawn);
