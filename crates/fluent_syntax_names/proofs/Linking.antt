@@ -1,17 +1,15 @@
 -- A graph that grows by one name or one link after another.
 use Rattle.std.proofs.Common.{◌≡◌, ◌⊎◌, inl, inr, ℕ, ◌+◌, ◌<◌, ◌≤◌, Bool, true, false, List, [], ◌∷◌, ◌++◌, length, get_or}
-use Rattle.std.proofs.Common.{Option, Some, None, refl, sym, ap, ◌∙◌, subst, arith, set, map, drop, Vec}
-use Rattle.std.specs.declared.alloc.Global.{Global}
+use Rattle.std.proofs.Common.{Option, Some, None, refl, sym, ap, ◌∙◌, subst, arith, set, drop}
 use Rattle.std.specs.Prelude.{◌||◌, if◌then◌else◌}
-use Rattle.std.specs.List.{list_any}
 use Rattle.std.specs.Str.{bytes_eq}
 use Rattle.std.proofs.lemmas.Bool.{cases_eq, cases_lt, or_cases}
-use Rattle.std.proofs.lemmas.List.{append_assoc, append-nil, get_or_append_left, get_or_past, get_or_push, length_push}
+use Rattle.std.proofs.lemmas.List.{append-nil, get_or_append_left, get_or_past, get_or_push, length_push}
 use Rattle.std.proofs.lemmas.List.{get_or-set_same, get_or-set_other, length-set, drop_more, drop_all}
 use Rattle.std.proofs.lemmas.List.Folds.{list_any-append}
 use Rattle.std.proofs.lemmas.Slice.Eq.{bytes_eq-Decides}
 use Rattle.fluent_syntax_tree.specs.declared.spans.Span.{Span}
-use Rattle.fluent_syntax_graph.specs.Graph.{Graph, Leads, edges, target}
+use Rattle.fluent_syntax_graph.specs.Graph.{Graph, Leads, edges}
 use Rattle.fluent_syntax_names.specs.Circles.{Link, is_link, leads, links_in, link_to, links, pattern_after, referred}
 use Rattle.fluent_syntax_names.specs.Circles.{no_pattern}
 use Rattle.fluent_syntax_names.specs.Drawings.{Drawn, Nodes, IsDrawn, DrawsLinks}
@@ -75,9 +73,9 @@ module _ (all : List Link) (old new : Nodes) (g : Graph) (name : Text) (node : �
     led_before u v leads_on = elim (cases_lt u (length g)) [
       | inl w ↦ subst (λ (l : List ℕ). (k : ℕ) × (k < length l) × (get_or l k 0 ≡ v)) (same_edges u w) leads_on
       | inr w ↦
-        let none : leads_on.0 < 0 =
-        subst (λ (l : List ℕ). leads_on.0 < length l) (no_edges u w) leads_on.1 in
-        absurd (omega arith)
+          let none : leads_on.0 < 0 =
+          subst (λ (l : List ℕ). leads_on.0 < length l) (no_edges u w) leads_on.1 in
+          absurd (omega arith)
     ]
 
     pub named_more : Drawn all new more
@@ -144,9 +142,9 @@ module _ (all : List Link) (node : Nodes) (g : Graph) (drawn : Drawn all node g)
   leads_still_on : (p q : ℕ) → Leads g p q → Leads linked p q
   leads_still_on p q leads_on = elim (cases_eq p u) [
     | inl e ↦
-      let at_u = leads_longer q (subst (λ (x : ℕ). Leads g x q) e leads_on) in
-      subst (λ (x : ℕ). Leads linked x q) (sym e)
-      (subst (λ (l : List ℕ). ListLeads l q) (sym edges_there) at_u)
+        let at_u = leads_longer q (subst (λ (x : ℕ). Leads g x q) e leads_on) in
+        subst (λ (x : ℕ). Leads linked x q) (sym e)
+        (subst (λ (l : List ℕ). ListLeads l q) (sym edges_there) at_u)
     | inr n ↦ subst (λ (l : List ℕ). ListLeads l q) (sym (edges_other p n)) leads_on
   ]
 
@@ -159,20 +157,20 @@ module _ (all : List Link) (node : Nodes) (g : Graph) (drawn : Drawn all node g)
   led_longer : (q : ℕ) → ListLeads longer q → Leads g u q ⊎ (q ≡ v)
   led_longer q leads_on = elim (cases_lt leads_on.0 (length (edges g u))) [
     | inl w ↦
-      inl (leads_on.0, w, sym (get_or_append_left (edges g u) (v ∷ []) 0 leads_on.0 w) ∙ leads_on.2)
+        inl (leads_on.0, w, sym (get_or_append_left (edges g u) (v ∷ []) 0 leads_on.0 w) ∙ leads_on.2)
     | inr w ↦
-      let is : length (edges g u) ≡ leads_on.0 = omega (arith, w, leads_on.1, length_push (edges g u) v) in
-      inr (sym leads_on.2 ∙ get_or_push (edges g u) v 0 leads_on.0 is)
+        let is : length (edges g u) ≡ leads_on.0 = omega (arith, w, leads_on.1, length_push (edges g u) v) in
+        inr (sym leads_on.2 ∙ get_or_push (edges g u) v 0 leads_on.0 is)
   ]
 
   led_before_on : (p q : ℕ) → Leads linked p q → Leads g p q ⊎ ((p ≡ u) × (q ≡ v))
   led_before_on p q leads_on = elim (cases_eq p u) [
     | inl e ↦
-      let at_u = subst (λ (x : ℕ). Leads linked x q) e leads_on in
-      elim (led_longer q (subst (λ (l : List ℕ). ListLeads l q) edges_there at_u)) [
-        | inl w ↦ inl (subst (λ (x : ℕ). Leads g x q) (sym e) w)
-        | inr w ↦ inr (e, w)
-      ]
+        let at_u = subst (λ (x : ℕ). Leads linked x q) e leads_on in
+        elim (led_longer q (subst (λ (l : List ℕ). ListLeads l q) edges_there at_u)) [
+          | inl w ↦ inl (subst (λ (x : ℕ). Leads g x q) (sym e) w)
+          | inr w ↦ inr (e, w)
+        ]
     | inr n ↦ inl (subst (λ (l : List ℕ). ListLeads l q) (edges_other p n) leads_on)
   ]
 
@@ -187,28 +185,28 @@ module _ (all : List Link) (node : Nodes) (g : Graph) (drawn : Drawn all node g)
       | inl w ↦ let d = drawn.drawn x y w in (d.0, d.1, d.2, d.3, leads_still_on d.0 d.1 d.4)
       | inr w ↦ elim (or_cases (is_link x y link) false w) [
         | inl is ↦
-          let names = link_names x y link is in
-          (u, v, ap node names.0 ∙ from, ap node names.1 ∙ to, leads_new)
+            let names = link_names x y link is in
+            (u, v, ap node names.0 ∙ from, ap node names.1 ∙ to, leads_new)
         | inr never ↦ absurd (cc)
       ]
     ];
     named = λ p q leads_on. elim (led_before_on p q leads_on) [
       | inl w ↦
-        let d = drawn.named p q w in (
-          d.0,
-          d.1,
-          d.2,
-          d.3,
-          leads_split d.0 d.1 ∙ or_left (leads all d.0 d.1) (leads (link ∷ []) d.0 d.1) d.4,
-        )
+          let d = drawn.named p q w in (
+            d.0,
+            d.1,
+            d.2,
+            d.3,
+            leads_split d.0 d.1 ∙ or_left (leads all d.0 d.1) (leads (link ∷ []) d.0 d.1) d.4,
+          )
       | inr w ↦ (
         link.from,
         link.to,
         from ∙ ap Some (sym w.0),
         to ∙ ap Some (sym w.1),
         leads_split link.from link.to
-        ∙ or_right (leads all link.from link.to) (leads (link ∷ []) link.from link.to)
-        (or_left (is_link link.from link.to link) false (is_own_link link)),
+            ∙ or_right (leads all link.from link.to) (leads (link ∷ []) link.from link.to)
+            (or_left (is_link link.from link.to link) false (is_own_link link)),
       )
     ];
   }
@@ -239,9 +237,9 @@ module _ (text : Text) (all : List Link → List Link) (old now : Drawing) (ms :
         second.0,
         second.1,
         λ rest.
-        second.2 (links_in text (pattern_after pattern m) (drop (i + 1) ms) rest)
-        ∙ ap (λ (l : Mentions Span). first.0 ++ links_in text pattern l rest) (sym cut)
-        ∙ first.2 rest,
+            second.2 (links_in text (pattern_after pattern m) (drop (i + 1) ms) rest)
+            ∙ ap (λ (l : Mentions Span). first.0 ++ links_in text pattern l rest) (sym cut)
+            ∙ first.2 rest,
       )
 
   pub links_none : (pattern : PatternName) → length ms ≤ i → LeavesLinks now pattern i → DrawsLinks old now all
@@ -250,7 +248,7 @@ module _ (text : Text) (all : List Link → List Link) (old now : Drawing) (ms :
         first.0,
         first.1,
         λ rest.
-        ap (λ (l : Mentions Span). first.0 ++ links_in text pattern l rest) (sym (drop_all i ms end)) ∙ first.2 rest,
+            ap (λ (l : Mentions Span). first.0 ++ links_in text pattern l rest) (sym (drop_all i ms end)) ∙ first.2 rest,
       )
 
 -- ---- The files
@@ -269,8 +267,8 @@ module _ (files : List Outline) (now : Drawing) (i : ℕ) where
         second.0,
         second.1,
         second.2 (links (drop (i + 1) files))
-        ∙ ap (λ (l : List Outline). left.0 ++ links l) (sym cut)
-        ∙ left.2,
+            ∙ ap (λ (l : List Outline). left.0 ++ links l) (sym cut)
+            ∙ left.2,
       )
 
   pub link_files_none : length files ≤ i → LeavesLinkFiles now i → IsDrawn (links files) now

@@ -1,11 +1,11 @@
 -- Names as nodes of a graph: what reaches what among the names is what does among the nodes.
-use Rattle.std.proofs.Common.{◌≡◌, ◌↔◌, ◌⊎◌, inl, inr, ℕ, ◌+◌, ◌<◌, ◌≤◌, Bool, true, false, List, [], ◌∷◌, length, get_or}
-use Rattle.std.proofs.Common.{Option, Some, None, refl, sym, ap, ◌∙◌, subst, nat_eq, arith}
+use Rattle.std.proofs.Common.{◌≡◌, ◌↔◌, ◌⊎◌, inl, inr, ℕ, ◌<◌, true, List, length, get_or}
+use Rattle.std.proofs.Common.{Option, Some, refl, sym, ap, ◌∙◌, subst, nat_eq, arith}
 use Rattle.std.specs.Prelude.{option_and_then, slice_get}
 use Rattle.std.proofs.lemmas.Bool.{eqb-true, eq-eqb}
 use Rattle.std.proofs.lemmas.Bool.Decides.{same_from_decides}
 use Rattle.std.proofs.lemmas.Option.{slice_get-get_or}
-use Rattle.fluent_syntax_graph.specs.Graph.{Graph, Leads, IsGraph, edges, target}
+use Rattle.fluent_syntax_graph.specs.Graph.{Graph, Leads, IsGraph, target}
 use Rattle.fluent_syntax_graph.specs.Graph.{Reaches as GraphReaches, here, onward as graph_onward}
 use Rattle.fluent_syntax_names.specs.Circles.{Link, leads, Reaches, next, onward, reaches, comes_back}
 use Rattle.fluent_syntax_names.specs.Drawings.{Drawn, Nodes, same_option}

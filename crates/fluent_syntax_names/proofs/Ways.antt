@@ -1,5 +1,5 @@
 -- What reaches what, and the test that computes it.
-use Rattle.std.proofs.Common.{◌≡◌, ◌↔◌, ◌⊎◌, inl, inr, Bool, true, false, List, [], ◌∷◌, refl, sym, ap, ◌∙◌, subst}
+use Rattle.std.proofs.Common.{◌≡◌, ◌↔◌, inl, inr, Bool, true, false, List, [], ◌∷◌, refl, sym, ap, ◌∙◌}
 use Rattle.std.specs.Prelude.{◌||◌, ◌&&◌}
 use Rattle.std.specs.List.{list_any}
 use Rattle.std.specs.Str.{bytes_eq}
@@ -42,10 +42,10 @@ leads_to_target : (all : List Link) (x y : Text) → leads all x y ≡ true → 
 leads_to_target [] x y e = e
 leads_to_target (link ∷ all) x y e = elim (or_cases (is_link x y link) (leads all x y) e) [
   | inl w ↦
-    or_left (bytes_eq y link.to) (list_any (bytes_eq y) (targets all))
-    ((bytes_eq-Decides y link.to).1 (link_names x y link w).1)
+      or_left (bytes_eq y link.to) (list_any (bytes_eq y) (targets all))
+      ((bytes_eq-Decides y link.to).1 (link_names x y link w).1)
   | inr w ↦
-    or_right (bytes_eq y link.to) (list_any (bytes_eq y) (targets all)) (leads_to_target all x y w)
+      or_right (bytes_eq y link.to) (list_any (bytes_eq y) (targets all)) (leads_to_target all x y w)
 ]
 
 module _ (all : List Link) where
@@ -71,10 +71,10 @@ module _ (all : List Link) where
       elim (or_cases (reaches_by all ways x y) (reaches_by all ways x way && reaches_by all ways way y) e) [
         | inl w ↦ via_more way ways x y (via_by ways x y w)
         | inr w ↦
-          let parts = and_parts (reaches_by all ways x way) (reaches_by all ways way y) w in
-          via_both (way ∷ ways) x way y (via_more way ways x way (via_by ways x way parts.0))
-          (or_left (bytes_eq way way) (list_any (bytes_eq way) ways) (same_name way))
-          (via_more way ways way y (via_by ways way y parts.1))
+            let parts = and_parts (reaches_by all ways x way) (reaches_by all ways way y) w in
+            via_both (way ∷ ways) x way y (via_more way ways x way (via_by ways x way parts.0))
+            (or_left (bytes_eq way way) (list_any (bytes_eq way) ways) (same_name way))
+            (via_more way ways way y (via_by ways way y parts.1))
       ]
 
   -- one way more, where the test is right for the others
@@ -89,28 +89,28 @@ module _ (all : List Link) where
       let later : (left w || right w) ≡ true = by_more way ways complete w y rest in
       elim (or_cases (bytes_eq w way) (list_any (bytes_eq w) ways) among) [
         | inl is ↦
-          let same : w ≡ way = (bytes_eq-Decides w way).0 is in
-          let to_way : reaches_by all ways x way ≡ true =
-          complete x way (hop x way (ap (λ (v : Text). leads all x v) (sym same) ∙ e)) in
-          elim (or_cases (left w) (right w) later) [
-            | inl v ↦
-              or_right (left x) (right x)
-              (both (reaches_by all ways x way) (reaches_by all ways way y) to_way (ap left (sym same) ∙ v))
-            | inr v ↦
-              let parts = and_parts (reaches_by all ways w way) (reaches_by all ways way y) v in
-              or_right (left x) (right x)
-              (both (reaches_by all ways x way) (reaches_by all ways way y) to_way parts.1)
-          ]
+            let same : w ≡ way = (bytes_eq-Decides w way).0 is in
+            let to_way : reaches_by all ways x way ≡ true =
+            complete x way (hop x way (ap (λ (v : Text). leads all x v) (sym same) ∙ e)) in
+            elim (or_cases (left w) (right w) later) [
+              | inl v ↦
+                  or_right (left x) (right x)
+                  (both (reaches_by all ways x way) (reaches_by all ways way y) to_way (ap left (sym same) ∙ v))
+              | inr v ↦
+                  let parts = and_parts (reaches_by all ways w way) (reaches_by all ways way y) v in
+                  or_right (left x) (right x)
+                  (both (reaches_by all ways x way) (reaches_by all ways way y) to_way parts.1)
+            ]
         | inr is ↦
-          let before : (t : Text) → reaches_by all ways w t ≡ true → reaches_by all ways x t ≡ true =
-          λ t h. complete x t (through x w t e is (via_by ways w t h)) in
-          elim (or_cases (left w) (right w) later) [
-            | inl v ↦ or_left (left x) (right x) (before y v)
-            | inr v ↦
-              let parts = and_parts (reaches_by all ways w way) (reaches_by all ways way y) v in
-              or_right (left x) (right x)
-              (both (reaches_by all ways x way) (reaches_by all ways way y) (before way parts.0) parts.1)
-          ]
+            let before : (t : Text) → reaches_by all ways w t ≡ true → reaches_by all ways x t ≡ true =
+            λ t h. complete x t (through x w t e is (via_by ways w t h)) in
+            elim (or_cases (left w) (right w) later) [
+              | inl v ↦ or_left (left x) (right x) (before y v)
+              | inr v ↦
+                  let parts = and_parts (reaches_by all ways w way) (reaches_by all ways way y) v in
+                  or_right (left x) (right x)
+                  (both (reaches_by all ways x way) (reaches_by all ways way y) (before way parts.0) parts.1)
+            ]
       ]
 
   by_via : (ways : List Text) (x y : Text) → Via ways x y → reaches_by all ways x y ≡ true

@@ -1,10 +1,10 @@
 -- Names as nodes of a graph.
-use Rattle.std.specs.Prelude.{◌≡◌, ◌+◌, ◌<◌, ℕ, Bool, true, false, nat_eq, List, [], ◌∷◌, ◌++◌, length, Option, None, Some}
+use Rattle.std.specs.Prelude.{◌≡◌, ◌<◌, ℕ, Bool, true, false, nat_eq, List, ◌++◌, length, Option, None, Some}
 use Rattle.std.specs.Prelude.{option_and_then, slice_get}
 use Rattle.fluent_syntax_graph.specs.Graph.{Graph, Leads, targets_of}
 use Rattle.fluent_syntax_names.specs.Circles.{Link, leads, comes_back}
 use Rattle.fluent_syntax_names.specs.Findings.{Set}
-use Rattle.fluent_syntax_names.specs.Places.{place_of, Notes}
+use Rattle.fluent_syntax_names.specs.Places.{place_of}
 use Rattle.fluent_syntax_names.specs.Spelled.{Text}
 use Rattle.fluent_syntax_names.specs.Tables.{Lookup, has_name}
 use Rattle.fluent_syntax_names.specs.declared.circles.Circles.{Circles}

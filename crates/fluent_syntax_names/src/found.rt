@@ -14,7 +14,9 @@ use crate::mention::Mention;
 use crate::noted::Noted;
 use crate::places::Places;
 use crate::referring::referred;
-use crate::spelled::{EntryName, PatternName, name_at, spelled, spelled_attribute, spelled_pattern, spelled_value};
+use crate::spelled::{
+    EntryName, PatternName, name_at, spelled, spelled_attribute, spelled_pattern, spelled_value,
+};
 use fluent_syntax_tree::spans::Span;
 use std::alloc::{AllocError, Global};
 
@@ -72,7 +74,11 @@ impl Here<'_> {
         }
     }
 
-    fn circle_to(&self, pattern: PatternName, target: PatternName) -> Result<Option<Finding>, AllocError>
+    fn circle_to(
+        &self,
+        pattern: PatternName,
+        target: PatternName,
+    ) -> Result<Option<Finding>, AllocError>
         ensures { IfOk result (λ finding.
             finding ≡ circle_to (same_part self.now.circles.now) self.now.file self.now.text.now pattern
             (Some target)) }

@@ -1,7 +1,6 @@
 use Rattle.std.proofs.Common.{false, refl, get_or}
 use Rattle.fluent_syntax_tree.specs.declared.spans.Span.{Span}
-use Rattle.fluent_syntax_names.specs.Circles.{links_in, no_pattern, link_to}
-use Rattle.fluent_syntax_names.specs.Drawings.{DrawsLinks}
+use Rattle.fluent_syntax_names.specs.Circles.{links_in, no_pattern}
 use Rattle.fluent_syntax_names.specs.declared.mention.Mention.{Mention}
 use Rattle.fluent_syntax_names.specs.declared.mention.Mention.TheVariants as says
 use Rattle.fluent_syntax_names.proofs.Linking.{links_next, links_none}

@@ -1,11 +1,11 @@
-use Rattle.std.proofs.Common.{◌≡◌, ◌<◌, List, [], ◌∷◌, ◌++◌, Some, Vec, ℕ, length, set, get_or, sym, ap, ◌∙◌, subst, arith}
+use Rattle.std.proofs.Common.{◌≡◌, ◌<◌, List, [], ◌∷◌, ◌++◌, Some, Vec, ℕ, length, set, sym, ap, ◌∙◌, subst, arith}
 use Rattle.std.specs.declared.alloc.Global.{Global}
 use Rattle.std.proofs.lemmas.List.{map-set, length-map, append_assoc}
 use Rattle.fluent_syntax_graph.specs.Graph.{Graph, targets_of, edges}
 use Rattle.fluent_syntax_graph.proofs.Places.{edges_read}
 use Rattle.fluent_syntax_names.specs.Circles.{link_of}
 use Rattle.fluent_syntax_names.specs.Drawings.{Drawn, nodes_of}
-use Rattle.fluent_syntax_names.specs.Spelled.{Text, spelled_pattern}
+use Rattle.fluent_syntax_names.specs.Spelled.{spelled_pattern}
 use Rattle.fluent_syntax_names.proofs.Linking.{linked_more}
 use Rattle.fluent_syntax_names.proofs.drawing.Drawing.add_link.Goals as goal
 
@@ -17,8 +17,11 @@ index_mut-requires c =
     let all = c.requires.0 in
     let drawn = second.drawn all (first.drawn all c.requires.1) in
     let from = second.stays c.in_ok-from.from.items c.in_ok-from-2.from first.known in
-    omega (arith, drawn.within c.in_ok-from.from.items c.in_ok-from-2.from from,
-    length-map t.targets.items (λ (v : Vec ℕ Global). v.items))
+    omega (
+      arith,
+      drawn.within c.in_ok-from.from.items c.in_ok-from-2.from from,
+      length-map t.targets.items (λ (v : Vec ℕ Global). v.items),
+    )
 
 pub returns : goal.returns
 returns c = λ before drawn_before.
@@ -37,8 +40,11 @@ returns c = λ before drawn_before.
     let to : nodes_of t (spelled_pattern text c.args.target) ≡ Some v =
     ap (nodes_of t) (sym c.in_ok-to.ensures) ∙ second.known in
     let within : u < length ts =
-    omega (arith, drawn.within (spelled_pattern text c.args.pattern) u from,
-    length-map ts (λ (v : Vec ℕ Global). v.items)) in
+    omega (
+      arith,
+      drawn.within (spelled_pattern text c.args.pattern) u from,
+      length-map ts (λ (v : Vec ℕ Global). v.items),
+    ) in
     let there : edges g u ≡ c.index_mut.result.now.items =
     edges_read ts u c.index_mut.result.now within c.index_mut.ensures.value in
     let same : set g u (edges g u ++ v ∷ []) ≡ targets_of (set ts u c.push.new.self) =
@@ -47,6 +53,6 @@ returns c = λ before drawn_before.
     ∙ sym (map-set (λ (v : Vec ℕ Global). v.items) ts u c.push.new.self) in (
       before ++ link ∷ [],
       subst (λ (h : Graph). Drawn (before ++ link ∷ []) (nodes_of t) h) same
-      (linked_more before (nodes_of t) g drawn link u v from to),
+          (linked_more before (nodes_of t) g drawn link u v from to),
       λ rest. append_assoc before (link ∷ []) rest,
     )

@@ -1,5 +1,4 @@
-use Rattle.std.proofs.Common.{◌≡◌, None, ap, ◌∙◌}
-use Rattle.fluent_syntax_names.specs.Places.{place_of}
+use Rattle.std.proofs.Common.{ap, ◌∙◌}
 use Rattle.fluent_syntax_names.proofs.Placed.{find, put_in}
 use Rattle.fluent_syntax_names.proofs.numbers.Numbers.note.Goals as goal
 
