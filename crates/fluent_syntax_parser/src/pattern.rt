@@ -201,6 +201,7 @@ impl<'s, 't, M: MakeTexts> Reader<'s, 't, M> {
     /// Reads a pattern, if one stands there. That of one line without placeable is read by itself, and takes one
     /// allocation.
     #[cycle(readers)]
+    #[inline(always)]
     pub(crate) fn get_pattern(
         &self,
         nesting: usize,

@@ -63,10 +63,12 @@ impl<'s, 't, M: MakeTexts> Reader<'s, 't, M> {
         None
     }
 
-    /// The element that an item is which others follow.
-    fn element(&self, item: Piece<M::Text>) -> Result<PatternElement<M::Text>, AllocError>
-        ensures { IfOk result (λ element. element_view M.made element
-            ≡ element_of (M.source self.now.texts.now) (item_view M.made item)) }
+    /// Adds the element that an item is which others follow.
+    fn add_element(
+        &self,
+        item: Piece<M::Text>,
+        elements: &mut Vec<PatternElement<M::Text>>,
+    ) -> Result<(), AllocError>
     {
         match item {
             Piece::Run { from, to } => {
@@ -74,10 +76,13 @@ impl<'s, 't, M: MakeTexts> Reader<'s, 't, M> {
                     start: from,
                     end: to,
                 })?;
-                Ok(PatternElement::TextElement { value })
+                elements.push(PatternElement::TextElement { value })?;
             }
-            Piece::Placed { expression } => Ok(PatternElement::Placeable { expression }),
+            Piece::Placed { expression } => {
+                elements.push(PatternElement::Placeable { expression })?;
+            }
         }
+        Ok(())
     }
 
     /// The elements that items are which one more follows, with room for that.
@@ -90,27 +95,29 @@ impl<'s, 't, M: MakeTexts> Reader<'s, 't, M> {
     {
         let mut elements = Vec::with_capacity(self.alloc, items.len().saturating_add(1))?;
         for item in items {
-            let element = self.element(item)?;
-            elements.push(element)?;
+            self.add_element(item, &mut elements)?;
         }
         Ok(elements)
     }
 
-    /// The element that the last item is.
-    fn last_element(&self, item: Piece<M::Text>) -> Result<PatternElement<M::Text>, AllocError>
-        ensures { IfOk result (λ element. element_view M.made element
-            ≡ last_of (M.source self.now.texts.now) self.now.source.bytes.now (item_view M.made item)) }
+    /// Adds the element that the last item is.
+    fn add_last_element(
+        &self,
+        item: Piece<M::Text>,
+        elements: &mut Vec<PatternElement<M::Text>>,
+    ) -> Result<(), AllocError>
     {
         match item {
             Piece::Run { from, to } => {
-                let value = self.text(Span {
-                    start: from,
-                    end: self.source.trimmed_end(from, to),
-                })?;
-                Ok(PatternElement::TextElement { value })
+                let end = self.source.trimmed_end(from, to);
+                let value = self.text(Span { start: from, end })?;
+                elements.push(PatternElement::TextElement { value })?;
             }
-            Piece::Placed { expression } => Ok(PatternElement::Placeable { expression }),
+            Piece::Placed { expression } => {
+                elements.push(PatternElement::Placeable { expression })?;
+            }
         }
+        Ok(())
     }
 
     /// The pattern that a layout spells, if it spells one.
@@ -127,8 +134,7 @@ impl<'s, 't, M: MakeTexts> Reader<'s, 't, M> {
             None => Ok(None),
             Some(last) => {
                 let mut elements = self.followed_elements(items)?;
-                let element = self.last_element(last)?;
-                elements.push(element)?;
+                self.add_last_element(last, &mut elements)?;
                 Ok(Some(Pattern { elements }))
             }
         }
