@@ -74,6 +74,7 @@ impl<'s> Source<'s> {
     }
 
     /// Where a pattern ends whose lines from a line's start on are all blank.
+    #[inline(always)]
     pub(crate) fn end_behind_blank_lines(&self, edition: Edition, ptr: usize) -> Option<usize>
         requires { ptr ≤ length self.now.bytes.now }
         ensures lines { IfSome result (EndsBlank edition self.now.bytes.now ptr) }
@@ -112,6 +113,7 @@ impl<'s> Source<'s> {
     }
 
     /// Where a pattern ends that holds nothing, after the inline blank that opens it, if a line ends there.
+    #[inline(always)]
     pub(crate) fn end_without_text(&self, edition: Edition, start: usize) -> Option<usize>
         requires { start ≤ length self.now.bytes.now }
         ensures opens { IfSome result (OpensAs edition self.now.bytes.now start None) }
