@@ -121,6 +121,7 @@ impl<'s, 't, M: MakeTexts> Reader<'s, 't, M> {
     }
 
     /// The pattern that a layout spells, if it spells one.
+    #[inline(never)]
     pub(crate) fn pattern_of(
         &self,
         layout: Layout<M::Text>,
