@@ -15,8 +15,6 @@ use Rattle.fluent_syntax_parser.specs.Layouts.{Piece, Line, Item, run, placed, t
 use Rattle.fluent_syntax_parser.specs.Layouts.{indented, items_from, line_items, opening_items, items_with, piece_map}
 use Rattle.fluent_syntax_parser.specs.Layouts.{line_map, layout_map, item_map}
 use Rattle.fluent_syntax_parser.specs.Lines.{ending_view, line_shape, line_view, piece_shape, piece_view}
-use Rattle.fluent_syntax_parser.specs.declared.elements.Item as made
-use Rattle.fluent_syntax_parser.specs.declared.elements.Item.TheVariants as item
 use Rattle.fluent_syntax_parser.specs.declared.elements.Layout.{Layout}
 use Rattle.fluent_syntax_parser.specs.declared.line.Line as rows
 use Rattle.fluent_syntax_parser.specs.declared.line.Piece as parts
@@ -89,11 +87,11 @@ module _ {E F : Type 0} (h : E → F) where
 -- ---- what a reader has made, as its expressions are seen
 
 module _ {S X : Type 0} (v : S → X) where
-  item_seen : (x : made.Item S) → item_view v x ≡ item_map (expression_view v) (item_shape x)
-  item_seen (item.Text from to) = refl
-  item_seen (item.Filled e) = refl
+  item_seen : (x : parts.Piece S) → item_view v x ≡ item_map (expression_view v) (item_shape x)
+  item_seen (part.Run from to) = refl
+  item_seen (part.Placed e) = refl
 
-  items_seen : (xs : List (made.Item S)) →
+  items_seen : (xs : List (parts.Piece S)) →
       map (item_view v) xs ≡ map (item_map (expression_view v)) (map item_shape xs)
   items_seen [] = refl
   items_seen (x ∷ xs) = rw (item_seen x, items_seen xs) refl
@@ -124,7 +122,7 @@ module _ {S X : Type 0} (v : S → X) where
   layout_seen y = rw (opening_seen y.opening, lines_seen y.lines.items) refl
 
   -- the items of a layout
-  pub items_viewed : (edition : Edition) (common : Option ℕ) (y : Layout S) (all : List (made.Item S)) →
+  pub items_viewed : (edition : Edition) (common : Option ℕ) (y : Layout S) (all : List (parts.Piece S)) →
       map item_shape all ≡ items_with edition common (layout_shape y) →
       map (item_view v) all ≡ items_with edition common (layout_view v y)
   items_viewed edition common y all same =

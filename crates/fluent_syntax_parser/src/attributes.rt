@@ -1,14 +1,10 @@
 //! Attributes.
-ghost use Rattle.std.specs.Prelude.{◌<◌, ◌≤◌, ℕ, length, map, IfOk};
+ghost use Rattle.std.specs.Prelude.{◌<◌, ◌≤◌, length, map, IfOk};
 ghost use Rattle.fluent_syntax_tree.specs.Entry.{attribute_map};
 ghost use Rattle.fluent_syntax_tree.specs.View.{attribute_view};
 ghost use Rattle.fluent_syntax_grammar.specs.Entries.{attribute_of, attributes_of};
-ghost use Rattle.fluent_syntax_grammar.specs.Bytes.{full_stop};
-ghost use Rattle.fluent_syntax_grammar.specs.Construct.{Read};
 ghost use Rattle.fluent_syntax_grammar.specs.Grammar.{within};
-ghost use Rattle.fluent_syntax_grammar.specs.Places.{InlineBlank};
-ghost use Rattle.fluent_syntax_grammar.specs.Words.{token};
-ghost use Rattle.fluent_syntax_parser.specs.Made.{Makes};
+ghost use Rattle.fluent_syntax_parser.specs.Made.{Adds, Makes};
 
 use crate::fault::{Fault, ReadFault, Refusal};
 use crate::reader::Reader;
@@ -17,23 +13,22 @@ use fluent_syntax_tree::ast::Attribute;
 use fluent_syntax_tree::spans::Span;
 
 impl<'s, 't, M: MakeTexts> Reader<'s, 't, M> {
-    /// Reads an attribute that begins with an inline blank and `.`, behind these, and adds it.
+    /// Reads an attribute, and adds it.
     fn add_attribute(
         &self,
         attributes: &mut Vec<Attribute<M::Text>>,
         nesting: usize,
         ptr: usize,
-        start: usize,
     ) -> Result<usize, ReadFault>
-        requires within { start ≤ length self.now.source.bytes.now }
-        requires opens { let t = self.now.source.bytes.now in
-            (dot : ℕ) × InlineBlank t ptr dot × token t full_stop dot (Read tt start) }
+        requires { ptr ≤ length self.now.source.bytes.now }
         ensures adds { let t = self.now.source.bytes.now in
             Adds t (attribute_map (M.source self.now.texts.now))
             (attribute_of self.now.edition t (within self.now.edition t nesting)) (attribute_view M.made)
             attributes.old.items attributes.new.items ptr result }
-        ensures within { IfOk result (λ end. (start < end) × (end ≤ length self.now.source.bytes.now)) }
+        ensures within { IfOk result (λ end. (ptr < end) × (end ≤ length self.now.source.bytes.now)) }
     {
+        let dot = self.source.skip_blank_inline(ptr);
+        let start = self.source.expect_byte(b'.', dot)?;
         let end = self.source.identifier_end(start)?;
         let equals = self.source.skip_blank_inline(end);
         let behind = self.source.expect_byte(b'=', equals)?;
@@ -51,33 +46,9 @@ impl<'s, 't, M: MakeTexts> Reader<'s, 't, M> {
         }
     }
 
-    /// Reads the longest list of attributes, and adds them. One that is refused ends it, where it would begin.
+    /// Reads the longest list of attributes. One that is refused ends it, where it would begin.
     #[inline(never)]
-    fn add_attributes(
-        &self,
-        attributes: &mut Vec<Attribute<M::Text>>,
-        nesting: usize,
-        ptr: usize,
-    ) -> Result<usize, ReadFault>
-    {
-        let mut place = ptr;
-        loop {
-            let dot = self.source.skip_blank_inline(place);
-            if !self.source.is_byte_at(b'.', dot) {
-                return Ok(place);
-            }
-            match self.add_attribute(attributes, nesting, place, dot + 1) {
-                Ok(next) => place = next,
-                Err(ReadFault::Refused(_)) => return Ok(place),
-                Err(ReadFault::TooDeep) => return Err(ReadFault::TooDeep),
-                Err(ReadFault::Memory) => return Err(ReadFault::Memory),
-            }
-        }
-    }
-
-    /// Reads the longest list of attributes.
-    #[inline(always)]
-    pub(crate) fn get_attributes(
+    fn get_listed_attributes(
         &self,
         nesting: usize,
         ptr: usize,
@@ -91,9 +62,34 @@ impl<'s, 't, M: MakeTexts> Reader<'s, 't, M> {
     {
         let mut attributes = Vec::new(self.alloc);
         let mut place = ptr;
-        if self.source.is_byte_at(b'.', self.source.skip_blank_inline(ptr)) {
-            place = self.add_attributes(&mut attributes, nesting, ptr)?;
+        loop {
+            match self.add_attribute(&mut attributes, nesting, place) {
+                Ok(next) => place = next,
+                Err(ReadFault::Refused(_)) => return Ok((attributes, place)),
+                Err(ReadFault::TooDeep) => return Err(ReadFault::TooDeep),
+                Err(ReadFault::Memory) => return Err(ReadFault::Memory),
+            }
         }
-        Ok((attributes, place))
+    }
+
+    /// Reads the longest list of attributes: of most messages, none.
+    #[inline(always)]
+    pub(crate) fn get_attributes(
+        &self,
+        nesting: usize,
+        ptr: usize,
+    ) -> Result<(Vec<Attribute<M::Text>>, usize), ReadFault>
+        requires { ptr ≤ length self.now.source.bytes.now }
+        ensures meets { let t = self.now.source.bytes.now in
+            Makes t (map (attribute_map (M.source self.now.texts.now)))
+            (attributes_of self.now.edition t (within self.now.edition t nesting))
+            (λ found. map (attribute_view M.made) found.items) ptr result }
+        ensures within { IfOk result (λ read. (ptr ≤ read.1) × (read.1 ≤ length self.now.source.bytes.now)) }
+    {
+        let dot = self.source.skip_blank_inline(ptr);
+        match self.source.expect_byte(b'.', dot) {
+            Ok(_) => self.get_listed_attributes(nesting, ptr),
+            Err(_) => Ok((Vec::new(self.alloc), ptr)),
+        }
     }
 }

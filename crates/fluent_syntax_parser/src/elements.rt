@@ -1,13 +1,13 @@
 //! The items that the lines of a pattern spell.
-ghost use Rattle.std.specs.Prelude.{◌≡◌, ◌+◌, ◌<◌, ◌^◌, ◌++◌, [], map, IfOk, OnOk};
+ghost use Rattle.std.specs.Prelude.{◌≡◌, ◌+◌, ◌<◌, ◌^◌, ◌++◌, [], map, option_map, IfOk, OnOk};
+ghost use Rattle.std.specs.List.{flat_map};
 ghost use Rattle.fluent_syntax_parser.specs.Elements.{bare_items, flushed, indent_of, item_shape, kept_place};
 ghost use Rattle.fluent_syntax_parser.specs.Elements.{layout_shape, leading, waiting};
-ghost use Rattle.fluent_syntax_parser.specs.Layouts.{items_with, line_items, with_ending};
+ghost use Rattle.fluent_syntax_parser.specs.Layouts.{items_with, line_items, opening_items, with_ending};
 ghost use Rattle.fluent_syntax_parser.specs.Endings.{EndsWithin};
 ghost use Rattle.fluent_syntax_parser.specs.Lines.{ending_view, line_shape, piece_shape};
 
 use crate::line::{Ending, Line, Piece};
-use fluent_syntax_tree::ast::Expression;
 use fluent_syntax_tree::edition::Edition;
 use std::alloc::{AllocError, Global};
 
@@ -183,19 +183,37 @@ fn add_line<T: Drop>(
     add_pieces(Some(kept), pieces, ending, items)
 }
 
-/// The pieces of the line on which a pattern opens, with its ending, as items: an LF belongs to the text before it.
-fn opening_items<T: Drop>(opening: Line<T>) -> Result<Vec<Piece<T>>, AllocError>
+/// Ends the line on which a pattern opens: its pieces are items then. An LF belongs to the text before it.
+fn end_opening<T: Drop>(ending: Ending, pieces: &mut Vec<Piece<T>>) -> Result<(), AllocError>
+    requires { EndsWithin ending }
+    ensures { OnOk result (map item_shape pieces.new.items
+        ≡ with_ending (map piece_shape pieces.old.items) (ending_view ending)) }
 {
-    let mut items = opening.pieces;
-    let run = match items.last() {
-        Some(Piece::Run { from, to }) => Some((*from, *to)),
-        _ => None,
-    };
-    if let Some(_) = run {
-        items.pop();
+    match pieces.pop() {
+        Some(Piece::Run { from, to }) => add_ending(Some((from, to)), ending, pieces),
+        Some(Piece::Placed { expression }) => {
+            pieces.push(Piece::Placed { expression })?;
+            add_ending(None, ending, pieces)
+        }
+        None => add_ending(None, ending, pieces),
     }
-    add_ending(run, opening.ending, &mut items)?;
-    Ok(items)
+}
+
+/// The items of the line on which a pattern opens, if something stands there.
+fn opening_items<T: Drop>(
+    alloc: Global,
+    opening: Option<Line<T>>,
+) -> Result<Vec<Piece<T>>, AllocError>
+    ensures { IfOk result (λ items. map item_shape items.items ≡ opening_items (option_map line_shape opening)) }
+{
+    match opening {
+        None => Ok(Vec::new(alloc)),
+        Some(line) => {
+            let mut items = line.pieces;
+            end_opening(line.ending, &mut items)?;
+            Ok(items)
+        }
+    }
 }
 
 /// Adds the items of the other lines, under a common indent.
@@ -206,6 +224,8 @@ fn add_lines<T: Drop>(
     lines: Vec<Line<T>>,
     items: &mut Vec<Piece<T>>,
 ) -> Result<(), AllocError>
+    ensures { OnOk result (map item_shape items.new.items ≡ map item_shape items.old.items
+        ++ flat_map (line_items edition common) (map line_shape lines.items)) }
 {
     for line in lines {
         add_line(edition, common, line, items)?;
@@ -223,10 +243,7 @@ pub(crate) fn items_of<T: Drop>(
     ensures { IfOk result (λ items. map item_shape items.items ≡ items_with edition common (layout_shape layout)) }
 {
     let Layout { opening, lines } = layout;
-    let mut items = match opening {
-        Some(line) => opening_items(line)?,
-        None => Vec::new(alloc),
-    };
+    let mut items = opening_items(alloc, opening)?;
     if lines.is_empty() {
         return Ok(items);
     }

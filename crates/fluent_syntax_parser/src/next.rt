@@ -8,7 +8,7 @@ ghost use Rattle.fluent_syntax_grammar.specs.Nesting.{TextDeeper};
 ghost use Rattle.fluent_syntax_grammar.specs.Places.{BlankBlock, has_byte};
 ghost use Rattle.fluent_syntax_grammar.specs.Tiling.{Fault};
 ghost use Rattle.fluent_syntax_parser.specs.Halts.{ComesNext, HaltsWithin, OnHalt};
-ghost use Rattle.fluent_syntax_parser.specs.MadeEntries.{NextMade};
+ghost use Rattle.fluent_syntax_parser.specs.MadeEntries.{AddsNext};
 ghost use Rattle.fluent_syntax_parser.specs.Rest.{EntryTo, Rest, RestAt, TileDeeper, TileIn, are_dropped};
 ghost use Rattle.fluent_syntax_parser.specs.ShortGrammar.{NextStart, ShortMessage};
 ghost use Rattle.fluent_syntax_parser.specs.ShortMessages.{short_message};
@@ -114,16 +114,32 @@ impl<'s, 't, M: MakeTexts> Reader<'s, 't, M> {
         nesting: usize,
         ptr: usize,
     ) -> Result<Option<usize>, Halt>
+        requires { ptr ≤ length self.now.source.bytes.now }
+        ensures next { let t = self.now.source.bytes.now in IfOk result
+            (AddsNext (M.source self.now.texts.now) M.made comments self.now.edition t ptr body.old.items
+            body.new.items errors.old.items errors.new.items) }
+        ensures blank { let t = self.now.source.bytes.now in BlankBlock t ptr (length t) → result ≡ Ok None }
+        ensures within { let t = self.now.source.bytes.now in
+            IfOk result (λ found. IfSome found (λ end. (ptr < end) × (end ≤ length t))) }
+        ensures nests { IfErr result (HaltsWithin nesting (length self.now.source.bytes.now - ptr)) }
+        ensures deeper { let t = self.now.source.bytes.now in let at = TileIn comments self.now.edition t in
+            IfErr result (OnHalt (TextDeeper self.now.edition t at nesting ptr)) }
+        ensures behind { let t = self.now.source.bytes.now in let at = TileIn comments self.now.edition t in
+            let deeper = TextDeeper self.now.edition t at nesting in
+            IfOk result (λ found. IfSome found (λ end. deeper end → deeper ptr)) }
+        ensures shallow { let t = self.now.source.bytes.now in let at = TileIn comments self.now.edition t in
+            let deeper = TextDeeper self.now.edition t at nesting in
+            IfOk result (ComesNext deeper ptr) }
     {
         let start = self.source.tile_start(comments, ptr);
         if start == self.source.bytes.len() {
             return Ok(None);
         }
         let end = self.add_tile(body, errors, nesting, start)?;
-        if ends_with_comment(body) {
-            let end = self.hang(body, nesting, end)?;
+        if !ends_with_comment(body) {
             return Ok(Some(end));
         }
+        let end = self.hang(body, nesting, end)?;
         Ok(Some(end))
     }
 }

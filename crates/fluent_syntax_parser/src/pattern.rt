@@ -9,7 +9,7 @@ ghost use Rattle.fluent_syntax_grammar.specs.Patterns.{layout_at, pattern};
 ghost use Rattle.fluent_syntax_grammar.specs.Places.{BlankBlock, InlineBlank, after_eol};
 ghost use Rattle.fluent_syntax_parser.specs.Elements.{layout_view};
 ghost use Rattle.fluent_syntax_parser.specs.Layouts.{layout_of};
-ghost use Rattle.fluent_syntax_parser.specs.Made.{Makes, OpensMade};
+ghost use Rattle.fluent_syntax_parser.specs.Made.{Makes};
 ghost use Rattle.fluent_syntax_parser.specs.ShortPatterns.{EndsBlank, EndsLine, NoLines, OpensAs, text_pattern};
 
 use crate::elements::Layout;
@@ -135,6 +135,8 @@ impl<'s> Source<'s> {
 impl<'s, 't, M: MakeTexts> Reader<'s, 't, M> {
     /// The pattern that is one text.
     fn short_pattern(&self, value: Span) -> Result<Pattern<M::Text>, AllocError>
+        ensures { IfOk result (λ pattern. pattern_view M.made pattern
+            ≡ pattern_map (M.source self.now.texts.now) (text_pattern value)) }
     {
         let value = self.text(value)?;
         let mut elements = Vec::with_capacity(self.alloc, 1)?;

@@ -1,5 +1,5 @@
 //! The tail of a pattern's items, and the elements that are left.
-ghost use Rattle.std.specs.Prelude.{◌≡◌, map, IfOk};
+ghost use Rattle.std.specs.Prelude.{◌≡◌, ◌++◌, ◌∷◌, [], map, IfOk, OnOk};
 ghost use Rattle.fluent_syntax_tree.specs.Spans.{bytes_at};
 ghost use Rattle.fluent_syntax_tree.specs.View.{element_view};
 ghost use Rattle.fluent_syntax_grammar.specs.Elements.{is_nonblank, trimmed_end};
@@ -69,6 +69,8 @@ impl<'s, 't, M: MakeTexts> Reader<'s, 't, M> {
         item: Piece<M::Text>,
         elements: &mut Vec<PatternElement<M::Text>>,
     ) -> Result<(), AllocError>
+        ensures { OnOk result (map (element_view M.made) elements.new.items ≡ map (element_view M.made)
+            elements.old.items ++ element_of (M.source self.now.texts.now) (item_view M.made item) ∷ []) }
     {
         match item {
             Piece::Run { from, to } => {
@@ -106,6 +108,9 @@ impl<'s, 't, M: MakeTexts> Reader<'s, 't, M> {
         item: Piece<M::Text>,
         elements: &mut Vec<PatternElement<M::Text>>,
     ) -> Result<(), AllocError>
+        ensures { OnOk result (map (element_view M.made) elements.new.items ≡ map (element_view M.made)
+            elements.old.items
+            ++ last_of (M.source self.now.texts.now) self.now.source.bytes.now (item_view M.made item) ∷ []) }
     {
         match item {
             Piece::Run { from, to } => {

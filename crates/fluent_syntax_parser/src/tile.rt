@@ -1,14 +1,14 @@
 //! Entries and junk, each with the comment that hangs on it.
-ghost use Rattle.std.specs.Prelude.{◌≡◌, ◌-◌, ◌<◌, ◌≤◌, length, IfErr, IfOk, None, Some, false};
-ghost use Rattle.fluent_syntax_tree.specs.Entry.{junk};
-ghost use Rattle.fluent_syntax_tree.specs.View.{entry_view};
+ghost use Rattle.std.specs.Prelude.{◌≡◌, ◌-◌, ◌<◌, ◌≤◌, ◌∷◌, ◌++◌, [], length, IfErr, IfOk, List, None, Some};
+ghost use Rattle.fluent_syntax_tree.specs.declared.ast.Comment.{Comment};
+ghost use Rattle.fluent_syntax_tree.specs.declared.ast.Entry.{Entry};
 ghost use Rattle.fluent_syntax_tree.specs.declared.ast.Entry.TheVariants as entries;
 ghost use Rattle.fluent_syntax_grammar.specs.Grammar.{within};
 ghost use Rattle.fluent_syntax_grammar.specs.Nesting.{TextDeeper, TooDeep};
 ghost use Rattle.fluent_syntax_grammar.specs.Tiling.{JunkEnd, TileIn, entry_in};
-ghost use Rattle.fluent_syntax_parser.specs.Faults.{fault_of, refused_as};
 ghost use Rattle.fluent_syntax_parser.specs.Halts.{HaltsWithin, OnHalt};
-ghost use Rattle.fluent_syntax_parser.specs.MadeEntries.{HangsMade, MadeTile, commented, is_comment};
+ghost use Rattle.fluent_syntax_parser.specs.MadeEntries.{AddsJunk, AddsTile, HangsLast, HungLast, commented};
+ghost use Rattle.fluent_syntax_parser.specs.MadeEntries.{ends_with_comment};
 
 use crate::fault::{ReadFault, Refusal};
 use crate::options::Halt;
@@ -18,17 +18,6 @@ use fluent_syntax_tree::ast::{Comment, Entry, Message, Term};
 use fluent_syntax_tree::errors::ParserError;
 use fluent_syntax_tree::spans::Span;
 use std::alloc::AllocError;
-
-/// The comment of level 1 that an entry is, or the entry, if it is none.
-pub(crate) fn as_comment<S>(entry: Entry<S>) -> Result<Comment<S>, Entry<S>>
-    ensures comment { IfOk result (λ c. entry ≡ entries.Comment c) }
-    ensures other { IfErr result (λ e. (e ≡ entry) × (is_comment e ≡ false)) }
-{
-    match entry {
-        Entry::Comment(comment) => Ok(comment),
-        entry => Err(entry),
-    }
-}
 
 /// A message or a term with the comment, or the comment, if it can't hang on the entry.
 fn with_comment<S: Drop>(comment: Comment<S>, entry: Entry<S>) -> Result<Entry<S>, Comment<S>>
@@ -49,8 +38,35 @@ fn with_comment<S: Drop>(comment: Comment<S>, entry: Entry<S>) -> Result<Entry<S
 }
 
 /// Whether the last entry is a comment of level 1.
-pub(crate) fn ends_with_comment<S: Drop>(body: &[Entry<S>]) -> bool {
-    matches!(body.last(), Some(Entry::Comment(_)))
+pub(crate) fn ends_with_comment<S: Drop>(body: &[Entry<S>]) -> bool
+    ensures { result ≡ ends_with_comment body.now }
+{
+    match body.last() {
+        Some(Entry::Comment(_)) => true,
+        _ => false,
+    }
+}
+
+/// Hangs the comment before the last entry on that, and says whether it can hang there. Where it can't, the entry is
+/// dropped.
+fn hang_last<S: Drop>(body: &mut Vec<Entry<S>>) -> Result<bool, AllocError>
+    ensures { (before : List (Entry S)) (c : Comment S) (e : Entry S) →
+        body.old.items ≡ before ++ entries.Comment c ∷ [] ++ e ∷ [] →
+        IfOk result (HungLast before c e body.new.items) }
+{
+    let (Some(entry), Some(Entry::Comment(comment))) = (body.pop(), body.pop()) else {
+        return Ok(false);
+    };
+    match with_comment(comment, entry) {
+        Ok(entry) => {
+            body.push(entry)?;
+            Ok(true)
+        }
+        Err(comment) => {
+            body.push(Entry::Comment(comment))?;
+            Ok(false)
+        }
+    }
 }
 
 impl<'s, 't, M: MakeTexts> Reader<'s, 't, M> {
@@ -63,6 +79,11 @@ impl<'s, 't, M: MakeTexts> Reader<'s, 't, M> {
         refusal: Refusal,
         start: usize,
     ) -> Result<usize, AllocError>
+        requires { refusal.place ≤ length self.now.source.bytes.now }
+        ensures adds { let t = self.now.source.bytes.now in IfOk result (λ end.
+            AddsJunk (M.source self.now.texts.now) M.made t refusal start end body.old.items body.new.items
+            errors.old.items errors.new.items) }
+        ensures ends { IfOk result (JunkEnd self.now.source.bytes.now refusal.place) }
     {
         let end = self.source.next_entry_start(refusal.place);
         let stretch = Span { start, end };
@@ -82,6 +103,15 @@ impl<'s, 't, M: MakeTexts> Reader<'s, 't, M> {
         nesting: usize,
         start: usize,
     ) -> Result<usize, Halt>
+        requires { start < length self.now.source.bytes.now }
+        ensures adds { let t = self.now.source.bytes.now in IfOk result (λ end.
+            AddsTile (M.source self.now.texts.now) M.made self.now.edition t nesting start end body.old.items
+            body.new.items errors.old.items errors.new.items) }
+        ensures within { IfOk result (λ end. (start < end) × (end ≤ length self.now.source.bytes.now)) }
+        ensures nests { IfErr result (HaltsWithin nesting (length self.now.source.bytes.now - start)) }
+        ensures deeper { let t = self.now.source.bytes.now in
+            let R = within self.now.edition t nesting in
+            IfErr result (OnHalt (TooDeep (entry_in self.now.edition t R) start)) }
     {
         match self.add_entry(body, nesting, start) {
             Ok(end) => Ok(end),
@@ -94,8 +124,8 @@ impl<'s, 't, M: MakeTexts> Reader<'s, 't, M> {
         }
     }
 
-    /// Hangs the comment that was added last, and ends at a place, on the entry there, if it hangs on one; and says
-    /// where that ends.
+    /// Hangs the comment that was added last, and ends at a place, on the entry there, if it hangs on one; says where
+    /// that ends.
     #[inline(never)]
     pub(crate) fn hang(
         &self,
@@ -103,34 +133,34 @@ impl<'s, 't, M: MakeTexts> Reader<'s, 't, M> {
         nesting: usize,
         ptr: usize,
     ) -> Result<usize, Halt>
+        requires { ptr ≤ length self.now.source.bytes.now }
+        ensures hangs { let t = self.now.source.bytes.now in IfOk result (λ end.
+            HangsLast (M.source self.now.texts.now) M.made self.now.edition t ptr end body.old.items body.new.items) }
+        ensures within { IfOk result (λ end. (ptr ≤ end) × (end ≤ length self.now.source.bytes.now)) }
+        ensures nests { IfErr result (HaltsWithin nesting (length self.now.source.bytes.now - ptr)) }
+        ensures deeper { let t = self.now.source.bytes.now in let edition = self.now.edition in
+            IfErr result (OnHalt (TextDeeper edition t (TileIn edition t) nesting ptr)) }
+        ensures behind { let t = self.now.source.bytes.now in let edition = self.now.edition in
+            let deeper = TextDeeper edition t (TileIn edition t) nesting in
+            IfOk result (λ end. deeper end → deeper ptr) }
+        ensures shallow { let t = self.now.source.bytes.now in let edition = self.now.edition in
+            let deeper = TextDeeper edition t (TileIn edition t) nesting in
+            IfOk result (λ end. deeper ptr → deeper end) }
     {
         if self.source.is_byte_at(b'#', ptr) || self.source.skip_blank_block(ptr) != ptr {
             return Ok(ptr);
         }
         match self.add_entry(body, nesting, ptr) {
             Ok(end) => {
-                hang_last(body)?;
-                Ok(end)
+                if hang_last(body)? {
+                    Ok(end)
+                } else {
+                    Ok(ptr)
+                }
             }
             Err(ReadFault::Refused(_)) => Ok(ptr),
             Err(ReadFault::TooDeep) => Err(Halt::TooDeep),
             Err(ReadFault::Memory) => Err(Halt::Memory),
         }
     }
-}
-
-/// The last two entries as one, if they are a comment and what it can hang on.
-fn hang_last<S: Drop>(body: &mut Vec<Entry<S>>) -> Result<(), AllocError> {
-    let Some(entry) = body.pop() else {
-        return Ok(());
-    };
-    match body.pop() {
-        Some(Entry::Comment(comment)) => match with_comment(comment, entry) {
-            Ok(entry) => body.push(entry)?,
-            Err(comment) => body.push(Entry::Comment(comment))?,
-        },
-        Some(other) => { body.push(other)?; body.push(entry)?; }
-        None => body.push(entry)?,
-    }
-    Ok(())
 }

@@ -5,10 +5,10 @@ use Rattle.std.proofs.Common.{length, ◌-◌, ◌≤◌}
 use Rattle.fluent_syntax_tree.specs.Entry.{attribute_map}
 use Rattle.fluent_syntax_tree.specs.View.{attribute_view}
 use Rattle.fluent_syntax_parser.proofs.Gathers.{MadeList}
-use Rattle.fluent_syntax_parser.proofs.reader.Reader.get_attributes.Given as goal
+use Rattle.fluent_syntax_parser.proofs.reader.Reader.get_listed_attributes.Given as goal
 
-abbrev pub invariant-loop-attribute : goal.invariant-loop-attribute
-invariant-loop-attribute g l = record {
+abbrev pub invariant-loop-place : goal.invariant-loop-place
+invariant-loop-place g l = record {
   forward : l.ptr ≤ l.place;
   within : l.place ≤ length l.self.source.bytes.now;
   gathered :
@@ -26,5 +26,5 @@ invariant-loop-attribute g l = record {
       (grammar.within l.self.edition l.self.source.bytes.now l.nesting)) l.ptr;
 }
 
-abbrev pub decreases-loop-attribute : goal.decreases-loop-attribute
-decreases-loop-attribute g l = length l.self.source.bytes.now - l.place
+abbrev pub decreases-loop-place : goal.decreases-loop-place
+decreases-loop-place g l = length l.self.source.bytes.now - l.place
