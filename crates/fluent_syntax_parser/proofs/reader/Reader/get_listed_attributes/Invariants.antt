@@ -7,8 +7,8 @@ use Rattle.fluent_syntax_tree.specs.View.{attribute_view}
 use Rattle.fluent_syntax_parser.proofs.Gathers.{MadeList}
 use Rattle.fluent_syntax_parser.proofs.reader.Reader.get_listed_attributes.Given as goal
 
-abbrev pub invariant-loop-place : goal.invariant-loop-place
-invariant-loop-place g l = record {
+abbrev pub invariant-loop-next : goal.invariant-loop-next
+invariant-loop-next g l = record {
   forward : l.ptr ≤ l.place;
   within : l.place ≤ length l.self.source.bytes.now;
   gathered :
@@ -26,5 +26,5 @@ invariant-loop-place g l = record {
       (grammar.within l.self.edition l.self.source.bytes.now l.nesting)) l.ptr;
 }
 
-abbrev pub decreases-loop-place : goal.decreases-loop-place
-decreases-loop-place g l = length l.self.source.bytes.now - l.place
+abbrev pub decreases-loop-next : goal.decreases-loop-next
+decreases-loop-next g l = length l.self.source.bytes.now - l.place
