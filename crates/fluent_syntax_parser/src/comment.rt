@@ -76,11 +76,12 @@ impl<'s, 't, M: MakeTexts> Reader<'s, 't, M> {
         let level = self.source.comment_level(ptr);
         let (content, end) = self.get_comment_content(level, ptr)?;
         let comment = Comment { content };
-        body.push(match level {
+        let entry = match level {
             1 => Entry::Comment(comment),
             2 => Entry::GroupComment(comment),
             _ => Entry::ResourceComment(comment),
-        })?;
+        };
+        body.push(entry)?;
         Ok(end)
     }
 
