@@ -54,7 +54,10 @@ fn hang_last<S: Drop>(body: &mut Vec<Entry<S>>) -> Result<bool, AllocError>
         body.old.items ≡ before ++ entries.Comment c ∷ [] ++ e ∷ [] →
         IfOk result (HungLast before c e body.new.items) }
 {
-    let (Some(entry), Some(Entry::Comment(comment))) = (body.pop(), body.pop()) else {
+    let Some(entry) = body.pop() else {
+        return Ok(false);
+    };
+    let Some(Entry::Comment(comment)) = body.pop() else {
         return Ok(false);
     };
     match with_comment(comment, entry) {
@@ -152,11 +155,8 @@ impl<'s, 't, M: MakeTexts> Reader<'s, 't, M> {
         }
         match self.add_entry(body, nesting, ptr) {
             Ok(end) => {
-                if hang_last(body)? {
-                    Ok(end)
-                } else {
-                    Ok(ptr)
-                }
+                let hangs = hang_last(body)?;
+                if hangs { Ok(end) } else { Ok(ptr) }
             }
             Err(ReadFault::Refused(_)) => Ok(ptr),
             Err(ReadFault::TooDeep) => Err(Halt::TooDeep),
