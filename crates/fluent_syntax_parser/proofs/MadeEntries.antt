@@ -30,6 +30,9 @@ some_of : {A B : Type 0} (g : A → B) (o : Option A) (b : B) → Some b ≡ opt
 some_of g None b e = cc
 some_of g (Some a) b e = (a, refl, ap (or b) e)
 
+pub same_some : {X : Type 0} (a b : X) → Some a ≡ Some b → a ≡ b
+same_some a b e = ap (or a) e
+
 none_of : {A B : Type 0} (g : A → B) (o : Option A) → None ≡ option_map g o → o ≡ None
 none_of g None e = refl
 none_of g (Some a) e = cc

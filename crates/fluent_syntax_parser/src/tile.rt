@@ -47,6 +47,27 @@ pub(crate) fn ends_with_comment<S: Drop>(body: &[Entry<S>]) -> bool
     }
 }
 
+/// The comment of level 1 that an entry is, if it is one.
+fn as_comment<S: Drop>(entry: Entry<S>) -> Option<Comment<S>>
+    ensures { (c : Comment S) → entry ≡ entries.Comment c → result ≡ Some c }
+{
+    match entry {
+        Entry::Comment(comment) => Some(comment),
+        _ => None,
+    }
+}
+
+/// Takes the comment of level 1 that the entries end with.
+fn take_comment<S: Drop>(body: &mut Vec<Entry<S>>) -> Option<Comment<S>>
+    ensures { (before : List (Entry S)) (c : Comment S) → body.old.items ≡ before ++ entries.Comment c ∷ [] →
+        (result ≡ Some c) × (body.new.items ≡ before) }
+{
+    match body.pop() {
+        Some(entry) => as_comment(entry),
+        None => None,
+    }
+}
+
 /// Hangs the comment before the last entry on that, and says whether it can hang there. Where it can't, the entry is
 /// dropped.
 fn hang_last<S: Drop>(body: &mut Vec<Entry<S>>) -> Result<bool, AllocError>
@@ -57,7 +78,7 @@ fn hang_last<S: Drop>(body: &mut Vec<Entry<S>>) -> Result<bool, AllocError>
     let Some(entry) = body.pop() else {
         return Ok(false);
     };
-    let Some(Entry::Comment(comment)) = body.pop() else {
+    let Some(comment) = take_comment(body) else {
         return Ok(false);
     };
     match with_comment(comment, entry) {
