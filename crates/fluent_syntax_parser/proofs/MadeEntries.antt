@@ -1,6 +1,7 @@
 -- Entries whose texts were made, and the trees of spans that they stand for.
-use Rattle.std.proofs.Common.{◌≡◌, ℕ, List, [], ◌∷◌, ◌++◌, Bool, true, false, map, Option, Some, None, option_map, refl}
-use Rattle.std.proofs.Common.{sym, ap, subst, ◌∙◌}
+use Rattle.std.proofs.Common.{◌≡◌, ℕ, suc, ◌-◌, List, [], ◌∷◌, ◌++◌, length, Bool, true, false, map, Option, Some, None, option_map, refl}
+use Rattle.std.proofs.Common.{sym, ap, subst, arith, ◌∙◌}
+use Rattle.std.specs.Prelude.{slice_get}
 use Rattle.std.proofs.lemmas.List.{append-nil, append_assoc, map-append}
 use Rattle.fluent_syntax_tree.specs.Entry.{BodyTree, EntryTree, body_map, comment, entry_map, group, junk, message}
 use Rattle.fluent_syntax_tree.specs.Entry.{regular, resource, term}
@@ -14,7 +15,7 @@ use Rattle.fluent_syntax_tree.specs.declared.spans.Span.{Span}
 use Rattle.fluent_syntax_grammar.specs.Body.{hung}
 use Rattle.fluent_syntax_grammar.specs.Tiling.{Fault}
 use Rattle.fluent_syntax_parser.specs.Faults.{fault_of}
-use Rattle.fluent_syntax_parser.specs.MadeEntries.{MadeBody, commented, is_comment}
+use Rattle.fluent_syntax_parser.specs.MadeEntries.{MadeBody, commented, ends_with_comment, is_comment}
 use Rattle.fluent_syntax_parser.specs.Rest.{EntryTo, Rest, may_hang, tree_of}
 use Rattle.fluent_syntax_parser.specs.declared.options.Comments.{Comments}
 use Rattle.fluent_syntax_parser.proofs.SameTrees.{same_entry}
@@ -85,6 +86,35 @@ viewed_may v (entries.Comment d) = refl
 viewed_may v (entries.GroupComment d) = refl
 viewed_may v (entries.ResourceComment d) = refl
 viewed_may v (entries.Junk x) = refl
+
+pub comment_seen : {S : Type 0} (e : Entry S) → is_comment e ≡ true → (c : Comment S) × (e ≡ entries.Comment c)
+comment_seen (entries.Message m) h = cc
+comment_seen (entries.Term m) h = cc
+comment_seen (entries.Comment c) h = (c, refl)
+comment_seen (entries.GroupComment c) h = cc
+comment_seen (entries.ResourceComment c) h = cc
+comment_seen (entries.Junk x) h = cc
+
+-- the last entry, as a slice gives it
+abbrev pub last_seen : {S : Type 0} → Option (Entry S) → Bool
+last_seen None = false
+last_seen (Some e) = is_comment e
+
+last_at : {S : Type 0} (e : Entry S) (es : List (Entry S)) →
+    last_seen (slice_get (e ∷ es) (length es)) ≡ ends_with_comment (e ∷ es)
+last_at e [] = refl
+last_at e (d ∷ es) = last_at d es
+
+pub last_of : {S : Type 0} (es : List (Entry S)) → last_seen (slice_get es (length es - 1)) ≡ ends_with_comment es
+last_of [] = refl
+last_of (e ∷ es) =
+    let before : suc (length es) - 1 ≡ length es = omega arith in
+    ap (λ n. last_seen (slice_get (e ∷ es) n)) before ∙ last_at e es
+
+pub ends_with : {S : Type 0} (es : List (Entry S)) (e : Entry S) → ends_with_comment (es ++ e ∷ []) ≡ is_comment e
+ends_with [] e = refl
+ends_with (d ∷ []) e = refl
+ends_with (d ∷ x ∷ es) e = ends_with (x ∷ es) e
 
 abbrev lines_or : {X : Type 0} → List X → EntryTree X → List X
 lines_or xs (comment level lines) = lines

@@ -8,7 +8,7 @@ ghost use Rattle.fluent_syntax_grammar.specs.Nesting.{TextDeeper, TooDeep};
 ghost use Rattle.fluent_syntax_grammar.specs.Tiling.{JunkEnd, TileIn, entry_in};
 ghost use Rattle.fluent_syntax_parser.specs.Halts.{HaltsWithin, OnHalt};
 ghost use Rattle.fluent_syntax_parser.specs.MadeEntries.{AddsJunk, AddsTile, HangsLast, HungLast, commented};
-ghost use Rattle.fluent_syntax_parser.specs.MadeEntries.{ends_with_comment};
+ghost use Rattle.fluent_syntax_parser.specs.MadeEntries.{ends_with_comment, is_comment};
 
 use crate::fault::{ReadFault, Refusal};
 use crate::options::Halt;
@@ -37,13 +37,19 @@ fn with_comment<S: Drop>(comment: Comment<S>, entry: Entry<S>) -> Result<Entry<S
     }
 }
 
+fn is_comment<S: Drop>(entry: &Entry<S>) -> bool
+    ensures { result ≡ is_comment entry.now }
+{
+    matches!(entry, Entry::Comment(_))
+}
+
 /// Whether the last entry is a comment of level 1.
 pub(crate) fn ends_with_comment<S: Drop>(body: &[Entry<S>]) -> bool
     ensures { result ≡ ends_with_comment body.now }
 {
     match body.last() {
-        Some(Entry::Comment(_)) => true,
-        _ => false,
+        Some(entry) => is_comment(entry),
+        None => false,
     }
 }
 
