@@ -1,7 +1,7 @@
 -- Entries whose texts were made, and the trees of spans that they stand for.
 use Rattle.std.proofs.Common.{◌≡◌, ℕ, suc, ◌-◌, List, [], ◌∷◌, ◌++◌, length, Bool, true, false, map, Option, Some, None, option_map, refl}
 use Rattle.std.proofs.Common.{sym, ap, subst, arith, ◌∙◌}
-use Rattle.std.specs.Prelude.{slice_get}
+use Rattle.std.specs.Prelude.{option_to_list, slice_get}
 use Rattle.std.proofs.lemmas.List.{append-nil, append_assoc, map-append}
 use Rattle.fluent_syntax_tree.specs.Entry.{BodyTree, EntryTree, body_map, comment, entry_map, group, junk, message}
 use Rattle.fluent_syntax_tree.specs.Entry.{regular, resource, term}
@@ -16,7 +16,7 @@ use Rattle.fluent_syntax_grammar.specs.Body.{hung}
 use Rattle.fluent_syntax_grammar.specs.Tiling.{Fault}
 use Rattle.fluent_syntax_parser.specs.Faults.{fault_of}
 use Rattle.fluent_syntax_parser.specs.MadeEntries.{MadeBody, commented, ends_with_comment, is_comment}
-use Rattle.fluent_syntax_parser.specs.Rest.{EntryTo, Rest, may_hang, tree_of}
+use Rattle.fluent_syntax_parser.specs.Rest.{EntryTo, Rest, faults_of, may_hang, tree_of}
 use Rattle.fluent_syntax_parser.specs.declared.options.Comments.{Comments}
 use Rattle.fluent_syntax_parser.proofs.SameTrees.{same_entry}
 
@@ -33,6 +33,12 @@ some_of g (Some a) b e = (a, refl, ap (or b) e)
 
 pub same_some : {X : Type 0} (a b : X) → Some a ≡ Some b → a ≡ b
 same_some a b e = ap (or a) e
+
+-- the last item of a list that holds one at most
+pub only : {X : Type 0} (item : Option X) →
+    slice_get (option_to_list item) (length (option_to_list item) - 1) ≡ item
+only None = refl
+only (Some x) = refl
 
 none_of : {A B : Type 0} (g : A → B) (o : Option A) → None ≡ option_map g o → o ≡ None
 none_of g None e = refl
@@ -197,6 +203,12 @@ module _ {S X : Type 0} (f : Span → X) (v : S → X) where
               (one_more read.trees tree others, more, append_assoc (map fault_of errors) faults after)
               (read.rest _ _ (next others after h));
         }
+
+-- what one error more tells, if there is one
+pub told_faults : (errors told : List ParserError) (error : Option ParserError) →
+    told ≡ errors ++ option_to_list error → map fault_of told ≡ map fault_of errors ++ faults_of error
+told_faults errors told None same = ap (map fault_of) same ∙ map-append fault_of errors []
+told_faults errors told (Some e) same = ap (map fault_of) same ∙ map-append fault_of errors (e ∷ [])
 
 -- ---- entries of spans
 

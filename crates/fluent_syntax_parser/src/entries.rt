@@ -13,6 +13,7 @@ use crate::reader::Reader;
 use crate::short::ShortPart;
 use crate::source::Source;
 use crate::texts::AsSpans;
+use crate::tile::only_item;
 use fluent_syntax_tree::ast::Entry;
 use fluent_syntax_tree::errors::ParserError;
 use fluent_syntax_tree::spans::Span;
@@ -80,16 +81,16 @@ impl<'s> Entries<'s> {
             edition,
             texts: &AsSpans,
         };
-        let mut body = Vec::with_capacity(alloc, 1)?;
+        let mut body = Vec::new(alloc);
         let mut errors = Vec::new(alloc);
         let Some(end) = reader.add_next(&mut body, &mut errors, comments, nesting, self.ptr)? else {
             return Ok(None);
         };
         self.ptr = end;
-        match body.pop() {
-            Some(entry) => Ok(Some((entry, errors.pop()))),
-            None => Ok(None),
-        }
+        let Some(entry) = only_item(body) else {
+            return Ok(None);
+        };
+        Ok(Some((entry, only_item(errors))))
     }
 
     /// Reads the next entry, if it is a message that no comment hangs on and whose patterns are each one line of texts

@@ -1,5 +1,6 @@
 //! Entries and junk, each with the comment that hangs on it.
-ghost use Rattle.std.specs.Prelude.{◌≡◌, ◌-◌, ◌<◌, ◌≤◌, ◌∷◌, ◌++◌, [], length, IfErr, IfOk, List, None, Some};
+ghost use Rattle.std.specs.Prelude.{◌≡◌, ◌-◌, ◌<◌, ◌≤◌, ◌∷◌, ◌++◌, [], length, IfErr, IfOk, List, None, Option, Some};
+ghost use Rattle.std.specs.Prelude.{option_to_list};
 ghost use Rattle.fluent_syntax_tree.specs.declared.ast.Comment.{Comment};
 ghost use Rattle.fluent_syntax_tree.specs.declared.ast.Entry.{Entry};
 ghost use Rattle.fluent_syntax_tree.specs.declared.ast.Entry.TheVariants as entries;
@@ -35,6 +36,14 @@ fn with_comment<S: Drop>(comment: Comment<S>, entry: Entry<S>) -> Result<Entry<S
         }
         _ => Err(comment),
     }
+}
+
+/// The item of a list that holds one at most.
+pub(crate) fn only_item<T: Drop>(items: Vec<T>) -> Option<T>
+    ensures { (item : Option T) → items.items ≡ option_to_list item → result ≡ item }
+{
+    let mut items = items;
+    items.pop()
 }
 
 fn is_comment<S: Drop>(entry: &Entry<S>) -> bool

@@ -7,6 +7,7 @@ use crate::options::Halt;
 use crate::reader::Reader;
 use crate::source::Source;
 use crate::texts::AsSpans;
+use crate::tile::only_item;
 use fluent_syntax_tree::ast::Entry;
 use fluent_syntax_tree::edition::Edition;
 use fluent_syntax_tree::errors::ParserError;
@@ -81,15 +82,15 @@ impl<'s> Tiles<'s> {
             edition: self.edition,
             texts: &AsSpans,
         };
-        let mut body = Vec::with_capacity(alloc, 1)?;
+        let mut body = Vec::new(alloc);
         let mut errors = Vec::new(alloc);
         let end = reader.add_tile(&mut body, &mut errors, self.nesting, start)?;
         self.ptr = end;
         let span = Span { start, end };
-        let error = errors.pop();
-        match body.pop() {
-            Some(entry) => Ok(Some(FoundTile { span, entry, error })),
-            None => Ok(None),
-        }
+        let Some(entry) = only_item(body) else {
+            return Ok(None);
+        };
+        let error = only_item(errors);
+        Ok(Some(FoundTile { span, entry, error }))
     }
 }
