@@ -1,10 +1,12 @@
 -- The last segment is closed: it is a component.
-use Rattle.std.proofs.Common.{◌≡◌, ℕ, ◌+◌, ◌-◌, ◌<◌, ◌≤◌, ◌⊎◌, inl, inr, Bool, true, false, cond, List, [], ◌∷◌, ◌++◌, length}
+use Rattle.std.proofs.Common.{◌≡◌, ℕ, ◌+◌, ◌-◌, ◌<◌, ◌≤◌, ◌⊎◌, inl, inr, Bool, true, false, cond, List, [], ◌∷◌}
+use Rattle.std.proofs.Common.{◌++◌, length}
 use Rattle.std.proofs.Common.{get_or, take, set, refl, sym, ap, ◌∙◌, arith, subst, nat_lt}
 use Rattle.std.specs.List.{count_by}
 use Rattle.std.proofs.lemmas.Bool.{cases_lt, cases_eq}
 use Rattle.std.proofs.lemmas.Bool.Decides.{nat_tests}
-use Rattle.std.proofs.lemmas.List.{length-take-le, get_or-take, get_or_past, get_or_push, length_push, take_at, take-take}
+use Rattle.std.proofs.lemmas.List.{length-take-le, get_or-take, get_or_past, get_or_push, length_push, take_at}
+use Rattle.std.proofs.lemmas.List.{take-take}
 use Rattle.std.proofs.Math.Seq.{map-set_same}
 use Rattle.fluent_syntax_graph.specs.Graph.{Graph, Reaches, edges, target}
 use Rattle.fluent_syntax_graph.specs.Search.{Sound, State_of, at, pending_at, Back, Looked, at_done, at_open, to_come}

@@ -235,6 +235,7 @@ module _ (g : Graph) (states : List State) (stack starts : List ℕ) (pending : 
   entered_at place is stack' starts' pending' e f h =
       subst (λ (x : List ℕ). Sound g (set states node (state.Open place)) x starts' pending' done) e
       (subst (λ (x : List ℕ). Sound g (set states node (state.Open place)) now_stack x pending' done) f
-      (subst (λ (x : List Pending). Sound g (set states node (state.Open place)) now_stack (starts ++ place ∷ []) x done) h
+      (subst (λ (x : List Pending). Sound g (set states node (state.Open place)) now_stack
+      (starts ++ place ∷ []) x done) h
       (subst (λ (x : ℕ). Sound g (set states node (state.Open x)) now_stack (starts ++ x ∷ [])
       (pending ++ record { place = x; next = 0 } ∷ []) done) is entered)))

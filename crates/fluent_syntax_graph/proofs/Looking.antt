@@ -88,7 +88,8 @@ module _ (g : Graph) (states : List State) (stack starts : List ℕ) (pending : 
     back_to_target last = λ k h le.
         let k_in : k < m = omega (arith, short) in
         let below : k ≤ m - 1 = omega arith in
-        omega (arith, at_short k k_in, never_down starts sound.ascending k (m - 1) below (omega (arith, fewer)), last (omega arith))
+        let up = never_down starts sound.ascending k (m - 1) below (omega (arith, fewer)) in
+        omega (arith, at_short k k_in, up, last (omega arith))
 
   -- ---- An edge of the last pending node was looked at
 

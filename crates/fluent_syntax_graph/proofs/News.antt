@@ -14,7 +14,8 @@ abbrev pub held : List Bool → ℕ
 held bs = count_by (λ b. b) bs
 
 -- one less holds
-pub held_less : (bs : List Bool) (i : ℕ) → i < length bs → get_or bs i false ≡ true → held (set bs i false) + 1 ≡ held bs
+pub held_less : (bs : List Bool) (i : ℕ) → i < length bs → get_or bs i false ≡ true
+    → held (set bs i false) + 1 ≡ held bs
 held_less bs i within was =
     let one : Bool → ℕ = λ b. cond b 1 0 in
     let sums : held (set bs i false) + one (get_or bs i false) ≡ held bs + 0 = sum_by-set one bs i false false within in
@@ -22,7 +23,8 @@ held_less bs i within was =
     subst (λ (b : Bool). held (set bs i false) + one b ≡ held bs + 0) was sums in
     omega arith
 
-pub news_at : (states : List State) (u : ℕ) → u < length states → get_or (news states) u false ≡ is_new (State_of states u)
+pub news_at : (states : List State) (u : ℕ) → u < length states
+    → get_or (news states) u false ≡ is_new (State_of states u)
 news_at states u within = get_or-map is_new states u state.New false within
 
 -- what holds where one was set to false held before

@@ -16,8 +16,9 @@ pub fn components(alloc: Global, graph: &[Vec<usize>]) -> Result<Vec<usize>, All
     requires { IsGraph (targets_of graph.now) }
     ensures len { IfOk result (λ numbers. length numbers.items ≡ length graph.now) }
     ensures parted { IfOk result (λ numbers. SameComponents (targets_of graph.now) numbers.items) }
-    ensures circles { IfOk result (λ numbers. (from to : ℕ) → from < length graph.now → Leads (targets_of graph.now) from to →
-        (slice_index numbers.items from ≡ slice_index numbers.items to) ↔ Reaches (targets_of graph.now) to from) }
+    ensures circles { IfOk result (λ numbers. (from to : ℕ) → from < length graph.now
+        → Leads (targets_of graph.now) from to
+        → (slice_index numbers.items from ≡ slice_index numbers.items to) ↔ Reaches (targets_of graph.now) to from) }
 {
     let mut search = Search::new(alloc, graph)?;
     for root in 0..graph.len() {

@@ -1,5 +1,6 @@
 -- A graph that grows by one name or one link after another.
-use Rattle.std.proofs.Common.{◌≡◌, ◌⊎◌, inl, inr, ℕ, ◌+◌, ◌<◌, ◌≤◌, Bool, true, false, List, [], ◌∷◌, ◌++◌, length, get_or}
+use Rattle.std.proofs.Common.{◌≡◌, ◌⊎◌, inl, inr, ℕ, ◌+◌, ◌<◌, ◌≤◌, Bool, true, false, List, [], ◌∷◌, ◌++◌}
+use Rattle.std.proofs.Common.{length, get_or}
 use Rattle.std.proofs.Common.{Option, Some, None, refl, sym, ap, ◌∙◌, subst, arith, set, drop}
 use Rattle.std.specs.Prelude.{◌||◌, if◌then◌else◌}
 use Rattle.std.specs.Str.{bytes_eq}
@@ -150,8 +151,11 @@ module _ (all : List Link) (node : Nodes) (g : Graph) (drawn : Drawn all node g)
 
   leads_new : Leads linked u v
   leads_new =
-      let last : ListLeads longer v =
-      (length (edges g u), omega (arith, length_push (edges g u) v), get_or_push (edges g u) v 0 (length (edges g u)) refl) in
+      let last : ListLeads longer v = (
+        length (edges g u),
+        omega (arith, length_push (edges g u) v),
+        get_or_push (edges g u) v 0 (length (edges g u)) refl,
+      ) in
       subst (λ (l : List ℕ). ListLeads l v) (sym edges_there) last
 
   led_longer : (q : ℕ) → ListLeads longer q → Leads g u q ⊎ (q ≡ v)
@@ -225,7 +229,8 @@ nothing_drawn node none = record {
 module _ (text : Text) (all : List Link → List Link) (old now : Drawing) (ms : Mentions Span) (i : ℕ) where
   abbrev pub LeavesLinks : Drawing → PatternName → ℕ → Type 0
   LeavesLinks drawing pattern n = (before : List Link) → IsDrawn before old → (list : List Link)
-      × IsDrawn list drawing × ((rest : List Link) → list ++ links_in text pattern (drop n ms) rest ≡ before ++ all rest)
+      × IsDrawn list drawing
+      × ((rest : List Link) → list ++ links_in text pattern (drop n ms) rest ≡ before ++ all rest)
 
   pub links_next : (next : Drawing) (pattern : PatternName) (m d : Mention Span) → i < length ms → m ≡ get_or ms i d
       → LeavesLinks now pattern i → DrawsLinks now next (link_to text pattern (referred m))
@@ -248,7 +253,8 @@ module _ (text : Text) (all : List Link → List Link) (old now : Drawing) (ms :
         first.0,
         first.1,
         λ rest.
-            ap (λ (l : Mentions Span). first.0 ++ links_in text pattern l rest) (sym (drop_all i ms end)) ∙ first.2 rest,
+            ap (λ (l : Mentions Span). first.0 ++ links_in text pattern l rest) (sym (drop_all i ms end))
+            ∙ first.2 rest,
       )
 
 -- ---- The files

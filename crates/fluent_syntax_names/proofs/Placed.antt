@@ -68,7 +68,8 @@ module _ {X : Type 0} (key : Key) (place : X) (name : List ℕ) where
   behind row rows true held = refl
   behind row rows false held = held
 
-  by_order : (row : Row X) (rows : List (Row X)) (o : Ordering) → order key row.0 ≡ o → find key.items (row ∷ rows) ≡ None
+  by_order : (row : Row X) (rows : List (Row X)) (o : Ordering) → order key row.0 ≡ o
+      → find key.items (row ∷ rows) ≡ None
       → (find key.items rows ≡ None → wanted rows) → wanted (row ∷ rows)
   by_order row rows Less e absent held = rw e (begun (row ∷ rows) absent)
   by_order row rows Equal e absent held =

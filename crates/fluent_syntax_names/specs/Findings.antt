@@ -14,7 +14,8 @@ use Rattle.fluent_syntax_names.specs.declared.spelled.EntryName.{EntryName}
 use Rattle.fluent_syntax_names.specs.declared.spelled.PatternName.{PatternName}
 use Rattle.fluent_syntax_names.specs.Mentions.{Mentions}
 use Rattle.fluent_syntax_names.specs.Places.{first_of, place_where}
-use Rattle.fluent_syntax_names.specs.Spelled.{Text, message_name, term_name, nameless, name_at, spelled, spelled_attribute}
+use Rattle.fluent_syntax_names.specs.Spelled.{Text, message_name, term_name, nameless, name_at, spelled}
+use Rattle.fluent_syntax_names.specs.Spelled.{spelled_attribute}
 use Rattle.fluent_syntax_names.specs.Spelled.{spelled_value, spelled_pattern}
 use Rattle.fluent_syntax_names.specs.Circles.{pattern_after, referred, no_pattern, links, comes_back}
 

@@ -25,8 +25,8 @@ use std::alloc::{AllocError, Global};
 /// - A reference to a message or a term that no file defines, or to an attribute or a value that none has.
 /// - A reference that comes back: what it refers to reaches the pattern that it stands in.
 ///
-/// Takes the memory of tables of all names and references, and of the list; `AllocError` where there is none. The time is that of
-/// looking each name up in a sorted table.
+/// Takes the memory of tables of all names and references, and of the list; `AllocError` where there is none. The time
+/// is that of looking each name up in a sorted table.
 pub fn findings(alloc: Global, files: &[Outline<'_>]) -> Result<Vec<Finding>, AllocError>
     ensures findings { IfOk result (λ list. list.items ≡ all_findings files.now) }
     ensures reached { (from to : List ℕ) →

@@ -1,7 +1,8 @@
 //! What is found at a mention.
 ghost use Rattle.std.specs.Prelude.{◌≡◌, IfOk, Some};
 ghost use Rattle.fluent_syntax_names.specs.Drawings.{same_part};
-ghost use Rattle.fluent_syntax_names.specs.Findings.{circle, circle_to, found, twice, undefined, undefined_attribute, finding_at};
+ghost use Rattle.fluent_syntax_names.specs.Findings.{circle, circle_to, found, twice, undefined, undefined_attribute};
+ghost use Rattle.fluent_syntax_names.specs.Findings.{finding_at};
 ghost use Rattle.fluent_syntax_names.specs.Findings.{undefined_part, undefined_value};
 ghost use Rattle.fluent_syntax_names.specs.Places.{place_of};
 ghost use Rattle.fluent_syntax_names.specs.Spelled.{spelled, spelled_attribute, spelled_value};
@@ -20,7 +21,8 @@ use crate::spelled::{
 use fluent_syntax_tree::spans::Span;
 use std::alloc::{AllocError, Global};
 
-/// A file as its findings are made: what all files define, which of their references come back, its number and its text.
+/// A file as its findings are made: what all files define, which of their references come back, its number and its
+/// text.
 #[derive(Clone, Copy)]
 pub(crate) struct Here<'a> {
     pub(crate) alloc: Global,

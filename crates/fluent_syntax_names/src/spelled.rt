@@ -1,7 +1,8 @@
 //! How names are spelled.
 ghost use Rattle.std.specs.Prelude.{◌≡◌, IfOk};
 ghost use Rattle.fluent_syntax_names.specs.Spelled.{name_at, spelled, spelled_attribute, spelled_value};
-ghost use Rattle.fluent_syntax_names.specs.Spelled.{spelled_variable, spelled_reference, spelled_references, spelled_pattern};
+ghost use Rattle.fluent_syntax_names.specs.Spelled.{spelled_variable, spelled_reference, spelled_references};
+ghost use Rattle.fluent_syntax_names.specs.Spelled.{spelled_pattern};
 
 use fluent_syntax_tree::spans::Span;
 use std::alloc::{AllocError, Global};

@@ -109,7 +109,8 @@ loop-next-preserved c =
     edge_read g n.stack.items s.stack.items p x c.edges_of-targets.result.now stack_is x_is c.edges_of-targets.ensures
     k k_in in
     let pending_is : n.pending.items ≡ l.pending.items = ap (λ (v : Vec Pending Global). v.items) e.pending in
-    let last_in : last < length n.pending.items = omega (arith, ap (λ (y : List Pending). length y) pending_is, inv.last) in
+    let last_in : last < length n.pending.items =
+    omega (arith, ap (λ (y : List Pending). length y) pending_is, inv.last) in
     let is_last : pending_at n.pending.items last ≡ record { place = p; next = k } =
     ap (λ (y : List Pending). pending_at y last) pending_is ∙ inv.pending in
     let seen : Looked n.states.items n.starts.items [] p k (target g (at n.stack.items p) k) =

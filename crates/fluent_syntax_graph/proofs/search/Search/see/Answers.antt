@@ -18,7 +18,8 @@ returns-in-Open-clause-sound c =
     let j = c.in-Open.place in
     let within : c.args.target < length s.states.items =
     omega (arith, c.requires.sound.sizes, length-map c.args.graph.now (λ (v : Vec ℕ Global). v.items)) in
-    let known = state_read s.states.items c.args.target c.index.result.now (state.Open j) within c.index.ensures c.in-Open.is in
+    let known =
+    state_read s.states.items c.args.target c.index.result.now (state.Open j) within c.index.ensures c.in-Open.is in
     let placed = c.requires.sound.placed c.args.target j known in
     let leads = subst (λ (x : ℕ). Leads g (at s.stack.items c.args.from) x) (sym placed.1) c.requires.leads in
     let m = vec_len t.starts in
@@ -38,7 +39,8 @@ returns-in-Open-clause-seen c =
     let j = c.in-Open.place in
     let within : c.args.target < length s.states.items =
     omega (arith, c.requires.sound.sizes, length-map c.args.graph.now (λ (v : Vec ℕ Global). v.items)) in
-    let known = state_read s.states.items c.args.target c.index.result.now (state.Open j) within c.index.ensures c.in-Open.is in
+    let known =
+    state_read s.states.items c.args.target c.index.result.now (state.Open j) within c.index.ensures c.in-Open.is in
     let placed = c.requires.sound.placed c.args.target j known in
     let leads = subst (λ (x : ℕ). Leads g (at s.stack.items c.args.from) x) (sym placed.1) c.requires.leads in
     let m = vec_len t.starts in
@@ -57,4 +59,5 @@ returns-in-Done-clause-seen c =
     let within : c.args.target < length s.states.items =
     omega (arith, c.requires.sound.sizes, length-map c.args.graph.now (λ (v : Vec ℕ Global). v.items)) in
     λ k. at_done c.in-Done.component
-    (state_read s.states.items c.args.target c.index.result.now (state.Done c.in-Done.component) within c.index.ensures c.in-Done.is)
+    (state_read s.states.items c.args.target c.index.result.now (state.Done c.in-Done.component) within
+    c.index.ensures c.in-Done.is)
