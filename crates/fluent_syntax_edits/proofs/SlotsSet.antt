@@ -18,8 +18,10 @@ use Rattle.fluent_syntax_tree.specs.declared.edition.Edition.{Edition}
 use Rattle.fluent_syntax_tree.specs.declared.spans.Span.{Span}
 use Rattle.fluent_syntax_tree.proofs.Natural.{natural-Resource}
 use Rattle.fluent_syntax_grammar.specs.Body.{body}
+use Rattle.fluent_syntax_grammar.specs.RoundTrip.{tree_of}
 use Rattle.fluent_syntax_grammar.specs.Tiling.{Tile, Tiling}
 use Rattle.fluent_syntax_grammar.specs.Written.{Text}
+use Rattle.fluent_syntax_grammar.proofs.OneTiling.{one_tile, tiled_same}
 use Rattle.fluent_syntax_edits.specs.Values.{ReadAs, ValueSet, at_number, probe, probe_name, with_slot}
 use Rattle.fluent_syntax_edits.specs.declared.slots.Slot.{Slot}
 use Rattle.fluent_syntax_edits.specs.declared.slots.Slot.TheVariants as slots
@@ -48,6 +50,19 @@ value_set edition t u text old new index slot v (tiles, tiling, same) (others, n
   new_tiling = new_tiling;
   tree = sym new_same ∙ (set ∙ ap (at_number (with_slot slot v) index) same);
 }
+
+-- and the other way round
+pub set_by : {S : Type 0} (edition : Edition) (t u : List ℕ) (text : S → List ℕ) (old new : Resource S) (index : ℕ)
+    (slot : Slot) (v : PatternTree Text) → ReadAs text edition t old → ReadAs text edition u new →
+    ValueSet edition t index slot v u →
+    resource_view text new ≡ at_number (with_slot slot v) index (resource_view text old)
+set_by edition t u text old new index slot v (tiles, tiling, same) (others, new_tiling, new_same) x =
+    new_same
+    ∙ (ap (tree_of u) (tiled_same u _ (one_tile edition u) 0 others x.others new_tiling x.new_tiling)
+    ∙ (x.tree
+    ∙ (ap (λ ts. at_number (with_slot slot v) index (tree_of t ts))
+    (tiled_same t _ (one_tile edition t) 0 x.tiles tiles x.tiling tiling)
+    ∙ ap (at_number (with_slot slot v) index) (sym same))))
 
 -- ---- lists with one in another's place
 
@@ -103,7 +118,8 @@ module _ {S : Type 0} (text : S → List ℕ) where
       map (attribute_view text) m.attributes.items ≡ record { id = probe_name; value = v } ∷ []
   unfolding value_of attributes_in
   only_pattern slots.Value v e m is none same =
-      let h : message (message_view text m) ≡ probe slots.Value v = subst (λ e. entry_view text e ≡ probe slots.Value v) is same in
+      let h : message (message_view text m) ≡ probe slots.Value v =
+     subst (λ e. entry_view text e ≡ probe slots.Value v) is same in
       let q : option_map (pattern_view text) m.value ≡ Some v = ap value_of h in
       let z : option_map (pattern_view text) None ≡ Some v =
       subst (λ o. option_map (pattern_view text) o ≡ Some v) none q in

@@ -1,6 +1,6 @@
 -- A value that is set in a text: that of a message, a term or an attribute.
 use Rattle.std.specs.Prelude.{◌≡◌, ℕ, zero, suc, ◌+◌, ◌-◌, List, [], ◌∷◌, ◌++◌, length, drop, take, map, Option, Some}
-use Rattle.std.specs.Prelude.{None, option_map, slice_get, string_bytes}
+use Rattle.std.specs.Prelude.{None, Result, Ok, Err, ◌==◌, if◌then◌else◌, option_map, slice_get, string_bytes}
 use Rattle.fluent_syntax_tree.specs.Entry.{AttributeTree, BodyTree, EntryTree, message, term}
 use Rattle.fluent_syntax_tree.specs.Spans.{bytes_at}
 use Rattle.fluent_syntax_tree.specs.Tree.{PatternTree}
@@ -16,10 +16,15 @@ use Rattle.fluent_syntax_parser.specs.Extents.{HasExtents}
 use Rattle.fluent_syntax_parser.specs.declared.extents.AttributeExtents.{AttributeExtents}
 use Rattle.fluent_syntax_parser.specs.declared.extents.EntryExtents.{EntryExtents}
 use Rattle.fluent_syntax_edits.specs.Places.{Outlines}
+use Rattle.fluent_syntax_edits.specs.Refusals.{Uncanonical}
 use Rattle.fluent_syntax_edits.specs.Runs.{run_from}
 use Rattle.fluent_syntax_edits.specs.Spliced.{kept_lines}
+use Rattle.fluent_syntax_edits.specs.declared.fault.EditFault.{EditFault}
+use Rattle.fluent_syntax_edits.specs.declared.fault.EditFault.TheVariants.{IsJunk, Memory, NoEntry, NoValue}
+use Rattle.fluent_syntax_edits.specs.declared.fault.EditFault.TheVariants.{ReadsOtherwise}
 use Rattle.fluent_syntax_edits.specs.declared.places.Place.{Place}
-use Rattle.fluent_syntax_edits.specs.declared.places.PlaceKind.TheVariants.{Field}
+use Rattle.fluent_syntax_edits.specs.declared.places.PlaceKind.{PlaceKind}
+use Rattle.fluent_syntax_edits.specs.declared.places.PlaceKind.TheVariants.{Comment, Field, Junk, OtherComment}
 use Rattle.fluent_syntax_edits.specs.declared.runs.Run.{Run}
 use Rattle.fluent_syntax_edits.specs.declared.slots.Slot.{Slot}
 use Rattle.fluent_syntax_edits.specs.declared.slots.Slot.TheVariants.{Attribute, Value}
@@ -32,7 +37,8 @@ at_number f n [] = []
 at_number f zero (x ∷ xs) = f x ∷ xs
 at_number f (suc n) (x ∷ xs) = x ∷ at_number f n xs
 
--- the entry with that pattern in the slot, if it is a message or a term; of an attribute that isn't there nothing is set
+-- the entry with that pattern in the slot, if it is a message or a term; where there is no such attribute nothing is
+-- set
 abbrev pub with_slot : {X : Type 0} → Slot → PatternTree X → EntryTree X → EntryTree X
 with_slot Value v (message m) = message (record m { value = Some v })
 with_slot Value v (term m) = term (record m { value = v })
@@ -103,16 +109,31 @@ PatternText edition slot v text = PatternIn edition (entry_text (probe slot v)) 
 
 -- ---- bytes
 
+-- where what stands there begins, if it is a message or a term, and why not
+abbrev pub field_of_kind : PlaceKind → Span → Result ℕ EditFault
+field_of_kind Field s = Ok s.start
+field_of_kind Junk s = Err (IsJunk s)
+field_of_kind Comment s = Err NoValue
+field_of_kind OtherComment s = Err NoValue
+
+abbrev pub field_at : Option Place → Result ℕ EditFault
+field_at None = Err NoEntry
+field_at (Some place) = field_of_kind place.kind place.span
+
+abbrev pub field_of_run : List Place → Option Run → Result ℕ EditFault
+field_of_run places None = Err NoEntry
+field_of_run places (Some run) =
+    if run.first == run.end then Err NoEntry else field_at (slice_get places (run.end - 1))
+
+-- where the message or the term of that number begins, behind the comment that hangs on it
+abbrev pub field_start : List Place → (index : ℕ) → Result ℕ EditFault
+field_start places index = field_of_run places (run_from 0 index places)
+
 -- The message or the term of that number begins at the place.
 pub record BeginsAt (edition : Edition) (t : List ℕ) (index start : ℕ) : Type 0 where
   pub places : List Place
   pub outlines : Outlines edition t places
-  pub run : Run
-  pub run_is : run_from 0 index places ≡ Some run
-  pub place : Place
-  pub last : slice_get places (run.end - 1) ≡ Some place
-  pub kind : place.kind ≡ Field
-  pub begins : place.span.start ≡ start
+  pub there : field_start places index ≡ Ok start
 
 -- In place of the slot of the entry that begins at the place there is the text, with the blank lines that were behind
 -- what stood there.
@@ -129,3 +150,25 @@ pub record SetsBytes (edition : Edition) (t : List ℕ) (index : ℕ) (slot : Sl
   pub text : Text
   pub written : PatternText edition slot v text
   pub set : TextSet edition t start slot text u
+
+-- ---- refusals
+
+-- There is no message and no term of that number, for this reason; or memory was refused.
+pub data NoField (edition : Edition) (t : List ℕ) (index : ℕ) : EditFault → Type 0 where
+  no_field : {fault : EditFault} (places : List Place) → Outlines edition t places →
+      field_start places index ≡ Err fault → NoField edition t index fault
+  not_found : NoField edition t index Memory
+
+-- Why the pattern can't be set: it can't be written so that it reads back; there is no message and no term of that
+-- number; it has no such value; or the text with the pattern in its place would be read otherwise than as the tree with
+-- that pattern there.
+pub data SetRefused (edition : Edition) (t : List ℕ) (index : ℕ) (slot : Slot) (v : PatternTree Text) :
+    EditFault → Type 0 where
+  uncanonical : {fault : EditFault} → Uncanonical edition (probe slot v) fault →
+      SetRefused edition t index slot v fault
+  no_entry : {fault : EditFault} → NoField edition t index fault → SetRefused edition t index slot v fault
+  no_value : (start : ℕ) → BeginsAt edition t index start → SlotAt edition t start slot None →
+      SetRefused edition t index slot v NoValue
+  reads_otherwise : (u : List ℕ) → SetsBytes edition t index slot v u →
+      (ValueSet edition t index slot v u → ⊥) → SetRefused edition t index slot v ReadsOtherwise
+  out_of_memory : SetRefused edition t index slot v Memory

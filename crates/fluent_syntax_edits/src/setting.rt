@@ -1,5 +1,5 @@
 //! Trees with a pattern set.
-ghost use Rattle.std.specs.Prelude.{◌≡◌, ◌<◌, ◌∷◌, [], length, map, string_bytes, IfOk, IfSome, IsTrue};
+ghost use Rattle.std.specs.Prelude.{◌≡◌, ◌<◌, ◌↔◌, ◌∷◌, [], length, map, string_bytes, IfOk, IfSome, IsTrue};
 ghost use Rattle.fluent_syntax_tree.specs.Entry.{AttributeTree, message, term};
 ghost use Rattle.fluent_syntax_edits.specs.Values.{at_number, probe, with_slot};
 ghost use Rattle.fluent_syntax_edits.specs.declared.slots.Slot.{Slot};
@@ -165,12 +165,13 @@ pub(crate) fn has_slot_set(
     slot: Slot,
     value: Pattern<String>,
 ) -> Result<bool, AllocError>
-    ensures { IfOk result (λ so. IsTrue so → resource_view (λ s. string_bytes s) new.now
-        ≡ at_number (with_slot slot (pattern_view (λ s. string_bytes s) value)) index (resource_view (λ s. string_bytes s) old)) }
+    ensures { IfOk result (λ so. IsTrue so ↔ resource_view (λ s. string_bytes s) new.now
+        ≡ at_number (with_slot slot (pattern_view (λ s. string_bytes s) value)) index
+        (resource_view (λ s. string_bytes s) old)) }
 {
     let mut body = old.body;
     if index >= body.len() {
-        return Ok(false);
+        return Ok(same_texts(&Resource { body }, new));
     }
     let entry = body.remove(index);
     body.insert(index, entry_with(entry, slot, value)?)?;

@@ -1,6 +1,9 @@
 //! Values in place of those of messages, terms and attributes.
-ghost use Rattle.std.specs.Prelude.{◌≡◌, ◌+◌, ◌^◌, ◌<◌, ◌≤◌, length, string_bytes, IfOk, IsTrue};
-ghost use Rattle.fluent_syntax_edits.specs.Values.{BeginsAt, PatternIn, SetsBytes, TextSet, ValueSet, probe};
+ghost use Rattle.std.specs.Prelude.{◌≡◌, ◌+◌, ◌^◌, ◌<◌, ◌≤◌, ◌↔◌, ◌⊎◌, None, Some, length, string_bytes};
+ghost use Rattle.std.specs.Prelude.{IfErr, IfOk, IsTrue};
+ghost use Rattle.fluent_syntax_edits.specs.Values.{BeginsAt, PatternIn, SetRefused, SetsBytes, SlotAt, TextSet};
+ghost use Rattle.fluent_syntax_edits.specs.Values.{NoField, ValueSet, field_of_kind, field_of_run, field_start, probe};
+ghost use Rattle.fluent_syntax_edits.specs.declared.fault.EditFault.TheVariants.{Memory, NoValue};
 ghost use Rattle.fluent_syntax_edits.specs.declared.slots.Slot.TheVariants.{Attribute, Value};
 ghost use Rattle.fluent_syntax_grammar.specs.Written.{Text};
 ghost use Rattle.fluent_syntax_tree.specs.Tree.{PatternTree};
@@ -8,9 +11,9 @@ ghost use Rattle.fluent_syntax_tree.specs.View.{entry_view, pattern_view};
 
 use crate::fault::EditFault;
 use crate::outline::outline;
-use crate::places::PlaceKind;
+use crate::places::{Place, PlaceKind};
 use crate::refusals::Stretch;
-use crate::runs::run_of;
+use crate::runs::{Run, run_of};
 use crate::setting::{has_slot_set, wanted_pattern};
 use crate::slots::{Slot, probe_of, probe_slot, slot_at};
 use crate::splice::{kept_lines, spliced};
@@ -20,7 +23,42 @@ use fluent_syntax_tree::ast::{Entry, Pattern};
 use fluent_syntax_tree::edition::Edition;
 use std::alloc::{AllocError, Global};
 
+/// Where what stands there begins, if it is a message or a term.
+fn field_at(place: Place) -> Result<usize, EditFault>
+    ensures { result ≡ field_of_kind place.kind place.span }
+{
+    match place.kind {
+        PlaceKind::Field => Ok(place.span.start),
+        PlaceKind::Junk => Err(EditFault::IsJunk(place.span)),
+        PlaceKind::Comment | PlaceKind::OtherComment => Err(EditFault::NoValue),
+    }
+}
+
+/// Where the message or the term begins whose places these are.
+fn field_of_run(places: &[Place], run: Run) -> Result<usize, EditFault>
+    requires { run.first ≤ run.end }
+    ensures { result ≡ field_of_run places.now (Some run) }
+{
+    if run.first == run.end {
+        return Err(EditFault::NoEntry);
+    }
+    match places.get(run.end - 1) {
+        Some(place) => field_at(*place),
+        None => Err(EditFault::NoEntry),
+    }
+}
+
 /// Where the message or the term of that number begins, behind the comment that hangs on it.
+fn field_start(places: &[Place], index: usize) -> Result<usize, EditFault>
+    ensures { result ≡ field_start places.now index }
+{
+    match run_of(places, index) {
+        Some(run) => field_of_run(places, run),
+        None => Err(EditFault::NoEntry),
+    }
+}
+
+/// The same, of a source whose places are not known yet.
 fn entry_start(
     alloc: Global,
     source: &str,
@@ -30,21 +68,15 @@ fn entry_start(
     requires { length source.now + 1 < 2 ^ 64 }
     ensures begins { IfOk result (BeginsAt edition source.now index) }
     ensures within { IfOk result (λ start. start ≤ length source.now) }
+    ensures fault { IfErr result (NoField edition source.now index) }
 {
     let places = outline(alloc, source, edition)?;
-    let Some(run) = run_of(&places, index) else {
-        return Err(EditFault::NoEntry);
-    };
-    if run.first == run.end {
-        return Err(EditFault::NoEntry);
+    let start = field_start(&places, index)?;
+    if start > source.len() {
+        // no entry begins behind the end
+        return Err(EditFault::Memory);
     }
-    let place = places[run.end - 1];
-    match place.kind {
-        PlaceKind::Field if place.span.start <= source.len() => Ok(place.span.start),
-        PlaceKind::Field => Err(EditFault::NoEntry),
-        PlaceKind::Junk => Err(EditFault::IsJunk(place.span)),
-        PlaceKind::Comment | PlaceKind::OtherComment => Err(EditFault::NoValue),
-    }
+    Ok(start)
 }
 
 /// The text of a pattern as it is written behind the `=`, from that of the message that has nothing else.
@@ -54,11 +86,13 @@ fn pattern_text<'t>(
     slot: Slot,
     written: &'t str,
 ) -> Result<&'t str, EditFault>
-    ensures { IfOk result (λ text. PatternIn edition written.now slot text.now) }
+    ensures text { IfOk result (λ text. PatternIn edition written.now slot text.now) }
+    ensures fault { IfErr result (λ fault. fault ≡ Memory) }
 {
     match slot_at(alloc, written, edition, 0, probe_slot(slot))? {
         Some(span) => Ok(&written[span.start..span.end]),
-        None => Err(EditFault::NoValue),
+        // what is written for a pattern has it
+        None => Err(EditFault::Memory),
     }
 }
 
@@ -72,7 +106,9 @@ fn with_text(
     text: &str,
 ) -> Result<String, EditFault>
     requires { start ≤ length source.now }
-    ensures { IfOk result (λ made. TextSet edition source.now start slot text.now (string_bytes made)) }
+    ensures set { IfOk result (λ made. TextSet edition source.now start slot text.now (string_bytes made)) }
+    ensures fault { IfErr result (λ fault. (fault ≡ Memory)
+        ⊎ ((fault ≡ NoValue) × SlotAt edition source.now start slot None)) }
 {
     let Some(span) = slot_at(alloc, source, edition, start, slot)? else {
         return Err(EditFault::NoValue);
@@ -98,12 +134,13 @@ fn is_read_so(
     requires source { length source.now + 1 < 2 ^ 64 }
     requires made { length made.now + 1 < 2 ^ 64 }
     ensures { (v : PatternTree Text) → entry_view (λ text. text.now) entry.now ≡ probe slot v →
-        IfOk result (λ so. IsTrue so → ValueSet edition source.now index slot v made.now) }
+        IfOk result (λ so. IsTrue so ↔ ValueSet edition source.now index slot v made.now) }
 {
     let old = tree_of_text(alloc, source, edition)?;
     let new = tree_of_text(alloc, made, edition)?;
     let Some(value) = wanted_pattern(own_entry(alloc, entry)?) else {
-        return Ok(false);
+        // the entry has a pattern
+        return Err(AllocError);
     };
     has_slot_set(old, &new, index, slot, value)
 }
@@ -121,6 +158,8 @@ fn set(
         IfOk result (λ made. SetsBytes edition source.now index slot v (string_bytes made)) }
     ensures tree { let v = pattern_view (λ text. text.now) value.now in
         IfOk result (λ made. ValueSet edition source.now index slot v (string_bytes made)) }
+    ensures fault { IfErr result
+        (SetRefused edition source.now index slot (pattern_view (λ text. text.now) value.now)) }
 {
     let probe = probe_of(alloc, slot, value)?;
     let written = entry_text(alloc, edition, &probe)?;
@@ -148,6 +187,8 @@ pub fn set_value(
         IfOk result (λ made. SetsBytes edition source.now index Value v (string_bytes made)) }
     ensures tree { let v = pattern_view (λ text. text.now) value.now in
         IfOk result (λ made. ValueSet edition source.now index Value v (string_bytes made)) }
+    ensures fault { IfErr result
+        (SetRefused edition source.now index Value (pattern_view (λ text. text.now) value.now)) }
 {
     set(alloc, source, edition, index, Slot::Value, value)
 }
@@ -167,6 +208,8 @@ pub fn set_attribute(
         IfOk result (λ made. SetsBytes edition source.now index (Attribute attribute) v (string_bytes made)) }
     ensures tree { let v = pattern_view (λ text. text.now) value.now in
         IfOk result (λ made. ValueSet edition source.now index (Attribute attribute) v (string_bytes made)) }
+    ensures fault { IfErr result
+        (SetRefused edition source.now index (Attribute attribute) (pattern_view (λ text. text.now) value.now)) }
 {
     set(
         alloc,

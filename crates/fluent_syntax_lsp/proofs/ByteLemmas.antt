@@ -85,7 +85,10 @@ module _ (t : List ℕ) (place : Place) (at : ℕ) where
 
 -- a place that is not passed with the text is at its end
 pub at_the_end : (t : List ℕ) (place : Place) → IsAhead t place (length t) → IsByteOf t place (length t)
-at_the_end t place ahead = record { boundary = IsCharBoundary-end t; there = by_line (nat_le place.line (line_at t (length t))) refl }
+at_the_end t place ahead = record {
+  boundary = IsCharBoundary-end t;
+  there = by_line (nat_le place.line (line_at t (length t))) refl;
+}
   where
     by_line : (b : Bool) → nat_le place.line (line_at t (length t)) ≡ b →
         IsInLine t place (length t) ⊎ IsBehindAll t place (length t)

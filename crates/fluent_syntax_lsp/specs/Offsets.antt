@@ -1,5 +1,6 @@
 -- The byte of a place.
-use Rattle.std.specs.Prelude.{◌≡◌, ℕ, ◌+◌, ◌<◌, ◌≤◌, ◌==◌, ◌&&◌, ◌||◌, ◌⊎◌, Bool, true, List, length, nat_le, slice_index}
+use Rattle.std.specs.Prelude.{◌≡◌, ℕ, ◌+◌, ◌<◌, ◌≤◌, ◌==◌, ◌&&◌, ◌||◌, ◌⊎◌, Bool, true, List, length, nat_le}
+use Rattle.std.specs.Prelude.{slice_index}
 use Rattle.std.specs.Str.{IsCharBoundary}
 use Rattle.fluent_syntax_grammar.specs.Bytes.{cr, lf}
 use Rattle.fluent_syntax_lsp.specs.Places.{character_at, line_at, utf16_units}
@@ -9,8 +10,8 @@ use Rattle.fluent_syntax_lsp.specs.declared.places.Place.{Place}
 abbrev pub is_break : ℕ → Bool
 is_break b = (b == lf) || (b == cr)
 
--- whether the column is reached before the byte, behind that many units of the line: the line's text ends there, or what
--- begins with the byte reaches beyond the column
+-- whether the column is reached before the byte, behind that many units of the line: the line's text ends there, or
+-- what begins with the byte reaches beyond the column
 abbrev pub stops_at : (byte character column : ℕ) → Bool
 stops_at byte character column = is_break byte || nat_le (column + 1) (character + utf16_units byte)
 

@@ -54,11 +54,11 @@ impl Held {
         self.reread.text()
     }
 
-    /// Puts `new` in place of the bytes from `from` up to `to`, and reads what stands around them. After an error all is
-    /// as it was.
+    /// Puts `new` in place of the bytes from `from` up to `to`, and reads what stands around them. After an error all
+    /// is as it was.
     ///
-    /// `NoRange` where the range is none of whole characters in the text, `TooDeep` where the new text nests deeper than
-    /// `NESTING_LIMIT`, `Memory` where a growth was refused.
+    /// `NoRange` where the range is none of whole characters in the text, `TooDeep` where the new text nests deeper
+    /// than `NESTING_LIMIT`, `Memory` where a growth was refused.
     pub fn change(
         &mut self,
         alloc: Global,

@@ -77,8 +77,8 @@ pub fn occurrences_in(alloc: Global, document: &Document) -> Result<Vec<Occurren
     Ok(found)
 }
 
-/// Adds the names of a mention, whose places are counted from the base, behind the message or term whose attributes may follow; gives the one whose may follow
-/// then.
+/// Adds the names of a mention, whose places are counted from the base, behind the message or term whose attributes may
+/// follow; gives the one whose may follow then.
 fn add_occurrences(
     found: &mut Vec<Occurrence>,
     owner: Option<Occurrence>,

@@ -11,8 +11,8 @@ fn is_break(byte: u8) -> bool
     byte == b'\n' || byte == b'\r'
 }
 
-/// Whether the column is reached before the byte, behind so many UTF-16 units of the line: the line's text ends there, or
-/// what begins with the byte reaches beyond the column.
+/// Whether the column is reached before the byte, behind so many UTF-16 units of the line: the line's text ends there,
+/// or what begins with the byte reaches beyond the column.
 fn stops_at(byte: u8, character: usize, column: usize) -> bool
     requires { character < 2 ^ 64 - 2 }
     ensures { result ≡ stops_at byte character column }
