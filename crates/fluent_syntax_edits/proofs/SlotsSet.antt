@@ -119,7 +119,7 @@ module _ {S : Type 0} (text : S → List ℕ) where
   unfolding value_of attributes_in
   only_pattern slots.Value v e m is none same =
       let h : message (message_view text m) ≡ probe slots.Value v =
-     subst (λ e. entry_view text e ≡ probe slots.Value v) is same in
+      subst (λ e. entry_view text e ≡ probe slots.Value v) is same in
       let q : option_map (pattern_view text) m.value ≡ Some v = ap value_of h in
       let z : option_map (pattern_view text) None ≡ Some v =
       subst (λ o. option_map (pattern_view text) o ≡ Some v) none q in
