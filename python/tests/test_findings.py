@@ -10,7 +10,8 @@ from texts import TOP, all_texts
 
 SEVERITIES = {
     "defined-twice": "error", "attribute-twice": "error", "undefined-message": "error", "undefined-term": "error",
-    "undefined-attribute": "error", "undefined-value": "error", "missing": "error", "missing-value": "error",
+    "undefined-attribute": "error", "undefined-value": "error", "cyclic-reference": "error",
+    "missing": "error", "missing-value": "error",
     "missing-attribute": "error", "missing-reference": "warning", "obsolete": "warning", "obsolete-value": "warning",
     "obsolete-attribute": "warning", "unknown-variable": "error",
 }
@@ -20,6 +21,7 @@ hello = Grüße
     .t = U
 only =
     .label = L
+loop = { loop }
 """
 REFERENCE = """hello = Hello { $user } { -brand }
     .title = Greeting
@@ -93,18 +95,21 @@ class Findings(unittest.TestCase):
             ("undefined-value", (0, 1, 44, "only"), None),
             ("defined-twice", (0, 2, 1, "hello"), (0, 1, 1, "hello")),
             ("attribute-twice", (0, 4, 6, "t"), (0, 3, 6, "t")),
+            ("cyclic-reference", (0, 7, 10, "loop"), None),
         ])
         self.assertEqual([it.message for it in findings], [
             "no text defines the message `place`", "no text defines the term `-brand`",
             "no text defines its attribute `u`", "no text gives the message `only` a value",
             "`hello` is defined twice, first on line 1", "the entry has the attribute `t` twice, first on line 3",
+            "`loop` leads back to this reference",
         ])
         self.assertEqual(str(findings[1]), "1:22: error[undefined-term]: no text defines the term `-brand`")
 
     def test_several_texts(self) -> None:
         texts = ["a = { b } { c }\n", "", "b = { -t.x ->\n   *[o] { a }\n }\nbro ken\n", "-t = T\n"]
         self.assertEqual(told(dovelectern.lint(texts), *texts), [
-            ("undefined-message", (0, 1, 13, "c"), None), ("undefined-attribute", (2, 1, 10, "x"), None)])
+            ("cyclic-reference", (0, 1, 7, "b"), None), ("undefined-message", (0, 1, 13, "c"), None),
+            ("undefined-attribute", (2, 1, 10, "x"), None), ("cyclic-reference", (2, 2, 11, "a"), None)])
         wanted = dovelectern.lint(texts)
         self.assertEqual(dovelectern.lint(it.encode() for it in texts), wanted)
         self.assertEqual(dovelectern.lint(tuple(texts)), wanted)

@@ -3,6 +3,7 @@
 pub use crate::lines::{Lines, line_column};
 pub use crate::resolved::{resolve, resolve_entry};
 pub use fluent_syntax_parser::entries::Entries;
+pub use fluent_syntax_parser::extents::{AttributeExtents, EntryExtents, entry_extents};
 pub use fluent_syntax_parser::options::{Comments, Halt, Options};
 pub use fluent_syntax_parser::short::{ShortElement, ShortPart, attribute_count, leading_count};
 pub use fluent_syntax_parser::tiles::{FoundTile, Tiles};

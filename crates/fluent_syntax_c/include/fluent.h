@@ -12,8 +12,8 @@
 
 /* The version. Of a later one with the same first number each call and number of this one is as it is here. */
 #define FTL_VERSION_MAJOR 2
-#define FTL_VERSION_MINOR 1
-#define FTL_VERSION "2.1"
+#define FTL_VERSION_MINOR 2
+#define FTL_VERSION "2.2"
 
 #include <stddef.h>
 #include <stdint.h>
@@ -130,6 +130,7 @@ enum ftl_finding_kind {
     FTL_FINDING_UNDEFINED_TERM = 4,
     FTL_FINDING_UNDEFINED_ATTRIBUTE = 5,
     FTL_FINDING_UNDEFINED_VALUE = 6,
+    FTL_FINDING_CYCLIC_REFERENCE = 7, /* since 2.2 */
     FTL_FINDING_MISSING = 101, /* between a reference and another text, by ftl_comparison: the reference has it, */
     FTL_FINDING_MISSING_VALUE = 102,
     FTL_FINDING_MISSING_ATTRIBUTE = 103,

@@ -113,6 +113,7 @@ fn within_number(kind: Kind) -> u32
         Kind::UndefinedTerm => 4,
         Kind::UndefinedAttribute => 5,
         Kind::UndefinedValue => 6,
+        Kind::CyclicReference => 7,
     }
 }
 
@@ -138,6 +139,7 @@ pub(crate) fn found_kind_at(number: u32) -> Option<FoundKind>
         4 => Some(FoundKind::Within(Kind::UndefinedTerm)),
         5 => Some(FoundKind::Within(Kind::UndefinedAttribute)),
         6 => Some(FoundKind::Within(Kind::UndefinedValue)),
+        7 => Some(FoundKind::Within(Kind::CyclicReference)),
         101 => Some(FoundKind::Between(Difference::Missing)),
         102 => Some(FoundKind::Between(Difference::MissingValue)),
         103 => Some(FoundKind::Between(Difference::MissingAttribute)),

@@ -9,3 +9,4 @@ pub mod RunSteps
 pub mod Reading
 pub mod Asked
 pub mod OneEntry
+pub mod SlotsSet

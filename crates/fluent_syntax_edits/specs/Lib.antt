@@ -4,3 +4,4 @@ pub mod Places
 pub mod Refusals
 pub mod Runs
 pub mod Spliced
+pub mod Values

@@ -33,6 +33,13 @@ pub enum EditFault {
     /// The text ends in the middle of a line, which would go on with the entry behind it.
     #[error("the text does not end with a line end")]
     NoLineEnd,
+    /// What has that number has no such value: it is a comment that stands alone, a message without a value, or has
+    /// fewer attributes.
+    #[error("there is no such value")]
+    NoValue,
+    /// With the new value, the text would not be read as before at all other places.
+    #[error("the text would be read otherwise")]
+    ReadsOtherwise,
     /// A growth was refused.
     #[error("no memory")]
     Memory,

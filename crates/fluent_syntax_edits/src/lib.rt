@@ -8,10 +8,15 @@ mod outline;
 mod places;
 mod refusals;
 mod runs;
+mod setting;
+mod slots;
 mod splice;
 mod stretches;
 mod text;
+mod trees;
+mod values;
 
 pub use edits::{insert, remove, replace};
 pub use fault::EditFault;
 pub use numbers::{EntryName, number_of};
+pub use values::{set_attribute, set_value};

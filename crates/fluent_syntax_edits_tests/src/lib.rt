@@ -9,3 +9,5 @@ mod numbers;
 mod table;
 #[cfg(test)]
 mod trees;
+#[cfg(test)]
+mod values;

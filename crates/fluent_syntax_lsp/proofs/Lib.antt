@@ -1,3 +1,4 @@
+pub mod ByteLemmas
 pub mod FrameLemmas
 pub mod FramesMore
 pub mod InboxLemmas

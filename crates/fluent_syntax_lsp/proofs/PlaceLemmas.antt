@@ -77,7 +77,7 @@ one_more t n false l e p = record {
   character = ap (λ m. m + utf16_units (slice_index t n)) p.character ∙ sym (range_more t p.start n p.before l);
 }
 
-is_place : (t : List ℕ) (n : ℕ) → n ≤ length t → IsPlace t n (place_at t n)
+pub is_place : (t : List ℕ) (n : ℕ) → n ≤ length t → IsPlace t n (place_at t n)
 is_place t zero l = record {
   start = 0;
   before = omega arith;
@@ -90,16 +90,3 @@ is_place t (suc n) l =
     let within : n ≤ length t = omega arith in
     let inside : n < length t = omega arith in
     one_more t n (ends_line t n) inside refl (is_place t n within)
-
--- a line and a column that are those of the byte mean its place
-pub means : (t s : List ℕ) (at byte line character : ℕ) → t ≡ s → at ≡ byte → byte ≤ length s → line ≡ line_at t at →
-    character ≡ character_at t at → IsPlace s byte (record { line = line; character = character })
-means t s at byte line character text there h l k =
-    let p = is_place s byte h in record {
-      start = p.start;
-      before = p.before;
-      begins = p.begins;
-      same_line = p.same_line;
-      line = l ∙ ap (λ u. line_at u at) text ∙ ap (line_at s) there ∙ p.line;
-      character = k ∙ ap (λ u. character_at u at) text ∙ ap (character_at s) there ∙ p.character;
-    }

@@ -8,3 +8,6 @@ pub mod Methods
 pub mod Phases
 pub mod Diagnostics
 pub mod Formatting
+pub mod Documents
+pub mod Held
+pub mod Offsets

@@ -6,6 +6,8 @@ use Rattle.fluent_syntax_lsp.specs.declared.methods.Method.{Method}
 use Rattle.fluent_syntax_lsp.specs.declared.methods.Method.TheVariants.{Initialize, Shutdown, DocumentSymbol}
 use Rattle.fluent_syntax_lsp.specs.declared.methods.Method.TheVariants.{Formatting, FoldingRange, DidOpen, DidChange}
 use Rattle.fluent_syntax_lsp.specs.declared.methods.Method.TheVariants.{DidClose, DidSave, Exit}
+use Rattle.fluent_syntax_lsp.specs.declared.methods.Method.TheVariants.{Definition, References, DocumentHighlight}
+use Rattle.fluent_syntax_lsp.specs.declared.methods.Method.TheVariants.{Hover, Rename, Completion, WorkspaceSymbol}
 use Rattle.fluent_syntax_lsp.specs.declared.phases.Phase.{Phase}
 use Rattle.fluent_syntax_lsp.specs.declared.phases.Phase.TheVariants.{Fresh, Running, ShutDown, Exited, Left}
 use Rattle.fluent_syntax_lsp.specs.declared.phases.ErrorCode.{ErrorCode}
@@ -23,16 +25,7 @@ number_of NotInitialized = negsuc 32001
 -- what is refused of requests before `initialize`: all but that
 abbrev pub refusal_before : Option Method → Option ErrorCode
 refusal_before (Some Initialize) = None
-refusal_before (Some Shutdown) = Some NotInitialized
-refusal_before (Some DocumentSymbol) = Some NotInitialized
-refusal_before (Some Formatting) = Some NotInitialized
-refusal_before (Some FoldingRange) = Some NotInitialized
-refusal_before (Some DidOpen) = Some NotInitialized
-refusal_before (Some DidChange) = Some NotInitialized
-refusal_before (Some DidClose) = Some NotInitialized
-refusal_before (Some DidSave) = Some NotInitialized
-refusal_before (Some Exit) = Some NotInitialized
-refusal_before None = Some NotInitialized
+refusal_before _ = Some NotInitialized
 
 -- what is refused behind it: that again, and what is no request that is known
 abbrev pub refusal_behind : Option Method → Option ErrorCode
@@ -41,6 +34,13 @@ refusal_behind (Some Shutdown) = None
 refusal_behind (Some DocumentSymbol) = None
 refusal_behind (Some Formatting) = None
 refusal_behind (Some FoldingRange) = None
+refusal_behind (Some Definition) = None
+refusal_behind (Some References) = None
+refusal_behind (Some DocumentHighlight) = None
+refusal_behind (Some Hover) = None
+refusal_behind (Some Rename) = None
+refusal_behind (Some Completion) = None
+refusal_behind (Some WorkspaceSymbol) = None
 refusal_behind (Some DidOpen) = Some MethodNotFound
 refusal_behind (Some DidChange) = Some MethodNotFound
 refusal_behind (Some DidClose) = Some MethodNotFound

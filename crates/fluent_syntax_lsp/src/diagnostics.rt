@@ -56,7 +56,7 @@ fn too_deep(alloc: Global) -> Result<Vec<Diagnostic>, AllocError>
 }
 
 /// A diagnostic for each of the errors, whose places begin within the text.
-fn diagnostics_of(
+pub(crate) fn diagnostics_of(
     alloc: Global,
     text: &str,
     errors: &Vec<ParserError>,

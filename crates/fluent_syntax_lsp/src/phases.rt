@@ -75,7 +75,14 @@ impl Phase {
                     Method::Shutdown
                     | Method::DocumentSymbol
                     | Method::Formatting
-                    | Method::FoldingRange,
+                    | Method::FoldingRange
+                    | Method::Definition
+                    | Method::References
+                    | Method::DocumentHighlight
+                    | Method::Hover
+                    | Method::Rename
+                    | Method::Completion
+                    | Method::WorkspaceSymbol,
                 ),
             ) => None,
             (Phase::Running, _) => Some(ErrorCode::MethodNotFound),

@@ -1,5 +1,5 @@
 //! Places as the protocol counts them: lines, and UTF-16 units from the line's begin.
-ghost use Rattle.std.specs.Prelude.{◌≡◌, ◌<◌, ◌≤◌, ℕ, List, length, min};
+ghost use Rattle.std.specs.Prelude.{◌≡◌, ◌+◌, ◌^◌, ◌<◌, ◌≤◌, ℕ, List, length, min};
 ghost use Rattle.fluent_syntax_lsp.specs.Places.{ends_line, utf16_units, place_at, line_at, character_at, IsPlace};
 
 use std::marker::Model;
@@ -11,18 +11,22 @@ pub struct Place {
     pub character: usize,
 }
 
+/// Where a text begins.
+pub(crate) const START: Place = Place {
+    line: 0,
+    character: 0,
+};
+
 /// The places of one text. Where the bytes come in order, the text is read once for all of them. In a clause it is the
 /// bytes of the text.
 #[derive(Drop)]
 pub struct Places<'t> {
     text: &'t [u8],
-    /// The last byte that was asked for, and its line and column.
+    /// The last byte that was asked for, and its place.
     byte: usize,
-    line: usize,
-    character: usize,
+    here: Place,
     ghost within: { byte ≤ length text.now },
-    ghost at_line: { line ≡ line_at text.now byte },
-    ghost at_character: { character ≡ character_at text.now byte },
+    ghost place: { here ≡ place_at text.now byte },
 }
 
 impl<'t> Model for Places<'t> {
@@ -39,8 +43,7 @@ impl<'t> Places<'t> {
         Places {
             text: text.as_bytes(),
             byte: 0,
-            line: 0,
-            character: 0,
+            here: START,
         }
     }
 
@@ -52,26 +55,20 @@ impl<'t> Places<'t> {
         ensures place { result ≡ place_at self.old byte }
         ensures meaning { IsPlace self.old byte result }
     {
-        let (mut line, mut character, from) = if byte < self.byte {
-            (0, 0, 0)
+        let (mut here, from) = if byte < self.byte {
+            (START, 0)
         } else {
-            (self.line, self.character, self.byte)
+            (self.here, self.byte)
         };
         for at in from..byte {
-            if is_line_end(self.text, at) {
-                line += 1;
-                character = 0;
-            } else {
-                character += units(self.text[at]);
-            }
+            here = place_behind(self.text, at, here);
         }
         *self = Places {
             text: self.text,
             byte,
-            line,
-            character,
+            here,
         };
-        Place { line, character }
+        here
     }
 }
 
@@ -83,6 +80,26 @@ impl Places<'_> {
     {
         let size = self.text.len();
         self.place(byte.min(size))
+    }
+}
+
+/// The place behind a byte of the text that has this one.
+pub(crate) fn place_behind(text: &[u8], at: usize, here: Place) -> Place
+    requires byte { at < length text.now }
+    requires small { length text.now < 2 ^ 63 }
+    requires place { here ≡ place_at text.now at }
+    ensures { result ≡ place_at text.now (at + 1) }
+{
+    if is_line_end(text, at) {
+        Place {
+            line: here.line + 1,
+            character: 0,
+        }
+    } else {
+        Place {
+            line: here.line,
+            character: here.character + units(text[at]),
+        }
     }
 }
 
@@ -100,7 +117,7 @@ fn is_line_end(text: &[u8], at: usize) -> bool
 
 /// How many UTF-16 units begin with a byte of a text: two for a character of four bytes, one for any other, and none
 /// for the bytes that go on with a character.
-fn units(byte: u8) -> usize
+pub(crate) fn units(byte: u8) -> usize
     ensures { result ≡ utf16_units byte }
 {
     match byte {

@@ -1,6 +1,8 @@
 //! The messages that a server sends, as JSON values.
 
 use crate::diagnostics::Diagnostic;
+use crate::known::Known;
+use crate::occurrences::{NameKind, Occurrence, bytes_of, name_of};
 use crate::phases::ErrorCode;
 use crate::places::{Place, Places};
 use crate::symbols::{Fold, Symbol, SymbolKind};
@@ -23,10 +25,17 @@ pub fn capabilities(alloc: Global) -> Result<Value, AllocError> {
     json!(in alloc; {
         "capabilities": {
             "positionEncoding": "utf-16",
-            "textDocumentSync": {"openClose": true, "change": 1, "save": true},
+            "textDocumentSync": {"openClose": true, "change": 2, "save": true},
             "documentSymbolProvider": true,
             "documentFormattingProvider": true,
-            "foldingRangeProvider": true
+            "foldingRangeProvider": true,
+            "definitionProvider": true,
+            "referencesProvider": true,
+            "documentHighlightProvider": true,
+            "hoverProvider": true,
+            "renameProvider": true,
+            "completionProvider": {"triggerCharacters": ["{", "-", "$", "."]},
+            "workspaceSymbolProvider": true
         },
         "serverInfo": {"name": "ftl"}
     })
@@ -76,44 +85,57 @@ pub fn symbol_list(alloc: Global, text: &str, symbols: &Vec<Symbol>) -> Result<V
     let mut places = Places::new(text);
     let mut list = Vec::new(alloc);
     for symbol in symbols {
-        let mut children = Vec::new(alloc);
-        for name in &symbol.attributes {
-            let none = Value::Array(Vec::new(alloc));
-            children.push(symbol_form(
-                alloc,
-                text,
-                &mut places,
-                SymbolKind::Attribute,
-                *name,
-                none,
-            )?)?;
-        }
-        let children = Value::Array(children);
-        list.push(symbol_form(alloc, text, &mut places, symbol.kind, symbol.name, children)?)?;
+        list.push(symbol_form(alloc, text, &mut places, symbol)?)?;
     }
     Ok(Value::Array(list))
 }
 
-/// A symbol, with those under it.
+/// A symbol, with its attributes under it.
 fn symbol_form(
     alloc: Global,
     text: &str,
     places: &mut Places<'_>,
-    kind: SymbolKind,
-    name: Span,
-    children: Value,
+    symbol: &Symbol,
 ) -> Result<Value, AllocError> {
-    let shown = text.get(name.start..name.end).unwrap_or("");
-    let start = places.place_or_end(name.start);
-    let end = places.place_or_end(name.end);
-    let range = range_form(alloc, start, end)?;
-    let selection = range_form(alloc, start, end)?;
+    let selected = match symbol.kind {
+        SymbolKind::Term => Span {
+            start: symbol.name.start.saturating_sub(1),
+            end: symbol.name.end,
+        },
+        SymbolKind::Message | SymbolKind::Attribute => symbol.name,
+    };
+    let range = span_form(alloc, places, symbol.whole)?;
+    let selection = span_form(alloc, places, selected)?;
+    let mut children = Vec::new(alloc);
+    for name in &symbol.attributes {
+        children.push(attribute_form(alloc, text, places, *name)?)?;
+    }
+    let children = Value::Array(children);
     json!(in alloc; {
-        "name": shown,
-        "kind": (kind_number(kind)),
+        "name": (bytes_of(text, selected)),
+        "kind": (kind_number(symbol.kind)),
         "range": range,
         "selectionRange": selection,
         "children": children
+    })
+}
+
+/// An attribute, by its name.
+fn attribute_form(
+    alloc: Global,
+    text: &str,
+    places: &mut Places<'_>,
+    name: Span,
+) -> Result<Value, AllocError> {
+    let range = span_form(alloc, places, name)?;
+    let selection = span_form(alloc, places, name)?;
+    let none = Value::Array(Vec::new(alloc));
+    json!(in alloc; {
+        "name": (bytes_of(text, name)),
+        "kind": (kind_number(SymbolKind::Attribute)),
+        "range": range,
+        "selectionRange": selection,
+        "children": none
     })
 }
 
@@ -134,6 +156,92 @@ pub fn fold_list(alloc: Global, folds: &Vec<Fold>) -> Result<Value, AllocError> 
         list.push(json!(in alloc; {"startLine": first, "endLine": last, "kind": "comment"})?)?;
     }
     Ok(Value::Array(list))
+}
+
+/// The range of a stretch of the text whose places these are.
+fn span_form(alloc: Global, places: &mut Places<'_>, span: Span) -> Result<Value, AllocError> {
+    let start = places.place_or_end(span.start);
+    let end = places.place_or_end(span.end);
+    range_form(alloc, start, end)
+}
+
+/// A place in a document.
+pub fn location_form(
+    alloc: Global,
+    uri: &str,
+    places: &mut Places<'_>,
+    span: Span,
+) -> Result<Value, AllocError> {
+    let range = span_form(alloc, places, span)?;
+    json!(in alloc; {"uri": uri, "range": range})
+}
+
+/// A place that is marked.
+pub fn highlight_form(
+    alloc: Global,
+    places: &mut Places<'_>,
+    span: Span,
+) -> Result<Value, AllocError> {
+    let range = span_form(alloc, places, span)?;
+    json!(in alloc; {"range": range})
+}
+
+/// The edit that puts a text in place of a stretch.
+pub fn edit_form(
+    alloc: Global,
+    places: &mut Places<'_>,
+    span: Span,
+    text: &str,
+) -> Result<Value, AllocError> {
+    let range = span_form(alloc, places, span)?;
+    json!(in alloc; {"range": range, "newText": text})
+}
+
+/// The edits of a document in one of its versions.
+pub fn edits_of_document(
+    alloc: Global,
+    uri: &str,
+    version: Option<i64>,
+    edits: Value,
+) -> Result<Value, AllocError> {
+    match version {
+        Some(version) =>
+            json!(in alloc; {"textDocument": {"uri": uri, "version": version}, "edits": edits}),
+        None => json!(in alloc; {"textDocument": {"uri": uri, "version": null}, "edits": edits}),
+    }
+}
+
+/// A name that may be chosen.
+pub fn item_form(alloc: Global, label: &str, kind: NameKind) -> Result<Value, AllocError> {
+    let number: u64 = match kind {
+        NameKind::Message => 21,
+        NameKind::Term | NameKind::Variable => 6,
+        NameKind::Function => 3,
+    };
+    json!(in alloc; {"label": label, "kind": number})
+}
+
+/// What the workspace knows of a name.
+pub fn known_symbol(
+    alloc: Global,
+    known: &Known<'_>,
+    places: &mut Places<'_>,
+    occurrence: Occurrence,
+) -> Result<Value, AllocError> {
+    let name = name_of(known.text(), occurrence);
+    let location = location_form(alloc, known.uri, places, occurrence.place())?;
+    let (kind, shown) = match (name.attribute, name.kind) {
+        (Some(attribute), _) => (SymbolKind::Attribute, attribute),
+        (None, NameKind::Term) => (SymbolKind::Term, name.name),
+        (None, _) => (SymbolKind::Message, name.name),
+    };
+    let number = kind_number(kind);
+    match name.attribute {
+        None => json!(in alloc; {"name": shown, "kind": number, "location": location}),
+        Some(_) => json!(in alloc; {
+            "name": shown, "kind": number, "location": location, "containerName": (name.name)
+        }),
+    }
 }
 
 /// A range, by its two places.

@@ -1,13 +1,22 @@
 //! The open documents, and the answer to each message.
 
-use crate::diagnostics::diagnostics_in;
+use crate::asked::Asked;
+use crate::changes::{change_of, place_of};
+use crate::completion::completion;
+use crate::documents::Document;
 use crate::endings::Ending;
 use crate::formatting::formatted;
+use crate::known::{Open, Wanted, known_documents};
 use crate::messages::{Message, message_of};
 use crate::methods::Method;
+use crate::occurrences::bytes_of;
+use crate::offsets::byte_of;
 use crate::phases::{ErrorCode, Phase};
+use crate::places::Places;
+use crate::renaming::renaming;
 use crate::replies::{
-    answer, capabilities, diagnostics_notification, fold_list, refusal, symbol_list, whole_edit,
+    answer, capabilities, diagnostics_notification, fold_list, known_symbol, refusal, symbol_list,
+    whole_edit,
 };
 use crate::symbols::{folds_in, symbols_in};
 use serde_json::{Category, Value};
@@ -19,8 +28,8 @@ use std::collections::BTreeMap;
 pub struct Server {
     alloc: Global,
     phase: Phase,
-    /// The texts of the open documents, by their names.
-    documents: BTreeMap<String, String>,
+    /// The open documents, by their names.
+    documents: BTreeMap<String, Open>,
 }
 
 impl Server {
@@ -82,6 +91,15 @@ impl Server {
             Some(Method::DocumentSymbol) => self.symbols(message)?,
             Some(Method::Formatting) => self.formatting(message)?,
             Some(Method::FoldingRange) => self.folds(message)?,
+            Some(Method::WorkspaceSymbol) => Some(self.known_symbols(message)?),
+            Some(
+                Method::Definition
+                | Method::References
+                | Method::DocumentHighlight
+                | Method::Hover
+                | Method::Rename
+                | Method::Completion,
+            ) => self.told_of_place(method, message)?,
             _ => Some(Value::Null),
         };
         let Some(found) = found else {
@@ -93,38 +111,104 @@ impl Server {
     }
 
     /// The open document that the message names.
-    fn text_of(&self, message: &Value) -> Option<&str> {
-        let text = self.documents.get(uri_of(message)?)?;
-        Some(text.as_str())
+    fn document_of(&self, message: &Value) -> Option<&Document> {
+        Some(&self.documents.get(uri_of(message)?)?.document)
     }
 
     fn symbols(&self, message: &Value) -> Result<Option<Value>, AllocError> {
-        let Some(text) = self.text_of(message) else {
+        let Some(document) = self.document_of(message) else {
             return Ok(None);
         };
-        let symbols = symbols_in(self.alloc, text)?;
-        Ok(Some(symbol_list(self.alloc, text, &symbols)?))
+        let symbols = symbols_in(self.alloc, document)?;
+        Ok(Some(symbol_list(self.alloc, document.text(), &symbols)?))
     }
 
     fn folds(&self, message: &Value) -> Result<Option<Value>, AllocError> {
-        let Some(text) = self.text_of(message) else {
+        let Some(document) = self.document_of(message) else {
             return Ok(None);
         };
-        let folds = folds_in(self.alloc, text)?;
+        let folds = folds_in(self.alloc, document)?;
         Ok(Some(fold_list(self.alloc, &folds)?))
     }
 
     /// The edit that formats the document; null where it stays as it is.
     fn formatting(&self, message: &Value) -> Result<Option<Value>, AllocError> {
-        let Some(text) = self.text_of(message) else {
+        let Some(document) = self.document_of(message) else {
             return Ok(None);
         };
+        let text = document.text();
         match formatted(self.alloc, text)? {
             Some(written) if written.as_str() != text => {
                 Ok(Some(whole_edit(self.alloc, text, written.as_str())?))
             }
             _ => Ok(Some(Value::Null)),
         }
+    }
+
+    /// What a request asks of. None where it names no open document, or no place.
+    fn asked(&self, message: &Value) -> Result<Option<Asked<'_>>, AllocError> {
+        let (Some(uri), Some(place)) = (
+            uri_of(message),
+            message.pointer("/params/position").and_then(place_of),
+        ) else {
+            return Ok(None);
+        };
+        let documents = known_documents(self.alloc, &self.documents)?;
+        let Some(number) = documents.iter().position(|known| known.uri == uri) else {
+            return Ok(None);
+        };
+        let byte = byte_of(documents[number].text(), place);
+        Ok(Some(Asked {
+            documents,
+            number,
+            byte,
+        }))
+    }
+
+    /// What is told of a place.
+    fn told_of_place(
+        &self,
+        method: Option<Method>,
+        message: &Value,
+    ) -> Result<Option<Value>, AllocError> {
+        let Some(asked) = self.asked(message)? else {
+            return Ok(None);
+        };
+        match method {
+            Some(Method::Definition) => {
+                Ok(Some(asked.locations(self.alloc, Wanted::Definitions)?))
+            }
+            Some(Method::References) => {
+                Ok(Some(asked.locations(self.alloc, wanted_by(message))?))
+            }
+            Some(Method::DocumentHighlight) => Ok(Some(asked.highlights(self.alloc)?)),
+            Some(Method::Hover) => Ok(Some(asked.hover(self.alloc)?)),
+            Some(Method::Completion) => Ok(Some(completion(self.alloc, &asked)?)),
+            Some(Method::Rename) => match new_name(message) {
+                Some(name) => renaming(self.alloc, &asked, name),
+                None => Ok(None),
+            },
+            _ => Ok(None),
+        }
+    }
+
+    /// What the open documents define whose name has the text that is asked for in it.
+    fn known_symbols(&self, message: &Value) -> Result<Value, AllocError> {
+        let query = message
+            .pointer("/params/query")
+            .and_then(Value::as_str)
+            .unwrap_or("");
+        let mut list = Vec::new(self.alloc);
+        for known in known_documents(self.alloc, &self.documents)?.iter() {
+            let mut places = Places::new(known.text());
+            for occurrence in &known.occurrences {
+                let shown = bytes_of(known.text(), occurrence.place());
+                if occurrence.defines && shown.contains(query) {
+                    list.push(known_symbol(self.alloc, known, &mut places, *occurrence)?)?;
+                }
+            }
+        }
+        Ok(Value::Array(list))
     }
 
     /// Follows a notification.
@@ -139,9 +223,9 @@ impl Server {
             return Ok(None);
         };
         match method {
-            Some(Method::DidOpen) => self.set(uri, opened_text(message)),
-            Some(Method::DidChange) if self.documents.contains_key(uri) => {
-                self.set(uri, changed_text(message))
+            Some(Method::DidOpen) => self.open(uri, opened_text(message), version_of(message)),
+            Some(Method::DidChange) => {
+                self.change(uri, changes_in(message), version_of(message))
             }
             Some(Method::DidSave) => self.publish(uri),
             Some(Method::DidClose) => self.close(uri),
@@ -152,23 +236,54 @@ impl Server {
         }
     }
 
-    /// Sets the text of a document, and tells of its diagnostics.
-    fn set(&mut self, uri: &str, text: Option<&str>) -> Result<Option<Value>, AllocError> {
+    /// Opens a document, and tells of its diagnostics.
+    fn open(
+        &mut self,
+        uri: &str,
+        text: Option<&str>,
+        version: Option<i64>,
+    ) -> Result<Option<Value>, AllocError> {
         let Some(text) = text else {
             return Ok(None);
         };
         let name = String::from_str(self.alloc, uri)?;
-        let text = String::from_str(self.alloc, text)?;
-        drop(self.documents.insert(name, text)?);
+        let document = Document::new(self.alloc, text)?;
+        let open = Open { version, document };
+        drop(self.documents.insert(name, open)?);
+        self.publish(uri)
+    }
+
+    /// Makes the changes of an open document, in order, and tells of its diagnostics. Nothing is changed where one of
+    /// them is none.
+    fn change(
+        &mut self,
+        uri: &str,
+        changes: Option<&Vec<Value>>,
+        version: Option<i64>,
+    ) -> Result<Option<Value>, AllocError> {
+        let (Some(changes), Some(open)) = (changes, self.documents.get_mut(uri)) else {
+            return Ok(None);
+        };
+        let mut made = Vec::new(self.alloc);
+        for value in changes {
+            let Some(change) = change_of(value) else {
+                return Ok(None);
+            };
+            made.push(change)?;
+        }
+        open.version = version;
+        for change in &made {
+            change.apply(self.alloc, &mut open.document)?;
+        }
         self.publish(uri)
     }
 
     /// The diagnostics of a document; None where it is not open.
     fn publish(&self, uri: &str) -> Result<Option<Value>, AllocError> {
-        let Some(text) = self.documents.get(uri) else {
+        let Some(open) = self.documents.get(uri) else {
             return Ok(None);
         };
-        let found = diagnostics_in(self.alloc, text.as_str())?;
+        let found = open.document.diagnostics(self.alloc)?;
         Ok(Some(diagnostics_notification(self.alloc, uri, &found)?))
     }
 
@@ -198,10 +313,32 @@ fn opened_text(message: &Value) -> Option<&str> {
         .and_then(Value::as_str)
 }
 
-/// The whole text that the last change of a document sets.
-fn changed_text(message: &Value) -> Option<&str> {
-    let changes = message
+/// The changes that a message tells of.
+fn changes_in(message: &Value) -> Option<&Vec<Value>> {
+    message
         .pointer("/params/contentChanges")
-        .and_then(Value::as_array)?;
-    changes.last()?.get("text").and_then(Value::as_str)
+        .and_then(Value::as_array)
+}
+
+/// The number of the document's version.
+fn version_of(message: &Value) -> Option<i64> {
+    message
+        .pointer("/params/textDocument/version")
+        .and_then(Value::as_i64)
+}
+
+/// Which places of a name are asked for.
+fn wanted_by(message: &Value) -> Wanted {
+    let declared = message
+        .pointer("/params/context/includeDeclaration")
+        .and_then(Value::as_bool);
+    match declared {
+        Some(false) => Wanted::References,
+        _ => Wanted::All,
+    }
+}
+
+/// The name that is wanted.
+fn new_name(message: &Value) -> Option<&str> {
+    message.pointer("/params/newName").and_then(Value::as_str)
 }

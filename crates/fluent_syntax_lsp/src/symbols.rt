@@ -1,10 +1,11 @@
 //! The messages and terms of a document, with their attributes, and what of it can be folded.
 
-use crate::limits::NESTING_LIMIT;
+use crate::documents::Document;
 use crate::places::Places;
-use fluent_syntax::ast::{Attribute, Comment, Entry, Resource};
-use fluent_syntax::parser::{Edition, ParseFault, TooDeep};
-use fluent_syntax::spans::{Span, parse_spans_within};
+use crate::stretches::{Stretches, moved};
+use fluent_syntax::ast::{Attribute, Comment, Entry};
+use fluent_syntax::spans::Span;
+use fluent_syntax_reread::placed::Placed;
 use std::alloc::{AllocError, Global};
 
 /// What a symbol stands for.
@@ -15,10 +16,13 @@ pub enum SymbolKind {
     Attribute,
 }
 
-/// A name of a document, as its range, with the attributes under it.
+/// A message or a term of a document, with its attributes.
 #[derive(Debug, Drop)]
 pub struct Symbol {
     pub kind: SymbolKind,
+    /// The entry with its comment, without blanks behind it.
+    pub whole: Span,
+    /// Without the `-` of a term.
     pub name: Span,
     pub attributes: Vec<Span>,
 }
@@ -30,87 +34,78 @@ pub struct Fold {
     pub last: usize,
 }
 
-/// The tree of a text, with junk for what was refused. None where it nests deeper than `NESTING_LIMIT`.
-fn tree_of(alloc: Global, text: &str) -> Result<Option<Resource<Span>>, AllocError> {
-    match parse_spans_within(alloc, text, Edition::One, NESTING_LIMIT) {
-        Ok(Ok(tree)) => Ok(Some(tree)),
-        Ok(Err(ParseFault::Syntax(tree, _errors))) => Ok(Some(tree)),
-        Ok(Err(ParseFault::Memory)) => Err(AllocError),
-        Err(TooDeep) => Ok(None),
-    }
-}
-
-/// The symbols of a text, in order. None of a text that nests deeper than `NESTING_LIMIT`.
-pub fn symbols_in(alloc: Global, text: &str) -> Result<Vec<Symbol>, AllocError> {
+/// The symbols of a document, in order. None of one that nests deeper than `NESTING_LIMIT`.
+pub fn symbols_in(alloc: Global, document: &Document) -> Result<Vec<Symbol>, AllocError> {
     let mut found = Vec::new(alloc);
-    if let Some(tree) = tree_of(alloc, text)? {
-        for entry in &tree.body {
-            if let Some(symbol) = symbol_of(alloc, entry)? {
-                found.push(symbol)?;
-            }
+    let mut stretches = Stretches::new(document.text());
+    for tile in document.tiles() {
+        let whole = stretches.next(tile);
+        if let Some(symbol) = symbol_of(alloc, tile, whole)? {
+            found.push(symbol)?;
         }
     }
     Ok(found)
 }
 
-/// The symbol of an entry. None of comments and junk.
-fn symbol_of(alloc: Global, entry: &Entry<Span>) -> Result<Option<Symbol>, AllocError> {
-    match entry {
-        Entry::Message(message) => Ok(Some(Symbol {
-            kind: SymbolKind::Message,
-            name: message.id.name,
-            attributes: names_of(alloc, &message.attributes)?,
-        })),
-        Entry::Term(term) => Ok(Some(Symbol {
-            kind: SymbolKind::Term,
-            name: term.id.name,
-            attributes: names_of(alloc, &term.attributes)?,
-        })),
-        Entry::Comment(_) | Entry::GroupComment(_) | Entry::ResourceComment(_) => Ok(None),
-        Entry::Junk { content: _ } => Ok(None),
-    }
+/// The symbol of a tile. None of comments and junk.
+fn symbol_of(alloc: Global, tile: &Placed, whole: Span) -> Result<Option<Symbol>, AllocError> {
+    let (kind, name, attributes) = match &tile.found.entry {
+        Entry::Message(message) => (SymbolKind::Message, message.id.name, &message.attributes),
+        Entry::Term(term) => (SymbolKind::Term, term.id.name, &term.attributes),
+        Entry::Comment(_) | Entry::GroupComment(_) | Entry::ResourceComment(_) => return Ok(None),
+        Entry::Junk { content: _ } => return Ok(None),
+    };
+    Ok(Some(Symbol {
+        kind,
+        whole,
+        name: moved(tile.base, name),
+        attributes: names_of(alloc, tile.base, attributes)?,
+    }))
 }
 
-/// The names of attributes.
-fn names_of(alloc: Global, attributes: &Vec<Attribute<Span>>) -> Result<Vec<Span>, AllocError> {
+/// The names of attributes, which are counted from the base.
+fn names_of(
+    alloc: Global,
+    base: usize,
+    attributes: &Vec<Attribute<Span>>,
+) -> Result<Vec<Span>, AllocError> {
     let mut names = Vec::new(alloc);
     for attribute in attributes {
-        names.push(attribute.id.name)?;
+        names.push(moved(base, attribute.id.name))?;
     }
     Ok(names)
 }
 
-/// The comments of a text that have several lines, in order.
-pub fn folds_in(alloc: Global, text: &str) -> Result<Vec<Fold>, AllocError> {
+/// The comments of a document that have several lines, in order.
+pub fn folds_in(alloc: Global, document: &Document) -> Result<Vec<Fold>, AllocError> {
     let mut found = Vec::new(alloc);
-    let mut places = Places::new(text);
-    if let Some(tree) = tree_of(alloc, text)? {
-        for entry in &tree.body {
-            if let Some(comment) = comment_of(entry) {
-                if let Some(fold) = fold_of(&mut places, comment) {
-                    found.push(fold)?;
-                }
+    let mut places = Places::new(document.text());
+    for tile in document.tiles() {
+        if let Some(comment) = comment_of(&tile.found.entry) {
+            if let Some(fold) = fold_of(&mut places, tile.base, comment) {
+                found.push(fold)?;
             }
         }
     }
     Ok(found)
 }
 
-/// The comment of an entry.
+/// The comment that a tile is.
 fn comment_of(entry: &Entry<Span>) -> Option<&Comment<Span>> {
     match entry {
-        Entry::Message(message) => message.comment.as_ref(),
-        Entry::Term(term) => term.comment.as_ref(),
         Entry::Comment(comment) | Entry::GroupComment(comment) | Entry::ResourceComment(comment) =>
             { Some(comment) }
+        Entry::Message(_) | Entry::Term(_) => None,
         Entry::Junk { content: _ } => None,
     }
 }
 
-/// The lines of a comment, if it has several.
-fn fold_of(places: &mut Places<'_>, comment: &Comment<Span>) -> Option<Fold> {
-    let first = places.place_or_end(comment.content.first()?.start).line;
-    let last = places.place_or_end(comment.content.last()?.start).line;
+/// The lines of a comment, if it has several. Its places are counted from the base.
+fn fold_of(places: &mut Places<'_>, base: usize, comment: &Comment<Span>) -> Option<Fold> {
+    let first = moved(base, *comment.content.first()?);
+    let last = moved(base, *comment.content.last()?);
+    let first = places.place_or_end(first.start).line;
+    let last = places.place_or_end(last.start).line;
     if first < last {
         Some(Fold { first, last })
     } else {

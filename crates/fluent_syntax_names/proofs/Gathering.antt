@@ -11,7 +11,8 @@ use Rattle.fluent_syntax_names.specs.Mentions.{Mentions}
 use Rattle.fluent_syntax_names.specs.declared.mention.Mention.{Mention}
 use Rattle.fluent_syntax_names.specs.declared.outline.Outline.{Outline}
 use Rattle.fluent_syntax_names.specs.declared.spelled.EntryName.{EntryName}
-use Rattle.fluent_syntax_names.specs.Findings.{Text, put, gathered, defined_in, owner_after, nameless, defined_by}
+use Rattle.fluent_syntax_names.specs.Findings.{put, gathered, defined_in, owner_after, defined_by}
+use Rattle.fluent_syntax_names.specs.Spelled.{Text, nameless}
 use Rattle.fluent_syntax_names.specs.Findings.{is_defined}
 use Rattle.fluent_syntax_names.specs.Places.{first_of, Notes}
 use Rattle.fluent_syntax_names.specs.Tables.{Lookup, has_name, NotesNames, LeavesNames}

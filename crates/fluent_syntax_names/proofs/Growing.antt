@@ -1,5 +1,5 @@
 -- Lists of findings that grow by one mention after another.
-use Rattle.std.proofs.Common.{◌≡◌, ℕ, ◌+◌, ◌<◌, ◌≤◌, Bool, List, []}
+use Rattle.std.proofs.Common.{◌≡◌, ℕ, ◌+◌, ◌<◌, ◌≤◌, Bool, true, List, []}
 use Rattle.std.proofs.Common.{◌∷◌, ◌++◌, length, get_or, drop, refl, sym, ap, ◌∙◌}
 use Rattle.std.proofs.Common.{Option, Some, None}
 use Rattle.std.specs.Prelude.{if◌then◌else◌}
@@ -10,11 +10,18 @@ use Rattle.fluent_syntax_names.specs.declared.mention.Mention.{Mention}
 use Rattle.fluent_syntax_names.specs.declared.mention.Mention.TheVariants as says
 use Rattle.fluent_syntax_names.specs.declared.outline.Outline.{Outline}
 use Rattle.fluent_syntax_names.specs.declared.spelled.EntryName.{EntryName}
+use Rattle.fluent_syntax_names.specs.declared.spelled.PatternName.{PatternName}
+use Rattle.fluent_syntax_names.proofs.Ways.{or_left, or_right, is_own_link}
 use Rattle.fluent_syntax_names.specs.declared.finding.Finding.{Finding}
 use Rattle.fluent_syntax_names.specs.declared.finding.Kind.{Kind}
 use Rattle.fluent_syntax_names.specs.declared.finding.Kind.TheVariants as kind
-use Rattle.fluent_syntax_names.specs.Findings.{Text, Known, put, found, found_in, found_from, after, nothing, twice}
-use Rattle.fluent_syntax_names.specs.Findings.{undefined, undefined_part, finding_at, message_name, term_name}
+use Rattle.fluent_syntax_names.specs.Findings.{Known, put, found, found_in, found_from, after, nothing, twice}
+use Rattle.fluent_syntax_names.specs.Spelled.{Text}
+use Rattle.fluent_syntax_names.specs.Circles.{Link, is_link, leads, link_to, links_in, links, pattern_after, referred}
+use Rattle.fluent_syntax_names.specs.Circles.{no_pattern}
+use Rattle.fluent_syntax_names.specs.Findings.{Set, circle, circle_to}
+use Rattle.fluent_syntax_names.specs.Findings.{undefined, undefined_part, finding_at}
+use Rattle.fluent_syntax_names.specs.Spelled.{message_name, term_name}
 use Rattle.fluent_syntax_names.specs.Spelled.{spelled, spelled_attribute, spelled_value}
 use Rattle.fluent_syntax_names.specs.Tables.{Lookup, Holds, AddsFindings}
 
@@ -65,59 +72,101 @@ module _ (file : ℕ) (text : Text) where
     found_same known (says.Variable x) = refl
     found_same known (says.Function x) = refl
 
-    pub found_in_same : (known : Known) (ms : Mentions Span) (tail : List Finding)
-        → found_in D file text known ms tail ≡ found_in E file text known ms tail
-    found_in_same known [] tail = refl
-    found_in_same known (m ∷ ms) tail =
-        ap (λ o. put o (found_in D file text (after text known m) ms tail)) (found_same known m)
-        ∙ ap (put (found E file text known m)) (found_in_same (after text known m) ms tail)
+-- what is known of each reference agrees
+module _ (A B : Set) (defines : (name : Text) → A.defines name ≡ B.defines name) where
+  abbrev pub SameOn : List Link → Type 0
+  SameOn [] = Unit {0}
+  SameOn (link ∷ all) = (A.comes_back link.from link.to ≡ B.comes_back link.from link.to) × SameOn all
 
-pub found_from_same : (D E : Text → Bool) → ((name : Text) → D name ≡ E name) → (n : ℕ) (files : List Outline)
-    (tail : List Finding) → found_from D n files tail ≡ found_from E n files tail
-found_from_same D E same n [] tail = refl
-found_from_same D E same n (file ∷ files) tail =
-    found_in_same n file.text.now D E same nothing file.mentions.items (found_from D (n + 1) files tail)
-    ∙ ap (found_in E n file.text.now nothing file.mentions.items) (found_from_same D E same (n + 1) files tail)
+  circle_same : (file : ℕ) (text : Text) (pattern : PatternName) (target : Option PatternName) (others : List Link)
+      → SameOn (link_to text pattern target others)
+      → (circle_to A.comes_back file text pattern target ≡ circle_to B.comes_back file text pattern target)
+      × SameOn others
+  circle_same file text pattern None others same = (refl, same)
+  circle_same file text pattern (Some target) others same = (
+    ap (λ (b : Bool). if b then Some (finding_at kind.CyclicReference file target.entry.name None) else None) same.0,
+    same.1,
+  )
+
+  found_in_same : (file : ℕ) (text : Text) (known : Known) (pattern : PatternName) (ms : Mentions Span)
+      (others : List Link) → SameOn (links_in text pattern ms others) → (tail tail' : List Finding)
+      → (SameOn others → tail ≡ tail')
+      → found_in A file text known pattern ms tail ≡ found_in B file text known pattern ms tail'
+  found_in_same file text known pattern [] others same tail tail' later = later same
+  found_in_same file text known pattern (m ∷ ms) others same tail tail' later =
+      let rest = links_in text (pattern_after pattern m) ms others in
+      let here = circle_same file text pattern (referred m) rest same in
+      let behind =
+      found_in_same file text (after text known m) (pattern_after pattern m) ms others here.1 tail tail' later in
+      let left = found_in A file text (after text known m) (pattern_after pattern m) ms tail in
+      ap (λ o. put o (put (circle A.comes_back file text pattern m) left))
+      (found_same file text A.defines B.defines defines known m)
+      ∙ ap (λ o. put (found B.defines file text known m) (put o left)) here.0
+      ∙ ap (λ l. put (found B.defines file text known m) (put (circle B.comes_back file text pattern m) l)) behind
+
+  pub found_from_same : (n : ℕ) (files : List Outline) → SameOn (links files) → (tail : List Finding)
+      → found_from A n files tail ≡ found_from B n files tail
+  found_from_same n [] same tail = refl
+  found_from_same n (file ∷ files) same tail =
+      found_in_same n file.text.now nothing no_pattern file.mentions.items (links files) same
+      (found_from A (n + 1) files tail) (found_from B (n + 1) files tail)
+      (λ later. found_from_same (n + 1) files later tail)
+
+  -- what agrees for each link of a list
+  pub same_on : (all : List Link)
+      → ((from to : Text) → leads all from to ≡ true → A.comes_back from to ≡ B.comes_back from to) → SameOn all
+  same_on [] same = tt
+  same_on (link ∷ all) same = (
+    same link.from link.to
+        (or_left (is_link link.from link.to link) (leads all link.from link.to) (is_own_link link)),
+    same_on all (λ from to e. same from to (or_right (is_link from to link) (leads all from to) e)),
+  )
 
 -- ---- The mentions of a file
 
-module _ (D : Text → Bool) (file : ℕ) (text : Text) (old now : List Finding) (all : List Finding → List Finding)
+module _ (A : Set) (file : ℕ) (text : Text) (old now : List Finding) (all : List Finding → List Finding)
     (ms : Mentions Span) (i : ℕ) where
-  abbrev pub LeavesFound : List Finding → Known → ℕ → Type 0
-  LeavesFound list known n = (rest : List Finding) →
-      list ++ found_in D file text known (drop n ms) rest ≡ old ++ all rest
+  abbrev pub LeavesFound : List Finding → Known → PatternName → ℕ → Type 0
+  LeavesFound list known pattern n = (rest : List Finding) →
+      list ++ found_in A file text known pattern (drop n ms) rest ≡ old ++ all rest
 
-  pub found_next : (next : List Finding) (known : Known) (m d : Mention Span) (finding : Option Finding) → i < length ms
-      → m ≡ get_or ms i d → finding ≡ found D file text known m → LeavesFound now known i
-      → AddsFindings now next (put finding) → LeavesFound next (after text known m) (i + 1)
-  found_next next known m d finding within is made left adds = λ rest.
+  pub found_next : (between next : List Finding) (known : Known) (pattern : PatternName) (m d : Mention Span)
+      (finding comes : Option Finding) → i < length ms → m ≡ get_or ms i d
+      → finding ≡ found A.defines file text known m → comes ≡ circle A.comes_back file text pattern m
+      → LeavesFound now known pattern i → AddsFindings now between (put finding) → AddsFindings between next (put comes)
+      → LeavesFound next (after text known m) (pattern_after pattern m) (i + 1)
+  found_next between next known pattern m d finding comes within is made made_too left adds adds_too = λ rest.
       let cut : drop i ms ≡ m ∷ drop (i + 1) ms = drop_more ms i d within ∙ ap (λ y. y ∷ drop (i + 1) ms) (sym is) in
-      let others = found_in D file text (after text known m) (drop (i + 1) ms) rest in
-      adds others
-      ∙ ap (λ o. now ++ put o others) made
-      ∙ ap (λ l. now ++ found_in D file text known l rest) (sym cut)
+      let others = found_in A file text (after text known m) (pattern_after pattern m) (drop (i + 1) ms) rest in
+      adds_too others
+      ∙ adds (put comes others)
+      ∙ ap (λ o. now ++ put o (put comes others)) made
+      ∙ ap (λ o. now ++ put (found A.defines file text known m) (put o others)) made_too
+      ∙ ap (λ l. now ++ found_in A file text known pattern l rest) (sym cut)
       ∙ left rest
 
-  pub found_none : (known : Known) → length ms ≤ i → LeavesFound now known i → AddsFindings old now all
-  found_none known end left = λ rest.
-      ap (λ l. now ++ found_in D file text known l rest) (sym (drop_all i ms end)) ∙ left rest
+  pub found_none : (known : Known) (pattern : PatternName) → length ms ≤ i → LeavesFound now known pattern i
+      → AddsFindings old now all
+  found_none known pattern end left = λ rest.
+      ap (λ l. now ++ found_in A file text known pattern l rest) (sym (drop_all i ms end)) ∙ left rest
 
 -- ---- The files
 
-module _ (D : Text → Bool) (files : List Outline) (now next : List Finding) (i : ℕ) where
+module _ (A : Set) (files : List Outline) (now next : List Finding) (i : ℕ) where
   abbrev pub LeavesFiles : List Finding → ℕ → Type 0
   LeavesFiles list n = (rest : List Finding) →
-      list ++ found_from D n (drop n files) rest ≡ found_from D 0 files rest
+      list ++ found_from A n (drop n files) rest ≡ found_from A 0 files rest
 
   pub file_next : (file : Outline) → i < length files → file ≡ get_or files i file → LeavesFiles now i
-      → AddsFindings now next (found_in D i file.text.now nothing file.mentions.items) → LeavesFiles next (i + 1)
+      → AddsFindings now next (found_in A i file.text.now nothing no_pattern file.mentions.items)
+      → LeavesFiles next (i + 1)
   file_next file within is left adds = λ rest.
       let cut : drop i files ≡ file ∷ drop (i + 1) files =
       drop_more files i file within ∙ ap (λ y. y ∷ drop (i + 1) files) (sym is) in
-      adds (found_from D (i + 1) (drop (i + 1) files) rest)
-      ∙ ap (λ l. now ++ found_from D i l rest) (sym cut)
+      adds (found_from A (i + 1) (drop (i + 1) files) rest)
+      ∙ ap (λ l. now ++ found_from A i l rest) (sym cut)
       ∙ left rest
 
-  pub file_none : length files ≤ i → LeavesFiles now i → (rest : List Finding) → now ++ rest ≡ found_from D 0 files rest
+  pub file_none : length files ≤ i → LeavesFiles now i → (rest : List Finding) → now ++ rest ≡ found_from A 0 files rest
   file_none end left = λ rest.
-      ap (λ l. now ++ found_from D i l rest) (sym (drop_all i files end)) ∙ left rest
+      ap (λ l. now ++ found_from A i l rest) (sym (drop_all i files end)) ∙ left rest

@@ -11,7 +11,8 @@ use Rattle.fluent_syntax_names.specs.declared.lack.Part.TheVariants as part
 use Rattle.fluent_syntax_names.specs.declared.mention.Mention.{Mention}
 use Rattle.fluent_syntax_names.specs.declared.mention.Mention.TheVariants as says
 use Rattle.fluent_syntax_names.specs.declared.spelled.EntryName.{EntryName}
-use Rattle.fluent_syntax_names.specs.Findings.{Text, put, owner_after, message_name, term_name}
+use Rattle.fluent_syntax_names.specs.Findings.{put, owner_after}
+use Rattle.fluent_syntax_names.specs.Spelled.{Text, message_name, term_name}
 use Rattle.fluent_syntax_names.specs.Lacks.{Other, lack_at, lacked_entry, lacked_value, lacked_attribute, lacked_part}
 use Rattle.fluent_syntax_names.specs.Lacks.{lacked_reference, lacked_variable, lack_of, lacks_in, AddsLacks}
 use Rattle.fluent_syntax_names.specs.Mentions.{Mentions}

@@ -11,28 +11,27 @@ use Rattle.std.specs.declared.alloc.Global.{Global}
 use Rattle.std.specs.declared.cmp.Ordering.{Ordering}
 use Rattle.std.specs.declared.cmp.Ordering.TheVariants.{Equal, Greater, Less}
 use Rattle.std.proofs.lemmas.Map.Text.{is_eq-slice_cmp}
-use Rattle.fluent_syntax_tree.specs.declared.spans.Span.{Span}
 use Rattle.fluent_syntax_names.specs.Places.{first_of, place_where}
 
 abbrev pub Key : Type 0
 Key = Vec ℕ Global
 
-abbrev pub Row : Type 0
-Row = Key × Span
+abbrev pub Row : Type 0 → Type 0
+Row X = Key × X
 
 abbrev pub order : Key → Key → Ordering
 order x y = slice_cmp nat_cmp x.items y.items
 
-abbrev pub find : List ℕ → List Row → Option Span
+abbrev pub find : {X : Type 0} → List ℕ → List (Row X) → Option X
 find name rows = lookup (is_at (λ k. slice_cmp nat_cmp name k.items)) rows
 
-pub first_of-None : (o : Option Span) → first_of o None ≡ o
+pub first_of-None : {X : Type 0} (o : Option X) → first_of o None ≡ o
 first_of-None None = refl
 first_of-None (Some x) = refl
 
 -- a name that is found stays as it is
-pub stays_found : (before : Option Span) (name noted : List ℕ) (place : Span)
-    → (bytes_eq name noted ≡ true → (found : Span) × (before ≡ Some found))
+pub stays_found : {X : Type 0} (before : Option X) (name noted : List ℕ) (place : X)
+    → (bytes_eq name noted ≡ true → (found : X) × (before ≡ Some found))
     → before ≡ first_of before (place_where name noted place)
 stays_found before name noted place held =
     let by : (b : Bool) → bytes_eq name noted ≡ b → before ≡ first_of before (if b then Some place else None) =
@@ -42,13 +41,13 @@ stays_found before name noted place held =
     ] in
     by (bytes_eq name noted) refl
 
-module _ (key : Key) (place : Span) (name : List ℕ) where
-  abbrev wanted : List Row → Type 0
+module _ {X : Type 0} (key : Key) (place : X) (name : List ℕ) where
+  abbrev wanted : List (Row X) → Type 0
   wanted rows =
       find name (insert_entry order rows key place) ≡ first_of (find name rows) (place_where name key.items place)
 
   -- in front of rows that do not have it
-  in_front : (rows : List Row) → find key.items rows ≡ None → (b : Bool) → bytes_eq name key.items ≡ b
+  in_front : (rows : List (Row X)) → find key.items rows ≡ None → (b : Bool) → bytes_eq name key.items ≡ b
       → cond b (Some place) (find name rows) ≡ first_of (find name rows) (if b then Some place else None)
   in_front rows absent true e =
       let same : name ≡ key.items = (bytes_decides name key.items).0 e in
@@ -56,20 +55,21 @@ module _ (key : Key) (place : Span) (name : List ℕ) where
       sym (ap (λ o. first_of o (Some place)) nowhere)
   in_front rows absent false e = sym (first_of-None (find name rows))
 
-  begun : (rows : List Row) → find key.items rows ≡ None
+  begun : (rows : List (Row X)) → find key.items rows ≡ None
       → find name ((key, place) ∷ rows) ≡ first_of (find name rows) (place_where name key.items place)
   begun rows absent =
       ap (λ b. cond b (Some place) (find name rows)) (is_eq-slice_cmp name key.items)
       ∙ in_front rows absent (bytes_eq name key.items) refl
 
   -- behind a row of another name
-  behind : (row : Row) (rows : List Row) (b : Bool) → wanted rows
+  behind : (row : Row X) (rows : List (Row X)) (b : Bool) → wanted rows
       → cond b (Some row.1) (find name (insert_entry order rows key place))
       ≡ first_of (cond b (Some row.1) (find name rows)) (place_where name key.items place)
   behind row rows true held = refl
   behind row rows false held = held
 
-  by_order : (row : Row) (rows : List Row) (o : Ordering) → order key row.0 ≡ o → find key.items (row ∷ rows) ≡ None
+  by_order : (row : Row X) (rows : List (Row X)) (o : Ordering) → order key row.0 ≡ o
+      → find key.items (row ∷ rows) ≡ None
       → (find key.items rows ≡ None → wanted rows) → wanted (row ∷ rows)
   by_order row rows Less e absent held = rw e (begun (row ∷ rows) absent)
   by_order row rows Equal e absent held =
@@ -82,6 +82,6 @@ module _ (key : Key) (place : Span) (name : List ℕ) where
       rw e (behind row rows (is_at (λ k. slice_cmp nat_cmp name k.items) row.0) (held rest))
 
   -- a new name is put in
-  pub put_in : (rows : List Row) → find key.items rows ≡ None → wanted rows
+  pub put_in : (rows : List (Row X)) → find key.items rows ≡ None → wanted rows
   put_in [] absent = begun [] absent
   put_in (row ∷ rows) absent = by_order row rows (order key row.0) refl absent (put_in rows)

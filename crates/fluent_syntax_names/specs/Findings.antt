@@ -11,18 +11,13 @@ use Rattle.fluent_syntax_names.specs.declared.finding.Kind.{Kind}
 use Rattle.fluent_syntax_names.specs.declared.finding.Kind.TheVariants as kind
 use Rattle.fluent_syntax_names.specs.declared.outline.Outline.{Outline}
 use Rattle.fluent_syntax_names.specs.declared.spelled.EntryName.{EntryName}
+use Rattle.fluent_syntax_names.specs.declared.spelled.PatternName.{PatternName}
 use Rattle.fluent_syntax_names.specs.Mentions.{Mentions}
 use Rattle.fluent_syntax_names.specs.Places.{first_of, place_where}
-use Rattle.fluent_syntax_names.specs.Spelled.{name_at, spelled, spelled_attribute, spelled_value}
-
-abbrev pub Text : Type 0
-Text = List ℕ
-
-abbrev pub message_name : Span → EntryName
-message_name x = record { is_term = false; name = x }
-
-abbrev pub term_name : Span → EntryName
-term_name x = record { is_term = true; name = x }
+use Rattle.fluent_syntax_names.specs.Spelled.{Text, message_name, term_name, nameless, name_at, spelled}
+use Rattle.fluent_syntax_names.specs.Spelled.{spelled_attribute}
+use Rattle.fluent_syntax_names.specs.Spelled.{spelled_value, spelled_pattern}
+use Rattle.fluent_syntax_names.specs.Circles.{pattern_after, referred, no_pattern, links, comes_back}
 
 -- ---- What the files define
 
@@ -67,10 +62,6 @@ defined_in text owner ms tail = gathered (defines text) owner ms tail
 abbrev pub put : {A : Type 0} → Option A → List A → List A
 put None tail = tail
 put (Some x) tail = x ∷ tail
-
--- before any entry
-abbrev pub nameless : EntryName
-nameless = message_name (record { start = 0; end = 0 })
 
 abbrev pub defined_by : List Outline → List Text
 defined_by [] = []
@@ -157,18 +148,39 @@ found is_defined file text known (says.TermReference x a) =
 found is_defined file text known (says.Variable x) = None
 found is_defined file text known (says.Function x) = None
 
+-- a reference to the target that stands in the pattern, where it comes back
+abbrev pub circle_to : (Text → Text → Bool) → ℕ → Text → PatternName → Option PatternName → Option Finding
+circle_to comes_back file text pattern None = None
+circle_to comes_back file text pattern (Some target) =
+    if comes_back (spelled_pattern text pattern) (spelled_pattern text target)
+    then Some (finding_at kind.CyclicReference file target.entry.name None)
+    else None
+
+abbrev pub circle : (Text → Text → Bool) → ℕ → Text → PatternName → Mention Span → Option Finding
+circle comes_back file text pattern mention = circle_to comes_back file text pattern (referred mention)
+
 -- ---- All that is found, in the order of the files and of their mentions
 
-abbrev pub found_in : (Text → Bool) → ℕ → Text → Known → Mentions Span → List Finding → List Finding
-found_in is_defined file text known [] tail = tail
-found_in is_defined file text known (m ∷ ms) tail =
-    put (found is_defined file text known m) (found_in is_defined file text (after text known m) ms tail)
+-- what is known of all files: which names they define, and which references come back
+pub record Set : Type 0 where
+  pub defines : Text → Bool
+  pub comes_back : Text → Text → Bool
 
-abbrev pub found_from : (Text → Bool) → ℕ → List Outline → List Finding → List Finding
-found_from is_defined number [] tail = tail
-found_from is_defined number (file ∷ files) tail =
-    found_in is_defined number file.text.now nothing file.mentions.items
-    (found_from is_defined (number + 1) files tail)
+abbrev pub found_in : Set → ℕ → Text → Known → PatternName → Mentions Span → List Finding → List Finding
+found_in all file text known pattern [] tail = tail
+found_in all file text known pattern (m ∷ ms) tail =
+    put (found all.defines file text known m)
+    (put (circle all.comes_back file text pattern m)
+    (found_in all file text (after text known m) (pattern_after pattern m) ms tail))
+
+abbrev pub found_from : Set → ℕ → List Outline → List Finding → List Finding
+found_from all number [] tail = tail
+found_from all number (file ∷ files) tail =
+    found_in all number file.text.now nothing no_pattern file.mentions.items
+    (found_from all (number + 1) files tail)
+
+abbrev pub set_of : List Outline → Set
+set_of files = record { defines = is_defined files; comes_back = comes_back (links files) }
 
 abbrev pub all_findings : List Outline → List Finding
-all_findings files = found_from (is_defined files) 0 files []
+all_findings files = found_from (set_of files) 0 files []

@@ -10,7 +10,8 @@ use Rattle.fluent_syntax_names.specs.declared.mention.Mention.{Mention}
 use Rattle.fluent_syntax_names.specs.declared.mention.Mention.TheVariants as says
 use Rattle.fluent_syntax_names.specs.declared.outline.Outline.{Outline}
 use Rattle.fluent_syntax_names.specs.declared.spelled.EntryName.{EntryName}
-use Rattle.fluent_syntax_names.specs.Findings.{Text, put, nameless, message_name, term_name, owner_after, is_defined}
+use Rattle.fluent_syntax_names.specs.Findings.{put, owner_after, is_defined}
+use Rattle.fluent_syntax_names.specs.Spelled.{Text, nameless, message_name, term_name}
 use Rattle.fluent_syntax_names.specs.Findings.{gathered}
 use Rattle.fluent_syntax_names.specs.Mentions.{Mentions}
 use Rattle.fluent_syntax_names.specs.Spelled.{spelled, spelled_attribute, spelled_value, spelled_variable}

@@ -1,3 +1,5 @@
+pub mod Circles
+pub mod Drawings
 pub mod Findings
 pub mod Lacks
 pub mod Mentions

@@ -12,6 +12,7 @@ severity_of kind.UndefinedMessage = Error
 severity_of kind.UndefinedTerm = Error
 severity_of kind.UndefinedAttribute = Error
 severity_of kind.UndefinedValue = Error
+severity_of kind.CyclicReference = Error
 
 -- as a command line has it
 abbrev pub name_of : Kind → List ℕ
@@ -21,3 +22,4 @@ name_of kind.UndefinedMessage = codes "undefined-message"
 name_of kind.UndefinedTerm = codes "undefined-term"
 name_of kind.UndefinedAttribute = codes "undefined-attribute"
 name_of kind.UndefinedValue = codes "undefined-value"
+name_of kind.CyclicReference = codes "cyclic-reference"

@@ -1,8 +1,23 @@
 -- How the names of entries and of attributes are spelled.
-use Rattle.std.specs.Prelude.{ℕ, ◌&&◌, nat_le, List, [], ◌∷◌, ◌++◌, length, slice_range, if◌then◌else◌}
+use Rattle.std.specs.Prelude.{ℕ, ◌&&◌, nat_le, List, [], ◌∷◌, ◌++◌, length, slice_range, if◌then◌else◌, true, false}
+use Rattle.std.specs.Prelude.{Option, Some, None}
 use Rattle.fluent_syntax_tree.specs.Bytes.{hyphen, full_stop, equals_sign, dollar_sign, greater_than}
 use Rattle.fluent_syntax_tree.specs.declared.spans.Span.{Span}
 use Rattle.fluent_syntax_names.specs.declared.spelled.EntryName.{EntryName}
+use Rattle.fluent_syntax_names.specs.declared.spelled.PatternName.{PatternName}
+
+abbrev pub Text : Type 0
+Text = List ℕ
+
+abbrev pub message_name : Span → EntryName
+message_name x = record { is_term = false; name = x }
+
+abbrev pub term_name : Span → EntryName
+term_name x = record { is_term = true; name = x }
+
+-- before any entry
+abbrev pub nameless : EntryName
+nameless = message_name (record { start = 0; end = 0 })
 
 -- the bytes of a range of the text; none where it reaches beyond the text
 abbrev pub name_at : List ℕ → Span → List ℕ
@@ -17,7 +32,7 @@ spelled text entry = (if entry.is_term then hyphen ∷ [] else []) ++ name_at te
 abbrev pub spelled_attribute : List ℕ → EntryName → Span → List ℕ
 spelled_attribute text entry attribute = (spelled text entry ++ full_stop ∷ []) ++ name_at text attribute
 
--- `name=`, the value of a message
+-- `name=`, the value of a message, and of a term `-name=`
 abbrev pub spelled_value : List ℕ → EntryName → List ℕ
 spelled_value text message = spelled text message ++ equals_sign ∷ []
 
@@ -32,3 +47,11 @@ spelled_references text entry = spelled text entry ++ greater_than ∷ []
 -- `name>other`, that an entry refers to another, or to an attribute of it
 abbrev pub spelled_reference : List ℕ → EntryName → EntryName → List ℕ
 spelled_reference text entry other = spelled_references text entry ++ spelled text other
+
+abbrev pub spelled_part : List ℕ → EntryName → Option Span → List ℕ
+spelled_part text entry None = spelled_value text entry
+spelled_part text entry (Some attribute) = spelled_attribute text entry attribute
+
+-- a pattern: the value of an entry, or an attribute of it
+abbrev pub spelled_pattern : List ℕ → PatternName → List ℕ
+spelled_pattern text pattern = spelled_part text pattern.entry pattern.attribute

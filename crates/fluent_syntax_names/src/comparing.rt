@@ -1,6 +1,7 @@
 //! What one file says and another lacks.
 ghost use Rattle.std.specs.Prelude.{◌≡◌, [], OnOk, IfOk};
-ghost use Rattle.fluent_syntax_names.specs.Findings.{nameless, put};
+ghost use Rattle.fluent_syntax_names.specs.Findings.{put};
+ghost use Rattle.fluent_syntax_names.specs.Spelled.{nameless};
 ghost use Rattle.fluent_syntax_names.specs.Lacks.{lacks_in, all_lacks, AddsLacks};
 ghost use Rattle.fluent_syntax_names.specs.Places.{place_of};
 ghost use Rattle.fluent_syntax_names.specs.Tables.{other_by};

@@ -1,6 +1,7 @@
 //! What a set of files defines.
 ghost use Rattle.std.specs.Prelude.{◌≡◌, true, false, Some, OnOk};
-ghost use Rattle.fluent_syntax_names.specs.Findings.{nameless, owner_after, defines, defined_in, put, message_defines};
+ghost use Rattle.fluent_syntax_names.specs.Findings.{owner_after, defines, defined_in, put, message_defines};
+ghost use Rattle.fluent_syntax_names.specs.Spelled.{nameless};
 ghost use Rattle.fluent_syntax_names.specs.Places.{place_of};
 ghost use Rattle.fluent_syntax_names.specs.Spelled.{spelled, spelled_attribute, spelled_value};
 ghost use Rattle.fluent_syntax_names.specs.Tables.{NotesNames};

@@ -1,10 +1,13 @@
 //! All that is found in a set of files.
-ghost use Rattle.std.specs.Prelude.{◌≡◌, ℕ, List, [], None, OnOk, IfOk};
+ghost use Rattle.std.specs.Prelude.{◌≡◌, ◌↔◌, ℕ, List, [], None, OnOk, IfOk, IsTrue};
+ghost use Rattle.fluent_syntax_names.specs.Circles.{Reaches, links, no_pattern, reaches};
+ghost use Rattle.fluent_syntax_names.specs.Drawings.{set_by};
 ghost use Rattle.fluent_syntax_names.specs.Findings.{nothing, found_in, found_from, all_findings, put};
 ghost use Rattle.fluent_syntax_names.specs.Findings.{is_defined};
 ghost use Rattle.fluent_syntax_names.specs.Places.{place_of};
 ghost use Rattle.fluent_syntax_names.specs.Tables.{AddsFindings, has_name};
 
+use crate::circles::{Circles, circles_of};
 use crate::definitions::note_definitions;
 use crate::finding::Finding;
 use crate::found::Here;
@@ -12,6 +15,7 @@ use crate::mention::Mention;
 use crate::noted::Noted;
 use crate::outline::Outline;
 use crate::places::Places;
+use crate::referring::{NO_PATTERN, pattern_after};
 use fluent_syntax_tree::spans::Span;
 use std::alloc::{AllocError, Global};
 
@@ -19,15 +23,19 @@ use std::alloc::{AllocError, Global};
 ///
 /// - A name that a file defines twice, or an attribute that an entry has twice: at each place but the first.
 /// - A reference to a message or a term that no file defines, or to an attribute or a value that none has.
+/// - A reference that comes back: what it refers to reaches the pattern that it stands in.
 ///
-/// Takes the memory of tables of all names, and of the list; `AllocError` where there is none. The time is that of
-/// looking each name up in a sorted table.
+/// Takes the memory of tables of all names and references, and of the list; `AllocError` where there is none. The time
+/// is that of looking each name up in a sorted table.
 pub fn findings(alloc: Global, files: &[Outline<'_>]) -> Result<Vec<Finding>, AllocError>
-    ensures { IfOk result (λ list. list.items ≡ all_findings files.now) }
+    ensures findings { IfOk result (λ list. list.items ≡ all_findings files.now) }
+    ensures reached { (from to : List ℕ) →
+        IsTrue (reaches (links files.now) from to) ↔ Reaches (links files.now) from to }
 {
     let mut defined = Places::new(alloc);
     note_files(alloc, &mut defined, files)?;
-    found_in_files(alloc, &defined, files)
+    let circles = circles_of(alloc, files)?;
+    found_in_files(alloc, &defined, &circles, files)
 }
 
 /// Notes all names that the files define.
@@ -41,20 +49,22 @@ fn note_files(alloc: Global, table: &mut Places, files: &[Outline<'_>]) -> Resul
     Ok(())
 }
 
-/// What is found in each file, where the table has all names that they define.
+/// What is found in each file, where all names that they define and all references that come back are known.
 fn found_in_files(
     alloc: Global,
     defined: &Places,
+    circles: &Circles,
     files: &[Outline<'_>],
 ) -> Result<Vec<Finding>, AllocError>
     ensures { IfOk result (λ list.
-        list.items ≡ found_from (has_name (place_of defined.now.table)) 0 files.now []) }
+        list.items ≡ found_from (set_by (place_of defined.now.table) circles.now) 0 files.now []) }
 {
     let mut list = Vec::new(alloc);
     for (number, file) in files.iter().enumerate() {
         let here = Here {
             alloc,
             defined,
+            circles,
             file: number,
             text: file.text,
         };
@@ -70,14 +80,18 @@ fn add_found(
     list: &mut Vec<Finding>,
 ) -> Result<(), AllocError>
     ensures { OnOk result (AddsFindings list.old.items list.new.items
-        (found_in (has_name (place_of here.now.defined.now.table)) here.now.file here.now.text.now nothing
-        mentions.now)) }
+        (found_in (set_by (place_of here.now.defined.now.table) here.now.circles.now) here.now.file
+        here.now.text.now nothing no_pattern mentions.now)) }
 {
     let mut noted = Noted::new(here.alloc);
+    let mut pattern = NO_PATTERN;
     for mention in mentions {
         let finding = here.found(&noted, mention)?;
         add_finding(list, finding)?;
+        let circle = here.circle(pattern, mention)?;
+        add_finding(list, circle)?;
         noted.note(here.alloc, here.text, mention)?;
+        pattern = pattern_after(pattern, mention);
     }
     Ok(())
 }

@@ -39,6 +39,8 @@ pub enum Kind {
     UndefinedAttribute,
     /// A file defines the message that is referred to, and none with a value.
     UndefinedValue,
+    /// What is referred to reaches the pattern that refers to it.
+    CyclicReference,
 }
 
 /// How grave a finding is.
@@ -59,6 +61,7 @@ impl Kind {
             Kind::DefinedTwice | Kind::AttributeTwice => Severity::Error,
             Kind::UndefinedMessage | Kind::UndefinedTerm => Severity::Error,
             Kind::UndefinedAttribute | Kind::UndefinedValue => Severity::Error,
+            Kind::CyclicReference => Severity::Error,
         }
     }
 
@@ -73,6 +76,7 @@ impl Kind {
             Kind::UndefinedTerm => "undefined-term",
             Kind::UndefinedAttribute => "undefined-attribute",
             Kind::UndefinedValue => "undefined-value",
+            Kind::CyclicReference => "cyclic-reference",
         }
     }
 }

@@ -1,25 +1,33 @@
 //! What is found at a mention.
-ghost use Rattle.std.specs.Prelude.{◌≡◌, IfOk};
-ghost use Rattle.fluent_syntax_names.specs.Findings.{found, twice, undefined, undefined_attribute, finding_at};
+ghost use Rattle.std.specs.Prelude.{◌≡◌, IfOk, Some};
+ghost use Rattle.fluent_syntax_names.specs.Drawings.{same_part};
+ghost use Rattle.fluent_syntax_names.specs.Findings.{circle, circle_to, found, twice, undefined, undefined_attribute};
+ghost use Rattle.fluent_syntax_names.specs.Findings.{finding_at};
 ghost use Rattle.fluent_syntax_names.specs.Findings.{undefined_part, undefined_value};
 ghost use Rattle.fluent_syntax_names.specs.Places.{place_of};
 ghost use Rattle.fluent_syntax_names.specs.Spelled.{spelled, spelled_attribute, spelled_value};
 ghost use Rattle.fluent_syntax_names.specs.Tables.{has_name};
 
+use crate::circles::Circles;
 use crate::definitions::{message_name, term_name};
 use crate::finding::{Finding, Kind, Place};
 use crate::mention::Mention;
 use crate::noted::Noted;
 use crate::places::Places;
-use crate::spelled::{EntryName, name_at, spelled, spelled_attribute, spelled_value};
+use crate::referring::referred;
+use crate::spelled::{
+    EntryName, PatternName, name_at, spelled, spelled_attribute, spelled_pattern, spelled_value,
+};
 use fluent_syntax_tree::spans::Span;
 use std::alloc::{AllocError, Global};
 
-/// A file as its findings are made: what all files define, its number and its text.
+/// A file as its findings are made: what all files define, which of their references come back, its number and its
+/// text.
 #[derive(Clone, Copy)]
 pub(crate) struct Here<'a> {
     pub(crate) alloc: Global,
     pub(crate) defined: &'a Places,
+    pub(crate) circles: &'a Circles,
     pub(crate) file: usize,
     pub(crate) text: &'a str,
 }
@@ -51,6 +59,39 @@ impl Here<'_> {
             }
             _ => Ok(None),
         }
+    }
+
+    /// What is found at the mention, where it stands in the pattern and comes back to it.
+    pub(crate) fn circle(
+        &self,
+        pattern: PatternName,
+        mention: &Mention<Span>,
+    ) -> Result<Option<Finding>, AllocError>
+        ensures { IfOk result (λ finding.
+            finding ≡ circle (same_part self.now.circles.now) self.now.file self.now.text.now pattern mention.now) }
+    {
+        match referred(mention) {
+            Some(target) => self.circle_to(pattern, target),
+            None => Ok(None),
+        }
+    }
+
+    fn circle_to(
+        &self,
+        pattern: PatternName,
+        target: PatternName,
+    ) -> Result<Option<Finding>, AllocError>
+        ensures { IfOk result (λ finding.
+            finding ≡ circle_to (same_part self.now.circles.now) self.now.file self.now.text.now pattern
+            (Some target)) }
+    {
+        let from = spelled_pattern(self.alloc, self.text, pattern)?;
+        let to = spelled_pattern(self.alloc, self.text, target)?;
+        if self.circles.comes_back(&from, &to) {
+            let name = target.entry.name;
+            return Ok(Some(self.finding_at(Kind::CyclicReference, name, None)));
+        }
+        Ok(None)
     }
 
     fn entry_twice(&self, noted: &Noted, entry: EntryName) -> Result<Option<Finding>, AllocError>

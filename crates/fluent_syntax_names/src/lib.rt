@@ -3,8 +3,10 @@
 #![tactic(auto)]
 
 mod beside;
+mod circles;
 mod comparing;
 mod definitions;
+mod drawing;
 mod entries;
 mod files;
 mod finding;
@@ -12,9 +14,11 @@ mod found;
 mod lack;
 mod mention;
 mod noted;
+mod numbers;
 mod outline;
 mod patterns;
 mod places;
+mod referring;
 mod spelled;
 mod uses;
 

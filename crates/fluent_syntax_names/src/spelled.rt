@@ -2,6 +2,7 @@
 ghost use Rattle.std.specs.Prelude.{◌≡◌, IfOk};
 ghost use Rattle.fluent_syntax_names.specs.Spelled.{name_at, spelled, spelled_attribute, spelled_value};
 ghost use Rattle.fluent_syntax_names.specs.Spelled.{spelled_variable, spelled_reference, spelled_references};
+ghost use Rattle.fluent_syntax_names.specs.Spelled.{spelled_pattern};
 
 use fluent_syntax_tree::spans::Span;
 use std::alloc::{AllocError, Global};
@@ -13,6 +14,14 @@ pub(crate) struct EntryName {
     pub(crate) is_term: bool,
     /// Where it stands, without the `-` of a term.
     pub(crate) name: Span,
+}
+
+/// The pattern that a name stands for: the value of an entry, or an attribute of it.
+#[derive(Clone, Copy)]
+pub(crate) struct PatternName {
+    pub(crate) entry: EntryName,
+    /// The name of the attribute, if it isn't the value.
+    pub(crate) attribute: Option<Span>,
 }
 
 /// The bytes of a range of the text; none where it reaches beyond the text.
@@ -54,7 +63,7 @@ pub(crate) fn spelled_attribute(
     Ok(bytes)
 }
 
-/// The name of a message with a `=` behind it, which stands for its value.
+/// The name of an entry with a `=` behind it, which stands for its value.
 pub(crate) fn spelled_value(
     alloc: Global,
     text: &str,
@@ -108,4 +117,18 @@ pub(crate) fn spelled_reference(
     let other = spelled(alloc, text, other)?;
     bytes.extend_from_slice(&other)?;
     Ok(bytes)
+}
+
+/// The name of a pattern: that of the value, or of the attribute.
+pub(crate) fn spelled_pattern(
+    alloc: Global,
+    text: &str,
+    pattern: PatternName,
+) -> Result<Vec<u8>, AllocError>
+    ensures { IfOk result (λ bytes. bytes.items ≡ spelled_pattern text.now pattern) }
+{
+    match pattern.attribute {
+        Some(attribute) => spelled_attribute(alloc, text, pattern.entry, attribute),
+        None => spelled_value(alloc, text, pattern.entry),
+    }
 }

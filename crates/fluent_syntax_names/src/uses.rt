@@ -1,6 +1,7 @@
 //! What the entries of a file use.
 ghost use Rattle.std.specs.Prelude.{◌≡◌, Some, OnOk};
-ghost use Rattle.fluent_syntax_names.specs.Findings.{nameless, message_name, put};
+ghost use Rattle.fluent_syntax_names.specs.Findings.{put};
+ghost use Rattle.fluent_syntax_names.specs.Spelled.{nameless, message_name};
 ghost use Rattle.fluent_syntax_names.specs.Lacks.{uses, used_in};
 ghost use Rattle.fluent_syntax_names.specs.Places.{place_of};
 ghost use Rattle.fluent_syntax_names.specs.Spelled.{spelled_reference, spelled_references, spelled_variable};

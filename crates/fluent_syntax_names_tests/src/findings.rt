@@ -10,7 +10,7 @@ use std::test::Fail;
 
 /// What is shown, two files, and what is found: each with its kind, its file, its name and where that begins, and where
 /// the other place begins.
-type Row = (&'static str, &'static str, &'static str, &'static str);
+pub(crate) type Row = (&'static str, &'static str, &'static str, &'static str);
 
 const ROWS: [Row; 27] = [
     ("nothing", "", "", ""),
@@ -183,7 +183,8 @@ fn push_finding(out: &mut String, files: &[Outline<'_>], finding: &Finding) -> R
     Ok(())
 }
 
-fn assert_found(alloc: Global, row: &Row) -> Result<(), Fail> {
+/// That this is found.
+pub(crate) fn assert_found(alloc: Global, row: &Row) -> Result<(), Fail> {
     let (shows, first, second, expected) = row;
     let mut files = Vec::new(alloc);
     files.push(outline(alloc, *first)?)?;
@@ -208,4 +209,5 @@ fn severities(rt: HostRuntime) {
     assert_eq!(rt; Kind::DefinedTwice.severity(), Severity::Error);
     assert_eq!(rt; Kind::UndefinedAttribute.severity(), Severity::Error);
     assert_eq!(rt; Kind::UndefinedValue.severity(), Severity::Error);
+    assert_eq!(rt; Kind::CyclicReference.severity(), Severity::Error);
 }

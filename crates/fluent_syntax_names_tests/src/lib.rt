@@ -2,8 +2,12 @@
 #![tactic(auto)]
 
 #[cfg(test)]
+mod circles;
+#[cfg(test)]
 mod entries;
 #[cfg(test)]
 mod findings;
+#[cfg(test)]
+mod graphs;
 #[cfg(test)]
 mod lacks;

@@ -1,13 +1,13 @@
 -- The entry that a place has, by its first byte.
 use Rattle.std.proofs.Common.{◌≡◌, ℕ, List, Option, Some, None, true, false, refl}
-use Rattle.std.specs.Prelude.{slice_get, ◌==◌}
+use Rattle.std.specs.Prelude.{slice_get, ◌==◌, Result, Ok, Err}
 use Rattle.fluent_syntax_tree.specs.Entry.{EntryTree}
 use Rattle.fluent_syntax_tree.specs.declared.edition.Edition.{Edition}
 use Rattle.fluent_syntax_tree.specs.declared.spans.Span.{Span}
 use Rattle.fluent_syntax_grammar.specs.Body.{hung}
 use Rattle.fluent_syntax_grammar.specs.Bytes.{hash, hyphen}
 use Rattle.fluent_syntax_grammar.specs.Comments.{comment_entry}
-use Rattle.fluent_syntax_grammar.specs.Construct.{Outcome, Read, goes_on, chosen, first, second}
+use Rattle.fluent_syntax_grammar.specs.Construct.{Construct, Outcome, Read, goes_on, chosen, first, second}
 use Rattle.fluent_syntax_grammar.specs.Entries.{message_of, term_of}
 use Rattle.fluent_syntax_grammar.specs.Family.{Family}
 use Rattle.fluent_syntax_grammar.specs.Grammar.{family}
@@ -15,9 +15,18 @@ use Rattle.fluent_syntax_grammar.specs.Places.{holds, has_byte}
 use Rattle.fluent_syntax_grammar.specs.Tiling.{entry_at, entry_in, entry_of}
 use Rattle.fluent_syntax_grammar.proofs.Facts.{differs}
 use Rattle.fluent_syntax_grammar.proofs.Holds.{gave}
+use Rattle.fluent_syntax_parser.specs.Made.{Makes, made}
 use Rattle.fluent_syntax_parser.specs.Meets.{Fails}
 use Rattle.fluent_syntax_parser.specs.declared.fault.ReadFault.{ReadFault}
 use Rattle.fluent_syntax_parser.proofs.Fails.{fails_as}
+use Rattle.fluent_syntax_parser.proofs.Made.{on_made}
+
+-- what was made of a construct, as of one with the same outcomes there
+pub makes_as : {A B X : Type 0} {t : List ℕ} (f : A → B) {c d : Construct A} (view : X → B) {i : ℕ} →
+    ((o : Outcome A) → c i o → d i o) → ((e : ReadFault) → Fails t c i e → Fails t d i e) →
+    (r : Result (X × ℕ) ReadFault) → Makes t f c view i r → Makes t f d view i r
+makes_as f view read fails (Ok x) h = on_made h (λ a there same. made (read _ there) same)
+makes_as f view read fails (Err e) h = fails e h
 
 module _ (edition : Edition) (t : List ℕ) (R : Family) (i : ℕ) (o : Outcome (EntryTree Span)) where
   comment_of_byte : (here : Option ℕ) → holds (λ b. b == hash) here ≡ true → comment_entry t i o →
@@ -49,7 +58,7 @@ module _ (edition : Edition) (t : List ℕ) (R : Family) (i : ℕ) (o : Outcome 
 -- ---- and the other way round
 
 module _ (edition : Edition) (t : List ℕ) (R : Family) (i : ℕ) (o : Outcome (EntryTree Span)) where
-  of_hash : (here : Option ℕ) → holds (λ b. b == hash) here ≡ true → entry_of edition t R here i o →
+  pub of_hash : (here : Option ℕ) → holds (λ b. b == hash) here ≡ true → entry_of edition t R here i o →
       comment_entry t i o
   of_hash None there x = cc
   of_hash (Some b) there (first f x) = x

@@ -45,7 +45,7 @@ module _ (t : List ℕ) where
   ascend_in_text from (f ∷ fs) up = let after = ascend_in_text f.slice.end fs up.4 in omega (arith, up.0, up.1)
 
   -- errors that tell of faults which ascend begin within the text
-  told_in_text : (from : ℕ) (errors : List ParserError) (fs : List Fault) →
+  pub told_in_text : (from : ℕ) (errors : List ParserError) (fs : List Fault) →
       map fault_of errors ≡ map Some fs → Ascend t from fs → All (λ e. e.pos.start ≤ length t) errors
   told_in_text from [] fs told up = All-nil (λ e. e.pos.start ≤ length t)
   told_in_text from (e ∷ errors) [] told up = absurd cc

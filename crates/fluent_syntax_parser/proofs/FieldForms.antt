@@ -1,14 +1,11 @@
 -- Messages and terms, by what stands behind their names.
-use Rattle.std.proofs.Common.{◌≡◌, ℕ, true, false, List, [], ◌∷◌, Option, Some, None, map, refl, length, arith}
+use Rattle.std.proofs.Common.{◌≡◌, ℕ, true, false, List, [], ◌∷◌, Option, Some, None, map, ap, refl, length, arith}
 use Rattle.std.specs.Prelude.{option_map, is_some, ◌==◌}
 use Rattle.std.proofs.lemmas.Bool.Decides.{nat_tests}
 use Rattle.fluent_syntax_tree.specs.Kind.{Kind, ExpectedMessageField}
 use Rattle.fluent_syntax_tree.specs.Entry.{AttributeTree, EntryTree, message}
 use Rattle.fluent_syntax_tree.specs.Spans.{bytes_at}
 use Rattle.fluent_syntax_tree.specs.Tree.{PatternTree}
-use Rattle.fluent_syntax_tree.specs.View.{attribute_view, pattern_view}
-use Rattle.fluent_syntax_tree.specs.declared.ast.Attribute.{Attribute}
-use Rattle.fluent_syntax_tree.specs.declared.ast.Pattern.{Pattern}
 use Rattle.fluent_syntax_tree.specs.declared.edition.Edition.{Edition}
 use Rattle.fluent_syntax_tree.specs.declared.spans.Span.{Span}
 use Rattle.fluent_syntax_grammar.specs.Bytes.{equals_sign}
@@ -35,7 +32,7 @@ module _ (edition : Edition) (t : List ℕ) (R : Family)
     rest ← attributes_of edition t R
     last value rest
 
-  pub fields_then : (i j : ℕ) (f : FieldTrees) (o : Outcome (EntryTree Span)) → fields edition t R i (Read f j) →
+  pub fields_then : (i j : ℕ) (f : FieldTrees Span) (o : Outcome (EntryTree Span)) → fields edition t R i (Read f j) →
       last f.0 f.1 j o → BehindName i o
   fields_then i j f o (goes_on blank (goes_on equals (goes_on value (goes_on block (goes_on rest given))))) end =
       goes_on blank (goes_on equals (goes_on value (goes_on block (goes_on rest end))))
@@ -72,32 +69,55 @@ module _ (edition : Edition) (t : List ℕ) (R : Family)
 -- ---- the last part of a message
 
 module _ (t : List ℕ) (start j : ℕ) (id : Span) where
-  pub message_without : (v : Option (Pattern Span)) (rest : List (Attribute Span)) → is_some v ≡ false → rest ≡ [] →
-      message_with t start id (option_map (pattern_view (λ s. s)) v) (map (attribute_view (λ s. s)) rest) j
-      (Refused (ExpectedMessageField (bytes_at t id)) start j)
+  pub message_without : (v : Option (PatternTree Span)) (rest : List (AttributeTree Span)) → is_some v ≡ false →
+      rest ≡ [] → message_with t start id v rest j (Refused (ExpectedMessageField (bytes_at t id)) start j)
   message_without None rest none empty = rw empty failed_from
   message_without (Some v) rest none empty = cc
 
-  abbrev MessageOf : Option (Pattern Span) → List (Attribute Span) → Type 0
+  abbrev MessageOf : Option (PatternTree Span) → List (AttributeTree Span) → Type 0
   MessageOf v rest =
-      message_with t start id (option_map (pattern_view (λ s. s)) v) (map (attribute_view (λ s. s)) rest) j
-      (Read (message (record {
-        id = id;
-        value = option_map (pattern_view (λ s. s)) v;
-        attributes = map (attribute_view (λ s. s)) rest;
-        comment = None;
-      })) j)
+      message_with t start id v rest j
+      (Read (message (record { id = id; value = v; attributes = rest; comment = None })) j)
 
-  pub message_of_value : (v : Option (Pattern Span)) (rest : List (Attribute Span)) → is_some v ≡ true →
+  pub message_of_value : (v : Option (PatternTree Span)) (rest : List (AttributeTree Span)) → is_some v ≡ true →
       MessageOf v rest
   message_of_value None rest some = cc
   message_of_value (Some v) rest some = given
 
-  pub message_of_attributes : (v : Option (Pattern Span)) (rest : List (Attribute Span)) → (rest ≡ [] → ⊥) →
+  pub message_of_attributes : (v : Option (PatternTree Span)) (rest : List (AttributeTree Span)) → (rest ≡ [] → ⊥) →
       MessageOf v rest
   message_of_attributes v [] some = absurd (some refl)
   message_of_attributes None (a ∷ rest) some = given
   message_of_attributes (Some v) (a ∷ rest) some = given
+
+-- ---- whether there is a value, and whether there are attributes
+
+pub is_some_of : {A B C : Type 0} (f : A → C) (g : B → C) (o : Option A) (p : Option B) →
+    option_map f o ≡ option_map g p → is_some p ≡ is_some o
+is_some_of f g None None e = refl
+is_some_of f g None (Some y) e = cc
+is_some_of f g (Some x) None e = cc
+is_some_of f g (Some x) (Some y) e = refl
+
+pub none_of : {A B C : Type 0} (f : A → C) (g : B → C) (xs : List A) (ys : List B) → map f xs ≡ map g ys → xs ≡ [] →
+    ys ≡ []
+none_of f g [] [] e h = refl
+none_of f g [] (y ∷ ys) e h = cc
+none_of f g (x ∷ xs) ys e h = cc
+
+abbrev or : {B : Type 0} → B → Option B → B
+or b None = b
+or b (Some c) = c
+
+module _ {A B C : Type 0} (g : A → C) (c : Construct (Option A × List B)) {i j : ℕ} where
+  pub some_field : {G : Type 0} {b : C} (x : Option A × List B) → c i (Read x j) → Some b ≡ option_map g x.0 →
+      ((a : A) → c i (Read (Some a, x.1) j) → b ≡ g a → G) → G
+  some_field (None, rest) h e k = cc
+  some_field {b = b} (Some a, rest) h e k = k a h (ap (or b) e)
+
+  pub no_field : (x : Option A × List B) → c i (Read x j) → None ≡ option_map g x.0 → c i (Read (None, x.1) j)
+  no_field (None, rest) h e = h
+  no_field (Some a, rest) h e = cc
 
 pub no_items : {X : Type 0} (xs : List X) (n : ℕ) → length xs ≡ n → true ≡ (n == 0) → xs ≡ []
 no_items [] n e h = refl

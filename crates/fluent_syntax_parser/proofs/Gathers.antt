@@ -1,32 +1,40 @@
 -- Lists that a loop gathers: what the construct gives from here on, it gives from the start on, behind what was
 -- gathered.
-use Rattle.std.proofs.Common.{◌≡◌, ℕ, List, [], ◌∷◌, ◌++◌, map, refl, ap}
-use Rattle.fluent_syntax_tree.specs.Kind.{Kind}
-use Rattle.fluent_syntax_grammar.specs.Construct.{Construct, Read, Refused}
+use Rattle.std.proofs.Common.{◌≡◌, ℕ, List, [], ◌∷◌, ◌++◌, append_assoc, map, refl, sym, ap, ◌∙◌}
+use Rattle.std.proofs.lemmas.List.{map-append}
+use Rattle.fluent_syntax_grammar.specs.Construct.{Construct, Read}
 use Rattle.fluent_syntax_grammar.proofs.Facts.{append_nothing}
+use Rattle.fluent_syntax_parser.specs.Made.{IsMade, made}
 
 pub map_more : {A X : Type 0} (v : X → A) (xs : List X) (x : X) (more : List A) →
     map v (xs ++ x ∷ []) ++ more ≡ map v xs ++ (v x ∷ more)
 map_more v [] x more = refl
 map_more v (y ∷ xs) x more = ap (λ zs. v y ∷ zs) (map_more v xs x more)
 
-pub record Gathers {A X : Type 0} (c : Construct (List A)) (v : X → A) (i : ℕ) (xs : List X) (j : ℕ) : Type 0 where
-  pub read : (more : List A) (end : ℕ) → c j (Read more end) → c i (Read (map v xs ++ more) end)
-  pub refused : (k : Kind) (from to : ℕ) → c j (Refused k from to) → c i (Refused k from to)
+-- What was gathered stands for what was read, with f of each text in its place.
+pub record MadeList {A B X : Type 0} (c : Construct (List A)) (f : A → B) (v : X → B) (i : ℕ) (xs : List X) (j : ℕ) :
+    Type 0 where
+  pub items : List A
+  pub same : map v xs ≡ map f items
+  pub read : (more : List A) (end : ℕ) → c j (Read more end) → c i (Read (items ++ more) end)
 
-module _ {A X : Type 0} (c : Construct (List A)) (v : X → A) (i : ℕ) where
-  pub none : Gathers c v i [] i
-  none = record { read = λ more end h. h; refused = λ k from to h. h }
+module _ {A B X : Type 0} (c : Construct (List A)) (f : A → B) (v : X → B) (i : ℕ) where
+  pub no_list : MadeList c f v i [] i
+  no_list = record { items = []; same = refl; read = λ more end h. h }
 
   -- one more
-  pub one_more : (xs ys : List X) (x : X) (j m : ℕ) → ys ≡ xs ++ x ∷ [] → Gathers c v i xs j →
-      ((more : List A) (end : ℕ) → c m (Read more end) → c j (Read (v x ∷ more) end)) →
-      ((k : Kind) (from to : ℕ) → c m (Refused k from to) → c j (Refused k from to)) → Gathers c v i ys m
-  one_more xs ys x j m same g read refused = record {
-    read = λ more end h. rw (same, map_more v xs x more) (g.read (v x ∷ more) end (read more end h));
-    refused = λ k from to h. g.refused k from to (refused k from to h);
+  pub one_made : (xs ys : List X) (x : X) (j m : ℕ) → ys ≡ xs ++ x ∷ [] → MadeList c f v i xs j → (a : A) →
+      v x ≡ f a → ((more : List A) (end : ℕ) → c m (Read more end) → c j (Read (a ∷ more) end)) →
+      MadeList c f v i ys m
+  one_made xs ys x j m all g a same read = record {
+    items = g.items ++ a ∷ [];
+    same =
+        ap (map v) all ∙ map-append v xs (x ∷ []) ∙ ap (λ zs. zs ++ v x ∷ []) g.same
+        ∙ ap (λ z. map f g.items ++ z ∷ []) same ∙ sym (map-append f g.items (a ∷ []));
+    read = λ more end h. rw (append_assoc g.items (a ∷ []) more) (g.read (a ∷ more) end (read more end h));
   }
 
   -- the list ends
-  pub all : (xs : List X) (j end : ℕ) → Gathers c v i xs j → c j (Read [] end) → c i (Read (map v xs) end)
-  all xs j end g h = rw (← append_nothing (map v xs)) (g.read [] end h)
+  pub list_made : (xs : List X) (j end : ℕ) → MadeList c f v i xs j → c j (Read [] end) →
+      IsMade (map f) c i (map v xs) end
+  list_made xs j end g h = made (rw (← append_nothing g.items) (g.read [] end h)) g.same

@@ -8,6 +8,8 @@ pub mod CommentEntries
 pub mod Cut
 pub mod DeeperTiles
 pub mod EntryForms
+pub mod ExtentForms
+pub mod ExtentRanges
 pub mod ErrorPlaces
 pub mod Fails
 pub mod FieldForms

@@ -1,5 +1,8 @@
 -- A tree whose texts are left as they are is the same tree.
-use Rattle.std.proofs.Common.{◌≡◌, Option, Some, None, option_map, refl, ap}
+use Rattle.std.proofs.Common.{◌≡◌, List, [], ◌∷◌, map, Option, Some, None, option_map, refl, ap}
+use Rattle.std.proofs.lemmas.List.{map-id}
+use Rattle.fluent_syntax_tree.specs.Entry.{AttributeTree, EntryTree, attribute_map, comment, entry_map, junk, message}
+use Rattle.fluent_syntax_tree.specs.Entry.{term}
 use Rattle.fluent_syntax_tree.specs.Tree.{KeyTree, name_key, number_key, key_map, option_texts, ExpressionTree, select}
 use Rattle.fluent_syntax_tree.specs.Tree.{inline, InlineTree, string_literal, number_literal, function_reference}
 use Rattle.fluent_syntax_tree.specs.Tree.{message_reference, term_reference, variable_reference, inline_placeable}
@@ -68,3 +71,19 @@ mutual
 pub same_maybe_pattern : {X : Type 0} (o : Option (PatternTree X)) → option_map (pattern_map (λ x. x)) o ≡ o
 same_maybe_pattern None = refl
 same_maybe_pattern (Some p) = ap Some (same_pattern p)
+
+-- ---- entries
+
+same_attributes : {X : Type 0} (xs : List (AttributeTree X)) → map (attribute_map (λ x. x)) xs ≡ xs
+same_attributes [] = refl
+same_attributes (a ∷ xs) = rw (same_pattern a.value, same_attributes xs) refl
+
+same_comment : {X : Type 0} (o : Option (List X)) → option_map (map (λ x. x)) o ≡ o
+same_comment None = refl
+same_comment (Some xs) = ap Some (map-id xs)
+
+pub same_entry : {X : Type 0} (e : EntryTree X) → entry_map (λ x. x) e ≡ e
+same_entry (message m) = rw (same_maybe_pattern m.value, same_attributes m.attributes, same_comment m.comment) refl
+same_entry (term m) = rw (same_pattern m.value, same_attributes m.attributes, same_comment m.comment) refl
+same_entry (comment level lines) = ap (comment level) (map-id lines)
+same_entry (junk x) = refl

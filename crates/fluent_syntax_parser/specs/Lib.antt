@@ -2,6 +2,7 @@ pub mod Answers
 pub mod CommentLines
 pub mod Elements
 pub mod Endings
+pub mod Extents
 pub mod Faults
 pub mod Fields
 pub mod Gathered

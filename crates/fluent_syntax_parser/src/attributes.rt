@@ -1,76 +1,50 @@
 //! Attributes.
-ghost use Rattle.std.specs.Prelude.{◌-◌, ◌<◌, ◌≤◌, length, map, IfErr, IfOk};
+ghost use Rattle.std.specs.Prelude.{◌<◌, ◌≤◌, length, map, IfOk};
+ghost use Rattle.fluent_syntax_tree.specs.Entry.{attribute_map};
 ghost use Rattle.fluent_syntax_tree.specs.View.{attribute_view};
 ghost use Rattle.fluent_syntax_grammar.specs.Entries.{attribute_of, attributes_of};
 ghost use Rattle.fluent_syntax_grammar.specs.Grammar.{within};
-ghost use Rattle.fluent_syntax_parser.specs.Meets.{Meets};
+ghost use Rattle.fluent_syntax_parser.specs.Made.{Makes};
 
-use crate::fault::{Fault, ReadFault, Refusal};
+use crate::fault::ReadFault;
 use crate::reader::Reader;
-use crate::source::Source;
-use crate::texts::AsSpans;
-use fluent_syntax_tree::ast::{Attribute, Identifier};
-use fluent_syntax_tree::edition::Edition;
-use fluent_syntax_tree::spans::Span;
-use std::alloc::Global;
+use crate::texts::MakeTexts;
+use fluent_syntax_tree::ast::Attribute;
 
-impl<'s> Source<'s> {
+impl<'s, 't, M: MakeTexts> Reader<'s, 't, M> {
     pub(crate) fn get_attribute(
         &self,
-        alloc: Global,
-        edition: Edition,
         nesting: usize,
         ptr: usize,
-    ) -> Result<(Attribute<Span>, usize), ReadFault>
-        requires { ptr ≤ length self.now.bytes.now }
-        ensures meets { let t = self.now.bytes.now in
-            Meets t (attribute_of edition t (within edition t nesting)) (attribute_view (λ s. s)) ptr result }
-        ensures within { IfOk result (λ read. (ptr < read.1) × (read.1 ≤ length self.now.bytes.now)) }
+    ) -> Result<(Attribute<M::Text>, usize), ReadFault>
+        requires { ptr ≤ length self.now.source.bytes.now }
+        ensures meets { let t = self.now.source.bytes.now in
+            Makes t (attribute_map (M.source self.now.texts.now))
+            (attribute_of self.now.edition t (within self.now.edition t nesting)) (attribute_view M.made) ptr result }
+        ensures within { IfOk result (λ read. (ptr < read.1) × (read.1 ≤ length self.now.source.bytes.now)) }
     {
-        let dot = self.skip_blank_inline(ptr);
-        let start = self.expect_byte(b'.', dot)?;
-        let end = self.identifier_end(start)?;
-        let equals = self.skip_blank_inline(end);
-        let behind = self.expect_byte(b'=', equals)?;
-        let texts = AsSpans;
-        let reader = Reader {
-            source: *self,
-            alloc,
-            edition,
-            texts: &texts,
-        };
-        let (value, place) = reader.get_pattern(nesting, behind)?;
-        match value {
-            Some(value) => {
-                let name = Span { start, end };
-                let id = Identifier { name };
-                Ok((Attribute { id, value }, place))
-            }
-            None => Err(ReadFault::Refused(Refusal {
-                fault: Fault::Value,
-                place,
-            })),
-        }
+        let (extents, value) = self.attribute_parts(nesting, ptr)?;
+        let id = self.identifier(extents.name)?;
+        Ok((Attribute { id, value }, extents.span.end))
     }
 
     /// Reads the longest list of attributes. One that is refused ends it, where it would begin.
     pub(crate) fn get_attributes(
         &self,
-        alloc: Global,
-        edition: Edition,
         nesting: usize,
         ptr: usize,
-    ) -> Result<(Vec<Attribute<Span>>, usize), ReadFault>
-        requires { ptr ≤ length self.now.bytes.now }
-        ensures meets { let t = self.now.bytes.now in
-            Meets t (attributes_of edition t (within edition t nesting))
-            (λ found. map (attribute_view (λ s. s)) found.items) ptr result }
-        ensures within { IfOk result (λ read. (ptr ≤ read.1) × (read.1 ≤ length self.now.bytes.now)) }
+    ) -> Result<(Vec<Attribute<M::Text>>, usize), ReadFault>
+        requires { ptr ≤ length self.now.source.bytes.now }
+        ensures meets { let t = self.now.source.bytes.now in
+            Makes t (map (attribute_map (M.source self.now.texts.now)))
+            (attributes_of self.now.edition t (within self.now.edition t nesting))
+            (λ found. map (attribute_view M.made) found.items) ptr result }
+        ensures within { IfOk result (λ read. (ptr ≤ read.1) × (read.1 ≤ length self.now.source.bytes.now)) }
     {
-        let mut attributes = Vec::new(alloc);
+        let mut attributes = Vec::new(self.alloc);
         let mut place = ptr;
         loop {
-            match self.get_attribute(alloc, edition, nesting, place) {
+            match self.get_attribute(nesting, place) {
                 Ok((attribute, next)) => {
                     attributes.push(attribute)?;
                     place = next;

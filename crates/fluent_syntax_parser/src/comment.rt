@@ -1,53 +1,23 @@
 //! Comments.
-ghost use Rattle.std.specs.Prelude.{◌≡◌, ◌+◌, ◌++◌, ◌<◌, ◌≤◌, length, IfErr, IfOk, OnOk};
-ghost use Rattle.fluent_syntax_tree.specs.Entry.{comment};
+ghost use Rattle.std.specs.Prelude.{◌≡◌, ◌+◌, ◌++◌, ◌<◌, ◌≤◌, length, map, IfOk, OnOk};
+ghost use Rattle.fluent_syntax_tree.specs.Entry.{comment, entry_map};
 ghost use Rattle.fluent_syntax_tree.specs.View.{entry_view};
 ghost use Rattle.fluent_syntax_grammar.specs.Comments.{comment_entry, comment_line, comment_of, hashes, level_of};
 ghost use Rattle.fluent_syntax_parser.specs.CommentLines.{line_of};
-ghost use Rattle.fluent_syntax_parser.specs.Meets.{Answers, Meets};
+ghost use Rattle.fluent_syntax_parser.specs.Made.{Makes};
+ghost use Rattle.fluent_syntax_parser.specs.Meets.{Answers};
 
 use crate::fault::{ReadFault, Refusal};
+use crate::reader::Reader;
 use crate::source::Source;
+use crate::texts::MakeTexts;
 use fluent_syntax_tree::ast::{Comment, Entry};
 use fluent_syntax_tree::spans::Span;
-use std::alloc::{AllocError, Global};
-
-/// Adds a line, if there is one.
-fn add_line(content: &mut Vec<Span>, line: Option<Span>) -> Result<(), AllocError>
-    ensures { OnOk result (content.new.items ≡ content.old.items ++ line_of line) }
-{
-    if let Some(line) = line {
-        content.push(line)?;
-    }
-    Ok(())
-}
+use std::alloc::AllocError;
 
 impl<'s> Source<'s> {
-    /// Reads a comment: the longest run of comment lines of one level, which is the number of their leading `#`.
-    #[inline(never)]
-    pub(crate) fn get_comment(
-        &self,
-        alloc: Global,
-        ptr: usize,
-    ) -> Result<(Entry<Span>, usize), ReadFault>
-        requires within { ptr ≤ length self.now.bytes.now }
-        requires hash { 0 < hashes self.now.bytes.now ptr }
-        ensures meets { let t = self.now.bytes.now in Meets t (comment_entry t) (entry_view (λ s. s)) ptr result }
-        ensures within { IfOk result (λ read. (ptr < read.1) × (read.1 ≤ length self.now.bytes.now)) }
-    {
-        let level = self.comment_level(ptr);
-        let (content, end) = self.get_comment_content(alloc, level, ptr)?;
-        let comment = Comment { content };
-        let entry = match level {
-            1 => Entry::Comment(comment),
-            2 => Entry::GroupComment(comment),
-            _ => Entry::ResourceComment(comment),
-        };
-        Ok((entry, end))
-    }
-
     /// The number of `#` at a place, at most 3.
-    fn comment_level(&self, ptr: usize) -> usize
+    pub(crate) fn comment_level(&self, ptr: usize) -> usize
         requires { ptr ≤ length self.now.bytes.now }
         ensures level { result ≡ hashes self.now.bytes.now ptr }
         ensures within { ptr + result ≤ length self.now.bytes.now }
@@ -61,34 +31,6 @@ impl<'s> Source<'s> {
         } else {
             3
         }
-    }
-
-    /// The lines of a comment of that level. A line that is none, or of another level, ends them.
-    fn get_comment_content(
-        &self,
-        alloc: Global,
-        level: usize,
-        ptr: usize,
-    ) -> Result<(Vec<Span>, usize), ReadFault>
-        requires hash { 0 < level }
-        requires within { ptr + level ≤ length self.now.bytes.now }
-        ensures meets { let t = self.now.bytes.now in
-            Meets t (comment_of t level) (λ lines. comment (level_of level) lines.items) ptr result }
-        ensures within { IfOk result (λ read. (ptr < read.1) × (read.1 ≤ length self.now.bytes.now)) }
-    {
-        let (first, mut end) = self.get_comment_line(level, ptr)?;
-        let mut content = Vec::new(alloc);
-        add_line(&mut content, first)?;
-        while self.comment_level(end) == level {
-            match self.get_comment_line(level, end) {
-                Ok((line, next)) => {
-                    add_line(&mut content, line)?;
-                    end = next;
-                }
-                Err(_) => return Ok((content, end)),
-            }
-        }
-        Ok((content, end))
     }
 
     /// Reads a comment line of that level: after its hashes a line end, or a space, a text and perhaps a line end.
@@ -112,5 +54,67 @@ impl<'s> Source<'s> {
         let start = self.expect_byte(b' ', ptr)?;
         let end = self.line_end(start);
         Ok((Some(Span { start, end }), self.skip_eol(end)))
+    }
+}
+
+impl<'s, 't, M: MakeTexts> Reader<'s, 't, M> {
+    /// Reads a comment: the longest run of comment lines of one level, which is the number of their leading `#`.
+    #[inline(never)]
+    pub(crate) fn get_comment(&self, ptr: usize) -> Result<(Entry<M::Text>, usize), ReadFault>
+        requires within { ptr ≤ length self.now.source.bytes.now }
+        requires hash { 0 < hashes self.now.source.bytes.now ptr }
+        ensures meets { let t = self.now.source.bytes.now in
+            Makes t (entry_map (M.source self.now.texts.now)) (comment_entry t) (entry_view M.made) ptr result }
+        ensures within { IfOk result (λ read. (ptr < read.1) × (read.1 ≤ length self.now.source.bytes.now)) }
+    {
+        let level = self.source.comment_level(ptr);
+        let (content, end) = self.get_comment_content(level, ptr)?;
+        let comment = Comment { content };
+        let entry = match level {
+            1 => Entry::Comment(comment),
+            2 => Entry::GroupComment(comment),
+            _ => Entry::ResourceComment(comment),
+        };
+        Ok((entry, end))
+    }
+
+    /// Adds the text of a line, if there is one.
+    fn add_line(&self, content: &mut Vec<M::Text>, line: Option<Span>) -> Result<(), AllocError>
+        ensures { OnOk result (map M.made content.new.items
+            ≡ map M.made content.old.items ++ map (M.source self.now.texts.now) (line_of line)) }
+    {
+        if let Some(line) = line {
+            let text = self.text(line)?;
+            content.push(text)?;
+        }
+        Ok(())
+    }
+
+    /// The lines of a comment of that level. A line that is none, or of another level, ends them.
+    fn get_comment_content(
+        &self,
+        level: usize,
+        ptr: usize,
+    ) -> Result<(Vec<M::Text>, usize), ReadFault>
+        requires hash { 0 < level }
+        requires within { ptr + level ≤ length self.now.source.bytes.now }
+        ensures meets { let t = self.now.source.bytes.now in
+            Makes t (entry_map (M.source self.now.texts.now)) (comment_of t level)
+            (λ lines. comment (level_of level) (map M.made lines.items)) ptr result }
+        ensures within { IfOk result (λ read. (ptr < read.1) × (read.1 ≤ length self.now.source.bytes.now)) }
+    {
+        let (first, mut end) = self.source.get_comment_line(level, ptr)?;
+        let mut content = Vec::new(self.alloc);
+        self.add_line(&mut content, first)?;
+        while self.source.comment_level(end) == level {
+            match self.source.get_comment_line(level, end) {
+                Ok((line, next)) => {
+                    self.add_line(&mut content, line)?;
+                    end = next;
+                }
+                Err(_) => return Ok((content, end)),
+            }
+        }
+        Ok((content, end))
     }
 }

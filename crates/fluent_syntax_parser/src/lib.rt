@@ -13,6 +13,7 @@ pub mod entries;
 mod entry;
 mod error;
 mod expression;
+pub mod extents;
 pub mod fault;
 mod forms;
 mod indents;

@@ -1,73 +1,57 @@
 //! Messages and terms.
-ghost use Rattle.std.specs.Prelude.{◌-◌, ◌<◌, ◌≤◌, length, IfErr, IfOk};
-ghost use Rattle.fluent_syntax_tree.specs.Entry.{message, term};
+ghost use Rattle.std.specs.Prelude.{◌<◌, ◌≤◌, length, IfOk};
+ghost use Rattle.fluent_syntax_tree.specs.Entry.{entry_map, message, term};
 ghost use Rattle.fluent_syntax_tree.specs.View.{message_view, term_view};
 ghost use Rattle.fluent_syntax_grammar.specs.Entries.{message_of, term_of};
 ghost use Rattle.fluent_syntax_grammar.specs.Grammar.{within};
-ghost use Rattle.fluent_syntax_parser.specs.Fields.{fields, fields_view};
-ghost use Rattle.fluent_syntax_parser.specs.Meets.{Meets};
+ghost use Rattle.fluent_syntax_parser.specs.Fields.{fields, fields_map, fields_view};
+ghost use Rattle.fluent_syntax_parser.specs.Made.{Makes};
 
 use crate::fault::{Fault, ReadFault, Refusal};
 use crate::reader::Reader;
-use crate::source::Source;
-use crate::texts::AsSpans;
-use fluent_syntax_tree::ast::{Attribute, Identifier, Message, Pattern, Term};
-use fluent_syntax_tree::edition::Edition;
+use crate::texts::MakeTexts;
+use fluent_syntax_tree::ast::{Attribute, Message, Pattern, Term};
 use fluent_syntax_tree::spans::Span;
-use std::alloc::Global;
 
 /// What stands behind the name of a message or a term.
 #[derive(Drop)]
-pub(crate) struct Fields {
-    value: Option<Pattern<Span>>,
-    attributes: Vec<Attribute<Span>>,
+pub(crate) struct Fields<T> {
+    value: Option<Pattern<T>>,
+    attributes: Vec<Attribute<T>>,
 }
 
-impl<'s> Source<'s> {
+impl<'s, 't, M: MakeTexts> Reader<'s, 't, M> {
     /// Reads an inline blank, `=`, perhaps a pattern, a blank block and attributes.
-    fn get_fields(
-        &self,
-        alloc: Global,
-        edition: Edition,
-        nesting: usize,
-        ptr: usize,
-    ) -> Result<(Fields, usize), ReadFault>
-        requires { ptr ≤ length self.now.bytes.now }
-        ensures meets { let t = self.now.bytes.now in
-            Meets t (fields edition t (within edition t nesting)) fields_view ptr result }
-        ensures within { IfOk result (λ read. (ptr < read.1) × (read.1 ≤ length self.now.bytes.now)) }
+    fn get_fields(&self, nesting: usize, ptr: usize) -> Result<(Fields<M::Text>, usize), ReadFault>
+        requires { ptr ≤ length self.now.source.bytes.now }
+        ensures meets { let t = self.now.source.bytes.now in
+            Makes t (fields_map (M.source self.now.texts.now))
+            (fields self.now.edition t (within self.now.edition t nesting)) (fields_view M.made) ptr result }
+        ensures within { IfOk result (λ read. (ptr < read.1) × (read.1 ≤ length self.now.source.bytes.now)) }
     {
-        let equals = self.skip_blank_inline(ptr);
-        let start = self.expect_byte(b'=', equals)?;
-        let texts = AsSpans;
-        let reader = Reader {
-            source: *self,
-            alloc,
-            edition,
-            texts: &texts,
-        };
-        let (value, end) = reader.get_pattern(nesting, start)?;
-        let line = self.skip_blank_block(end);
-        let (attributes, place) = self.get_attributes(alloc, edition, nesting, line)?;
+        let equals = self.source.skip_blank_inline(ptr);
+        let start = self.source.expect_byte(b'=', equals)?;
+        let (value, end) = self.get_pattern(nesting, start)?;
+        let line = self.source.skip_blank_block(end);
+        let (attributes, place) = self.get_attributes(nesting, line)?;
         Ok((Fields { value, attributes }, place))
     }
 
     pub(crate) fn get_message(
         &self,
-        alloc: Global,
-        edition: Edition,
         nesting: usize,
         start: usize,
-    ) -> Result<(Message<Span>, usize), ReadFault>
-        requires { start ≤ length self.now.bytes.now }
-        ensures meets { let t = self.now.bytes.now in
-            Meets t (message_of edition t (within edition t nesting)) (λ m. message (message_view (λ s. s) m)) start
-            result }
-        ensures within { IfOk result (λ read. (start < read.1) × (read.1 ≤ length self.now.bytes.now)) }
+    ) -> Result<(Message<M::Text>, usize), ReadFault>
+        requires { start ≤ length self.now.source.bytes.now }
+        ensures meets { let t = self.now.source.bytes.now in
+            Makes t (entry_map (M.source self.now.texts.now))
+            (message_of self.now.edition t (within self.now.edition t nesting))
+            (λ m. message (message_view M.made m)) start result }
+        ensures within { IfOk result (λ read. (start < read.1) × (read.1 ≤ length self.now.source.bytes.now)) }
     {
-        let end = self.identifier_end(start)?;
+        let end = self.source.identifier_end(start)?;
         let name = Span { start, end };
-        let (fields, place) = self.get_fields(alloc, edition, nesting, end)?;
+        let (fields, place) = self.get_fields(nesting, end)?;
         let Fields { value, attributes } = fields;
         if value.is_none() && attributes.is_empty() {
             return Err(ReadFault::Refused(Refusal {
@@ -75,8 +59,9 @@ impl<'s> Source<'s> {
                 place,
             }));
         }
+        let id = self.identifier(name)?;
         let message = Message {
-            id: Identifier { name },
+            id,
             value,
             attributes,
             comment: None,
@@ -87,25 +72,26 @@ impl<'s> Source<'s> {
     #[inline(never)]
     pub(crate) fn get_term(
         &self,
-        alloc: Global,
-        edition: Edition,
         nesting: usize,
         start: usize,
-    ) -> Result<(Term<Span>, usize), ReadFault>
-        requires { start ≤ length self.now.bytes.now }
-        ensures meets { let t = self.now.bytes.now in
-            Meets t (term_of edition t (within edition t nesting)) (λ m. term (term_view (λ s. s) m)) start result }
-        ensures within { IfOk result (λ read. (start < read.1) × (read.1 ≤ length self.now.bytes.now)) }
+    ) -> Result<(Term<M::Text>, usize), ReadFault>
+        requires { start ≤ length self.now.source.bytes.now }
+        ensures meets { let t = self.now.source.bytes.now in
+            Makes t (entry_map (M.source self.now.texts.now))
+            (term_of self.now.edition t (within self.now.edition t nesting)) (λ m. term (term_view M.made m)) start
+            result }
+        ensures within { IfOk result (λ read. (start < read.1) × (read.1 ≤ length self.now.source.bytes.now)) }
     {
-        let letter = self.expect_byte(b'-', start)?;
-        let end = self.identifier_end(letter)?;
+        let letter = self.source.expect_byte(b'-', start)?;
+        let end = self.source.identifier_end(letter)?;
         let name = Span { start: letter, end };
-        let (fields, place) = self.get_fields(alloc, edition, nesting, end)?;
+        let (fields, place) = self.get_fields(nesting, end)?;
         let Fields { value, attributes } = fields;
         match value {
             Some(value) => {
+                let id = self.identifier(name)?;
                 let term = Term {
-                    id: Identifier { name },
+                    id,
                     value,
                     attributes,
                     comment: None,

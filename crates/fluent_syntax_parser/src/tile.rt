@@ -11,7 +11,9 @@ ghost use Rattle.fluent_syntax_parser.specs.Rest.{GivesTile, Hangs, may_hang, tr
 
 use crate::fault::ReadFault;
 use crate::options::{Halt, Options};
+use crate::reader::Reader;
 use crate::source::Source;
+use crate::texts::AsSpans;
 use fluent_syntax_tree::ast::{Comment, Entry, Message, Term};
 use fluent_syntax_tree::errors::ParserError;
 use fluent_syntax_tree::spans::Span;
@@ -65,7 +67,14 @@ impl<'s> Source<'s> {
             let R = within options.edition t options.nesting in
             IfErr result (OnHalt (TooDeep (entry_in options.edition t R) start)) }
     {
-        match self.get_entry(alloc, options, start) {
+        let texts = AsSpans;
+        let reader = Reader {
+            source: *self,
+            alloc,
+            edition: options.edition,
+            texts: &texts,
+        };
+        match reader.get_entry(options.nesting, start) {
             Ok((entry, end)) => Ok((entry, None, end)),
             Err(ReadFault::Refused(refusal)) => {
                 let end = self.next_entry_start(refusal.place);
@@ -104,7 +113,14 @@ impl<'s> Source<'s> {
         if self.is_byte_at(b'#', ptr) || self.skip_blank_block(ptr) != ptr {
             return Ok((Entry::Comment(comment), ptr));
         }
-        match self.get_entry(alloc, options, ptr) {
+        let texts = AsSpans;
+        let reader = Reader {
+            source: *self,
+            alloc,
+            edition: options.edition,
+            texts: &texts,
+        };
+        match reader.get_entry(options.nesting, ptr) {
             Ok((entry, end)) => match with_comment(comment, entry) {
                 Ok(entry) => Ok((entry, end)),
                 Err(comment) => Ok((Entry::Comment(comment), ptr)),

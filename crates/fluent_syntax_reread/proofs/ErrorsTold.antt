@@ -1,5 +1,6 @@
 -- The errors that tiles tell are the faults of the tiling.
-use Rattle.std.proofs.Common.{◌≡◌, ℕ, List, [], ◌∷◌, ◌++◌, map, Option, Some, None, refl, sym, ◌∙◌, ap, subst}
+use Rattle.std.proofs.Common.{◌≡◌, ℕ, List, [], ◌∷◌, ◌++◌, map, Option, Some, None, refl, sym, ◌∙◌, ap}
+use Rattle.std.proofs.Common.{subst}
 use Rattle.std.specs.Prelude.{Err, Ok, option_map, Result}
 use Rattle.fluent_syntax_tree.specs.View.{resource_view}
 use Rattle.fluent_syntax_tree.specs.declared.ast.Resource.{Resource}
@@ -10,13 +11,16 @@ use Rattle.fluent_syntax_tree.specs.declared.spans.Span.{Span}
 use Rattle.fluent_syntax_grammar.specs.Body.{body, faults}
 use Rattle.fluent_syntax_grammar.specs.Locality.{moved_fault, moved_tile}
 use Rattle.fluent_syntax_grammar.specs.Tiling.{Tile, Tiling, dropped, entry, refused}
+use Rattle.fluent_syntax_grammar.proofs.JunkAndSpans.{errors_ascend}
 use Rattle.fluent_syntax_grammar.proofs.OneTiling.{one_tiling}
 use Rattle.fluent_syntax_parser.specs.Faults.{fault_of}
 use Rattle.fluent_syntax_parser.specs.Tiles.{Gives}
 use Rattle.fluent_syntax_parser.specs.Answers.{Answers}
 use Rattle.fluent_syntax_parser.specs.declared.fault.ParseFault.{ParseFault}
 use Rattle.fluent_syntax_parser.specs.declared.fault.ParseFault.TheVariants.{Memory, Syntax}
-use Rattle.fluent_syntax_reread.specs.Held.{AsParsed, bytes_of, HoldsAnswer, IsBody, IsHeld, told_by, told_errors}
+use Rattle.fluent_syntax_parser.proofs.ErrorPlaces.{told_in_text}
+use Rattle.fluent_syntax_reread.specs.Held.{AsParsed, BeginWithin, bytes_of, HoldsAnswer, IsBody, IsHeld, told_by}
+use Rattle.fluent_syntax_reread.specs.Held.{told_errors}
 use Rattle.fluent_syntax_reread.specs.Placed.{EachTells, Reads}
 use Rattle.fluent_syntax_reread.specs.declared.changes.Reread.{Reread}
 use Rattle.fluent_syntax_reread.specs.declared.placed.Placed.{Placed}
@@ -66,3 +70,11 @@ pub told_tiling : (edition : Edition) (t : List ℕ) (ps : List Placed) (xs : Li
     Tiling edition t xs → told_errors ps ≡ map Some (faults xs)
 told_tiling edition t ps xs r tiling =
     told_all ps r.tiles r.each ∙ ap (λ xs. map Some (faults xs)) (one_tiling edition t r.tiles xs r.tiling tiling)
+
+-- those that tell what it tells begin within the text
+pub told_within : (r : Reread) (errors : List ParserError) → IsHeld r →
+    map fault_of errors ≡ told_errors r.tiles.items → BeginWithin r errors
+told_within r errors held told =
+    let h = held_tiling r held in
+    told_in_text (bytes_of r) 0 errors (faults h.tiles) (told ∙ told_all r.tiles.items h.tiles h.each)
+    (errors_ascend r.edition (bytes_of r) h.tiles h.tiling)

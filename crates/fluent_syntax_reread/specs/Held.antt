@@ -43,6 +43,10 @@ abbrev pub TellsFaults : Reread → List ParserError → Type 0
 TellsFaults r errors =
     (tiles : List Tile) → Tiling r.edition (bytes_of r) tiles → map fault_of errors ≡ map Some (faults tiles)
 
+-- The place of each of the errors begins within the text.
+abbrev pub BeginWithin : Reread → List ParserError → Type 0
+BeginWithin r errors = All (λ e. e.pos.start ≤ length (bytes_of r)) errors
+
 -- The tree is the body of its tiles.
 pub record IsBody (r : Reread) (tree : Resource Span) : Type 0 where
   pub tiles : List Tile

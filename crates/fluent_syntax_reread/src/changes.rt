@@ -2,7 +2,8 @@
 ghost use Rattle.std.specs.Prelude.{◌≡◌, ◌+◌, IfErr, IfOk, length, OnErr, OnOk, string_bytes};
 ghost use Rattle.fluent_syntax_parser.specs.Halts.{HaltsWithin};
 ghost use Rattle.fluent_syntax_reread.specs.Faults.{IsRange, Refuses};
-ghost use Rattle.fluent_syntax_reread.specs.Held.{bytes_of, HoldsAnswer, HoldsTiling, IsHeld, Rereads, TellsFaults};
+ghost use Rattle.fluent_syntax_reread.specs.Held.{BeginWithin, bytes_of, HoldsAnswer, HoldsTiling, IsHeld, Rereads};
+ghost use Rattle.fluent_syntax_reread.specs.Held.{TellsFaults};
 ghost use Rattle.fluent_syntax_reread.specs.Placed.{Reads};
 ghost use Rattle.fluent_syntax_reread.specs.Reading.{changed};
 
@@ -129,12 +130,14 @@ impl Reread {
         self.tiles.as_slice()
     }
 
-    /// The errors of the text, in order, with their places counted from its start: those that parsing it gives.
+    /// The errors of the text, in order, with their places counted from its start: those that parsing it gives. Each
+    /// place begins within the text.
     ///
     /// `AllocError` where a growth was refused.
     pub fn errors(&self, alloc: Global) -> Result<Vec<ParserError>, AllocError>
         requires { IsHeld self.now }
-        ensures { IfOk result (λ errors. TellsFaults self.now errors.items) }
+        ensures faults { IfOk result (λ errors. TellsFaults self.now errors.items) }
+        ensures places { IfOk result (λ errors. BeginWithin self.now errors.items) }
     {
         errors_of(alloc, &self.tiles)
     }

@@ -12,8 +12,9 @@ pub(crate) fn is_range(source: &str, from: usize, to: usize) -> bool
     from <= to && source.is_char_boundary(from) && source.is_char_boundary(to)
 }
 
-/// The text with another in place of the range.
-pub(crate) fn changed(
+/// The text with another in place of the range, which is one of whole characters. `AllocError` where a growth was
+/// refused.
+pub fn changed(
     alloc: Global,
     source: &str,
     from: usize,

@@ -12,4 +12,5 @@ mod reading;
 mod shifted;
 
 pub use changes::Reread;
+pub use cut::changed;
 pub use fault::ChangeFault;

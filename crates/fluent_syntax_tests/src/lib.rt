@@ -17,6 +17,8 @@ mod entries_one_by_one;
 #[cfg(test)]
 mod errors;
 #[cfg(test)]
+mod extents;
+#[cfg(test)]
 mod kinds;
 pub mod made;
 #[cfg(test)]

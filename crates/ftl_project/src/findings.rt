@@ -93,6 +93,7 @@ fn message(
         Kind::UndefinedTerm => write!(out, "no file defines the term `-{name}`")?,
         Kind::UndefinedAttribute => write!(out, "no file defines its attribute `{name}`")?,
         Kind::UndefinedValue => write!(out, "no file gives the message `{name}` a value")?,
+        Kind::CyclicReference => write!(out, "`{name}` leads back to this reference")?,
     }
     if let Some(first) = finding.other {
         let (line, _) = lines.line_column(first.span.start);

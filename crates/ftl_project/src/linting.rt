@@ -178,13 +178,14 @@ fn count(tally: &mut Tally, files: usize, found: &[Finding]) {
     }
 }
 
-const KINDS: [Kind; 6] = [
+const KINDS: [Kind; 7] = [
     Kind::DefinedTwice,
     Kind::AttributeTwice,
     Kind::UndefinedMessage,
     Kind::UndefinedTerm,
     Kind::UndefinedAttribute,
     Kind::UndefinedValue,
+    Kind::CyclicReference,
 ];
 
 /// How many findings there are of each kind that has some, each on a line.

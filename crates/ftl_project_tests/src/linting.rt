@@ -22,6 +22,7 @@ hello = Hello
     .t = U
 only =
     .label = L
+loop = { loop }
 ";
 
 fn lint(
@@ -70,19 +71,20 @@ fn finds(rt: HostRuntime) -> Result<(), Fail> {
         "findings",
         str::from_utf8(out.as_slice())?,
         "/d/a.ftl:1:11: undefined-message\n/d/a.ftl:1:22: undefined-term\n/d/a.ftl:1:34: undefined-attribute\n\
-        /d/a.ftl:1:40: undefined-value\n/d/a.ftl:2:1: defined-twice\n/d/a.ftl:4:6: attribute-twice\n",
+        /d/a.ftl:1:40: undefined-value\n/d/a.ftl:2:1: defined-twice\n/d/a.ftl:4:6: attribute-twice\n\
+        /d/a.ftl:7:10: cyclic-reference\n",
     )?;
     assert_same_text(
         alloc,
         "sums",
         str::from_utf8(err.as_slice())?,
         "1 defined-twice\n1 attribute-twice\n1 undefined-message\n1 undefined-term\n1 undefined-attribute\n\
-        1 undefined-value\n",
+        1 undefined-value\n1 cyclic-reference\n",
     )?;
     let met = Tally {
         files: 2,
         concerned: 1,
-        errors: 6,
+        errors: 7,
         fault: 0,
     };
     assert_same(alloc, "what was met", &tally, &met)
@@ -98,6 +100,7 @@ fn leaves_out(rt: HostRuntime) -> Result<(), Fail> {
         Kind::UndefinedTerm,
         Kind::UndefinedAttribute,
         Kind::UndefinedValue,
+        Kind::CyclicReference,
         Kind::AttributeTwice,
     ];
     let telling = Telling {

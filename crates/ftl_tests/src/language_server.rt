@@ -555,10 +555,13 @@ const SHUTDOWN: &str = "{\"jsonrpc\":\"2.0\",\"id\":1,\"method\":\"shutdown\"}";
 
 const EXIT: &str = "{\"jsonrpc\":\"2.0\",\"method\":\"exit\"}";
 
-const INITIALIZED: &str =
-    "{\"id\":1,\"jsonrpc\":\"2.0\",\"result\":{\"capabilities\":{\"documentFormattingProvider\":true,\
-    \"documentSymbolProvider\":true,\"foldingRangeProvider\":true,\"positionEncoding\":\"utf-16\",\
-    \"textDocumentSync\":{\"change\":1,\"openClose\":true,\"save\":true}},\"serverInfo\":{\"name\":\"ftl\"}}}";
+const INITIALIZED: &str = "{\"id\":1,\"jsonrpc\":\"2.0\",\"result\":{\"capabilities\":{\
+    \"completionProvider\":{\"triggerCharacters\":[\"{\",\"-\",\"$\",\".\"]},\"definitionProvider\":true,\
+    \"documentFormattingProvider\":true,\"documentHighlightProvider\":true,\"documentSymbolProvider\":true,\
+    \"foldingRangeProvider\":true,\"hoverProvider\":true,\"positionEncoding\":\"utf-16\",\
+    \"referencesProvider\":true,\"renameProvider\":true,\
+    \"textDocumentSync\":{\"change\":2,\"openClose\":true,\"save\":true},\"workspaceSymbolProvider\":true},\
+    \"serverInfo\":{\"name\":\"ftl\"}}}";
 
 const STOPPED: &str = "{\"id\":1,\"jsonrpc\":\"2.0\",\"result\":null}";
 

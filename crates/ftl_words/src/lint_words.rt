@@ -23,13 +23,14 @@ pub struct Lint<'a> {
     pub paths: Vec<&'a str>,
 }
 
-static KIND_NAMES: [&str; 6] = [
+static KIND_NAMES: [&str; 7] = [
     "defined-twice",
     "attribute-twice",
     "undefined-message",
     "undefined-term",
     "undefined-attribute",
     "undefined-value",
+    "cyclic-reference",
 ];
 
 static FORMS: [&str; 4] = ["full", "lines", "json", "github"];
@@ -119,7 +120,8 @@ fn kind_of(name: &str) -> Kind {
         "undefined-message" => Kind::UndefinedMessage,
         "undefined-term" => Kind::UndefinedTerm,
         "undefined-attribute" => Kind::UndefinedAttribute,
-        _ => Kind::UndefinedValue,
+        "undefined-value" => Kind::UndefinedValue,
+        _ => Kind::CyclicReference,
     }
 }
 

@@ -17,6 +17,7 @@ _MESSAGES = {
     "undefined-term": "no text defines the term `-{name}`",
     "undefined-attribute": "no text defines its attribute `{name}`",
     "undefined-value": "no text gives the message `{name}` a value",
+    "cyclic-reference": "`{name}` leads back to this reference",
     "missing": "`{name}` of line {line} of the reference is missing",
     "missing-value": "the value of `{name}` of line {line} of the reference is missing",
     "missing-attribute": "the attribute `{name}` of line {line} of the reference is missing",

@@ -1,5 +1,6 @@
 use Rattle.std.proofs.Common.{[]}
-use Rattle.fluent_syntax_names.specs.Findings.{defined_in, nameless}
+use Rattle.fluent_syntax_names.specs.Findings.{defined_in}
+use Rattle.fluent_syntax_names.specs.Spelled.{nameless}
 use Rattle.fluent_syntax_names.specs.Lacks.{used_in, other_of}
 use Rattle.fluent_syntax_names.specs.Places.{place_of}
 use Rattle.fluent_syntax_names.specs.Tables.{other_by}

@@ -1,5 +1,5 @@
 use Rattle.std.proofs.Common.{[]}
-use Rattle.fluent_syntax_names.specs.Findings.{nameless}
+use Rattle.fluent_syntax_names.specs.Spelled.{nameless}
 use Rattle.fluent_syntax_names.specs.Lacks.{lacks_in}
 use Rattle.fluent_syntax_names.specs.Places.{place_of}
 use Rattle.fluent_syntax_names.specs.Tables.{other_by}

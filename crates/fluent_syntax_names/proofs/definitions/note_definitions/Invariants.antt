@@ -1,5 +1,6 @@
 use Rattle.std.proofs.Common.{drop}
-use Rattle.fluent_syntax_names.specs.Findings.{defined_in, nameless}
+use Rattle.fluent_syntax_names.specs.Findings.{defined_in}
+use Rattle.fluent_syntax_names.specs.Spelled.{nameless}
 use Rattle.fluent_syntax_names.specs.Places.{place_of}
 use Rattle.fluent_syntax_names.specs.Tables.{LeavesNames}
 use Rattle.fluent_syntax_names.proofs.definitions.note_definitions.Given as goal

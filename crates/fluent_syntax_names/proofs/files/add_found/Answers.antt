@@ -2,6 +2,8 @@ use Rattle.std.proofs.Common.{false, refl, get_or, ◌∙◌}
 use Rattle.fluent_syntax_tree.specs.declared.spans.Span.{Span}
 use Rattle.fluent_syntax_names.specs.declared.mention.Mention.{Mention}
 use Rattle.fluent_syntax_names.specs.declared.mention.Mention.TheVariants as says
+use Rattle.fluent_syntax_names.specs.Circles.{no_pattern}
+use Rattle.fluent_syntax_names.specs.Drawings.{set_by}
 use Rattle.fluent_syntax_names.specs.Findings.{found_in, nothing, after}
 use Rattle.fluent_syntax_names.specs.Places.{place_of}
 use Rattle.fluent_syntax_names.specs.Tables.{has_name}
@@ -15,26 +17,27 @@ pub loop-mention-preserved : goal.loop-mention-preserved
 loop-mention-preserved c =
     let here = c.args.here.now in
     let D = has_name (place_of here.defined.now.table) in
+    let A = set_by (place_of here.defined.now.table) here.circles.now in
     let names = place_of c.loop-mention.noted.names.table in
     let attributes = place_of c.loop-mention.noted.attributes.table in
     let none : Mention Span = says.Message (record { start = 0; end = 0 }) false in
     let mention = get_or c.args.mentions.now c.loop-mention.mention-index none in
     let known = c.loop-mention.invariant.0 in
-    let holds = c.loop-mention.invariant.1 in (
-      after here.text.now known mention,
-      c.in_ok-note.ensures known holds,
-      found_next D here.file here.text.now c.args.list.now.items c.loop-mention.list.items
-          (found_in D here.file here.text.now nothing c.args.mentions.now) c.args.mentions.now
-          c.loop-mention.mention-index c.add_finding.new.list.items known mention none c.in_ok-finding.finding
-          c.loop-mention-test.true refl
-          (c.in_ok-finding.ensures ∙ found_known here.file here.text.now D names attributes known holds mention)
-          c.loop-mention.invariant.2 c.in_ok-add_finding.ensures,
-    )
+    let holds = c.loop-mention.invariant.1 in
+    let left =
+    found_next A here.file here.text.now c.args.list.now.items c.loop-mention.list.items
+    (found_in A here.file here.text.now nothing no_pattern c.args.mentions.now) c.args.mentions.now
+    c.loop-mention.mention-index c.add_finding.new.list.items c.add_finding-in-loop-mention.new.list.items known
+    c.loop-mention.pattern mention none c.in_ok-finding.finding c.in_ok-circle.circle c.loop-mention-test.true refl
+    (c.in_ok-finding.ensures ∙ found_known here.file here.text.now D names attributes known holds mention)
+    c.in_ok-circle.ensures c.loop-mention.invariant.2 c.in_ok-add_finding.ensures c.in_ok-add_finding-2.ensures in
+    (after here.text.now known mention, c.in_ok-note.ensures known holds, rw c.pattern_after-pattern.ensures left)
 
 pub returns : goal.returns
 returns c =
-    let D = has_name (place_of c.args.here.now.defined.now.table) in
+    let A = set_by (place_of c.args.here.now.defined.now.table) c.args.here.now.circles.now in
     let here = c.args.here.now in
-    found_none D here.file here.text.now c.args.list.now.items c.loop-mention.list.items
-    (found_in D here.file here.text.now nothing c.args.mentions.now) c.args.mentions.now c.loop-mention.mention-index
-    c.loop-mention.invariant.0 c.loop-mention-test.false c.loop-mention.invariant.2
+    found_none A here.file here.text.now c.args.list.now.items c.loop-mention.list.items
+    (found_in A here.file here.text.now nothing no_pattern c.args.mentions.now) c.args.mentions.now
+    c.loop-mention.mention-index c.loop-mention.invariant.0 c.loop-mention.pattern c.loop-mention-test.false
+    c.loop-mention.invariant.2

@@ -1,5 +1,6 @@
 use Rattle.std.proofs.Common.{Some}
-use Rattle.fluent_syntax_names.specs.Findings.{put, message_name}
+use Rattle.fluent_syntax_names.specs.Findings.{put}
+use Rattle.fluent_syntax_names.specs.Spelled.{message_name}
 use Rattle.fluent_syntax_names.specs.Places.{place_of}
 use Rattle.fluent_syntax_names.specs.Spelled.{spelled_reference, spelled_references}
 use Rattle.fluent_syntax_names.proofs.Gathering.{notes_last}

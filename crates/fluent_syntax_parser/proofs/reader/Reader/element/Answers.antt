@@ -1,4 +1,4 @@
-use Rattle.std.proofs.Common.{refl, ap, ◌∙◌}
+use Rattle.std.proofs.Common.{refl}
 use Rattle.fluent_syntax_tree.proofs.Views.{view-TextElement, view-Placeable}
 use Rattle.fluent_syntax_parser.proofs.reader.Reader.element.Goals as goal
 

@@ -1,5 +1,4 @@
-use Rattle.std.proofs.Common.{refl, ap, ◌∙◌}
-use Rattle.fluent_syntax_tree.specs.Tree.{text_element}
+use Rattle.std.proofs.Common.{refl}
 use Rattle.fluent_syntax_tree.proofs.Views.{view-TextElement, view-Placeable}
 use Rattle.fluent_syntax_parser.proofs.reader.Reader.last_element.Goals as goal
 

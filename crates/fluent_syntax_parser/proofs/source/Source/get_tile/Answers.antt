@@ -3,6 +3,8 @@ use Rattle.std.proofs.Common.{arith}
 use Rattle.fluent_syntax_grammar.proofs.TotalEntries.{too_deep_left}
 use Rattle.fluent_syntax_parser.proofs.Fails.{refuses_there, too_deep_there}
 use Rattle.fluent_syntax_parser.proofs.Rests.{at_any_depth}
+use Rattle.fluent_syntax_parser.proofs.Made.{as_read}
+use Rattle.fluent_syntax_parser.proofs.SameTrees.{same_entry}
 use Rattle.fluent_syntax_parser.proofs.source.Source.get_tile.Goals as goal
 
 pub next_entry_start-end-requires : goal.next_entry_start-end-requires
@@ -13,7 +15,8 @@ next_entry_start-end-requires c =
 
 pub returns-in-Ok-clause-gives : goal.returns-in-Ok-clause-gives
 returns-in-Ok-clause-gives c =
-    gives_entry c.args.options.edition c.args.self.now.bytes.now c.args.start _ c.requires _ _ c.in-Ok.ensures.meets
+    gives_entry c.args.options.edition c.args.self.now.bytes.now c.args.start _ c.requires _ _
+    (as_read same_entry c.in-Ok.ensures.meets)
 
 pub returns-in_ok-error-in-Err-Refused-clause-gives : goal.returns-in_ok-error-in-Err-Refused-clause-gives
 returns-in_ok-error-in-Err-Refused-clause-gives c =

@@ -9,6 +9,8 @@ use Rattle.fluent_syntax_parser.proofs.DeeperTiles.{behind_one, entry_deeper, on
 use Rattle.fluent_syntax_parser.proofs.Fails.{refuses_there, too_deep_there}
 use Rattle.fluent_syntax_parser.proofs.Rests.{at_any_depth_entry}
 use Rattle.fluent_syntax_parser.specs.declared.options.Comments.TheVariants.{Kept}
+use Rattle.fluent_syntax_parser.proofs.Made.{as_read}
+use Rattle.fluent_syntax_parser.proofs.SameTrees.{same_entry}
 use Rattle.fluent_syntax_parser.proofs.source.Source.hang.Goals as goal
 use Rattle.fluent_syntax_parser.proofs.source.Source.hang.Goals.{then-is_byte_at-via-then-is_byte_at}
 use Rattle.fluent_syntax_parser.proofs.source.Source.hang.Goals.{
@@ -35,7 +37,7 @@ returns-in-Ok-with_comment-clause-hangs c =
     let inside : c.args.ptr < length t = omega (arith, read.within.0, read.within.1) in
     let block = rw c.if-skip_blank_block-ptr.false at c.skip_blank_block.ensures.blank in
     hangs_on c.args.options.edition t content c.args.ptr _ _ _ block inside
-    (at_any_depth_entry c.args.options.edition t c.args.options.nesting c.args.ptr read.meets)
+    (at_any_depth_entry c.args.options.edition t c.args.options.nesting c.args.ptr (as_read same_entry read.meets))
     c.in-Ok-with_comment.ensures.hung
 
 pub returns-in-Err-clause-hangs : goal.returns-in-Err-clause-hangs
@@ -47,7 +49,8 @@ returns-in-Err-clause-hangs c =
     rw other.0
     (hangs_not edition t content c.args.ptr (Comment c.args.comment) refl
     (other_entry edition t content c.args.ptr _ _
-    (at_any_depth_entry edition t c.args.options.nesting c.args.ptr c.in-Ok.ensures.meets) other.1))
+    (at_any_depth_entry edition t c.args.options.nesting c.args.ptr
+    (as_read same_entry c.in-Ok.ensures.meets)) other.1))
 
 pub returns-in-Err-Refused-clause-hangs : goal.returns-in-Err-Refused-clause-hangs
 returns-in-Err-Refused-clause-hangs c =
@@ -70,7 +73,7 @@ returns-in-Ok-with_comment-clause-behind c =
     let inside : c.args.ptr < length t = omega (arith, read.within.0, read.within.1) in
     let block = rw c.if-skip_blank_block-ptr.false at c.skip_blank_block.ensures.blank in
     λ h. text_deeper options.edition t options.nesting Kept _ _ block
-    (behind_one options.edition t options.nesting Kept _ _ inside _ (reads read.meets) h)
+    (behind_one options.edition t options.nesting Kept _ _ inside _ (reads (as_read same_entry read.meets)) h)
 
 pub returns-in-Err-TooDeep-clause-deeper : goal.returns-in-Err-TooDeep-clause-deeper
 returns-in-Err-TooDeep-clause-deeper c =
@@ -94,5 +97,5 @@ returns-in-Ok-with_comment-clause-shallow c =
     let read = c.in-Ok.ensures in
     let inside : c.args.ptr < length t = omega (arith, read.within.0, read.within.1) in
     let block = rw c.if-skip_blank_block-ptr.false at c.skip_blank_block.ensures.blank in
-    λ h. one_led options.edition t options.nesting Kept _ _ inside _ (reads read.meets)
+    λ h. one_led options.edition t options.nesting Kept _ _ inside _ (reads (as_read same_entry read.meets))
     (tile_deeper options.edition t options.nesting Kept _ _ block h)

@@ -1,0 +1,7 @@
+//! Which nodes of a directed graph lie on a circle together.
+#![tactic(auto)]
+
+mod parting;
+mod search;
+
+pub use parting::components;

@@ -1,0 +1,130 @@
+//! An open document: its text, changes of it, and its diagnostics.
+ghost use Rattle.std.specs.Prelude.{◌≡◌, IfOk, map, OnErr, OnOk};
+ghost use Rattle.fluent_syntax_reread.specs.Faults.{IsRange};
+ghost use Rattle.fluent_syntax_reread.specs.Reading.{changed};
+ghost use Rattle.fluent_syntax_lsp.specs.Diagnostics.{DiagnosesDocument, shown};
+ghost use Rattle.fluent_syntax_lsp.specs.Documents.{ChangesBetween, document_text, HasTiles};
+
+use crate::diagnostics::{Diagnostic, diagnostics_in, diagnostics_of};
+use crate::held::Held;
+use crate::offsets::byte_of;
+use crate::places::Place;
+use crate::stretches::Stretches;
+use fluent_syntax_parser::options::Halt;
+use fluent_syntax_reread::placed::Placed;
+use fluent_syntax_reread::{ChangeFault, changed};
+use std::alloc::{AllocError, Global};
+
+/// A text with what was read of it, or one that nests too deeply to be read.
+#[derive(Drop)]
+pub enum Document {
+    Held(Held),
+    TooDeep(String),
+}
+
+impl Document {
+    /// The document of a text. `AllocError` where a growth was refused.
+    pub fn new(alloc: Global, text: &str) -> Result<Document, AllocError>
+        ensures { IfOk result (λ document. document_text document ≡ text.now) }
+    {
+        match Held::new(alloc, text) {
+            Ok(held) => Ok(Document::Held(held)),
+            Err(Halt::TooDeep) => Ok(Document::TooDeep(String::from_str(alloc, text)?)),
+            Err(Halt::Memory) => Err(AllocError),
+        }
+    }
+
+    /// The text.
+    pub fn text(&self) -> &str
+        ensures { result.now ≡ document_text self.now }
+    {
+        match self {
+            Document::Held(held) => held.text(),
+            Document::TooDeep(text) => text.as_str(),
+        }
+    }
+
+    /// Puts `new` in place of the bytes from `from` up to `to`, and reads what stands around them; all, where the text
+    /// nested too deeply before or does so now. After `AllocError`, where a growth was refused, all is as it was.
+    pub fn change(
+        &mut self,
+        alloc: Global,
+        from: usize,
+        to: usize,
+        new: &str,
+    ) -> Result<(), AllocError>
+        requires { IsRange (document_text self.old) from to }
+        ensures text { OnOk result (document_text self.new ≡ changed (document_text self.old) from to new.now) }
+        ensures same { OnErr result (document_text self.new ≡ document_text self.old) }
+    {
+        if let Document::Held(held) = self {
+            match held.change(alloc, from, to, new) {
+                Ok(()) => return Ok(()),
+                Err(ChangeFault::Memory) => return Err(AllocError),
+                Err(ChangeFault::NoRange | ChangeFault::TooDeep) => {}
+            }
+        }
+        let text = changed(alloc, self.text(), from, to, new)?;
+        *self = Document::new(alloc, text.as_str())?;
+        Ok(())
+    }
+
+    /// Puts `new` in place of what stands between two places, in whichever order they come. After `AllocError`, where a
+    /// growth was refused, all is as it was.
+    pub fn change_between(
+        &mut self,
+        alloc: Global,
+        start: Place,
+        end: Place,
+        new: &str,
+    ) -> Result<(), AllocError>
+        ensures text { OnOk result
+            (ChangesBetween (document_text self.old) start end new.now (document_text self.new)) }
+        ensures same { OnErr result (document_text self.new ≡ document_text self.old) }
+    {
+        let first = byte_of(self.text(), start);
+        let last = byte_of(self.text(), end);
+        self.change(alloc, first.min(last), first.max(last), new)
+    }
+
+    /// What stands in the text, tile by tile; none of a text that nests too deeply.
+    pub fn tiles(&self) -> &[Placed]
+        ensures { HasTiles self.now result.now }
+    {
+        match self {
+            Document::Held(held) => held.tiles(),
+            Document::TooDeep(_) => &[],
+        }
+    }
+
+    /// The entry or junk at the byte, as it stands in the text, with the comment that hangs on it. None where there is
+    /// none, and of a text that nests too deeply.
+    pub(crate) fn entry_at(&self, byte: usize) -> Option<&str> {
+        let mut stretches = Stretches::new(self.text());
+        for tile in self.tiles() {
+            let whole = stretches.next(tile);
+            if byte < whole.end {
+                return if byte < whole.start {
+                    None
+                } else {
+                    self.text().get(whole.start..whole.end)
+                };
+            }
+        }
+        None
+    }
+
+    /// A diagnostic for each of the text's errors, in order; a lone one where it nests deeper than `NESTING_LIMIT`.
+    /// `AllocError` where a growth was refused.
+    pub fn diagnostics(&self, alloc: Global) -> Result<Vec<Diagnostic>, AllocError>
+        ensures { IfOk result (λ found. DiagnosesDocument (document_text self.now) (map shown found.items)) }
+    {
+        match self {
+            Document::Held(held) => {
+                let errors = held.errors(alloc)?;
+                diagnostics_of(alloc, held.text(), &errors)
+            }
+            Document::TooDeep(text) => diagnostics_in(alloc, text.as_str()),
+        }
+    }
+}

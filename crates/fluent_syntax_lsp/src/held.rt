@@ -1,0 +1,91 @@
+//! A text with what was read of it.
+ghost use Rattle.std.specs.Prelude.{◌≡◌, ◌≤◌, All, IfErr, IfOk, length, OnErr, OnOk};
+ghost use Rattle.fluent_syntax_parser.specs.Halts.{HaltsWithin};
+ghost use Rattle.fluent_syntax_reread.specs.Faults.{IsRange, Refuses};
+ghost use Rattle.fluent_syntax_reread.specs.Placed.{Reads};
+ghost use Rattle.fluent_syntax_reread.specs.Reading.{changed};
+ghost use Rattle.fluent_syntax_tree.specs.declared.edition.Edition.TheVariants.{One};
+ghost use Rattle.fluent_syntax_lsp.specs.Held.{TellsAll};
+ghost use Rattle.fluent_syntax_lsp.specs.declared.limits.TheConstants.{NESTING_LIMIT};
+
+use crate::limits::NESTING_LIMIT;
+use fluent_syntax::parser::{Edition, ParserError};
+use fluent_syntax_parser::options::Halt;
+use fluent_syntax_reread::placed::Placed;
+use fluent_syntax_reread::{ChangeFault, Reread};
+use std::alloc::{AllocError, Global};
+use std::marker::Model;
+
+/// A text with its tiles. In a clause it is the bytes of the text.
+#[derive(Drop)]
+pub struct Held {
+    reread: Reread,
+}
+
+impl Model for Held {
+    ghost use Rattle.std.specs.Prelude.{◌≡◌, ℕ, List};
+    ghost use Rattle.fluent_syntax_tree.specs.declared.edition.Edition.TheVariants.{One};
+    ghost use Rattle.fluent_syntax_reread.specs.Held.{bytes_of, IsHeld};
+    ghost use Rattle.fluent_syntax_lsp.specs.declared.limits.TheConstants.{NESTING_LIMIT};
+
+    ghost Value = { List ℕ };
+
+    ghost view = { λ held. bytes_of held.reread };
+
+    ghost invariant = { λ held.
+        IsHeld held.reread × (held.reread.edition ≡ One) × (held.reread.nesting ≡ NESTING_LIMIT) };
+}
+
+impl Held {
+    /// Reads the text. `TooDeep` where it nests deeper than `NESTING_LIMIT`, `Memory` where a growth was refused.
+    pub fn new(alloc: Global, text: &str) -> Result<Held, Halt>
+        ensures text { IfOk result (λ held. held ≡ text.now) }
+        ensures nests { IfErr result (HaltsWithin NESTING_LIMIT (length text.now)) }
+    {
+        let text = String::from_str(alloc, text)?;
+        let reread = Reread::new(alloc, text, Edition::One, NESTING_LIMIT)?;
+        Ok(Held { reread })
+    }
+
+    /// The text.
+    pub fn text(&self) -> &str
+        ensures { result.now ≡ self.now }
+    {
+        self.reread.text()
+    }
+
+    /// Puts `new` in place of the bytes from `from` up to `to`, and reads what stands around them. After an error all
+    /// is as it was.
+    ///
+    /// `NoRange` where the range is none of whole characters in the text, `TooDeep` where the new text nests deeper
+    /// than `NESTING_LIMIT`, `Memory` where a growth was refused.
+    pub fn change(
+        &mut self,
+        alloc: Global,
+        from: usize,
+        to: usize,
+        new: &str,
+    ) -> Result<(), ChangeFault>
+        ensures text { OnOk result (self.new ≡ changed self.old from to new.now) }
+        ensures same { OnErr result (self.new ≡ self.old) }
+        ensures fault { let size = length (changed self.old from to new.now) in
+            IfErr result (Refuses self.old from to NESTING_LIMIT size) }
+    {
+        self.reread.change(alloc, from, to, new)
+    }
+
+    /// What stands in the text, tile by tile.
+    pub fn tiles(&self) -> &[Placed]
+        ensures { Reads One self.now result.now }
+    {
+        self.reread.tiles()
+    }
+
+    /// The errors of the text, in order. `AllocError` where a growth was refused.
+    pub fn errors(&self, alloc: Global) -> Result<Vec<ParserError>, AllocError>
+        ensures faults { IfOk result (λ errors. TellsAll self.now errors.items) }
+        ensures places { IfOk result (λ errors. All (λ e. e.pos.start ≤ length self.now) errors.items) }
+    {
+        self.reread.errors(alloc)
+    }
+}

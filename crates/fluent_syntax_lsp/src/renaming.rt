@@ -1,0 +1,98 @@
+//! Another name for what a name stands for, in all open documents.
+
+use crate::asked::Asked;
+use crate::known::{Known, Wanted};
+use crate::occurrences::{Name, NameKind};
+use crate::places::Places;
+use crate::replies::{edit_form, edits_of_document};
+use serde_json::{Value, json};
+use std::alloc::{AllocError, Global};
+
+/// Whether the text is an identifier: a letter, then letters, digits, `_` and `-`.
+fn is_identifier(text: &str) -> bool {
+    match text.as_bytes() {
+        [first, rest @ ..] => {
+            first.is_ascii_alphabetic()
+                && rest.iter().all(|byte| byte.is_ascii_alphanumeric()
+                    || *byte == b'_'
+                    || *byte == b'-')
+        }
+        [] => false,
+    }
+}
+
+/// The identifier that the new name is; a term's may have its `-`. None where it is none.
+fn identifier_of(kind: NameKind, new_name: &str) -> Option<&str> {
+    let name = match kind {
+        NameKind::Term => new_name.strip_prefix('-').unwrap_or(new_name),
+        _ => new_name,
+    };
+    if is_identifier(name) {
+        Some(name)
+    } else {
+        None
+    }
+}
+
+/// The name with another in its place, or in the place of its attribute's.
+fn renamed<'n>(name: Name<'n>, new_name: &'n str) -> Name<'n> {
+    match name.attribute {
+        None => Name {
+            name: new_name,
+            ..name
+        },
+        Some(_) => Name {
+            attribute: Some(new_name),
+            ..name
+        },
+    }
+}
+
+/// The edits by which the name at the place has the new name in all open documents. None where there is no message,
+/// term or attribute at the place, the new name is no identifier, or something has it already.
+pub fn renaming(
+    alloc: Global,
+    asked: &Asked<'_>,
+    new_name: &str,
+) -> Result<Option<Value>, AllocError> {
+    let Some(name) = asked.name() else {
+        return Ok(None);
+    };
+    let (NameKind::Message | NameKind::Term, Some(identifier)) = (
+        name.kind,
+        identifier_of(name.kind, new_name),
+    ) else {
+        return Ok(None);
+    };
+    let mut changes = Vec::new(alloc);
+    for known in &asked.documents {
+        let taken = known.places_of(alloc, renamed(name, identifier), Wanted::Definitions)?;
+        if !taken.is_empty() {
+            return Ok(None);
+        }
+        if let Some(edits) = edits_in(alloc, known, name, identifier)? {
+            changes.push(edits)?;
+        }
+    }
+    let changes = Value::Array(changes);
+    Ok(Some(json!(in alloc; {"documentChanges": changes})?))
+}
+
+/// The edits of one document. None where the name doesn't stand in it.
+fn edits_in(
+    alloc: Global,
+    known: &Known<'_>,
+    name: Name<'_>,
+    identifier: &str,
+) -> Result<Option<Value>, AllocError> {
+    let found = known.places_of(alloc, name, Wanted::All)?;
+    if found.is_empty() {
+        return Ok(None);
+    }
+    let mut places = Places::new(known.text());
+    let mut edits = Vec::new(alloc);
+    for span in &found {
+        edits.push(edit_form(alloc, &mut places, *span, identifier)?)?;
+    }
+    Ok(Some(edits_of_document(alloc, known.uri, known.open.version, Value::Array(edits))?))
+}

@@ -1,0 +1,284 @@
+-- A graph that grows by one name or one link after another.
+use Rattle.std.proofs.Common.{◌≡◌, ◌⊎◌, inl, inr, ℕ, ◌+◌, ◌<◌, ◌≤◌, Bool, true, false, List, [], ◌∷◌, ◌++◌}
+use Rattle.std.proofs.Common.{length, get_or}
+use Rattle.std.proofs.Common.{Option, Some, None, refl, sym, ap, ◌∙◌, subst, arith, set, drop}
+use Rattle.std.specs.Prelude.{◌||◌, if◌then◌else◌}
+use Rattle.std.specs.Str.{bytes_eq}
+use Rattle.std.proofs.lemmas.Bool.{cases_eq, cases_lt, or_cases}
+use Rattle.std.proofs.lemmas.List.{append-nil, get_or_append_left, get_or_past, get_or_push, length_push}
+use Rattle.std.proofs.lemmas.List.{get_or-set_same, get_or-set_other, length-set, drop_more, drop_all}
+use Rattle.std.proofs.lemmas.List.Folds.{list_any-append}
+use Rattle.std.proofs.lemmas.Slice.Eq.{bytes_eq-Decides}
+use Rattle.fluent_syntax_tree.specs.declared.spans.Span.{Span}
+use Rattle.fluent_syntax_graph.specs.Graph.{Graph, Leads, edges}
+use Rattle.fluent_syntax_names.specs.Circles.{Link, is_link, leads, links_in, link_to, links, pattern_after, referred}
+use Rattle.fluent_syntax_names.specs.Circles.{no_pattern}
+use Rattle.fluent_syntax_names.specs.Drawings.{Drawn, Nodes, IsDrawn, DrawsLinks}
+use Rattle.fluent_syntax_names.specs.Mentions.{Mentions}
+use Rattle.fluent_syntax_names.specs.Places.{Notes, first_of, place_where}
+use Rattle.fluent_syntax_names.specs.Spelled.{Text}
+use Rattle.fluent_syntax_names.specs.declared.drawing.Drawing.{Drawing}
+use Rattle.fluent_syntax_names.specs.declared.mention.Mention.{Mention}
+use Rattle.fluent_syntax_names.specs.declared.outline.Outline.{Outline}
+use Rattle.fluent_syntax_names.specs.declared.spelled.PatternName.{PatternName}
+use Rattle.fluent_syntax_names.proofs.Ways.{or_left, or_right, same_name, link_names, is_own_link}
+
+some_is : (u v : ℕ) → Some u ≡ Some v → u ≡ v
+some_is u v e = cc
+
+-- ---- A new name
+
+module _ (all : List Link) (old new : Nodes) (g : Graph) (name : Text) (node : ℕ) (is_last : node ≡ length g)
+    (absent : old name ≡ None) (notes : Notes old new name node) where
+  pub name_stays : (x : Text) (u : ℕ) → old x ≡ Some u → new x ≡ Some u
+  name_stays x u e = notes x ∙ ap (λ (o : Option ℕ). first_of o (place_where x name node)) e
+
+  pub name_known : new name ≡ Some node
+  name_known =
+      notes name
+      ∙ ap (λ (o : Option ℕ). first_of o (place_where name name node)) absent
+      ∙ ap (λ (b : Bool). if b then Some node else None) (same_name name)
+
+  -- a node that is known now was known, or is that of the name
+  by_test : (x : Text) (u : ℕ) (b : Bool) → bytes_eq x name ≡ b → (if b then Some node else None) ≡ Some u
+      → (x ≡ name) × (u ≡ node)
+  by_test x u true is e = ((bytes_eq-Decides x name).0 is, some_is u node (sym e))
+  by_test x u false is e = absurd (cc)
+
+  by_old : (x : Text) (u : ℕ) (o : Option ℕ) → old x ≡ o → first_of o (place_where x name node) ≡ Some u
+      → (old x ≡ Some u) ⊎ ((x ≡ name) × (u ≡ node))
+  by_old x u None was e = inr (by_test x u (bytes_eq x name) refl e)
+  by_old x u (Some v) was e = inl (was ∙ e)
+
+  was_known : (x : Text) (u : ℕ) → new x ≡ Some u → (old x ≡ Some u) ⊎ ((x ≡ name) × (u ≡ node))
+  was_known x u e = by_old x u (old x) refl (sym (notes x) ∙ e)
+
+  module _ (drawn : Drawn all old g) where
+    abbrev more : Graph
+    more = g ++ [] ∷ []
+
+    same_edges : (u : ℕ) → u < length g → edges more u ≡ edges g u
+    same_edges u h = get_or_append_left g ([] ∷ []) [] u h
+
+    no_edges : (u : ℕ) → length g ≤ u → edges more u ≡ []
+    no_edges u h = elim (cases_eq u (length g)) [
+      | inl e ↦ get_or_push g [] [] u (sym e)
+      | inr n ↦ get_or_past more u [] (omega (arith, n, length_push g []))
+    ]
+
+    leads_still : (u v : ℕ) → u < length g → Leads g u v → Leads more u v
+    leads_still u v h leads_on =
+        subst (λ (l : List ℕ). (k : ℕ) × (k < length l) × (get_or l k 0 ≡ v)) (sym (same_edges u h)) leads_on
+
+    led_before : (u v : ℕ) → Leads more u v → Leads g u v
+    led_before u v leads_on = elim (cases_lt u (length g)) [
+      | inl w ↦ subst (λ (l : List ℕ). (k : ℕ) × (k < length l) × (get_or l k 0 ≡ v)) (same_edges u w) leads_on
+      | inr w ↦
+          let none : leads_on.0 < 0 =
+          subst (λ (l : List ℕ). leads_on.0 < length l) (no_edges u w) leads_on.1 in
+          absurd (omega arith)
+    ]
+
+    pub named_more : Drawn all new more
+    named_more = record {
+      within = λ x u e. elim (was_known x u e) [
+        | inl w ↦ omega (arith, drawn.within x u w, length_push g [])
+        | inr w ↦ omega (arith, w.1, length_push g [])
+      ];
+      apart = λ x y u e f. elim (was_known x u e) [
+        | inl w ↦ elim (was_known y u f) [
+          | inl v ↦ drawn.apart x y u w v
+          | inr v ↦ absurd (omega (arith, drawn.within x u w, v.1))
+        ]
+        | inr w ↦ elim (was_known y u f) [
+          | inl v ↦ absurd (omega (arith, drawn.within y u v, w.1))
+          | inr v ↦ w.0 ∙ sym v.0
+        ]
+      ];
+      drawn = λ x y e.
+          let d = drawn.drawn x y e in (
+            d.0,
+            d.1,
+            name_stays x d.0 d.2,
+            name_stays y d.1 d.3,
+            leads_still d.0 d.1 (drawn.within x d.0 d.2) d.4,
+          );
+      named = λ u v leads_on.
+          let d = drawn.named u v (led_before u v leads_on) in
+          (d.0, d.1, name_stays d.0 u d.2, name_stays d.1 v d.3, d.4);
+    }
+
+-- ---- A new link
+
+module _ (all : List Link) (node : Nodes) (g : Graph) (drawn : Drawn all node g) (link : Link) (u v : ℕ)
+    (from : node link.from ≡ Some u) (to : node link.to ≡ Some v) where
+  abbrev longer : List ℕ
+  longer = edges g u ++ v ∷ []
+
+  abbrev linked : Graph
+  linked = set g u longer
+
+  abbrev with_link : List Link
+  with_link = all ++ link ∷ []
+
+  u_in : u < length g
+  u_in = drawn.within link.from u from
+
+  edges_there : edges linked u ≡ longer
+  edges_there = get_or-set_same g u longer [] u_in
+
+  edges_other : (p : ℕ) → (p ≡ u → ⊥) → edges linked p ≡ edges g p
+  edges_other p n = get_or-set_other g u p longer [] n
+
+  abbrev ListLeads : List ℕ → ℕ → Type 0
+  ListLeads l q = (k : ℕ) × (k < length l) × (get_or l k 0 ≡ q)
+
+  leads_longer : (q : ℕ) → Leads g u q → ListLeads longer q
+  leads_longer q leads_on = (
+    leads_on.0,
+    omega (arith, leads_on.1, length_push (edges g u) v),
+    get_or_append_left (edges g u) (v ∷ []) 0 leads_on.0 leads_on.1 ∙ leads_on.2,
+  )
+
+  leads_still_on : (p q : ℕ) → Leads g p q → Leads linked p q
+  leads_still_on p q leads_on = elim (cases_eq p u) [
+    | inl e ↦
+        let at_u = leads_longer q (subst (λ (x : ℕ). Leads g x q) e leads_on) in
+        subst (λ (x : ℕ). Leads linked x q) (sym e)
+        (subst (λ (l : List ℕ). ListLeads l q) (sym edges_there) at_u)
+    | inr n ↦ subst (λ (l : List ℕ). ListLeads l q) (sym (edges_other p n)) leads_on
+  ]
+
+  leads_new : Leads linked u v
+  leads_new =
+      let last : ListLeads longer v = (
+        length (edges g u),
+        omega (arith, length_push (edges g u) v),
+        get_or_push (edges g u) v 0 (length (edges g u)) refl,
+      ) in
+      subst (λ (l : List ℕ). ListLeads l v) (sym edges_there) last
+
+  led_longer : (q : ℕ) → ListLeads longer q → Leads g u q ⊎ (q ≡ v)
+  led_longer q leads_on = elim (cases_lt leads_on.0 (length (edges g u))) [
+    | inl w ↦
+        inl (leads_on.0, w, sym (get_or_append_left (edges g u) (v ∷ []) 0 leads_on.0 w) ∙ leads_on.2)
+    | inr w ↦
+        let is : length (edges g u) ≡ leads_on.0 = omega (arith, w, leads_on.1, length_push (edges g u) v) in
+        inr (sym leads_on.2 ∙ get_or_push (edges g u) v 0 leads_on.0 is)
+  ]
+
+  led_before_on : (p q : ℕ) → Leads linked p q → Leads g p q ⊎ ((p ≡ u) × (q ≡ v))
+  led_before_on p q leads_on = elim (cases_eq p u) [
+    | inl e ↦
+        let at_u = subst (λ (x : ℕ). Leads linked x q) e leads_on in
+        elim (led_longer q (subst (λ (l : List ℕ). ListLeads l q) edges_there at_u)) [
+          | inl w ↦ inl (subst (λ (x : ℕ). Leads g x q) (sym e) w)
+          | inr w ↦ inr (e, w)
+        ]
+    | inr n ↦ inl (subst (λ (l : List ℕ). ListLeads l q) (edges_other p n) leads_on)
+  ]
+
+  leads_split : (x y : Text) → leads with_link x y ≡ (leads all x y || leads (link ∷ []) x y)
+  leads_split x y = list_any-append (is_link x y) all (link ∷ [])
+
+  pub linked_more : Drawn with_link node linked
+  linked_more = record {
+    within = λ x w e. omega (arith, drawn.within x w e, length-set g u longer);
+    apart = drawn.apart;
+    drawn = λ x y e. elim (or_cases (leads all x y) (leads (link ∷ []) x y) (sym (leads_split x y) ∙ e)) [
+      | inl w ↦ let d = drawn.drawn x y w in (d.0, d.1, d.2, d.3, leads_still_on d.0 d.1 d.4)
+      | inr w ↦ elim (or_cases (is_link x y link) false w) [
+        | inl is ↦
+            let names = link_names x y link is in
+            (u, v, ap node names.0 ∙ from, ap node names.1 ∙ to, leads_new)
+        | inr never ↦ absurd (cc)
+      ]
+    ];
+    named = λ p q leads_on. elim (led_before_on p q leads_on) [
+      | inl w ↦
+          let d = drawn.named p q w in (
+            d.0,
+            d.1,
+            d.2,
+            d.3,
+            leads_split d.0 d.1 ∙ or_left (leads all d.0 d.1) (leads (link ∷ []) d.0 d.1) d.4,
+          )
+      | inr w ↦ (
+        link.from,
+        link.to,
+        from ∙ ap Some (sym w.0),
+        to ∙ ap Some (sym w.1),
+        leads_split link.from link.to
+            ∙ or_right (leads all link.from link.to) (leads (link ∷ []) link.from link.to)
+            (or_left (is_link link.from link.to link) false (is_own_link link)),
+      )
+    ];
+  }
+
+-- before anything is drawn
+pub nothing_drawn : (node : Nodes) → ((x : Text) → node x ≡ None) → Drawn [] node []
+nothing_drawn node none = record {
+  within = λ x u e. let never : None ≡ Some u = sym (none x) ∙ e in absurd (cc);
+  apart = λ x y u e f. let never : None ≡ Some u = sym (none x) ∙ e in absurd (cc);
+  drawn = λ x y e. absurd (cc);
+  named = λ u v leads_on. absurd (omega (arith, leads_on.1));
+}
+
+-- ---- The mentions of a file
+
+module _ (text : Text) (all : List Link → List Link) (old now : Drawing) (ms : Mentions Span) (i : ℕ) where
+  abbrev pub LeavesLinks : Drawing → PatternName → ℕ → Type 0
+  LeavesLinks drawing pattern n = (before : List Link) → IsDrawn before old → (list : List Link)
+      × IsDrawn list drawing
+      × ((rest : List Link) → list ++ links_in text pattern (drop n ms) rest ≡ before ++ all rest)
+
+  pub links_next : (next : Drawing) (pattern : PatternName) (m d : Mention Span) → i < length ms → m ≡ get_or ms i d
+      → LeavesLinks now pattern i → DrawsLinks now next (link_to text pattern (referred m))
+      → LeavesLinks next (pattern_after pattern m) (i + 1)
+  links_next next pattern m d within is left draws = λ before drawn.
+      let cut : drop i ms ≡ m ∷ drop (i + 1) ms = drop_more ms i d within ∙ ap (λ y. y ∷ drop (i + 1) ms) (sym is) in
+      let first = left before drawn in
+      let second = draws first.0 first.1 in (
+        second.0,
+        second.1,
+        λ rest.
+            second.2 (links_in text (pattern_after pattern m) (drop (i + 1) ms) rest)
+            ∙ ap (λ (l : Mentions Span). first.0 ++ links_in text pattern l rest) (sym cut)
+            ∙ first.2 rest,
+      )
+
+  pub links_none : (pattern : PatternName) → length ms ≤ i → LeavesLinks now pattern i → DrawsLinks old now all
+  links_none pattern end left = λ before drawn.
+      let first = left before drawn in (
+        first.0,
+        first.1,
+        λ rest.
+            ap (λ (l : Mentions Span). first.0 ++ links_in text pattern l rest) (sym (drop_all i ms end))
+            ∙ first.2 rest,
+      )
+
+-- ---- The files
+
+module _ (files : List Outline) (now : Drawing) (i : ℕ) where
+  abbrev pub LeavesLinkFiles : Drawing → ℕ → Type 0
+  LeavesLinkFiles drawing n = (list : List Link) × IsDrawn list drawing × (list ++ links (drop n files) ≡ links files)
+
+  pub link_files_next : (next : Drawing) (file : Outline) → i < length files → file ≡ get_or files i file
+      → LeavesLinkFiles now i → DrawsLinks now next (links_in file.text.now no_pattern file.mentions.items)
+      → LeavesLinkFiles next (i + 1)
+  link_files_next next file within is left draws =
+      let cut : drop i files ≡ file ∷ drop (i + 1) files =
+      drop_more files i file within ∙ ap (λ y. y ∷ drop (i + 1) files) (sym is) in
+      let second = draws left.0 left.1 in (
+        second.0,
+        second.1,
+        second.2 (links (drop (i + 1) files))
+            ∙ ap (λ (l : List Outline). left.0 ++ links l) (sym cut)
+            ∙ left.2,
+      )
+
+  pub link_files_none : length files ≤ i → LeavesLinkFiles now i → IsDrawn (links files) now
+  link_files_none end left =
+      let same : left.0 ≡ links files =
+      sym (append-nil left.0) ∙ ap (λ (l : List Outline). left.0 ++ links l) (sym (drop_all i files end)) ∙ left.2 in
+      subst (λ (l : List Link). IsDrawn l now) same left.1

@@ -1,0 +1,66 @@
+-- Names as nodes of a graph.
+use Rattle.std.specs.Prelude.{◌≡◌, ◌<◌, ℕ, Bool, true, false, nat_eq, List, ◌++◌, length, Option, None, Some}
+use Rattle.std.specs.Prelude.{option_and_then, slice_get}
+use Rattle.fluent_syntax_graph.specs.Graph.{Graph, Leads, targets_of}
+use Rattle.fluent_syntax_names.specs.Circles.{Link, leads, comes_back}
+use Rattle.fluent_syntax_names.specs.Findings.{Set}
+use Rattle.fluent_syntax_names.specs.Places.{place_of}
+use Rattle.fluent_syntax_names.specs.Spelled.{Text}
+use Rattle.fluent_syntax_names.specs.Tables.{Lookup, has_name}
+use Rattle.fluent_syntax_names.specs.declared.circles.Circles.{Circles}
+use Rattle.fluent_syntax_names.specs.declared.drawing.Drawing.{Drawing}
+
+-- which node a name is
+abbrev pub Nodes : Type 0
+Nodes = Text → Option ℕ
+
+-- the graph has an edge between two nodes exactly where the names lead to one another
+pub record Drawn (all : List Link) (node : Nodes) (g : Graph) : Type 0 where
+  pub within : (x : Text) (u : ℕ) → node x ≡ Some u → u < length g
+  pub apart : (x y : Text) (u : ℕ) → node x ≡ Some u → node y ≡ Some u → x ≡ y
+  pub drawn : (x y : Text) → leads all x y ≡ true
+      → (u : ℕ) × (v : ℕ) × (node x ≡ Some u) × (node y ≡ Some v) × Leads g u v
+  pub named : (u v : ℕ) → Leads g u v
+      → (x : Text) × (y : Text) × (node x ≡ Some u) × (node y ≡ Some v) × (leads all x y ≡ true)
+
+abbrev pub nodes_of : Drawing → Nodes
+nodes_of drawing = place_of drawing.numbers.table
+
+abbrev pub IsDrawn : List Link → Drawing → Type 0
+IsDrawn all drawing = Drawn all (nodes_of drawing) (targets_of drawing.targets.items)
+
+abbrev pub IsSomeDrawing : Drawing → Type 0
+IsSomeDrawing drawing = (all : List Link) × IsDrawn all drawing
+
+-- what was drawn is drawn still, with what `more` puts before other links
+abbrev pub DrawsLinks : Drawing → Drawing → (more : List Link → List Link) → Type 0
+DrawsLinks old new more = (before : List Link) → IsDrawn before old
+    → (now : List Link) × IsDrawn now new × ((rest : List Link) → now ++ rest ≡ before ++ more rest)
+
+-- the name has this node, and nothing else has changed
+pub record AddsName (old new : Drawing) (name : Text) (number : ℕ) : Type 0 where
+  pub known : nodes_of new name ≡ Some number
+  pub stays : (x : Text) (u : ℕ) → nodes_of old x ≡ Some u → nodes_of new x ≡ Some u
+  pub drawn : (all : List Link) → IsDrawn all old → IsDrawn all new
+
+-- ---- Parts of the graph
+
+abbrev pub part_at : Circles → Text → Option ℕ
+part_at circles name = option_and_then (slice_get circles.parts.items) (place_of circles.numbers.table name)
+
+abbrev pub same_option : Option ℕ → Option ℕ → Bool
+same_option None None = true
+same_option None (Some y) = false
+same_option (Some x) None = false
+same_option (Some x) (Some y) = nat_eq x y
+
+abbrev pub same_part : Circles → Text → Text → Bool
+same_part circles from to = same_option (part_at circles from) (part_at circles to)
+
+-- it is known of each reference whether it comes back
+abbrev pub KnowsCircles : List Link → Circles → Type 0
+KnowsCircles all circles = (from to : Text) → leads all from to ≡ true
+    → same_part circles from to ≡ comes_back all from to
+
+abbrev pub set_by : Lookup → Circles → Set
+set_by defined circles = record { defines = has_name defined; comes_back = same_part circles }

@@ -1,0 +1,104 @@
+//! The graph of what patterns refer to.
+ghost use Rattle.std.specs.Prelude.{◌≡◌, ◌<◌, List, ℕ, Some, [], OnOk, IfOk, length};
+ghost use Rattle.fluent_syntax_names.specs.Circles.{link_of, link_to, links_in, links, no_pattern};
+ghost use Rattle.fluent_syntax_names.specs.Drawings.{AddsName, DrawsLinks, IsDrawn, IsSomeDrawing};
+ghost use Rattle.fluent_syntax_names.specs.Places.{place_of};
+
+use crate::mention::Mention;
+use crate::numbers::Numbers;
+use crate::outline::Outline;
+use crate::referring::{NO_PATTERN, pattern_after, referred};
+use crate::spelled::{PatternName, spelled_pattern};
+use fluent_syntax_tree::spans::Span;
+use std::alloc::{AllocError, Global};
+
+/// A graph of names, with an edge from each to those that it leads to.
+#[derive(Drop)]
+pub(crate) struct Drawing {
+    /// Which node a name is.
+    pub(crate) numbers: Numbers,
+    /// Where the edges of each node lead.
+    pub(crate) targets: Vec<Vec<usize>>,
+}
+
+/// The graph of all that the patterns of the files refer to.
+pub(crate) fn drawing_of(alloc: Global, files: &[Outline<'_>]) -> Result<Drawing, AllocError>
+    ensures { IfOk result (λ drawing. IsDrawn (links files.now) drawing) }
+{
+    let mut drawing = Drawing {
+        numbers: Numbers::new(alloc),
+        targets: Vec::new(alloc),
+    };
+    for file in files {
+        drawing.add_file(alloc, file.text, &file.mentions)?;
+    }
+    Ok(drawing)
+}
+
+impl Drawing {
+    /// Draws what the mentions of a file refer to.
+    fn add_file(
+        &mut self,
+        alloc: Global,
+        text: &str,
+        mentions: &[Mention<Span>],
+    ) -> Result<(), AllocError>
+        requires { IsSomeDrawing self.old }
+        ensures { OnOk result (DrawsLinks self.old self.new (links_in text.now no_pattern mentions.now)) }
+    {
+        let mut pattern = NO_PATTERN;
+        for mention in mentions {
+            self.add_reference(alloc, text, pattern, referred(mention))?;
+            pattern = pattern_after(pattern, mention);
+        }
+        Ok(())
+    }
+
+    /// Draws that the pattern refers to the target, if there is one.
+    fn add_reference(
+        &mut self,
+        alloc: Global,
+        text: &str,
+        pattern: PatternName,
+        target: Option<PatternName>,
+    ) -> Result<(), AllocError>
+        requires { IsSomeDrawing self.old }
+        ensures { OnOk result (DrawsLinks self.old self.new (link_to text.now pattern target)) }
+    {
+        match target {
+            Some(target) => self.add_link(alloc, text, pattern, target),
+            None => Ok(()),
+        }
+    }
+
+    fn add_link(
+        &mut self,
+        alloc: Global,
+        text: &str,
+        pattern: PatternName,
+        target: PatternName,
+    ) -> Result<(), AllocError>
+        requires { IsSomeDrawing self.old }
+        ensures { OnOk result (DrawsLinks self.old self.new (link_to text.now pattern (Some target))) }
+    {
+        let from = spelled_pattern(alloc, text, pattern)?;
+        let to = spelled_pattern(alloc, text, target)?;
+        let from = self.node_of(alloc, from)?;
+        let to = self.node_of(alloc, to)?;
+        self.targets[from].push(to)?;
+        Ok(())
+    }
+
+    /// The node of the name, which is added where it is new.
+    fn node_of(&mut self, alloc: Global, name: Vec<u8>) -> Result<usize, AllocError>
+        ensures { IfOk result (AddsName self.old self.new name.items) }
+    {
+        if let Some(node) = self.numbers.number_of(&name) {
+            return Ok(node);
+        }
+        let node = self.targets.len();
+        self.targets.push(Vec::new(alloc))?;
+        self.numbers.note(name, node)?;
+        Ok(node)
+    }
+}

@@ -1,0 +1,89 @@
+-- The ranges of an entry's parts are ordered, and begin and end at places of any kind that words begin and end at.
+use Rattle.std.proofs.Common.{◌≡◌, ℕ, true, List, Option, Some, None, refl, sym, subst, arith}
+use Rattle.std.specs.Prelude.{IfSome, option_map, slice_get}
+use Rattle.std.specs.Str.{IsCharBoundary, IsUtf8}
+use Rattle.fluent_syntax_tree.specs.Entry.{AttributeTree, EntryTree}
+use Rattle.fluent_syntax_tree.specs.Every.{list_every, option_every}
+use Rattle.fluent_syntax_tree.specs.Tree.{PatternTree}
+use Rattle.fluent_syntax_tree.specs.Spans.{IsPart}
+use Rattle.fluent_syntax_tree.specs.declared.edition.Edition.{Edition}
+use Rattle.fluent_syntax_tree.specs.declared.spans.Span.{Span}
+use Rattle.fluent_syntax_grammar.specs.Bytes.{equals_sign, is_letter, is_name_byte}
+use Rattle.fluent_syntax_grammar.specs.Construct.{Construct, Read, at_place, chosen, first, given, goes_on, passed, second}
+use Rattle.fluent_syntax_grammar.specs.Grammar.{family, pattern}
+use Rattle.fluent_syntax_grammar.specs.Places.{InlineBlank, has}
+use Rattle.fluent_syntax_grammar.specs.Words.{identifier, token}
+use Rattle.fluent_syntax_grammar.proofs.Boundaries.{boundary_cuts}
+use Rattle.fluent_syntax_grammar.proofs.Cuts.{IsCuts, ascii_has, ascii_name}
+use Rattle.fluent_syntax_grammar.proofs.Sound.{Ended, IsSpan, Sound, sound_blank_block, sound_inline_blank}
+use Rattle.fluent_syntax_grammar.proofs.SoundEntries.{sound_attribute, sound_pattern}
+use Rattle.fluent_syntax_grammar.proofs.SoundWords.{sound_identifier, sound_token}
+use Rattle.fluent_syntax_grammar.proofs.Facts.{implies}
+use Rattle.fluent_syntax_grammar.proofs.Tests.{letter_name}
+use Rattle.fluent_syntax_parser.specs.Extents.{AttributeStands, AttributesStand, EntryStands, FieldsStand, HasExtents, ReadAt}
+use Rattle.fluent_syntax_parser.specs.Extents.{attribute_ranges, message_stands, none_stands, one_stands, ranges}
+use Rattle.fluent_syntax_parser.specs.Extents.{term_stands}
+use Rattle.fluent_syntax_parser.specs.Fields.{FieldTrees}
+use Rattle.fluent_syntax_parser.specs.declared.extents.AttributeExtents.{AttributeExtents}
+use Rattle.fluent_syntax_parser.specs.declared.extents.EntryExtents.{EntryExtents}
+
+letter_there : (t : List ℕ) (i j : ℕ) (a : Span) → identifier t i (Read a j) → has t is_letter i ≡ true
+letter_there t i j a (goes_on at_place (goes_on (chosen given) (first e x))) = e
+letter_there t i j a (goes_on at_place (goes_on (chosen given) (second e x))) = elim x [ ]
+
+if_any : {A : Type 0} (good : Span → Type 0) (place : Span) (o : Option Span) (p : Option A) →
+    o ≡ option_map (λ v. place) p → good place → option_every good o
+if_any good place None p e g = tt
+if_any good place (Some s) None e g = cc
+if_any good place (Some s) (Some v) e g = let same : s ≡ place = cc in subst good (sym same) g
+
+module _ (edition : Edition) (t : List ℕ) (P : ℕ → Type 0) (cuts : IsCuts t P) where
+  behind : {A : Type 0} {Good : A → Type 0} {c : Construct A} {i j : ℕ} {a : A} → Sound t P i c Good → P i →
+      c i (Read a j) → Ended P i Good a j
+  behind {i = i} {j = j} {a = a} s p x = s.holds.on_read i j a (record { late = omega arith; place = p }) x
+
+  name_range : (name : Span) → ReadAt (identifier t) name name → IsSpan P name
+  name_range name read =
+      let there = implies is_letter is_name_byte (slice_get t name.start) letter_name (letter_there t _ _ _ read) in
+      let begins = cuts.before name.start (ascii_has t is_name_byte name.start ascii_name there) in
+      (behind (sound_identifier t P cuts) begins read).good
+
+  value_range : (i equals : ℕ) (place : Span) (v : Option (PatternTree Span)) → P i → InlineBlank t i equals →
+      token t equals_sign equals (Read tt place.start) → ReadAt (pattern edition t) v place → IsSpan P place
+  value_range i equals place v p blank sign value =
+      let a = behind (sound_inline_blank t P cuts) p (passed blank) in
+      let b = behind (sound_token t P cuts 61 refl) a.place sign in
+      let c = behind (sound_pattern edition t P cuts) b.place value in
+      (c.late, b.place, c.place)
+
+  attribute_in_text : (x : AttributeExtents) (a : AttributeTree Span) →
+      AttributeStands edition t (family edition t) x a → P x.span.start → attribute_ranges (IsSpan P) x
+  attribute_in_text x a s p =
+      let whole = behind (sound_attribute edition t P cuts) p s.whole in
+      let name = name_range x.name s.name in
+      ((whole.late, p, whole.place), name, value_range _ _ x.value _ name.2 s.behind s.sign s.value)
+
+  attributes_in_text : {i end : ℕ} {xs : List AttributeExtents} {rest : List (AttributeTree Span)} →
+      AttributesStand edition t (family edition t) i xs rest end → P i → list_every (attribute_ranges (IsSpan P)) xs
+  attributes_in_text (none_stands x) p = tt
+  attributes_in_text (one_stands {x = x} {a = a} begins s more) p =
+      let r = attribute_in_text x a s (subst P (sym begins) p) in (r, attributes_in_text more r.0.2)
+
+  fields_in_text : (x : EntryExtents) (f : FieldTrees Span) (end : ℕ) → ReadAt (identifier t) x.name x.name →
+      FieldsStand edition t (family edition t) x.name.end x.value x.attributes.items f end → ranges (IsSpan P) x
+  fields_in_text x f end name s =
+      let n = name_range x.name name in
+      let v = value_range _ _ s.place _ n.2 s.behind s.sign s.value in
+      let line = behind (sound_blank_block t P cuts) v.2 (passed s.blank) in
+      (n, if_any (IsSpan P) s.place x.value f.0 s.there v, attributes_in_text s.attributes line.place)
+
+  entry_in_text : (i end : ℕ) (x : EntryExtents) (e : EntryTree Span) →
+      EntryStands edition t (family edition t) i x e end → ranges (IsSpan P) x
+  entry_in_text i end x e (message_stands {f = f} begins name s) = fields_in_text x f end name s
+  entry_in_text i end x e (term_stands mark name s) = fields_in_text x _ end name s
+
+pub extents_in_text : (edition : Edition) (t : List ℕ) → IsUtf8 t → (i : ℕ) (found : Option EntryExtents) →
+    HasExtents edition t i found → IfSome found (ranges (IsPart t))
+extents_in_text edition t utf8 i None s = tt
+extents_in_text edition t utf8 i (Some x) s =
+    entry_in_text edition t (IsCharBoundary t) (boundary_cuts t utf8) i s.end x s.tree s.parts

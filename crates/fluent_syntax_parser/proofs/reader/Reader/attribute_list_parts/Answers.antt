@@ -1,0 +1,58 @@
+use Rattle.std.proofs.Common.{arith, subst}
+use Rattle.fluent_syntax_grammar.specs.Construct.{Read}
+use Rattle.fluent_syntax_grammar.specs.Entries.{attribute_of}
+use Rattle.fluent_syntax_grammar.specs.Grammar.{within}
+use Rattle.fluent_syntax_grammar.proofs.DeeperEntries.{deeper_attribute, deeper_attributes}
+use Rattle.fluent_syntax_grammar.proofs.Nesting.{functional_within}
+use Rattle.fluent_syntax_parser.specs.Meets.{no_memory, too_deep}
+use Rattle.fluent_syntax_parser.proofs.ExtentForms.{all_extents, no_extents, one_extent}
+use Rattle.fluent_syntax_parser.proofs.Fails.{out_of_memory, shown, too_deep_there}
+use Rattle.fluent_syntax_parser.proofs.reader.Reader.attribute_list_parts.Goals as goal
+
+pub loop-extents-preserved-in_ok-push-in-Ok : goal.loop-extents-preserved-in_ok-push-in-Ok
+loop-extents-preserved-in_ok-push-in-Ok g c =
+    let t = c.args.self.now.source.bytes.now in
+    let edition = c.args.self.now.edition in
+    let R = within edition t c.args.nesting in
+    let old = c.loop-extents.invariant in
+    let read = c.in-Ok.ensures in
+    let (a, parts, begins, same) = read.finds in
+    record {
+      forward = omega (arith, old.forward, read.within.0);
+      within = read.within.1;
+      gathered =
+          one_extent edition t R c.args.ptr _ _ _ _ c.in_ok-push-in-Ok.ensures.items old.gathered a parts begins;
+      deeper = λ h. old.deeper
+          (deeper_attributes edition t R (functional_within edition t c.args.nesting)
+          (subst (λ i. attribute_of edition t R i (Read a c.in-Ok.extents.span.end)) begins parts.whole) h);
+    }
+
+pub returns-in-Err-Refused-clause-finds : goal.returns-in-Err-Refused-clause-finds
+returns-in-Err-Refused-clause-finds g c =
+    let t = c.args.self.now.source.bytes.now in
+    let R = within c.args.self.now.edition t c.args.nesting in
+    let found = rw c.in-Err-Refused.field-0-is at c.in-Err-Refused.ensures.finds in
+    (_, all_extents c.args.self.now.edition t R c.args.ptr _ _ c.loop-extents.invariant.gathered (shown found))
+
+pub returns-in-Err-TooDeep-clause-finds : goal.returns-in-Err-TooDeep-clause-finds
+returns-in-Err-TooDeep-clause-finds g c =
+    let t = c.args.self.now.source.bytes.now in
+    let found = rw c.in-Err-TooDeep.field-0-is at c.in-Err-TooDeep.ensures.finds in
+    too_deep (c.loop-extents.invariant.deeper
+    (deeper_attribute c.args.self.now.edition t (within c.args.self.now.edition t c.args.nesting)
+    (too_deep_there found)))
+
+pub returns-in_err-push-in-Ok-clause-finds : goal.returns-in_err-push-in-Ok-clause-finds
+returns-in_err-push-in-Ok-clause-finds g c =
+    rw (out_of_memory c.from_residual.result c.from_residual.ensures.1) no_memory
+
+pub returns-in-Err-Memory-clause-finds : goal.returns-in-Err-Memory-clause-finds
+returns-in-Err-Memory-clause-finds g c = no_memory
+
+pub loop-extents-init : goal.loop-extents-init
+loop-extents-init g c = record {
+  forward = omega arith;
+  within = c.requires;
+  gathered = rw c.new-attributes.ensures.items (no_extents _ _ _ _);
+  deeper = λ h. h;
+}

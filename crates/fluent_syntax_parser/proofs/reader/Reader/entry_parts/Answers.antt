@@ -1,0 +1,47 @@
+use Rattle.std.proofs.Common.{sym}
+use Rattle.std.proofs.lemmas.Result.{err_from_is_err_and}
+use Rattle.fluent_syntax_grammar.specs.Grammar.{within}
+use Rattle.fluent_syntax_parser.proofs.EntryForms.{message_fails, message_there, term_fails, term_there}
+use Rattle.fluent_syntax_parser.proofs.reader.Reader.entry_parts.Goals as goal
+
+pub returns-in_err-extents : goal.returns-in_err-extents
+returns-in_err-extents g c =
+    let p = err_from_is_err_and c.from_residual.result c.from_residual.ensures.1 in
+    rw (p.1, p.2)
+    (term_fails c.args.self.now.edition c.args.self.now.source.bytes.now _ _ (sym c.if-is_byte_at.ensures)
+    (sym c.if-is_byte_at-2.ensures) c.in_err-extents.ensures)
+
+pub returns-in_err-extents-2 : goal.returns-in_err-extents-2
+returns-in_err-extents-2 g c =
+    let p = err_from_is_err_and c.from_residual-in_err-extents-2.result c.from_residual-in_err-extents-2.ensures.1 in
+    rw (p.1, p.2)
+    (message_fails c.args.self.now.edition c.args.self.now.source.bytes.now _ _ (sym c.if-is_byte_at.ensures)
+    (sym c.if-is_byte_at-2.ensures) c.in_err-extents-2.ensures)
+
+pub returns-in_ok-extents : goal.returns-in_ok-extents
+returns-in_ok-extents g c =
+    let t = c.args.self.now.source.bytes.now in
+    let edition = c.args.self.now.edition in
+    let (tree, end, read, parts) = c.in_ok-extents.ensures in
+    record {
+      tree = tree;
+      end = end;
+      read =
+          term_there edition t (within edition t c.args.nesting) _ _ (sym c.if-is_byte_at.ensures)
+          (sym c.if-is_byte_at-2.ensures) read;
+      parts = parts;
+    }
+
+pub returns-in_ok-extents-2 : goal.returns-in_ok-extents-2
+returns-in_ok-extents-2 g c =
+    let t = c.args.self.now.source.bytes.now in
+    let edition = c.args.self.now.edition in
+    let (tree, end, read, parts) = c.in_ok-extents-2.ensures in
+    record {
+      tree = tree;
+      end = end;
+      read =
+          message_there edition t (within edition t c.args.nesting) _ _ (sym c.if-is_byte_at.ensures)
+          (sym c.if-is_byte_at-2.ensures) read;
+      parts = parts;
+    }

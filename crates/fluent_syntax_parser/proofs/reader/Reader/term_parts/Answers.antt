@@ -1,0 +1,75 @@
+use Rattle.std.proofs.Common.{None, Some}
+use Rattle.std.proofs.lemmas.Result.{err_from_is_err_and}
+use Rattle.fluent_syntax_tree.specs.declared.spans.Span.{Span}
+use Rattle.fluent_syntax_grammar.specs.Bytes.{hyphen}
+use Rattle.fluent_syntax_grammar.specs.Construct.{stops, goes_on, at_place, given, failed_from}
+use Rattle.fluent_syntax_grammar.specs.Entries.{term_with}
+use Rattle.fluent_syntax_grammar.specs.Grammar.{within}
+use Rattle.fluent_syntax_grammar.proofs.FunctionalWords.{functional_identifier, functional_token}
+use Rattle.fluent_syntax_parser.specs.Extents.{term_stands}
+use Rattle.fluent_syntax_parser.specs.Meets.{refused}
+use Rattle.fluent_syntax_parser.proofs.ExtentForms.{fields_there, with_value, without_value}
+use Rattle.fluent_syntax_parser.proofs.Fails.{fails_next, functional_here}
+use Rattle.fluent_syntax_parser.proofs.FieldForms.{fields_fail, fields_then}
+use Rattle.fluent_syntax_parser.proofs.reader.Reader.term_parts.Goals as goal
+
+pub returns-in_err-letter : goal.returns-in_err-letter
+returns-in_err-letter g c =
+    let p = err_from_is_err_and c.from_residual.result c.from_residual.ensures.1 in
+    rw (p.1, p.2) (refused (λ k from to h. goes_on at_place (stops (c.in_err-letter.ensures.meets k from to h))))
+
+pub returns-in_err-end : goal.returns-in_err-end
+returns-in_err-end g c =
+    let p = err_from_is_err_and c.from_residual-in_err-end.result c.from_residual-in_err-end.ensures.1 in
+    rw (p.1, p.2) (refused (λ k from to h.
+    goes_on at_place
+    (goes_on c.in_ok-letter.ensures.meets
+    (stops (c.in_err-end.ensures.meets k from to h)))))
+
+pub returns-in_err-value : goal.returns-in_err-value
+returns-in_err-value g c =
+    let t = c.args.self.now.source.bytes.now in
+    let name : Span = record { start = c.in_ok-letter.letter; end = c.in_ok-end.end } in
+    let p = err_from_is_err_and c.from_residual-in_err-value.result c.from_residual-in_err-value.ensures.1 in
+    rw (p.1, p.2)
+    (fails_next functional_here at_place
+    (fails_next (functional_token t hyphen) c.in_ok-letter.ensures.meets
+    (fails_next (functional_identifier t) c.in_ok-end.ensures.meets
+    (fields_fail c.args.self.now.edition t _ (term_with t c.args.start name) c.in_err-value.ensures))))
+
+pub returns-then-is_none : goal.returns-then-is_none
+returns-then-is_none g c =
+    let t = c.args.self.now.source.bytes.now in
+    let edition = c.args.self.now.edition in
+    let R = within edition t c.args.nesting in
+    let name : Span = record { start = c.in_ok-letter.letter; end = c.in_ok-end.end } in
+    let found = c.in_ok-value in
+    let (f, stand) = found.ensures in
+    refused (λ k from to (a, b, d). rw (a, b, d)
+    (goes_on at_place
+    (goes_on c.in_ok-letter.ensures.meets
+    (goes_on c.in_ok-end.ensures.meets
+    (fields_then edition t R (term_with t c.args.start name) _ _ (None, f.1) _
+    (fields_there edition t R _ _ _ found.value (None, f.1)
+    (without_value edition t R _ _ _ found.value f stand c.if-is_none.ensures))
+    failed_from)))))
+
+pub returns : goal.returns
+returns g c =
+    let t = c.args.self.now.source.bytes.now in
+    let edition = c.args.self.now.edition in
+    let R = within edition t c.args.nesting in
+    let name : Span = record { start = c.in_ok-letter.letter; end = c.in_ok-end.end } in
+    let found = c.in_ok-value in
+    let (f, stand) = found.ensures in
+    with_value edition t R _ _ _ found.value f stand c.if-is_none.ensures (λ value parts. (
+      _,
+      _,
+      goes_on at_place
+          (goes_on c.in_ok-letter.ensures.meets
+          (goes_on c.in_ok-end.ensures.meets
+          (fields_then edition t R (term_with t c.args.start name) _ _ (Some value, f.1) _
+          (fields_there edition t R _ _ _ found.value (Some value, f.1) parts)
+          given))),
+      term_stands c.in_ok-letter.ensures.meets c.in_ok-end.ensures.meets parts,
+    ))

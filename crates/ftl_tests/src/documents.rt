@@ -1,0 +1,149 @@
+//! Open documents of the language server: bytes of places, and changes.
+
+use fluent_syntax_lsp::{Diagnostic, Document, NESTING_LIMIT, Place, byte_of, diagnostics_in};
+use fluent_syntax_tests::alike::{assert_holds, assert_same, assert_same_text};
+use std::alloc::Global;
+use std::test::Fail;
+
+/// A text, a line and a column, and the byte there.
+type ByteRow = (&'static str, usize, usize, usize);
+
+const BYTES: [ByteRow; 24] = [
+    ("", 0, 0, 0),
+    ("", 0, 5, 0),
+    ("", 3, 0, 0),
+    ("ab", 0, 0, 0),
+    ("ab", 0, 1, 1),
+    ("ab", 0, 2, 2),
+    ("a\nb", 1, 0, 2),
+    ("a\nb", 1, 1, 3),
+    // behind a line's end
+    ("ab\nc", 0, 2, 2),
+    ("ab\nc", 0, 9, 2),
+    ("ab\r\nc", 0, 9, 2),
+    ("ab\rc", 0, 9, 2),
+    ("ab\r\nc", 1, 0, 4),
+    ("ab\rc", 1, 0, 3),
+    ("ab", 0, 9, 2),
+    // behind the last line
+    ("ab\n", 1, 0, 3),
+    ("ab\n", 2, 0, 3),
+    ("ab\r", 1, 0, 3),
+    // characters of two, three and four bytes
+    ("éb", 0, 1, 2),
+    ("日b", 0, 1, 3),
+    ("😀b", 0, 2, 4),
+    // within a character of two units: its begin
+    ("😀b", 0, 1, 0),
+    ("a😀b", 0, 2, 1),
+    ("x\n😀é", 1, 3, 8),
+];
+
+#[test]
+fn bytes_of_places(rt: HostRuntime) -> Result<(), Fail> {
+    for row in &BYTES {
+        let (text, line, character, byte) = row;
+        let place = Place {
+            line: *line,
+            character: *character,
+        };
+        assert_same(rt.alloc(), *text, &byte_of(text, place), byte)?;
+    }
+    Ok(())
+}
+
+/// A text, the places between which it is changed, what stands there then, and the whole.
+type ChangeRow = (
+    &'static str,
+    (usize, usize),
+    (usize, usize),
+    &'static str,
+    &'static str,
+);
+
+const CHANGES: [ChangeRow; 9] = [
+    ("", (0, 0), (0, 0), "a = b\n", "a = b\n"),
+    ("a = b\n", (0, 4), (0, 5), "c", "a = c\n"),
+    ("a = b\n", (0, 5), (0, 4), "c", "a = c\n"),
+    ("a = b\n", (1, 0), (1, 0), "c = d\n", "a = b\nc = d\n"),
+    ("a = b\nc = d\n", (0, 0), (1, 0), "", "c = d\n"),
+    ("a = 日本\nc\n", (0, 5), (0, 6), "x", "a = 日x\nc\n"),
+    ("a = 😀\r\nc\r\n", (0, 6), (1, 1), " d", "a = 😀 d\r\n"),
+    ("a = b\nc = d\n", (9, 9), (9, 9), "e", "a = b\nc = d\ne"),
+    ("a = b\nc = d\n", (0, 99), (1, 0), " ", "a = b c = d\n"),
+];
+
+fn place_of(pair: (usize, usize)) -> Place {
+    Place {
+        line: pair.0,
+        character: pair.1,
+    }
+}
+
+/// Whether two lists of diagnostics are the same ones.
+fn are_same(some: &[Diagnostic], others: &[Diagnostic]) -> bool {
+    some.len() == others.len()
+        && some.iter().zip(others).all(|(a, b)| {
+            a.start == b.start && a.end == b.end && a.code == b.code && a.message == b.message
+        })
+}
+
+/// The document has the text, and the diagnostics of it.
+fn assert_document(alloc: Global, document: &Document, text: &str) -> Result<(), Fail> {
+    assert_same_text(alloc, text, document.text(), text)?;
+    let found = document.diagnostics(alloc)?;
+    assert_holds(alloc, text, are_same(&found, &diagnostics_in(alloc, text)?))
+}
+
+#[test]
+fn changes_of_a_document(rt: HostRuntime) -> Result<(), Fail> {
+    let alloc = rt.alloc();
+    for row in &CHANGES {
+        let (text, start, end, new, whole) = row;
+        let mut document = Document::new(alloc, text)?;
+        assert_document(alloc, &document, text)?;
+        document.change_between(alloc, place_of(*start), place_of(*end), new)?;
+        assert_document(alloc, &document, whole)?;
+    }
+    Ok(())
+}
+
+#[test]
+fn tiles_of_a_document(rt: HostRuntime) -> Result<(), Fail> {
+    let alloc = rt.alloc();
+    let mut document = Document::new(alloc, "# c\na = b\nbro ken\n")?;
+    assert_same(alloc, "tiles", &document.tiles().len(), &3)?;
+    document.change(alloc, 10, 18, "-d = e\n")?;
+    assert_same_text(alloc, "text", document.text(), "# c\na = b\n-d = e\n")?;
+    assert_same(alloc, "tiles", &document.tiles().len(), &3)?;
+    assert_holds(alloc, "no junk", document.tiles().iter().all(|tile| tile.found.error.is_none()))
+}
+
+/// A message whose value nests that deeply.
+fn nested(alloc: Global, depth: usize) -> Result<String, Fail> {
+    let mut text = String::from_str(alloc, "a = ")?;
+    for _ in 0..depth {
+        text.push_str("{ ")?;
+    }
+    text.push_str("$x")?;
+    for _ in 0..depth {
+        text.push_str(" }")?;
+    }
+    text.push_str("\n")?;
+    Ok(text)
+}
+
+#[test]
+fn a_document_that_nests_too_deeply(rt: HostRuntime) -> Result<(), Fail> {
+    let alloc = rt.alloc();
+    let deep = nested(alloc, NESTING_LIMIT + 1)?;
+    let mut document = Document::new(alloc, deep.as_str())?;
+    assert_holds(alloc, "deep", matches!(document, Document::TooDeep(_)))?;
+    assert_document(alloc, &document, deep.as_str())?;
+    document.change(alloc, 0, deep.len(), "b = c\n")?;
+    assert_holds(alloc, "shallow", matches!(document, Document::Held(_)))?;
+    assert_document(alloc, &document, "b = c\n")?;
+    document.change(alloc, 0, 6, deep.as_str())?;
+    assert_holds(alloc, "deep again", matches!(document, Document::TooDeep(_)))?;
+    assert_document(alloc, &document, deep.as_str())
+}
