@@ -1,8 +1,8 @@
 -- Entries whose texts were made, and the trees of spans that they stand for.
-use Rattle.std.proofs.Common.{◌≡◌, ℕ, suc, ◌-◌, List, [], ◌∷◌, ◌++◌, length, Bool, true, false, map, Option, Some, None, option_map, refl}
+use Rattle.std.proofs.Common.{◌≡◌, ◌<◌, ℕ, suc, ◌-◌, List, [], ◌∷◌, ◌++◌, length, Bool, true, false, map, Option, Some, None, option_map, refl}
 use Rattle.std.proofs.Common.{sym, ap, subst, arith, ◌∙◌}
-use Rattle.std.specs.Prelude.{option_to_list, slice_get}
-use Rattle.std.proofs.lemmas.List.{append-nil, append_assoc, map-append}
+use Rattle.std.specs.Prelude.{is_some, option_to_list, slice_get}
+use Rattle.std.proofs.lemmas.List.{append-nil, append_assoc, map-append, same_from_push}
 use Rattle.fluent_syntax_tree.specs.Entry.{BodyTree, EntryTree, body_map, comment, entry_map, group, junk, message}
 use Rattle.fluent_syntax_tree.specs.Entry.{regular, resource, term}
 use Rattle.fluent_syntax_tree.specs.View.{comment_view, entry_view}
@@ -34,11 +34,15 @@ some_of g (Some a) b e = (a, refl, ap (or b) e)
 pub same_some : {X : Type 0} (a b : X) → Some a ≡ Some b → a ≡ b
 same_some a b e = ap (or a) e
 
--- the last item of a list that holds one at most
-pub only : {X : Type 0} (item : Option X) →
-    slice_get (option_to_list item) (length (option_to_list item) - 1) ≡ item
-only None = refl
-only (Some x) = refl
+-- what is taken from the end of a list that holds one item at most
+pub only : {X : Type 0} (item taken : Option X) (left : List X) →
+    option_to_list item ≡ left ++ option_to_list taken →
+    (0 < length (option_to_list item) → is_some taken ≡ true) → taken ≡ item
+only None None left same some = refl
+only None (Some y) [] same some = cc
+only None (Some y) (x ∷ left) same some = cc
+only (Some x) None left same some = let taken = some (omega arith) in cc
+only (Some x) (Some y) left same some = ap Some (sym (same_from_push [] left x y same).1)
 
 none_of : {A B : Type 0} (g : A → B) (o : Option A) → None ≡ option_map g o → o ≡ None
 none_of g None e = refl
