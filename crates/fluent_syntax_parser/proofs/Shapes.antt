@@ -16,6 +16,7 @@ use Rattle.fluent_syntax_parser.specs.Layouts.{indented, items_from, line_items,
 use Rattle.fluent_syntax_parser.specs.Layouts.{line_map, layout_map, item_map}
 use Rattle.fluent_syntax_parser.specs.Lines.{ending_view, line_shape, line_view, piece_shape, piece_view}
 use Rattle.fluent_syntax_parser.specs.declared.elements.Layout.{Layout}
+use Rattle.fluent_syntax_parser.proofs.Waiting.{as_item}
 use Rattle.fluent_syntax_parser.specs.declared.line.Line as rows
 use Rattle.fluent_syntax_parser.specs.declared.line.Piece as parts
 use Rattle.fluent_syntax_parser.specs.declared.line.Piece.TheVariants as part
@@ -83,6 +84,16 @@ module _ {E F : Type 0} (h : E → F) where
   items_mapped edition common y =
       rw (opening_mapped y.opening, lines_mapped edition common y.lines)
       (sym (map-append (item_map h) (opening_items y.opening) (flat_map (line_items edition common) y.lines)))
+
+-- ---- a piece as an item
+
+item_is : {S : Type 0} (p : parts.Piece S) → item_shape p ≡ as_item (piece_shape p)
+item_is (part.Run from to) = refl
+item_is (part.Placed e) = refl
+
+pub items_are : {S : Type 0} (ps : List (parts.Piece S)) → map item_shape ps ≡ map as_item (map piece_shape ps)
+items_are [] = refl
+items_are (p ∷ ps) = rw (item_is p, items_are ps) refl
 
 -- ---- what a reader has made, as its expressions are seen
 

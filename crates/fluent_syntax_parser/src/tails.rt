@@ -79,12 +79,13 @@ impl<'s, 't, M: MakeTexts> Reader<'s, 't, M> {
                     end: to,
                 })?;
                 elements.push(PatternElement::TextElement { value })?;
+                Ok(())
             }
             Piece::Placed { expression } => {
                 elements.push(PatternElement::Placeable { expression })?;
+                Ok(())
             }
         }
-        Ok(())
     }
 
     /// The elements that items are which one more follows, with room for that.
@@ -117,12 +118,13 @@ impl<'s, 't, M: MakeTexts> Reader<'s, 't, M> {
                 let end = self.source.trimmed_end(from, to);
                 let value = self.text(Span { start: from, end })?;
                 elements.push(PatternElement::TextElement { value })?;
+                Ok(())
             }
             Piece::Placed { expression } => {
                 elements.push(PatternElement::Placeable { expression })?;
+                Ok(())
             }
         }
-        Ok(())
     }
 
     /// The pattern that a layout spells, if it spells one.

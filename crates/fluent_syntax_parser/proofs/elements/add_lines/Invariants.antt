@@ -1,10 +1,10 @@
 use Rattle.std.proofs.Common.{◌≡◌, ◌++◌, map}
 use Rattle.std.specs.List.{flat_map}
 use Rattle.std.specs.Vec.Iter.{into_iter_items}
-use Rattle.fluent_syntax_parser.specs.Layouts.{items_with, line_items}
-use Rattle.fluent_syntax_parser.specs.Elements.{item_shape, layout_shape}
+use Rattle.fluent_syntax_parser.specs.Layouts.{line_items}
+use Rattle.fluent_syntax_parser.specs.Elements.{item_shape}
 use Rattle.fluent_syntax_parser.specs.Lines.{line_shape}
-use Rattle.fluent_syntax_parser.proofs.elements.items_of.Given as goal
+use Rattle.fluent_syntax_parser.proofs.elements.add_lines.Given as goal
 
 -- what was added, and what is left to add, are together what is to be added
 abbrev pub invariant-loop-line : goal.invariant-loop-line
@@ -12,5 +12,5 @@ invariant-loop-line g l = record {
   whole :
       map item_shape l.items.items
       ++ flat_map (line_items l.edition l.common) (map line_shape (into_iter_items l.line-iterator))
-      ≡ items_with l.edition l.common (layout_shape l.fn.layout);
+      ≡ map item_shape l.fn.items.items ++ flat_map (line_items l.edition l.common) (map line_shape l.fn.lines.items);
 }
