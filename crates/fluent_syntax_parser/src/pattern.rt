@@ -25,7 +25,6 @@ use std::alloc::AllocError;
 
 impl<'s> Source<'s> {
     /// Where a pattern ends that has no line from a line's start on.
-    #[inline(always)]
     fn end_without_lines(&self, edition: Edition, ptr: usize) -> Option<usize>
         requires { ptr ≤ length self.now.bytes.now }
         ensures lines { IfSome result (NoLines edition self.now.bytes.now ptr) }

@@ -25,9 +25,12 @@ returns-clause-adds g c =
     let count = c.comment_level-level.result in
     let hashed = sym c.comment_level-level.ensures.level in
     let named = comment_made c.args.self.now.source.bytes.now c.args.ptr c.in_ok-content.end count _ hashed
-    c.in_ok-content.ensures.meets in
-    (_, c.in_ok-push.ensures.items, elim c.match-level.branch [
-      | in-1 w ↦ rw w.entry-is (named regular (rw w.in-1.is refl))
-      | in-2 w ↦ rw w.entry-is (named group (rw w.in-2.is refl))
-      | in_default w ↦ rw w.entry-is (named resource (level_other count (λ e. omega arith) (λ e. omega arith)))
-    ])
+    c.in_ok-content.ensures.meets in (
+      _,
+      c.in_ok-push.ensures.items,
+      elim c.match-level.branch [
+        | in-1 w ↦ rw w.entry-is (named regular (rw w.in-1.is refl))
+        | in-2 w ↦ rw w.entry-is (named group (rw w.in-2.is refl))
+        | in_default w ↦ rw w.entry-is (named resource (level_other count (λ e. omega arith) (λ e. omega arith)))
+      ],
+    )

@@ -25,10 +25,12 @@ returns-in_err-fields-clause-adds g c =
     let t = c.args.self.now.source.bytes.now in
     let name : Span = record { start = c.args.start; end = c.in_ok-end.end } in
     let p = err_from_is_err_and c.from_residual-in_err-fields.result c.from_residual-in_err-fields.ensures.1 in
-    rw (p.1, p.2)
-    (fails_next functional_here at_place
-    (fails_next (functional_identifier t) c.in_ok-end.ensures.meets
-    (fields_fail c.args.self.now.edition t _ (message_with t c.args.start name) c.in_err-fields.ensures.meets)), refl)
+    rw (p.1, p.2) (
+      fails_next functional_here at_place
+          (fails_next (functional_identifier t) c.in_ok-end.ensures.meets
+          (fields_fail c.args.self.now.edition t _ (message_with t c.args.start name) c.in_err-fields.ensures.meets)),
+      refl,
+    )
 
 pub returns-then-is_empty-clause-adds : goal.returns-then-is_empty-clause-adds
 returns-then-is_empty-clause-adds g c =
@@ -37,14 +39,16 @@ returns-then-is_empty-clause-adds g c =
     let found = c.in_ok-fields.fields in
     let size : length found.attributes.items ≡ vec_len found.attributes = omega (arith, found.attributes.ok.0) in
     let none = no_items found.attributes.items _ size c.if-is_empty.ensures in
-    on_made c.in_ok-fields.ensures.meets (λ x read same.
-    (refused (λ k from to (a, b, d). rw (a, b, d)
-    (goes_on at_place
-    (goes_on c.in_ok-end.ensures.meets
-    (fields_then c.args.self.now.edition t _ (message_with t c.args.start name) _ _ x _ read
-    (message_without t c.args.start _ name x.0 x.1
-    (is_some_of _ _ found.value x.0 (ap (λ y. y.0) same) ∙ c.if-is_none.ensures)
-    (none_of _ _ found.attributes.items x.1 (ap (λ y. y.1) same) none)))))), refl))
+    on_made c.in_ok-fields.ensures.meets (λ x read same. (
+      refused (λ k from to (a, b, d). rw (a, b, d)
+          (goes_on at_place
+          (goes_on c.in_ok-end.ensures.meets
+          (fields_then c.args.self.now.edition t _ (message_with t c.args.start name) _ _ x _ read
+          (message_without t c.args.start _ name x.0 x.1
+          (is_some_of _ _ found.value x.0 (ap (λ y. y.0) same) ∙ c.if-is_none.ensures)
+          (none_of _ _ found.attributes.items x.1 (ap (λ y. y.1) same) none)))))),
+      refl,
+    ))
 
 pub returns-in_err-id-clause-adds : goal.returns-in_err-id-clause-adds
 returns-in_err-id-clause-adds g c =
@@ -63,17 +67,21 @@ returns-clause-adds g c =
     let found = c.in_ok-fields.fields in
     let rest = found.attributes.items in
     let size : length rest ≡ vec_len found.attributes = omega (arith, found.attributes.ok.0) in
-    on_made c.in_ok-fields.ensures.meets (λ x read same. (_, c.in_ok-push.ensures.items, made
-    (goes_on at_place
-    (goes_on c.in_ok-end.ensures.meets
-    (fields_then c.args.self.now.edition t _ (message_with t c.args.start name) _ _ x _ read
-    (elim c.else-is_none.branch [
-      | else-is_none-via-then-is_none+else-is_empty w ↦
-          message_of_attributes t c.args.start place name x.0 x.1
-          (λ none. some_items rest _ size w.if-is_empty.ensures
-          (none_of _ _ x.1 rest (sym (ap (λ y. y.1) same)) none))
-      | else-is_none-via-else-is_none w ↦
-          message_of_value t c.args.start place name x.0 x.1
-          (is_some_of _ _ found.value x.0 (ap (λ y. y.0) same) ∙ w.if-is_none.ensures)
-    ]))))
-    (rw (c.in_ok-id.ensures, ap (λ y. y.0) same, ap (λ y. y.1) same) refl)))
+    on_made c.in_ok-fields.ensures.meets (λ x read same. (
+      _,
+      c.in_ok-push.ensures.items,
+      made
+          (goes_on at_place
+          (goes_on c.in_ok-end.ensures.meets
+          (fields_then c.args.self.now.edition t _ (message_with t c.args.start name) _ _ x _ read
+          (elim c.else-is_none.branch [
+            | else-is_none-via-then-is_none+else-is_empty w ↦
+                message_of_attributes t c.args.start place name x.0 x.1
+                (λ none. some_items rest _ size w.if-is_empty.ensures
+                (none_of _ _ x.1 rest (sym (ap (λ y. y.1) same)) none))
+            | else-is_none-via-else-is_none w ↦
+                message_of_value t c.args.start place name x.0 x.1
+                (is_some_of _ _ found.value x.0 (ap (λ y. y.0) same) ∙ w.if-is_none.ensures)
+          ]))))
+          (rw (c.in_ok-id.ensures, ap (λ y. y.0) same, ap (λ y. y.1) same) refl),
+    ))

@@ -30,7 +30,7 @@ returns-then-is_byte_at-clause-hangs g c = λ before comm last.
               (λ block e j read. hash_hangs_not edition t content c.args.ptr j e (sym w.if-is_byte_at.ensures) read)
           | then-is_byte_at-via-else-is_byte_at+then-skip_blank_block-ptr w ↦
               behind_blank edition t content c.args.ptr _ w.skip_blank_block.ensures.blank
-                  w.if-skip_blank_block-ptr.true
+              w.if-skip_blank_block-ptr.true
         ]),
         ap (comment regular) lines,
       )),
@@ -50,12 +50,12 @@ returns-then-hangs-clause-hangs g c = λ before comm last.
       hangs.0,
       hangs.2,
       (λ content lines. on_made found.adds.2 (λ tree read same.
-      let made = hung_made f g.M.MakeTexts.made comm e content tree lines same _ hangs.1 in (
-        made.0,
-        hangs_on edition t content c.args.ptr tree made.0 _ block inside
-            (at_any_depth_entry edition t c.args.nesting c.args.ptr read) made.1,
-        made.2,
-      ))),
+          let made = hung_made f g.M.MakeTexts.made comm e content tree lines same _ hangs.1 in (
+            made.0,
+            hangs_on edition t content c.args.ptr tree made.0 _ block inside
+                (at_any_depth_entry edition t c.args.nesting c.args.ptr read) made.1,
+            made.2,
+          ))),
     )
 
 pub returns-else-hangs-clause-hangs : goal.returns-else-hangs-clause-hangs
