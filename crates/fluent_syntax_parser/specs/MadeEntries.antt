@@ -78,7 +78,8 @@ module _ {S X : Type 0} (f : Span → X) (v : S → X) where
     pub tells : told ≡ errors ++ option_to_list error
     pub tile : MadeTile edition t n i j entry error
 
-  -- An entry stands from i to j before whatever the rest is from there on, and is added with its error, if there is one.
+  -- An entry stands from i to j before whatever the rest is from there on, and is added, and its error, if there is
+  -- one.
   pub record AddsEntry (comments : Comments) (edition : Edition) (t : List ℕ) (i j : ℕ) (old new : List (Entry S))
       (errors told : List ParserError) : Type 0 where
     pub entry : Entry S

@@ -69,7 +69,7 @@ returns-in_ok-push-in-Some-clause-adds g c =
           (goes_on at_place
           (goes_on c.in_ok-letter.ensures.meets
           (goes_on c.in_ok-end.ensures.meets
-          (fields_then c.args.self.now.edition t _ (term_with t c.args.start name) _ _ (Some value, x.1) _ there given))))
+          (fields_then edition t _ (term_with t c.args.start name) _ _ (Some value, x.1) _ there given))))
           (rw (c.in_ok-id-in-Some.ensures, same_value, ap (λ y. y.1) same) refl),
     )))
 
