@@ -11,7 +11,7 @@ ghost use Rattle.fluent_syntax_parser.specs.declared.fault.ParseFault.TheVariant
 ghost use Rattle.fluent_syntax_parser.specs.MadeEntries.{MadeBody};
 ghost use Rattle.fluent_syntax_parser.specs.Rest.{TileIn};
 
-use crate::fault::{ParseFault, TooDeep, add_error, answer_of};
+use crate::fault::{ParseFault, TooDeep, answer_of};
 use crate::options::{Comments, Halt, Options};
 use crate::reader::Reader;
 use crate::source::Source;
