@@ -22,8 +22,8 @@ returns-in_err-push-clause-adds g c =
     rw (out_of_memory c.from_residual-in_err-push.result c.from_residual-in_err-push.ensures.1)
     (no_memory, c.in_err-push.ensures.items)
 
-pub returns-in_ok-push-clause-adds : goal.returns-in_ok-push-clause-adds
-returns-in_ok-push-clause-adds g c =
+pub returns-clause-adds : goal.returns-clause-adds
+returns-clause-adds g c =
     let t = c.args.self.now.source.bytes.now in
     let edition = c.args.self.now.edition in
     let R = within edition t c.args.nesting in
