@@ -1,5 +1,5 @@
 -- Gathered arguments before those of the rest of a list.
-use Rattle.std.proofs.Common.{◌≡◌, List, [], ◌∷◌, ◌++◌, map, refl, ap, sym, ◌∙◌}
+use Rattle.std.proofs.Common.{◌≡◌, List, [], ◌∷◌, ◌++◌, map, refl, ap, ◌∙◌}
 use Rattle.fluent_syntax_tree.specs.Tree.{InlineTree, ArgumentsTree, arguments, InlineTrees, no_inlines, inlines}
 use Rattle.fluent_syntax_tree.specs.Tree.{inlines_of, NamedTree, named_argument, NamedTrees, no_named, nameds}
 use Rattle.fluent_syntax_tree.specs.Tree.{nameds_of, arguments_map, inline_map, inlines_map, named_map, nameds_map}

@@ -1,5 +1,5 @@
 -- What is asked of an inline expression, by its form.
-use Rattle.std.proofs.Common.{◌≡◌, Option, Some, None, option_map, Bool, true, false, is_some, Box, Global, refl, ap}
+use Rattle.std.proofs.Common.{◌≡◌, Option, Some, None, option_map, true, false, is_some, Box, Global, refl, ap}
 use Rattle.std.proofs.Common.{◌∙◌, subst}
 use Rattle.fluent_syntax_tree.specs.Kind.{MessageReferenceAsSelector, TermReferenceAsSelector}
 use Rattle.fluent_syntax_tree.specs.Kind.{MessageAttributeAsSelector, ExpectedSimpleExpressionAsSelector}

@@ -1,10 +1,10 @@
 -- What a layout spells with f of each text in its place, it spells before, with f of each text of that in its place.
-use Rattle.std.proofs.Common.{◌≡◌, ℕ, List, [], ◌∷◌, ◌++◌, map, Option, Some, None, option_map, Bool, true, false, refl}
+use Rattle.std.proofs.Common.{◌≡◌, ℕ, List, [], ◌∷◌, map, Option, Some, None, option_map, Bool, true, false, refl}
 use Rattle.std.proofs.Common.{sym, ap, ◌∙◌, ◌+◌}
 use Rattle.std.specs.Prelude.{nat_lt, if◌then◌else◌}
 use Rattle.std.specs.List.{flat_map}
 use Rattle.std.proofs.lemmas.List.{map-append}
-use Rattle.fluent_syntax_tree.specs.Tree.{ElementTree, text_element, placeable, elements_of, element_map, pattern_map}
+use Rattle.fluent_syntax_tree.specs.Tree.{ElementTree, elements_of, element_map, pattern_map}
 use Rattle.fluent_syntax_tree.specs.Tree.{elements}
 use Rattle.fluent_syntax_tree.specs.declared.edition.Edition.{Edition}
 use Rattle.fluent_syntax_tree.specs.declared.edition.Edition.TheVariants.{One, Two}
@@ -12,7 +12,7 @@ use Rattle.fluent_syntax_tree.specs.declared.spans.Span.{Span}
 use Rattle.fluent_syntax_grammar.specs.Elements as grammar
 use Rattle.fluent_syntax_grammar.specs.Layout as layout
 use Rattle.fluent_syntax_grammar.specs.Layout.{Ending, lf_at, crlf_at, text_end, least}
-use Rattle.fluent_syntax_parser.specs.Layouts.{Piece, Line, Layout, Item, text, filled, counted, counted_spaces}
+use Rattle.fluent_syntax_parser.specs.Layouts.{text, counted, counted_spaces}
 use Rattle.fluent_syntax_parser.specs.Layouts.{with_ending, kept_from, indented, items_from, line_items, opening_items}
 use Rattle.fluent_syntax_parser.specs.Layouts.{items_with, stays, cut, cut_before, piece_of, line_of, layout_of}
 use Rattle.fluent_syntax_parser.specs.Layouts.{item_of}

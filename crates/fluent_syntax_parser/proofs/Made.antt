@@ -1,11 +1,8 @@
 -- What is known of a construct whose value a reader made.
-use Rattle.std.proofs.Common.{◌≡◌, ℕ, List, Option, Some, None, Bool, true, false, option_map, refl, sym, subst, ap}
+use Rattle.std.proofs.Common.{◌≡◌, ℕ, Option, Some, None, option_map, refl, sym, subst, ap}
 use Rattle.std.proofs.Common.{◌∙◌}
-use Rattle.fluent_syntax_tree.specs.Kind.{Kind}
 use Rattle.fluent_syntax_tree.specs.Tree.{InlineTree, inline_map, string_literal, number_literal, function_reference}
 use Rattle.fluent_syntax_tree.specs.Tree.{message_reference, term_reference, variable_reference, inline_placeable}
-use Rattle.fluent_syntax_tree.specs.declared.spans.Span.{Span}
-use Rattle.fluent_syntax_grammar.specs.Arguments.{argument_name}
 use Rattle.fluent_syntax_grammar.specs.Construct.{Construct, Read}
 use Rattle.fluent_syntax_grammar.specs.Placeables.{is_term_attribute, selector_fault}
 use Rattle.fluent_syntax_parser.specs.Made.{IsMade, made}

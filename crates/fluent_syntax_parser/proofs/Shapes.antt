@@ -1,10 +1,9 @@
 -- What a layout spells with h of each placeable, it spells before, with h of each placeable of that.
-use Rattle.std.proofs.Common.{◌≡◌, ℕ, ◌+◌, List, [], ◌∷◌, ◌++◌, map, Option, Some, None, option_map, Bool, true, false}
+use Rattle.std.proofs.Common.{◌≡◌, ℕ, ◌+◌, List, [], ◌∷◌, map, Option, Some, None, option_map, Bool, true, false}
 use Rattle.std.proofs.Common.{refl, sym, ap, ◌∙◌}
 use Rattle.std.specs.Prelude.{nat_lt, if◌then◌else◌}
 use Rattle.std.specs.List.{flat_map}
 use Rattle.std.proofs.lemmas.List.{map-append}
-use Rattle.fluent_syntax_tree.specs.Tree.{ExpressionTree}
 use Rattle.fluent_syntax_tree.specs.View.{expression_view}
 use Rattle.fluent_syntax_tree.specs.declared.edition.Edition.{Edition}
 use Rattle.fluent_syntax_tree.specs.declared.edition.Edition.TheVariants.{One, Two}
@@ -14,7 +13,7 @@ use Rattle.fluent_syntax_parser.specs.Layouts as layouts
 use Rattle.fluent_syntax_parser.specs.Layouts.{Piece, Line, Item, run, placed, text, filled, with_ending, kept_from}
 use Rattle.fluent_syntax_parser.specs.Layouts.{indented, items_from, line_items, opening_items, items_with, piece_map}
 use Rattle.fluent_syntax_parser.specs.Layouts.{line_map, layout_map, item_map}
-use Rattle.fluent_syntax_parser.specs.Lines.{ending_view, line_shape, line_view, piece_shape, piece_view}
+use Rattle.fluent_syntax_parser.specs.Lines.{line_shape, line_view, piece_shape, piece_view}
 use Rattle.fluent_syntax_parser.specs.declared.elements.Layout.{Layout}
 use Rattle.fluent_syntax_parser.proofs.Waiting.{as_item}
 use Rattle.fluent_syntax_parser.specs.declared.line.Line as rows

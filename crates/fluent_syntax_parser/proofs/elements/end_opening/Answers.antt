@@ -1,9 +1,9 @@
-use Rattle.std.proofs.Common.{◌≡◌, ◌<◌, ◌∷◌, ◌++◌, [], length, map, ap, arith, sym, ◌∙◌}
+use Rattle.std.proofs.Common.{◌<◌, ◌∷◌, ◌++◌, [], map, ap, arith, sym, ◌∙◌}
 use Rattle.std.specs.Prelude.{vec_len}
 use Rattle.std.proofs.lemmas.List.{append-nil, map-append, nil_from_length}
 use Rattle.std.proofs.lemmas.Result.{IfOk-equal}
 use Rattle.fluent_syntax_parser.specs.Elements.{item_shape}
-use Rattle.fluent_syntax_parser.specs.Layouts.{placed, run, with_ending}
+use Rattle.fluent_syntax_parser.specs.Layouts.{run, with_ending}
 use Rattle.fluent_syntax_parser.specs.Lines.{ending_view, piece_shape}
 use Rattle.fluent_syntax_parser.specs.declared.line.Piece.TheVariants as piece
 use Rattle.fluent_syntax_parser.proofs.Shapes.{items_are}

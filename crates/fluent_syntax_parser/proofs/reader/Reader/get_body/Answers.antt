@@ -1,5 +1,4 @@
 use Rattle.std.proofs.Common.{rules}
-use Rattle.std.proofs.lemmas.Result.{err_from_is_err_and}
 use Rattle.fluent_syntax_parser.specs.Rest.{faults_of}
 use Rattle.fluent_syntax_parser.proofs.MadeEntries.{all_read, none_read, read_on, told_faults}
 use Rattle.fluent_syntax_parser.proofs.reader.Reader.get_body.Goals as goal
