@@ -57,7 +57,8 @@ returns g c =
         sign = c.in_ok-start.ensures.meets;
         value = read;
         there =
-            c.place_if.ensures ∙ same_place (pattern_view g.M.MakeTexts.made) (pattern_map f) _ c.in_ok-value.value value same;
+            c.place_if.ensures
+            ∙ same_place (pattern_view g.M.MakeTexts.made) (pattern_map f) _ c.in_ok-value.value value same;
         line = _;
         blank = c.skip_blank_block-line.ensures.blank;
         attributes = attributes;
