@@ -6,7 +6,12 @@ use std::alloc::Global;
 use std::test::Fail;
 
 const ROWS: [Row; 21] = [
-    ("a message to itself", "a = { a }\n", "", "cyclic-reference 0 a 6\n"),
+    (
+        "a message to itself",
+        "a = { a }\n",
+        "",
+        "cyclic-reference 0 a 6\n",
+    ),
     (
         "two messages",
         "a = { b }\nb = { a }\n",
@@ -20,7 +25,12 @@ const ROWS: [Row; 21] = [
         "cyclic-reference 0 b 6\ncyclic-reference 0 c 16\ncyclic-reference 0 a 26\n",
     ),
     ("a chain", "a = { b }\nb = { c }\nc = C\n", "", ""),
-    ("two ways to one message", "a = { b } { c }\nb = { c }\nc = C\n", "", ""),
+    (
+        "two ways to one message",
+        "a = { b } { c }\nb = { c }\nc = C\n",
+        "",
+        "",
+    ),
     (
         "a way into a circle",
         "a = { b }\nb = { b }\n",
@@ -51,8 +61,18 @@ const ROWS: [Row; 21] = [
         "b = { a }\n",
         "cyclic-reference 0 b 6\ncyclic-reference 1 a 6\n",
     ),
-    ("a value to its attribute", "a = { a.t }\n    .t = T\n", "", ""),
-    ("an attribute to its value", "a = A\n    .t = { a }\n", "", ""),
+    (
+        "a value to its attribute",
+        "a = { a.t }\n    .t = T\n",
+        "",
+        "",
+    ),
+    (
+        "an attribute to its value",
+        "a = A\n    .t = { a }\n",
+        "",
+        "",
+    ),
     (
         "a value and its attribute",
         "a = { a.t }\n    .t = { a }\n",
@@ -65,7 +85,12 @@ const ROWS: [Row; 21] = [
         "",
         "cyclic-reference 0 a 17\n",
     ),
-    ("a message to a term of its name", "-a = A\na = { -a }\n", "", ""),
+    (
+        "a message to a term of its name",
+        "-a = A\na = { -a }\n",
+        "",
+        "",
+    ),
     (
         "a message and a term",
         "-a = { a }\na = { -a }\n",

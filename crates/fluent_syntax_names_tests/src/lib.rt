@@ -8,6 +8,4 @@ mod entries;
 #[cfg(test)]
 mod findings;
 #[cfg(test)]
-mod graphs;
-#[cfg(test)]
 mod lacks;

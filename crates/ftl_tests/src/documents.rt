@@ -113,10 +113,17 @@ fn tiles_of_a_document(rt: HostRuntime) -> Result<(), Fail> {
     let alloc = rt.alloc();
     let mut document = Document::new(alloc, "# c\na = b\nbro ken\n")?;
     assert_same(alloc, "tiles", &document.tiles().len(), &3)?;
-    document.change(alloc, 10, 18, "-d = e\n")?;
+    document.change_between(alloc, place_of((2, 0)), place_of((3, 0)), "-d = e\n")?;
     assert_same_text(alloc, "text", document.text(), "# c\na = b\n-d = e\n")?;
     assert_same(alloc, "tiles", &document.tiles().len(), &3)?;
-    assert_holds(alloc, "no junk", document.tiles().iter().all(|tile| tile.found.error.is_none()))
+    assert_holds(
+        alloc,
+        "no junk",
+        document
+            .tiles()
+            .iter()
+            .all(|tile| tile.found.error.is_none()),
+    )
 }
 
 /// A message whose value nests that deeply.
@@ -137,13 +144,18 @@ fn nested(alloc: Global, depth: usize) -> Result<String, Fail> {
 fn a_document_that_nests_too_deeply(rt: HostRuntime) -> Result<(), Fail> {
     let alloc = rt.alloc();
     let deep = nested(alloc, NESTING_LIMIT + 1)?;
+    let (start, end) = (place_of((0, 0)), place_of((9, 0)));
     let mut document = Document::new(alloc, deep.as_str())?;
     assert_holds(alloc, "deep", matches!(document, Document::TooDeep(_)))?;
     assert_document(alloc, &document, deep.as_str())?;
-    document.change(alloc, 0, deep.len(), "b = c\n")?;
+    document.change_between(alloc, start, end, "b = c\n")?;
     assert_holds(alloc, "shallow", matches!(document, Document::Held(_)))?;
     assert_document(alloc, &document, "b = c\n")?;
-    document.change(alloc, 0, 6, deep.as_str())?;
-    assert_holds(alloc, "deep again", matches!(document, Document::TooDeep(_)))?;
+    document.change_between(alloc, start, end, deep.as_str())?;
+    assert_holds(
+        alloc,
+        "deep again",
+        matches!(document, Document::TooDeep(_)),
+    )?;
     assert_document(alloc, &document, deep.as_str())
 }
