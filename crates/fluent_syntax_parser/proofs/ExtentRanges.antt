@@ -9,7 +9,8 @@ use Rattle.fluent_syntax_tree.specs.Spans.{IsPart}
 use Rattle.fluent_syntax_tree.specs.declared.edition.Edition.{Edition}
 use Rattle.fluent_syntax_tree.specs.declared.spans.Span.{Span}
 use Rattle.fluent_syntax_grammar.specs.Bytes.{equals_sign, is_letter, is_name_byte}
-use Rattle.fluent_syntax_grammar.specs.Construct.{Construct, Read, at_place, chosen, first, given, goes_on, passed, second}
+use Rattle.fluent_syntax_grammar.specs.Construct.{Construct, Read, at_place, chosen, first, given, goes_on, passed}
+use Rattle.fluent_syntax_grammar.specs.Construct.{second}
 use Rattle.fluent_syntax_grammar.specs.Grammar.{family, pattern}
 use Rattle.fluent_syntax_grammar.specs.Places.{InlineBlank, has}
 use Rattle.fluent_syntax_grammar.specs.Words.{identifier, token}
@@ -20,7 +21,8 @@ use Rattle.fluent_syntax_grammar.proofs.SoundEntries.{sound_attribute, sound_pat
 use Rattle.fluent_syntax_grammar.proofs.SoundWords.{sound_identifier, sound_token}
 use Rattle.fluent_syntax_grammar.proofs.Facts.{implies}
 use Rattle.fluent_syntax_grammar.proofs.Tests.{letter_name}
-use Rattle.fluent_syntax_parser.specs.Extents.{AttributeStands, AttributesStand, EntryStands, FieldsStand, HasExtents, ReadAt}
+use Rattle.fluent_syntax_parser.specs.Extents.{AttributeStands, AttributesStand, EntryStands, FieldsStand, HasExtents}
+use Rattle.fluent_syntax_parser.specs.Extents.{ReadAt}
 use Rattle.fluent_syntax_parser.specs.Extents.{attribute_ranges, message_stands, none_stands, one_stands, ranges}
 use Rattle.fluent_syntax_parser.specs.Extents.{term_stands}
 use Rattle.fluent_syntax_parser.specs.Fields.{FieldTrees}

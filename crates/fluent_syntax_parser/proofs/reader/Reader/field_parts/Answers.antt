@@ -2,6 +2,7 @@ use Rattle.std.proofs.Common.{◌∙◌}
 use Rattle.std.proofs.lemmas.Result.{err_from_is_err_and}
 use Rattle.fluent_syntax_tree.specs.Tree.{pattern_map}
 use Rattle.fluent_syntax_tree.specs.View.{pattern_view}
+use Rattle.fluent_syntax_tree.specs.declared.spans.Span.{Span}
 use Rattle.fluent_syntax_grammar.specs.Bytes.{equals_sign}
 use Rattle.fluent_syntax_grammar.specs.Construct.{stops, goes_on, passed}
 use Rattle.fluent_syntax_grammar.proofs.FunctionalRules.{functional_pattern}
@@ -47,17 +48,18 @@ pub returns : goal.returns
 returns g c =
     let t = c.args.self.now.source.bytes.now in
     let f = g.M.MakeTexts.source c.args.self.now.texts.now in
+    let view = pattern_view g.M.MakeTexts.made in
+    let place : Span = record { start = c.in_ok-start.start; end = c.in_ok-value.end } in
     on_made c.in_ok-value.ensures.meets (λ value read same.
     let (rest, attributes) = c.in_ok-attributes.ensures.finds in (
       (value, rest),
       record {
         equals = _;
         behind = c.skip_blank_inline-equals.ensures.blank;
-        place = record { start = c.in_ok-start.start; end = c.in_ok-value.end };
+        place = place;
         sign = c.in_ok-start.ensures.meets;
         value = read;
-        there =
-            c.place_if.ensures ∙ same_place (pattern_view g.M.MakeTexts.made) (pattern_map f) _ c.in_ok-value.value value same;
+        there = c.place_if.ensures ∙ same_place view (pattern_map f) place c.in_ok-value.value value same;
         line = _;
         blank = c.skip_blank_block-line.ensures.blank;
         attributes = attributes;
