@@ -15,18 +15,18 @@ use Rattle.fluent_syntax_grammar.specs.Places.{holds, has_byte}
 use Rattle.fluent_syntax_grammar.specs.Tiling.{entry_at, entry_in, entry_of}
 use Rattle.fluent_syntax_grammar.proofs.Facts.{differs}
 use Rattle.fluent_syntax_grammar.proofs.Holds.{gave}
-use Rattle.fluent_syntax_parser.specs.Made.{Makes, made}
+use Rattle.fluent_syntax_parser.specs.Made.{Adds, made}
 use Rattle.fluent_syntax_parser.specs.Meets.{Fails}
 use Rattle.fluent_syntax_parser.specs.declared.fault.ReadFault.{ReadFault}
 use Rattle.fluent_syntax_parser.proofs.Fails.{fails_as}
 use Rattle.fluent_syntax_parser.proofs.Made.{on_made}
 
--- what was made of a construct, as of one with the same outcomes there
-pub makes_as : {A B X : Type 0} {t : List ℕ} (f : A → B) {c d : Construct A} (view : X → B) {i : ℕ} →
+-- what was added of a construct, as of one with the same outcomes there
+pub adds_as : {A B X : Type 0} {t : List ℕ} (f : A → B) {c d : Construct A} (view : X → B) {i : ℕ} →
     ((o : Outcome A) → c i o → d i o) → ((e : ReadFault) → Fails t c i e → Fails t d i e) →
-    (r : Result (X × ℕ) ReadFault) → Makes t f c view i r → Makes t f d view i r
-makes_as f view read fails (Ok x) h = on_made h (λ a there same. made (read _ there) same)
-makes_as f view read fails (Err e) h = fails e h
+    (old new : List X) (r : Result ℕ ReadFault) → Adds t f c view old new i r → Adds t f d view old new i r
+adds_as f view read fails old new (Ok j) (x, all, h) = (x, all, on_made h (λ a there same. made (read _ there) same))
+adds_as f view read fails old new (Err e) (h, all) = (fails e h, all)
 
 module _ (edition : Edition) (t : List ℕ) (R : Family) (i : ℕ) (o : Outcome (EntryTree Span)) where
   comment_of_byte : (here : Option ℕ) → holds (λ b. b == hash) here ≡ true → comment_entry t i o →

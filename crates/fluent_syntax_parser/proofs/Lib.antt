@@ -25,6 +25,7 @@ pub mod Layouts
 pub mod LineEndings
 pub mod LineEnds
 pub mod Made
+pub mod MadeEntries
 pub mod Names
 pub mod NextStarts
 pub mod PartsOfEntries
@@ -45,7 +46,6 @@ pub mod ShortPatterns
 pub mod ShortPieces
 pub mod ShortReferences
 pub mod ShortStands
-pub mod ShortTrees
 pub mod ShortWhole
 pub mod Spelled
 pub mod Stars

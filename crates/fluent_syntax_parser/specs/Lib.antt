@@ -11,6 +11,7 @@ pub mod Lanes
 pub mod Layouts
 pub mod Lines
 pub mod Made
+pub mod MadeEntries
 pub mod Meets
 pub mod Parts
 pub mod Rest

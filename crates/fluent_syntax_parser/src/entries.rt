@@ -1,5 +1,5 @@
 //! Entries one by one.
-ghost use Rattle.std.specs.Prelude.{◌≡◌, ◌-◌, ◌<◌, ◌≤◌, [], ℕ, length, IfErr, IfNone, IfOk, IfSome, IsSomeAnd};
+ghost use Rattle.std.specs.Prelude.{◌≡◌, ◌-◌, ◌^◌, ◌<◌, ◌≤◌, [], ℕ, length, IfErr, IfNone, IfOk, IfSome, IsSomeAnd};
 ghost use Rattle.std.specs.Prelude.{None, Ok, OnErr};
 ghost use Rattle.fluent_syntax_grammar.specs.Nesting.{TextDeeper};
 ghost use Rattle.fluent_syntax_grammar.specs.Places.{BlankBlock};
@@ -9,8 +9,11 @@ ghost use Rattle.fluent_syntax_parser.specs.ShortGrammar.{NextStart, ShortMessag
 ghost use Rattle.fluent_syntax_parser.specs.ShortMessages.{short_message};
 
 use crate::options::{Halt, Options};
+use crate::reader::Reader;
 use crate::short::ShortPart;
 use crate::source::Source;
+use crate::texts::AsSpans;
+use crate::tile::only_item;
 use fluent_syntax_tree::ast::Entry;
 use fluent_syntax_tree::errors::ParserError;
 use fluent_syntax_tree::spans::Span;
@@ -23,6 +26,7 @@ pub struct Entries<'s> {
     options: Options,
     ptr: usize,
     ghost within: { ptr ≤ length source.bytes.now },
+    ghost small: { length source.bytes.now < 2 ^ 63 },
 }
 
 impl<'s> Entries<'s> {
@@ -66,13 +70,27 @@ impl<'s> Entries<'s> {
             let at = TileIn options.comments options.edition t in
             IfOk result (ComesTo (TextDeeper options.edition t at options.nesting) self.old.ptr self.new.ptr) }
     {
-        match self.source.next_entry(alloc, self.options, self.ptr)? {
-            Some((entry, error, end)) => {
-                self.ptr = end;
-                Ok(Some((entry, error)))
-            }
-            None => Ok(None),
-        }
+        let Options {
+            edition,
+            comments,
+            nesting,
+        } = self.options;
+        let reader = Reader {
+            source: self.source,
+            alloc,
+            edition,
+            texts: &AsSpans,
+        };
+        let mut body = Vec::new(alloc);
+        let mut errors = Vec::new(alloc);
+        let Some(end) = reader.add_next(&mut body, &mut errors, comments, nesting, self.ptr)? else {
+            return Ok(None);
+        };
+        self.ptr = end;
+        let Some(entry) = only_item(body) else {
+            return Ok(None);
+        };
+        Ok(Some((entry, only_item(errors))))
     }
 
     /// Reads the next entry, if it is a message that no comment hangs on and whose patterns are each one line of texts

@@ -31,7 +31,6 @@ mod references;
 pub mod short;
 mod short_lines;
 mod short_references;
-mod short_trees;
 mod source;
 mod spans;
 mod starts;
@@ -45,5 +44,5 @@ mod words;
 
 pub use spans::{
     parse_runtime_spans, parse_runtime_spans_edition, parse_runtime_spans_within, parse_spans,
-    parse_spans_edition, parse_spans_within,
+    parse_spans_edition, parse_spans_within, parse_texts,
 };

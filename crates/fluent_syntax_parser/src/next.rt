@@ -8,18 +8,21 @@ ghost use Rattle.fluent_syntax_grammar.specs.Nesting.{TextDeeper};
 ghost use Rattle.fluent_syntax_grammar.specs.Places.{BlankBlock, has_byte};
 ghost use Rattle.fluent_syntax_grammar.specs.Tiling.{Fault};
 ghost use Rattle.fluent_syntax_parser.specs.Halts.{ComesNext, HaltsWithin, OnHalt};
-ghost use Rattle.fluent_syntax_parser.specs.Rest.{EntryTo, Next, Rest, RestAt, TileDeeper, TileIn, are_dropped};
+ghost use Rattle.fluent_syntax_parser.specs.MadeEntries.{AddsNext};
+ghost use Rattle.fluent_syntax_parser.specs.Rest.{EntryTo, Rest, RestAt, TileDeeper, TileIn, are_dropped};
 ghost use Rattle.fluent_syntax_parser.specs.ShortGrammar.{NextStart, ShortMessage};
 ghost use Rattle.fluent_syntax_parser.specs.ShortMessages.{short_message};
 
 use crate::options::{Comments, Halt, Options};
+use crate::reader::Reader;
 use crate::short::ShortPart;
 use crate::source::Source;
-use crate::tile::as_comment;
+use crate::texts::MakeTexts;
+use crate::tile::ends_with_comment;
 use fluent_syntax_tree::ast::Entry;
 use fluent_syntax_tree::errors::ParserError;
 use fluent_syntax_tree::spans::Span;
-use std::alloc::{AllocError, Global};
+use std::alloc::AllocError;
 
 impl Comments {
     fn are_dropped(self) -> bool
@@ -98,40 +101,45 @@ impl<'s> Source<'s> {
         };
         Ok(Some((name, end)))
     }
+}
 
-    /// Reads the next entry from a place on, with its error where it is junk; and where it ends.
-    pub(crate) fn next_entry(
+impl<'s, 't, M: MakeTexts> Reader<'s, 't, M> {
+    /// Reads the next entry from a place on and adds it, with its error where it is junk; says where it ends. `None`
+    /// where none is left.
+    pub(crate) fn add_next(
         &self,
-        alloc: Global,
-        options: Options,
+        body: &mut Vec<Entry<M::Text>>,
+        errors: &mut Vec<ParserError>,
+        comments: Comments,
+        nesting: usize,
         ptr: usize,
-    ) -> Result<Option<(Entry<Span>, Option<ParserError>, usize)>, Halt>
-        requires { ptr ≤ length self.now.bytes.now }
-        ensures next { let t = self.now.bytes.now in
-            IfOk result (Next options.comments options.edition t ptr) }
-        ensures blank { let t = self.now.bytes.now in BlankBlock t ptr (length t) → result ≡ Ok None }
-        ensures within { let t = self.now.bytes.now in
-            IfOk result (λ found. IfSome found (λ read. (ptr < read.2) × (read.2 ≤ length t))) }
-        ensures nests { IfErr result (HaltsWithin options.nesting (length self.now.bytes.now - ptr)) }
-        ensures deeper { let t = self.now.bytes.now in let at = TileIn options.comments options.edition t in
-            IfErr result (OnHalt (TextDeeper options.edition t at options.nesting ptr)) }
-        ensures behind { let t = self.now.bytes.now in let at = TileIn options.comments options.edition t in
-            let deeper = TextDeeper options.edition t at options.nesting in
-            IfOk result (λ found. IfSome found (λ read. deeper read.2 → deeper ptr)) }
-        ensures shallow { let t = self.now.bytes.now in let at = TileIn options.comments options.edition t in
-            IfOk result (ComesNext (TextDeeper options.edition t at options.nesting) ptr) }
+    ) -> Result<Option<usize>, Halt>
+        requires { ptr ≤ length self.now.source.bytes.now }
+        ensures next { let t = self.now.source.bytes.now in IfOk result
+            (AddsNext (M.source self.now.texts.now) M.made comments self.now.edition t ptr body.old.items
+            body.new.items errors.old.items errors.new.items) }
+        ensures blank { let t = self.now.source.bytes.now in BlankBlock t ptr (length t) → result ≡ Ok None }
+        ensures within { let t = self.now.source.bytes.now in
+            IfOk result (λ found. IfSome found (λ end. (ptr < end) × (end ≤ length t))) }
+        ensures nests { IfErr result (HaltsWithin nesting (length self.now.source.bytes.now - ptr)) }
+        ensures deeper { let t = self.now.source.bytes.now in let at = TileIn comments self.now.edition t in
+            IfErr result (OnHalt (TextDeeper self.now.edition t at nesting ptr)) }
+        ensures behind { let t = self.now.source.bytes.now in let at = TileIn comments self.now.edition t in
+            let deeper = TextDeeper self.now.edition t at nesting in
+            IfOk result (λ found. IfSome found (λ end. deeper end → deeper ptr)) }
+        ensures shallow { let t = self.now.source.bytes.now in let at = TileIn comments self.now.edition t in
+            let deeper = TextDeeper self.now.edition t at nesting in
+            IfOk result (ComesNext deeper ptr) }
     {
-        let start = self.tile_start(options.comments, ptr);
-        if start == self.bytes.len() {
+        let start = self.source.tile_start(comments, ptr);
+        if start == self.source.bytes.len() {
             return Ok(None);
         }
-        let (entry, error, end) = self.get_tile(alloc, options, start)?;
-        match as_comment(entry) {
-            Ok(comment) => {
-                let (entry, end) = self.hang(alloc, options, comment, end)?;
-                Ok(Some((entry, error, end)))
-            }
-            Err(entry) => Ok(Some((entry, error, end))),
+        let end = self.add_tile(body, errors, nesting, start)?;
+        if !ends_with_comment(body) {
+            return Ok(Some(end));
         }
+        let end = self.hang(body, nesting, end)?;
+        Ok(Some(end))
     }
 }

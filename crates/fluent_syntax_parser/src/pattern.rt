@@ -9,7 +9,7 @@ ghost use Rattle.fluent_syntax_grammar.specs.Patterns.{layout_at, pattern};
 ghost use Rattle.fluent_syntax_grammar.specs.Places.{BlankBlock, InlineBlank, after_eol};
 ghost use Rattle.fluent_syntax_parser.specs.Elements.{layout_view};
 ghost use Rattle.fluent_syntax_parser.specs.Layouts.{layout_of};
-ghost use Rattle.fluent_syntax_parser.specs.Made.{Makes, OpensMade};
+ghost use Rattle.fluent_syntax_parser.specs.Made.{Makes};
 ghost use Rattle.fluent_syntax_parser.specs.ShortPatterns.{EndsBlank, EndsLine, NoLines, OpensAs, text_pattern};
 
 use crate::elements::Layout;
@@ -74,6 +74,7 @@ impl<'s> Source<'s> {
     }
 
     /// Where a pattern ends whose lines from a line's start on are all blank.
+    #[inline(always)]
     pub(crate) fn end_behind_blank_lines(&self, edition: Edition, ptr: usize) -> Option<usize>
         requires { ptr ≤ length self.now.bytes.now }
         ensures lines { IfSome result (EndsBlank edition self.now.bytes.now ptr) }
@@ -89,6 +90,7 @@ impl<'s> Source<'s> {
 
     /// Reads a pattern of one line without placeable, after the inline blank that opens it, if that stands there: its
     /// text.
+    #[inline(always)]
     pub(crate) fn short_text(&self, edition: Edition, start: usize) -> Option<(Span, usize)>
         requires { start ≤ length self.now.bytes.now }
         ensures opens { IfSome result
@@ -111,6 +113,7 @@ impl<'s> Source<'s> {
     }
 
     /// Where a pattern ends that holds nothing, after the inline blank that opens it, if a line ends there.
+    #[inline(always)]
     pub(crate) fn end_without_text(&self, edition: Edition, start: usize) -> Option<usize>
         requires { start ≤ length self.now.bytes.now }
         ensures opens { IfSome result (OpensAs edition self.now.bytes.now start None) }
@@ -129,25 +132,15 @@ impl<'s> Source<'s> {
 }
 
 impl<'s, 't, M: MakeTexts> Reader<'s, 't, M> {
-    /// The pattern that `short_text` reads.
-    fn get_short_pattern(
-        &self,
-        start: usize,
-    ) -> Result<Option<(Pattern<M::Text>, usize)>, AllocError>
-        requires { start ≤ length self.now.source.bytes.now }
-        ensures opens { IfOk result (λ short. IfSome short
-            (λ read. OpensMade (M.source self.now.texts.now) self.now.edition self.now.source.bytes.now start
-            (pattern_view M.made read.0) read.1)) }
-        ensures within { IfOk result (λ short. IfSome short
-            (λ read. (start ≤ read.1) × (read.1 ≤ length self.now.source.bytes.now))) }
+    /// The pattern that is one text.
+    fn short_pattern(&self, value: Span) -> Result<Pattern<M::Text>, AllocError>
+        ensures { IfOk result (λ pattern. pattern_view M.made pattern
+            ≡ pattern_map (M.source self.now.texts.now) (text_pattern value)) }
     {
-        let Some((value, end)) = self.source.short_text(self.edition, start) else {
-            return Ok(None);
-        };
         let value = self.text(value)?;
         let mut elements = Vec::with_capacity(self.alloc, 1)?;
         elements.push(PatternElement::TextElement { value })?;
-        Ok(Some((Pattern { elements }, end)))
+        Ok(Pattern { elements })
     }
 
     /// Reads the layout of a pattern, after the inline blank that opens it.
@@ -212,6 +205,7 @@ impl<'s, 't, M: MakeTexts> Reader<'s, 't, M> {
     /// Reads a pattern, if one stands there. That of one line without placeable is read by itself, and takes one
     /// allocation.
     #[cycle(readers)]
+    #[inline(always)]
     pub(crate) fn get_pattern(
         &self,
         nesting: usize,
@@ -225,9 +219,12 @@ impl<'s, 't, M: MakeTexts> Reader<'s, 't, M> {
         ensures within { IfOk result (λ read. (ptr ≤ read.1) × (read.1 ≤ length self.now.source.bytes.now)) }
     {
         let start = self.source.skip_blank_inline(ptr);
-        let short = self.get_short_pattern(start)?;
-        match short {
-            Some((pattern, end)) => Ok((Some(pattern), end)),
+        if let Some((value, end)) = self.source.short_text(self.edition, start) {
+            let pattern = self.short_pattern(value)?;
+            return Ok((Some(pattern), end));
+        }
+        match self.source.end_without_text(self.edition, start) {
+            Some(end) => Ok((None, end)),
             None => self.get_long_pattern(nesting, ptr, start),
         }
     }
