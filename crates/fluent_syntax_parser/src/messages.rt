@@ -9,8 +9,10 @@ ghost use Rattle.fluent_syntax_parser.specs.Made.{Adds, Makes};
 
 use crate::fault::{Fault, ReadFault, Refusal};
 use crate::reader::Reader;
+use crate::source::Source;
 use crate::texts::MakeTexts;
 use fluent_syntax_tree::ast::{Attribute, Entry, Message, Pattern, Term};
+use fluent_syntax_tree::edition::Edition;
 use fluent_syntax_tree::spans::Span;
 
 /// What stands behind the name of a message or a term.
@@ -18,6 +20,30 @@ use fluent_syntax_tree::spans::Span;
 pub(crate) struct Fields<T> {
     value: Option<Pattern<T>>,
     attributes: Vec<Attribute<T>>,
+}
+
+impl<'s> Source<'s> {
+    /// Where a message ends whose value is one text on the line of its `=`, without attributes. `None` where none such
+    /// stands there.
+    pub(crate) fn text_message_end(&self, edition: Edition, start: usize) -> Option<usize>
+        requires { start ≤ length self.now.bytes.now }
+        ensures meets { let t = self.now.bytes.now in IfSome result (λ end. (m : EntryTree Span) × (n : ℕ) →
+            message_of edition t (within edition t n) start (Read m end)) }
+        ensures within { IfSome result (λ end. (start < end) × (end ≤ length self.now.bytes.now)) }
+    {
+        let Ok(end) = self.identifier_end(start) else {
+            return None;
+        };
+        let Ok(behind) = self.expect_byte(b'=', self.skip_blank_inline(end)) else {
+            return None;
+        };
+        let (_text, line) = self.short_text(edition, self.skip_blank_inline(behind))?;
+        let place = self.skip_blank_block(line);
+        if self.is_byte_at(b'.', self.skip_blank_inline(place)) {
+            return None;
+        }
+        Some(place)
+    }
 }
 
 impl<'s, 't, M: MakeTexts> Reader<'s, 't, M> {

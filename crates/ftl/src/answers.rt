@@ -131,29 +131,22 @@ fn lines(alloc: Global, text: &str, edition: Edition, nesting: usize) -> Result<
     let mut entries = Entries::new(text, options);
     let mut places = Lines::new(text);
     let mut out = String::new(alloc);
-    let mut parts = Vec::new(alloc);
-    loop {
-        // a message that is read without a tree has no error
-        if entries.next_short(&mut parts)?.is_none() {
-            let Some(read) = entries.next_entry(alloc)? else {
-                return Ok(out);
-            };
-            write_error_of(&mut out, &mut places, read)?;
-        }
+    while let Some(error) = entries.next_error(alloc)? {
+        write_if_error(&mut out, &mut places, error)?;
     }
+    Ok(out)
 }
 
-/// Writes the line of the error of what was read, if it is junk.
-fn write_error_of(
+/// Writes the line of an error, if there is one.
+fn write_if_error(
     out: &mut String,
     places: &mut Lines<'_>,
-    read: (Entry<Span>, Option<ParserError>),
+    error: Option<ParserError>,
 ) -> Result<(), AllocError>
-    requires { IfSome read.1 (λ error. error.pos.start ≤ length places.old) }
-    ensures line { OnOk result (string_bytes out.new ≡ string_bytes out.old ++ line_of_error places.old read.1) }
+    requires { IfSome error (λ error. error.pos.start ≤ length places.old) }
+    ensures line { OnOk result (string_bytes out.new ≡ string_bytes out.old ++ line_of_error places.old error) }
     ensures source { places.new ≡ places.old }
 {
-    let (_entry, error) = read;
     if let Some(error) = error {
         let (line, column) = places.line_column(error.pos.start);
         write_line(out, line, column, &error)?;
