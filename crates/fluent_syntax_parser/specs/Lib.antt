@@ -13,12 +13,9 @@ pub mod Lines
 pub mod Made
 pub mod MadeEntries
 pub mod Meets
+pub mod OneLine
 pub mod Parts
 pub mod Rest
-pub mod ShortGrammar
-pub mod ShortMessages
-pub mod ShortPatterns
-pub mod ShortPieces
 pub mod Starts
 pub mod Strings
 pub mod Noted

@@ -7,7 +7,7 @@ use Rattle.fluent_syntax_tree.specs.declared.spans.Span.{Span}
 use Rattle.fluent_syntax_grammar.specs.Construct.{Construct, Read}
 use Rattle.fluent_syntax_parser.specs.declared.fault.ReadFault.{ReadFault}
 use Rattle.fluent_syntax_parser.specs.Meets.{Fails}
-use Rattle.fluent_syntax_parser.specs.ShortPatterns.{OpensAs}
+use Rattle.fluent_syntax_parser.specs.OneLine.{OpensAs}
 
 -- The construct at i spells a value and ends at j, and f of that value is this one.
 pub data IsMade {A B : Type 0} (f : A → B) (c : Construct A) (i : ℕ) (b : B) (j : ℕ) : Type 0 where

@@ -1,11 +1,12 @@
 //! Messages and terms.
-ghost use Rattle.std.specs.Prelude.{◌<◌, ◌≤◌, length, IfOk};
+ghost use Rattle.std.specs.Prelude.{◌<◌, ◌≤◌, length, IfOk, IfSome};
 ghost use Rattle.fluent_syntax_tree.specs.Entry.{entry_map};
 ghost use Rattle.fluent_syntax_tree.specs.View.{entry_view};
 ghost use Rattle.fluent_syntax_grammar.specs.Entries.{message_of, term_of};
 ghost use Rattle.fluent_syntax_grammar.specs.Grammar.{within};
 ghost use Rattle.fluent_syntax_parser.specs.Fields.{fields, fields_map, fields_view};
 ghost use Rattle.fluent_syntax_parser.specs.Made.{Adds, Makes};
+ghost use Rattle.fluent_syntax_parser.specs.OneLine.{TextMessage};
 
 use crate::fault::{Fault, ReadFault, Refusal};
 use crate::reader::Reader;
@@ -27,22 +28,24 @@ impl<'s> Source<'s> {
     /// stands there.
     pub(crate) fn text_message_end(&self, edition: Edition, start: usize) -> Option<usize>
         requires { start ≤ length self.now.bytes.now }
-        ensures meets { let t = self.now.bytes.now in IfSome result (λ end. (m : EntryTree Span) × (n : ℕ) →
-            message_of edition t (within edition t n) start (Read m end)) }
+        ensures message { IfSome result (TextMessage edition self.now.bytes.now start) }
         ensures within { IfSome result (λ end. (start < end) × (end ≤ length self.now.bytes.now)) }
     {
         let Ok(end) = self.identifier_end(start) else {
             return None;
         };
-        let Ok(behind) = self.expect_byte(b'=', self.skip_blank_inline(end)) else {
+        let equals = self.skip_blank_inline(end);
+        let Ok(behind) = self.expect_byte(b'=', equals) else {
             return None;
         };
-        let (_text, line) = self.short_text(edition, self.skip_blank_inline(behind))?;
+        let opening = self.skip_blank_inline(behind);
+        let (_text, line) = self.short_text(edition, opening)?;
         let place = self.skip_blank_block(line);
-        if self.is_byte_at(b'.', self.skip_blank_inline(place)) {
-            return None;
+        let dot = self.skip_blank_inline(place);
+        match self.expect_byte(b'.', dot) {
+            Ok(_) => None,
+            Err(_) => Some(place),
         }
-        Some(place)
     }
 }
 

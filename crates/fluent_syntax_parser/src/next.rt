@@ -1,7 +1,7 @@
 //! The next entry of a text.
 ghost use Rattle.std.specs.Prelude.{◌≡◌, ◌-◌, ◌<◌, ◌≤◌, [], length, IfErr, IfOk, IfSome, None, Ok, false, true, ℕ};
-ghost use Rattle.std.specs.Prelude.{List, Option, IsSomeAnd};
-ghost use Rattle.fluent_syntax_tree.specs.Entry.{BodyTree};
+ghost use Rattle.std.specs.Prelude.{List, Option};
+ghost use Rattle.fluent_syntax_tree.specs.Entry.{BodyTree, EntryTree};
 ghost use Rattle.fluent_syntax_tree.specs.declared.edition.Edition.{Edition};
 ghost use Rattle.fluent_syntax_grammar.specs.Bytes.{hash};
 ghost use Rattle.fluent_syntax_grammar.specs.Nesting.{TextDeeper};
@@ -10,7 +10,6 @@ ghost use Rattle.fluent_syntax_grammar.specs.Tiling.{Fault};
 ghost use Rattle.fluent_syntax_parser.specs.Halts.{ComesNext, HaltsWithin, OnHalt};
 ghost use Rattle.fluent_syntax_parser.specs.MadeEntries.{AddsNext};
 ghost use Rattle.fluent_syntax_parser.specs.Rest.{EntryTo, Rest, RestAt, TileDeeper, TileIn, are_dropped};
-ghost use Rattle.fluent_syntax_parser.specs.ShortGrammar.{NextStart};
 
 use crate::options::{Comments, Halt};
 use crate::reader::Reader;
@@ -46,10 +45,8 @@ impl<'s> Source<'s> {
         ensures shallow { (edition : Edition) (n : ℕ) →
             let t = self.now.bytes.now in let at = TileIn comments edition t in
             TextDeeper edition t at n ptr → TileDeeper edition t at n result }
-        ensures next { NextStart comments self.now.bytes.now ptr result }
         ensures dropped { are_dropped comments ≡ true → has_byte self.now.bytes.now hash result ≡ false }
         ensures blank { let t = self.now.bytes.now in BlankBlock t ptr (length t) → result ≡ length t }
-        ensures starts { (start : ℕ) → NextStart comments self.now.bytes.now ptr start → result ≡ start }
         ensures within { (ptr ≤ result) × (result ≤ length self.now.bytes.now) }
     {
         let mut start = self.skip_blank_block(ptr);
@@ -76,7 +73,11 @@ impl<'s> Source<'s> {
             let deeper = TextDeeper edition t (TileIn comments edition t) n in
             (deeper ptr → deeper end) × (deeper end → deeper ptr)) }
     {
-        let end = self.text_message_end(edition, self.tile_start(comments, ptr))?;
+        let start = self.tile_start(comments, ptr);
+        if !self.is_letter_at(start) {
+            return None;
+        }
+        let end = self.text_message_end(edition, start)?;
         Some(end)
     }
 }

@@ -23,7 +23,7 @@ use Rattle.fluent_syntax_grammar.proofs.Tests.{without}
 use Rattle.fluent_syntax_grammar.proofs.LineEnds.{eol_none}
 use Rattle.fluent_syntax_parser.proofs.LineEndings.{ends_line, ends_text}
 use Rattle.fluent_syntax_parser.proofs.BlankLines.{crlf_byte, eol_there, lf_blank, lf_byte, no_piece, range_cons}
-use Rattle.fluent_syntax_parser.specs.ShortPatterns.{EndsBlank, EndsLine, text_pattern, with_lf, with_crlf, with_text}
+use Rattle.fluent_syntax_parser.specs.OneLine.{EndsBlank, EndsLine, text_pattern, with_lf, with_crlf, with_text}
 
 starts_nonblank : (b : ℕ) (bs : List ℕ) → (b == space) ≡ false → (b == lf) ≡ false → is_nonblank (b ∷ bs) ≡ true
 starts_nonblank b [] space other = rw (other, space) refl
