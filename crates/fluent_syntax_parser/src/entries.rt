@@ -3,12 +3,13 @@ ghost use Rattle.std.specs.Prelude.{◌≡◌, ◌-◌, ◌^◌, ◌<◌, ◌≤
 ghost use Rattle.fluent_syntax_grammar.specs.Nesting.{TextDeeper};
 ghost use Rattle.fluent_syntax_grammar.specs.Places.{BlankBlock};
 ghost use Rattle.fluent_syntax_parser.specs.Halts.{ComesTo, HaltsWithin, OnHalt};
+ghost use Rattle.fluent_syntax_parser.specs.MadeEntries.{NextMade};
 ghost use Rattle.fluent_syntax_parser.specs.Rest.{NextError, NextTo, TileIn};
 
 use crate::options::{Halt, Options};
 use crate::reader::Reader;
 use crate::source::Source;
-use crate::texts::AsSpans;
+use crate::texts::{AsSpans, MakeTexts};
 use crate::tile::only_item;
 use fluent_syntax_tree::ast::Entry;
 use fluent_syntax_tree::errors::ParserError;
@@ -66,6 +67,33 @@ impl<'s> Entries<'s> {
             let at = TileIn options.comments options.edition t in
             IfOk result (ComesTo (TextDeeper options.edition t at options.nesting) self.old.ptr self.new.ptr) }
     {
+        self.next_entry_with(alloc, &AsSpans)
+    }
+
+    /// Reads the next entry as `next_entry` does, with the text that is made of each span in the span's place.
+    pub fn next_entry_with<M: MakeTexts>(
+        &mut self,
+        alloc: Global,
+        texts: &M,
+    ) -> Result<Option<(Entry<M::Text>, Option<ParserError>)>, Halt>
+        ensures text { self.new.source ≡ self.old.source }
+        ensures options { self.new.options ≡ self.old.options }
+        ensures next { let t = self.old.source.bytes.now in let options = self.old.options in IfOk result
+            (NextMade (M.source texts.now) M.made options.comments options.edition t self.old.ptr self.new.ptr) }
+        ensures forward { self.old.ptr ≤ self.new.ptr }
+        ensures onward { IfOk result (λ found. IfSome found (λ read. self.old.ptr < self.new.ptr)) }
+        ensures blank { let t = self.old.source.bytes.now in
+            BlankBlock t self.old.ptr (length t) → result ≡ Ok None }
+        ensures stays { OnErr result (self.new.ptr ≡ self.old.ptr) }
+        ensures nests { let left = length self.old.source.bytes.now - self.old.ptr in
+            IfErr result (HaltsWithin self.old.options.nesting left) }
+        ensures deeper { let t = self.old.source.bytes.now in let options = self.old.options in
+            let at = TileIn options.comments options.edition t in
+            IfErr result (OnHalt (TextDeeper options.edition t at options.nesting self.old.ptr)) }
+        ensures shallow { let t = self.old.source.bytes.now in let options = self.old.options in
+            let at = TileIn options.comments options.edition t in
+            IfOk result (ComesTo (TextDeeper options.edition t at options.nesting) self.old.ptr self.new.ptr) }
+    {
         let Options {
             edition,
             comments,
@@ -75,7 +103,7 @@ impl<'s> Entries<'s> {
             source: self.source,
             alloc,
             edition,
-            texts: &AsSpans,
+            texts,
         };
         let mut body = Vec::new(alloc);
         let mut errors = Vec::new(alloc);

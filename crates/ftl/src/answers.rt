@@ -28,7 +28,7 @@ use fluent_syntax::ast::{Entry, Resource};
 use fluent_syntax::laws::broken_rule;
 use fluent_syntax::parser::{Edition, ParseFault, ParserError, TooDeep, parse_within};
 use fluent_syntax::serializer::EntryWriter;
-use fluent_syntax::spans::{Comments, Entries, Halt, Lines, Options, Span, resolve_entry};
+use fluent_syntax::spans::{Comments, Entries, Halt, Lines, Options, Slices, Span};
 use fluent_syntax::unicode::SinkError;
 use fluent_syntax::{parser, serializer};
 use fluent_syntax_json::write_to;
@@ -321,16 +321,9 @@ fn normal(
     let mut entries = Entries::new(text, options);
     let mut writer = EntryWriter::new(String::new(alloc), serializer::Options::default());
     let mut outcome = Outcome::Clean;
-    while let Some(read) = entries.next_entry(alloc)? {
-        outcome = write_read(
-            alloc,
-            &mut writer,
-            text,
-            outcome,
-            read,
-            options,
-            all_canonical,
-        )?;
+    let slices: Slices<'_, '_, &str> = Slices::new(&text);
+    while let Some(read) = entries.next_entry_with(alloc, &slices)? {
+        outcome = write_read(&mut writer, outcome, read, options, all_canonical);
     }
     match writer.finish() {
         (written, Ok(())) => Ok((written, outcome)),
@@ -340,44 +333,22 @@ fn normal(
 
 /// Writes the entry that was read next, and gives the outcome so far.
 fn write_read(
-    alloc: Global,
     writer: &mut EntryWriter<String>,
-    text: &str,
     outcome: Outcome,
-    read: (Entry<Span>, Option<ParserError>),
+    read: (Entry<&str>, Option<ParserError>),
     options: Options,
     all_canonical: &mut bool,
-) -> Result<Outcome, AllocError>
-    requires parts { entry_every (IsPart text.now) (tree_of read.0) }
+) -> Outcome
     ensures options { writer.new.options ≡ writer.old.options }
-    ensures written { OnOk result (AddsTree writer.old writer.new (entry_map (bytes_at text.now) (tree_of read.0))) }
-    ensures outcome { IfOk result (λ found. found ≡ outcome_behind outcome read.1) }
-    ensures noted { OnOk result (all_canonical.new ≡ (all_canonical.old
-        && entry_obeys (canonical_rules options.edition) (entry_map (bytes_at text.now) (tree_of read.0)))) }
+    ensures written { AddsTree writer.old writer.new (entry_view (λ s. s.now) read.0) }
+    ensures outcome { result ≡ outcome_behind outcome read.1 }
+    ensures noted { all_canonical.new ≡ (all_canonical.old
+        && entry_obeys (canonical_rules options.edition) (entry_view (λ s. s.now) read.0)) }
 {
     let (entry, error) = read;
-    let is_canonical = write_resolved(alloc, writer, text, &entry, options.edition)?;
-    *all_canonical = *all_canonical && is_canonical;
-    Ok(outcome_behind(outcome, &error))
-}
-
-/// Writes the entry with the text's bytes at each span, and tells whether it is canonical.
-fn write_resolved(
-    alloc: Global,
-    writer: &mut EntryWriter<String>,
-    text: &str,
-    entry: &Entry<Span>,
-    edition: Edition,
-) -> Result<bool, AllocError>
-    requires parts { entry_every (IsPart text.now) (tree_of entry.now) }
-    ensures options { writer.new.options ≡ writer.old.options }
-    ensures written { OnOk result (AddsTree writer.old writer.new (entry_map (bytes_at text.now) (tree_of entry.now))) }
-    ensures canonical { IfOk result (λ canonical. canonical
-        ≡ entry_obeys (canonical_rules edition) (entry_map (bytes_at text.now) (tree_of entry.now))) }
-{
-    let entry = resolve_entry(alloc, &text, entry)?;
     writer.write_entry(&entry);
-    Ok(broken_rule(&entry, edition).is_none())
+    *all_canonical = *all_canonical && broken_rule(&entry, options.edition).is_none();
+    outcome_behind(outcome, &error)
 }
 
 /// The outcome of what was read so far and of an entry behind it, which has an error where it is junk.
