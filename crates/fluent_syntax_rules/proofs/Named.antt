@@ -1,6 +1,10 @@
 -- What is asked of a list of named arguments, asked of its first one and of the rest.
 use Rattle.std.proofs.Common.{◌≡◌, ℕ, ◌+◌, ◌<◌, List, [], ◌∷◌, ◌++◌, length, get_or, take, map, reverse, nat_eq}
 use Rattle.std.proofs.Common.{Bool, true, false, ◌&&◌, not, refl, sym, ap, ◌∙◌}
+use Rattle.std.specs.BTreeMap.{is_at}
+use Rattle.std.specs.Cmp.Lexicographic.{slice_cmp}
+use Rattle.std.specs.List.{list_any}
+use Rattle.std.specs.Ordering.{nat_cmp}
 use lib.Pointwise.{pointwise}
 use Rattle.std.proofs.lemmas.List.{map_more, reverse-append}
 use Rattle.std.proofs.lemmas.List.Sorted.{list_any-IsPermutation, IsPermutation-reverse}
@@ -10,7 +14,9 @@ use Rattle.fluent_syntax_tree.specs.declared.ast.NamedArgument.{NamedArgument}
 use Rattle.fluent_syntax_tree.proofs.Views.{view-NamedArgument}
 use Rattle.fluent_syntax_grammar.specs.Arguments.{is_used}
 use Rattle.fluent_syntax_grammar.specs.Readable.{is_argument_value, are_named_well}
+use Rattle.fluent_syntax_grammar.specs.NameKeys.{NotesAll}
 use Rattle.fluent_syntax_grammar.specs.Written.{Text}
+use Rattle.fluent_syntax_grammar.proofs.NameKeys.{key_held}
 use Rattle.fluent_syntax_rules.specs.Alone.{have_values, have_new_names}
 use Rattle.fluent_syntax_rules.specs.Names.{name_of}
 
@@ -81,3 +87,10 @@ module _ {S : Type 0} (text : S → Text) where
   pub new_name-used : (earlier : List (NamedArgument S)) (n : NamedArgument S)
       → is_used (name_of text n) (map (name_of text) earlier) ≡ is_used (name_of text n) (used earlier)
   new_name-used earlier n = is_used-reversed (name_of text n) (map (name_of text) earlier)
+
+  -- a table of the earlier names has a name exactly where it is used among them
+  pub table-used : {K : Type 0} (k : K → Text) (keys : List K) (earlier : List (NamedArgument S)) (n : NamedArgument S)
+      (name : Text) → name ≡ name_of text n → NotesAll k keys (map (name_of text) earlier)
+      → list_any (is_at (λ x. slice_cmp nat_cmp name (k x))) keys ≡ is_used (name_of text n) (used earlier)
+  table-used k keys earlier n name is noted =
+      key_held k name keys ∙ noted name ∙ ap (λ v. is_used v (map (name_of text) earlier)) is ∙ new_name-used earlier n

@@ -15,10 +15,7 @@ use std::collections::BTreeSet;
 const MANY: usize = 32;
 
 /// Whether the names are distinct. Those of many arguments are looked up in a table, if there is memory for it.
-pub fn have_new_names<X, T: ReadTexts<X>>(
-    alloc: Option<Global>,
-    named: &[NamedArgument<X>],
-) -> bool
+pub fn have_new_names<X, T: ReadTexts<X>>(alloc: Option<Global>, named: &[NamedArgument<X>]) -> bool
     ensures { result ≡ have_new_names [] (nameds_of (map (named_view T.text) named.now)) }
 {
     if named.len() >= MANY {

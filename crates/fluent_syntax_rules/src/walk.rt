@@ -70,7 +70,8 @@ fn comment_obeys<X, T: ReadTexts<X>>(standard: Standard, comment: &Option<Commen
 }
 
 fn value_obeys<X, T: ReadTexts<X>>(asked: Asked, value: &Option<Pattern<X>>) -> bool
-    ensures { result ≡ option_obeys (pattern_obeys (rules_of asked.standard)) (option_map (pattern_view T.text) value.now) }
+    ensures { result ≡ option_obeys (pattern_obeys (rules_of asked.standard))
+        (option_map (pattern_view T.text) value.now) }
 {
     match value {
         Some(pattern) => pattern_obeys::<X, T>(asked, pattern),
@@ -79,7 +80,8 @@ fn value_obeys<X, T: ReadTexts<X>>(asked: Asked, value: &Option<Pattern<X>>) -> 
 }
 
 fn attributes_obey<X, T: ReadTexts<X>>(asked: Asked, attributes: &[Attribute<X>]) -> bool
-    ensures { result ≡ list_all (attribute_obeys (rules_of asked.standard)) (map (attribute_view T.text) attributes.now) }
+    ensures { result ≡ list_all (attribute_obeys (rules_of asked.standard))
+        (map (attribute_view T.text) attributes.now) }
 {
     for attribute in attributes {
         if !attribute_obeys::<X, T>(asked, attribute) {
@@ -100,7 +102,8 @@ fn attribute_obeys<X, T: ReadTexts<X>>(asked: Asked, attribute: &Attribute<X>) -
 fn pattern_obeys<X, T: ReadTexts<X>>(asked: Asked, pattern: &Pattern<X>) -> bool
     ensures { result ≡ pattern_obeys (rules_of asked.standard) (pattern_view T.text pattern.now) }
 {
-    is_pattern_by::<X, T>(asked.standard, pattern) && elements_obey::<X, T>(asked, &pattern.elements)
+    is_pattern_by::<X, T>(asked.standard, pattern)
+        && elements_obey::<X, T>(asked, &pattern.elements)
 }
 
 #[cycle(obeys)]
@@ -121,9 +124,7 @@ fn element_obeys<X, T: ReadTexts<X>>(asked: Asked, element: &PatternElement<X>) 
 {
     match element {
         PatternElement::TextElement { .. } => true,
-        PatternElement::Placeable { expression } => {
-            expression_obeys::<X, T>(asked, expression)
-        }
+        PatternElement::Placeable { expression } => { expression_obeys::<X, T>(asked, expression) }
     }
 }
 
@@ -197,7 +198,10 @@ fn inline_obeys<X, T: ReadTexts<X>>(asked: Asked, inline: &InlineExpression<X>) 
             reference_obeys::<X, T>(asked.standard, id, attribute)
                 && maybe_obeys::<X, T>(asked, arguments)
         }
-        InlineExpression::VariableReference { id } => is_name_by(asked.standard, T::as_str(&id.name)),
+        InlineExpression::VariableReference { id } => is_name_by(
+            asked.standard,
+            T::as_str(&id.name),
+        ),
         InlineExpression::Placeable { expression } => {
             expression_obeys::<X, T>(asked, expression)
         }

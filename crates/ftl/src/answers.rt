@@ -25,7 +25,7 @@ ghost use Rattle.ftl.specs.Answer.{json_text, normal_text, outcome_behind, outco
 use crate::command::Command;
 use crate::outcome::{Outcome, RunFault};
 use fluent_syntax::ast::{Entry, Resource};
-use fluent_syntax::laws::broken_rule;
+use fluent_syntax::laws::broken_rule_with;
 use fluent_syntax::parser::{Edition, ParseFault, ParserError, TooDeep, parse_within};
 use fluent_syntax::serializer::EntryWriter;
 use fluent_syntax::spans::{Comments, Entries, Halt, Lines, Options, Span, resolve_entry};
@@ -384,7 +384,7 @@ fn write_resolved(
 {
     let entry = resolve_entry(alloc, &text, entry)?;
     writer.write_entry(&entry);
-    Ok(broken_rule(&entry, edition).is_none())
+    Ok(broken_rule_with(alloc, &entry, edition).is_none())
 }
 
 /// The outcome of what was read so far and of an entry behind it, which has an error where it is junk.

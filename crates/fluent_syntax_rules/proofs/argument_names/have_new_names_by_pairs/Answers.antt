@@ -1,5 +1,4 @@
 use Rattle.std.proofs.Common.{take, not, sym, ap, ◌∙◌}
-use Rattle.fluent_syntax_rules.specs.Names.{name_of}
 use Rattle.fluent_syntax_rules.proofs.Named.{new_names, one_new_name, with_name, first_new_name, new_name-used}
 use Rattle.fluent_syntax_rules.proofs.Named.{used, used-next}
 use Rattle.fluent_syntax_rules.proofs.Steps.{item_passes, item_fails}

@@ -62,7 +62,8 @@ inline_obeys-returns-then-is_function_name g t c =
     let tested = rw c.as_str-in-FunctionReference.ensures at c.is_function_name.ensures in
     let both = sym tested ∙ c.if-is_function_name.true in
     rw (c.in-FunctionReference.is, view-FunctionReference)
-    (three_hold (name_rule c.args.asked.standard name) (callee_rule c.args.asked.standard name) _ _ both c.arguments_obey.ensures)
+    (three_hold (name_rule c.args.asked.standard name) (callee_rule c.args.asked.standard name) _ _ both
+    c.arguments_obey.ensures)
 
 pub inline_obeys-returns-else-is_function_name : goal.inline_obeys-returns-else-is_function_name
 inline_obeys-returns-else-is_function_name g t c =
