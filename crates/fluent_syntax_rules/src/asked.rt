@@ -1,5 +1,4 @@
 //! What a walk over a tree asks of it.
-ghost use Rattle.std.specs.Prelude.{◌≡◌};
 
 use crate::standard::Standard;
 use std::alloc::Global;
@@ -9,16 +8,4 @@ use std::alloc::Global;
 pub struct Asked {
     pub standard: Standard,
     pub alloc: Option<Global>,
-}
-
-impl Asked {
-    /// The rules of the standard, without memory.
-    pub fn without_memory(standard: Standard) -> Asked
-        ensures { result.standard ≡ standard }
-    {
-        Asked {
-            standard,
-            alloc: None,
-        }
-    }
 }

@@ -46,7 +46,11 @@ use walk::body_obeys;
 pub fn is_canonical<'s, S: Slice<'s>>(r: &Resource<S>, edition: Edition) -> bool
     ensures exact { result ≡ is_canonical edition (resource_view S.text r.now) }
 {
-    body_obeys::<S, BySlice<'s>>(Asked::without_memory(Standard::Canonical(edition)), &r.body)
+    let canonical = Asked {
+        standard: Standard::Canonical(edition),
+        alloc: None,
+    };
+    body_obeys::<S, BySlice<'s>>(canonical, &r.body)
 }
 
 /// Whether the tree is readable in the edition: it looks like a tree that was read. Each canonical tree is.
@@ -55,7 +59,11 @@ pub fn is_canonical<'s, S: Slice<'s>>(r: &Resource<S>, edition: Edition) -> bool
 pub fn is_readable<'s, S: Slice<'s>>(r: &Resource<S>, edition: Edition) -> bool
     ensures exact { result ≡ is_readable edition (resource_view S.text r.now) }
 {
-    body_obeys::<S, BySlice<'s>>(Asked::without_memory(Standard::Readable(edition)), &r.body)
+    let readable = Asked {
+        standard: Standard::Readable(edition),
+        alloc: None,
+    };
+    body_obeys::<S, BySlice<'s>>(readable, &r.body)
 }
 
 /// The first entry of the tree that is not canonical in the edition, and the first rule that it breaks, in the order of
