@@ -25,7 +25,7 @@ ghost use Rattle.ftl.specs.Answer.{json_text, normal_text, outcome_behind, outco
 use crate::command::Command;
 use crate::outcome::{Outcome, RunFault};
 use fluent_syntax::ast::{Entry, Resource};
-use fluent_syntax::laws::broken_rule;
+use fluent_syntax::laws::broken_rule_with;
 use fluent_syntax::parser::{Edition, ParseFault, ParserError, TooDeep, parse_within};
 use fluent_syntax::serializer::EntryWriter;
 use fluent_syntax::spans::{Comments, Entries, Halt, Lines, Options, Slices, Span};
@@ -323,7 +323,7 @@ fn normal(
     let mut outcome = Outcome::Clean;
     let slices: Slices<'_, '_, &str> = Slices::new(&text);
     while let Some(read) = entries.next_entry_with(alloc, &slices)? {
-        outcome = write_read(&mut writer, outcome, read, options, all_canonical);
+        outcome = write_read(alloc, &mut writer, outcome, read, options, all_canonical);
     }
     match writer.finish() {
         (written, Ok(())) => Ok((written, outcome)),
@@ -333,6 +333,7 @@ fn normal(
 
 /// Writes the entry that was read next, and gives the outcome so far.
 fn write_read(
+    alloc: Global,
     writer: &mut EntryWriter<String>,
     outcome: Outcome,
     read: (Entry<&str>, Option<ParserError>),
@@ -347,7 +348,7 @@ fn write_read(
 {
     let (entry, error) = read;
     writer.write_entry(&entry);
-    *all_canonical = *all_canonical && broken_rule(&entry, options.edition).is_none();
+    *all_canonical = *all_canonical && broken_rule_with(alloc, &entry, options.edition).is_none();
     outcome_behind(outcome, &error)
 }
 

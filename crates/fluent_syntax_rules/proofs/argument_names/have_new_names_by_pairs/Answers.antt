@@ -1,9 +1,8 @@
 use Rattle.std.proofs.Common.{take, not, sym, ap, ◌∙◌}
-use Rattle.fluent_syntax_rules.specs.Names.{name_of}
 use Rattle.fluent_syntax_rules.proofs.Named.{new_names, one_new_name, with_name, first_new_name, new_name-used}
 use Rattle.fluent_syntax_rules.proofs.Named.{used, used-next}
 use Rattle.fluent_syntax_rules.proofs.Steps.{item_passes, item_fails}
-use Rattle.fluent_syntax_rules.proofs.arguments.have_new_names.Goals as goal
+use Rattle.fluent_syntax_rules.proofs.argument_names.have_new_names_by_pairs.Goals as goal
 
 pub returns-then-is_used : goal.returns-then-is_used
 returns-then-is_used g c =

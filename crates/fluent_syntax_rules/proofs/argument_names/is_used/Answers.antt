@@ -3,7 +3,7 @@ use lib.Pointwise.{pointwise}
 use Rattle.std.proofs.lemmas.Iterator.{YieldsList-from_slice}
 use Rattle.std.proofs.lemmas.Iterator.Search.{any_from_yields_List}
 use Rattle.fluent_syntax_rules.specs.Names.{name_of}
-use Rattle.fluent_syntax_rules.proofs.arguments.is_used.Goals as goal
+use Rattle.fluent_syntax_rules.proofs.argument_names.is_used.Goals as goal
 use Rattle.fluent_syntax_tree.proofs.Lists.{list_any-map}
 
 pub returns : goal.returns
