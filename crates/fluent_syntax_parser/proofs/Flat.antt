@@ -1,12 +1,12 @@
 -- Messages in which nothing nests.
-use Rattle.std.proofs.Common.{◌<◌, ℕ, List, [], ◌∷◌, Option, Some, None, arith}
+use Rattle.std.proofs.Common.{◌<◌, ℕ, List, [], ◌∷◌, Some, None, arith}
 use Rattle.fluent_syntax_tree.specs.Entry.{AttributeTree, MessageTree, message}
 use Rattle.fluent_syntax_tree.specs.Tree.{PatternTree}
 use Rattle.fluent_syntax_tree.specs.declared.edition.Edition.{Edition}
 use Rattle.fluent_syntax_tree.specs.declared.spans.Span.{Span}
 use Rattle.fluent_syntax_grammar.specs.Bytes.{full_stop}
 use Rattle.fluent_syntax_grammar.specs.Construct.{Read, at_place, given, goes_on, passed}
-use Rattle.fluent_syntax_grammar.specs.Entries.{attribute_of, attributes_of, message_with, no_more, one_more}
+use Rattle.fluent_syntax_grammar.specs.Entries.{attribute_of, attributes_of, message_with, no_more}
 use Rattle.fluent_syntax_grammar.specs.Grammar.{within}
 use Rattle.fluent_syntax_grammar.specs.Places.{BlankBlock, InlineBlank}
 use Rattle.fluent_syntax_grammar.specs.Words.{token}

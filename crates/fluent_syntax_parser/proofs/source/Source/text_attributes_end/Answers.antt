@@ -19,8 +19,14 @@ loop-start-preserved c =
     let field = c.in_ok-opening.ensures in
     let text = c.in_ok-_text.ensures in
     record {
-      forward = omega (arith, inv.forward, c.skip_blank_inline-dot.ensures.blank.forward, mark.within.0, field.within.0,
-          text.within.0);
+      forward = omega (
+        arith,
+        inv.forward,
+        c.skip_blank_inline-dot.ensures.blank.forward,
+        mark.within.0,
+        field.within.0,
+        text.within.0,
+      );
       inside = text.within.1;
       passed = λ n rest end found.
           let attribute = attribute_stands c.args.edition t _ _ _ _ _ _ c.skip_blank_inline-dot.ensures.blank
