@@ -35,7 +35,7 @@ crlf_byte false true true i k e other = refl
 crlf_byte false true false i k e other = cc
 crlf_byte false false c i k e other = cc
 
-pub lf_byte : (a b : Bool) (i k : ℕ) → (if a then Some (i + 1) else if b then Some (i + 2) else None) ≡ Some k →
+lf_byte : (a b : Bool) (i k : ℕ) → (if a then Some (i + 1) else if b then Some (i + 2) else None) ≡ Some k →
     k ≡ i + 1 → a ≡ true
 lf_byte true b i k e same = refl
 lf_byte false true i k e same = let two : i + 2 ≡ k = cc in absurd (omega (arith, two, same))

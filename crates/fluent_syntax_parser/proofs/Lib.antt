@@ -13,6 +13,7 @@ pub mod ExtentRanges
 pub mod ErrorPlaces
 pub mod Fails
 pub mod FieldForms
+pub mod Flat
 pub mod GatheredArguments
 pub mod GatheredVariants
 pub mod Gathers

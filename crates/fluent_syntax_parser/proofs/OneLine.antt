@@ -22,7 +22,7 @@ use Rattle.fluent_syntax_grammar.proofs.Facts.{left_true, byte_found}
 use Rattle.fluent_syntax_grammar.proofs.Tests.{without}
 use Rattle.fluent_syntax_grammar.proofs.LineEnds.{eol_none}
 use Rattle.fluent_syntax_parser.proofs.LineEndings.{ends_line, ends_text}
-use Rattle.fluent_syntax_parser.proofs.BlankLines.{crlf_byte, eol_there, lf_blank, lf_byte, no_piece, range_cons}
+use Rattle.fluent_syntax_parser.proofs.BlankLines.{crlf_byte, eol_there, lf_blank, no_piece, range_cons}
 use Rattle.fluent_syntax_parser.specs.OneLine.{EndsBlank, EndsLine, text_pattern, with_lf, with_crlf, with_text}
 
 starts_nonblank : (b : ℕ) (bs : List ℕ) → (b == space) ≡ false → (b == lf) ≡ false → is_nonblank (b ∷ bs) ≡ true
@@ -52,7 +52,7 @@ module _ (t : List ℕ) where
     start_eol : has_eol t start ≡ false
     start_eol = without _ _ (w.each start (omega arith) some)
 
-    pub run_nonblank : (ptr stop : ℕ) → InlineBlank t ptr start → to ≤ stop → stop ≤ length t →
+    run_nonblank : (ptr stop : ℕ) → InlineBlank t ptr start → to ≤ stop → stop ≤ length t →
         is_nonblank (slice_range t start stop) ≡ true
     run_nonblank ptr stop blank l within =
         let f = first_byte in
@@ -75,7 +75,7 @@ module _ (t : List ℕ) (R : Family) where
       chosen (rw e (chosen (second eol (second close (second opening (goes_on run given)))))) in
       item_and_more piece h
 
-  pub run_before : (start to : ℕ) → Stretch (is_run_place t) start to → start < to → (ps : List Piece) (end : ℕ) →
+  run_before : (start to : ℕ) → Stretch (is_run_place t) start to → start < to → (ps : List Piece) (end : ℕ) →
       more_pieces t R to (Read ps end) → more_pieces t R start (Read (run' start to ∷ ps) end)
   run_before start to w some ps end pieces =
       let f = first_byte t start to w some in
@@ -83,32 +83,24 @@ module _ (t : List ℕ) (R : Family) where
 
   -- ---- a line that ends
 
-  -- It ends so, nothing but that follows there, and of its last items a text from some place stays just if it is
-  -- nonblank.
-  pub record EndedLine (to stop next : ℕ) : Type 0 where
+  -- It ends so, nothing but that follows there, and a nonblank text from some place stays as its last item.
+  record EndedLine (to stop next : ℕ) : Type 0 where
     pub ends_by : Ending
     pub ends : ending t to (Read ends_by next)
     pub pieces : more_pieces t R to (Read [] to)
     pub text_stays : (from : ℕ) → is_nonblank (slice_range t from stop) ≡ true →
         cut t (with_ending (run' from to ∷ []) ends_by) ≡ text from stop ∷ []
-    pub text_falls : (from : ℕ) → is_nonblank (slice_range t from stop) ≡ false →
-        cut t (with_ending (run' from to ∷ []) ends_by) ≡ []
-    pub none_stays : cut t (with_ending [] ends_by) ≡ []
 
-  pub line_ended : (to stop next : ℕ) → EndsLine t to stop next → EndedLine to stop next
+  line_ended : (to stop next : ℕ) → EndsLine t to stop next → EndedLine to stop next
   line_ended to stop next (with_lf eol e) =
       let there = eol_there (has_byte t lf to) _ to stop eol in
       let test : (stop == to + 1) ≡ true = grind (arith, nat_tests) in
-      let blank = lf_blank t to (to + 1) refl (lf_byte (has_byte t lf to) _ to stop eol e) in
       record {
         ends_by = lf_at to;
         ends = subst (λ b. ending t to (Read (if b then lf_at to else crlf_at to) stop)) test (ends_line t to stop eol);
         pieces = no_piece t R to (slice_get t to) refl there;
         text_stays = λ from stays.
             let same = subst (λ k. is_nonblank (slice_range t from k) ≡ true) e stays in rw (same, e) refl;
-        text_falls = λ from falls.
-            let same = subst (λ k. is_nonblank (slice_range t from k) ≡ false) e falls in rw same refl;
-        none_stays = rw blank refl;
       }
   line_ended to stop next (with_crlf eol e) =
       let there = eol_there (has_byte t lf to) _ to next eol in
@@ -120,8 +112,6 @@ module _ (t : List ℕ) (R : Family) where
         ends = subst (λ b. ending t to (Read (if b then lf_at to else crlf_at to) next)) test (ends_line t to next eol);
         pieces = no_piece t R to (slice_get t to) refl there;
         text_stays = λ from stays. rw (blank, stays) refl;
-        text_falls = λ from falls. rw (blank, falls) refl;
-        none_stays = rw blank refl;
       }
   line_ended to stop next (with_text eol e) =
       let none : slice_get t to ≡ None = slice_get_past t to (omega (arith, e)) in
@@ -130,8 +120,6 @@ module _ (t : List ℕ) (R : Family) where
         ends = ends_text t to eol;
         pieces = list_ends (chosen (rw none given));
         text_stays = λ from stays. rw stays refl;
-        text_falls = λ from falls. rw falls refl;
-        none_stays = refl;
       }
 
 module _ (edition : Edition) (t : List ℕ) (n : ℕ) where
@@ -146,7 +134,7 @@ module _ (edition : Edition) (t : List ℕ) (n : ℕ) where
     opened ls = record { opening = Some (record { start = start; spaces = 0; pieces = ps; ending = e }); lines = ls }
 
     -- it spells the items of its opening line
-    pub opening_read : (ptr end : ℕ) → InlineBlank t ptr start → EndsBlank edition t next end →
+    opening_read : (ptr end : ℕ) → InlineBlank t ptr start → EndsBlank edition t next end →
         pattern edition t R ptr (Read (if_any (spelled t (cut t (with_ending ps e)))) end)
     opening_read ptr end blank behind =
         let laid : layout_at t R None start (Read (opened behind.lines) end) = goes_on at_place

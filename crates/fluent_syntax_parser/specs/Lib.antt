@@ -5,6 +5,7 @@ pub mod Endings
 pub mod Extents
 pub mod Faults
 pub mod Fields
+pub mod Flat
 pub mod Gathered
 pub mod Halts
 pub mod Lanes

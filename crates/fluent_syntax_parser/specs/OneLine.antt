@@ -1,13 +1,11 @@
--- Patterns of one line, and messages of one text.
+-- Patterns of one line.
 use Rattle.std.specs.Prelude.{◌≡◌, ℕ, ◌+◌, List, [], ◌∷◌, length, Option, Some, None}
 use Rattle.std.specs.List.{flat_map}
-use Rattle.fluent_syntax_tree.specs.Entry.{EntryTree, message}
 use Rattle.fluent_syntax_tree.specs.Tree.{PatternTree, elements_of, text_element}
 use Rattle.fluent_syntax_tree.specs.declared.edition.Edition.{Edition}
 use Rattle.fluent_syntax_tree.specs.declared.spans.Span.{Span}
 use Rattle.fluent_syntax_grammar.specs.Construct.{Read}
 use Rattle.fluent_syntax_grammar.specs.Elements.{cut, line_items}
-use Rattle.fluent_syntax_grammar.specs.Entries.{message_of}
 use Rattle.fluent_syntax_grammar.specs.Grammar.{within}
 use Rattle.fluent_syntax_grammar.specs.Lines.{more_lines}
 use Rattle.fluent_syntax_grammar.specs.Patterns.{pattern}
@@ -43,13 +41,3 @@ pub record EndsBlank (edition : Edition) (t : List ℕ) (i end : ℕ) : Type 0 w
 -- the pattern of one text
 abbrev pub text_pattern : Span → PatternTree Span
 text_pattern s = elements_of (text_element s ∷ [])
-
--- the message of a name and one text, without attributes
-abbrev pub text_message : (name text : Span) → EntryTree Span
-text_message name text =
-    message (record { id = name; value = Some (text_pattern text); attributes = []; comment = None })
-
--- A message of a name and one text stands from the one place to the other. Nothing nests in it.
-abbrev pub TextMessage : Edition → List ℕ → (i j : ℕ) → Type 0
-TextMessage edition t i j =
-    (name text : Span) × ((n : ℕ) → message_of edition t (within edition t n) i (Read (text_message name text) j))

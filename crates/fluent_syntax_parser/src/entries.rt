@@ -141,15 +141,26 @@ impl<'s> Entries<'s> {
             IfOk result (ComesTo (TextDeeper options.edition t at options.nesting) self.old.ptr self.new.ptr) }
     {
         let Options {
-            edition, comments, ..
+            edition,
+            comments,
+            nesting,
         } = self.options;
         if let Some(end) = self.source.next_text_message(edition, comments, self.ptr) {
             self.ptr = end;
             return Ok(Some(None));
         }
-        match self.next_entry(alloc)? {
-            Some((_entry, error)) => Ok(Some(error)),
-            None => Ok(None),
-        }
+        let reader = Reader {
+            source: self.source,
+            alloc,
+            edition,
+            texts: &AsSpans,
+        };
+        let mut body = Vec::new(alloc);
+        let mut errors = Vec::new(alloc);
+        let Some(end) = reader.add_next(&mut body, &mut errors, comments, nesting, self.ptr)? else {
+            return Ok(None);
+        };
+        self.ptr = end;
+        Ok(Some(only_item(errors)))
     }
 }

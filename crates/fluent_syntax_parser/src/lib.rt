@@ -33,6 +33,7 @@ mod spans;
 mod starts;
 mod strings;
 mod tails;
+mod text_messages;
 pub mod texts;
 mod tile;
 pub mod tiles;

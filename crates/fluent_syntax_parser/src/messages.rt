@@ -1,19 +1,16 @@
 //! Messages and terms.
-ghost use Rattle.std.specs.Prelude.{◌<◌, ◌≤◌, length, IfOk, IfSome};
+ghost use Rattle.std.specs.Prelude.{◌<◌, ◌≤◌, length, IfOk};
 ghost use Rattle.fluent_syntax_tree.specs.Entry.{entry_map};
 ghost use Rattle.fluent_syntax_tree.specs.View.{entry_view};
 ghost use Rattle.fluent_syntax_grammar.specs.Entries.{message_of, term_of};
 ghost use Rattle.fluent_syntax_grammar.specs.Grammar.{within};
 ghost use Rattle.fluent_syntax_parser.specs.Fields.{fields, fields_map, fields_view};
 ghost use Rattle.fluent_syntax_parser.specs.Made.{Adds, Makes};
-ghost use Rattle.fluent_syntax_parser.specs.OneLine.{TextMessage};
 
 use crate::fault::{Fault, ReadFault, Refusal};
 use crate::reader::Reader;
-use crate::source::Source;
 use crate::texts::MakeTexts;
 use fluent_syntax_tree::ast::{Attribute, Entry, Message, Pattern, Term};
-use fluent_syntax_tree::edition::Edition;
 use fluent_syntax_tree::spans::Span;
 
 /// What stands behind the name of a message or a term.
@@ -21,32 +18,6 @@ use fluent_syntax_tree::spans::Span;
 pub(crate) struct Fields<T> {
     value: Option<Pattern<T>>,
     attributes: Vec<Attribute<T>>,
-}
-
-impl<'s> Source<'s> {
-    /// Where a message ends whose value is one text on the line of its `=`, without attributes. `None` where none such
-    /// stands there.
-    pub(crate) fn text_message_end(&self, edition: Edition, start: usize) -> Option<usize>
-        requires { start ≤ length self.now.bytes.now }
-        ensures message { IfSome result (TextMessage edition self.now.bytes.now start) }
-        ensures within { IfSome result (λ end. (start < end) × (end ≤ length self.now.bytes.now)) }
-    {
-        let Ok(end) = self.identifier_end(start) else {
-            return None;
-        };
-        let equals = self.skip_blank_inline(end);
-        let Ok(behind) = self.expect_byte(b'=', equals) else {
-            return None;
-        };
-        let opening = self.skip_blank_inline(behind);
-        let (_text, line) = self.short_text(edition, opening)?;
-        let place = self.skip_blank_block(line);
-        let dot = self.skip_blank_inline(place);
-        match self.expect_byte(b'.', dot) {
-            Ok(_) => None,
-            Err(_) => Some(place),
-        }
-    }
 }
 
 impl<'s, 't, M: MakeTexts> Reader<'s, 't, M> {

@@ -105,7 +105,7 @@ impl<'s> Source<'s> {
 
     /// Where a pattern ends that holds nothing, after the inline blank that opens it, if a line ends there.
     #[inline(always)]
-    fn end_without_text(&self, edition: Edition, start: usize) -> Option<usize>
+    pub(crate) fn end_without_text(&self, edition: Edition, start: usize) -> Option<usize>
         requires { start ≤ length self.now.bytes.now }
         ensures opens { IfSome result (OpensAs edition self.now.bytes.now start None) }
         ensures within { IfSome result (λ end. (start ≤ end) × (end ≤ length self.now.bytes.now)) }

@@ -1,20 +1,13 @@
-use Rattle.std.proofs.Common.{refl}
-use Rattle.fluent_syntax_grammar.specs.Construct.{at_place, given, goes_on, passed, stops}
-use Rattle.fluent_syntax_grammar.specs.Entries.{no_more}
+use Rattle.fluent_syntax_parser.proofs.Flat.{message_of_attributes, message_of_value}
 use Rattle.fluent_syntax_parser.proofs.source.Source.text_message_end.Goals as goal
 
-pub returns-in-Err-clause-message : goal.returns-in-Err-clause-message
-returns-in-Err-clause-message c = (
-  record { start = c.args.start; end = c.in-Ok.end },
-  c.in_ok-_text._text,
-  λ n.
-      goes_on at_place
-      (goes_on c.in-Ok.ensures.meets
-      (goes_on (passed c.skip_blank_inline-equals.ensures.blank)
-      (goes_on c.in-Ok-expect_byte.ensures.meets
-      (goes_on (c.in_ok-_text.ensures.opens n c.in-Ok-expect_byte.behind c.skip_blank_inline-opening.ensures.blank)
-      (goes_on (passed c.skip_blank_block-place.ensures.blank)
-      (goes_on (no_more (goes_on (passed c.skip_blank_inline-dot.ensures.blank)
-      (stops (c.in-Err.ensures.meets _ _ _ (refl, refl, refl)))))
-      given)))))),
-)
+pub returns-in-Some-clause-message : goal.returns-in-Some-clause-message
+returns-in-Some-clause-message c =
+    message_of_value c.args.edition c.args.self.now.bytes.now _ _ _ _ _ c.in_ok-opening.ensures.opens
+    c.skip_blank_block.ensures.blank c.in_ok-end.ensures.attributes _ c.in-Some.ensures.opens
+
+pub returns-then-end-place-clause-message : goal.returns-then-end-place-clause-message
+returns-then-end-place-clause-message c =
+    message_of_attributes c.args.edition c.args.self.now.bytes.now _ _ _ _ _ c.in_ok-opening.ensures.opens
+    c.skip_blank_block-place.ensures.blank c.in_ok-end-2.ensures.attributes c.in_ok-line.ensures.opens
+    c.if-end-place.true
