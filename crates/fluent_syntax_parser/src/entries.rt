@@ -120,7 +120,7 @@ impl<'s> Entries<'s> {
     /// Passes over the next entry, as `next_entry` would read it: gives its error, where it is junk. `None` where no
     /// entry is left.
     ///
-    /// A message whose value is one text takes no memory. After a `Halt` it stands where it stood.
+    /// A message whose patterns are each one text on its line takes no memory. After a `Halt` it stands where it stood.
     pub fn next_error(&mut self, alloc: Global) -> Result<Option<Option<ParserError>>, Halt>
         ensures text { self.new.source ≡ self.old.source }
         ensures options { self.new.options ≡ self.old.options }
@@ -143,24 +143,15 @@ impl<'s> Entries<'s> {
         let Options {
             edition,
             comments,
-            nesting,
+            ..
         } = self.options;
-        if let Some(end) = self.source.next_text_message(edition, comments, self.ptr) {
-            self.ptr = end;
+        if let Some(behind) = self.source.next_text_message(edition, comments, self.ptr) {
+            self.ptr = behind;
             return Ok(Some(None));
         }
-        let reader = Reader {
-            source: self.source,
-            alloc,
-            edition,
-            texts: &AsSpans,
-        };
-        let mut body = Vec::new(alloc);
-        let mut errors = Vec::new(alloc);
-        let Some(end) = reader.add_next(&mut body, &mut errors, comments, nesting, self.ptr)? else {
-            return Ok(None);
-        };
-        self.ptr = end;
-        Ok(Some(only_item(errors)))
+        match self.next_entry(alloc)? {
+            Some((_entry, error)) => Ok(Some(error)),
+            None => Ok(None),
+        }
     }
 }

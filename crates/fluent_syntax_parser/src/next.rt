@@ -56,8 +56,8 @@ impl<'s> Source<'s> {
         start
     }
 
-    /// Where the next entry ends from a place on, if it is a message whose value is one text on the line of its `=`,
-    /// without attributes and without a comment on it.
+    /// Where the next entry ends from a place on, if it is a message on which no comment hangs and whose patterns are
+    /// each one text on its line. `None` where another stands next, or none.
     pub(crate) fn next_text_message(
         &self,
         edition: Edition,

@@ -1,4 +1,4 @@
-//! Messages whose patterns are each one text on the line of the `=`, as most are: they are passed over without a tree.
+//! Messages whose patterns are each one text on its line, as most are: they are passed over without a tree.
 ghost use Rattle.std.specs.Prelude.{◌<◌, ◌≤◌, length, IfSome};
 ghost use Rattle.fluent_syntax_parser.specs.Flat.{FlatAttributes, FlatMessage, OpensPattern};
 
@@ -22,7 +22,7 @@ impl<'s> Source<'s> {
         Some(self.skip_blank_inline(behind))
     }
 
-    /// Where a list of attributes ends, each of which is one text on its line. `None` where one is not.
+    /// Where a list of attributes ends, of which the pattern of each is one text on its line. `None` where one is not.
     fn text_attributes_end(&self, edition: Edition, ptr: usize) -> Option<usize>
         requires { ptr ≤ length self.now.bytes.now }
         ensures attributes { IfSome result (FlatAttributes edition self.now.bytes.now ptr) }
@@ -40,7 +40,7 @@ impl<'s> Source<'s> {
         }
     }
 
-    /// Where a message ends whose value, if it has one, and attributes are each one text on their lines. `None` where
+    /// Where a message ends whose patterns, of value and attributes, are each one text on its line. `None` where
     /// none such stands there.
     pub(crate) fn text_message_end(&self, edition: Edition, start: usize) -> Option<usize>
         requires { start ≤ length self.now.bytes.now }
