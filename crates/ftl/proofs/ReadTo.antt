@@ -1,4 +1,4 @@
--- Texts that are formatted entry by entry.
+-- Texts that are read entry by entry.
 use Rattle.std.proofs.Common.{◌≡◌, ℕ, ◌≤◌, List, [], ◌∷◌, ◌++◌, length, map, false, Option, Some, None, refl, sym}
 use Rattle.std.proofs.Common.{◌∙◌, ap, String, string_bytes, true}
 use Rattle.std.specs.Str.{IsUtf8}
@@ -42,17 +42,9 @@ outcome_told-last [] (Some error) = refl
 outcome_told-last (f ∷ fs) None = refl
 outcome_told-last (f ∷ fs) (Some error) = refl
 
--- a tree that obeys the rules, and one more entry that does
-pub obeys_on : (rules : Rules) (tree : BodyTree Text) (e : EntryTree Text) → body_obeys rules tree ≡ true →
-    entry_obeys rules e ≡ true → body_obeys rules (tree ++ e ∷ []) ≡ true
-obeys_on rules [] e h k = rw k
-obeys_on rules (x ∷ tree) e h k =
-    rw (left_true (entry_obeys rules x) (body_obeys rules tree) h)
-    (obeys_on rules tree e (right_true (entry_obeys rules x) (body_obeys rules tree) h) k)
-
 module _ (comments : Comments) (edition : Edition) (t : List ℕ) where
   -- The text was read up to the place, and these are its entries with their texts, and the outcome so far.
-  pub record FormattedTo (i : ℕ) (tree : BodyTree Text) (outcome : Outcome) : Type 0 where
+  pub record ReadTo (i : ℕ) (tree : BodyTree Text) (outcome : Outcome) : Type 0 where
     pub spans : BodyTree Span
     pub errors : List (Option Fault)
     pub tree_is : tree ≡ body_map (bytes_at t) spans
@@ -60,8 +52,8 @@ module _ (comments : Comments) (edition : Edition) (t : List ℕ) where
     pub rest : (entries : BodyTree Span) (others : List (Option Fault)) → Rest comments edition t i entries others →
         Rest comments edition t 0 (spans ++ entries) (errors ++ others)
 
-  pub nothing_formatted : FormattedTo 0 [] Clean
-  nothing_formatted = record {
+  pub nothing_read : ReadTo 0 [] Clean
+  nothing_read = record {
     spans = [];
     errors = [];
     tree_is = refl;
@@ -69,19 +61,19 @@ module _ (comments : Comments) (edition : Edition) (t : List ℕ) where
     rest = λ entries others rest. rest;
   }
 
-  module _ (i : ℕ) (tree : BodyTree Text) (outcome : Outcome) (formatted : FormattedTo i tree outcome) where
+  module _ (i : ℕ) (tree : BodyTree Text) (outcome : Outcome) (before : ReadTo i tree outcome) where
     -- with nothing left, this is the tree of the text
-    pub all_formatted : Rest comments edition t i [] [] →
+    pub all_read : Rest comments edition t i [] [] →
         (tiles : List Tile) × Tiled t (TileIn comments edition t (family edition t)) 0 tiles ×
         (tree ≡ body_map (bytes_at t) (body tiles)) × (outcome ≡ outcome_of tiles)
-    all_formatted none =
-        let whole = formatted.rest [] [] none in
-        let gives = whole.gives ∙ append-nil formatted.spans in
-        let tells = whole.tells ∙ append-nil formatted.errors in (
+    all_read none =
+        let whole = before.rest [] [] none in
+        let gives = whole.gives ∙ append-nil before.spans in
+        let tells = whole.tells ∙ append-nil before.errors in (
           whole.tiles,
           whole.tiled,
-          formatted.tree_is ∙ ap (body_map (bytes_at t)) (sym gives),
-          formatted.outcome_is ∙ ap outcome_told (sym tells) ∙ outcome_told-faults (faults whole.tiles),
+          before.tree_is ∙ ap (body_map (bytes_at t)) (sym gives),
+          before.outcome_is ∙ ap outcome_told (sym tells) ∙ outcome_told-faults (faults whole.tiles),
         )
 
     module _ (j : ℕ) (e : Entry Span) (error : Option ParserError)
@@ -90,41 +82,20 @@ module _ (comments : Comments) (edition : Edition) (t : List ℕ) where
       pub next_in_source : IsUtf8 t → j ≤ length t → entry_every (IsPart t) (tree_of e)
       next_in_source utf8 inside =
           let some = some_rest t edition comments j inside in
-          parts_of_entry t edition comments formatted.spans (tree_of e) some.0 _ utf8
-          (formatted.rest _ _ (next some.0 some.1 some.2))
+          parts_of_entry t edition comments before.spans (tree_of e) some.0 _ utf8
+          (before.rest _ _ (next some.0 some.1 some.2))
 
-      -- with the next entry, the text is formatted up to where that ends
-      pub formatted_on : FormattedTo j (tree ++ entry_map (bytes_at t) (tree_of e) ∷ []) (outcome_behind outcome error)
-      formatted_on = record {
-        spans = formatted.spans ++ tree_of e ∷ [];
-        errors = formatted.errors ++ faults_of error;
-        tree_is = ap (λ es. es ++ entry_map (bytes_at t) (tree_of e) ∷ []) formatted.tree_is
-            ∙ sym (map-append (entry_map (bytes_at t)) formatted.spans (tree_of e ∷ []));
-        outcome_is = ap (λ o. outcome_behind o error) formatted.outcome_is ∙ outcome_told-last formatted.errors error;
+      -- with the next entry, the text is read up to where that ends
+      pub read_on : ReadTo j (tree ++ entry_map (bytes_at t) (tree_of e) ∷ []) (outcome_behind outcome error)
+      read_on = record {
+        spans = before.spans ++ tree_of e ∷ [];
+        errors = before.errors ++ faults_of error;
+        tree_is = ap (λ es. es ++ entry_map (bytes_at t) (tree_of e) ∷ []) before.tree_is
+            ∙ sym (map-append (entry_map (bytes_at t)) before.spans (tree_of e ∷ []));
+        outcome_is = ap (λ o. outcome_behind o error) before.outcome_is ∙ outcome_told-last before.errors error;
         rest = λ entries others rest. rw (
-          append_assoc formatted.spans (tree_of e ∷ []) entries,
-          append_assoc formatted.errors (faults_of error) others,
+          append_assoc before.spans (tree_of e ∷ []) entries,
+          append_assoc before.errors (faults_of error) others,
         )
-            (formatted.rest _ _ (next entries others rest));
+            (before.rest _ _ (next entries others rest));
       }
-
-module _ {Z : Type 0} where
-  -- The writer was made of an empty text, and the entries of the tree came to it.
-  pub record CameTo (tree : BodyTree Text) (writer : EntryWriter (String Z)) : Type 0 where
-    pub start : String Z
-    pub is_empty : string_bytes start ≡ []
-    pub came : HasCome start tree writer
-
-  -- one more entry
-  pub came_next : (tree : BodyTree Text) (e : EntryTree Text) (old new : EntryWriter (String Z)) → CameTo tree old →
-      AddsTree old new e → CameTo (tree ++ e ∷ []) new
-  came_next tree e old new h k = record { start = h.start; is_empty = h.is_empty; came = k.added h.came }
-
-  -- the text that was made
-  pub written_whole : (tree : BodyTree Text) (writer : EntryWriter (String Z)) (came : CameTo tree writer)
-      (text : String Z) → Takes (λ (s : String Z). string_bytes s) (λ s. 0) came.start text
-      (written writer.options.with_junk tree) → writer.options.with_junk ≡ false →
-      string_bytes text ≡ written false tree
-  written_whole tree writer came text taken no_junk =
-      taken.appended ∙ ap (λ bs. bs ++ written writer.options.with_junk tree) came.is_empty
-      ∙ ap (λ junk. written junk tree) no_junk
