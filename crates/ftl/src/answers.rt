@@ -28,8 +28,6 @@ use crate::outcome::{Outcome, RunFault};
 use crate::writers::NormalWriter;
 use fluent_syntax::ast::Entry;
 use fluent_syntax::parser::{Edition, ParserError, TooDeep};
-use fluent_syntax::serializer;
-use fluent_syntax::serializer::EntryWriter;
 use fluent_syntax::spans::{Comments, Entries, Halt, Lines, Options, Span};
 use fluent_syntax::unicode::SinkError;
 use fluent_syntax_json::BodyWriter;
@@ -326,17 +324,11 @@ fn normal(
     ensures shallow { let t = text.now in let at = TileIn options.comments options.edition t in
         IfOk result (λ given. TextDeeper options.edition t at options.nesting 0 → ⊥) }
 {
-    let mut writer = NormalWriter {
-        writer: EntryWriter::new(String::new(alloc), serializer::Options::default()),
-        edition: options.edition,
-        all_canonical: *all_canonical,
-    };
+    let mut writer = NormalWriter::new(alloc, options.edition);
     let outcome = write_one_by_one(alloc, &mut writer, text, options)?;
-    *all_canonical = writer.all_canonical;
-    match writer.writer.finish() {
-        (written, Ok(())) => Ok((written, outcome)),
-        (_, Err(SinkError)) => Err(Halt::Memory),
-    }
+    *all_canonical = writer.all_canonical();
+    let written = writer.finish()?;
+    Ok((written, outcome))
 }
 
 /// The JSON form of the text's tree, as compact text, and LF.
