@@ -1,5 +1,6 @@
 mod Statuses
 mod Rows
+mod Values
 mod LineStarts
 mod Recovered
 mod Told
