@@ -1,6 +1,6 @@
 mod Statuses
 mod Rows
-mod Values
+mod ValueRows
 mod LineStarts
 mod Recovered
 mod Told

@@ -11,7 +11,7 @@ use crate::outputs::give;
 use crate::readings::{outcome_of, read};
 use crate::status::Refusal;
 use fluent_syntax::parser::Edition;
-use fluent_syntax::spans::{EntryExtents, Halt, Span, Tiles, entry_extents};
+use fluent_syntax::spans::{EntryExtents, FoundTile, Halt, Span, Tiles, entry_extents};
 use ftl::Outcome;
 use std::alloc::{AllocError, Global};
 
@@ -89,15 +89,27 @@ fn text_values(
     let mut tiles = Tiles::new(text, edition, nesting, 0);
     loop {
         match tiles.next_tile(alloc) {
-            Ok(Some(found)) => {
-                let start = found.span.start;
-                add_values_at(&mut rows, alloc, text, edition, nesting, start)?;
-            }
+            Ok(Some(found)) => add_found(&mut rows, alloc, text, edition, nesting, found)?,
             Ok(None) => return Ok(rows),
             // it was read before, so it is not too deep
             Err(Halt::TooDeep | Halt::Memory) => return Err(AllocError),
         }
     }
+}
+
+/// Adds the rows of what was found, if it is a message or a term, which nests no deeper than that.
+fn add_found(
+    rows: &mut Vec<FtlValue>,
+    alloc: Global,
+    text: &str,
+    edition: Edition,
+    nesting: usize,
+    found: FoundTile,
+) -> Result<(), AllocError>
+    requires { found.span.start ≤ length text.now }
+    ensures { OnOk result (AddsValues edition text.now found.span.start rows.old.items rows.new.items) }
+{
+    add_values_at(rows, alloc, text, edition, nesting, found.span.start)
 }
 
 /// Adds the rows of the message or the term that begins at the place, if one does, and nests no deeper than that.

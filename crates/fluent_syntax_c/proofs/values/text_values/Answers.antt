@@ -1,5 +1,5 @@
 use Rattle.std.proofs.Common.{ap, arith, ◌∙◌}
-use Rattle.fluent_syntax_c.proofs.Values.{values_of_all, values_of_nothing, values_on}
+use Rattle.fluent_syntax_c.proofs.ValueRows.{values_of_all, values_of_nothing, values_on}
 use Rattle.fluent_syntax_c.proofs.values.text_values.Goals as goal
 
 pub loop-found-init : goal.loop-found-init
@@ -10,8 +10,8 @@ loop-found-init c = record {
       (values_of_nothing c.args.edition c.args.text.now);
 }
 
-pub add_values_at-requires : goal.add_values_at-requires
-add_values_at-requires c =
+pub add_found-requires : goal.add_found-requires
+add_found-requires c =
     let inv = c.loop-found.invariant in
     let next = rw (inv.text, inv.edition, c.in-Ok-Some.field-0-is) at c.in-Ok-Some.ensures.next in
     omega (arith, next.inside)
@@ -27,8 +27,8 @@ loop-found-preserved c =
       edition = here.edition ∙ inv.edition;
       values =
           values_on c.args.edition t c.loop-found.tiles.ptr c.next_tile.new.self.ptr c.in-Ok-Some.found
-          c.loop-found.rows.items c.add_values_at.new.rows.items inv.values next
-          c.in_ok-add_values_at-in-Ok-Some.ensures;
+          c.loop-found.rows.items c.add_found.new.rows.items inv.values next
+          c.in_ok-add_found-in-Ok-Some.ensures;
     }
 
 pub returns-in-Ok-None : goal.returns-in-Ok-None

@@ -1,5 +1,5 @@
 use Rattle.std.proofs.Common.{◌≡◌, ◌-◌, length}
-use Rattle.fluent_syntax_c.proofs.Values.{ValuesTo}
+use Rattle.fluent_syntax_c.proofs.ValueRows.{ValuesTo}
 use Rattle.fluent_syntax_c.proofs.values.text_values.Given as goal
 
 abbrev pub invariant-loop-found : goal.invariant-loop-found

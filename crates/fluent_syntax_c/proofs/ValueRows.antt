@@ -1,7 +1,6 @@
 -- Rows of values.
 use Rattle.std.proofs.Common.{◌≡◌, ◌++◌, [], ◌∷◌, ℕ, List, Option, Some, None, length}
 use Rattle.std.proofs.Common.{sym, subst, append_assoc, append-nil}
-use Rattle.fluent_syntax_tree.specs.Entry.{EntryTree}
 use Rattle.fluent_syntax_tree.specs.declared.edition.Edition.{Edition}
 use Rattle.fluent_syntax_tree.specs.declared.spans.Span.{Span}
 use Rattle.fluent_syntax_grammar.specs.Grammar.{family}
@@ -12,7 +11,7 @@ use Rattle.fluent_syntax_parser.specs.Extents.{EntryStands, HasExtents}
 use Rattle.fluent_syntax_parser.specs.Tiles.{TileTo}
 use Rattle.fluent_syntax_parser.specs.declared.extents.EntryExtents.{EntryExtents}
 use Rattle.fluent_syntax_parser.specs.declared.tiles.FoundTile.{FoundTile}
-use Rattle.fluent_syntax_c.specs.Values.{AddsValues, TileValues, TilesValues, ValuesTiling, entry_values, found_values}
+use Rattle.fluent_syntax_c.specs.Values.{AddsValues, TileValues, TilesValues, ValuesTiling, found_values}
 use Rattle.fluent_syntax_c.specs.Values.{no_more, of_comment, of_entry, of_junk, one_more}
 use Rattle.fluent_syntax_c.specs.declared.values.FtlValue.{FtlValue}
 
@@ -33,7 +32,7 @@ module _ (edition : Edition) (t : List ℕ) where
       HasExtents edition t s.start found → TileValues edition t tile (found_values found)
   tile_values s tile None (reads {e = e} r) has =
       let here = has e s.end r in
-      subst (λ tree. TileValues edition t (entry s tree) []) (sym here.2.2) of_comment
+      subst (λ tree. TileValues edition t (entry s tree) []) (sym here.2) of_comment
   tile_values s tile None (refuses r end) has = of_junk
   tile_values s tile (Some x) (reads {e = e} r) has =
       let same = (functional_entry edition t).same s.start _ _ has.read r in
@@ -60,7 +59,7 @@ module _ (edition : Edition) (t : List ℕ) where
   values_on i j found before after values to adds = record {
     tiles = values.tiles ++ (to.tile ∷ []);
     values =
-        subst (TilesValues edition t (values.tiles ++ (to.tile ∷ []))) (sym adds.2.1)
+        subst (TilesValues edition t (values.tiles ++ (to.tile ∷ []))) (sym adds.2)
         (values_behind values.values (tile_values found.span to.tile adds.0 to.stands adds.1));
     whole = λ more tiled.
         subst (Tiled t (TileAt edition t) 0) (sym (append_assoc values.tiles (to.tile ∷ []) more))
