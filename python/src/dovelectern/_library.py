@@ -180,8 +180,8 @@ def names(text: bytes, edition: int, nesting: int) -> Tuple[List[int], List[int]
 
 
 def values(text: bytes, edition: int, nesting: int) -> Tuple[List[int], List[int]]:
-    """Where the values of these begin and end, in bytes, in the order of the names; of a message without one both are
-    0."""
+    """Where the values of messages, terms and attributes of the text begin, in the order of their names, and where they
+    end, in bytes; of a message without one both are 0."""
     rows, _ = _items("ftl_values", edition, nesting, [text], VALUE_ROW.size, 16 + len(text) // 64)
     numbers = rows.cast("N")
     return numbers[0::2].tolist(), numbers[1::2].tolist()
