@@ -78,8 +78,8 @@ static void fault(int call, const char *what, size_t text_len, size_t number)
         printf("call %d over %zu bytes, %zu: %s\n", call, text_len, number, what);
 }
 
-/* ---- the calls: the six commands over texts; the errors, names, values and messages by either edition; the findings in
-   the text and another one, and its comparison with that, likewise; and from JSON, made over the JSON of the text */
+/* ---- the calls: the six commands over texts; the errors, names, values and messages by either edition; the findings
+   in the text and another one, and its comparison with that, likewise; and from JSON, made over the JSON of the text */
 
 _Static_assert(sizeof(struct ftl_text) == 2 * sizeof(size_t), "a text is a pointer and a length");
 _Static_assert(sizeof(struct ftl_value) == 2 * sizeof(size_t), "a value is two places");

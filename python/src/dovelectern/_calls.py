@@ -61,7 +61,7 @@ def _place(tree: ast.Resource, data: bytes, nesting: int) -> None:
     found = [*_library.names(data, 1, nesting), *_library.values(data, 1, nesting)]
     if not data.isascii():
         at = _places.in_characters(data, chain(*found))
-        found = [[at[it] for it in places] for places in found]
+        found = [[*map(at.__getitem__, places)] for places in found]
     names, values = map(Span, *found[:2]), map(Span, *found[2:])
     for node in _named(tree):
         node.id.span = next(names)
