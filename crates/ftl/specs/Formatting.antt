@@ -41,5 +41,5 @@ pub record AddsNormal (old : NormalWriter) (e : EntryTree Text) (new : NormalWri
 
 -- the same of a writer of JSON
 pub record AddsJson (old : BodyWriter (String Global)) (e : EntryTree Text) (new : BodyWriter (String Global)) : Type 0
-    where
-  pub added : {tree : BodyTree Text} → HasJson tree old → HasJson (tree ++ e ∷ []) new
+  where
+    pub added : {tree : BodyTree Text} → HasJson tree old → HasJson (tree ++ e ∷ []) new
