@@ -13,6 +13,7 @@ pub mod ExtentRanges
 pub mod ErrorPlaces
 pub mod Fails
 pub mod FieldForms
+pub mod Flat
 pub mod GatheredArguments
 pub mod GatheredVariants
 pub mod Gathers
@@ -27,7 +28,7 @@ pub mod LineEnds
 pub mod Made
 pub mod MadeEntries
 pub mod Names
-pub mod NextStarts
+pub mod OneLine
 pub mod PartsOfEntries
 pub mod PartsOfTiling
 pub mod Pieces
@@ -38,15 +39,6 @@ pub mod SameTrees
 pub mod Scans
 pub mod Selects
 pub mod Shapes
-pub mod ShortExamples
-pub mod ShortGrammar
-pub mod ShortLines
-pub mod ShortMessages
-pub mod ShortPatterns
-pub mod ShortPieces
-pub mod ShortReferences
-pub mod ShortStands
-pub mod ShortWhole
 pub mod Spelled
 pub mod Stars
 pub mod StringBytes

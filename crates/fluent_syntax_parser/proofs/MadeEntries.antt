@@ -1,7 +1,7 @@
 -- Entries whose texts were made, and the trees of spans that they stand for.
 use Rattle.std.proofs.Common.{◌≡◌, ◌<◌, ℕ, suc, ◌-◌, List, [], ◌∷◌, ◌++◌, length, Bool, true, false, map}
 use Rattle.std.proofs.Common.{Option, Some, None, option_map, refl, sym, ap, subst, arith, ◌∙◌}
-use Rattle.std.specs.Prelude.{is_some, option_to_list, slice_get}
+use Rattle.std.specs.Prelude.{is_some, option_to_list, slice_get, Result, Ok, Err, IfOk}
 use Rattle.std.proofs.lemmas.List.{append-nil, append_assoc, map-append, same_from_push}
 use Rattle.fluent_syntax_tree.specs.Entry.{BodyTree, EntryTree, body_map, comment, entry_map, group, junk, message}
 use Rattle.fluent_syntax_tree.specs.Entry.{regular, resource, term}
@@ -15,9 +15,11 @@ use Rattle.fluent_syntax_tree.specs.declared.spans.Span.{Span}
 use Rattle.fluent_syntax_grammar.specs.Body.{hung}
 use Rattle.fluent_syntax_grammar.specs.Tiling.{Fault}
 use Rattle.fluent_syntax_parser.specs.Faults.{fault_of}
-use Rattle.fluent_syntax_parser.specs.MadeEntries.{MadeBody, commented, ends_with_comment, is_comment}
-use Rattle.fluent_syntax_parser.specs.Rest.{EntryTo, Rest, faults_of, may_hang, tree_of}
+use Rattle.fluent_syntax_parser.specs.MadeEntries.{MadeBody, NextMade, commented, ends_with_comment}
+use Rattle.fluent_syntax_parser.specs.MadeEntries.{is_comment}
+use Rattle.fluent_syntax_parser.specs.Rest.{EntryTo, NextTo, Rest, faults_of, may_hang, tree_of}
 use Rattle.fluent_syntax_parser.specs.declared.options.Comments.{Comments}
+use Rattle.fluent_syntax_parser.specs.declared.options.Halt.{Halt}
 use Rattle.fluent_syntax_parser.proofs.SameTrees.{same_entry}
 
 -- ---- optional values
@@ -221,3 +223,17 @@ pub entry_of_spans : (comments : Comments) (edition : Edition) (t : List ℕ) (i
     entry_view (λ s. s) e ≡ entry_map (λ s. s) tree → EntryTo comments edition t i j (tree_of e) faults
 entry_of_spans comments edition t i j e faults tree next same =
     subst (λ x. EntryTo comments edition t i j x faults) (sym (same ∙ same_entry tree)) next
+
+-- the same of what comes next
+next_of_spans : (comments : Comments) (edition : Edition) (t : List ℕ) (i j : ℕ)
+    (found : Option (Entry Span × Option ParserError)) →
+    NextMade (λ s. s) (λ s. s) comments edition t i j found → NextTo comments edition t i j found
+next_of_spans comments edition t i j None none = none
+next_of_spans comments edition t i j (Some (e, error)) (tree, stands, same) =
+    entry_of_spans comments edition t i j e (faults_of error) tree stands same
+
+pub answer_of_spans : (comments : Comments) (edition : Edition) (t : List ℕ) (i j : ℕ)
+    (r : Result (Option (Entry Span × Option ParserError)) Halt) →
+    IfOk r (NextMade (λ s. s) (λ s. s) comments edition t i j) → IfOk r (NextTo comments edition t i j)
+answer_of_spans comments edition t i j (Ok found) next = next_of_spans comments edition t i j found next
+answer_of_spans comments edition t i j (Err halt) next = next

@@ -16,5 +16,5 @@ module _ {K : Type 0} (text : K → List ℕ) where
       let size = length-append names (n ∷ []) in (
         λ few. absurd (omega arith),
         λ many. rw e (subst (λ n. NotesAll text (insert_key cmp keys k) (names ++ n ∷ [])) f
-            (notes_behind cmp same keys names k all)),
+            (notes_behind text cmp same keys names k all)),
       )

@@ -5,6 +5,7 @@ pub mod Endings
 pub mod Extents
 pub mod Faults
 pub mod Fields
+pub mod Flat
 pub mod Gathered
 pub mod Halts
 pub mod Lanes
@@ -13,12 +14,9 @@ pub mod Lines
 pub mod Made
 pub mod MadeEntries
 pub mod Meets
+pub mod OneLine
 pub mod Parts
 pub mod Rest
-pub mod ShortGrammar
-pub mod ShortMessages
-pub mod ShortPatterns
-pub mod ShortPieces
 pub mod Starts
 pub mod Strings
 pub mod Noted

@@ -97,6 +97,13 @@ module _ {S X : Type 0} (f : Span → X) (v : S → X) where
       Rest comments edition t i [] [] × (new ≡ old) × (told ≡ errors)
   AddsNext comments edition t i old new errors told (Some j) = AddsEntry comments edition t i j old new errors told
 
+  -- What comes next from the place on, or nothing where nothing is left; what is read ends at the other place.
+  abbrev pub NextMade : Comments → Edition → List ℕ → (i j : ℕ) → Option (Entry S × Option ParserError) → Type 0
+  NextMade comments edition t i j None = Rest comments edition t i [] []
+  NextMade comments edition t i j (Some read) =
+      (tree : EntryTree Span) × EntryTo comments edition t i j tree (faults_of read.1)
+      × (entry_view v read.0 ≡ entry_map f tree)
+
   -- The text consists of these entries and errors.
   pub record MadeBody (comments : Comments) (edition : Edition) (t : List ℕ) (body : List (Entry S))
       (errors : List ParserError) : Type 0 where

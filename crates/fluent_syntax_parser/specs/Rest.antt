@@ -93,3 +93,9 @@ EntryTo comments edition t i j e faults =
 abbrev pub NextTo : Comments → Edition → List ℕ → (i j : ℕ) → Option (Entry Span × Option ParserError) → Type 0
 NextTo comments edition t i j None = Rest comments edition t i [] []
 NextTo comments edition t i j (Some read) = EntryTo comments edition t i j (tree_of read.0) (faults_of read.1)
+
+-- The same where only the error is given.
+abbrev pub NextError : Comments → Edition → List ℕ → (i j : ℕ) → Option (Option ParserError) → Type 0
+NextError comments edition t i j None = Rest comments edition t i [] []
+NextError comments edition t i j (Some error) =
+    (e : EntryTree Span) × EntryTo comments edition t i j e (faults_of error)

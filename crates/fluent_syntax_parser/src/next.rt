@@ -1,7 +1,7 @@
 //! The next entry of a text.
 ghost use Rattle.std.specs.Prelude.{◌≡◌, ◌-◌, ◌<◌, ◌≤◌, [], length, IfErr, IfOk, IfSome, None, Ok, false, true, ℕ};
-ghost use Rattle.std.specs.Prelude.{List, Option, IsSomeAnd};
-ghost use Rattle.fluent_syntax_tree.specs.Entry.{BodyTree};
+ghost use Rattle.std.specs.Prelude.{List, Option};
+ghost use Rattle.fluent_syntax_tree.specs.Entry.{BodyTree, EntryTree};
 ghost use Rattle.fluent_syntax_tree.specs.declared.edition.Edition.{Edition};
 ghost use Rattle.fluent_syntax_grammar.specs.Bytes.{hash};
 ghost use Rattle.fluent_syntax_grammar.specs.Nesting.{TextDeeper};
@@ -10,19 +10,16 @@ ghost use Rattle.fluent_syntax_grammar.specs.Tiling.{Fault};
 ghost use Rattle.fluent_syntax_parser.specs.Halts.{ComesNext, HaltsWithin, OnHalt};
 ghost use Rattle.fluent_syntax_parser.specs.MadeEntries.{AddsNext};
 ghost use Rattle.fluent_syntax_parser.specs.Rest.{EntryTo, Rest, RestAt, TileDeeper, TileIn, are_dropped};
-ghost use Rattle.fluent_syntax_parser.specs.ShortGrammar.{NextStart, ShortMessage};
-ghost use Rattle.fluent_syntax_parser.specs.ShortMessages.{short_message};
 
-use crate::options::{Comments, Halt, Options};
+use crate::options::{Comments, Halt};
 use crate::reader::Reader;
-use crate::short::ShortPart;
 use crate::source::Source;
 use crate::texts::MakeTexts;
 use crate::tile::ends_with_comment;
 use fluent_syntax_tree::ast::Entry;
+use fluent_syntax_tree::edition::Edition;
 use fluent_syntax_tree::errors::ParserError;
 use fluent_syntax_tree::spans::Span;
-use std::alloc::AllocError;
 
 impl Comments {
     fn are_dropped(self) -> bool
@@ -48,10 +45,8 @@ impl<'s> Source<'s> {
         ensures shallow { (edition : Edition) (n : ℕ) →
             let t = self.now.bytes.now in let at = TileIn comments edition t in
             TextDeeper edition t at n ptr → TileDeeper edition t at n result }
-        ensures next { NextStart comments self.now.bytes.now ptr result }
         ensures dropped { are_dropped comments ≡ true → has_byte self.now.bytes.now hash result ≡ false }
         ensures blank { let t = self.now.bytes.now in BlankBlock t ptr (length t) → result ≡ length t }
-        ensures starts { (start : ℕ) → NextStart comments self.now.bytes.now ptr start → result ≡ start }
         ensures within { (ptr ≤ result) × (result ≤ length self.now.bytes.now) }
     {
         let mut start = self.skip_blank_block(ptr);
@@ -61,45 +56,29 @@ impl<'s> Source<'s> {
         start
     }
 
-    /// Reads the next entry from a place on, if it is a message that no comment hangs on and whose patterns are each
-    /// one line of texts and plain references, the line of the `=`, with its parts in the list: its name, and where it
-    /// ends. `None` too where no placeable may stand.
-    pub(crate) fn next_short(
+    /// Where the next entry ends from a place on, if it is a message on which no comment hangs and whose patterns are
+    /// each one text on its line. `None` where another stands next, or none.
+    pub(crate) fn next_text_message(
         &self,
-        options: Options,
-        parts: &mut Vec<ShortPart>,
+        edition: Edition,
+        comments: Comments,
         ptr: usize,
-    ) -> Result<Option<(Span, usize)>, AllocError>
+    ) -> Option<usize>
         requires { ptr ≤ length self.now.bytes.now }
-        ensures next { let t = self.now.bytes.now in IfOk result (λ found. IfSome found (λ read.
-            EntryTo options.comments options.edition t ptr read.1 (short_message (λ s. s) read.0 parts.new.items) [])) }
-        ensures blank { let t = self.now.bytes.now in BlankBlock t ptr (length t) → result ≡ Ok None }
-        ensures within { IfOk result (λ found. IfSome found
-            (λ read. (ptr < read.1) × (read.1 ≤ length self.now.bytes.now))) }
-        ensures behind { let t = self.now.bytes.now in let at = TileIn options.comments options.edition t in
-            let deeper = TextDeeper options.edition t at options.nesting in
-            IfOk result (λ found. IfSome found (λ read. deeper read.1 → deeper ptr)) }
-        ensures shallow { let t = self.now.bytes.now in let at = TileIn options.comments options.edition t in
-            let deeper = TextDeeper options.edition t at options.nesting in
-            IfOk result (λ found. IfSome found (λ read. deeper ptr → deeper read.1)) }
-        ensures short { let t = self.now.bytes.now in IfOk result (λ found. IfSome found (λ read. (start : ℕ) ×
-            NextStart options.comments t ptr start × ShortMessage options.edition t start read.1)) }
-        ensures stands { let t = self.now.bytes.now in IfOk result (λ found. 0 < options.nesting → (start end : ℕ) →
-            NextStart options.comments t ptr start → ShortMessage options.edition t start end →
-            IsSomeAnd found (λ read. read.1 ≡ end)) }
+        ensures next { let t = self.now.bytes.now in IfSome result
+            (λ end. (e : EntryTree Span) × EntryTo comments edition t ptr end e []) }
+        ensures within { IfSome result (λ end. (ptr < end) × (end ≤ length self.now.bytes.now)) }
+        ensures blank { let t = self.now.bytes.now in BlankBlock t ptr (length t) → result ≡ None }
+        ensures nests { let t = self.now.bytes.now in IfSome result (λ end. (n : ℕ) →
+            let deeper = TextDeeper edition t (TileIn comments edition t) n in
+            (deeper ptr → deeper end) × (deeper end → deeper ptr)) }
     {
-        let may_nest = options.nesting > 0;
-        if !may_nest {
-            return Ok(None);
-        }
-        let start = self.tile_start(options.comments, ptr);
+        let start = self.tile_start(comments, ptr);
         if !self.is_letter_at(start) {
-            return Ok(None);
+            return None;
         }
-        let Some((name, end)) = self.get_short_message(options.edition, parts, start)? else {
-            return Ok(None);
-        };
-        Ok(Some((name, end)))
+        let end = self.text_message_end(edition, start)?;
+        Some(end)
     }
 }
 

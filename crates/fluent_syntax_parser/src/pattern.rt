@@ -1,16 +1,15 @@
 //! Patterns.
-ghost use Rattle.std.specs.Prelude.{◌≡◌, ◌-◌, ◌≤◌, ℕ, length, option_map, IfErr, IfOk, IfSome, IsSomeAnd, None, Some};
-ghost use Rattle.std.specs.Prelude.{[]};
+ghost use Rattle.std.specs.Prelude.{◌≡◌, ◌≤◌, length, option_map, IfOk, IfSome, None, Some};
 ghost use Rattle.fluent_syntax_tree.specs.Tree.{pattern_map};
 ghost use Rattle.fluent_syntax_tree.specs.View.{pattern_view};
-ghost use Rattle.fluent_syntax_grammar.specs.Construct.{Read, at_each};
-ghost use Rattle.fluent_syntax_grammar.specs.Grammar.{more_lines, within};
+ghost use Rattle.fluent_syntax_grammar.specs.Construct.{at_each};
+ghost use Rattle.fluent_syntax_grammar.specs.Grammar.{within};
 ghost use Rattle.fluent_syntax_grammar.specs.Patterns.{layout_at, pattern};
-ghost use Rattle.fluent_syntax_grammar.specs.Places.{BlankBlock, InlineBlank, after_eol};
+ghost use Rattle.fluent_syntax_grammar.specs.Places.{InlineBlank, after_eol};
 ghost use Rattle.fluent_syntax_parser.specs.Elements.{layout_view};
 ghost use Rattle.fluent_syntax_parser.specs.Layouts.{layout_of};
 ghost use Rattle.fluent_syntax_parser.specs.Made.{Makes};
-ghost use Rattle.fluent_syntax_parser.specs.ShortPatterns.{EndsBlank, EndsLine, NoLines, OpensAs, text_pattern};
+ghost use Rattle.fluent_syntax_parser.specs.OneLine.{EndsBlank, EndsLine, NoLines, OpensAs, text_pattern};
 
 use crate::elements::Layout;
 use crate::fault::ReadFault;
@@ -28,8 +27,6 @@ impl<'s> Source<'s> {
     fn end_without_lines(&self, edition: Edition, ptr: usize) -> Option<usize>
         requires { ptr ≤ length self.now.bytes.now }
         ensures lines { IfSome result (NoLines edition self.now.bytes.now ptr) }
-        ensures stands { (end : ℕ) → more_lines edition self.now.bytes.now ptr (Read [] end) →
-            IsSomeAnd result (λ found. found ≡ end) }
         ensures within { IfSome result (λ end. (ptr ≤ end) × (end ≤ length self.now.bytes.now)) }
     {
         let first = self.skip_blank_inline(ptr);
@@ -47,11 +44,9 @@ impl<'s> Source<'s> {
 
     /// Where a text ends whose line ends at a place, with the LF there, and where the next line begins. `None`,
     /// where no line ends there.
-    pub(crate) fn line_ending(&self, to: usize) -> Option<(usize, usize)>
+    fn line_ending(&self, to: usize) -> Option<(usize, usize)>
         requires { to ≤ length self.now.bytes.now }
         ensures ending { IfSome result (λ read. EndsLine self.now.bytes.now to read.0 read.1) }
-        ensures stands { (stop next : ℕ) → EndsLine self.now.bytes.now to stop next →
-            IsSomeAnd result (λ read. read.1 ≡ next) }
         ensures within { IfSome result
             (λ read. (to ≤ read.0) × (read.0 ≤ read.1) × (read.1 ≤ length self.now.bytes.now)) }
     {
@@ -75,13 +70,9 @@ impl<'s> Source<'s> {
 
     /// Where a pattern ends whose lines from a line's start on are all blank.
     #[inline(always)]
-    pub(crate) fn end_behind_blank_lines(&self, edition: Edition, ptr: usize) -> Option<usize>
+    fn end_behind_blank_lines(&self, edition: Edition, ptr: usize) -> Option<usize>
         requires { ptr ≤ length self.now.bytes.now }
         ensures lines { IfSome result (EndsBlank edition self.now.bytes.now ptr) }
-        ensures left { let t = self.now.bytes.now in IfSome result (λ end. (first : ℕ) × BlankBlock t ptr first ×
-            more_lines edition t first (Read [] end)) }
-        ensures stands { let t = self.now.bytes.now in (first end : ℕ) → BlankBlock t ptr first →
-            more_lines edition t first (Read [] end) → IsSomeAnd result (λ found. found ≡ end) }
         ensures within { IfSome result (λ end. (ptr ≤ end) × (end ≤ length self.now.bytes.now)) }
     {
         let end = self.end_without_lines(edition, self.skip_blank_block(ptr))?;
@@ -117,12 +108,6 @@ impl<'s> Source<'s> {
     pub(crate) fn end_without_text(&self, edition: Edition, start: usize) -> Option<usize>
         requires { start ≤ length self.now.bytes.now }
         ensures opens { IfSome result (OpensAs edition self.now.bytes.now start None) }
-        ensures left { let t = self.now.bytes.now in IfSome result (λ end. (next first : ℕ) ×
-            (after_eol t start ≡ Some next) × BlankBlock t next first ×
-            more_lines edition t first (Read [] end)) }
-        ensures stands { let t = self.now.bytes.now in (next first end : ℕ) → after_eol t start ≡ Some next →
-            BlankBlock t next first → more_lines edition t first (Read [] end) →
-            IsSomeAnd result (λ found. found ≡ end) }
         ensures within { IfSome result (λ end. (start ≤ end) × (end ≤ length self.now.bytes.now)) }
     {
         let next = self.eol_end(start)?;

@@ -1,28 +1,19 @@
 -- Texts that are read entry by entry.
-use Rattle.std.proofs.Common.{◌≡◌, ℕ, ◌≤◌, List, [], ◌∷◌, ◌++◌, length, map, false, Option, Some, None, refl, sym}
-use Rattle.std.proofs.Common.{◌∙◌, ap, String, string_bytes, true}
-use Rattle.std.specs.Str.{IsUtf8}
+use Rattle.std.proofs.Common.{◌≡◌, ℕ, List, [], ◌∷◌, ◌++◌, map, Option, Some, None, refl, sym}
+use Rattle.std.proofs.Common.{◌∙◌, ap}
 use Rattle.std.proofs.lemmas.List.{append-nil, append_assoc, map-append}
 use Rattle.fluent_syntax_tree.specs.Entry.{BodyTree, EntryTree, body_map, entry_map}
-use Rattle.fluent_syntax_tree.specs.Every.{entry_every}
-use Rattle.fluent_syntax_tree.specs.Spans.{IsPart, bytes_at}
-use Rattle.fluent_syntax_tree.specs.declared.ast.Entry.{Entry}
+use Rattle.fluent_syntax_tree.specs.Spans.{bytes_at}
 use Rattle.fluent_syntax_tree.specs.declared.edition.Edition.{Edition}
 use Rattle.fluent_syntax_tree.specs.declared.errors.ParserError.{ParserError}
 use Rattle.fluent_syntax_tree.specs.declared.spans.Span.{Span}
 use Rattle.fluent_syntax_grammar.specs.Grammar.{family}
 use Rattle.fluent_syntax_grammar.specs.Body.{body, faults}
-use Rattle.fluent_syntax_grammar.specs.Rules.{Rules, body_obeys, entry_obeys}
 use Rattle.fluent_syntax_grammar.specs.Tiling.{Fault, Tile, Tiled}
-use Rattle.fluent_syntax_grammar.specs.Written.{Text, written}
-use Rattle.fluent_syntax_grammar.proofs.Facts.{left_true, right_true}
-use Rattle.fluent_syntax_parser.specs.Rest.{NextTo, Rest, TileIn, faults_of, tree_of}
+use Rattle.fluent_syntax_grammar.specs.Written.{Text}
+use Rattle.fluent_syntax_parser.specs.Rest.{EntryTo, Rest, TileIn, faults_of}
 use Rattle.fluent_syntax_parser.specs.declared.options.Comments.{Comments}
-use Rattle.fluent_syntax_parser.proofs.PartsOfEntries.{parts_of_entry, some_rest}
-use Rattle.fluent_syntax_writer.specs.Sink.{Takes}
-use Rattle.fluent_syntax_writer.specs.declared.serializer.entry_writer.EntryWriter.{EntryWriter}
 use Rattle.ftl.specs.Answer.{outcome_behind, outcome_of, outcome_with}
-use Rattle.ftl.specs.Formatting.{AddsTree, HasCome}
 use Rattle.ftl.specs.declared.outcome.Outcome.{Outcome}
 use Rattle.ftl.specs.declared.outcome.Outcome.TheVariants.{Clean, SyntaxErrors}
 
@@ -76,26 +67,19 @@ module _ (comments : Comments) (edition : Edition) (t : List ℕ) where
           before.outcome_is ∙ ap outcome_told (sym tells) ∙ outcome_told-faults (faults whole.tiles),
         )
 
-    module _ (j : ℕ) (e : Entry Span) (error : Option ParserError)
-        (next : NextTo comments edition t i j (Some (e, error))) where
-      -- the texts of the next entry are parts of the source
-      pub next_in_source : IsUtf8 t → j ≤ length t → entry_every (IsPart t) (tree_of e)
-      next_in_source utf8 inside =
-          let some = some_rest t edition comments j inside in
-          parts_of_entry t edition comments before.spans (tree_of e) some.0 _ utf8
-          (before.rest _ _ (next some.0 some.1 some.2))
-
-      -- with the next entry, the text is read up to where that ends
-      pub read_on : ReadTo j (tree ++ entry_map (bytes_at t) (tree_of e) ∷ []) (outcome_behind outcome error)
-      read_on = record {
-        spans = before.spans ++ tree_of e ∷ [];
-        errors = before.errors ++ faults_of error;
-        tree_is = ap (λ es. es ++ entry_map (bytes_at t) (tree_of e) ∷ []) before.tree_is
-            ∙ sym (map-append (entry_map (bytes_at t)) before.spans (tree_of e ∷ []));
-        outcome_is = ap (λ o. outcome_behind o error) before.outcome_is ∙ outcome_told-last before.errors error;
-        rest = λ entries others rest. rw (
-          append_assoc before.spans (tree_of e ∷ []) entries,
-          append_assoc before.errors (faults_of error) others,
-        )
-            (before.rest _ _ (next entries others rest));
-      }
+    -- with the next entry, the text is read up to where that ends
+    pub read_on : (j : ℕ) (e : EntryTree Span) (error : Option ParserError) →
+        EntryTo comments edition t i j e (faults_of error) →
+        ReadTo j (tree ++ entry_map (bytes_at t) e ∷ []) (outcome_behind outcome error)
+    read_on j e error next = record {
+      spans = before.spans ++ e ∷ [];
+      errors = before.errors ++ faults_of error;
+      tree_is = ap (λ es. es ++ entry_map (bytes_at t) e ∷ []) before.tree_is
+          ∙ sym (map-append (entry_map (bytes_at t)) before.spans (e ∷ []));
+      outcome_is = ap (λ o. outcome_behind o error) before.outcome_is ∙ outcome_told-last before.errors error;
+      rest = λ entries others rest. rw (
+        append_assoc before.spans (e ∷ []) entries,
+        append_assoc before.errors (faults_of error) others,
+      )
+          (before.rest _ _ (next entries others rest));
+    }

@@ -1,26 +1,19 @@
 //! The text that a command writes.
-ghost use Rattle.std.specs.Prelude.{◌≡◌, ◌≢◌, ◌↔◌, ◌+◌, ◌++◌, ◌^◌, ◌<◌, ◌≤◌, ℕ, List, length, string_bytes, codes, Err};
-ghost use Rattle.std.specs.Prelude.{◌&&◌, Ok, IfErr, IfOk, IfSome, OnErr, OnOk, false, true};
+ghost use Rattle.std.specs.Prelude.{◌≡◌, ◌≢◌, ◌↔◌, ◌+◌, ◌++◌, ◌^◌, ◌<◌, ◌≤◌, List, length, string_bytes, Err};
+ghost use Rattle.std.specs.Prelude.{Ok, IfErr, IfOk, IfSome, OnErr, OnOk, false, true};
 ghost use Rattle.std.specs.Str.{IsUtf8};
-ghost use Rattle.fluent_syntax_tree.specs.Entry.{body_map, entry_map};
-ghost use Rattle.fluent_syntax_tree.specs.Every.{entry_every};
-ghost use Rattle.fluent_syntax_tree.specs.Spans.{IsPart, bytes_at};
-ghost use Rattle.fluent_syntax_tree.specs.View.{resource_view};
+ghost use Rattle.fluent_syntax_tree.specs.Entry.{body_map};
+ghost use Rattle.fluent_syntax_tree.specs.Spans.{bytes_at};
 ghost use Rattle.fluent_syntax_grammar.specs.Grammar.{family};
 ghost use Rattle.fluent_syntax_grammar.specs.Nesting.{NestsDeeper, TextDeeper};
 ghost use Rattle.fluent_syntax_grammar.specs.Tiling.{Tile, Tiled, Tiling};
 ghost use Rattle.fluent_syntax_grammar.specs.Body.{body};
-ghost use Rattle.fluent_syntax_grammar.specs.Canonical.{canonical_rules, is_canonical};
-ghost use Rattle.fluent_syntax_grammar.specs.Rules.{entry_obeys};
-ghost use Rattle.fluent_syntax_json.specs.Form.{body_form};
-ghost use Rattle.serde_json.specs.Written.{compact_text};
-ghost use Rattle.fluent_syntax_parser.specs.Answers.{Answers};
+ghost use Rattle.fluent_syntax_grammar.specs.Canonical.{is_canonical};
 ghost use Rattle.fluent_syntax_parser.specs.Halts.{HaltsWithin, OnHalt};
-ghost use Rattle.fluent_syntax_parser.specs.Rest.{TileIn, tree_of};
+ghost use Rattle.fluent_syntax_parser.specs.Rest.{TileIn};
 ghost use Rattle.fluent_syntax_parser.specs.declared.fault.ParseFault.TheVariants.{Memory};
-ghost use Rattle.ftl.specs.Formatting.{AddsTree};
 ghost use Rattle.ftl.specs.Answer.{IsAnswer, ReadsDeeper, error_lines, error_text, line_of_error, range_text};
-ghost use Rattle.ftl.specs.Answer.{json_text, normal_text, outcome_behind, outcome_of, told};
+ghost use Rattle.ftl.specs.Answer.{json_text, normal_text, outcome_of, told};
 
 use crate::command::Command;
 use crate::one_by_one::write_one_by_one;
@@ -130,29 +123,22 @@ fn lines(alloc: Global, text: &str, edition: Edition, nesting: usize) -> Result<
     let mut entries = Entries::new(text, options);
     let mut places = Lines::new(text);
     let mut out = String::new(alloc);
-    let mut parts = Vec::new(alloc);
-    loop {
-        // a message that is read without a tree has no error
-        if entries.next_short(&mut parts)?.is_none() {
-            let Some(read) = entries.next_entry(alloc)? else {
-                return Ok(out);
-            };
-            write_error_of(&mut out, &mut places, read)?;
-        }
+    while let Some(error) = entries.next_error(alloc)? {
+        write_if_error(&mut out, &mut places, error)?;
     }
+    Ok(out)
 }
 
-/// Writes the line of the error of what was read, if it is junk.
-fn write_error_of(
+/// Writes the line of an error, if there is one.
+fn write_if_error(
     out: &mut String,
     places: &mut Lines<'_>,
-    read: (Entry<Span>, Option<ParserError>),
+    error: Option<ParserError>,
 ) -> Result<(), AllocError>
-    requires { IfSome read.1 (λ error. error.pos.start ≤ length places.old) }
-    ensures line { OnOk result (string_bytes out.new ≡ string_bytes out.old ++ line_of_error places.old read.1) }
+    requires { IfSome error (λ error. error.pos.start ≤ length places.old) }
+    ensures line { OnOk result (string_bytes out.new ≡ string_bytes out.old ++ line_of_error places.old error) }
     ensures source { places.new ≡ places.old }
 {
-    let (_entry, error) = read;
     if let Some(error) = error {
         let (line, column) = places.line_column(error.pos.start);
         write_line(out, line, column, &error)?;
@@ -267,11 +253,12 @@ fn format(
     ensures shallow { IfOk result (λ answer. IfOk answer (λ given.
         TextDeeper edition text.now (TileIn comments edition text.now) nesting 0 → ⊥)) }
 {
-    let mut all_canonical = true;
+    let mut all_canonical = false;
     format_noting(alloc, text, edition, comments, nesting, &mut all_canonical)
 }
 
-/// The text of the tree of the text, without its junk. Notes where an entry of the tree is not canonical.
+/// The text of the tree of the text, without its junk. Notes where an entry of the tree is not canonical, if that is not
+/// noted already.
 fn format_noting(
     alloc: Global,
     text: &str,
@@ -324,7 +311,7 @@ fn normal(
     ensures shallow { let t = text.now in let at = TileIn options.comments options.edition t in
         IfOk result (λ given. TextDeeper options.edition t at options.nesting 0 → ⊥) }
 {
-    let mut writer = NormalWriter::new(alloc, options.edition);
+    let mut writer = NormalWriter::new(alloc, options.edition, *all_canonical);
     let outcome = write_one_by_one(alloc, &mut writer, text, options)?;
     *all_canonical = writer.all_canonical();
     let written = writer.finish()?;

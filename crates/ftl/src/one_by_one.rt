@@ -1,8 +1,7 @@
 //! Entries of a text, each written as it is read: none of them is kept.
-ghost use Rattle.std.specs.Prelude.{◌≡◌, length, IfErr, IfOk, OnOk};
-ghost use Rattle.fluent_syntax_tree.specs.Entry.{EntryTree, body_map, entry_map};
-ghost use Rattle.fluent_syntax_tree.specs.Every.{entry_every};
-ghost use Rattle.fluent_syntax_tree.specs.Spans.{IsPart, bytes_at};
+ghost use Rattle.std.specs.Prelude.{◌≡◌, length, IfErr, IfOk};
+ghost use Rattle.fluent_syntax_tree.specs.Entry.{EntryTree, body_map};
+ghost use Rattle.fluent_syntax_tree.specs.Spans.{bytes_at};
 ghost use Rattle.fluent_syntax_tree.specs.View.{entry_view};
 ghost use Rattle.fluent_syntax_grammar.specs.Body.{body};
 ghost use Rattle.fluent_syntax_grammar.specs.Grammar.{family};
@@ -10,15 +9,15 @@ ghost use Rattle.fluent_syntax_grammar.specs.Nesting.{TextDeeper};
 ghost use Rattle.fluent_syntax_grammar.specs.Tiling.{Tile, Tiled};
 ghost use Rattle.fluent_syntax_grammar.specs.Written.{Text};
 ghost use Rattle.fluent_syntax_parser.specs.Halts.{HaltsWithin, OnHalt};
-ghost use Rattle.fluent_syntax_parser.specs.Rest.{TileIn, tree_of};
+ghost use Rattle.fluent_syntax_parser.specs.Rest.{TileIn};
 ghost use Rattle.ftl.specs.Answer.{outcome_behind, outcome_of};
 ghost use Rattle.ftl.specs.OneByOne.{Came};
 
 use crate::outcome::Outcome;
 use fluent_syntax::ast::Entry;
 use fluent_syntax::parser::ParserError;
-use fluent_syntax::spans::{Entries, Halt, Options, Span, resolve_entry};
-use std::alloc::{AllocError, Global};
+use fluent_syntax::spans::{Entries, Halt, Options, Slices};
+use std::alloc::Global;
 
 /// What writes entries as they come.
 pub trait WriteEntries {
@@ -46,30 +45,14 @@ pub fn write_one_by_one<W: WriteEntries>(
     ensures shallow { let t = text.now in let at = TileIn options.comments options.edition t in
         IfOk result (λ outcome. TextDeeper options.edition t at options.nesting 0 → ⊥) }
 {
+    let slices: Slices<'_, '_, &str> = Slices::new(&text);
     let mut entries = Entries::new(text, options);
     let mut outcome = Outcome::Clean;
-    while let Some(read) = entries.next_entry(alloc)? {
-        outcome = write_read(alloc, writer, text, outcome, read)?;
+    while let Some((entry, error)) = entries.next_entry_with(alloc, &slices)? {
+        writer.write_next(alloc, &entry);
+        outcome = outcome_behind(outcome, &error);
     }
     Ok(outcome)
-}
-
-/// Writes the entry that was read next, and gives the outcome so far.
-fn write_read<W: WriteEntries>(
-    alloc: Global,
-    writer: &mut W,
-    text: &str,
-    outcome: Outcome,
-    read: (Entry<Span>, Option<ParserError>),
-) -> Result<Outcome, AllocError>
-    requires parts { entry_every (IsPart text.now) (tree_of read.0) }
-    ensures written { OnOk result (W.writes writer.old (entry_map (bytes_at text.now) (tree_of read.0)) writer.new) }
-    ensures outcome { IfOk result (λ found. found ≡ outcome_behind outcome read.1) }
-{
-    let (entry, error) = read;
-    let entry = resolve_entry(alloc, &text, &entry)?;
-    writer.write_next(alloc, &entry);
-    Ok(outcome_behind(outcome, &error))
 }
 
 /// The outcome of what was read so far and of an entry behind it, which has an error where it is junk.

@@ -22,18 +22,18 @@ pub struct NormalWriter {
 }
 
 impl NormalWriter {
-    /// A writer to an empty text, to which no entry came yet.
-    pub fn new(alloc: Global, edition: Edition) -> NormalWriter
+    /// A writer to an empty text, to which no entry came yet. Only if `asks`, it asks whether entries are canonical.
+    pub fn new(alloc: Global, edition: Edition, asks: bool) -> NormalWriter
         ensures { HasNormal edition [] result }
     {
         NormalWriter {
             writer: EntryWriter::new(String::new(alloc), Options::default()),
             edition,
-            all_canonical: true,
+            all_canonical: asks,
         }
     }
 
-    /// Whether each entry that came is canonical.
+    /// Whether each entry that came is canonical; `false` where it didn't ask.
     pub fn all_canonical(&self) -> bool
         ensures { result ≡ self.now.all_canonical }
     {
@@ -57,8 +57,8 @@ impl WriteEntries for NormalWriter {
 
     fn write_next<'s>(&mut self, alloc: Global, entry: &Entry<&'s str>) {
         self.writer.write_entry(entry);
-        let is_canonical = broken_rule_with(alloc, entry, self.edition).is_none();
-        self.all_canonical = self.all_canonical && is_canonical;
+        self.all_canonical =
+            self.all_canonical && broken_rule_with(alloc, entry, self.edition).is_none();
     }
 }
 

@@ -1,6 +1,6 @@
 use Rattle.std.proofs.Common.{◌∙◌, [], ap}
 use Rattle.ftl.specs.OneByOne.{none_came, one_more}
-use Rattle.ftl.proofs.ReadTo.{all_read, next_in_source, nothing_read, read_on}
+use Rattle.ftl.proofs.ReadTo.{all_read, nothing_read, read_on}
 use Rattle.ftl.proofs.one_by_one.write_one_by_one.Goals as goal
 
 pub loop-entries-init : goal.loop-entries-init
@@ -17,33 +17,18 @@ loop-entries-init g c =
       deeper = rw c.new.ensures.start (λ d. d, λ d. d);
     }
 
-pub write_read-requires : goal.write_read-requires
-write_read-requires g c =
-    let t = c.args.text.now in
-    let options = c.args.options in
-    let inv = c.loop-entries.invariant in
-    let here = c.in_ok-read.ensures in
-    let next = rw (inv.text, inv.options, c.in-Some.is) at here.next in
-    let inside = rw (here.text, inv.text) at c.next_entry.new.self.within in
-    record {
-      parts = next_in_source options.comments options.edition t _ _ _ inv.so_far.2 _ c.in-Some.read.0 c.in-Some.read.1
-          next c.utf8.text inside;
-    }
-
 pub loop-entries-preserved : goal.loop-entries-preserved
 loop-entries-preserved g c =
     let t = c.args.text.now in
     let options = c.args.options in
     let inv = c.loop-entries.invariant in
-    let here = c.in_ok-read.ensures in
-    let next = rw (inv.text, inv.options, c.in-Some.is) at here.next in
-    let read = c.in-Some.read in
-    let written = c.in_ok-outcome.ensures in
-    let longer = read_on options.comments options.edition t _ _ _ inv.so_far.2 _ read.0 read.1 next in
+    let here = c.in_ok-next_entry_with.ensures in
+    let (e, stands, same) = rw (inv.text, inv.options, c.in-Some.is) at here.next in
+    let longer = read_on options.comments options.edition t _ _ _ inv.so_far.2 _ e c.in-Some.error stands in
     record {
       text = ap (λ source. source.bytes.now) here.text ∙ inv.text;
       options = here.options ∙ inv.options;
-      so_far = (_, one_more inv.so_far.1 written.written, rw written.outcome longer);
+      so_far = (_, one_more inv.so_far.1 (rw same at c.write_next.ensures.written), rw c.outcome_behind.ensures longer);
       deeper =
           let shallow = rw (inv.text, inv.options, c.in-Some.is) at here.shallow in
           (λ d. inv.deeper.0 (shallow.1 d), λ d. shallow.0 (inv.deeper.1 d));
