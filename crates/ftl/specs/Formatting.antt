@@ -1,5 +1,6 @@
 -- Trees that are written entry by entry onto a text.
-use Rattle.std.specs.Prelude.{◌≡◌, ◌&&◌, [], ◌∷◌, ◌++◌, Global, String, string_bytes, true, false}
+use Rattle.std.specs.Prelude.{◌≡◌, ◌&&◌, [], ◌∷◌, ◌++◌, String, string_bytes, true, false}
+use Rattle.std.specs.Global.{Global}
 use Rattle.fluent_syntax_tree.specs.Entry.{BodyTree, EntryTree}
 use Rattle.fluent_syntax_tree.specs.declared.edition.Edition.{Edition}
 use Rattle.fluent_syntax_grammar.specs.Canonical.{canonical_rules, is_canonical}

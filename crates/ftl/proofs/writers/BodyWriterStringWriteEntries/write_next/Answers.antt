@@ -2,9 +2,11 @@ use Rattle.ftl.proofs.writers.BodyWriterStringWriteEntries.write_next.Goals as g
 
 pub returns : goal.returns
 returns c = record {
-  added = λ {tree} has. record {
-    start = has.start;
-    is_empty = has.is_empty;
-    came = c.write_entry.ensures.written has.start tree has.came;
+  written = record {
+    added = λ {tree} has. record {
+      start = has.start;
+      is_empty = has.is_empty;
+      came = c.write_entry.ensures.written has.start tree has.came;
+    };
   };
 }
