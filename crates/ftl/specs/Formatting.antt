@@ -1,10 +1,9 @@
 -- Trees that are written entry by entry onto a text.
-use Rattle.std.specs.Prelude.{◌≡◌, ◌&&◌, [], ◌∷◌, ◌++◌, String, string_bytes, true, false}
+use Rattle.std.specs.Prelude.{◌≡◌, [], ◌∷◌, ◌++◌, String, string_bytes, true, false}
 use Rattle.std.specs.Global.{Global}
 use Rattle.fluent_syntax_tree.specs.Entry.{BodyTree, EntryTree}
 use Rattle.fluent_syntax_tree.specs.declared.edition.Edition.{Edition}
-use Rattle.fluent_syntax_grammar.specs.Canonical.{canonical_rules, is_canonical}
-use Rattle.fluent_syntax_grammar.specs.Rules.{entry_obeys}
+use Rattle.fluent_syntax_grammar.specs.Canonical.{is_canonical}
 use Rattle.fluent_syntax_grammar.specs.Written.{Text}
 use Rattle.fluent_syntax_json.specs.BodyWriting as json
 use Rattle.fluent_syntax_json.specs.declared.writing.body_writer.BodyWriter.{BodyWriter}
