@@ -1,9 +1,9 @@
 -- Trees that are written entry by entry onto a text.
-use Rattle.std.specs.Prelude.{◌≡◌, ◌&&◌, [], ◌∷◌, ◌++◌, Global, String, string_bytes, true, false}
+use Rattle.std.specs.Prelude.{◌≡◌, [], ◌∷◌, ◌++◌, String, string_bytes, true, false}
+use Rattle.std.specs.Global.{Global}
 use Rattle.fluent_syntax_tree.specs.Entry.{BodyTree, EntryTree}
 use Rattle.fluent_syntax_tree.specs.declared.edition.Edition.{Edition}
-use Rattle.fluent_syntax_grammar.specs.Canonical.{canonical_rules, is_canonical}
-use Rattle.fluent_syntax_grammar.specs.Rules.{entry_obeys}
+use Rattle.fluent_syntax_grammar.specs.Canonical.{is_canonical}
 use Rattle.fluent_syntax_grammar.specs.Written.{Text}
 use Rattle.fluent_syntax_json.specs.BodyWriting as json
 use Rattle.fluent_syntax_json.specs.declared.writing.body_writer.BodyWriter.{BodyWriter}
@@ -41,5 +41,5 @@ pub record AddsNormal (old : NormalWriter) (e : EntryTree Text) (new : NormalWri
 
 -- the same of a writer of JSON
 pub record AddsJson (old : BodyWriter (String Global)) (e : EntryTree Text) (new : BodyWriter (String Global)) : Type 0
-    where
-  pub added : {tree : BodyTree Text} → HasJson tree old → HasJson (tree ++ e ∷ []) new
+  where
+    pub added : {tree : BodyTree Text} → HasJson tree old → HasJson (tree ++ e ∷ []) new

@@ -324,12 +324,12 @@ fn json(
     text: &str,
     nesting: usize,
 ) -> Result<Result<(String, Outcome), RunFault>, TooDeep>
-    ensures text { IfOk result (λ answer. IfOk answer (λ given. (tiles : List Tile) × Tiling One text.now tiles
+    ensures text { IfOk result (λ answer. IfOk answer (λ given. (tiles : List Tile) × Tiling Edition.One text.now tiles
         × (string_bytes given.0 ≡ json_text text.now tiles) × (given.1 ≡ outcome_of tiles))) }
     ensures err { IfOk result (λ answer. IfErr answer (λ fault. fault ≡ RunFault.Memory)) }
     ensures deep { OnErr result (nesting < length text.now) }
-    ensures deeper { OnErr result (NestsDeeper One text.now nesting) }
-    ensures shallow { IfOk result (λ answer. IfOk answer (λ given. NestsDeeper One text.now nesting → ⊥)) }
+    ensures deeper { OnErr result (NestsDeeper Edition.One text.now nesting) }
+    ensures shallow { IfOk result (λ answer. IfOk answer (λ given. NestsDeeper Edition.One text.now nesting → ⊥)) }
 {
     match json_line(alloc, text, nesting) {
         Ok(answer) => Ok(Ok(answer)),
@@ -340,11 +340,11 @@ fn json(
 
 /// The same, written as the entries come: none of them is kept.
 fn json_line(alloc: Global, text: &str, nesting: usize) -> Result<(String, Outcome), Halt>
-    ensures text { IfOk result (λ given. (tiles : List Tile) × Tiling One text.now tiles
+    ensures text { IfOk result (λ given. (tiles : List Tile) × Tiling Edition.One text.now tiles
         × (string_bytes given.0 ≡ json_text text.now tiles) × (given.1 ≡ outcome_of tiles)) }
     ensures nests { IfErr result (HaltsWithin nesting (length text.now)) }
-    ensures deeper { IfErr result (OnHalt (NestsDeeper One text.now nesting)) }
-    ensures shallow { IfOk result (λ given. NestsDeeper One text.now nesting → ⊥) }
+    ensures deeper { IfErr result (OnHalt (NestsDeeper Edition.One text.now nesting)) }
+    ensures shallow { IfOk result (λ given. NestsDeeper Edition.One text.now nesting → ⊥) }
 {
     let options = Options {
         edition: Edition::One,

@@ -1,5 +1,5 @@
 //! Entries of a text, each written as it is read: none of them is kept.
-ghost use Rattle.std.specs.Prelude.{◌≡◌, length, IfErr, IfOk};
+ghost use Rattle.std.specs.Prelude.{◌≡◌, List, length, IfErr, IfOk};
 ghost use Rattle.fluent_syntax_tree.specs.Entry.{EntryTree, body_map};
 ghost use Rattle.fluent_syntax_tree.specs.Spans.{bytes_at};
 ghost use Rattle.fluent_syntax_tree.specs.View.{entry_view};
@@ -48,11 +48,25 @@ pub fn write_one_by_one<W: WriteEntries>(
     let slices: Slices<'_, '_, &str> = Slices::new(&text);
     let mut entries = Entries::new(text, options);
     let mut outcome = Outcome::Clean;
-    while let Some((entry, error)) = entries.next_entry_with(alloc, &slices)? {
-        writer.write_next(alloc, &entry);
-        outcome = outcome_behind(outcome, &error);
+    while let Some(read) = entries.next_entry_with(alloc, &slices)? {
+        outcome = write_read(alloc, writer, outcome, read);
     }
     Ok(outcome)
+}
+
+/// Writes the entry that was read next, and gives the outcome so far.
+fn write_read<W: WriteEntries>(
+    alloc: Global,
+    writer: &mut W,
+    outcome: Outcome,
+    read: (Entry<&str>, Option<ParserError>),
+) -> Outcome
+    ensures written { W.writes writer.old (entry_view (λ s. s.now) read.entry.0) writer.new }
+    ensures outcome { result ≡ outcome_behind outcome read.entry.1 }
+{
+    let (entry, error) = read;
+    writer.write_next(alloc, &entry);
+    outcome_behind(outcome, &error)
 }
 
 /// The outcome of what was read so far and of an entry behind it, which has an error where it is junk.

@@ -1,6 +1,9 @@
 //! Writers of a text's normal form and of its JSON form, to which entries come one by one.
-ghost use Rattle.std.specs.Prelude.{◌≡◌, [], IfOk, string_bytes};
+ghost use Rattle.std.specs.Prelude.{◌≡◌, ◌&&◌, [], IfOk, false, string_bytes};
 ghost use Rattle.fluent_syntax_tree.specs.Entry.{BodyTree};
+ghost use Rattle.fluent_syntax_tree.specs.View.{entry_view};
+ghost use Rattle.fluent_syntax_grammar.specs.Canonical.{canonical_rules};
+ghost use Rattle.fluent_syntax_grammar.specs.Rules.{entry_obeys};
 ghost use Rattle.fluent_syntax_grammar.specs.Written.{Text, written};
 ghost use Rattle.ftl.specs.Formatting.{AddsJson, AddsNormal, HasNormal};
 
@@ -40,6 +43,14 @@ impl NormalWriter {
         self.all_canonical
     }
 
+    /// Whether each entry that came is canonical, and this one, which is asked only where those are.
+    fn are_canonical_with<'s>(&self, alloc: Global, entry: &Entry<&'s str>) -> bool
+        ensures { result ≡ (self.now.all_canonical
+            && entry_obeys (canonical_rules self.now.edition) (entry_view (λ s. s.now) entry.now)) }
+    {
+        self.all_canonical && broken_rule_with(alloc, entry, self.edition).is_none()
+    }
+
     /// The text of the entries that came, or `AllocError` where a growth of it was refused.
     pub fn finish(self) -> Result<String, AllocError>
         ensures { (edition : _) (tree : BodyTree Text) → HasNormal edition tree self
@@ -57,8 +68,7 @@ impl WriteEntries for NormalWriter {
 
     fn write_next<'s>(&mut self, alloc: Global, entry: &Entry<&'s str>) {
         self.writer.write_entry(entry);
-        self.all_canonical =
-            self.all_canonical && broken_rule_with(alloc, entry, self.edition).is_none();
+        self.all_canonical = self.are_canonical_with(alloc, entry);
     }
 }
 

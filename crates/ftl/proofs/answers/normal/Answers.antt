@@ -1,11 +1,15 @@
-use Rattle.std.proofs.Common.{◌≡◌, ◌∙◌, ap, false, subst, true}
-use Rattle.fluent_syntax_grammar.specs.Canonical.{is_canonical}
-use Rattle.fluent_syntax_grammar.specs.Written.{written}
+use Rattle.std.proofs.Common.{◌∙◌, sym}
 use Rattle.ftl.proofs.Came.{came_normal}
 use Rattle.ftl.proofs.answers.normal.Goals as goal
 
-pub returns-in_ok-written-clause-text : goal.returns-in_ok-written-clause-text
-returns-in_ok-written-clause-text c = ?
+pub returns-clause-text : goal.returns-clause-text
+returns-clause-text c =
+    let read = c.in_ok-outcome.ensures.written in
+    let has = came_normal read.2 c.new-writer.ensures in
+    (read.0, read.1, c.in_ok-written.ensures _ _ has, read.3)
 
-pub returns-in_ok-written-clause-canonical : goal.returns-in_ok-written-clause-canonical
-returns-in_ok-written-clause-canonical c = ?
+pub returns-clause-canonical : goal.returns-clause-canonical
+returns-clause-canonical c = λ all.
+    let read = c.in_ok-outcome.ensures.written in
+    let has = came_normal read.2 c.new-writer.ensures in
+    (read.0, read.1, has.canonical (sym c.all_canonical.ensures ∙ all))
