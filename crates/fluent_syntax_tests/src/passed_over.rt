@@ -19,7 +19,11 @@ const ROWS: [Row; 16] = [
     ("blank lines", "  \n\r\n", ""),
     ("a text", "a = b", "."),
     ("texts", "  \n\na = b\n\n  \nc = d\r\n", ".."),
-    ("attributes alone", "a =\n    .b = c\n    .d = e\nf = g\n", ".."),
+    (
+        "attributes alone",
+        "a =\n    .b = c\n    .d = e\nf = g\n",
+        "..",
+    ),
     (
         "a value and an attribute",
         "a = b\r\n    .c = d\r\n-e = f\ng = h\n",
@@ -71,8 +75,14 @@ const TEXTS: [Text; 7] = [
     ("a = b\n\n  \nc = d\n", "a = \"b\"\nc = \"d\"\n"),
     ("a = b\r\n\r\n", "a = \"b\"\n"),
     ("a = b\r\n    .c = d\r\n", "a = \"b\" | .c = \"d\"\n"),
-    ("a =\n    .b = c\n    .d = e\nf = g\n", "a = | .b = \"c\" | .d = \"e\"\nf = \"g\"\n"),
-    ("a = b\n\n    .c = d\n\n# e\n", "a = \"b\" | .c = \"d\"\n# \"e\"\n"),
+    (
+        "a =\n    .b = c\n    .d = e\nf = g\n",
+        "a = | .b = \"c\" | .d = \"e\"\nf = \"g\"\n",
+    ),
+    (
+        "a = b\n\n    .c = d\n\n# e\n",
+        "a = \"b\" | .c = \"d\"\n# \"e\"\n",
+    ),
 ];
 
 /// Messages with references.
@@ -96,7 +106,10 @@ const REFERENCES: [Text; 21] = [
     ("a = b { \n -c\n} d\n", "a = \"b \" {-c} \" d\"\n"),
     ("a = b\n    .c = {d}\n", "a = \"b\" | .c = {d}\n"),
     ("a = {$b}\n    .c = {$d}\n", "a = {$b} | .c = {$d}\n"),
-    ("a =\n    .b = c {$d}\n    .e = {-f} {g}\n", "a = | .b = \"c \" {$d} | .e = {-f} \" \" {g}\n"),
+    (
+        "a =\n    .b = c {$d}\n    .e = {-f} {g}\n",
+        "a = | .b = \"c \" {$d} | .e = {-f} \" \" {g}\n",
+    ),
     (
         "a = {b}\n    .c = { $d }  \n    .e = f { g }h \n",
         "a = {b} | .c = {$d} | .e = \"f \" {g} \"h\"\n",
@@ -125,7 +138,10 @@ const OTHERS: [Text; 21] = [
     ("a = {{b}}\n", "a = {{b}}\n"),
     ("a = {$b} {{ $c }}\n", "a = {$b} \" \" {{$c}}\n"),
     ("a = b\n    .c = {d.e}\n", "a = \"b\" | .c = {d.e}\n"),
-    ("a = {$b}\n    .c = d\n e\n", "a = {$b} | .c = \"d\\n\" \"e\"\n"),
+    (
+        "a = {$b}\n    .c = d\n e\n",
+        "a = {$b} | .c = \"d\\n\" \"e\"\n",
+    ),
 ];
 
 /// Texts with an error.
