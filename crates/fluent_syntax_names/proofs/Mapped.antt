@@ -1,4 +1,5 @@
--- What is said by a tree with f of each text in its place is what the tree says, with f of each text in its place.
+-- A tree with f of each text in its place says what the tree says, with f of each text in its place. Behind it stands
+-- more.
 use Rattle.std.proofs.Common.{◌≡◌, List, [], ◌∷◌, ◌++◌, map, Option, Some, None, refl, ap, ◌∙◌}
 use Rattle.fluent_syntax_tree.specs.Tree.{ExpressionTree, select, inline, InlineTree, string_literal, number_literal}
 use Rattle.fluent_syntax_tree.specs.Tree.{function_reference, message_reference, term_reference, variable_reference}
@@ -7,7 +8,7 @@ use Rattle.fluent_syntax_tree.specs.Tree.{some_arguments, InlineTrees, no_inline
 use Rattle.fluent_syntax_tree.specs.Tree.{NamedTrees, no_named, nameds, ElementTree, text_element, placeable}
 use Rattle.fluent_syntax_tree.specs.Tree.{PatternTree, no_elements, elements, VariantTree, variant, VariantTrees}
 use Rattle.fluent_syntax_tree.specs.Tree.{no_variants, variants, expression_map, inline_map, arguments_map}
-use Rattle.fluent_syntax_tree.specs.Tree.{maybe_map, inlines_map, named_map, nameds_map, element_map, pattern_map}
+use Rattle.fluent_syntax_tree.specs.Tree.{maybe_map, option_texts, inlines_map, named_map, nameds_map, element_map, pattern_map}
 use Rattle.fluent_syntax_tree.specs.Tree.{variant_map, variants_map}
 use Rattle.fluent_syntax_tree.specs.Entry.{AttributeTree, EntryTree, message, term, comment, junk, attribute_map}
 use Rattle.fluent_syntax_tree.specs.Entry.{entry_map}
@@ -19,9 +20,9 @@ use Rattle.fluent_syntax_names.specs.Mentions.{element_mentions, pattern_mention
 use Rattle.fluent_syntax_names.specs.Mentions.{variants_mentions, attribute_mentions, attributes_mentions}
 use Rattle.fluent_syntax_names.specs.Mentions.{value_mentions, entry_mentions, mention_map}
 
-module _ {X Y : Type 0} (f : X → Y) where
+module _ {X Y : Type 0} (f : X → Y) (more : Mentions Y) where
   abbrev moved : Mentions X → Mentions Y
-  moved ms = map (mention_map f) ms
+  moved ms = map (mention_map f) ms ++ more
 
   mutual
     expression_mapped : (e : ExpressionTree X) (tail : Mentions X) →
@@ -34,9 +35,9 @@ module _ {X Y : Type 0} (f : X → Y) where
         inline_mentions (inline_map f e) (moved tail) ≡ moved (inline_mentions e tail)
     inline_mapped (string_literal x) tail = refl
     inline_mapped (number_literal x) tail = refl
-    inline_mapped (function_reference x a) tail = ap (λ l. _ ∷ l) (arguments_mapped a tail)
+    inline_mapped (function_reference x a) tail = ap (λ l. says.Function (f x) ∷ l) (arguments_mapped a tail)
     inline_mapped (message_reference x a) tail = refl
-    inline_mapped (term_reference x a c) tail = ap (λ l. _ ∷ l) (maybe_mapped c tail)
+    inline_mapped (term_reference x a c) tail = ap (λ l. says.TermReference (f x) (option_texts f a) ∷ l) (maybe_mapped c tail)
     inline_mapped (variable_reference x) tail = refl
     inline_mapped (inline_placeable e) tail = expression_mapped e tail
 
@@ -92,7 +93,7 @@ module _ {X Y : Type 0} (f : X → Y) where
   attributes_mapped [] tail = refl
   attributes_mapped (a ∷ as') tail =
       ap (λ l. attribute_mentions (attribute_map f a) l) (attributes_mapped as' tail)
-      ∙ ap (λ l. _ ∷ l) (pattern_mapped a.value (attributes_mentions as' tail))
+      ∙ ap (λ l. says.Attribute (f a.id) ∷ l) (pattern_mapped a.value (attributes_mentions as' tail))
 
   value_mapped : (o : Option (PatternTree X)) (tail : Mentions X) →
       value_mentions (option_map (pattern_map f) o) (moved tail) ≡ moved (value_mentions o tail)
@@ -107,11 +108,12 @@ module _ {X Y : Type 0} (f : X → Y) where
       entry_mentions (entry_map f e) (moved tail) ≡ moved (entry_mentions e tail)
   entry_mapped (message m) tail =
       let said = attributes_mentions (map (attribute_map f) m.attributes) (moved tail) in
+      let first = says.Message (f m.id) (is_some m.value) in
       ap (λ b. says.Message (f m.id) b ∷ value_mentions (option_map (pattern_map f) m.value) said) (has_value m.value)
-      ∙ ap (λ l. _ ∷ value_mentions (option_map (pattern_map f) m.value) l) (attributes_mapped m.attributes tail)
-      ∙ ap (λ l. _ ∷ l) (value_mapped m.value (attributes_mentions m.attributes tail))
+      ∙ ap (λ l. first ∷ value_mentions (option_map (pattern_map f) m.value) l) (attributes_mapped m.attributes tail)
+      ∙ ap (λ l. first ∷ l) (value_mapped m.value (attributes_mentions m.attributes tail))
   entry_mapped (term t) tail =
-      ap (λ l. _ ∷ pattern_mentions (pattern_map f t.value) l) (attributes_mapped t.attributes tail)
-      ∙ ap (λ l. _ ∷ l) (pattern_mapped t.value (attributes_mentions t.attributes tail))
+      ap (λ l. says.Term (f t.id) ∷ pattern_mentions (pattern_map f t.value) l) (attributes_mapped t.attributes tail)
+      ∙ ap (λ l. says.Term (f t.id) ∷ l) (pattern_mapped t.value (attributes_mentions t.attributes tail))
   entry_mapped (comment level lines) tail = refl
   entry_mapped (junk x) tail = refl

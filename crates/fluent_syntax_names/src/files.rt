@@ -43,7 +43,7 @@ pub fn findings(alloc: Global, files: &[Outline<'_>]) -> Result<Vec<Finding>, Al
 ///
 /// Takes the memory of tables of its names and references, and of the list; `AllocError` where there is none.
 pub fn own_findings(alloc: Global, file: Outline<'_>) -> Result<Vec<Finding>, AllocError>
-    ensures { IfOk result (λ list. list.items ≡ own_findings file) }
+    ensures { IfOk result (λ list. list.items ≡ own_findings file.entry) }
 {
     let all = findings(alloc, &[file])?;
     all.iter()

@@ -1,5 +1,5 @@
 //! What is said of a finding.
-ghost use Rattle.std.specs.Prelude.{◌≡◌, ◌++◌, IfOk};
+ghost use Rattle.std.specs.Prelude.{◌≡◌, ◌++◌, IfOk, string_bytes};
 ghost use Rattle.fluent_syntax_names.specs.Sentences.{behind_first, sentence_of};
 
 use crate::finding::Kind;
@@ -16,7 +16,7 @@ impl Kind {
         name: &str,
         first: Option<usize>,
     ) -> Result<String, AllocError>
-        ensures { IfOk result (λ said. said ≡ sentence_of self name.now ++ behind_first first) }
+        ensures { IfOk result (λ said. string_bytes said ≡ sentence_of self name.now ++ behind_first first) }
     {
         match first {
             None => self.short_sentence(alloc, name),
@@ -28,7 +28,7 @@ impl Kind {
     }
 
     fn short_sentence(self, alloc: Global, name: &str) -> Result<String, AllocError>
-        ensures { IfOk result (λ said. said ≡ sentence_of self name.now) }
+        ensures { IfOk result (λ said. string_bytes said ≡ sentence_of self name.now) }
     {
         match self {
             Kind::DefinedTwice => format!(in alloc; "`{name}` is defined twice"),

@@ -50,7 +50,8 @@ fn add_on(
     base: usize,
     said: &[Mention<Span>],
 ) -> Result<(), AllocError>
-    ensures { OnOk result (list.new.items ≡ list.old.items ++ map (mention_map (span_on base)) said.now) }
+    ensures { OnOk result (Adds list.old.items list.new.items
+        (λ tail. map (mention_map (span_on base)) said.now ++ tail)) }
 {
     for mention in said {
         list.push(mention_on(base, mention)?)?;
