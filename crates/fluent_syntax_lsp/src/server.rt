@@ -13,6 +13,7 @@ use crate::occurrences::bytes_of;
 use crate::offsets::byte_of;
 use crate::phases::{ErrorCode, Phase};
 use crate::places::Places;
+use crate::remarks::remarks_of;
 use crate::renaming::renaming;
 use crate::replies::{
     answer, capabilities, diagnostics_notification, fold_list, known_symbol, refusal, symbol_list,
@@ -283,8 +284,13 @@ impl Server {
         let Some(open) = self.documents.get(uri) else {
             return Ok(None);
         };
-        let found = open.document.diagnostics(self.alloc)?;
-        Ok(Some(diagnostics_notification(self.alloc, uri, &found)?))
+        let document = &open.document;
+        let errors = document.diagnostics(self.alloc)?;
+        let findings = document.findings(self.alloc)?;
+        let remarks = remarks_of(self.alloc, document.text(), &findings)?;
+        Ok(Some(diagnostics_notification(
+            self.alloc, uri, &errors, &remarks,
+        )?))
     }
 
     /// Closes a document, and takes its diagnostics back.
@@ -292,8 +298,11 @@ impl Server {
         match self.documents.remove(uri) {
             None => Ok(None),
             Some(_) => {
-                let none = Vec::new(self.alloc);
-                Ok(Some(diagnostics_notification(self.alloc, uri, &none)?))
+                let errors = Vec::new(self.alloc);
+                let remarks = Vec::new(self.alloc);
+                Ok(Some(diagnostics_notification(
+                    self.alloc, uri, &errors, &remarks,
+                )?))
             }
         }
     }
