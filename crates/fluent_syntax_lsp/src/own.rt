@@ -22,11 +22,7 @@ pub(crate) fn outline_of_tiles<'t>(
 }
 
 /// Adds what the tiles say of names.
-fn add_tiles(
-    alloc: Global,
-    outline: &mut Outline<'_>,
-    tiles: &[Placed],
-) -> Result<(), AllocError>
+fn add_tiles(alloc: Global, outline: &mut Outline<'_>, tiles: &[Placed]) -> Result<(), AllocError>
     ensures text { outline.new.text.now ≡ outline.old.text.now }
     ensures mentions { OnOk result
         (Adds outline.old.mentions.items outline.new.mentions.items (placed_mentions tiles.now)) }

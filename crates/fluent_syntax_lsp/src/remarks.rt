@@ -76,7 +76,13 @@ impl Firsts {
             stretches: Vec::new(alloc),
         };
         for (start, end) in &spans {
-            firsts.add(&mut places, Span { start: *start, end: *end })?;
+            firsts.add(
+                &mut places,
+                Span {
+                    start: *start,
+                    end: *end,
+                },
+            )?;
         }
         Ok(firsts)
     }

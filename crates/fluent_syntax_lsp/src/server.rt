@@ -288,9 +288,7 @@ impl Server {
         let errors = document.diagnostics(self.alloc)?;
         let findings = document.findings(self.alloc)?;
         let remarks = remarks_of(self.alloc, document.text(), &findings)?;
-        Ok(Some(diagnostics_notification(
-            self.alloc, uri, &errors, &remarks,
-        )?))
+        Ok(Some(diagnostics_notification(self.alloc, uri, &errors, &remarks)?))
     }
 
     /// Closes a document, and takes its diagnostics back.
@@ -300,9 +298,7 @@ impl Server {
             Some(_) => {
                 let errors = Vec::new(self.alloc);
                 let remarks = Vec::new(self.alloc);
-                Ok(Some(diagnostics_notification(
-                    self.alloc, uri, &errors, &remarks,
-                )?))
+                Ok(Some(diagnostics_notification(self.alloc, uri, &errors, &remarks)?))
             }
         }
     }

@@ -27,10 +27,7 @@ fn maybe_on(base: usize, span: Option<Span>) -> Result<Option<Span>, AllocError>
 }
 
 /// The mention with its ranges so many bytes on.
-pub(crate) fn mention_on(
-    base: usize,
-    mention: &Mention<Span>,
-) -> Result<Mention<Span>, AllocError>
+pub(crate) fn mention_on(base: usize, mention: &Mention<Span>) -> Result<Mention<Span>, AllocError>
     ensures { IfOk result (λ moved. moved ≡ mention_map (span_on base) mention.now) }
 {
     Ok(match *mention {
@@ -38,9 +35,15 @@ pub(crate) fn mention_on(
             name: span_on(base, name)?,
             has_value,
         },
-        Mention::Term { name } => Mention::Term { name: span_on(base, name)? },
-        Mention::Attribute { name } => Mention::Attribute { name: span_on(base, name)? },
-        Mention::Junk { content } => Mention::Junk { content: span_on(base, content)? },
+        Mention::Term { name } => Mention::Term {
+            name: span_on(base, name)?,
+        },
+        Mention::Attribute { name } => Mention::Attribute {
+            name: span_on(base, name)?,
+        },
+        Mention::Junk { content } => Mention::Junk {
+            content: span_on(base, content)?,
+        },
         Mention::MessageReference { name, attribute } => Mention::MessageReference {
             name: span_on(base, name)?,
             attribute: maybe_on(base, attribute)?,
@@ -49,7 +52,11 @@ pub(crate) fn mention_on(
             name: span_on(base, name)?,
             attribute: maybe_on(base, attribute)?,
         },
-        Mention::Variable { name } => Mention::Variable { name: span_on(base, name)? },
-        Mention::Function { name } => Mention::Function { name: span_on(base, name)? },
+        Mention::Variable { name } => Mention::Variable {
+            name: span_on(base, name)?,
+        },
+        Mention::Function { name } => Mention::Function {
+            name: span_on(base, name)?,
+        },
     })
 }

@@ -1,4 +1,4 @@
-use Rattle.std.proofs.Common.{List, ◌++◌, drop, map}
+use Rattle.std.proofs.Common.{◌++◌, drop, map}
 use Rattle.fluent_syntax_tree.specs.declared.spans.Span.{Span}
 use Rattle.fluent_syntax_names.specs.Mentions.{Leaves, Mentions, mention_map, span_on}
 use Rattle.fluent_syntax_names.proofs.outline.add_on.Given as goal
