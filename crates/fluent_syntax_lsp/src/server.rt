@@ -7,13 +7,14 @@ use crate::documents::Document;
 use crate::endings::Ending;
 use crate::formatting::formatted;
 use crate::known::{Open, Wanted, known_documents};
+use crate::limits::FINDINGS_LIMIT;
 use crate::messages::{Message, message_of};
 use crate::methods::Method;
 use crate::occurrences::bytes_of;
 use crate::offsets::byte_of;
 use crate::phases::{ErrorCode, Phase};
 use crate::places::Places;
-use crate::remarks::remarks_of;
+use crate::remarks::{Remark, remarks_of};
 use crate::renaming::renaming;
 use crate::replies::{
     answer, capabilities, diagnostics_notification, fold_list, known_symbol, refusal, symbol_list,
@@ -286,9 +287,17 @@ impl Server {
         };
         let document = &open.document;
         let errors = document.diagnostics(self.alloc)?;
-        let findings = document.findings(self.alloc)?;
-        let remarks = remarks_of(self.alloc, document.text(), &findings)?;
+        let remarks = self.remarks(document)?;
         Ok(Some(diagnostics_notification(self.alloc, uri, &errors, &remarks)?))
+    }
+
+    /// What is told of a document's findings; nothing of a document that is too long.
+    fn remarks(&self, document: &Document) -> Result<Vec<Remark>, AllocError> {
+        if document.text().len() > FINDINGS_LIMIT {
+            return Ok(Vec::new(self.alloc));
+        }
+        let findings = document.findings(self.alloc)?;
+        remarks_of(self.alloc, document.text(), &findings)
     }
 
     /// Closes a document, and takes its diagnostics back.
