@@ -87,7 +87,7 @@ told_says : (p : Placed) (x : Tile) (tail : Mentions Span) → Tells p x →
     entry_mentions (entry_map (span_on p.base) (tree_of p.found.entry)) tail ≡ body_mentions (alone x) tail
 told_says p x tail tells =
     let told = ap alone tells.there ∙ moved_alone p.base tells.own
-        ∙ ap (map (entry_map (span_on p.base))) tells.gives.entry in
+    ∙ ap (map (entry_map (span_on p.base))) tells.gives.entry in
     sym (ap (λ es. body_mentions es tail) told)
 
 placed_alone : (ps : List Placed) (xs : List Tile) (tail : Mentions Span) → EachTells ps xs →

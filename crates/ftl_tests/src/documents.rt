@@ -165,8 +165,14 @@ fn a_document_that_nests_too_deeply(rt: HostRuntime) -> Result<(), Fail> {
 const FOUND: [(&str, &str); 6] = [
     ("a = A\n", ""),
     ("# c\na = A\na = B\n", "defined-twice 10\n"),
-    ("b = { b }\n    .t = A\n    .t = B\n", "cyclic-reference 6\nattribute-twice 26\n"),
-    ("a = { b }\n\nb = { a }\n", "cyclic-reference 6\ncyclic-reference 17\n"),
+    (
+        "b = { b }\n    .t = A\n    .t = B\n",
+        "cyclic-reference 6\nattribute-twice 26\n",
+    ),
+    (
+        "a = { b }\n\nb = { a }\n",
+        "cyclic-reference 6\ncyclic-reference 17\n",
+    ),
     ("a = { b } { -c } { a.t }\n", ""),
     ("bro ken\na = A\na = B\n", "defined-twice 14\n"),
 ];
