@@ -3,8 +3,8 @@ use Rattle.std.proofs.lemmas.Result.{err_from_is_err_and}
 use Rattle.ftl.proofs.Checked.{all_checked, checked_on, if_some, next_in_text, nothing_checked}
 use Rattle.ftl.proofs.answers.lines.Goals as goal
 
-pub loop-error-init : goal.loop-error-init
-loop-error-init c = record {
+pub loop-out-init : goal.loop-out-init
+loop-out-init c = record {
   text = c.new-entries.ensures.text;
   edition = ap (λ options. options.edition) c.new-entries.ensures.options;
   comments = ap (λ options. options.comments) c.new-entries.ensures.options;
@@ -17,17 +17,17 @@ loop-error-init c = record {
 pub write_if_error-requires : goal.write_if_error-requires
 write_if_error-requires c =
     let t = c.args.text.now in
-    let inv = c.loop-error.invariant in
+    let inv = c.loop-out.invariant in
     let here = c.in_ok-next_error.ensures in
     let next = rw (inv.text, inv.edition, inv.comments, c.in-Some.is) at here.next in
     let inside = rw (here.text, inv.text) at c.next_error.new.self.within in
     let error = c.in-Some.error in
     rw inv.places (if_some error (next_in_text c.args.edition t _ _ inv.checked _ next.0 error next.1 inside))
 
-pub loop-error-preserved : goal.loop-error-preserved
-loop-error-preserved c =
+pub loop-out-preserved : goal.loop-out-preserved
+loop-out-preserved c =
     let t = c.args.text.now in
-    let inv = c.loop-error.invariant in
+    let inv = c.loop-out.invariant in
     let here = c.in_ok-next_error.ensures in
     let next = rw (inv.text, inv.edition, inv.comments, c.in-Some.is) at here.next in
     let line = rw inv.places at c.in_ok-write_if_error.ensures.line in
@@ -47,7 +47,7 @@ loop-error-preserved c =
 
 pub returns-in_default-clause-text : goal.returns-in_default-clause-text
 returns-in_default-clause-text c =
-    let inv = c.loop-error.invariant in
+    let inv = c.loop-out.invariant in
     let none = rw (inv.text, inv.edition, inv.comments, c.in_default.is) at c.in_ok-next_error.ensures.next in
     all_checked c.args.edition c.args.text.now _ _ inv.checked none
 
@@ -55,7 +55,7 @@ returns-in_default-clause-text c =
 
 pub returns-in_err-next_error-clause-deeper : goal.returns-in_err-next_error-clause-deeper
 returns-in_err-next_error-clause-deeper c =
-    let inv = c.loop-error.invariant in
+    let inv = c.loop-out.invariant in
     let deeper = rw (inv.text, inv.edition, inv.comments, inv.nesting) at c.in_err-next_error.ensures.deeper in
     let halt = err_from_is_err_and c.from_residual.result c.from_residual.ensures.1 in
     rw (halt.1, halt.2) (λ deep. inv.deeper.0 (deeper deep))
