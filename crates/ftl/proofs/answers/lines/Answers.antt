@@ -18,7 +18,7 @@ pub write_if_error-requires : goal.write_if_error-requires
 write_if_error-requires c =
     let t = c.args.text.now in
     let inv = c.loop-out.invariant in
-    let here = c.in_ok-next_error.ensures in
+    let here = c.in_ok-error.ensures in
     let next = rw (inv.text, inv.edition, inv.comments, c.in-Some.is) at here.next in
     let inside = rw (here.text, inv.text) at c.next_error.new.self.within in
     let error = c.in-Some.error in
@@ -28,7 +28,7 @@ pub loop-out-preserved : goal.loop-out-preserved
 loop-out-preserved c =
     let t = c.args.text.now in
     let inv = c.loop-out.invariant in
-    let here = c.in_ok-next_error.ensures in
+    let here = c.in_ok-error.ensures in
     let next = rw (inv.text, inv.edition, inv.comments, c.in-Some.is) at here.next in
     let line = rw inv.places at c.in_ok-write_if_error.ensures.line in
     record {
@@ -45,17 +45,17 @@ loop-out-preserved c =
 
 -- ---- the end
 
-pub returns-in_default-clause-text : goal.returns-in_default-clause-text
-returns-in_default-clause-text c =
+pub returns-clause-text : goal.returns-clause-text
+returns-clause-text c =
     let inv = c.loop-out.invariant in
-    let none = rw (inv.text, inv.edition, inv.comments, c.in_default.is) at c.in_ok-next_error.ensures.next in
+    let none = rw (inv.text, inv.edition, inv.comments, c.in_default.is) at c.in_ok-error.ensures.next in
     all_checked c.args.edition c.args.text.now _ _ inv.checked none
 
 -- ---- where it nests too deeply
 
-pub returns-in_err-next_error-clause-deeper : goal.returns-in_err-next_error-clause-deeper
-returns-in_err-next_error-clause-deeper c =
+pub returns-in_err-error-clause-deeper : goal.returns-in_err-error-clause-deeper
+returns-in_err-error-clause-deeper c =
     let inv = c.loop-out.invariant in
-    let deeper = rw (inv.text, inv.edition, inv.comments, inv.nesting) at c.in_err-next_error.ensures.deeper in
+    let deeper = rw (inv.text, inv.edition, inv.comments, inv.nesting) at c.in_err-error.ensures.deeper in
     let halt = err_from_is_err_and c.from_residual.result c.from_residual.ensures.1 in
     rw (halt.1, halt.2) (λ deep. inv.deeper.0 (deeper deep))
