@@ -73,12 +73,13 @@ def _load() -> ctypes.CDLL:
         raise ImportError(f"dovelectern has no library for this machine: {error}") from error
     number, size = ctypes.c_uint32, ctypes.c_size_t
     text, written = [ctypes.c_char_p, size], [ctypes.c_void_p, size, ctypes.POINTER(size)]
-    for name, read in (
+    calls: List[Tuple[str, List[Any]]] = [
         ("ftl_answer", [size, *text]), ("ftl_errors", [size, *text]), ("ftl_names", [size, *text]),
         ("ftl_values", [size, *text]), ("ftl_error_messages", [size, *text]),
         ("ftl_findings", [size, ctypes.POINTER(_Text), size]), ("ftl_comparison", [size, *text, *text]),
         ("ftl_kind_name", []), ("ftl_finding_kind_name", []),
-    ):
+    ]
+    for name, read in calls:
         call = getattr(library, name)
         call.restype = number
         call.argtypes = [number, *read, *written]
@@ -128,7 +129,7 @@ def _items(name: str, number: int, nesting: int, texts: Sequence[bytes], width: 
 
 def _given(texts: Sequence[bytes]) -> List[Any]:
     """The texts as an array, and how many they are."""
-    return [(_Text * len(texts))(*((text, len(text)) for text in texts)), len(texts)]
+    return [(_Text * len(texts))(*[_Text(text, len(text)) for text in texts]), len(texts)]
 
 
 def _refusal(name: str, number: int, nesting: int, texts: Sequence[bytes], status: int) -> Exception:
