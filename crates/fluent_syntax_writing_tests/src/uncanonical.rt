@@ -278,15 +278,15 @@ const NAMES: [Text; 34] = [
     "t", "u", "v", "w", "x", "y", "z", "aa", "ab", "ac", "ad", "ae", "af", "ag", "ah",
 ];
 
-/// A call with so many of the names, the last of which is that of an argument before it, if there is one.
-fn assert_names_judged(alloc: Global, count: usize, repeated: Option<usize>) -> Result<(), Fail> {
+/// A call with so many of the names, and one more argument, if a name is given.
+fn assert_names_judged(alloc: Global, count: usize, repeated: Option<&Text>) -> Result<(), Fail> {
     let mut rows = Vec::new(alloc);
-    for name in &NAMES[..count] {
+    for name in NAMES.iter().take(count) {
         rows.push((*name, "1"))?;
     }
     let mut expected = None;
-    if let Some(index) = repeated {
-        rows.push((NAMES[index], "1"))?;
+    if let Some(name) = repeated {
+        rows.push((*name, "1"))?;
         expected = Some(Rule::RepeatedArgument);
     }
     let call = InlineExpression::FunctionReference {
@@ -300,9 +300,9 @@ fn assert_names_judged(alloc: Global, count: usize, repeated: Option<usize>) -> 
 fn names_of_many_arguments(rt: HostRuntime) -> Result<(), Fail> {
     for count in 30..35 {
         assert_names_judged(rt.alloc(), count, None)?;
-        assert_names_judged(rt.alloc(), count, Some(0))?;
-        assert_names_judged(rt.alloc(), count, Some(count / 2))?;
-        assert_names_judged(rt.alloc(), count, Some(count - 1))?;
+        assert_names_judged(rt.alloc(), count, NAMES.first())?;
+        assert_names_judged(rt.alloc(), count, NAMES.get(count / 2))?;
+        assert_names_judged(rt.alloc(), count, NAMES.get(count.saturating_sub(1)))?;
     }
     Ok(())
 }
