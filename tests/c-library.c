@@ -11,8 +11,8 @@
 #include <string.h>
 #include <sys/mman.h>
 
-enum { ROOM = 1 << 22, PAGE = 4096, MARK = 0xA5, CALLS = 17, ERRORS = 6, NAMES = 8, MESSAGES = 10, FINDINGS = 12 };
-enum { COMPARISON = 14, FROM_JSON = 16 };
+enum { ROOM = 1 << 22, PAGE = 4096, MARK = 0xA5, CALLS = 19, ERRORS = 6, NAMES = 8, VALUES = 10, MESSAGES = 12 };
+enum { FINDINGS = 14, COMPARISON = 16, FROM_JSON = 18 };
 
 /* ---- memory */
 
@@ -78,10 +78,11 @@ static void fault(int call, const char *what, size_t text_len, size_t number)
         printf("call %d over %zu bytes, %zu: %s\n", call, text_len, number, what);
 }
 
-/* ---- the calls: the six commands over texts; the errors, names and messages by either edition; the findings in the
-   text and another one, and its comparison with that, likewise; and from JSON, made over the JSON of the text */
+/* ---- the calls: the six commands over texts; the errors, names, values and messages by either edition; the findings
+   in the text and another one, and its comparison with that, likewise; and from JSON, made over the JSON of the text */
 
 _Static_assert(sizeof(struct ftl_text) == 2 * sizeof(size_t), "a text is a pointer and a length");
+_Static_assert(sizeof(struct ftl_value) == 2 * sizeof(size_t), "a value is two places");
 
 static const char other[] =
     "key = Key { foo } { $var }\n    .attr = { -term }\nfoo =\n    .attr = A\n-term = T\nkey = Key\n";
@@ -90,8 +91,9 @@ static size_t size_of(int call)
 {
     if (call < ERRORS || call == FROM_JSON || (call >= MESSAGES && call < FINDINGS))
         return 1;
-    return call < NAMES     ? sizeof(struct ftl_error)
-           : call < MESSAGES ? sizeof(struct ftl_name)
+    return call < NAMES      ? sizeof(struct ftl_error)
+           : call < VALUES   ? sizeof(struct ftl_name)
+           : call < MESSAGES ? sizeof(struct ftl_value)
                              : sizeof(struct ftl_finding);
 }
 
@@ -105,8 +107,10 @@ static uint32_t made(int call, size_t nesting, const uint8_t *text, size_t text_
         return ftl_answer((uint32_t)call, nesting, text, text_len, array, room, count);
     if (call < NAMES)
         return ftl_errors(edition, nesting, text, text_len, array, room, count);
-    if (call < MESSAGES)
+    if (call < VALUES)
         return ftl_names(edition, nesting, text, text_len, array, room, count);
+    if (call < MESSAGES)
+        return ftl_values(edition, nesting, text, text_len, array, room, count);
     if (call < FINDINGS)
         return ftl_error_messages(edition, nesting, text, text_len, array, room, count);
     if (call < COMPARISON)
@@ -163,6 +167,31 @@ static void look(int call, uint32_t good, size_t whole, size_t text_len, size_t 
         if (!is_untouched(array + bytes, array_end))
             fault(call, "written beyond", text_len, room);
     }
+}
+
+/* Names and values by the edition: a row of each for each name, and each value behind its name, if there is one. */
+static void values_beside_names(uint32_t edition, const uint8_t *text, size_t text_len)
+{
+    size_t count, values_count;
+    if (ftl_names(edition, FTL_NESTING, text, text_len, NULL, 0, &count) > FTL_TOO_SMALL)
+        return;
+    struct ftl_name *names = calloc(count + 1, sizeof *names);
+    struct ftl_value *values = calloc(count + 1, sizeof *values);
+    if (names == NULL || values == NULL)
+        exit(2);
+    ftl_names(edition, FTL_NESTING, text, text_len, names, count, &count);
+    if (ftl_values(edition, FTL_NESTING, text, text_len, values, count, &values_count) > FTL_SYNTAX_ERRORS ||
+        values_count != count)
+        fault(VALUES, "another number than of names", text_len, values_count);
+    for (size_t i = 0; i < count; i++) {
+        size_t next = i + 1 < count && names[i + 1].owner == names[i].owner ? names[i + 1].start : names[i].entry_end;
+        if (values[i].end == 0 ? values[i].start != 0 || names[i].kind != FTL_MESSAGE
+                               : values[i].start <= names[i].end || text[values[i].start - 1] != '=' ||
+                                     values[i].end <= values[i].start || values[i].end > next)
+            fault(VALUES, "a value at another place", text_len, i);
+    }
+    free(names);
+    free(values);
 }
 
 /* With room for no item, for each number of them and for more; then each request for memory is refused in turn. */
@@ -225,10 +254,12 @@ static void odd_calls(void)
         uint8_t out[4] = {MARK, MARK, MARK, MARK};
         struct ftl_error error;
         struct ftl_name name;
+        struct ftl_value value;
         struct ftl_finding finding;
         struct ftl_text none = {bad, sizeof bad};
         memset(&error, MARK, sizeof error);
         memset(&name, MARK, sizeof name);
+        memset(&value, MARK, sizeof value);
         memset(&finding, MARK, sizeof finding);
         count = 99;
         if (ftl_answer(wrong[i], FTL_NESTING, bad, 3, out, 4, &count) != FTL_WRONG_ARGUMENT || count != 0 ||
@@ -242,6 +273,10 @@ static void odd_calls(void)
         if (ftl_names(wrong[i], FTL_NESTING, bad, 3, &name, 1, &count) != FTL_WRONG_ARGUMENT || count != 0 ||
             *(uint8_t *)&name != MARK)
             fault(NAMES, "no edition has that number", 3, wrong[i]);
+        count = 99;
+        if (ftl_values(wrong[i], FTL_NESTING, bad, 3, &value, 1, &count) != FTL_WRONG_ARGUMENT || count != 0 ||
+            *(uint8_t *)&value != MARK)
+            fault(VALUES, "no edition has that number", 3, wrong[i]);
         count = 99;
         if (ftl_findings(wrong[i], FTL_NESTING, &none, 1, &finding, 1, &count) != FTL_WRONG_ARGUMENT || count != 0 ||
             *(uint8_t *)&finding != MARK)
@@ -409,6 +444,8 @@ int main(int argc, char **argv)
         texts++;
         for (int call = 0; call < FROM_JSON; call++)
             call_over(call, text_end - len, len);
+        values_beside_names(FTL_EDITION_ONE, text_end - len, len);
+        values_beside_names(FTL_EDITION_TWO, text_end - len, len);
         uint32_t status = ftl_answer(FTL_JSON, FTL_NESTING, text_end - len, len, json, ROOM, &len);
         if (status > FTL_SYNTAX_ERRORS)
             fault(FTL_JSON, "no JSON", len, status);

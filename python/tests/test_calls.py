@@ -156,6 +156,24 @@ class Told(unittest.TestCase):
                 _library.kind_name(number)
 
 
+class Spans(unittest.TestCase):
+    def test_values(self) -> None:
+        text = "# ü\nkey = Tür { $x ->\n   *[a] ä\n }\n\n  .title =\n    T\nnone =\n    .a = 😀\n-t=x"
+        key, none, term = dovelectern.parse(text).body
+        assert isinstance(key, ast.Message) and isinstance(none, ast.Message) and isinstance(term, ast.Term)
+        self.assertIsNone(none.value)
+        values = [key.value, key.attributes[0].value, none.attributes[0].value, term.value]
+        self.assertEqual([text[it.span.start:it.span.end] for it in values if it and it.span],
+                         [" Tür { $x ->\n   *[a] ä\n }\n\n", "\n    T\n", " 😀\n", "x"])
+        assert key.value and isinstance(key.value.elements[1], ast.Placeable)
+        select = key.value.elements[1].expression
+        assert isinstance(select, ast.SelectExpression)
+        self.assertIsNone(select.variants[0].value.span)
+        bare = dovelectern.parse(text, with_spans=False).body[0]
+        assert isinstance(bare, ast.Message) and bare.value
+        self.assertIsNone(bare.value.span)
+
+
 class Files(unittest.TestCase):
     def test_files(self) -> None:
         with tempfile.TemporaryDirectory() as folder:

@@ -3,7 +3,7 @@ import json
 import re
 import threading
 import unittest
-from typing import Any
+from typing import Any, Union
 
 import dovelectern
 from dovelectern import _writing, ast
@@ -37,8 +37,8 @@ def with_lines(value: "dict[str, Any]") -> "dict[str, Any]":
     return value
 
 
-def names_of(tree: ast.Resource) -> "list[ast.Identifier]":
-    return [it.id for entry in tree.body if isinstance(entry, (ast.Message, ast.Term))
+def named(tree: ast.Resource) -> "list[Union[ast.Message, ast.Term, ast.Attribute]]":
+    return [it for entry in tree.body if isinstance(entry, (ast.Message, ast.Term))
             for it in [entry, *entry.attributes]]
 
 
@@ -95,13 +95,26 @@ class Texts(unittest.TestCase):
         for text, _ in TEXTS:
             with self.subTest(text=text):
                 tree = dovelectern.parse(text)
-                for name in names_of(tree):
-                    self.assertEqual(text[name.span.start:name.span.end], name.name)
+                for it in named(tree):
+                    self.assertEqual(text[it.id.span.start:it.id.span.end], it.id.name)
                 for it in tree.body:
                     if isinstance(it, ast.Junk):
                         self.assertEqual(text[it.span.start:it.span.end], it.content)
                         self.assertEqual(len(it.annotations), 1)
                 self.assertEqual(dovelectern.parse(text, with_spans=False), tree)
+
+    def test_spans_of_values(self) -> None:
+        """What stands at a value's span is read as the value; a `=` stands before it, and no blank line behind it."""
+        for text, _ in TEXTS:
+            with self.subTest(text=text):
+                for it in named(dovelectern.parse(text)):
+                    if it.value is None:
+                        continue
+                    span = it.value.span
+                    self.assertRegex(text[it.id.span.end:span.start], "^ *=$")
+                    self.assertNotRegex(text[span.end:], r"^ *\r?\n")
+                    alone = dovelectern.parse("k =" + text[span.start:span.end])
+                    self.assertEqual(alone.body, [ast.Message(ast.Identifier("k"), it.value)])
 
     def test_columns(self) -> None:
         for text, _ in TEXTS:

@@ -1,7 +1,6 @@
 pub mod Flat
 pub mod Lines
 pub mod Errors
-pub mod ReadEntries
 pub mod Recovered
 pub mod SameAnswers
 pub mod RoundTrip

@@ -1,79 +1,22 @@
-//! Texts read entry by entry: the texts of each are made while its spans are warm.
-ghost use Rattle.std.specs.Prelude.{◌≡◌, ◌+◌, ◌<◌, ◌^◌, ◌≢◌, [], ◌∷◌, ◌++◌, length, map, Err, IfErr, IfOk, IsOk};
-ghost use Rattle.std.specs.Prelude.{IsOkAnd, OnErr, OnOk};
+//! Texts read with a text of the source in place of each span.
+ghost use Rattle.std.specs.Prelude.{◌+◌, ◌<◌, ◌^◌, ◌≢◌, length, Err, IfOk, IsOk, OnErr};
 ghost use Rattle.fluent_syntax.specs.Errors.{ErrorsAscend, JunkIsRefused};
-ghost use Rattle.fluent_syntax.specs.ReadEntries.{IsRead};
 ghost use Rattle.fluent_syntax_grammar.specs.Nesting.{TextDeeper};
 ghost use Rattle.fluent_syntax_grammar.specs.Places.{BlankBlock};
 ghost use Rattle.fluent_syntax_parser.specs.Answers.{AnswersIn, ErrorsInText};
-ghost use Rattle.fluent_syntax_parser.specs.Halts.{HaltsWithin, OnHalt};
-ghost use Rattle.fluent_syntax_parser.specs.Rest.{TileIn, tree_of};
+ghost use Rattle.fluent_syntax_parser.specs.Rest.{TileIn};
 ghost use Rattle.fluent_syntax_parser.specs.declared.fault.ParseFault.TheVariants.{Memory};
-ghost use Rattle.fluent_syntax_tree.specs.Entry.{body_map, entry_map};
-ghost use Rattle.fluent_syntax_tree.specs.Every.{entry_every};
-ghost use Rattle.fluent_syntax_tree.specs.Spans.{IsPart, bytes_at};
-ghost use Rattle.fluent_syntax_tree.specs.View.{entry_view};
+ghost use Rattle.fluent_syntax_tree.specs.Entry.{body_map};
+ghost use Rattle.fluent_syntax_tree.specs.Spans.{bytes_at};
 
 use crate::parser;
-use crate::resolved::resolve_entry;
-use crate::short::add_message;
-use fluent_syntax_parser::entries::Entries;
-use fluent_syntax_parser::fault::{ParseFault, TooDeep, add_error, answer_of};
-use fluent_syntax_parser::options::{Comments, Halt, Options};
-use fluent_syntax_tree::ast::Entry;
+use fluent_syntax_parser::fault::{ParseFault, TooDeep};
+use fluent_syntax_parser::options::{Comments, Options};
+use fluent_syntax_parser::parse_texts;
+use fluent_syntax_parser::texts::Slices;
 use fluent_syntax_tree::edition::Edition;
-use fluent_syntax_tree::errors::ParserError;
 use fluent_syntax_tree::slice::Slice;
-use fluent_syntax_tree::spans::Span;
-use std::alloc::{AllocError, Global};
-
-/// Adds an entry, with its texts.
-fn add_entry<'s, S: Slice<'s>>(
-    alloc: Global,
-    input: &S,
-    body: &mut Vec<Entry<S>>,
-    entry: Entry<Span>,
-) -> Result<(), AllocError>
-    requires parts { entry_every (IsPart (S.text input.now)) (tree_of entry) }
-    ensures { OnOk result (map (entry_view S.text) body.new.items ≡
-        map (entry_view S.text) body.old.items ++ entry_map (bytes_at (S.text input.now)) (tree_of entry) ∷ []) }
-{
-    body.push(resolve_entry(alloc, input, &entry)?)?;
-    Ok(())
-}
-
-/// The entries and the errors of a text.
-fn read_entries<'s, S: Slice<'s>>(
-    alloc: Global,
-    input: &S,
-    options: Options,
-) -> Result<(Vec<Entry<S>>, Vec<ParserError>), Halt>
-    ensures read { IfOk result (λ read. IsRead S.text options.comments options.edition (S.text input.now)
-        read.0.items read.1.items) }
-    ensures blank { let t = S.text input.now in
-        BlankBlock t 0 (length t) → IsOkAnd result (λ read. read.1.items ≡ []) }
-    ensures nests { IfErr result (HaltsWithin options.nesting (length (S.text input.now))) }
-    ensures deeper { let t = S.text input.now in let at = TileIn options.comments options.edition t in
-        IfErr result (OnHalt (TextDeeper options.edition t at options.nesting 0)) }
-    ensures shallow { let t = S.text input.now in let at = TileIn options.comments options.edition t in
-        IfOk result (λ read. TextDeeper options.edition t at options.nesting 0 → ⊥) }
-{
-    let mut entries = Entries::new(input.as_str(), options);
-    let mut body = Vec::new(alloc);
-    let mut errors = Vec::new(alloc);
-    let mut parts = Vec::new(alloc);
-    loop {
-        if let Some(name) = entries.next_short(&mut parts)? {
-            add_message(alloc, input, &mut body, name, &parts)?;
-        } else {
-            let Some((entry, error)) = entries.next_entry(alloc)? else {
-                return Ok((body, errors));
-            };
-            add_entry(alloc, input, &mut body, entry)?;
-            add_error(&mut errors, error)?;
-        }
-    }
-}
+use std::alloc::Global;
 
 /// Reads a text as the options say. `TooDeep` where it nests more deeply than they allow.
 pub(crate) fn parse_by<'s, S: Slice<'s>>(
@@ -93,11 +36,8 @@ pub(crate) fn parse_by<'s, S: Slice<'s>>(
     ensures shallow { let t = S.text input.now in let at = TileIn options.comments options.edition t in
         IfOk result (λ answer. answer ≢ Err Memory → TextDeeper options.edition t at options.nesting 0 → ⊥) }
 {
-    match read_entries(alloc, input, options) {
-        Ok((body, errors)) => Ok(answer_of(body, errors)),
-        Err(Halt::Memory) => Ok(Err(ParseFault::Memory)),
-        Err(Halt::TooDeep) => Err(TooDeep),
-    }
+    let slices: Slices<'_, 's, S> = Slices::new(input);
+    parse_texts(alloc, input.as_str(), options, &slices)
 }
 
 /// Reads a text that may nest as deeply as it does.

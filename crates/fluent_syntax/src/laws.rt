@@ -16,7 +16,8 @@ pub use fluent_syntax_grammar::{
 };
 pub use fluent_syntax_joined::joined;
 pub use fluent_syntax_rules::{
-    Rule, Uncanonical, broken_rule, first_uncanonical, is_canonical, is_readable,
+    Rule, Uncanonical, broken_rule, broken_rule_with, first_uncanonical, first_uncanonical_with,
+    is_canonical, is_readable,
 };
 use fluent_syntax_tree::ast::Resource;
 pub use fluent_syntax_tree::laws::same_texts;

@@ -11,7 +11,6 @@ mod lines;
 pub mod parser;
 mod recovered;
 mod resolved;
-mod short;
 pub mod spans;
 pub mod unicode;
 

@@ -5,7 +5,7 @@ pub use crate::resolved::{resolve, resolve_entry};
 pub use fluent_syntax_parser::entries::Entries;
 pub use fluent_syntax_parser::extents::{AttributeExtents, EntryExtents, entry_extents};
 pub use fluent_syntax_parser::options::{Comments, Halt, Options};
-pub use fluent_syntax_parser::short::{ShortElement, ShortPart, attribute_count, leading_count};
+pub use fluent_syntax_parser::texts::{AsSpans, MakeTexts, Slices};
 pub use fluent_syntax_parser::tiles::{FoundTile, Tiles};
 pub use fluent_syntax_parser::{
     parse_runtime_spans, parse_runtime_spans_edition, parse_runtime_spans_within, parse_spans,

@@ -4,6 +4,7 @@
     library.answer("format", b"key=value\n")      # (b"key = value\n", False)
     library.errors(b"bro ken\n")                  # [Error(line=1, column=5, ..)]
     library.names(b"key = value\n    .a = b\n")   # [Name(..), Name(..)]
+    library.values(b"key = value\n    .a = b\n")  # [Value(start=5, end=12), Value(start=20, end=23)]
     library.findings([b"a = { b }\n"])            # [Finding(text=0, line=1, column=7, ..)]
     library.comparison(b"a = A\n", b"b = B\n")    # [Finding(..), Finding(..)]
 """
@@ -32,6 +33,7 @@ def _record(name, fields, last):
 _PLACE = ["line", "column", "column_utf16", "column_characters", "start", "end"]
 _ERROR, Error = _record("Error", [*_PLACE, "junk_start", "junk_end"], ["kind"])
 _NAME, Name = _record("Name", [*_PLACE, "owner", "entry_start", "entry_end"], ["kind"])
+_VALUE, Value = _record("Value", ["start", "end"], [])
 _FINDING, Finding = _record("Finding", ["text", *_PLACE, "other_text", "other_start", "other_end"],
                             ["kind", "severity"])
 
@@ -51,7 +53,8 @@ class Fluent:
         written = [ctypes.c_void_p, ctypes.c_size_t, ctypes.POINTER(ctypes.c_size_t)]
         for name, arguments in {
             "ftl_answer": [*read, *text], "ftl_errors": [*read, *text], "ftl_names": [*read, *text],
-            "ftl_error_messages": [*read, *text], "ftl_findings": [*read, ctypes.POINTER(_TEXT), ctypes.c_size_t],
+            "ftl_values": [*read, *text], "ftl_error_messages": [*read, *text],
+            "ftl_findings": [*read, ctypes.POINTER(_TEXT), ctypes.c_size_t],
             "ftl_comparison": [*read, *text, *text], "ftl_kind_name": read[:1], "ftl_finding_kind_name": read[:1],
         }.items():
             call = self._calls[name] = getattr(library, name)
@@ -110,6 +113,10 @@ class Fluent:
     def names(self, text, edition=1, nesting=NESTING):
         """The names of the messages, terms and attributes of the bytes, in order."""
         return self._rows("ftl_names", [edition, nesting, text, len(text)], _NAME, Name, 64)
+
+    def values(self, text, edition=1, nesting=NESTING):
+        """Where the values of the names of the bytes stand, in the same order; 0 and 0 of a message without one."""
+        return self._rows("ftl_values", [edition, nesting, text, len(text)], _VALUE, Value, 64)
 
     def findings(self, texts, edition=1, nesting=NESTING):
         """What is found in the texts, each of bytes, which are those of one language; in order."""

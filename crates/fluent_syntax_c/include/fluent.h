@@ -12,8 +12,8 @@
 
 /* The version. Of a later one with the same first number each call and number of this one is as it is here. */
 #define FTL_VERSION_MAJOR 2
-#define FTL_VERSION_MINOR 2
-#define FTL_VERSION "2.2"
+#define FTL_VERSION_MINOR 3
+#define FTL_VERSION "2.3"
 
 #include <stddef.h>
 #include <stdint.h>
@@ -116,6 +116,12 @@ struct ftl_name {
     uint32_t kind;            /* an ftl_name_kind */
 };
 
+/* Where the value of a message, of a term or of an attribute stands; since 2.3. */
+struct ftl_value {
+    size_t start; /* the bytes of the text: from start, which is directly behind the '=', */
+    size_t end;   /* up to end, with the blank lines directly behind it; of a message without a value both are 0 */
+};
+
 /* A text: its bytes, and how many they are. */
 struct ftl_text {
     const uint8_t *text;
@@ -178,6 +184,12 @@ uint32_t ftl_errors(uint32_t edition, size_t nesting, const uint8_t *text, size_
    behind its own: `*count` rows. What was refused has none. `edition` is an ftl_edition. Returns an ftl_status. */
 uint32_t ftl_names(uint32_t edition, size_t nesting, const uint8_t *text, size_t text_len,
                    struct ftl_name *rows, size_t rows_len, size_t *count);
+
+/* Writes where the value of each message, each term and each attribute of the text stands: `*count` rows, as many as
+   those of ftl_names and in the same order: values[i] is that of names[i]. `edition` is an ftl_edition. Returns an
+   ftl_status. Since 2.3. */
+uint32_t ftl_values(uint32_t edition, size_t nesting, const uint8_t *text, size_t text_len,
+                    struct ftl_value *rows, size_t rows_len, size_t *count);
 
 /* Writes the message of each syntax error of the text, in order and each on a line of its own, with what was expected:
    `*needed` bytes of UTF-8. A line end that a message tells of is written as \n or \r. `edition` is an ftl_edition.

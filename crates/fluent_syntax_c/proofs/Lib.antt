@@ -1,5 +1,6 @@
 mod Statuses
 mod Rows
+mod ValueRows
 mod LineStarts
 mod Recovered
 mod Told

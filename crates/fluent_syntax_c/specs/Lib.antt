@@ -8,6 +8,7 @@ pub mod Reading
 pub mod Columns
 pub mod Errors
 pub mod Names
+pub mod Values
 pub mod Messages
 pub mod FoundKinds
 pub mod Outlines

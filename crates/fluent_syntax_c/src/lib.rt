@@ -19,6 +19,7 @@ mod outputs;
 mod readings;
 mod status;
 mod texts;
+mod values;
 
 pub use answers::ftl_answer;
 pub use comparison::ftl_comparison;
@@ -27,3 +28,4 @@ pub use findings::{FtlFinding, ftl_finding_kind_name, ftl_findings};
 pub use messages::{ftl_error_messages, ftl_kind_name};
 pub use names::{FtlName, ftl_names};
 pub use outlines::FtlText;
+pub use values::{FtlValue, ftl_values};

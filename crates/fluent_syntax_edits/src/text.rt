@@ -6,7 +6,7 @@ ghost use Rattle.fluent_syntax_grammar.specs.Locality.{entry_text};
 ghost use Rattle.fluent_syntax_tree.specs.View.{entry_view};
 
 use crate::fault::EditFault;
-use fluent_syntax_rules::broken_rule;
+use fluent_syntax_rules::broken_rule_with;
 use fluent_syntax_tree::ast::Entry;
 use fluent_syntax_tree::edition::Edition;
 use fluent_syntax_tree::slice::Slice;
@@ -37,7 +37,7 @@ pub(crate) fn entry_text<'s, S: Slice<'s>>(
     ensures canonical { IfOk result (λ _. is_canonical edition (entry_view S.text entry.now ∷ []) ≡ true) }
     ensures fault { IfErr result (Uncanonical edition (entry_view S.text entry.now)) }
 {
-    if let Some(rule) = broken_rule(entry, edition) {
+    if let Some(rule) = broken_rule_with(alloc, entry, edition) {
         return Err(EditFault::NotCanonical(rule));
     }
     Ok(written_text(alloc, entry)?)

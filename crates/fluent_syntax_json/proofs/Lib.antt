@@ -6,3 +6,4 @@ pub mod Lines
 pub mod Back
 pub mod Outcomes
 pub mod Escapes
+pub mod Bodies

@@ -4,3 +4,4 @@ pub mod Reading
 pub mod Answer
 pub mod Json
 pub mod Writing
+pub mod BodyWriting

@@ -1,4 +1,5 @@
 //! Trees written as JSON text, with no value made of them.
+pub mod body_writer;
 pub mod entries;
 mod escapes;
 mod names;

@@ -55,7 +55,7 @@ fn assert_text_of_form(alloc: Global, shows: &str, tree: &Resource<String>) -> R
 }
 
 /// The value's text, as `serde_json` writes it.
-fn with_sorted_keys(alloc: Global, form: &str) -> Result<String, Fail> {
+pub(crate) fn with_sorted_keys(alloc: Global, form: &str) -> Result<String, Fail> {
     Ok(Value::from_str(alloc, form)?.to_string(alloc)?)
 }
 

@@ -6,6 +6,8 @@ mod json;
 #[cfg(test)]
 mod json_text;
 #[cfg(test)]
+mod one_by_one;
+#[cfg(test)]
 mod sinks;
 #[cfg(test)]
 mod surface;

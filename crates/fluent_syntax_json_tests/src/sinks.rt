@@ -13,7 +13,7 @@ use std::test::Fail;
 
 /// A sink that refuses one piece, and takes those before and after it. Empty pieces don't count.
 #[derive(Drop)]
-struct Refusing {
+pub(crate) struct Refusing {
     text: String,
     /// How many pieces are to come before the one that it refuses.
     before: usize,
@@ -21,7 +21,7 @@ struct Refusing {
 }
 
 impl Refusing {
-    fn new(alloc: Global, before: usize) -> Refusing {
+    pub(crate) fn new(alloc: Global, before: usize) -> Refusing {
         Refusing {
             text: String::new(alloc),
             before,
@@ -44,7 +44,7 @@ impl Refusing {
     }
 
     /// Whether what was answered fits, and it holds the whole text, or a beginning of it where it has refused a piece.
-    fn holds_its_part(&self, whole: &str, written: Result<(), SinkError>) -> bool {
+    pub(crate) fn holds_its_part(&self, whole: &str, written: Result<(), SinkError>) -> bool {
         if self.has_refused {
             written == Err(SinkError)
                 && whole.starts_with(self.text.as_str())
@@ -78,14 +78,14 @@ impl TextSink for Refusing {
 
 /// A sink of a few bytes, which is sure to take what fits.
 #[derive(Drop)]
-struct Small {
+pub(crate) struct Small {
     text: String,
     room: usize,
     ghost fits: { string_len text + room ≤ string_capacity text },
 }
 
 impl Small {
-    fn new(alloc: Global, room: usize) -> Result<Small, AllocError> {
+    pub(crate) fn new(alloc: Global, room: usize) -> Result<Small, AllocError> {
         let text = String::with_capacity(alloc, room)?;
         Ok(Small { text, room })
     }
@@ -117,7 +117,7 @@ impl TextSink for Small {
 
 impl Small {
     /// Whether this is the answer, and the sink holds the whole text just where that is `Ok`, else a beginning.
-    fn holds_its_part(
+    pub(crate) fn holds_its_part(
         &self,
         whole: &str,
         written: Result<(), SinkError>,
@@ -146,7 +146,7 @@ fn an_escaped_text_to_a_sink_of_four_bytes(rt: HostRuntime) -> Result<(), Fail> 
     assert_unescaped_within_4(rt.alloc(), "abc\\u00e9", "abcé", Err(SinkError))
 }
 
-const TEXTS: [&str; 6] = [
+pub(crate) const TEXTS: [&str; 6] = [
     "",
     "k = v\n",
     "# a\n#\n# b\n\n## g\n\n### r\n\n-t = { \"s\" }\n    .a = b\n",
@@ -243,7 +243,7 @@ fn a_json_text_to_a_sink_that_refuses(rt: HostRuntime) -> Result<(), Fail> {
 }
 
 /// A text, and the JSON text of its tree.
-const QUOTE: (Text, &str) = (
+pub(crate) const QUOTE: (Text, &str) = (
     "\"",
     "{\"body\":[{\"content\":\"\\\"\",\"type\":\"Junk\"}]}",
 );

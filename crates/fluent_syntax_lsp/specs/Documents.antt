@@ -1,5 +1,5 @@
 -- Documents, and changes of them.
-use Rattle.std.specs.Prelude.{◌≡◌, ℕ, List, [], max, min, string_bytes}
+use Rattle.std.specs.Prelude.{◌≡◌, ℕ, ◌<◌, List, [], length, max, min, string_bytes}
 use Rattle.fluent_syntax_tree.specs.declared.edition.Edition.TheVariants.{One}
 use Rattle.fluent_syntax_reread.specs.Placed.{Reads}
 use Rattle.fluent_syntax_reread.specs.Reading.{changed}
@@ -7,11 +7,17 @@ use Rattle.fluent_syntax_reread.specs.declared.placed.Placed.{Placed}
 use Rattle.fluent_syntax_lsp.specs.Offsets.{IsByteOf}
 use Rattle.fluent_syntax_lsp.specs.declared.documents.Document.{Document}
 use Rattle.fluent_syntax_lsp.specs.declared.documents.Document.TheVariants.{Held, TooDeep}
+use Rattle.fluent_syntax_lsp.specs.declared.limits.TheConstants.{NESTING_LIMIT}
 use Rattle.fluent_syntax_lsp.specs.declared.places.Place.{Place}
 
 abbrev pub document_text : Document → List ℕ
 document_text (Held t) = t
 document_text (TooDeep text) = string_bytes text
+
+-- What was read of its text is held, unless the text has more bytes than may nest.
+abbrev pub IsHeldIfShort : Document → Type 0
+IsHeldIfShort (Held t) = Unit {0}
+IsHeldIfShort (TooDeep text) = NESTING_LIMIT < length (string_bytes text)
 
 -- The tiles tell, one by one, of the tiling of its text; there are none of a text that nests too deeply.
 abbrev pub HasTiles : Document → List Placed → Type 0

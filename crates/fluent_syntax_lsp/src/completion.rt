@@ -1,7 +1,7 @@
 //! The names that may stand at a place.
 
 use crate::asked::Asked;
-use crate::occurrences::{NameKind, Occurrence, name_of};
+use crate::occurrences::{NameKind, Occurrence, is_name_byte, name_of};
 use crate::replies::item_form;
 use serde_json::Value;
 use std::alloc::{AllocError, Global};
@@ -18,11 +18,7 @@ enum Expected<'t> {
     Nothing,
 }
 
-fn is_name_byte(byte: u8) -> bool {
-    byte.is_ascii_alphanumeric() || byte == b'_' || byte == b'-'
-}
-
-/// Where the name begins that ends at the byte: names have letters, digits, `_` and `-`.
+/// Where the name begins that ends at the byte.
 fn begin_of_name(text: &[u8], end: usize) -> usize {
     for at in (0..end.min(text.len())).rev() {
         if !is_name_byte(text[at]) {

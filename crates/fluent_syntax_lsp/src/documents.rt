@@ -3,7 +3,7 @@ ghost use Rattle.std.specs.Prelude.{◌≡◌, IfOk, map, OnErr, OnOk};
 ghost use Rattle.fluent_syntax_reread.specs.Faults.{IsRange};
 ghost use Rattle.fluent_syntax_reread.specs.Reading.{changed};
 ghost use Rattle.fluent_syntax_lsp.specs.Diagnostics.{DiagnosesDocument, shown};
-ghost use Rattle.fluent_syntax_lsp.specs.Documents.{ChangesBetween, document_text, HasTiles};
+ghost use Rattle.fluent_syntax_lsp.specs.Documents.{ChangesBetween, document_text, HasTiles, IsHeldIfShort};
 
 use crate::diagnostics::{Diagnostic, diagnostics_in, diagnostics_of};
 use crate::held::Held;
@@ -23,9 +23,11 @@ pub enum Document {
 }
 
 impl Document {
-    /// The document of a text. `AllocError` where a growth was refused.
+    /// The document of a text: `TooDeep` only where it has more bytes than may nest. `AllocError` where a growth was
+    /// refused.
     pub fn new(alloc: Global, text: &str) -> Result<Document, AllocError>
-        ensures { IfOk result (λ document. document_text document ≡ text.now) }
+        ensures text { IfOk result (λ document. document_text document ≡ text.now) }
+        ensures held { IfOk result IsHeldIfShort }
     {
         match Held::new(alloc, text) {
             Ok(held) => Ok(Document::Held(held)),
@@ -55,6 +57,7 @@ impl Document {
     ) -> Result<(), AllocError>
         requires { IsRange (document_text self.old) from to }
         ensures text { OnOk result (document_text self.new ≡ changed (document_text self.old) from to new.now) }
+        ensures held { OnOk result (IsHeldIfShort self.new) }
         ensures same { OnErr result (document_text self.new ≡ document_text self.old) }
     {
         if let Document::Held(held) = self {
@@ -80,6 +83,7 @@ impl Document {
     ) -> Result<(), AllocError>
         ensures text { OnOk result
             (ChangesBetween (document_text self.old) start end new.now (document_text self.new)) }
+        ensures held { OnOk result (IsHeldIfShort self.new) }
         ensures same { OnErr result (document_text self.new ≡ document_text self.old) }
     {
         let first = byte_of(self.text(), start);
@@ -114,8 +118,8 @@ impl Document {
         None
     }
 
-    /// A diagnostic for each of the text's errors, in order; a lone one where it nests deeper than `NESTING_LIMIT`.
-    /// `AllocError` where a growth was refused.
+    /// A diagnostic for each of the text's errors, in order; or a lone one, only where it nests deeper than
+    /// `NESTING_LIMIT`. `AllocError` where a growth was refused.
     pub fn diagnostics(&self, alloc: Global) -> Result<Vec<Diagnostic>, AllocError>
         ensures { IfOk result (λ found. DiagnosesDocument (document_text self.now) (map shown found.items)) }
     {

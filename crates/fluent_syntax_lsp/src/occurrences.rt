@@ -43,7 +43,12 @@ impl Occurrence {
     }
 }
 
-/// The names of a text that no other name stands for: where the text is another, they are others.
+/// Whether a name may have the byte behind its first letter.
+pub fn is_name_byte(byte: u8) -> bool {
+    byte.is_ascii_alphanumeric() || byte == b'_' || byte == b'-'
+}
+
+/// What a name is one of, and its text: where these are the same, the names stand for the same.
 #[derive(Clone, Copy, Debug, PartialEq, Eq)]
 pub struct Name<'t> {
     pub kind: NameKind,

@@ -2,7 +2,7 @@
 
 use crate::asked::Asked;
 use crate::known::{Known, Wanted};
-use crate::occurrences::{Name, NameKind};
+use crate::occurrences::{Name, NameKind, is_name_byte};
 use crate::places::Places;
 use crate::replies::{edit_form, edits_of_document};
 use serde_json::{Value, json};
@@ -12,10 +12,7 @@ use std::alloc::{AllocError, Global};
 fn is_identifier(text: &str) -> bool {
     match text.as_bytes() {
         [first, rest @ ..] => {
-            first.is_ascii_alphabetic()
-                && rest.iter().all(|byte| byte.is_ascii_alphanumeric()
-                    || *byte == b'_'
-                    || *byte == b'-')
+            first.is_ascii_alphabetic() && rest.iter().all(|byte| is_name_byte(*byte))
         }
         [] => false,
     }

@@ -1,18 +1,21 @@
 -- What is answered for the entries and the errors that were read of a text with some tiles.
-use Rattle.std.proofs.Common.{◌≡◌, List, [], ◌∷◌, map, Some, Vec, Global, refl, sym, ◌∙◌, ap, subst}
+use Rattle.std.proofs.Common.{◌≡◌, ℕ, List, [], ◌∷◌, map, Some, Vec, Global, refl, sym, ◌∙◌, ap, subst}
 use Rattle.std.specs.Prelude.{◌≢◌, Result, Ok, Err}
-use Rattle.fluent_syntax_tree.specs.Entry.{BodyTree}
+use Rattle.fluent_syntax_tree.specs.Entry.{BodyTree, body_map}
 use Rattle.fluent_syntax_tree.specs.View.{entry_view}
 use Rattle.fluent_syntax_tree.specs.declared.ast.Entry.{Entry}
 use Rattle.fluent_syntax_tree.specs.declared.ast.Resource.{Resource}
+use Rattle.fluent_syntax_tree.specs.declared.edition.Edition.{Edition}
 use Rattle.fluent_syntax_tree.specs.declared.errors.ParserError.{ParserError}
 use Rattle.fluent_syntax_tree.specs.declared.spans.Span.{Span}
 use Rattle.fluent_syntax_grammar.specs.Body.{body, faults}
 use Rattle.fluent_syntax_grammar.specs.Tiling.{Fault, Tile}
-use Rattle.fluent_syntax_parser.specs.Answers.{Answers}
+use Rattle.fluent_syntax_parser.specs.Answers.{Answers, AnswersIn, AnswersSpansIn}
 use Rattle.fluent_syntax_parser.specs.Faults.{fault_of}
 use Rattle.fluent_syntax_parser.specs.declared.fault.ParseFault.{ParseFault}
-use Rattle.fluent_syntax_parser.specs.declared.fault.ParseFault.TheVariants.{Syntax}
+use Rattle.fluent_syntax_parser.specs.declared.fault.ParseFault.TheVariants.{Memory, Syntax}
+use Rattle.fluent_syntax_parser.specs.declared.options.Comments.{Comments}
+use Rattle.fluent_syntax_parser.proofs.SameTrees.{same_body}
 
 none_told : (fs : List Fault) → map Some fs ≡ [] → fs ≡ []
 none_told [] e = refl
@@ -39,3 +42,20 @@ module _ {S X : Type 0} (text : S → X) (whole : BodyTree Span → BodyTree X) 
 
   pub answers_of : Answers text whole tiles result
   answers_of = answers_with errors.items refl
+
+-- ---- trees of spans
+
+-- the same where another map of the body gives the same
+answers_by : {S X : Type 0} (text : S → X) (whole other : BodyTree Span → BodyTree X) →
+    ((b : BodyTree Span) → whole b ≡ other b) → (tiles : List Tile) (result : Result (Resource S) (ParseFault S)) →
+    Answers text whole tiles result → Answers text other tiles result
+answers_by text whole other same tiles (Ok tree) (there, none) = (there ∙ same (body tiles), none)
+answers_by text whole other same tiles (Err (Syntax tree errors)) (there, told, some) =
+    (there ∙ same (body tiles), told, some)
+answers_by text whole other same tiles (Err Memory) there = tt
+
+pub spans_answered : (comments : Comments) (edition : Edition) (t : List ℕ)
+    (result : Result (Resource Span) (ParseFault Span)) →
+    AnswersIn (λ s. s) (body_map (λ s. s)) comments edition t result → AnswersSpansIn comments edition t result
+spans_answered comments edition t result (tiles, tiled, there) =
+    (tiles, tiled, answers_by (λ s. s) (body_map (λ s. s)) (λ b. b) same_body tiles result there)

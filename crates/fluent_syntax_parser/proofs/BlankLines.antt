@@ -12,16 +12,13 @@ use Rattle.fluent_syntax_grammar.specs.Construct.{Read, at_place, chosen, first,
 use Rattle.fluent_syntax_grammar.specs.Construct.{list_ends, passed}
 use Rattle.fluent_syntax_grammar.specs.Elements.{Item, cut, is_nonblank, line_items}
 use Rattle.fluent_syntax_grammar.specs.Family.{Family}
-use Rattle.fluent_syntax_grammar.specs.Grammar as grammar
-use Rattle.fluent_syntax_grammar.specs.Grammar.{family, within}
+use Rattle.fluent_syntax_grammar.specs.Grammar.{within}
 use Rattle.fluent_syntax_grammar.specs.Layout.{Line, crlf_at, lf_at}
 use Rattle.fluent_syntax_grammar.specs.Lines.{belongs, more_lines, more_pieces, own_line}
 use Rattle.fluent_syntax_grammar.specs.Places.{BlankBlock, InlineBlank, after_eol, has_byte, has_eol, line, no_line}
 use Rattle.fluent_syntax_grammar.proofs.Facts.{byte_found, equal}
-use Rattle.fluent_syntax_grammar.proofs.Included.{included_lines}
-use Rattle.fluent_syntax_grammar.proofs.Nesting.{within_family}
 use Rattle.fluent_syntax_parser.proofs.LineEndings.{ends_line}
-use Rattle.fluent_syntax_parser.specs.ShortPatterns.{AreBlank, EndsBlank, NoLines}
+use Rattle.fluent_syntax_parser.specs.OneLine.{AreBlank, EndsBlank, NoLines}
 
 -- ---- line ends
 
@@ -38,7 +35,7 @@ crlf_byte false true true i k e other = refl
 crlf_byte false true false i k e other = cc
 crlf_byte false false c i k e other = cc
 
-pub lf_byte : (a b : Bool) (i k : ℕ) → (if a then Some (i + 1) else if b then Some (i + 2) else None) ≡ Some k →
+lf_byte : (a b : Bool) (i k : ℕ) → (if a then Some (i + 1) else if b then Some (i + 2) else None) ≡ Some k →
     k ≡ i + 1 → a ≡ true
 lf_byte true b i k e same = refl
 lf_byte false true i k e same = let two : i + 2 ≡ k = cc in absurd (omega (arith, two, same))
@@ -179,8 +176,3 @@ module _ (edition : Edition) (t : List ℕ) where
     read = λ n. blanks_read (within edition t n) i j end block (last n);
     blank = blanks_blank i j block;
   }
-
-  -- where none stands within any depth, none stands
-  pub no_lines_anywhere : (i end : ℕ) → NoLines edition t i end → grammar.more_lines edition t i (Read [] end)
-  no_lines_anywhere i end none =
-      (included_lines t (within edition t 0) (family edition t) (within_family edition t 0)).part i _ (none 0)

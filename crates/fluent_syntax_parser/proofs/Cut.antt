@@ -5,7 +5,7 @@ use Rattle.fluent_syntax_tree.specs.Tree.{ExpressionTree}
 use Rattle.fluent_syntax_parser.specs.Layouts.{stays, cut_before, cut}
 use Rattle.fluent_syntax_parser.specs.Layouts as layouts
 use Rattle.fluent_syntax_parser.specs.Elements.{item_view}
-use Rattle.fluent_syntax_parser.specs.declared.elements.Item.{Item}
+use Rattle.fluent_syntax_parser.specs.declared.line.Piece.{Piece}
 
 module _ {S X : Type 0} (v : S → X) (t : List ℕ) where
   before_some : (y x : layouts.Item (ExpressionTree X)) (xs : List (layouts.Item (ExpressionTree X))) →
@@ -25,7 +25,7 @@ module _ {S X : Type 0} (v : S → X) (t : List ℕ) where
   cut_falls [] x e = rw e refl
   cut_falls (y ∷ xs) x e = ap (cut_before t y) (cut_falls xs x e)
 
-  module _ (all items left : List (Item S)) (x : Item S) (last : items ≡ left ++ x ∷ []) where
+  module _ (all items left : List (Piece S)) (x : Piece S) (last : items ≡ left ++ x ∷ []) where
     split : map (item_view v) items ≡ map (item_view v) left ++ (item_view v) x ∷ []
     split = ap (map (item_view v)) last ∙ map-append (item_view v) left (x ∷ [])
 

@@ -1,7 +1,6 @@
 -- Texts that nest deeper, from tile to tile.
 use Rattle.std.proofs.Common.{◌≡◌, ℕ, ◌<◌, List, [], ◌∷◌, length, Option, true, false, refl, subst, arith}
-use Rattle.fluent_syntax_tree.specs.Entry.{comment, regular}
-use Rattle.fluent_syntax_tree.specs.declared.ast.Entry.{Entry}
+use Rattle.fluent_syntax_tree.specs.Entry.{EntryTree, comment, regular}
 use Rattle.fluent_syntax_tree.specs.declared.edition.Edition.{Edition}
 use Rattle.fluent_syntax_tree.specs.declared.errors.ParserError.{ParserError}
 use Rattle.fluent_syntax_tree.specs.declared.spans.Span.{Span}
@@ -17,7 +16,6 @@ use Rattle.fluent_syntax_grammar.proofs.Functional.{single_block}
 use Rattle.fluent_syntax_grammar.proofs.Nesting.{functional_within}
 use Rattle.fluent_syntax_grammar.proofs.OneTiling.{IsOneTile, one_runtime_tile_in, one_tile_in}
 use Rattle.fluent_syntax_parser.specs.Rest.{GivesTile, Standing, TileDeeper, TileIn, are_dropped, at_end, at_tile}
-use Rattle.fluent_syntax_parser.specs.Rest.{tree_of}
 use Rattle.fluent_syntax_parser.specs.declared.options.Comments.{Comments}
 use Rattle.fluent_syntax_parser.specs.declared.options.Comments.TheVariants.{Kept, Dropped}
 use Rattle.fluent_syntax_parser.proofs.Rests.{behind_block, is_no_bare_comment}
@@ -99,9 +97,9 @@ module _ (edition : Edition) (t : List ℕ) (n : ℕ) where
 
   -- ---- behind a comment of level 1, which is read where comments are kept
 
-  module _ (i j : ℕ) (inside : i < length t) (e : Entry Span) (error : Option ParserError)
+  module _ (i j : ℕ) (inside : i < length t) (e : EntryTree Span) (error : Option ParserError)
       (tile : GivesTile edition t n i j e error) (content : List Span)
-      (same : tree_of e ≡ comment regular content) where
+      (same : e ≡ comment regular content) where
     pub behind_comment : (comments : Comments) → (are_dropped comments ≡ true → has_byte t hash i ≡ false) →
         TextDeeper edition t (tiling.TileIn edition t) n j → TileDeeper edition t (TileIn comments edition t) n i
     behind_comment Kept none h = behind_one Kept i j inside tile.tile tile.stands h

@@ -1,32 +1,33 @@
 -- The entry that a place has, by its first byte.
-use Rattle.std.proofs.Common.{◌≡◌, ℕ, List, Option, Some, None, true, false, refl}
+use Rattle.std.proofs.Common.{◌≡◌, ℕ, List, Option, Some, None, true, false, refl, arith}
 use Rattle.std.specs.Prelude.{slice_get, ◌==◌, Result, Ok, Err}
+use Rattle.std.proofs.lemmas.Bool.Decides.{nat_tests}
 use Rattle.fluent_syntax_tree.specs.Entry.{EntryTree}
 use Rattle.fluent_syntax_tree.specs.declared.edition.Edition.{Edition}
 use Rattle.fluent_syntax_tree.specs.declared.spans.Span.{Span}
 use Rattle.fluent_syntax_grammar.specs.Body.{hung}
-use Rattle.fluent_syntax_grammar.specs.Bytes.{hash, hyphen}
+use Rattle.fluent_syntax_grammar.specs.Bytes.{hash, hyphen, is_letter}
 use Rattle.fluent_syntax_grammar.specs.Comments.{comment_entry}
 use Rattle.fluent_syntax_grammar.specs.Construct.{Construct, Outcome, Read, goes_on, chosen, first, second}
 use Rattle.fluent_syntax_grammar.specs.Entries.{message_of, term_of}
 use Rattle.fluent_syntax_grammar.specs.Family.{Family}
 use Rattle.fluent_syntax_grammar.specs.Grammar.{family}
-use Rattle.fluent_syntax_grammar.specs.Places.{holds, has_byte}
+use Rattle.fluent_syntax_grammar.specs.Places.{has, holds, has_byte}
 use Rattle.fluent_syntax_grammar.specs.Tiling.{entry_at, entry_in, entry_of}
-use Rattle.fluent_syntax_grammar.proofs.Facts.{differs}
+use Rattle.fluent_syntax_grammar.proofs.Facts.{differs, excludes}
 use Rattle.fluent_syntax_grammar.proofs.Holds.{gave}
-use Rattle.fluent_syntax_parser.specs.Made.{Makes, made}
+use Rattle.fluent_syntax_parser.specs.Made.{Adds, made}
 use Rattle.fluent_syntax_parser.specs.Meets.{Fails}
 use Rattle.fluent_syntax_parser.specs.declared.fault.ReadFault.{ReadFault}
 use Rattle.fluent_syntax_parser.proofs.Fails.{fails_as}
 use Rattle.fluent_syntax_parser.proofs.Made.{on_made}
 
--- what was made of a construct, as of one with the same outcomes there
-pub makes_as : {A B X : Type 0} {t : List ℕ} (f : A → B) {c d : Construct A} (view : X → B) {i : ℕ} →
+-- what was added of a construct, as of one with the same outcomes there
+pub adds_as : {A B X : Type 0} {t : List ℕ} (f : A → B) {c d : Construct A} (view : X → B) {i : ℕ} →
     ((o : Outcome A) → c i o → d i o) → ((e : ReadFault) → Fails t c i e → Fails t d i e) →
-    (r : Result (X × ℕ) ReadFault) → Makes t f c view i r → Makes t f d view i r
-makes_as f view read fails (Ok x) h = on_made h (λ a there same. made (read _ there) same)
-makes_as f view read fails (Err e) h = fails e h
+    (old new : List X) (r : Result ℕ ReadFault) → Adds t f c view old new i r → Adds t f d view old new i r
+adds_as f view read fails old new (Ok j) (x, all, h) = (x, all, on_made h (λ a there same. made (read _ there) same))
+adds_as f view read fails old new (Err e) (h, all) = (fails e h, all)
 
 module _ (edition : Edition) (t : List ℕ) (R : Family) (i : ℕ) (o : Outcome (EntryTree Span)) where
   comment_of_byte : (here : Option ℕ) → holds (λ b. b == hash) here ≡ true → comment_entry t i o →
@@ -117,3 +118,22 @@ module _ (edition : Edition) (t : List ℕ) (content : List Span) (i j : ℕ) (e
 
   pub hash_hangs_not : has_byte t hash i ≡ true → entry_at edition t i (Read e j) → hung content e ≡ None
   hash_hangs_not there (chosen x) = hash_of_byte (slice_get t i) there x
+
+-- ---- a letter is the mark of no other entry than a message
+
+letter_no_hash : (b : ℕ) → is_letter b ≡ true → (b == hash) ≡ false
+letter_no_hash b letter = grind (arith, nat_tests)
+
+letter_no_hyphen : (b : ℕ) → is_letter b ≡ true → (b == hyphen) ≡ false
+letter_no_hyphen b letter = grind (arith, nat_tests)
+
+module _ (t : List ℕ) (i : ℕ) (letter : has t is_letter i ≡ true) where
+  no_hash : has_byte t hash i ≡ false
+  no_hash = excludes is_letter (λ b. b == hash) (slice_get t i) letter_no_hash letter
+
+  no_hyphen : has_byte t hyphen i ≡ false
+  no_hyphen = excludes is_letter (λ b. b == hyphen) (slice_get t i) letter_no_hyphen letter
+
+  pub message_at_letter : (edition : Edition) (R : Family) (o : Outcome (EntryTree Span)) →
+      message_of edition t R i o → entry_in edition t R i o
+  message_at_letter edition R o h = message_there edition t R i o no_hash no_hyphen h

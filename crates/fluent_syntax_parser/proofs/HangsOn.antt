@@ -3,7 +3,6 @@ use Rattle.std.proofs.Common.{◌≡◌, ℕ, ◌<◌, Bool, true, false, List, 
 use Rattle.std.proofs.Common.{subst}
 use Rattle.std.specs.Prelude.{◌==◌, if◌then◌else◌}
 use Rattle.fluent_syntax_tree.specs.Entry.{EntryTree, comment, regular}
-use Rattle.fluent_syntax_tree.specs.declared.ast.Entry.{Entry}
 use Rattle.fluent_syntax_tree.specs.declared.edition.Edition.{Edition}
 use Rattle.fluent_syntax_tree.specs.declared.spans.Span.{Span}
 use Rattle.fluent_syntax_grammar.specs.Body.{body, hung}
@@ -14,7 +13,7 @@ use Rattle.fluent_syntax_grammar.proofs.Facts.{equal, same_number}
 use Rattle.fluent_syntax_grammar.proofs.Functional.{single_block}
 use Rattle.fluent_syntax_grammar.proofs.FunctionalEntries.{functional_entry}
 use Rattle.fluent_syntax_parser.specs.Meets.{Refuses}
-use Rattle.fluent_syntax_parser.specs.Rest.{Hangs, tree_of}
+use Rattle.fluent_syntax_parser.specs.Rest.{Hangs}
 use Rattle.fluent_syntax_parser.specs.declared.fault.Refusal.{Refusal}
 
 if_none : {X : Type 0} (b : Bool) (o : Option X) → (b ≡ true → o ≡ None) → (if b then o else None) ≡ None
@@ -37,7 +36,7 @@ module _ (edition : Edition) (t : List ℕ) (content : List Span) (ptr : ℕ) wh
       none (subst (BlankBlock t ptr) here b) e end (subst (λ k. entry_at edition t k (Read e end)) here read))) refl
   by_itself none i tiles (next b l (refuses x end) m) = refl
 
-  pub hangs_not : (e : Entry Span) → tree_of e ≡ comment regular content → HangsNot → Hangs edition t content ptr e ptr
+  pub hangs_not : (e : EntryTree Span) → e ≡ comment regular content → HangsNot → Hangs edition t content ptr e ptr
   hangs_not e same none = λ i entries errors rest. (
     rest.tiles,
     rest.tiled,
@@ -46,13 +45,13 @@ module _ (edition : Edition) (t : List ℕ) (content : List Span) (ptr : ℕ) wh
     rest.tells,
   )
 
-  pub hangs_on : (e : EntryTree Span) (with_comment : Entry Span) (j : ℕ) → BlankBlock t ptr ptr → ptr < length t →
-      entry_at edition t ptr (Read e j) → hung content e ≡ Some (tree_of with_comment) →
+  pub hangs_on : (e with_comment : EntryTree Span) (j : ℕ) → BlankBlock t ptr ptr → ptr < length t →
+      entry_at edition t ptr (Read e j) → hung content e ≡ Some with_comment →
       Hangs edition t content ptr with_comment j
   hangs_on e with_comment j block inside read same = λ i entries errors rest. (
     entry (record { start = ptr; end = j }) e ∷ rest.tiles,
     next block inside (reads read) rest.tiled,
-    rw (same_number ptr, same) (ap (λ b. tree_of with_comment ∷ b) rest.gives),
+    rw (same_number ptr, same) (ap (λ b. with_comment ∷ b) rest.gives),
     rest.tells,
   )
 

@@ -13,6 +13,7 @@ pub mod ExtentRanges
 pub mod ErrorPlaces
 pub mod Fails
 pub mod FieldForms
+pub mod Flat
 pub mod GatheredArguments
 pub mod GatheredVariants
 pub mod Gathers
@@ -25,8 +26,9 @@ pub mod Layouts
 pub mod LineEndings
 pub mod LineEnds
 pub mod Made
+pub mod MadeEntries
 pub mod Names
-pub mod NextStarts
+pub mod OneLine
 pub mod PartsOfEntries
 pub mod PartsOfTiling
 pub mod Pieces
@@ -37,16 +39,6 @@ pub mod SameTrees
 pub mod Scans
 pub mod Selects
 pub mod Shapes
-pub mod ShortExamples
-pub mod ShortGrammar
-pub mod ShortLines
-pub mod ShortMessages
-pub mod ShortPatterns
-pub mod ShortPieces
-pub mod ShortReferences
-pub mod ShortStands
-pub mod ShortTrees
-pub mod ShortWhole
 pub mod Spelled
 pub mod Stars
 pub mod StringBytes

@@ -2,7 +2,6 @@
 use Rattle.std.proofs.Common.{◌≡◌, ℕ, ◌<◌, true, false, List, [], ◌∷◌, ◌++◌, length, map, Option, Some, None, refl, ◌∙◌}
 use Rattle.std.proofs.Common.{ap, subst}
 use Rattle.fluent_syntax_tree.specs.Entry.{BodyTree, EntryTree, message, term, comment, junk, regular, group, resource}
-use Rattle.fluent_syntax_tree.specs.declared.ast.Entry.{Entry}
 use Rattle.fluent_syntax_tree.specs.declared.edition.Edition.{Edition}
 use Rattle.fluent_syntax_tree.specs.declared.errors.ParserError.{ParserError}
 use Rattle.fluent_syntax_tree.specs.declared.spans.Span.{Span}
@@ -21,7 +20,7 @@ use Rattle.fluent_syntax_grammar.proofs.Runtime.{IsBareTile}
 use Rattle.fluent_syntax_grammar.proofs.IncludedEntries.{included_entry, tile_part}
 use Rattle.fluent_syntax_grammar.proofs.Nesting.{within_family}
 use Rattle.fluent_syntax_parser.specs.Rest.{Hangs, GivesTile, Rest, RestAt, Standing, TileIn, are_dropped, at_end}
-use Rattle.fluent_syntax_parser.specs.Rest.{at_tile, faults_of, may_hang, tree_of}
+use Rattle.fluent_syntax_parser.specs.Rest.{at_tile, faults_of, may_hang}
 use Rattle.fluent_syntax_parser.specs.declared.options.Comments.{Comments}
 use Rattle.fluent_syntax_parser.specs.declared.options.Comments.TheVariants.{Kept, Dropped}
 
@@ -103,16 +102,16 @@ module _ (edition : Edition) (t : List ℕ) (i j : ℕ) (inside : i < length t) 
     tells = rest.tells;
   }
 
-  module _ (comments : Comments) (none : are_dropped comments ≡ true → has_byte t hash i ≡ false) (e : Entry Span)
+  module _ (comments : Comments) (none : are_dropped comments ≡ true → has_byte t hash i ≡ false) (e : EntryTree Span)
       (error : Option ParserError) (n : ℕ) (tile : GivesTile edition t n i j e error) where
-    pub rest_tile : may_hang (tree_of e) ≡ false → (entries : BodyTree Span) (errors : List (Option Fault)) →
+    pub rest_tile : may_hang e ≡ false → (entries : BodyTree Span) (errors : List (Option Fault)) →
         Rest comments edition t j entries errors →
-        RestAt comments edition t i (tree_of e ∷ entries) (faults_of error ++ errors)
+        RestAt comments edition t i (e ∷ entries) (faults_of error ++ errors)
     rest_tile other entries errors rest = record {
       tiles = tile.tile ∷ rest.tiles;
       standing = at_tile inside (in_mode comments edition t (family edition t) i j tile.tile none
           (at_any_depth edition t n i j tile.tile tile.stands)) rest.tiled;
-      gives = body_then tile.tile rest.tiles (tree_of e) tile.entry other ∙ ap (λ b. tree_of e ∷ b) rest.gives;
+      gives = body_then tile.tile rest.tiles e tile.entry other ∙ ap (λ b. e ∷ b) rest.gives;
       tells = rw (faults_then tile.tile rest.tiles, tile.errors, rest.tells) refl;
     }
 
@@ -141,9 +140,9 @@ comment_tile edition t i j tile content (reads {e = e} read) same =
     ap (λ x. entry (record { start = i; end = j }) x) is_comment
 comment_tile edition t i j tile content (refuses read end) same = cc
 
-module _ (edition : Edition) (t : List ℕ) (n i j : ℕ) (inside : i < length t) (e : Entry Span)
+module _ (edition : Edition) (t : List ℕ) (n i j : ℕ) (inside : i < length t) (e : EntryTree Span)
     (error : Option ParserError) (tile : GivesTile edition t n i j e error) (content : List Span)
-    (same : tree_of e ≡ comment regular content) where
+    (same : e ≡ comment regular content) where
   stands_there : TileAt edition t i j tile.tile
   stands_there = at_any_depth edition t n i j tile.tile tile.stands
 
@@ -155,9 +154,9 @@ module _ (edition : Edition) (t : List ℕ) (n i j : ℕ) (inside : i < length t
   is_no_bare_comment none = subst IsBareTile is_comment (bare_tile_at edition t i j tile.tile none stands_there)
 
   pub rest_comment : (comments : Comments) → (are_dropped comments ≡ true → has_byte t hash i ≡ false) →
-      (with_comment : Entry Span) (k : ℕ) → Hangs edition t content j with_comment k →
+      (with_comment : EntryTree Span) (k : ℕ) → Hangs edition t content j with_comment k →
       (entries : BodyTree Span) (errors : List (Option Fault)) → Rest comments edition t k entries errors →
-      RestAt comments edition t i (tree_of with_comment ∷ entries) (faults_of error ++ errors)
+      RestAt comments edition t i (with_comment ∷ entries) (faults_of error ++ errors)
   rest_comment Kept none with_comment k after entries errors rest =
       let behind = after i entries errors rest in
       record {

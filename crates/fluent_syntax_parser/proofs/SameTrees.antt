@@ -1,8 +1,8 @@
 -- A tree whose texts are left as they are is the same tree.
 use Rattle.std.proofs.Common.{◌≡◌, List, [], ◌∷◌, map, Option, Some, None, option_map, refl, ap}
 use Rattle.std.proofs.lemmas.List.{map-id}
-use Rattle.fluent_syntax_tree.specs.Entry.{AttributeTree, EntryTree, attribute_map, comment, entry_map, junk, message}
-use Rattle.fluent_syntax_tree.specs.Entry.{term}
+use Rattle.fluent_syntax_tree.specs.Entry.{AttributeTree, BodyTree, EntryTree, attribute_map, body_map, comment}
+use Rattle.fluent_syntax_tree.specs.Entry.{entry_map, junk, message, term}
 use Rattle.fluent_syntax_tree.specs.Tree.{KeyTree, name_key, number_key, key_map, option_texts, ExpressionTree, select}
 use Rattle.fluent_syntax_tree.specs.Tree.{inline, InlineTree, string_literal, number_literal, function_reference}
 use Rattle.fluent_syntax_tree.specs.Tree.{message_reference, term_reference, variable_reference, inline_placeable}
@@ -87,3 +87,7 @@ same_entry (message m) = rw (same_maybe_pattern m.value, same_attributes m.attri
 same_entry (term m) = rw (same_pattern m.value, same_attributes m.attributes, same_comment m.comment) refl
 same_entry (comment level lines) = ap (comment level) (map-id lines)
 same_entry (junk x) = refl
+
+pub same_body : {X : Type 0} (b : BodyTree X) → body_map (λ x. x) b ≡ b
+same_body [] = refl
+same_body (e ∷ es) = rw (same_entry e, same_body es) refl

@@ -14,9 +14,8 @@ use Rattle.fluent_syntax_parser.specs.Layouts.{Piece, Line, Item, run, placed, t
 use Rattle.fluent_syntax_parser.specs.Layouts.{indented, items_from, line_items, opening_items, items_with, piece_map}
 use Rattle.fluent_syntax_parser.specs.Layouts.{line_map, layout_map, item_map}
 use Rattle.fluent_syntax_parser.specs.Lines.{line_shape, line_view, piece_shape, piece_view}
-use Rattle.fluent_syntax_parser.specs.declared.elements.Item as made
-use Rattle.fluent_syntax_parser.specs.declared.elements.Item.TheVariants as item
 use Rattle.fluent_syntax_parser.specs.declared.elements.Layout.{Layout}
+use Rattle.fluent_syntax_parser.proofs.Waiting.{as_item}
 use Rattle.fluent_syntax_parser.specs.declared.line.Line as rows
 use Rattle.fluent_syntax_parser.specs.declared.line.Piece as parts
 use Rattle.fluent_syntax_parser.specs.declared.line.Piece.TheVariants as part
@@ -85,14 +84,24 @@ module _ {E F : Type 0} (h : E → F) where
       rw (opening_mapped y.opening, lines_mapped edition common y.lines)
       (sym (map-append (item_map h) (opening_items y.opening) (flat_map (line_items edition common) y.lines)))
 
+-- ---- a piece as an item
+
+item_is : {S : Type 0} (p : parts.Piece S) → item_shape p ≡ as_item (piece_shape p)
+item_is (part.Run from to) = refl
+item_is (part.Placed e) = refl
+
+pub items_are : {S : Type 0} (ps : List (parts.Piece S)) → map item_shape ps ≡ map as_item (map piece_shape ps)
+items_are [] = refl
+items_are (p ∷ ps) = rw (item_is p, items_are ps) refl
+
 -- ---- what a reader has made, as its expressions are seen
 
 module _ {S X : Type 0} (v : S → X) where
-  item_seen : (x : made.Item S) → item_view v x ≡ item_map (expression_view v) (item_shape x)
-  item_seen (item.Text from to) = refl
-  item_seen (item.Filled e) = refl
+  item_seen : (x : parts.Piece S) → item_view v x ≡ item_map (expression_view v) (item_shape x)
+  item_seen (part.Run from to) = refl
+  item_seen (part.Placed e) = refl
 
-  items_seen : (xs : List (made.Item S)) →
+  items_seen : (xs : List (parts.Piece S)) →
       map (item_view v) xs ≡ map (item_map (expression_view v)) (map item_shape xs)
   items_seen [] = refl
   items_seen (x ∷ xs) = rw (item_seen x, items_seen xs) refl
@@ -123,7 +132,7 @@ module _ {S X : Type 0} (v : S → X) where
   layout_seen y = rw (opening_seen y.opening, lines_seen y.lines.items) refl
 
   -- the items of a layout
-  pub items_viewed : (edition : Edition) (common : Option ℕ) (y : Layout S) (all : List (made.Item S)) →
+  pub items_viewed : (edition : Edition) (common : Option ℕ) (y : Layout S) (all : List (parts.Piece S)) →
       map item_shape all ≡ items_with edition common (layout_shape y) →
       map (item_view v) all ≡ items_with edition common (layout_view v y)
   items_viewed edition common y all same =

@@ -15,7 +15,7 @@ use Rattle.fluent_syntax_grammar.specs.Layout.{least}
 use Rattle.fluent_syntax_parser.specs.Elements.{element_of, item_view, last_of, layout_view}
 use Rattle.fluent_syntax_parser.specs.Layouts as layouts
 use Rattle.fluent_syntax_parser.specs.Layouts.{text, filled, counted, cut, items_with, item_of, layout_of}
-use Rattle.fluent_syntax_parser.specs.declared.elements.Item.{Item}
+use Rattle.fluent_syntax_parser.specs.declared.line.Piece.{Piece}
 use Rattle.fluent_syntax_parser.specs.declared.elements.Layout.{Layout}
 use Rattle.fluent_syntax_parser.proofs.Layouts.{any_of, common_of, cut_of, items_of}
 
@@ -64,7 +64,7 @@ module _ {X : Type 0} (f : Span → X) (t : List ℕ) where
       any_of f (grammar.spelled t (grammar.cut t (grammar.items edition y)))
       ∙ ap if_any (spelled_of (grammar.cut t (grammar.items edition y)))
 
-  module _ {S : Type 0} (v : S → X) (edition : Edition) (laid : Layout S) (common : Option ℕ) (all : List (Item S))
+  module _ {S : Type 0} (v : S → X) (edition : Edition) (laid : Layout S) (common : Option ℕ) (all : List (Piece S))
       (indent : common ≡ least (flat_map (counted edition) (layout_view v laid).lines))
       (made : map (item_view v) all ≡ items_with edition common (layout_view v laid))
       (y : layout.Layout) (same : layout_view v laid ≡ layout_of f y) where
@@ -85,7 +85,7 @@ module _ {X : Type 0} (f : Span → X) (t : List ℕ) where
         let left = no_item_of f (grammar.cut t (grammar.items edition y)) (sym all_cut ∙ none) in
         ap (λ xs. option_map (pattern_map f) (if_any (grammar.spelled t xs))) (sym left)
 
-    pub some_spelled : (left : List (Item S)) (last : Item S) (pattern : Pattern S) →
+    pub some_spelled : (left : List (Piece S)) (last : Piece S) (pattern : Pattern S) →
         cut t (map (item_view v) all) ≡ map (item_view v) left ++ item_view v last ∷ [] →
         map (element_view v) pattern.elements.items
         ≡ map (element_of f) (map (item_view v) left) ++ last_of f t (item_view v last) ∷ [] →

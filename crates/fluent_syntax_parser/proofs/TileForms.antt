@@ -1,7 +1,6 @@
 -- What stands at a place: an entry, or junk with its error.
 use Rattle.std.proofs.Common.{◌≡◌, ℕ, ◌<◌, ◌≤◌, List, length, Some, None, refl, sym, subst, arith}
-use Rattle.fluent_syntax_tree.specs.declared.ast.Entry.{Entry}
-use Rattle.fluent_syntax_tree.specs.declared.ast.Entry.TheVariants.{Junk}
+use Rattle.fluent_syntax_tree.specs.Entry.{EntryTree, junk}
 use Rattle.fluent_syntax_tree.specs.declared.edition.Edition.{Edition}
 use Rattle.fluent_syntax_tree.specs.declared.errors.ParserError.{ParserError}
 use Rattle.fluent_syntax_tree.specs.declared.spans.Span.{Span}
@@ -15,7 +14,7 @@ use Rattle.fluent_syntax_grammar.proofs.IncludedEntries.{included_entry}
 use Rattle.fluent_syntax_grammar.proofs.Nesting.{within_family}
 use Rattle.fluent_syntax_parser.specs.Faults.{fault_of, refused_as}
 use Rattle.fluent_syntax_parser.specs.Meets.{Refuses, kind_at, from_of, to_of}
-use Rattle.fluent_syntax_parser.specs.Rest.{GivesTile, tree_of}
+use Rattle.fluent_syntax_parser.specs.Rest.{GivesTile}
 use Rattle.fluent_syntax_parser.specs.declared.fault.Fault.{Fault}
 use Rattle.fluent_syntax_parser.specs.declared.fault.Fault.TheVariants as fault
 use Rattle.fluent_syntax_parser.specs.declared.fault.Refusal.{Refusal}
@@ -32,7 +31,7 @@ module _ (edition : Edition) (t : List ℕ) (i j : ℕ) (inside : i < length t) 
       let ended = tile_good edition t (InText t) (text_cuts t) i j tile (omega (arith, inside)) inside stands in
       (ended.onward, ended.place)
 
-  pub gives_entry : (n : ℕ) (e : Entry Span) → entry_in edition t (within edition t n) i (Read (tree_of e) j) →
+  pub gives_entry : (n : ℕ) (e : EntryTree Span) → entry_in edition t (within edition t n) i (Read e j) →
       GivesTile edition t n i j e None
   gives_entry n e read = record { tile = _; stands = reads read; entry = refl; errors = refl }
 
@@ -47,7 +46,7 @@ module _ (edition : Edition) (t : List ℕ) (i j : ℕ) (inside : i < length t) 
 
     pub gives_junk : (error : ParserError) → JunkEnd t r.place j →
         fault_of error ≡ Some (refused_as t r (record { start = i; end = j })) →
-        GivesTile edition t n i j (Junk (record { start = i; end = j })) (Some error)
+        GivesTile edition t n i j (junk (record { start = i; end = j })) (Some error)
     gives_junk error end told =
         let there = subst (λ place. JunkEnd t place j) (sym (fails_there t r.fault r.place)) end in
         record {

@@ -13,28 +13,28 @@ use Rattle.fluent_syntax_grammar.specs.Layout as grammar
 use Rattle.fluent_syntax_parser.specs.Layouts as layouts
 use Rattle.fluent_syntax_parser.specs.Layouts.{cut}
 use Rattle.fluent_syntax_parser.specs.Lines.{line_shape, line_view}
-use Rattle.fluent_syntax_parser.specs.declared.elements.Item.{Item}
-use Rattle.fluent_syntax_parser.specs.declared.elements.Item.TheVariants as item
 use Rattle.fluent_syntax_parser.specs.declared.elements.Layout.{Layout}
+use Rattle.fluent_syntax_parser.specs.declared.line.Piece.{Piece}
+use Rattle.fluent_syntax_parser.specs.declared.line.Piece.TheVariants as piece
 
 module _ {S X : Type 0} (text : S → X) where
-  abbrev pub item_view : Item S → layouts.Item (ExpressionTree X)
-  item_view (item.Text from to) = layouts.text from to
-  item_view (item.Filled e) = layouts.filled (expression_view text e)
+  abbrev pub item_view : Piece S → layouts.Item (ExpressionTree X)
+  item_view (piece.Run from to) = layouts.text from to
+  item_view (piece.Placed e) = layouts.filled (expression_view text e)
 
   abbrev pub layout_view : Layout S → layouts.Layout (ExpressionTree X)
   layout_view y = record { opening = option_map (line_view text) y.opening; lines = map (line_view text) y.lines.items }
 
   -- The items are cut to those that are left and a last one; or none is left.
-  abbrev pub CutsTo : List ℕ → (all left : List (Item S)) → (last : Option (Item S)) → Type 0
+  abbrev pub CutsTo : List ℕ → (all left : List (Piece S)) → (last : Option (Piece S)) → Type 0
   CutsTo t all left None = cut t (map item_view all) ≡ []
   CutsTo t all left (Some last) = cut t (map item_view all) ≡ map item_view left ++ item_view last ∷ []
 
 -- with each placeable as it is
 module _ {S : Type 0} where
-  abbrev pub item_shape : Item S → layouts.Item (Expression S)
-  item_shape (item.Text from to) = layouts.text from to
-  item_shape (item.Filled e) = layouts.filled e
+  abbrev pub item_shape : Piece S → layouts.Item (Expression S)
+  item_shape (piece.Run from to) = layouts.text from to
+  item_shape (piece.Placed e) = layouts.filled e
 
   abbrev pub layout_shape : Layout S → layouts.Layout (Expression S)
   layout_shape y = record { opening = option_map line_shape y.opening; lines = map line_shape y.lines.items }

@@ -9,9 +9,9 @@ HaltsWithin nesting left halt = halt ≡ TooDeep → nesting < left
 
 -- Where nothing comes next from the place on, it nests no deeper there; and where something does, no deeper than behind
 -- that.
-abbrev pub ComesNext : {X Y : Type 0} → (deeper : ℕ → Type 0) → ℕ → Option (X × Y × ℕ) → Type 0
+abbrev pub ComesNext : (deeper : ℕ → Type 0) → ℕ → Option ℕ → Type 0
 ComesNext deeper i None = deeper i → ⊥
-ComesNext deeper i (Some read) = deeper i → deeper read.2
+ComesNext deeper i (Some end) = deeper i → deeper end
 
 -- The same of what is read from the one place to the other.
 abbrev pub ComesTo : {X : Type 0} → (deeper : ℕ → Type 0) → (i j : ℕ) → Option X → Type 0

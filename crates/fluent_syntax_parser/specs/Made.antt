@@ -1,13 +1,9 @@
 -- What a reader gives that makes texts: the value of its construct, with what the text of each span stands for in the
 -- span's place.
-use Rattle.std.specs.Prelude.{◌≡◌, ℕ, List, Some, Result, Ok, Err}
-use Rattle.fluent_syntax_tree.specs.Tree.{PatternTree, pattern_map}
-use Rattle.fluent_syntax_tree.specs.declared.edition.Edition.{Edition}
-use Rattle.fluent_syntax_tree.specs.declared.spans.Span.{Span}
+use Rattle.std.specs.Prelude.{◌≡◌, ℕ, List, [], ◌∷◌, ◌++◌, Result, Ok, Err}
 use Rattle.fluent_syntax_grammar.specs.Construct.{Construct, Read}
 use Rattle.fluent_syntax_parser.specs.declared.fault.ReadFault.{ReadFault}
 use Rattle.fluent_syntax_parser.specs.Meets.{Fails}
-use Rattle.fluent_syntax_parser.specs.ShortPatterns.{OpensAs}
 
 -- The construct at i spells a value and ends at j, and f of that value is this one.
 pub data IsMade {A B : Type 0} (f : A → B) (c : Construct A) (i : ℕ) (b : B) (j : ℕ) : Type 0 where
@@ -19,7 +15,8 @@ abbrev pub Makes : {A B X : Type 0} → List ℕ → (A → B) → Construct A �
 Makes t f c view i (Ok x) = IsMade f c i (view x.0) x.1
 Makes t f c view i (Err e) = Fails t c i e
 
--- The pattern that opens with an inline blank up to the place and ends at the other, with f of each text, is that one.
-abbrev pub OpensMade : {X : Type 0} → (Span → X) → Edition → List ℕ → (start : ℕ) → PatternTree X → (end : ℕ) → Type 0
-OpensMade f edition t start pattern end =
-    (p : PatternTree Span) × OpensAs edition t start (Some p) end × (pattern ≡ pattern_map f p)
+-- The same of a reader that adds what it read to a list, and answers where that ends. Where it fails, the list stays.
+abbrev pub Adds : {A B X : Type 0} → List ℕ → (A → B) → Construct A → (X → B) → (old new : List X) → ℕ →
+    Result ℕ ReadFault → Type 0
+Adds t f c view old new i (Ok j) = (x : _) × (new ≡ old ++ x ∷ []) × IsMade f c i (view x) j
+Adds t f c view old new i (Err e) = Fails t c i e × (new ≡ old)

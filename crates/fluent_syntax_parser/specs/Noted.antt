@@ -1,18 +1,8 @@
 -- The names of named arguments, as a table notes them.
-use Rattle.std.specs.Prelude.{◌≡◌, ◌<◌, ◌≤◌, ℕ, Bool, List, [], length}
-use Rattle.std.specs.List.{list_any}
-use Rattle.std.specs.Str.{bytes_eq}
-use Rattle.fluent_syntax_grammar.specs.Arguments.{is_used}
+use Rattle.std.specs.Prelude.{◌≡◌, ◌<◌, ◌≤◌, ℕ, List, [], length}
+use Rattle.fluent_syntax_grammar.specs.NameKeys.{NotesAll}
 
 module _ {K : Type 0} (text : K → List ℕ) where
-  -- whether one of the keys is the name
-  abbrev pub is_key : List K → List ℕ → Bool
-  is_key keys name = list_any (λ k. bytes_eq name (text k)) keys
-
-  -- the keys are these names
-  abbrev pub NotesAll : List K → List (List ℕ) → Type 0
-  NotesAll keys names = (name : List ℕ) → is_key keys name ≡ is_used name names
-
   -- of few names none is noted, and of many all are
   abbrev pub Notes : List K → List (List ℕ) → Type 0
-  Notes keys names = (length names < 32 → keys ≡ []) × (32 ≤ length names → NotesAll keys names)
+  Notes keys names = (length names < 32 → keys ≡ []) × (32 ≤ length names → NotesAll text keys names)

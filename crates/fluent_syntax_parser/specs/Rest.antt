@@ -25,7 +25,7 @@ faults_of None = []
 faults_of (Some error) = fault_of error ∷ []
 
 -- whether the entry is a comment of level 1
-abbrev pub may_hang : EntryTree Span → Bool
+abbrev pub may_hang : {X : Type 0} → EntryTree X → Bool
 may_hang (comment regular content) = true
 may_hang e = false
 
@@ -40,11 +40,11 @@ TileIn Kept edition t R = tiling.TileIn edition t R
 TileIn Dropped edition t R = RuntimeTileIn edition t R
 
 -- A tile that nests no deeper than n stands from i to j, and gives that entry and that error, if there is one.
-pub record GivesTile (edition : Edition) (t : List ℕ) (n i j : ℕ) (e : Entry Span) (error : Option ParserError) :
-    Type 0 where
+pub record GivesTile (edition : Edition) (t : List ℕ) (n i j : ℕ) (e : EntryTree Span)
+    (error : Option ParserError) : Type 0 where
   pub tile : Tile
   pub stands : tiling.TileIn edition t (within edition t n) i j tile
-  pub entry : alone tile ≡ tree_of e ∷ []
+  pub entry : alone tile ≡ e ∷ []
   pub errors : map Some (faults (tile ∷ [])) ≡ faults_of error
 
 -- From the place on, the tiles of the text have this body and these errors.
@@ -75,11 +75,11 @@ pub record RestAt (comments : Comments) (edition : Edition) (t : List ℕ) (i : 
 
 -- Behind a comment of level 1 that ends at the place there is that entry, with it or it itself, and the rest from the
 -- other place on.
-abbrev pub Hangs : Edition → List ℕ → List Span → ℕ → Entry Span → ℕ → Type 0
+abbrev pub Hangs : Edition → List ℕ → List Span → ℕ → EntryTree Span → ℕ → Type 0
 Hangs edition t content ptr e j =
     (i : ℕ) (entries : BodyTree Span) (errors : List (Option Fault)) → Rest Kept edition t j entries errors →
     (tiles : List Tile) × Tiled t (TileAt edition t) ptr tiles ×
-    (body (entry (record { start = i; end = ptr }) (comment regular content) ∷ tiles) ≡ tree_of e ∷ entries) ×
+    (body (entry (record { start = i; end = ptr }) (comment regular content) ∷ tiles) ≡ e ∷ entries) ×
     (map Some (faults tiles) ≡ errors)
 
 -- From the one place to the other stand that entry and those errors, before whatever the rest is.
@@ -88,13 +88,14 @@ EntryTo comments edition t i j e faults =
     (entries : BodyTree Span) (errors : List (Option Fault)) → Rest comments edition t j entries errors →
     Rest comments edition t i (e ∷ entries) (faults ++ errors)
 
--- What comes next from the place on: that entry, with its error if there is one, before whatever the rest is from the
--- other place on; or nothing, and nothing is left.
-abbrev pub Next : Comments → Edition → List ℕ → ℕ → Option (Entry Span × Option ParserError × ℕ) → Type 0
-Next comments edition t i None = Rest comments edition t i [] []
-Next comments edition t i (Some read) = EntryTo comments edition t i read.2 (tree_of read.0) (faults_of read.1)
-
--- The same of what is read from the one place to the other.
+-- What is read from the one place to the other: that entry, with its error if there is one, before whatever the rest is
+-- from there on; or nothing, and nothing is left.
 abbrev pub NextTo : Comments → Edition → List ℕ → (i j : ℕ) → Option (Entry Span × Option ParserError) → Type 0
 NextTo comments edition t i j None = Rest comments edition t i [] []
 NextTo comments edition t i j (Some read) = EntryTo comments edition t i j (tree_of read.0) (faults_of read.1)
+
+-- The same where only the error is given.
+abbrev pub NextError : Comments → Edition → List ℕ → (i j : ℕ) → Option (Option ParserError) → Type 0
+NextError comments edition t i j None = Rest comments edition t i [] []
+NextError comments edition t i j (Some error) =
+    (e : EntryTree Span) × EntryTo comments edition t i j e (faults_of error)

@@ -3,7 +3,8 @@ ghost use Rattle.std.specs.Prelude.{◌≡◌, ◌==◌, ◌++◌, ◌∷◌, []
 ghost use Rattle.fluent_syntax_tree.specs.Spans.{bytes_at};
 ghost use Rattle.fluent_syntax_grammar.specs.Arguments.{is_used};
 ghost use Rattle.fluent_syntax_parser.specs.Gathered.{names_in_order};
-ghost use Rattle.fluent_syntax_parser.specs.Noted.{Notes, NotesAll};
+ghost use Rattle.fluent_syntax_grammar.specs.NameKeys.{NotesAll};
+ghost use Rattle.fluent_syntax_parser.specs.Noted.{Notes};
 
 use crate::source::Source;
 use fluent_syntax_tree::spans::Span;

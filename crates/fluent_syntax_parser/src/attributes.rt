@@ -4,7 +4,7 @@ ghost use Rattle.fluent_syntax_tree.specs.Entry.{attribute_map};
 ghost use Rattle.fluent_syntax_tree.specs.View.{attribute_view};
 ghost use Rattle.fluent_syntax_grammar.specs.Entries.{attribute_of, attributes_of};
 ghost use Rattle.fluent_syntax_grammar.specs.Grammar.{within};
-ghost use Rattle.fluent_syntax_parser.specs.Made.{Makes};
+ghost use Rattle.fluent_syntax_parser.specs.Made.{Adds, Makes};
 
 use crate::fault::ReadFault;
 use crate::reader::Reader;
@@ -12,24 +12,29 @@ use crate::texts::MakeTexts;
 use fluent_syntax_tree::ast::Attribute;
 
 impl<'s, 't, M: MakeTexts> Reader<'s, 't, M> {
-    pub(crate) fn get_attribute(
+    /// Reads an attribute, and adds it.
+    fn add_attribute(
         &self,
+        attributes: &mut Vec<Attribute<M::Text>>,
         nesting: usize,
         ptr: usize,
-    ) -> Result<(Attribute<M::Text>, usize), ReadFault>
+    ) -> Result<usize, ReadFault>
         requires { ptr ≤ length self.now.source.bytes.now }
-        ensures meets { let t = self.now.source.bytes.now in
-            Makes t (attribute_map (M.source self.now.texts.now))
-            (attribute_of self.now.edition t (within self.now.edition t nesting)) (attribute_view M.made) ptr result }
-        ensures within { IfOk result (λ read. (ptr < read.1) × (read.1 ≤ length self.now.source.bytes.now)) }
+        ensures adds { let t = self.now.source.bytes.now in
+            Adds t (attribute_map (M.source self.now.texts.now))
+            (attribute_of self.now.edition t (within self.now.edition t nesting)) (attribute_view M.made)
+            attributes.old.items attributes.new.items ptr result }
+        ensures within { IfOk result (λ end. (ptr < end) × (end ≤ length self.now.source.bytes.now)) }
     {
         let (extents, value) = self.attribute_parts(nesting, ptr)?;
         let id = self.identifier(extents.name)?;
-        Ok((Attribute { id, value }, extents.span.end))
+        attributes.push(Attribute { id, value })?;
+        Ok(extents.span.end)
     }
 
     /// Reads the longest list of attributes. One that is refused ends it, where it would begin.
-    pub(crate) fn get_attributes(
+    #[inline(never)]
+    fn get_listed_attributes(
         &self,
         nesting: usize,
         ptr: usize,
@@ -44,15 +49,33 @@ impl<'s, 't, M: MakeTexts> Reader<'s, 't, M> {
         let mut attributes = Vec::new(self.alloc);
         let mut place = ptr;
         loop {
-            match self.get_attribute(nesting, place) {
-                Ok((attribute, next)) => {
-                    attributes.push(attribute)?;
-                    place = next;
-                }
+            match self.add_attribute(&mut attributes, nesting, place) {
+                Ok(next) => place = next,
                 Err(ReadFault::Refused(_)) => return Ok((attributes, place)),
                 Err(ReadFault::TooDeep) => return Err(ReadFault::TooDeep),
                 Err(ReadFault::Memory) => return Err(ReadFault::Memory),
             }
+        }
+    }
+
+    /// Reads the longest list of attributes: of most messages, none.
+    #[inline(always)]
+    pub(crate) fn get_attributes(
+        &self,
+        nesting: usize,
+        ptr: usize,
+    ) -> Result<(Vec<Attribute<M::Text>>, usize), ReadFault>
+        requires { ptr ≤ length self.now.source.bytes.now }
+        ensures meets { let t = self.now.source.bytes.now in
+            Makes t (map (attribute_map (M.source self.now.texts.now)))
+            (attributes_of self.now.edition t (within self.now.edition t nesting))
+            (λ found. map (attribute_view M.made) found.items) ptr result }
+        ensures within { IfOk result (λ read. (ptr ≤ read.1) × (read.1 ≤ length self.now.source.bytes.now)) }
+    {
+        let dot = self.source.skip_blank_inline(ptr);
+        match self.source.expect_byte(b'.', dot) {
+            Ok(_) => self.get_listed_attributes(nesting, ptr),
+            Err(_) => Ok((Vec::new(self.alloc), ptr)),
         }
     }
 }

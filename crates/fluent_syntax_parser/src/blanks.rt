@@ -56,6 +56,7 @@ impl<'s> Source<'s> {
         }
     }
 
+    #[inline(always)]
     pub(crate) fn skip_blank_block(&self, ptr: usize) -> usize
         requires { ptr ≤ length self.now.bytes.now }
         ensures blank { BlankBlock self.now.bytes.now ptr result }

@@ -4,7 +4,7 @@ ghost use Rattle.fluent_syntax_tree.specs.Entry.{comment, entry_map};
 ghost use Rattle.fluent_syntax_tree.specs.View.{entry_view};
 ghost use Rattle.fluent_syntax_grammar.specs.Comments.{comment_entry, comment_line, comment_of, hashes, level_of};
 ghost use Rattle.fluent_syntax_parser.specs.CommentLines.{line_of};
-ghost use Rattle.fluent_syntax_parser.specs.Made.{Makes};
+ghost use Rattle.fluent_syntax_parser.specs.Made.{Adds, Makes};
 ghost use Rattle.fluent_syntax_parser.specs.Meets.{Answers};
 
 use crate::fault::{ReadFault, Refusal};
@@ -58,14 +58,20 @@ impl<'s> Source<'s> {
 }
 
 impl<'s, 't, M: MakeTexts> Reader<'s, 't, M> {
-    /// Reads a comment: the longest run of comment lines of one level, which is the number of their leading `#`.
+    /// Reads a comment, and adds it: the longest run of comment lines of one level, which is the number of their
+    /// leading `#`.
     #[inline(never)]
-    pub(crate) fn get_comment(&self, ptr: usize) -> Result<(Entry<M::Text>, usize), ReadFault>
+    pub(crate) fn add_comment(
+        &self,
+        body: &mut Vec<Entry<M::Text>>,
+        ptr: usize,
+    ) -> Result<usize, ReadFault>
         requires within { ptr ≤ length self.now.source.bytes.now }
         requires hash { 0 < hashes self.now.source.bytes.now ptr }
-        ensures meets { let t = self.now.source.bytes.now in
-            Makes t (entry_map (M.source self.now.texts.now)) (comment_entry t) (entry_view M.made) ptr result }
-        ensures within { IfOk result (λ read. (ptr < read.1) × (read.1 ≤ length self.now.source.bytes.now)) }
+        ensures adds { let t = self.now.source.bytes.now in
+            Adds t (entry_map (M.source self.now.texts.now)) (comment_entry t) (entry_view M.made) body.old.items
+            body.new.items ptr result }
+        ensures within { IfOk result (λ end. (ptr < end) × (end ≤ length self.now.source.bytes.now)) }
     {
         let level = self.source.comment_level(ptr);
         let (content, end) = self.get_comment_content(level, ptr)?;
@@ -75,7 +81,8 @@ impl<'s, 't, M: MakeTexts> Reader<'s, 't, M> {
             2 => Entry::GroupComment(comment),
             _ => Entry::ResourceComment(comment),
         };
-        Ok((entry, end))
+        body.push(entry)?;
+        Ok(end)
     }
 
     /// Adds the text of a line, if there is one.

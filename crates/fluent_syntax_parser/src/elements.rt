@@ -1,22 +1,15 @@
 //! The items that the lines of a pattern spell.
-ghost use Rattle.std.specs.Prelude.{◌≡◌, ◌+◌, ◌<◌, ◌^◌, ◌++◌, [], map, IfOk, OnOk};
+ghost use Rattle.std.specs.Prelude.{◌≡◌, ◌+◌, ◌<◌, ◌^◌, ◌++◌, [], map, option_map, IfOk, OnOk};
+ghost use Rattle.std.specs.List.{flat_map};
 ghost use Rattle.fluent_syntax_parser.specs.Elements.{bare_items, flushed, indent_of, item_shape, kept_place};
 ghost use Rattle.fluent_syntax_parser.specs.Elements.{layout_shape, leading, waiting};
-ghost use Rattle.fluent_syntax_parser.specs.Layouts.{items_with, line_items, with_ending};
+ghost use Rattle.fluent_syntax_parser.specs.Layouts.{items_with, line_items, opening_items, with_ending};
 ghost use Rattle.fluent_syntax_parser.specs.Endings.{EndsWithin};
 ghost use Rattle.fluent_syntax_parser.specs.Lines.{ending_view, line_shape, piece_shape};
 
 use crate::line::{Ending, Line, Piece};
-use fluent_syntax_tree::ast::Expression;
 use fluent_syntax_tree::edition::Edition;
 use std::alloc::{AllocError, Global};
-
-/// An element before the tail is cut.
-#[derive(Drop)]
-pub(crate) enum Item<T> {
-    Text { from: usize, to: usize },
-    Filled { expression: Expression<T> },
-}
 
 /// The source of a pattern: the line on which it opens, if something stands there, and the later lines.
 #[derive(Drop)]
@@ -28,12 +21,12 @@ pub(crate) struct Layout<T> {
 /// Adds the run that waits, if one does.
 fn add_waiting<T: Drop>(
     pending: Option<(usize, usize)>,
-    items: &mut Vec<Item<T>>,
+    items: &mut Vec<Piece<T>>,
 ) -> Result<(), AllocError>
     ensures { OnOk result (map item_shape items.new.items ≡ flushed (map item_shape items.old.items) pending) }
 {
     match pending {
-        Some((from, to)) => items.push(Item::Text { from, to })?,
+        Some((from, to)) => items.push(Piece::Run { from, to })?,
         None => {}
     }
     Ok(())
@@ -43,33 +36,33 @@ fn add_waiting<T: Drop>(
 fn add_ending<T: Drop>(
     pending: Option<(usize, usize)>,
     ending: Ending,
-    items: &mut Vec<Item<T>>,
+    items: &mut Vec<Piece<T>>,
 ) -> Result<(), AllocError>
     requires { EndsWithin ending }
     ensures { OnOk result (map item_shape items.new.items
         ≡ map item_shape items.old.items ++ with_ending (waiting pending []) (ending_view ending)) }
 {
     match (pending, ending) {
-        (Some((from, _)), Ending::Lf(place)) => items.push(Item::Text {
+        (Some((from, _)), Ending::Lf(place)) => items.push(Piece::Run {
             from,
             to: place + 1,
         })?,
-        (None, Ending::Lf(place)) => items.push(Item::Text {
+        (None, Ending::Lf(place)) => items.push(Piece::Run {
             from: place,
             to: place + 1,
         })?,
         (Some((from, to)), Ending::Crlf(place)) => {
-            items.push(Item::Text { from, to })?;
-            items.push(Item::Text {
+            items.push(Piece::Run { from, to })?;
+            items.push(Piece::Run {
                 from: place + 1,
                 to: place + 2,
             })?;
         }
-        (None, Ending::Crlf(place)) => items.push(Item::Text {
+        (None, Ending::Crlf(place)) => items.push(Piece::Run {
             from: place + 1,
             to: place + 2,
         })?,
-        (Some((from, to)), Ending::TextEnd) => items.push(Item::Text { from, to })?,
+        (Some((from, to)), Ending::TextEnd) => items.push(Piece::Run { from, to })?,
         (None, Ending::TextEnd) => {}
     }
     Ok(())
@@ -80,7 +73,7 @@ fn add_pieces<T: Drop>(
     led: Option<usize>,
     pieces: Vec<Piece<T>>,
     ending: Ending,
-    items: &mut Vec<Item<T>>,
+    items: &mut Vec<Piece<T>>,
 ) -> Result<(), AllocError>
     requires { EndsWithin ending }
     ensures { let found = leading led (map piece_shape pieces.items) in
@@ -94,7 +87,7 @@ fn add_pieces<T: Drop>(
         pending = match piece {
             Piece::Run { from, to } => Some((led.unwrap_or(from), to)),
             Piece::Placed { expression } => {
-                items.push(Item::Filled { expression })?;
+                items.push(Piece::Placed { expression })?;
                 None
             }
         };
@@ -143,18 +136,18 @@ fn indent_of<T: Drop>(
 fn add_bare_line<T: Drop>(
     kept: usize,
     ending: Ending,
-    items: &mut Vec<Item<T>>,
+    items: &mut Vec<Piece<T>>,
 ) -> Result<(), AllocError>
     requires { EndsWithin ending }
     ensures { OnOk result (map item_shape items.new.items
         ≡ map item_shape items.old.items ++ bare_items kept (ending_view ending)) }
 {
     match ending {
-        Ending::Lf(place) => items.push(Item::Text {
+        Ending::Lf(place) => items.push(Piece::Run {
             from: kept,
             to: place + 1,
         })?,
-        Ending::Crlf(place) => items.push(Item::Text {
+        Ending::Crlf(place) => items.push(Piece::Run {
             from: place + 1,
             to: place + 2,
         })?,
@@ -168,7 +161,7 @@ fn add_line<T: Drop>(
     edition: Edition,
     common: Option<usize>,
     line: Line<T>,
-    items: &mut Vec<Item<T>>,
+    items: &mut Vec<Piece<T>>,
 ) -> Result<(), AllocError>
     requires spaces { line.start + line.spaces < 2 ^ 64 }
     requires ending { EndsWithin line.ending }
@@ -190,22 +183,70 @@ fn add_line<T: Drop>(
     add_pieces(Some(kept), pieces, ending, items)
 }
 
+/// Ends the line on which a pattern opens: its pieces are items then. An LF belongs to the text before it.
+fn end_opening<T: Drop>(ending: Ending, pieces: &mut Vec<Piece<T>>) -> Result<(), AllocError>
+    requires { EndsWithin ending }
+    ensures { OnOk result (map item_shape pieces.new.items
+        ≡ with_ending (map piece_shape pieces.old.items) (ending_view ending)) }
+{
+    match pieces.pop() {
+        Some(Piece::Run { from, to }) => add_ending(Some((from, to)), ending, pieces),
+        Some(Piece::Placed { expression }) => {
+            pieces.push(Piece::Placed { expression })?;
+            add_ending(None, ending, pieces)
+        }
+        None => add_ending(None, ending, pieces),
+    }
+}
+
+/// The items of the line on which a pattern opens, if something stands there.
+fn opening_items<T: Drop>(
+    alloc: Global,
+    opening: Option<Line<T>>,
+) -> Result<Vec<Piece<T>>, AllocError>
+    ensures { IfOk result (λ items. map item_shape items.items ≡ opening_items (option_map line_shape opening)) }
+{
+    match opening {
+        None => Ok(Vec::new(alloc)),
+        Some(line) => {
+            let mut items = line.pieces;
+            end_opening(line.ending, &mut items)?;
+            Ok(items)
+        }
+    }
+}
+
+/// Adds the items of the other lines, under a common indent.
+#[inline(never)]
+fn add_lines<T: Drop>(
+    edition: Edition,
+    common: Option<usize>,
+    lines: Vec<Line<T>>,
+    items: &mut Vec<Piece<T>>,
+) -> Result<(), AllocError>
+    ensures { OnOk result (map item_shape items.new.items ≡ map item_shape items.old.items
+        ++ flat_map (line_items edition common) (map line_shape lines.items)) }
+{
+    for line in lines {
+        add_line(edition, common, line, items)?;
+    }
+    Ok(())
+}
+
 /// The items of all lines, under a common indent.
 pub(crate) fn items_of<T: Drop>(
     alloc: Global,
     edition: Edition,
     common: Option<usize>,
     layout: Layout<T>,
-) -> Result<Vec<Item<T>>, AllocError>
+) -> Result<Vec<Piece<T>>, AllocError>
     ensures { IfOk result (λ items. map item_shape items.items ≡ items_with edition common (layout_shape layout)) }
 {
     let Layout { opening, lines } = layout;
-    let mut items = Vec::new(alloc);
-    if let Some(line) = opening {
-        add_pieces(None, line.pieces, line.ending, &mut items)?;
+    let mut items = opening_items(alloc, opening)?;
+    if lines.is_empty() {
+        return Ok(items);
     }
-    for line in lines {
-        add_line(edition, common, line, &mut items)?;
-    }
+    add_lines(edition, common, lines, &mut items)?;
     Ok(items)
 }

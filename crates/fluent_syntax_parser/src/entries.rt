@@ -1,20 +1,20 @@
 //! Entries one by one.
-ghost use Rattle.std.specs.Prelude.{◌≡◌, ◌-◌, ◌<◌, ◌≤◌, [], ℕ, length, IfErr, IfNone, IfOk, IfSome, IsSomeAnd};
-ghost use Rattle.std.specs.Prelude.{None, Ok, OnErr};
+ghost use Rattle.std.specs.Prelude.{◌≡◌, ◌-◌, ◌^◌, ◌<◌, ◌≤◌, length, IfErr, IfOk, IfSome, None, Ok, OnErr};
 ghost use Rattle.fluent_syntax_grammar.specs.Nesting.{TextDeeper};
 ghost use Rattle.fluent_syntax_grammar.specs.Places.{BlankBlock};
 ghost use Rattle.fluent_syntax_parser.specs.Halts.{ComesTo, HaltsWithin, OnHalt};
-ghost use Rattle.fluent_syntax_parser.specs.Rest.{EntryTo, NextTo, TileIn};
-ghost use Rattle.fluent_syntax_parser.specs.ShortGrammar.{NextStart, ShortMessage};
-ghost use Rattle.fluent_syntax_parser.specs.ShortMessages.{short_message};
+ghost use Rattle.fluent_syntax_parser.specs.MadeEntries.{NextMade};
+ghost use Rattle.fluent_syntax_parser.specs.Rest.{NextError, NextTo, TileIn};
 
 use crate::options::{Halt, Options};
-use crate::short::ShortPart;
+use crate::reader::Reader;
 use crate::source::Source;
+use crate::texts::{AsSpans, MakeTexts};
+use crate::tile::only_item;
 use fluent_syntax_tree::ast::Entry;
 use fluent_syntax_tree::errors::ParserError;
 use fluent_syntax_tree::spans::Span;
-use std::alloc::{AllocError, Global};
+use std::alloc::Global;
 
 /// The entries of a text from a place on, read one by one, with a span of the text in place of each text.
 #[derive(Clone, Copy)]
@@ -23,6 +23,7 @@ pub struct Entries<'s> {
     options: Options,
     ptr: usize,
     ghost within: { ptr ≤ length source.bytes.now },
+    ghost small: { length source.bytes.now < 2 ^ 63 },
 }
 
 impl<'s> Entries<'s> {
@@ -66,48 +67,90 @@ impl<'s> Entries<'s> {
             let at = TileIn options.comments options.edition t in
             IfOk result (ComesTo (TextDeeper options.edition t at options.nesting) self.old.ptr self.new.ptr) }
     {
-        match self.source.next_entry(alloc, self.options, self.ptr)? {
-            Some((entry, error, end)) => {
-                self.ptr = end;
-                Ok(Some((entry, error)))
-            }
-            None => Ok(None),
-        }
+        self.next_entry_with(alloc, &AsSpans)
     }
 
-    /// Reads the next entry, if it is a message that no comment hangs on and whose patterns are each one line of texts
-    /// and plain references, the line of the `=`: its name, with its parts in the list in place of what that held. So
-    /// `a =` with its text on the next line is none. `None` where it is another entry or none is left, and where the
-    /// options allow no nesting; `AllocError` where there is no memory for the list. After both it stands where it
-    /// stood, and what the list holds means nothing.
-    pub fn next_short(&mut self, parts: &mut Vec<ShortPart>) -> Result<Option<Span>, AllocError>
+    /// Reads the next entry as `next_entry` does, with the text that is made of each span in the span's place.
+    pub fn next_entry_with<M: MakeTexts>(
+        &mut self,
+        alloc: Global,
+        texts: &M,
+    ) -> Result<Option<(Entry<M::Text>, Option<ParserError>)>, Halt>
+        ensures text { self.new.source ≡ self.old.source }
+        ensures options { self.new.options ≡ self.old.options }
+        ensures next { let t = self.old.source.bytes.now in let options = self.old.options in IfOk result
+            (NextMade (M.source texts.now) M.made options.comments options.edition t self.old.ptr self.new.ptr) }
+        ensures forward { self.old.ptr ≤ self.new.ptr }
+        ensures onward { IfOk result (λ found. IfSome found (λ read. self.old.ptr < self.new.ptr)) }
+        ensures blank { let t = self.old.source.bytes.now in
+            BlankBlock t self.old.ptr (length t) → result ≡ Ok None }
+        ensures stays { OnErr result (self.new.ptr ≡ self.old.ptr) }
+        ensures nests { let left = length self.old.source.bytes.now - self.old.ptr in
+            IfErr result (HaltsWithin self.old.options.nesting left) }
+        ensures deeper { let t = self.old.source.bytes.now in let options = self.old.options in
+            let at = TileIn options.comments options.edition t in
+            IfErr result (OnHalt (TextDeeper options.edition t at options.nesting self.old.ptr)) }
+        ensures shallow { let t = self.old.source.bytes.now in let options = self.old.options in
+            let at = TileIn options.comments options.edition t in
+            IfOk result (ComesTo (TextDeeper options.edition t at options.nesting) self.old.ptr self.new.ptr) }
+    {
+        let Options {
+            edition,
+            comments,
+            nesting,
+        } = self.options;
+        let reader = Reader {
+            source: self.source,
+            alloc,
+            edition,
+            texts,
+        };
+        let mut body = Vec::new(alloc);
+        let mut errors = Vec::new(alloc);
+        let Some(end) = reader.add_next(&mut body, &mut errors, comments, nesting, self.ptr)? else {
+            return Ok(None);
+        };
+        self.ptr = end;
+        let Some(entry) = only_item(body) else {
+            return Ok(None);
+        };
+        Ok(Some((entry, only_item(errors))))
+    }
+
+    /// Passes over the next entry, as `next_entry` would read it: gives its error, where it is junk. `None` where no
+    /// entry is left.
+    ///
+    /// A message whose patterns are each one text on its line takes no memory. After a `Halt` it stands where it stood.
+    pub fn next_error(&mut self, alloc: Global) -> Result<Option<Option<ParserError>>, Halt>
         ensures text { self.new.source ≡ self.old.source }
         ensures options { self.new.options ≡ self.old.options }
         ensures next { let t = self.old.source.bytes.now in let options = self.old.options in
-            IfOk result (λ found. IfSome found (λ name. EntryTo options.comments options.edition t self.old.ptr
-            self.new.ptr (short_message (λ s. s) name parts.new.items) [])) }
-        ensures short { let t = self.old.source.bytes.now in let options = self.old.options in
-            IfOk result (λ found. IfSome found (λ name. (start : ℕ) ×
-            NextStart options.comments t self.old.ptr start × ShortMessage options.edition t start self.new.ptr)) }
-        ensures stands { let t = self.old.source.bytes.now in let options = self.old.options in
-            IfOk result (λ found. 0 < options.nesting → (start end : ℕ) →
-            NextStart options.comments t self.old.ptr start → ShortMessage options.edition t start end →
-            IsSomeAnd found (λ name. self.new.ptr ≡ end)) }
-        ensures onward { IfOk result (λ found. IfSome found (λ name. self.old.ptr < self.new.ptr)) }
+            IfOk result (NextError options.comments options.edition t self.old.ptr self.new.ptr) }
+        ensures forward { self.old.ptr ≤ self.new.ptr }
+        ensures onward { IfOk result (λ found. IfSome found (λ error. self.old.ptr < self.new.ptr)) }
         ensures blank { let t = self.old.source.bytes.now in
             BlankBlock t self.old.ptr (length t) → result ≡ Ok None }
-        ensures none { IfOk result (λ found. IfNone found (self.new.ptr ≡ self.old.ptr)) }
         ensures stays { OnErr result (self.new.ptr ≡ self.old.ptr) }
+        ensures nests { let left = length self.old.source.bytes.now - self.old.ptr in
+            IfErr result (HaltsWithin self.old.options.nesting left) }
         ensures deeper { let t = self.old.source.bytes.now in let options = self.old.options in
             let at = TileIn options.comments options.edition t in
-            let deeper = TextDeeper options.edition t at options.nesting in
-            (deeper self.old.ptr → deeper self.new.ptr) × (deeper self.new.ptr → deeper self.old.ptr) }
+            IfErr result (OnHalt (TextDeeper options.edition t at options.nesting self.old.ptr)) }
+        ensures shallow { let t = self.old.source.bytes.now in let options = self.old.options in
+            let at = TileIn options.comments options.edition t in
+            IfOk result (ComesTo (TextDeeper options.edition t at options.nesting) self.old.ptr self.new.ptr) }
     {
-        match self.source.next_short(self.options, parts, self.ptr)? {
-            Some((name, place)) => {
-                self.ptr = place;
-                Ok(Some(name))
-            }
+        let Options {
+            edition,
+            comments,
+            ..
+        } = self.options;
+        if let Some(behind) = self.source.next_text_message(edition, comments, self.ptr) {
+            self.ptr = behind;
+            return Ok(Some(None));
+        }
+        match self.next_entry(alloc)? {
+            Some((_entry, error)) => Ok(Some(error)),
             None => Ok(None),
         }
     }

@@ -2,10 +2,8 @@
 //!
 //! Each is a small value that copies: what an error tells of the text is kept as a place of it, and its texts are
 //! made once, where the error is reported.
-ghost use Rattle.std.specs.Prelude.{◌≡◌, ◌≢◌, ◌++◌, [], map, Ok, Err, OnOk};
+ghost use Rattle.std.specs.Prelude.{◌≡◌, ◌≢◌, [], Ok, Err};
 ghost use Rattle.fluent_syntax_parser.specs.declared.fault.ParseFault.TheVariants.{Syntax};
-ghost use Rattle.fluent_syntax_parser.specs.Faults.{fault_of};
-ghost use Rattle.fluent_syntax_parser.specs.Rest.{faults_of};
 
 use fluent_syntax_tree::ast::{Entry, Resource};
 use fluent_syntax_tree::errors::ParserError;
@@ -125,17 +123,4 @@ pub fn answer_of<S>(
     } else {
         Err(ParseFault::Syntax(resource, errors))
     }
-}
-
-/// Adds an error, if there is one. `AllocError` where a growth was refused.
-pub fn add_error(
-    errors: &mut Vec<ParserError>,
-    error: Option<ParserError>,
-) -> Result<(), AllocError>
-    ensures { OnOk result (map fault_of errors.new.items ≡ map fault_of errors.old.items ++ faults_of error) }
-{
-    if let Some(error) = error {
-        errors.push(error)?;
-    }
-    Ok(())
 }

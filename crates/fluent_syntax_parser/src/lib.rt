@@ -28,15 +28,12 @@ pub mod options;
 mod pattern;
 mod reader;
 mod references;
-pub mod short;
-mod short_lines;
-mod short_references;
-mod short_trees;
 mod source;
 mod spans;
 mod starts;
 mod strings;
 mod tails;
+mod text_messages;
 pub mod texts;
 mod tile;
 pub mod tiles;
@@ -45,5 +42,5 @@ mod words;
 
 pub use spans::{
     parse_runtime_spans, parse_runtime_spans_edition, parse_runtime_spans_within, parse_spans,
-    parse_spans_edition, parse_spans_within,
+    parse_spans_edition, parse_spans_within, parse_texts,
 };

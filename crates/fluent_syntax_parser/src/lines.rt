@@ -58,6 +58,7 @@ impl<'s> Source<'s> {
     }
 
     /// Where the run ends that begins at a place: at LF, CRLF, a brace or the text's end.
+    #[inline(always)]
     pub(crate) fn run_end(&self, ptr: usize) -> usize
         requires { ptr ≤ length self.now.bytes.now }
         ensures run { Stretch (is_run_place self.now.bytes.now) ptr result }

@@ -1,16 +1,16 @@
 //! Messages and terms.
 ghost use Rattle.std.specs.Prelude.{◌<◌, ◌≤◌, length, IfOk};
-ghost use Rattle.fluent_syntax_tree.specs.Entry.{entry_map, message, term};
-ghost use Rattle.fluent_syntax_tree.specs.View.{message_view, term_view};
+ghost use Rattle.fluent_syntax_tree.specs.Entry.{entry_map};
+ghost use Rattle.fluent_syntax_tree.specs.View.{entry_view};
 ghost use Rattle.fluent_syntax_grammar.specs.Entries.{message_of, term_of};
 ghost use Rattle.fluent_syntax_grammar.specs.Grammar.{within};
 ghost use Rattle.fluent_syntax_parser.specs.Fields.{fields, fields_map, fields_view};
-ghost use Rattle.fluent_syntax_parser.specs.Made.{Makes};
+ghost use Rattle.fluent_syntax_parser.specs.Made.{Adds, Makes};
 
 use crate::fault::{Fault, ReadFault, Refusal};
 use crate::reader::Reader;
 use crate::texts::MakeTexts;
-use fluent_syntax_tree::ast::{Attribute, Message, Pattern, Term};
+use fluent_syntax_tree::ast::{Attribute, Entry, Message, Pattern, Term};
 use fluent_syntax_tree::spans::Span;
 
 /// What stands behind the name of a message or a term.
@@ -22,6 +22,7 @@ pub(crate) struct Fields<T> {
 
 impl<'s, 't, M: MakeTexts> Reader<'s, 't, M> {
     /// Reads an inline blank, `=`, perhaps a pattern, a blank block and attributes.
+    #[inline(always)]
     fn get_fields(&self, nesting: usize, ptr: usize) -> Result<(Fields<M::Text>, usize), ReadFault>
         requires { ptr ≤ length self.now.source.bytes.now }
         ensures meets { let t = self.now.source.bytes.now in
@@ -37,17 +38,19 @@ impl<'s, 't, M: MakeTexts> Reader<'s, 't, M> {
         Ok((Fields { value, attributes }, place))
     }
 
-    pub(crate) fn get_message(
+    #[inline(always)]
+    pub(crate) fn add_message(
         &self,
+        body: &mut Vec<Entry<M::Text>>,
         nesting: usize,
         start: usize,
-    ) -> Result<(Message<M::Text>, usize), ReadFault>
+    ) -> Result<usize, ReadFault>
         requires { start ≤ length self.now.source.bytes.now }
-        ensures meets { let t = self.now.source.bytes.now in
-            Makes t (entry_map (M.source self.now.texts.now))
-            (message_of self.now.edition t (within self.now.edition t nesting))
-            (λ m. message (message_view M.made m)) start result }
-        ensures within { IfOk result (λ read. (start < read.1) × (read.1 ≤ length self.now.source.bytes.now)) }
+        ensures adds { let t = self.now.source.bytes.now in
+            Adds t (entry_map (M.source self.now.texts.now))
+            (message_of self.now.edition t (within self.now.edition t nesting)) (entry_view M.made) body.old.items
+            body.new.items start result }
+        ensures within { IfOk result (λ end. (start < end) × (end ≤ length self.now.source.bytes.now)) }
     {
         let end = self.source.identifier_end(start)?;
         let name = Span { start, end };
@@ -60,27 +63,28 @@ impl<'s, 't, M: MakeTexts> Reader<'s, 't, M> {
             }));
         }
         let id = self.identifier(name)?;
-        let message = Message {
+        body.push(Entry::Message(Message {
             id,
             value,
             attributes,
             comment: None,
-        };
-        Ok((message, place))
+        }))?;
+        Ok(place)
     }
 
     #[inline(never)]
-    pub(crate) fn get_term(
+    pub(crate) fn add_term(
         &self,
+        body: &mut Vec<Entry<M::Text>>,
         nesting: usize,
         start: usize,
-    ) -> Result<(Term<M::Text>, usize), ReadFault>
+    ) -> Result<usize, ReadFault>
         requires { start ≤ length self.now.source.bytes.now }
-        ensures meets { let t = self.now.source.bytes.now in
-            Makes t (entry_map (M.source self.now.texts.now))
-            (term_of self.now.edition t (within self.now.edition t nesting)) (λ m. term (term_view M.made m)) start
-            result }
-        ensures within { IfOk result (λ read. (start < read.1) × (read.1 ≤ length self.now.source.bytes.now)) }
+        ensures adds { let t = self.now.source.bytes.now in
+            Adds t (entry_map (M.source self.now.texts.now))
+            (term_of self.now.edition t (within self.now.edition t nesting)) (entry_view M.made) body.old.items
+            body.new.items start result }
+        ensures within { IfOk result (λ end. (start < end) × (end ≤ length self.now.source.bytes.now)) }
     {
         let letter = self.source.expect_byte(b'-', start)?;
         let end = self.source.identifier_end(letter)?;
@@ -90,13 +94,13 @@ impl<'s, 't, M: MakeTexts> Reader<'s, 't, M> {
         match value {
             Some(value) => {
                 let id = self.identifier(name)?;
-                let term = Term {
+                body.push(Entry::Term(Term {
                     id,
                     value,
                     attributes,
                     comment: None,
-                };
-                Ok((term, place))
+                }))?;
+                Ok(place)
             }
             None => Err(ReadFault::Refused(Refusal {
                 fault: Fault::TermField { start, name },

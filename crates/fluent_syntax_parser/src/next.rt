@@ -1,25 +1,25 @@
 //! The next entry of a text.
 ghost use Rattle.std.specs.Prelude.{◌≡◌, ◌-◌, ◌<◌, ◌≤◌, [], length, IfErr, IfOk, IfSome, None, Ok, false, true, ℕ};
-ghost use Rattle.std.specs.Prelude.{List, Option, IsSomeAnd};
-ghost use Rattle.fluent_syntax_tree.specs.Entry.{BodyTree};
+ghost use Rattle.std.specs.Prelude.{List, Option};
+ghost use Rattle.fluent_syntax_tree.specs.Entry.{BodyTree, EntryTree};
 ghost use Rattle.fluent_syntax_tree.specs.declared.edition.Edition.{Edition};
 ghost use Rattle.fluent_syntax_grammar.specs.Bytes.{hash};
 ghost use Rattle.fluent_syntax_grammar.specs.Nesting.{TextDeeper};
 ghost use Rattle.fluent_syntax_grammar.specs.Places.{BlankBlock, has_byte};
 ghost use Rattle.fluent_syntax_grammar.specs.Tiling.{Fault};
 ghost use Rattle.fluent_syntax_parser.specs.Halts.{ComesNext, HaltsWithin, OnHalt};
-ghost use Rattle.fluent_syntax_parser.specs.Rest.{EntryTo, Next, Rest, RestAt, TileDeeper, TileIn, are_dropped};
-ghost use Rattle.fluent_syntax_parser.specs.ShortGrammar.{NextStart, ShortMessage};
-ghost use Rattle.fluent_syntax_parser.specs.ShortMessages.{short_message};
+ghost use Rattle.fluent_syntax_parser.specs.MadeEntries.{AddsNext};
+ghost use Rattle.fluent_syntax_parser.specs.Rest.{EntryTo, Rest, RestAt, TileDeeper, TileIn, are_dropped};
 
-use crate::options::{Comments, Halt, Options};
-use crate::short::ShortPart;
+use crate::options::{Comments, Halt};
+use crate::reader::Reader;
 use crate::source::Source;
-use crate::tile::as_comment;
+use crate::texts::MakeTexts;
+use crate::tile::ends_with_comment;
 use fluent_syntax_tree::ast::Entry;
+use fluent_syntax_tree::edition::Edition;
 use fluent_syntax_tree::errors::ParserError;
 use fluent_syntax_tree::spans::Span;
-use std::alloc::{AllocError, Global};
 
 impl Comments {
     fn are_dropped(self) -> bool
@@ -45,10 +45,8 @@ impl<'s> Source<'s> {
         ensures shallow { (edition : Edition) (n : ℕ) →
             let t = self.now.bytes.now in let at = TileIn comments edition t in
             TextDeeper edition t at n ptr → TileDeeper edition t at n result }
-        ensures next { NextStart comments self.now.bytes.now ptr result }
         ensures dropped { are_dropped comments ≡ true → has_byte self.now.bytes.now hash result ≡ false }
         ensures blank { let t = self.now.bytes.now in BlankBlock t ptr (length t) → result ≡ length t }
-        ensures starts { (start : ℕ) → NextStart comments self.now.bytes.now ptr start → result ≡ start }
         ensures within { (ptr ≤ result) × (result ≤ length self.now.bytes.now) }
     {
         let mut start = self.skip_blank_block(ptr);
@@ -58,80 +56,69 @@ impl<'s> Source<'s> {
         start
     }
 
-    /// Reads the next entry from a place on, if it is a message that no comment hangs on and whose patterns are each
-    /// one line of texts and plain references, the line of the `=`, with its parts in the list: its name, and where it
-    /// ends. `None` too where no placeable may stand.
-    pub(crate) fn next_short(
+    /// Where the next entry ends from a place on, if it is a message on which no comment hangs and whose patterns are
+    /// each one text on its line. `None` where another stands next, or none.
+    pub(crate) fn next_text_message(
         &self,
-        options: Options,
-        parts: &mut Vec<ShortPart>,
+        edition: Edition,
+        comments: Comments,
         ptr: usize,
-    ) -> Result<Option<(Span, usize)>, AllocError>
+    ) -> Option<usize>
         requires { ptr ≤ length self.now.bytes.now }
-        ensures next { let t = self.now.bytes.now in IfOk result (λ found. IfSome found (λ read.
-            EntryTo options.comments options.edition t ptr read.1 (short_message (λ s. s) read.0 parts.new.items) [])) }
-        ensures blank { let t = self.now.bytes.now in BlankBlock t ptr (length t) → result ≡ Ok None }
-        ensures within { IfOk result (λ found. IfSome found
-            (λ read. (ptr < read.1) × (read.1 ≤ length self.now.bytes.now))) }
-        ensures behind { let t = self.now.bytes.now in let at = TileIn options.comments options.edition t in
-            let deeper = TextDeeper options.edition t at options.nesting in
-            IfOk result (λ found. IfSome found (λ read. deeper read.1 → deeper ptr)) }
-        ensures shallow { let t = self.now.bytes.now in let at = TileIn options.comments options.edition t in
-            let deeper = TextDeeper options.edition t at options.nesting in
-            IfOk result (λ found. IfSome found (λ read. deeper ptr → deeper read.1)) }
-        ensures short { let t = self.now.bytes.now in IfOk result (λ found. IfSome found (λ read. (start : ℕ) ×
-            NextStart options.comments t ptr start × ShortMessage options.edition t start read.1)) }
-        ensures stands { let t = self.now.bytes.now in IfOk result (λ found. 0 < options.nesting → (start end : ℕ) →
-            NextStart options.comments t ptr start → ShortMessage options.edition t start end →
-            IsSomeAnd found (λ read. read.1 ≡ end)) }
+        ensures next { let t = self.now.bytes.now in IfSome result
+            (λ end. (e : EntryTree Span) × EntryTo comments edition t ptr end e []) }
+        ensures within { IfSome result (λ end. (ptr < end) × (end ≤ length self.now.bytes.now)) }
+        ensures blank { let t = self.now.bytes.now in BlankBlock t ptr (length t) → result ≡ None }
+        ensures nests { let t = self.now.bytes.now in IfSome result (λ end. (n : ℕ) →
+            let deeper = TextDeeper edition t (TileIn comments edition t) n in
+            (deeper ptr → deeper end) × (deeper end → deeper ptr)) }
     {
-        let may_nest = options.nesting > 0;
-        if !may_nest {
-            return Ok(None);
-        }
-        let start = self.tile_start(options.comments, ptr);
+        let start = self.tile_start(comments, ptr);
         if !self.is_letter_at(start) {
-            return Ok(None);
+            return None;
         }
-        let Some((name, end)) = self.get_short_message(options.edition, parts, start)? else {
-            return Ok(None);
-        };
-        Ok(Some((name, end)))
+        let end = self.text_message_end(edition, start)?;
+        Some(end)
     }
+}
 
-    /// Reads the next entry from a place on, with its error where it is junk; and where it ends.
-    pub(crate) fn next_entry(
+impl<'s, 't, M: MakeTexts> Reader<'s, 't, M> {
+    /// Reads the next entry from a place on and adds it, with its error where it is junk; says where it ends. `None`
+    /// where none is left.
+    pub(crate) fn add_next(
         &self,
-        alloc: Global,
-        options: Options,
+        body: &mut Vec<Entry<M::Text>>,
+        errors: &mut Vec<ParserError>,
+        comments: Comments,
+        nesting: usize,
         ptr: usize,
-    ) -> Result<Option<(Entry<Span>, Option<ParserError>, usize)>, Halt>
-        requires { ptr ≤ length self.now.bytes.now }
-        ensures next { let t = self.now.bytes.now in
-            IfOk result (Next options.comments options.edition t ptr) }
-        ensures blank { let t = self.now.bytes.now in BlankBlock t ptr (length t) → result ≡ Ok None }
-        ensures within { let t = self.now.bytes.now in
-            IfOk result (λ found. IfSome found (λ read. (ptr < read.2) × (read.2 ≤ length t))) }
-        ensures nests { IfErr result (HaltsWithin options.nesting (length self.now.bytes.now - ptr)) }
-        ensures deeper { let t = self.now.bytes.now in let at = TileIn options.comments options.edition t in
-            IfErr result (OnHalt (TextDeeper options.edition t at options.nesting ptr)) }
-        ensures behind { let t = self.now.bytes.now in let at = TileIn options.comments options.edition t in
-            let deeper = TextDeeper options.edition t at options.nesting in
-            IfOk result (λ found. IfSome found (λ read. deeper read.2 → deeper ptr)) }
-        ensures shallow { let t = self.now.bytes.now in let at = TileIn options.comments options.edition t in
-            IfOk result (ComesNext (TextDeeper options.edition t at options.nesting) ptr) }
+    ) -> Result<Option<usize>, Halt>
+        requires { ptr ≤ length self.now.source.bytes.now }
+        ensures next { let t = self.now.source.bytes.now in IfOk result
+            (AddsNext (M.source self.now.texts.now) M.made comments self.now.edition t ptr body.old.items
+            body.new.items errors.old.items errors.new.items) }
+        ensures blank { let t = self.now.source.bytes.now in BlankBlock t ptr (length t) → result ≡ Ok None }
+        ensures within { let t = self.now.source.bytes.now in
+            IfOk result (λ found. IfSome found (λ end. (ptr < end) × (end ≤ length t))) }
+        ensures nests { IfErr result (HaltsWithin nesting (length self.now.source.bytes.now - ptr)) }
+        ensures deeper { let t = self.now.source.bytes.now in let at = TileIn comments self.now.edition t in
+            IfErr result (OnHalt (TextDeeper self.now.edition t at nesting ptr)) }
+        ensures behind { let t = self.now.source.bytes.now in let at = TileIn comments self.now.edition t in
+            let deeper = TextDeeper self.now.edition t at nesting in
+            IfOk result (λ found. IfSome found (λ end. deeper end → deeper ptr)) }
+        ensures shallow { let t = self.now.source.bytes.now in let at = TileIn comments self.now.edition t in
+            let deeper = TextDeeper self.now.edition t at nesting in
+            IfOk result (ComesNext deeper ptr) }
     {
-        let start = self.tile_start(options.comments, ptr);
-        if start == self.bytes.len() {
+        let start = self.source.tile_start(comments, ptr);
+        if start == self.source.bytes.len() {
             return Ok(None);
         }
-        let (entry, error, end) = self.get_tile(alloc, options, start)?;
-        match as_comment(entry) {
-            Ok(comment) => {
-                let (entry, end) = self.hang(alloc, options, comment, end)?;
-                Ok(Some((entry, error, end)))
-            }
-            Err(entry) => Ok(Some((entry, error, end))),
+        let end = self.add_tile(body, errors, nesting, start)?;
+        if !ends_with_comment(body) {
+            return Ok(Some(end));
         }
+        let end = self.hang(body, nesting, end)?;
+        Ok(Some(end))
     }
 }

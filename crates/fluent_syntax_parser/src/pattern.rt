@@ -1,16 +1,15 @@
 //! Patterns.
-ghost use Rattle.std.specs.Prelude.{◌≡◌, ◌-◌, ◌≤◌, ℕ, length, option_map, IfErr, IfOk, IfSome, IsSomeAnd, None, Some};
-ghost use Rattle.std.specs.Prelude.{[]};
+ghost use Rattle.std.specs.Prelude.{◌≡◌, ◌≤◌, length, option_map, IfOk, IfSome, None, Some};
 ghost use Rattle.fluent_syntax_tree.specs.Tree.{pattern_map};
 ghost use Rattle.fluent_syntax_tree.specs.View.{pattern_view};
-ghost use Rattle.fluent_syntax_grammar.specs.Construct.{Read, at_each};
-ghost use Rattle.fluent_syntax_grammar.specs.Grammar.{more_lines, within};
+ghost use Rattle.fluent_syntax_grammar.specs.Construct.{at_each};
+ghost use Rattle.fluent_syntax_grammar.specs.Grammar.{within};
 ghost use Rattle.fluent_syntax_grammar.specs.Patterns.{layout_at, pattern};
-ghost use Rattle.fluent_syntax_grammar.specs.Places.{BlankBlock, InlineBlank, after_eol};
+ghost use Rattle.fluent_syntax_grammar.specs.Places.{InlineBlank, after_eol};
 ghost use Rattle.fluent_syntax_parser.specs.Elements.{layout_view};
 ghost use Rattle.fluent_syntax_parser.specs.Layouts.{layout_of};
-ghost use Rattle.fluent_syntax_parser.specs.Made.{Makes, OpensMade};
-ghost use Rattle.fluent_syntax_parser.specs.ShortPatterns.{EndsBlank, EndsLine, NoLines, OpensAs, text_pattern};
+ghost use Rattle.fluent_syntax_parser.specs.Made.{Makes};
+ghost use Rattle.fluent_syntax_parser.specs.OneLine.{EndsBlank, EndsLine, NoLines, OpensAs, text_pattern};
 
 use crate::elements::Layout;
 use crate::fault::ReadFault;
@@ -28,8 +27,6 @@ impl<'s> Source<'s> {
     fn end_without_lines(&self, edition: Edition, ptr: usize) -> Option<usize>
         requires { ptr ≤ length self.now.bytes.now }
         ensures lines { IfSome result (NoLines edition self.now.bytes.now ptr) }
-        ensures stands { (end : ℕ) → more_lines edition self.now.bytes.now ptr (Read [] end) →
-            IsSomeAnd result (λ found. found ≡ end) }
         ensures within { IfSome result (λ end. (ptr ≤ end) × (end ≤ length self.now.bytes.now)) }
     {
         let first = self.skip_blank_inline(ptr);
@@ -47,11 +44,9 @@ impl<'s> Source<'s> {
 
     /// Where a text ends whose line ends at a place, with the LF there, and where the next line begins. `None`,
     /// where no line ends there.
-    pub(crate) fn line_ending(&self, to: usize) -> Option<(usize, usize)>
+    fn line_ending(&self, to: usize) -> Option<(usize, usize)>
         requires { to ≤ length self.now.bytes.now }
         ensures ending { IfSome result (λ read. EndsLine self.now.bytes.now to read.0 read.1) }
-        ensures stands { (stop next : ℕ) → EndsLine self.now.bytes.now to stop next →
-            IsSomeAnd result (λ read. read.1 ≡ next) }
         ensures within { IfSome result
             (λ read. (to ≤ read.0) × (read.0 ≤ read.1) × (read.1 ≤ length self.now.bytes.now)) }
     {
@@ -74,13 +69,10 @@ impl<'s> Source<'s> {
     }
 
     /// Where a pattern ends whose lines from a line's start on are all blank.
-    pub(crate) fn end_behind_blank_lines(&self, edition: Edition, ptr: usize) -> Option<usize>
+    #[inline(always)]
+    fn end_behind_blank_lines(&self, edition: Edition, ptr: usize) -> Option<usize>
         requires { ptr ≤ length self.now.bytes.now }
         ensures lines { IfSome result (EndsBlank edition self.now.bytes.now ptr) }
-        ensures left { let t = self.now.bytes.now in IfSome result (λ end. (first : ℕ) × BlankBlock t ptr first ×
-            more_lines edition t first (Read [] end)) }
-        ensures stands { let t = self.now.bytes.now in (first end : ℕ) → BlankBlock t ptr first →
-            more_lines edition t first (Read [] end) → IsSomeAnd result (λ found. found ≡ end) }
         ensures within { IfSome result (λ end. (ptr ≤ end) × (end ≤ length self.now.bytes.now)) }
     {
         let end = self.end_without_lines(edition, self.skip_blank_block(ptr))?;
@@ -89,6 +81,7 @@ impl<'s> Source<'s> {
 
     /// Reads a pattern of one line without placeable, after the inline blank that opens it, if that stands there: its
     /// text.
+    #[inline(always)]
     pub(crate) fn short_text(&self, edition: Edition, start: usize) -> Option<(Span, usize)>
         requires { start ≤ length self.now.bytes.now }
         ensures opens { IfSome result
@@ -111,15 +104,10 @@ impl<'s> Source<'s> {
     }
 
     /// Where a pattern ends that holds nothing, after the inline blank that opens it, if a line ends there.
+    #[inline(always)]
     pub(crate) fn end_without_text(&self, edition: Edition, start: usize) -> Option<usize>
         requires { start ≤ length self.now.bytes.now }
         ensures opens { IfSome result (OpensAs edition self.now.bytes.now start None) }
-        ensures left { let t = self.now.bytes.now in IfSome result (λ end. (next first : ℕ) ×
-            (after_eol t start ≡ Some next) × BlankBlock t next first ×
-            more_lines edition t first (Read [] end)) }
-        ensures stands { let t = self.now.bytes.now in (next first end : ℕ) → after_eol t start ≡ Some next →
-            BlankBlock t next first → more_lines edition t first (Read [] end) →
-            IsSomeAnd result (λ found. found ≡ end) }
         ensures within { IfSome result (λ end. (start ≤ end) × (end ≤ length self.now.bytes.now)) }
     {
         let next = self.eol_end(start)?;
@@ -129,25 +117,15 @@ impl<'s> Source<'s> {
 }
 
 impl<'s, 't, M: MakeTexts> Reader<'s, 't, M> {
-    /// The pattern that `short_text` reads.
-    fn get_short_pattern(
-        &self,
-        start: usize,
-    ) -> Result<Option<(Pattern<M::Text>, usize)>, AllocError>
-        requires { start ≤ length self.now.source.bytes.now }
-        ensures opens { IfOk result (λ short. IfSome short
-            (λ read. OpensMade (M.source self.now.texts.now) self.now.edition self.now.source.bytes.now start
-            (pattern_view M.made read.0) read.1)) }
-        ensures within { IfOk result (λ short. IfSome short
-            (λ read. (start ≤ read.1) × (read.1 ≤ length self.now.source.bytes.now))) }
+    /// The pattern that is one text.
+    fn short_pattern(&self, value: Span) -> Result<Pattern<M::Text>, AllocError>
+        ensures { IfOk result (λ pattern. pattern_view M.made pattern
+            ≡ pattern_map (M.source self.now.texts.now) (text_pattern value)) }
     {
-        let Some((value, end)) = self.source.short_text(self.edition, start) else {
-            return Ok(None);
-        };
         let value = self.text(value)?;
         let mut elements = Vec::with_capacity(self.alloc, 1)?;
         elements.push(PatternElement::TextElement { value })?;
-        Ok(Some((Pattern { elements }, end)))
+        Ok(Pattern { elements })
     }
 
     /// Reads the layout of a pattern, after the inline blank that opens it.
@@ -212,6 +190,7 @@ impl<'s, 't, M: MakeTexts> Reader<'s, 't, M> {
     /// Reads a pattern, if one stands there. That of one line without placeable is read by itself, and takes one
     /// allocation.
     #[cycle(readers)]
+    #[inline(always)]
     pub(crate) fn get_pattern(
         &self,
         nesting: usize,
@@ -225,9 +204,12 @@ impl<'s, 't, M: MakeTexts> Reader<'s, 't, M> {
         ensures within { IfOk result (λ read. (ptr ≤ read.1) × (read.1 ≤ length self.now.source.bytes.now)) }
     {
         let start = self.source.skip_blank_inline(ptr);
-        let short = self.get_short_pattern(start)?;
-        match short {
-            Some((pattern, end)) => Ok((Some(pattern), end)),
+        if let Some((value, end)) = self.source.short_text(self.edition, start) {
+            let pattern = self.short_pattern(value)?;
+            return Ok((Some(pattern), end));
+        }
+        match self.source.end_without_text(self.edition, start) {
+            Some(end) => Ok((None, end)),
             None => self.get_long_pattern(nesting, ptr, start),
         }
     }

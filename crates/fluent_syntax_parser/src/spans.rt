@@ -1,58 +1,86 @@
 //! Whole texts.
-ghost use Rattle.std.specs.Prelude.{◌≡◌, ◌+◌, ◌<◌, ◌^◌, ◌≢◌, [], length, map, Err, IfErr, IfOk, IsOk, IsOkAnd, OnErr};
+ghost use Rattle.std.specs.Prelude.{◌≡◌, ◌+◌, ◌<◌, ◌^◌, ◌≢◌, [], length, Err, IfErr, IfOk, IsOk, IsOkAnd, OnErr};
+ghost use Rattle.fluent_syntax_tree.specs.Entry.{body_map};
 ghost use Rattle.fluent_syntax_grammar.specs.Nesting.{NestsDeeper, RuntimeNestsDeeper, TextDeeper};
 ghost use Rattle.fluent_syntax_grammar.specs.Places.{BlankBlock};
-ghost use Rattle.fluent_syntax_parser.specs.Answers.{AnswersRuntimeSpans, AnswersSpans, AnswersSpansIn, ErrorsInText};
-ghost use Rattle.fluent_syntax_parser.specs.Faults.{fault_of};
+ghost use Rattle.fluent_syntax_parser.specs.Answers.{AnswersIn, AnswersRuntimeSpans, AnswersSpans, AnswersSpansIn};
+ghost use Rattle.fluent_syntax_parser.specs.Answers.{ErrorsInText};
 ghost use Rattle.fluent_syntax_parser.specs.Halts.{HaltsWithin, OnHalt};
 ghost use Rattle.fluent_syntax_parser.specs.Parts.{HasParts};
 ghost use Rattle.fluent_syntax_parser.specs.declared.fault.ParseFault.TheVariants.{Memory};
-ghost use Rattle.fluent_syntax_parser.specs.Rest.{Rest, TileIn, tree_of};
+ghost use Rattle.fluent_syntax_parser.specs.MadeEntries.{MadeBody};
+ghost use Rattle.fluent_syntax_parser.specs.Rest.{TileIn};
 
-use crate::fault::{ParseFault, TooDeep, add_error, answer_of};
+use crate::fault::{ParseFault, TooDeep, answer_of};
 use crate::options::{Comments, Halt, Options};
-use crate::short_trees::add_message;
+use crate::reader::Reader;
 use crate::source::Source;
+use crate::texts::{AsSpans, MakeTexts};
 use fluent_syntax_tree::ast::{Entry, Resource};
 use fluent_syntax_tree::edition::Edition;
 use fluent_syntax_tree::errors::ParserError;
 use fluent_syntax_tree::spans::Span;
 use std::alloc::Global;
 
-impl<'s> Source<'s> {
+impl<'s, 't, M: MakeTexts> Reader<'s, 't, M> {
     /// The entries and the errors of the text.
     fn get_body(
         &self,
-        alloc: Global,
-        options: Options,
-    ) -> Result<(Vec<Entry<Span>>, Vec<ParserError>), Halt>
-        ensures rest { let t = self.now.bytes.now in IfOk result (λ read.
-            Rest options.comments options.edition t 0 (map tree_of read.0.items) (map fault_of read.1.items)) }
-        ensures blank { let t = self.now.bytes.now in
+        comments: Comments,
+        nesting: usize,
+    ) -> Result<(Vec<Entry<M::Text>>, Vec<ParserError>), Halt>
+        ensures read { let t = self.now.source.bytes.now in IfOk result (λ read. MadeBody
+            (M.source self.now.texts.now) M.made comments self.now.edition t read.0.items read.1.items) }
+        ensures blank { let t = self.now.source.bytes.now in
             BlankBlock t 0 (length t) → IsOkAnd result (λ read. read.1.items ≡ []) }
-        ensures nests { IfErr result (HaltsWithin options.nesting (length self.now.bytes.now)) }
-        ensures deeper { let t = self.now.bytes.now in let at = TileIn options.comments options.edition t in
-            IfErr result (OnHalt (TextDeeper options.edition t at options.nesting 0)) }
-        ensures shallow { let t = self.now.bytes.now in let at = TileIn options.comments options.edition t in
-            IfOk result (λ _. TextDeeper options.edition t at options.nesting 0 → ⊥) }
+        ensures nests { IfErr result (HaltsWithin nesting (length self.now.source.bytes.now)) }
+        ensures deeper { let t = self.now.source.bytes.now in let at = TileIn comments self.now.edition t in
+            IfErr result (OnHalt (TextDeeper self.now.edition t at nesting 0)) }
+        ensures shallow { let t = self.now.source.bytes.now in let at = TileIn comments self.now.edition t in
+            IfOk result (λ _. TextDeeper self.now.edition t at nesting 0 → ⊥) }
     {
-        let mut body = Vec::new(alloc);
-        let mut errors = Vec::new(alloc);
-        let mut parts = Vec::new(alloc);
+        let mut body = Vec::new(self.alloc);
+        let mut errors = Vec::new(self.alloc);
         let mut ptr = 0;
         loop {
-            if let Some((name, end)) = self.next_short(options, &mut parts, ptr)? {
-                add_message(alloc, &mut body, name, &parts)?;
-                ptr = end;
-            } else {
-                let Some((entry, error, end)) = self.next_entry(alloc, options, ptr)? else {
-                    return Ok((body, errors));
-                };
-                body.push(entry)?;
-                add_error(&mut errors, error)?;
-                ptr = end;
-            }
+            let Some(end) = self.add_next(&mut body, &mut errors, comments, nesting, ptr)? else {
+                return Ok((body, errors));
+            };
+            ptr = end;
         }
+    }
+}
+
+/// Reads a text as the options say, with its texts made in that way. `TooDeep` where it nests more deeply than they
+/// allow.
+pub fn parse_texts<M: MakeTexts>(
+    alloc: Global,
+    source: &str,
+    options: Options,
+    texts: &M,
+) -> Result<Result<Resource<M::Text>, ParseFault<M::Text>>, TooDeep>
+    ensures tiling { IfOk result (AnswersIn M.made (body_map (M.source texts.now)) options.comments options.edition
+        source.now) }
+    ensures places { IfOk result (ErrorsInText source.now) }
+    ensures blank { BlankBlock source.now 0 (length source.now) → IfOk result (λ answer. IsOk answer) }
+    ensures nests { OnErr result (options.nesting < length source.now) }
+    ensures deeper { let t = source.now in let at = TileIn options.comments options.edition t in
+        OnErr result (TextDeeper options.edition t at options.nesting 0) }
+    ensures shallow { let t = source.now in let at = TileIn options.comments options.edition t in
+        IfOk result (λ answer. answer ≢ Err Memory → TextDeeper options.edition t at options.nesting 0 → ⊥) }
+{
+    let reader = Reader {
+        source: Source {
+            bytes: source.as_bytes(),
+        },
+        alloc,
+        edition: options.edition,
+        texts,
+    };
+    match reader.get_body(options.comments, options.nesting) {
+        Ok((body, errors)) => Ok(answer_of(body, errors)),
+        Err(Halt::Memory) => Ok(Err(ParseFault::Memory)),
+        Err(Halt::TooDeep) => Err(TooDeep),
     }
 }
 
@@ -72,12 +100,7 @@ fn parse_by(
     ensures shallow { let t = source.now in let at = TileIn options.comments options.edition t in
         IfOk result (λ answer. answer ≢ Err Memory → TextDeeper options.edition t at options.nesting 0 → ⊥) }
 {
-    let bytes = source.as_bytes();
-    match (Source { bytes }).get_body(alloc, options) {
-        Ok((body, errors)) => Ok(answer_of(body, errors)),
-        Err(Halt::Memory) => Ok(Err(ParseFault::Memory)),
-        Err(Halt::TooDeep) => Err(TooDeep),
-    }
+    parse_texts(alloc, source, options, &AsSpans)
 }
 
 /// Reads a text that may nest as deeply as it does.

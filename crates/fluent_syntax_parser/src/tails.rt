@@ -1,13 +1,14 @@
 //! The tail of a pattern's items, and the elements that are left.
-ghost use Rattle.std.specs.Prelude.{◌≡◌, map, IfOk};
+ghost use Rattle.std.specs.Prelude.{◌≡◌, ◌++◌, ◌∷◌, [], map, IfOk, OnOk};
 ghost use Rattle.fluent_syntax_tree.specs.Spans.{bytes_at};
 ghost use Rattle.fluent_syntax_tree.specs.View.{element_view};
 ghost use Rattle.fluent_syntax_grammar.specs.Elements.{is_nonblank, trimmed_end};
 ghost use Rattle.fluent_syntax_parser.specs.Elements.{CutsTo, MakesPattern, element_of, item_view, last_of};
 ghost use Rattle.fluent_syntax_parser.specs.Layouts.{stays};
 
-use crate::elements::{Item, Layout, items_of};
+use crate::elements::{Layout, items_of};
 use crate::indents::common_indent;
+use crate::line::Piece;
 use crate::reader::Reader;
 use crate::source::Source;
 use crate::texts::MakeTexts;
@@ -38,12 +39,12 @@ impl<'s> Source<'s> {
 
 impl<'s, 't, M: MakeTexts> Reader<'s, 't, M> {
     /// Whether it is a placeable, or a nonblank text.
-    fn stays(&self, item: &Item<M::Text>) -> bool
+    fn stays(&self, item: &Piece<M::Text>) -> bool
         ensures { result ≡ stays self.now.source.bytes.now (item_view M.made item.now) }
     {
         match item {
-            Item::Filled { .. } => true,
-            Item::Text { from, to } => self.source.is_nonblank(Span {
+            Piece::Placed { .. } => true,
+            Piece::Run { from, to } => self.source.is_nonblank(Span {
                 start: *from,
                 end: *to,
             }),
@@ -51,7 +52,7 @@ impl<'s, 't, M: MakeTexts> Reader<'s, 't, M> {
     }
 
     /// Takes the items from the end on, up to the last one that stays there.
-    fn pop_last(&self, items: &mut Vec<Item<M::Text>>) -> Option<Item<M::Text>>
+    fn pop_last(&self, items: &mut Vec<Piece<M::Text>>) -> Option<Piece<M::Text>>
         ensures { CutsTo M.made self.now.source.bytes.now items.old.items items.new.items result }
     {
         while let Some(last) = items.pop() {
@@ -62,57 +63,72 @@ impl<'s, 't, M: MakeTexts> Reader<'s, 't, M> {
         None
     }
 
-    /// The element that an item is which others follow.
-    fn element(&self, item: Item<M::Text>) -> Result<PatternElement<M::Text>, AllocError>
-        ensures { IfOk result (λ element. element_view M.made element
-            ≡ element_of (M.source self.now.texts.now) (item_view M.made item)) }
+    /// Adds the element that an item is which others follow.
+    fn add_element(
+        &self,
+        item: Piece<M::Text>,
+        elements: &mut Vec<PatternElement<M::Text>>,
+    ) -> Result<(), AllocError>
+        ensures { OnOk result (map (element_view M.made) elements.new.items ≡ map (element_view M.made)
+            elements.old.items ++ element_of (M.source self.now.texts.now) (item_view M.made item) ∷ []) }
     {
         match item {
-            Item::Text { from, to } => {
+            Piece::Run { from, to } => {
                 let value = self.text(Span {
                     start: from,
                     end: to,
                 })?;
-                Ok(PatternElement::TextElement { value })
+                elements.push(PatternElement::TextElement { value })?;
+                Ok(())
             }
-            Item::Filled { expression } => Ok(PatternElement::Placeable { expression }),
+            Piece::Placed { expression } => {
+                elements.push(PatternElement::Placeable { expression })?;
+                Ok(())
+            }
         }
     }
 
     /// The elements that items are which one more follows, with room for that.
     fn followed_elements(
         &self,
-        items: Vec<Item<M::Text>>,
+        items: Vec<Piece<M::Text>>,
     ) -> Result<Vec<PatternElement<M::Text>>, AllocError>
         ensures { IfOk result (λ elements. map (element_view M.made) elements.items
             ≡ map (element_of (M.source self.now.texts.now)) (map (item_view M.made) items.items)) }
     {
         let mut elements = Vec::with_capacity(self.alloc, items.len().saturating_add(1))?;
         for item in items {
-            let element = self.element(item)?;
-            elements.push(element)?;
+            self.add_element(item, &mut elements)?;
         }
         Ok(elements)
     }
 
-    /// The element that the last item is.
-    fn last_element(&self, item: Item<M::Text>) -> Result<PatternElement<M::Text>, AllocError>
-        ensures { IfOk result (λ element. element_view M.made element
-            ≡ last_of (M.source self.now.texts.now) self.now.source.bytes.now (item_view M.made item)) }
+    /// Adds the element that the last item is.
+    fn add_last_element(
+        &self,
+        item: Piece<M::Text>,
+        elements: &mut Vec<PatternElement<M::Text>>,
+    ) -> Result<(), AllocError>
+        ensures { OnOk result (map (element_view M.made) elements.new.items ≡ map (element_view M.made)
+            elements.old.items
+            ++ last_of (M.source self.now.texts.now) self.now.source.bytes.now (item_view M.made item) ∷ []) }
     {
         match item {
-            Item::Text { from, to } => {
-                let value = self.text(Span {
-                    start: from,
-                    end: self.source.trimmed_end(from, to),
-                })?;
-                Ok(PatternElement::TextElement { value })
+            Piece::Run { from, to } => {
+                let end = self.source.trimmed_end(from, to);
+                let value = self.text(Span { start: from, end })?;
+                elements.push(PatternElement::TextElement { value })?;
+                Ok(())
             }
-            Item::Filled { expression } => Ok(PatternElement::Placeable { expression }),
+            Piece::Placed { expression } => {
+                elements.push(PatternElement::Placeable { expression })?;
+                Ok(())
+            }
         }
     }
 
     /// The pattern that a layout spells, if it spells one.
+    #[inline(never)]
     pub(crate) fn pattern_of(
         &self,
         layout: Layout<M::Text>,
@@ -126,8 +142,7 @@ impl<'s, 't, M: MakeTexts> Reader<'s, 't, M> {
             None => Ok(None),
             Some(last) => {
                 let mut elements = self.followed_elements(items)?;
-                let element = self.last_element(last)?;
-                elements.push(element)?;
+                self.add_last_element(last, &mut elements)?;
                 Ok(Some(Pattern { elements }))
             }
         }

@@ -1,41 +1,29 @@
 //! Entries and junk, each with the comment that hangs on it.
-ghost use Rattle.std.specs.Prelude.{◌≡◌, ◌-◌, ◌<◌, ◌≤◌, length, IfErr, IfOk, None, Some, false};
-ghost use Rattle.fluent_syntax_tree.specs.Entry.{comment, regular};
-ghost use Rattle.fluent_syntax_tree.specs.View.{comment_view};
-ghost use Rattle.fluent_syntax_grammar.specs.Body as bodies;
+ghost use Rattle.std.specs.Prelude.{◌≡◌, ◌-◌, ◌<◌, ◌≤◌, ◌∷◌, ◌++◌, [], length, IfErr, IfOk, List, None, Option, Some};
+ghost use Rattle.std.specs.Prelude.{option_to_list};
+ghost use Rattle.fluent_syntax_tree.specs.declared.ast.Comment.{Comment};
+ghost use Rattle.fluent_syntax_tree.specs.declared.ast.Entry.{Entry};
+ghost use Rattle.fluent_syntax_tree.specs.declared.ast.Entry.TheVariants as entries;
 ghost use Rattle.fluent_syntax_grammar.specs.Grammar.{within};
 ghost use Rattle.fluent_syntax_grammar.specs.Nesting.{TextDeeper, TooDeep};
-ghost use Rattle.fluent_syntax_grammar.specs.Tiling.{TileIn, entry_in};
+ghost use Rattle.fluent_syntax_grammar.specs.Tiling.{JunkEnd, TileIn, entry_in};
 ghost use Rattle.fluent_syntax_parser.specs.Halts.{HaltsWithin, OnHalt};
-ghost use Rattle.fluent_syntax_parser.specs.Rest.{GivesTile, Hangs, may_hang, tree_of};
+ghost use Rattle.fluent_syntax_parser.specs.MadeEntries.{AddsJunk, AddsTile, HangsLast, HungLast, commented};
+ghost use Rattle.fluent_syntax_parser.specs.MadeEntries.{ends_with_comment, is_comment};
 
-use crate::fault::ReadFault;
-use crate::options::{Halt, Options};
+use crate::fault::{ReadFault, Refusal};
+use crate::options::Halt;
 use crate::reader::Reader;
-use crate::source::Source;
-use crate::texts::AsSpans;
+use crate::texts::MakeTexts;
 use fluent_syntax_tree::ast::{Comment, Entry, Message, Term};
 use fluent_syntax_tree::errors::ParserError;
 use fluent_syntax_tree::spans::Span;
-use std::alloc::Global;
-
-/// The comment of level 1 that an entry is, or the entry, if it is none.
-pub(crate) fn as_comment(entry: Entry<Span>) -> Result<Comment<Span>, Entry<Span>>
-    ensures comment { IfOk result (λ c. tree_of entry ≡ comment regular (comment_view (λ s. s) c)) }
-    ensures other { IfErr result (λ e. (e ≡ entry) × (may_hang (tree_of e) ≡ false)) }
-{
-    match entry {
-        Entry::Comment(comment) => Ok(comment),
-        entry => Err(entry),
-    }
-}
+use std::alloc::AllocError;
 
 /// A message or a term with the comment, or the comment, if it can't hang on the entry.
-fn with_comment(comment: Comment<Span>, entry: Entry<Span>) -> Result<Entry<Span>, Comment<Span>>
-    ensures hung { IfOk result
-        (λ e. bodies.hung (comment_view (λ s. s) comment) (tree_of entry) ≡ Some (tree_of e)) }
-    ensures other { IfErr result
-        (λ c. (c ≡ comment) × (bodies.hung (comment_view (λ s. s) comment) (tree_of entry) ≡ None)) }
+fn with_comment<S: Drop>(comment: Comment<S>, entry: Entry<S>) -> Result<Entry<S>, Comment<S>>
+    ensures hung { IfOk result (λ e. commented comment entry ≡ Some e) }
+    ensures other { IfErr result (λ c. (c ≡ comment) × (commented comment entry ≡ None)) }
 {
     match entry {
         Entry::Message(message) => {
@@ -50,82 +38,163 @@ fn with_comment(comment: Comment<Span>, entry: Entry<Span>) -> Result<Entry<Span
     }
 }
 
-impl<'s> Source<'s> {
-    /// Reads an entry, or junk up to the next place where one may start, with its error; and where it ends.
-    pub(crate) fn get_tile(
+/// The item of a list that holds one at most.
+pub(crate) fn only_item<T: Drop>(items: Vec<T>) -> Option<T>
+    ensures { (item : Option T) → items.items ≡ option_to_list item → result ≡ item }
+{
+    let mut items = items;
+    items.pop()
+}
+
+fn is_comment<S: Drop>(entry: &Entry<S>) -> bool
+    ensures { result ≡ is_comment entry.now }
+{
+    matches!(entry, Entry::Comment(_))
+}
+
+/// Whether the last entry is a comment of level 1.
+pub(crate) fn ends_with_comment<S: Drop>(body: &[Entry<S>]) -> bool
+    ensures { result ≡ ends_with_comment body.now }
+{
+    match body.last() {
+        Some(entry) => is_comment(entry),
+        None => false,
+    }
+}
+
+/// The comment of level 1 that an entry is, if it is one.
+fn as_comment<S: Drop>(entry: Entry<S>) -> Option<Comment<S>>
+    ensures { (c : Comment S) → entry ≡ entries.Comment c → result ≡ Some c }
+{
+    match entry {
+        Entry::Comment(comment) => Some(comment),
+        _ => None,
+    }
+}
+
+/// Takes the comment of level 1 that the entries end with.
+fn take_comment<S: Drop>(body: &mut Vec<Entry<S>>) -> Option<Comment<S>>
+    ensures { (before : List (Entry S)) (c : Comment S) → body.old.items ≡ before ++ entries.Comment c ∷ [] →
+        (result ≡ Some c) × (body.new.items ≡ before) }
+{
+    match body.pop() {
+        Some(entry) => as_comment(entry),
+        None => None,
+    }
+}
+
+/// Hangs the comment before the last entry on that, and says whether it can hang there. Where it can't, the entry is
+/// dropped.
+fn hang_last<S: Drop>(body: &mut Vec<Entry<S>>) -> Result<bool, AllocError>
+    ensures { (before : List (Entry S)) (c : Comment S) (e : Entry S) →
+        body.old.items ≡ before ++ entries.Comment c ∷ [] ++ e ∷ [] →
+        IfOk result (HungLast before c e body.new.items) }
+{
+    let Some(entry) = body.pop() else {
+        return Ok(false);
+    };
+    let Some(comment) = take_comment(body) else {
+        return Ok(false);
+    };
+    match with_comment(comment, entry) {
+        Ok(entry) => {
+            body.push(entry)?;
+            Ok(true)
+        }
+        Err(comment) => {
+            body.push(Entry::Comment(comment))?;
+            Ok(false)
+        }
+    }
+}
+
+impl<'s, 't, M: MakeTexts> Reader<'s, 't, M> {
+    /// Adds junk up to the next place where an entry may start, with its error, and says where it ends.
+    #[inline(never)]
+    fn add_junk(
         &self,
-        alloc: Global,
-        options: Options,
+        body: &mut Vec<Entry<M::Text>>,
+        errors: &mut Vec<ParserError>,
+        refusal: Refusal,
         start: usize,
-    ) -> Result<(Entry<Span>, Option<ParserError>, usize), Halt>
-        requires { start < length self.now.bytes.now }
-        ensures gives { let t = self.now.bytes.now in
-            IfOk result (λ read. GivesTile options.edition t options.nesting start read.2 read.0 read.1) }
-        ensures within { IfOk result (λ read. (start < read.2) × (read.2 ≤ length self.now.bytes.now)) }
-        ensures nests { IfErr result (HaltsWithin options.nesting (length self.now.bytes.now - start)) }
-        ensures deeper { let t = self.now.bytes.now in
-            let R = within options.edition t options.nesting in
-            IfErr result (OnHalt (TooDeep (entry_in options.edition t R) start)) }
+    ) -> Result<usize, AllocError>
+        requires { refusal.place ≤ length self.now.source.bytes.now }
+        ensures adds { let t = self.now.source.bytes.now in IfOk result (λ end.
+            AddsJunk (M.source self.now.texts.now) M.made t refusal start end body.old.items body.new.items
+            errors.old.items errors.new.items) }
+        ensures ends { IfOk result (JunkEnd self.now.source.bytes.now refusal.place) }
     {
-        let texts = AsSpans;
-        let reader = Reader {
-            source: *self,
-            alloc,
-            edition: options.edition,
-            texts: &texts,
-        };
-        match reader.get_entry(options.nesting, start) {
-            Ok((entry, end)) => Ok((entry, None, end)),
+        let end = self.source.next_entry_start(refusal.place);
+        let stretch = Span { start, end };
+        let error = self.source.error_of(self.alloc, refusal, stretch)?;
+        let content = self.text(stretch)?;
+        body.push(Entry::Junk { content })?;
+        errors.push(error)?;
+        Ok(end)
+    }
+
+    /// Reads an entry and adds it, or junk up to the next place where one may start, with its error; says where it
+    /// ends.
+    pub(crate) fn add_tile(
+        &self,
+        body: &mut Vec<Entry<M::Text>>,
+        errors: &mut Vec<ParserError>,
+        nesting: usize,
+        start: usize,
+    ) -> Result<usize, Halt>
+        requires { start < length self.now.source.bytes.now }
+        ensures adds { let t = self.now.source.bytes.now in IfOk result (λ end.
+            AddsTile (M.source self.now.texts.now) M.made self.now.edition t nesting start end body.old.items
+            body.new.items errors.old.items errors.new.items) }
+        ensures within { IfOk result (λ end. (start < end) × (end ≤ length self.now.source.bytes.now)) }
+        ensures nests { IfErr result (HaltsWithin nesting (length self.now.source.bytes.now - start)) }
+        ensures deeper { let t = self.now.source.bytes.now in
+            let R = within self.now.edition t nesting in
+            IfErr result (OnHalt (TooDeep (entry_in self.now.edition t R) start)) }
+    {
+        match self.add_entry(body, nesting, start) {
+            Ok(end) => Ok(end),
             Err(ReadFault::Refused(refusal)) => {
-                let end = self.next_entry_start(refusal.place);
-                let content = Span { start, end };
-                let error = self.error_of(alloc, refusal, content)?;
-                Ok((Entry::Junk { content }, Some(error), end))
+                let end = self.add_junk(body, errors, refusal, start)?;
+                Ok(end)
             }
             Err(ReadFault::TooDeep) => Err(Halt::TooDeep),
             Err(ReadFault::Memory) => Err(Halt::Memory),
         }
     }
 
-    /// The entry on which a comment hangs that ends at a place, with it, and where that entry ends. The comment itself,
-    /// if it hangs on none.
+    /// Hangs the comment that was added last, and ends at a place, on the entry there, if it hangs on one; says where
+    /// that ends.
+    #[inline(never)]
     pub(crate) fn hang(
         &self,
-        alloc: Global,
-        options: Options,
-        comment: Comment<Span>,
+        body: &mut Vec<Entry<M::Text>>,
+        nesting: usize,
         ptr: usize,
-    ) -> Result<(Entry<Span>, usize), Halt>
-        requires { ptr ≤ length self.now.bytes.now }
-        ensures hangs { let t = self.now.bytes.now in
-            IfOk result (λ read. Hangs options.edition t (comment_view (λ s. s) comment) ptr read.0 read.1) }
-        ensures within { IfOk result (λ read. (ptr ≤ read.1) × (read.1 ≤ length self.now.bytes.now)) }
-        ensures nests { IfErr result (HaltsWithin options.nesting (length self.now.bytes.now - ptr)) }
-        ensures deeper { let t = self.now.bytes.now in let edition = options.edition in
-            IfErr result (OnHalt (TextDeeper edition t (TileIn edition t) options.nesting ptr)) }
-        ensures behind { let t = self.now.bytes.now in let edition = options.edition in
-            let deeper = TextDeeper edition t (TileIn edition t) options.nesting in
-            IfOk result (λ read. deeper read.1 → deeper ptr) }
-        ensures shallow { let t = self.now.bytes.now in let edition = options.edition in
-            let deeper = TextDeeper edition t (TileIn edition t) options.nesting in
-            IfOk result (λ read. deeper ptr → deeper read.1) }
+    ) -> Result<usize, Halt>
+        requires { ptr ≤ length self.now.source.bytes.now }
+        ensures hangs { let t = self.now.source.bytes.now in IfOk result (λ end.
+            HangsLast (M.source self.now.texts.now) M.made self.now.edition t ptr end body.old.items body.new.items) }
+        ensures within { IfOk result (λ end. (ptr ≤ end) × (end ≤ length self.now.source.bytes.now)) }
+        ensures nests { IfErr result (HaltsWithin nesting (length self.now.source.bytes.now - ptr)) }
+        ensures deeper { let t = self.now.source.bytes.now in let edition = self.now.edition in
+            IfErr result (OnHalt (TextDeeper edition t (TileIn edition t) nesting ptr)) }
+        ensures behind { let t = self.now.source.bytes.now in let edition = self.now.edition in
+            let deeper = TextDeeper edition t (TileIn edition t) nesting in
+            IfOk result (λ end. deeper end → deeper ptr) }
+        ensures shallow { let t = self.now.source.bytes.now in let edition = self.now.edition in
+            let deeper = TextDeeper edition t (TileIn edition t) nesting in
+            IfOk result (λ end. deeper ptr → deeper end) }
     {
-        if self.is_byte_at(b'#', ptr) || self.skip_blank_block(ptr) != ptr {
-            return Ok((Entry::Comment(comment), ptr));
+        if self.source.is_byte_at(b'#', ptr) || self.source.skip_blank_block(ptr) != ptr {
+            return Ok(ptr);
         }
-        let texts = AsSpans;
-        let reader = Reader {
-            source: *self,
-            alloc,
-            edition: options.edition,
-            texts: &texts,
-        };
-        match reader.get_entry(options.nesting, ptr) {
-            Ok((entry, end)) => match with_comment(comment, entry) {
-                Ok(entry) => Ok((entry, end)),
-                Err(comment) => Ok((Entry::Comment(comment), ptr)),
-            },
-            Err(ReadFault::Refused(_)) => Ok((Entry::Comment(comment), ptr)),
+        match self.add_entry(body, nesting, ptr) {
+            Ok(end) => {
+                let hangs = hang_last(body)?;
+                if hangs { Ok(end) } else { Ok(ptr) }
+            }
+            Err(ReadFault::Refused(_)) => Ok(ptr),
             Err(ReadFault::TooDeep) => Err(Halt::TooDeep),
             Err(ReadFault::Memory) => Err(Halt::Memory),
         }

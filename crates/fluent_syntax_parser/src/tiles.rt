@@ -1,10 +1,13 @@
 //! What stands in a text, one after the other, and where.
-ghost use Rattle.std.specs.Prelude.{◌≡◌, ◌-◌, ◌<◌, ◌≤◌, length, IfErr, IfOk, IfSome, OnErr};
+ghost use Rattle.std.specs.Prelude.{◌≡◌, ◌-◌, ◌^◌, ◌<◌, ◌≤◌, length, IfErr, IfOk, IfSome, OnErr};
 ghost use Rattle.fluent_syntax_grammar.specs.Places.{BlankBlock};
 ghost use Rattle.fluent_syntax_parser.specs.Halts.{HaltsWithin};
 
-use crate::options::{Comments, Halt, Options};
+use crate::options::Halt;
+use crate::reader::Reader;
 use crate::source::Source;
+use crate::texts::AsSpans;
+use crate::tile::only_item;
 use fluent_syntax_tree::ast::Entry;
 use fluent_syntax_tree::edition::Edition;
 use fluent_syntax_tree::errors::ParserError;
@@ -31,6 +34,7 @@ pub struct Tiles<'s> {
     nesting: usize,
     ptr: usize,
     ghost within: { ptr ≤ length source.bytes.now },
+    ghost small: { length source.bytes.now < 2 ^ 63 },
 }
 
 impl<'s> Tiles<'s> {
@@ -72,14 +76,21 @@ impl<'s> Tiles<'s> {
         if start == self.source.bytes.len() {
             return Ok(None);
         }
-        let options = Options {
+        let reader = Reader {
+            source: self.source,
+            alloc,
             edition: self.edition,
-            comments: Comments::Kept,
-            nesting: self.nesting,
+            texts: &AsSpans,
         };
-        let (entry, error, end) = self.source.get_tile(alloc, options, start)?;
+        let mut body = Vec::new(alloc);
+        let mut errors = Vec::new(alloc);
+        let end = reader.add_tile(&mut body, &mut errors, self.nesting, start)?;
         self.ptr = end;
         let span = Span { start, end };
+        let Some(entry) = only_item(body) else {
+            return Ok(None);
+        };
+        let error = only_item(errors);
         Ok(Some(FoundTile { span, entry, error }))
     }
 }

@@ -4,19 +4,18 @@ use Rattle.std.proofs.Common.{not, refl, sym, ap, ◌∙◌, arith}
 use Rattle.std.proofs.lemmas.Bool.{lt-leb}
 use Rattle.std.specs.Prelude.{nat_le, is_some, is_none}
 use Rattle.std.specs.List.{list_all, list_any}
-use Rattle.fluent_syntax_tree.specs.Tree.{ExpressionTree, select, inline, ArgumentsTree, arguments, NamedTrees}
-use Rattle.fluent_syntax_tree.specs.Tree.{no_named, nameds, named_argument, text_element, placeable, PatternTree}
+use Rattle.fluent_syntax_tree.specs.Tree.{ExpressionTree, select, inline, ArgumentsTree, arguments}
+use Rattle.fluent_syntax_tree.specs.Tree.{text_element, placeable, PatternTree}
 use Rattle.fluent_syntax_tree.specs.Tree.{no_elements, elements}
 use Rattle.fluent_syntax_tree.specs.Entry.{EntryTree}
 use Rattle.fluent_syntax_tree.specs.declared.edition.Edition.{Edition}
-use Rattle.fluent_syntax_grammar.specs.Arguments.{is_used}
 use Rattle.fluent_syntax_grammar.specs.Placeables.{selector_fault}
 use Rattle.fluent_syntax_grammar.specs.Elements.{is_nonblank, without_last_lf}
 use Rattle.fluent_syntax_grammar.specs.Written.{Text, has_lf, is_multiline, begins_with_mark}
 use Rattle.fluent_syntax_grammar.specs.Spellings.{is_name, is_number, is_string}
 use Rattle.fluent_syntax_grammar.specs.PatternTexts.{is_empty, is_brace, has_crlf, is_spaces, begins_with_space}
 use Rattle.fluent_syntax_grammar.specs.PatternTexts.{after_spaces}
-use Rattle.fluent_syntax_grammar.specs.Readable.{is_message, is_callee, is_argument_value, are_named_well, is_text}
+use Rattle.fluent_syntax_grammar.specs.Readable.{is_message, is_callee, is_text}
 use Rattle.fluent_syntax_grammar.specs.Readable.{Stand, opening, after_line, within_line, after_placeable, stand_after}
 use Rattle.fluent_syntax_grammar.specs.Readable.{indents, stands_well, ends_well, are_elements, is_pattern, defaults}
 use Rattle.fluent_syntax_grammar.specs.Readable.{are_lines, is_expression, are_arguments}
@@ -28,6 +27,7 @@ use Rattle.fluent_syntax_rules.specs.Alone.{form_keeps, pattern_keeps, expressio
 use Rattle.fluent_syntax_rules.specs.Alone.{arguments_keep, is_zero_if_some, least_of_lines, begins_anew}
 use Rattle.fluent_syntax_rules.specs.Alone.{first_is_nonblank, first_is_tight, later_is_no_space, later_is_unmarked}
 use Rattle.fluent_syntax_rules.specs.declared.rules.Rule.{Rule}
+use Rattle.fluent_syntax_rules.proofs.Named.{nameds_whole}
 use Rattle.fluent_syntax_rules.proofs.Stands.{and_assoc}
 use Rattle.fluent_syntax_rules.proofs.Together.{ArePartsOf, both_pass, entry_meets}
 
@@ -150,22 +150,6 @@ expression_whole (select e vs) = select_whole (is_none (selector_fault e)) (defa
 expression_whole (inline e) = refl
 
 -- ---- Arguments
-
-one_named : (fresh allowed values names : Bool)
-    → (fresh && (allowed && (values && names))) ≡ ((allowed && values) && (fresh && names))
-one_named true true values names = refl
-one_named true false values names = refl
-one_named false true true names = refl
-one_named false true false names = refl
-one_named false false values names = refl
-
-nameds_whole : (used : List Text) (ns : NamedTrees Text)
-    → are_named_well used ns ≡ (have_values ns && have_new_names used ns)
-nameds_whole used no_named = refl
-nameds_whole used (nameds (named_argument name e) ns) =
-    let fresh = not (is_used name used) in
-    ap (λ b. fresh && (is_argument_value e && b)) (nameds_whole (name ∷ used) ns)
-    ∙ one_named fresh (is_argument_value e) (have_values ns) (have_new_names (name ∷ used) ns)
 
 arguments_whole : (a : ArgumentsTree Text)
     → are_arguments a ≡ list_all (λ rule. arguments_keep rule a) every_rule

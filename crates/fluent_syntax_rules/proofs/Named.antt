@@ -1,26 +1,45 @@
 -- What is asked of a list of named arguments, asked of its first one and of the rest.
 use Rattle.std.proofs.Common.{◌≡◌, ℕ, ◌+◌, ◌<◌, List, [], ◌∷◌, ◌++◌, length, get_or, take, map, reverse, nat_eq}
 use Rattle.std.proofs.Common.{Bool, true, false, ◌&&◌, not, refl, sym, ap, ◌∙◌}
+use Rattle.std.specs.BTreeMap.{is_at}
+use Rattle.std.specs.Cmp.Lexicographic.{slice_cmp}
+use Rattle.std.specs.List.{list_any}
+use Rattle.std.specs.Ordering.{nat_cmp}
 use lib.Pointwise.{pointwise}
 use Rattle.std.proofs.lemmas.List.{map_more, reverse-append}
 use Rattle.std.proofs.lemmas.List.Sorted.{list_any-IsPermutation, IsPermutation-reverse}
-use Rattle.fluent_syntax_tree.specs.Tree.{nameds, nameds_of}
+use Rattle.fluent_syntax_tree.specs.Tree.{NamedTrees, no_named, nameds, nameds_of, named_argument}
 use Rattle.fluent_syntax_tree.specs.View.{inline_view, named_view}
 use Rattle.fluent_syntax_tree.specs.declared.ast.NamedArgument.{NamedArgument}
 use Rattle.fluent_syntax_tree.proofs.Views.{view-NamedArgument}
 use Rattle.fluent_syntax_grammar.specs.Arguments.{is_used}
 use Rattle.fluent_syntax_grammar.specs.Readable.{is_argument_value, are_named_well}
+use Rattle.fluent_syntax_grammar.specs.NameKeys.{NotesAll}
 use Rattle.fluent_syntax_grammar.specs.Written.{Text}
+use Rattle.fluent_syntax_grammar.proofs.NameKeys.{key_held}
 use Rattle.fluent_syntax_rules.specs.Alone.{have_values, have_new_names}
-use Rattle.fluent_syntax_rules.specs.Names.{name_of, is_named_well}
+use Rattle.fluent_syntax_rules.specs.Names.{name_of}
 
 is_used-reversed : (name : Text) (names : List Text) → is_used name names ≡ is_used name (reverse names)
 is_used-reversed name names =
     list_any-IsPermutation (pointwise nat_eq name) names (reverse names) (IsPermutation-reverse names)
 
-and_assoc : (a b c : Bool) → (a && (b && c)) ≡ ((a && b) && c)
-and_assoc true b c = refl
-and_assoc false b c = refl
+one_named : (fresh allowed values names : Bool)
+    → (fresh && (allowed && (values && names))) ≡ ((allowed && values) && (fresh && names))
+one_named true true values names = refl
+one_named true false values names = refl
+one_named false true true names = refl
+one_named false true false names = refl
+one_named false false values names = refl
+
+-- Both are asked of each argument at once, or the one of all and then the other.
+pub nameds_whole : (used : List Text) (ns : NamedTrees Text)
+    → are_named_well used ns ≡ (have_values ns && have_new_names used ns)
+nameds_whole used no_named = refl
+nameds_whole used (nameds (named_argument name e) ns) =
+    let fresh = not (is_used name used) in
+    ap (λ b. fresh && (is_argument_value e && b)) (nameds_whole (name ∷ used) ns)
+    ∙ one_named fresh (is_argument_value e) (have_values ns) (have_new_names (name ∷ used) ns)
 
 module _ {S : Type 0} (text : S → Text) where
   -- the names so far, last first
@@ -34,28 +53,8 @@ module _ {S : Type 0} (text : S → Text) where
       sym (ap reverse (map_more (name_of text) ns i n within ∙ ap (λ m. names ++ name_of text m ∷ []) (sym is))
       ∙ reverse-append names (name_of text n ∷ []))
 
-  -- Names that are used are used in any order.
-  pub named_well-used : (earlier : List (NamedArgument S)) (n : NamedArgument S)
-      → is_named_well text (map (name_of text) earlier) n ≡ is_named_well text (used earlier) n
-  named_well-used earlier n =
-      ap (λ b. not b && is_argument_value (inline_view text n.value))
-      (is_used-reversed (name_of text n) (map (name_of text) earlier))
-
-  abbrev pub named_well : List Text → List (NamedArgument S) → Bool
-  named_well names ns = are_named_well names (nameds_of (map (named_view text) ns))
-
-  abbrev pub one_named_well : List Text → NamedArgument S → List (NamedArgument S) → Bool
-  one_named_well names n ns = is_named_well text names n
-
   abbrev pub with_name : List Text → NamedArgument S → List Text
   with_name names n = name_of text n ∷ names
-
-  pub first_named_well : (names : List Text) (n : NamedArgument S) (ns : List (NamedArgument S))
-      → named_well names (n ∷ ns) ≡ (one_named_well names n ns && named_well (with_name names n) ns)
-  first_named_well names n ns =
-      let value = is_argument_value (inline_view text n.value) in
-      ap (λ v. are_named_well names (nameds v (nameds_of (map (named_view text) ns)))) (view-NamedArgument text n)
-      ∙ and_assoc (not (is_used (name_of text n) names)) value (named_well (with_name names n) ns)
 
   -- ---- values alone, and names alone
 
@@ -88,3 +87,10 @@ module _ {S : Type 0} (text : S → Text) where
   pub new_name-used : (earlier : List (NamedArgument S)) (n : NamedArgument S)
       → is_used (name_of text n) (map (name_of text) earlier) ≡ is_used (name_of text n) (used earlier)
   new_name-used earlier n = is_used-reversed (name_of text n) (map (name_of text) earlier)
+
+  -- a table of the earlier names has a name exactly where it is used among them
+  pub table-used : {K : Type 0} (k : K → Text) (keys : List K) (earlier : List (NamedArgument S)) (n : NamedArgument S)
+      (name : Text) → name ≡ name_of text n → NotesAll k keys (map (name_of text) earlier)
+      → list_any (is_at (λ x. slice_cmp nat_cmp name (k x))) keys ≡ is_used (name_of text n) (used earlier)
+  table-used k keys earlier n name is noted =
+      key_held k name keys ∙ noted name ∙ ap (λ v. is_used v (map (name_of text) earlier)) is ∙ new_name-used earlier n

@@ -1,6 +1,5 @@
 //! Each rule of canonical trees by itself: what it asks of a node, whatever else is wrong there.
-ghost use Rattle.std.specs.Prelude.{◌≡◌, [], map};
-ghost use Rattle.std.specs.List.{list_all};
+ghost use Rattle.std.specs.Prelude.{◌≡◌, map};
 ghost use Rattle.fluent_syntax_tree.specs.Tree.{nameds_of, variants_of};
 ghost use Rattle.fluent_syntax_tree.specs.View.{message_view, comment_view, expression_view, inline_view};
 ghost use Rattle.fluent_syntax_tree.specs.View.{variant_view, arguments_view, named_view};
@@ -11,7 +10,8 @@ ghost use Rattle.fluent_syntax_rules.specs.Alone.{callee_keeps, string_keeps, nu
 pub mod patterns;
 pub mod texts;
 
-use crate::arguments::{have_new_names, have_values};
+use crate::argument_names::have_new_names;
+use crate::arguments::have_values;
 use crate::comments::{are_lines, are_plain_lines};
 use crate::entries::is_message;
 use crate::expressions::{defaults, is_selector, is_term_attribute};
@@ -19,6 +19,7 @@ use crate::rules::Rule;
 use crate::spellings::{is_callee, is_name, is_number, is_string};
 use fluent_syntax_tree::ast::*;
 use fluent_syntax_tree::texts::ReadTexts;
+use std::alloc::Global;
 
 pub fn junk_keeps(rule: Rule) -> bool
     ensures { result ≡ junk_keeps rule }
@@ -85,18 +86,26 @@ fn content_keeps<X, T: ReadTexts<X>>(rule: Rule, content: &InlineExpression<X>) 
     }
 }
 
-pub fn arguments_keep<X, T: ReadTexts<X>>(rule: Rule, arguments: &CallArguments<X>) -> bool
+pub fn arguments_keep<X, T: ReadTexts<X>>(
+    alloc: Option<Global>,
+    rule: Rule,
+    arguments: &CallArguments<X>,
+) -> bool
     ensures { result ≡ arguments_keep rule (arguments_view T.text arguments.now) }
 {
-    nameds_keep::<X, T>(rule, &arguments.named)
+    nameds_keep::<X, T>(alloc, rule, &arguments.named)
 }
 
-fn nameds_keep<X, T: ReadTexts<X>>(rule: Rule, named: &[NamedArgument<X>]) -> bool
+fn nameds_keep<X, T: ReadTexts<X>>(
+    alloc: Option<Global>,
+    rule: Rule,
+    named: &[NamedArgument<X>],
+) -> bool
     ensures { result ≡ nameds_keep rule (nameds_of (map (named_view T.text) named.now)) }
 {
     match rule {
         Rule::ForbiddenArgument => have_values::<X, T>(named),
-        Rule::RepeatedArgument => have_new_names::<X, T>(named),
+        Rule::RepeatedArgument => have_new_names::<X, T>(alloc, named),
         _ => true,
     }
 }

@@ -3,12 +3,14 @@ ghost use Rattle.std.specs.Prelude.{◌≡◌, map};
 ghost use Rattle.fluent_syntax_tree.specs.View.{entry_view};
 ghost use Rattle.fluent_syntax_rules.specs.Uncanonical.{first_of, broken_rule, first_uncanonical};
 
+use crate::asked::Asked;
 use crate::rules::{RULES, Rule};
 use crate::standard::Standard;
 use crate::walk::entry_obeys;
 use fluent_syntax_tree::ast::Entry;
 use fluent_syntax_tree::edition::Edition;
 use fluent_syntax_tree::texts::ReadTexts;
+use std::alloc::Global;
 
 /// An entry of a tree, and the rule by which it is not canonical.
 #[derive(Clone, Copy, Debug, Drop, Eq, PartialEq)]
@@ -20,13 +22,14 @@ pub struct Uncanonical {
 }
 
 pub fn first_uncanonical<X, T: ReadTexts<X>>(
+    alloc: Option<Global>,
     edition: Edition,
     entries: &[Entry<X>],
 ) -> Option<Uncanonical>
     ensures { result ≡ first_uncanonical edition (map (entry_view T.text) entries.now) }
 {
     for (index, entry) in entries.iter().enumerate() {
-        if let Some(rule) = broken_rule::<X, T>(edition, entry) {
+        if let Some(rule) = broken_rule::<X, T>(alloc, edition, entry) {
             return Some(Uncanonical { entry: index, rule });
         }
     }
@@ -34,28 +37,43 @@ pub fn first_uncanonical<X, T: ReadTexts<X>>(
 }
 
 /// The first rule that the entry breaks. Each rule is asked only where the entry is not canonical.
-pub fn broken_rule<X, T: ReadTexts<X>>(edition: Edition, entry: &Entry<X>) -> Option<Rule>
+pub fn broken_rule<X, T: ReadTexts<X>>(
+    alloc: Option<Global>,
+    edition: Edition,
+    entry: &Entry<X>,
+) -> Option<Rule>
     ensures { result ≡ broken_rule edition (entry_view T.text entry.now) }
 {
-    if entry_obeys::<X, T>(Standard::Canonical(edition), entry) {
+    let standard = Standard::Canonical(edition);
+    if entry_obeys::<X, T>(Asked { standard, alloc }, entry) {
         None
     } else {
-        first_broken::<X, T>(edition, entry)
+        first_broken::<X, T>(alloc, edition, entry)
     }
 }
 
-fn first_broken<X, T: ReadTexts<X>>(edition: Edition, entry: &Entry<X>) -> Option<Rule>
+fn first_broken<X, T: ReadTexts<X>>(
+    alloc: Option<Global>,
+    edition: Edition,
+    entry: &Entry<X>,
+) -> Option<Rule>
     ensures { result ≡ broken_rule edition (entry_view T.text entry.now) }
 {
-    first_of::<X, T>(edition, entry, &RULES)
+    first_of::<X, T>(alloc, edition, entry, &RULES)
 }
 
 /// The first of the rules that the entry breaks.
-fn first_of<X, T: ReadTexts<X>>(edition: Edition, entry: &Entry<X>, rules: &[Rule]) -> Option<Rule>
+fn first_of<X, T: ReadTexts<X>>(
+    alloc: Option<Global>,
+    edition: Edition,
+    entry: &Entry<X>,
+    rules: &[Rule],
+) -> Option<Rule>
     ensures { result ≡ first_of edition (entry_view T.text entry.now) rules.now }
 {
     for rule in rules {
-        if !entry_obeys::<X, T>(Standard::Alone(edition, *rule), entry) {
+        let standard = Standard::Alone(edition, *rule);
+        if !entry_obeys::<X, T>(Asked { standard, alloc }, entry) {
             return Some(*rule);
         }
     }

@@ -1,6 +1,7 @@
 //! Tests of trees: which look like a tree that was read, and which read back once they are written.
 //!
-//! No test takes memory.
+//! No test needs memory. Those that take an allocator look many names of arguments up in a table, as far as there is
+//! memory for it.
 #![tactic(auto)]
 
 ghost use Rattle.std.specs.Prelude.{◌≡◌, is_none, IfSome};
@@ -11,7 +12,9 @@ ghost use Rattle.fluent_syntax_grammar.specs.Rules.{entry_obeys};
 ghost use Rattle.fluent_syntax_rules.specs.Uncanonical.{broken_rule, first_uncanonical, IsFirstBroken};
 
 mod alone;
+mod argument_names;
 mod arguments;
+mod asked;
 mod comments;
 mod elements;
 mod entries;
@@ -25,6 +28,7 @@ mod standard;
 pub mod texts;
 mod walk;
 
+use asked::Asked;
 pub use first::Uncanonical;
 use fluent_syntax_tree::ast::{Entry, Resource};
 use fluent_syntax_tree::edition::Edition;
@@ -32,6 +36,7 @@ use fluent_syntax_tree::slice::Slice;
 use fluent_syntax_tree::texts::BySlice;
 pub use rules::Rule;
 use standard::Standard;
+use std::alloc::Global;
 use walk::body_obeys;
 
 /// Whether the tree is canonical in the edition. Then it is read back, text by text, from the text that it is written
@@ -41,7 +46,11 @@ use walk::body_obeys;
 pub fn is_canonical<'s, S: Slice<'s>>(r: &Resource<S>, edition: Edition) -> bool
     ensures exact { result ≡ is_canonical edition (resource_view S.text r.now) }
 {
-    body_obeys::<S, BySlice<'s>>(Standard::Canonical(edition), &r.body)
+    let canonical = Asked {
+        standard: Standard::Canonical(edition),
+        alloc: None,
+    };
+    body_obeys::<S, BySlice<'s>>(canonical, &r.body)
 }
 
 /// Whether the tree is readable in the edition: it looks like a tree that was read. Each canonical tree is.
@@ -50,7 +59,11 @@ pub fn is_canonical<'s, S: Slice<'s>>(r: &Resource<S>, edition: Edition) -> bool
 pub fn is_readable<'s, S: Slice<'s>>(r: &Resource<S>, edition: Edition) -> bool
     ensures exact { result ≡ is_readable edition (resource_view S.text r.now) }
 {
-    body_obeys::<S, BySlice<'s>>(Standard::Readable(edition), &r.body)
+    let readable = Asked {
+        standard: Standard::Readable(edition),
+        alloc: None,
+    };
+    body_obeys::<S, BySlice<'s>>(readable, &r.body)
 }
 
 /// The first entry of the tree that is not canonical in the edition, and the first rule that it breaks, in the order of
@@ -74,7 +87,23 @@ pub fn first_uncanonical<'s, S: Slice<'s>>(
     ensures none { is_none result ≡ is_canonical edition (resource_view S.text tree.now) }
     ensures first { IfSome result (λ found. IsFirstBroken edition (resource_view S.text tree.now) found) }
 {
-    first::first_uncanonical::<S, BySlice<'s>>(edition, &tree.body)
+    first::first_uncanonical::<S, BySlice<'s>>(None, edition, &tree.body)
+}
+
+/// What `first_uncanonical` gives, in time near that of walks over the tree for every tree.
+///
+/// The names of an argument list of 32 named arguments and more are looked up in a table. Where a growth of it is
+/// refused they are compared one by one.
+pub fn first_uncanonical_with<'s, S: Slice<'s>>(
+    alloc: Global,
+    tree: &Resource<S>,
+    edition: Edition,
+) -> Option<Uncanonical>
+    ensures exact { result ≡ first_uncanonical edition (resource_view S.text tree.now) }
+    ensures none { is_none result ≡ is_canonical edition (resource_view S.text tree.now) }
+    ensures first { IfSome result (λ found. IsFirstBroken edition (resource_view S.text tree.now) found) }
+{
+    first::first_uncanonical::<S, BySlice<'s>>(Some(alloc), edition, &tree.body)
 }
 
 /// The first rule of canonical trees that the entry breaks in the edition; `None` where it breaks none. A tree is
@@ -86,5 +115,17 @@ pub fn broken_rule<'s, S: Slice<'s>>(entry: &Entry<S>, edition: Edition) -> Opti
     ensures exact { result ≡ broken_rule edition (entry_view S.text entry.now) }
     ensures none { is_none result ≡ entry_obeys (canonical_rules edition) (entry_view S.text entry.now) }
 {
-    first::broken_rule::<S, BySlice<'s>>(edition, entry)
+    first::broken_rule::<S, BySlice<'s>>(None, edition, entry)
+}
+
+/// What `broken_rule` gives, in time near that of walks over the entry for every entry, as `first_uncanonical_with`.
+pub fn broken_rule_with<'s, S: Slice<'s>>(
+    alloc: Global,
+    entry: &Entry<S>,
+    edition: Edition,
+) -> Option<Rule>
+    ensures exact { result ≡ broken_rule edition (entry_view S.text entry.now) }
+    ensures none { is_none result ≡ entry_obeys (canonical_rules edition) (entry_view S.text entry.now) }
+{
+    first::broken_rule::<S, BySlice<'s>>(Some(alloc), edition, entry)
 }

@@ -9,6 +9,7 @@ ghost use Rattle.fluent_syntax_rules.specs.Standards.{number_rule, name_rule};
 use crate::alone::patterns::pattern_keeps;
 use crate::alone::*;
 use crate::arguments::are_arguments;
+use crate::asked::Asked;
 use crate::comments::{are_lines, is_plain_comment};
 use crate::elements::is_pattern;
 use crate::entries::is_message;
@@ -94,15 +95,13 @@ pub fn is_callee_by(standard: Standard, text: &str) -> bool
     }
 }
 
-pub fn are_arguments_by<X, T: ReadTexts<X>>(
-    standard: Standard,
-    arguments: &CallArguments<X>,
-) -> bool
-    ensures { result ≡ arguments_rule standard (arguments_view T.text arguments.now) }
+pub fn are_arguments_by<X, T: ReadTexts<X>>(asked: Asked, arguments: &CallArguments<X>) -> bool
+    ensures { result ≡ arguments_rule asked.standard (arguments_view T.text arguments.now) }
 {
+    let Asked { standard, alloc } = asked;
     match standard {
-        Standard::Readable(_) | Standard::Canonical(_) => are_arguments::<X, T>(arguments),
-        Standard::Alone(_, rule) => arguments_keep::<X, T>(rule, arguments),
+        Standard::Readable(_) | Standard::Canonical(_) => are_arguments::<X, T>(alloc, arguments),
+        Standard::Alone(_, rule) => arguments_keep::<X, T>(alloc, rule, arguments),
     }
 }
 

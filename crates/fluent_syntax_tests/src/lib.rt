@@ -27,11 +27,11 @@ mod many_arguments;
 mod nesting;
 pub mod outline;
 #[cfg(test)]
+mod passed_over;
+#[cfg(test)]
 mod places;
 #[cfg(test)]
 mod runtime;
-#[cfg(test)]
-mod short_messages;
 #[cfg(test)]
 mod spans;
 #[cfg(test)]

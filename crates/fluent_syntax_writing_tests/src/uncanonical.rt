@@ -3,7 +3,10 @@
 
 use crate::rules::{arguments, term, variants};
 use fluent_syntax::ast::*;
-use fluent_syntax::laws::{Rule, Uncanonical, broken_rule, first_uncanonical, joined};
+use fluent_syntax::laws::{
+    Rule, Uncanonical, broken_rule, broken_rule_with, first_uncanonical, first_uncanonical_with,
+    joined,
+};
 use fluent_syntax::parser::Edition;
 use fluent_syntax_tests::alike::{assert_same, assert_same_text};
 use fluent_syntax_tests::made::{
@@ -23,12 +26,16 @@ fn assert_broken(
 ) -> Result<(), Fail> {
     let entry = entry?;
     assert_same(alloc, shows, &broken_rule(&entry, edition), &expected)?;
+    let found = broken_rule_with(alloc, &entry, edition);
+    assert_same(alloc, shows, &found, &expected)?;
     let tree = one(alloc, entry)?;
     let expected = match expected {
         Some(rule) => Some(Uncanonical { entry: 0, rule }),
         None => None,
     };
-    assert_same(alloc, shows, &first_uncanonical(&tree, edition), &expected)
+    assert_same(alloc, shows, &first_uncanonical(&tree, edition), &expected)?;
+    let found = first_uncanonical_with(alloc, &tree, edition);
+    assert_same(alloc, shows, &found, &expected)
 }
 
 /// Elements, where `$x` is a placeable of a variable, and the rule that they break in edition one and in edition two.
@@ -261,6 +268,41 @@ fn assert_call_broken(alloc: Global, row: &Call) -> Result<(), Fail> {
 fn calls(rt: HostRuntime) -> Result<(), Fail> {
     for row in &CALLS {
         assert_call_broken(rt.alloc(), row)?;
+    }
+    Ok(())
+}
+
+/// Names of arguments, two more than the number from which they are looked up in a table.
+const NAMES: [Text; 34] = [
+    "a", "b", "c", "d", "e", "f", "g", "h", "i", "j", "k", "l", "m", "n", "o", "p", "q", "r", "s",
+    "t", "u", "v", "w", "x", "y", "z", "aa", "ab", "ac", "ad", "ae", "af", "ag", "ah",
+];
+
+/// A call with so many of the names, and one more argument, if a name is given.
+fn assert_names_judged(alloc: Global, count: usize, repeated: Option<&Text>) -> Result<(), Fail> {
+    let mut rows = Vec::new(alloc);
+    for name in NAMES.iter().take(count) {
+        rows.push((*name, "1"))?;
+    }
+    let mut expected = None;
+    if let Some(name) = repeated {
+        rows.push((*name, "1"))?;
+        expected = Some(Rule::RepeatedArgument);
+    }
+    let call = InlineExpression::FunctionReference {
+        id: id("F"),
+        arguments: arguments(alloc, &rows)?,
+    };
+    assert_inline_broken(alloc, "names of many arguments", call, expected)
+}
+
+#[test]
+fn names_of_many_arguments(rt: HostRuntime) -> Result<(), Fail> {
+    for count in 30..35 {
+        assert_names_judged(rt.alloc(), count, None)?;
+        assert_names_judged(rt.alloc(), count, NAMES.first())?;
+        assert_names_judged(rt.alloc(), count, NAMES.get(count / 2))?;
+        assert_names_judged(rt.alloc(), count, NAMES.get(count.saturating_sub(1)))?;
     }
     Ok(())
 }

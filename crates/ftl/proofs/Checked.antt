@@ -1,7 +1,6 @@
 -- Texts that are checked entry by entry.
 use Rattle.std.proofs.Common.{◌≡◌, ℕ, ◌≤◌, List, [], ◌∷◌, ◌++◌, length, map, Option, Some, None, refl, sym, ◌∙◌, ap}
-use Rattle.std.proofs.Common.{true, false}
-use Rattle.std.specs.Prelude.{IfNone, IfSome, is_some}
+use Rattle.std.specs.Prelude.{IfSome}
 use Rattle.std.specs.List.{flat_map}
 use Rattle.std.proofs.lemmas.Grind.{flat_map-append}
 use Rattle.std.proofs.lemmas.List.{append-nil, append_assoc, map-append}
@@ -46,16 +45,6 @@ pub if_some : {X : Type 0} {P : X → Type 0} (o : Option X) → ((x : X) → o 
 if_some None h = tt
 if_some (Some x) h = h x refl
 
--- what holds of the value of what has one
-pub of_value : {X : Type 0} {P : X → Type 0} (o : Option X) → is_some o ≡ true → IfSome o P → (x : X) × P x
-of_value None some h = cc
-of_value (Some x) some h = (x, h)
-
--- what holds if there is no value
-pub of_none : {X P : Type 0} (o : Option X) → is_some o ≡ false → IfNone o P → P
-of_none None none h = h
-of_none (Some x) none h = cc
-
 module _ (edition : Edition) (t : List ℕ) where
   pub nothing_checked : CheckedTo edition t 0 []
   nothing_checked = record { spans = []; errors = []; lines_are = refl; rest = λ entries others rest. rest }
@@ -99,7 +88,3 @@ module _ (edition : Edition) (t : List ℕ) where
         )
             (checked.rest _ _ (next entries others rest));
       }
-
-    -- an entry without error adds no line
-    pub checked_past : (j : ℕ) (e : EntryTree Span) → EntryTo Kept edition t i j e [] → CheckedTo edition t j lines
-    checked_past j e next = checked_on j e None next lines (sym (append-nil lines))

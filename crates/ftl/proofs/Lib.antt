@@ -2,4 +2,5 @@ pub mod Bytes
 pub mod Checked
 pub mod Errors
 pub mod FormattedAgain
-pub mod FormattedTo
+pub mod ReadTo
+pub mod Came

@@ -7,3 +7,4 @@ pub mod Formatted
 pub mod Formatting
 pub mod FromJson
 pub mod Safe
+pub mod OneByOne

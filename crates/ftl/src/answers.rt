@@ -1,37 +1,29 @@
 //! The text that a command writes.
-ghost use Rattle.std.specs.Prelude.{◌≡◌, ◌≢◌, ◌↔◌, ◌+◌, ◌++◌, ◌^◌, ◌<◌, ◌≤◌, ℕ, List, length, string_bytes, codes, Err};
-ghost use Rattle.std.specs.Prelude.{◌&&◌, Ok, IfErr, IfOk, IfSome, OnErr, OnOk, false, true};
+ghost use Rattle.std.specs.Prelude.{◌≡◌, ◌≢◌, ◌↔◌, ◌+◌, ◌++◌, ◌^◌, ◌<◌, ◌≤◌, List, length, string_bytes, Err};
+ghost use Rattle.std.specs.Prelude.{Ok, IfErr, IfOk, IfSome, OnErr, OnOk, false, true};
 ghost use Rattle.std.specs.Str.{IsUtf8};
-ghost use Rattle.fluent_syntax_tree.specs.Entry.{body_map, entry_map};
-ghost use Rattle.fluent_syntax_tree.specs.Every.{entry_every};
-ghost use Rattle.fluent_syntax_tree.specs.Spans.{IsPart, bytes_at};
-ghost use Rattle.fluent_syntax_tree.specs.View.{resource_view};
+ghost use Rattle.fluent_syntax_tree.specs.Entry.{body_map};
+ghost use Rattle.fluent_syntax_tree.specs.Spans.{bytes_at};
 ghost use Rattle.fluent_syntax_grammar.specs.Grammar.{family};
 ghost use Rattle.fluent_syntax_grammar.specs.Nesting.{NestsDeeper, TextDeeper};
 ghost use Rattle.fluent_syntax_grammar.specs.Tiling.{Tile, Tiled, Tiling};
 ghost use Rattle.fluent_syntax_grammar.specs.Body.{body};
-ghost use Rattle.fluent_syntax_grammar.specs.Canonical.{canonical_rules, is_canonical};
-ghost use Rattle.fluent_syntax_grammar.specs.Rules.{entry_obeys};
-ghost use Rattle.fluent_syntax_json.specs.Form.{body_form};
-ghost use Rattle.serde_json.specs.Written.{compact_text};
-ghost use Rattle.fluent_syntax_parser.specs.Answers.{Answers};
+ghost use Rattle.fluent_syntax_grammar.specs.Canonical.{is_canonical};
 ghost use Rattle.fluent_syntax_parser.specs.Halts.{HaltsWithin, OnHalt};
-ghost use Rattle.fluent_syntax_parser.specs.Rest.{TileIn, tree_of};
+ghost use Rattle.fluent_syntax_parser.specs.Rest.{TileIn};
 ghost use Rattle.fluent_syntax_parser.specs.declared.fault.ParseFault.TheVariants.{Memory};
-ghost use Rattle.ftl.specs.Formatting.{AddsTree};
 ghost use Rattle.ftl.specs.Answer.{IsAnswer, ReadsDeeper, error_lines, error_text, line_of_error, range_text};
-ghost use Rattle.ftl.specs.Answer.{json_text, normal_text, outcome_behind, outcome_of, told};
+ghost use Rattle.ftl.specs.Answer.{json_text, normal_text, outcome_of, told};
 
 use crate::command::Command;
+use crate::one_by_one::write_one_by_one;
 use crate::outcome::{Outcome, RunFault};
-use fluent_syntax::ast::{Entry, Resource};
-use fluent_syntax::laws::broken_rule;
-use fluent_syntax::parser::{Edition, ParseFault, ParserError, TooDeep, parse_within};
-use fluent_syntax::serializer::EntryWriter;
-use fluent_syntax::spans::{Comments, Entries, Halt, Lines, Options, Span, resolve_entry};
+use crate::writers::NormalWriter;
+use fluent_syntax::ast::Entry;
+use fluent_syntax::parser::{Edition, ParserError, TooDeep};
+use fluent_syntax::spans::{Comments, Entries, Halt, Lines, Options, Span};
 use fluent_syntax::unicode::SinkError;
-use fluent_syntax::{parser, serializer};
-use fluent_syntax_json::write_to;
+use fluent_syntax_json::BodyWriter;
 use std::alloc::{AllocError, Global};
 use std::fmt::Write;
 
@@ -80,7 +72,7 @@ pub fn answer_within(
         Command::Format => format(alloc, text, Edition::One, Comments::Kept, nesting)?,
         Command::FormatTwo => format(alloc, text, Edition::Two, Comments::Kept, nesting)?,
         Command::Runtime => format(alloc, text, Edition::One, Comments::Dropped, nesting)?,
-        Command::Json => json(alloc, parse_within(alloc, text, Edition::One, nesting)?),
+        Command::Json => json(alloc, text, nesting)?,
     };
     Ok(answer)
 }
@@ -131,29 +123,22 @@ fn lines(alloc: Global, text: &str, edition: Edition, nesting: usize) -> Result<
     let mut entries = Entries::new(text, options);
     let mut places = Lines::new(text);
     let mut out = String::new(alloc);
-    let mut parts = Vec::new(alloc);
-    loop {
-        // a message that is read without a tree has no error
-        if entries.next_short(&mut parts)?.is_none() {
-            let Some(read) = entries.next_entry(alloc)? else {
-                return Ok(out);
-            };
-            write_error_of(&mut out, &mut places, read)?;
-        }
+    while let Some(error) = entries.next_error(alloc)? {
+        write_if_error(&mut out, &mut places, error)?;
     }
+    Ok(out)
 }
 
-/// Writes the line of the error of what was read, if it is junk.
-fn write_error_of(
+/// Writes the line of an error, if there is one.
+fn write_if_error(
     out: &mut String,
     places: &mut Lines<'_>,
-    read: (Entry<Span>, Option<ParserError>),
+    error: Option<ParserError>,
 ) -> Result<(), AllocError>
-    requires { IfSome read.1 (λ error. error.pos.start ≤ length places.old) }
-    ensures line { OnOk result (string_bytes out.new ≡ string_bytes out.old ++ line_of_error places.old read.1) }
+    requires { IfSome error (λ error. error.pos.start ≤ length places.old) }
+    ensures line { OnOk result (string_bytes out.new ≡ string_bytes out.old ++ line_of_error places.old error) }
     ensures source { places.new ≡ places.old }
 {
-    let (_entry, error) = read;
     if let Some(error) = error {
         let (line, column) = places.line_column(error.pos.start);
         write_line(out, line, column, &error)?;
@@ -268,11 +253,12 @@ fn format(
     ensures shallow { IfOk result (λ answer. IfOk answer (λ given.
         TextDeeper edition text.now (TileIn comments edition text.now) nesting 0 → ⊥)) }
 {
-    let mut all_canonical = true;
+    let mut all_canonical = false;
     format_noting(alloc, text, edition, comments, nesting, &mut all_canonical)
 }
 
-/// The text of the tree of the text, without its junk. Notes where an entry of the tree is not canonical.
+/// The text of the tree of the text, without its junk. Notes where an entry of the tree is not canonical, if that is not
+/// noted already.
 fn format_noting(
     alloc: Global,
     text: &str,
@@ -325,118 +311,52 @@ fn normal(
     ensures shallow { let t = text.now in let at = TileIn options.comments options.edition t in
         IfOk result (λ given. TextDeeper options.edition t at options.nesting 0 → ⊥) }
 {
-    let mut entries = Entries::new(text, options);
-    let mut writer = EntryWriter::new(String::new(alloc), serializer::Options::default());
-    let mut outcome = Outcome::Clean;
-    while let Some(read) = entries.next_entry(alloc)? {
-        outcome = write_read(
-            alloc,
-            &mut writer,
-            text,
-            outcome,
-            read,
-            options,
-            all_canonical,
-        )?;
-    }
-    match writer.finish() {
-        (written, Ok(())) => Ok((written, outcome)),
-        (_, Err(SinkError)) => Err(Halt::Memory),
-    }
+    let mut writer = NormalWriter::new(alloc, options.edition, *all_canonical);
+    let outcome = write_one_by_one(alloc, &mut writer, text, options)?;
+    *all_canonical = writer.all_canonical();
+    let written = writer.finish()?;
+    Ok((written, outcome))
 }
 
-/// Writes the entry that was read next, and gives the outcome so far.
-fn write_read(
+/// The JSON form of the text's tree, as compact text, and LF.
+fn json(
     alloc: Global,
-    writer: &mut EntryWriter<String>,
     text: &str,
-    outcome: Outcome,
-    read: (Entry<Span>, Option<ParserError>),
-    options: Options,
-    all_canonical: &mut bool,
-) -> Result<Outcome, AllocError>
-    requires parts { entry_every (IsPart text.now) (tree_of read.0) }
-    ensures options { writer.new.options ≡ writer.old.options }
-    ensures written { OnOk result (AddsTree writer.old writer.new (entry_map (bytes_at text.now) (tree_of read.0))) }
-    ensures outcome { IfOk result (λ found. found ≡ outcome_behind outcome read.1) }
-    ensures noted { OnOk result (all_canonical.new ≡ (all_canonical.old
-        && entry_obeys (canonical_rules options.edition) (entry_map (bytes_at text.now) (tree_of read.0)))) }
+    nesting: usize,
+) -> Result<Result<(String, Outcome), RunFault>, TooDeep>
+    ensures text { IfOk result (λ answer. IfOk answer (λ given. (tiles : List Tile) × Tiling Edition.One text.now tiles
+        × (string_bytes given.0 ≡ json_text text.now tiles) × (given.1 ≡ outcome_of tiles))) }
+    ensures err { IfOk result (λ answer. IfErr answer (λ fault. fault ≡ RunFault.Memory)) }
+    ensures deep { OnErr result (nesting < length text.now) }
+    ensures deeper { OnErr result (NestsDeeper Edition.One text.now nesting) }
+    ensures shallow { IfOk result (λ answer. IfOk answer (λ given. NestsDeeper Edition.One text.now nesting → ⊥)) }
 {
-    let (entry, error) = read;
-    let is_canonical = write_resolved(alloc, writer, text, &entry, options.edition)?;
-    *all_canonical = *all_canonical && is_canonical;
-    Ok(outcome_behind(outcome, &error))
-}
-
-/// Writes the entry with the text's bytes at each span, and tells whether it is canonical.
-fn write_resolved(
-    alloc: Global,
-    writer: &mut EntryWriter<String>,
-    text: &str,
-    entry: &Entry<Span>,
-    edition: Edition,
-) -> Result<bool, AllocError>
-    requires parts { entry_every (IsPart text.now) (tree_of entry.now) }
-    ensures options { writer.new.options ≡ writer.old.options }
-    ensures written { OnOk result (AddsTree writer.old writer.new (entry_map (bytes_at text.now) (tree_of entry.now))) }
-    ensures canonical { IfOk result (λ canonical. canonical
-        ≡ entry_obeys (canonical_rules edition) (entry_map (bytes_at text.now) (tree_of entry.now))) }
-{
-    let entry = resolve_entry(alloc, &text, entry)?;
-    writer.write_entry(&entry);
-    Ok(broken_rule(&entry, edition).is_none())
-}
-
-/// The outcome of what was read so far and of an entry behind it, which has an error where it is junk.
-fn outcome_behind(outcome: Outcome, error: &Option<ParserError>) -> Outcome
-    ensures { result ≡ outcome_behind outcome error.now }
-{
-    match error {
-        Some(_) => Outcome::SyntaxErrors,
-        None => outcome,
+    match json_line(alloc, text, nesting) {
+        Ok(answer) => Ok(Ok(answer)),
+        Err(Halt::Memory) => Ok(Err(RunFault::Memory)),
+        Err(Halt::TooDeep) => Err(TooDeep),
     }
 }
 
-/// The JSON form of the tree that was read, as compact text, and LF.
-fn json<'s>(alloc: Global, parsed: parser::Result<&'s str>) -> Result<(String, Outcome), RunFault>
-    ensures text { IfOk result (λ answer. (t : List ℕ) (tiles : List Tile)
-        → Answers (λ s. s.now) (body_map (bytes_at t)) tiles parsed.entry
-        → (string_bytes answer.0 ≡ json_text t tiles) × (answer.1 ≡ outcome_of tiles)) }
-    ensures read { IfOk result (λ answer. parsed.entry ≢ Err Memory) }
-    ensures err { IfErr result (λ fault. fault ≡ RunFault.Memory) }
+/// The same, written as the entries come: none of them is kept.
+fn json_line(alloc: Global, text: &str, nesting: usize) -> Result<(String, Outcome), Halt>
+    ensures text { IfOk result (λ given. (tiles : List Tile) × Tiling Edition.One text.now tiles
+        × (string_bytes given.0 ≡ json_text text.now tiles) × (given.1 ≡ outcome_of tiles)) }
+    ensures nests { IfErr result (HaltsWithin nesting (length text.now)) }
+    ensures deeper { IfErr result (OnHalt (NestsDeeper Edition.One text.now nesting)) }
+    ensures shallow { IfOk result (λ given. NestsDeeper Edition.One text.now nesting → ⊥) }
 {
-    match parsed {
-        Ok(tree) => json_text(alloc, &tree, Outcome::Clean),
-        Err(ParseFault::Syntax(tree, _errors)) => json_text(alloc, &tree, Outcome::SyntaxErrors),
-        Err(ParseFault::Memory) => Err(RunFault::Memory),
+    let options = Options {
+        edition: Edition::One,
+        comments: Comments::Kept,
+        nesting,
+    };
+    let mut writer = BodyWriter::new(String::new(alloc));
+    let outcome = write_one_by_one(alloc, &mut writer, text, options)?;
+    let (mut line, written) = writer.finish();
+    match written {
+        Ok(()) => line.push('\n')?,
+        Err(SinkError) => return Err(Halt::Memory),
     }
-}
-
-fn json_text<'s>(
-    alloc: Global,
-    tree: &Resource<&'s str>,
-    outcome: Outcome,
-) -> Result<(String, Outcome), RunFault>
-    ensures text { IfOk result (λ answer.
-        (string_bytes answer.0 ≡ compact_text (body_form (resource_view (λ s. s.now) tree.now)) ++ codes "\n")
-        × (answer.1 ≡ outcome)) }
-    ensures err { IfErr result (λ fault. fault ≡ RunFault.Memory) }
-{
-    match json_line(alloc, tree) {
-        Ok(text) => Ok((text, outcome)),
-        Err(_) => Err(RunFault::Memory),
-    }
-}
-
-fn json_line<'s>(alloc: Global, tree: &Resource<&'s str>) -> Result<String, AllocError>
-    ensures { IfOk result
-        (λ text. string_bytes text ≡ compact_text (body_form (resource_view (λ s. s.now) tree.now)) ++ codes "\n") }
-{
-    let mut text = String::new(alloc);
-    match write_to(&mut text, tree) {
-        Ok(()) => (),
-        Err(SinkError) => return Err(AllocError),
-    }
-    text.push('\n')?;
-    Ok(text)
+    Ok((line, outcome))
 }

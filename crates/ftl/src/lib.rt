@@ -5,10 +5,12 @@ mod answers;
 mod command;
 mod from_json;
 pub mod laws;
+mod one_by_one;
 mod outcome;
 mod runs;
 mod safe;
 mod watched;
+mod writers;
 
 pub use answers::{Formatted, answer, answer_within, formatted_within};
 pub use command::{Command, usage};

@@ -5,7 +5,7 @@ ghost use Rattle.fluent_syntax_tree.specs.View.{resource_view};
 ghost use Rattle.ftl.specs.Safe.{is_safe, reread_tree};
 
 use fluent_syntax::ast::Resource;
-use fluent_syntax::laws::{Uncanonical, first_uncanonical, joined};
+use fluent_syntax::laws::{Uncanonical, first_uncanonical_with, joined};
 use fluent_syntax::parser::{Edition, Slice};
 use std::alloc::{AllocError, Global};
 
@@ -26,7 +26,10 @@ pub fn first_unsafe<'s, S: Slice<'s>>(
         IsFirstBroken edition (reread_tree edition (resource_view S.text tree.now)) broken)) }
 {
     match edition {
-        Edition::One => Ok(first_uncanonical(&joined(alloc, tree)?, edition)),
-        Edition::Two => Ok(first_uncanonical(tree, edition)),
+        Edition::One => {
+            let joined = joined(alloc, tree)?;
+            Ok(first_uncanonical_with(alloc, &joined, edition))
+        },
+        Edition::Two => Ok(first_uncanonical_with(alloc, tree, edition)),
     }
 }

@@ -79,7 +79,7 @@ fn put_formatted<R: Print + Eprint + AllocGlobal>(
     text: &str,
     work: &Work<'_>,
 ) -> u8 {
-    if rt.print(formatted.text.as_str()).is_err() {
+    if rt.write_all(formatted.text.as_bytes()).is_err() {
         return refuse_run(rt, RunFault::Output);
     }
     if formatted.outcome == Outcome::Clean && !formatted.is_canonical {

@@ -29,7 +29,7 @@ def parse(text: Text, *, nesting: int = NESTING, with_spans: bool = True) -> ast
             if has_errors:
                 _annotate(tree, _errors(data, 1, depth), with_spans)
             if with_spans:
-                _place_names(tree, data, depth)
+                _place(tree, data, depth)
             return tree
     except RecursionError:
         raise TooDeep("the text nests more deeply than Python's recursion takes") from None
@@ -55,18 +55,27 @@ def _annotate(tree: ast.Resource, errors: List[Error], with_spans: bool) -> None
         junk.span = error.junk if with_spans else None
 
 
-def _place_names(tree: ast.Resource, data: bytes, nesting: int) -> None:
-    """Tells of the name of each message, term and attribute where it stands; the library gives them in their order."""
-    starts, ends = _library.names(data, 1, nesting)
+def _place(tree: ast.Resource, data: bytes, nesting: int) -> None:
+    """Tells of the name and the value of each message, term and attribute where they stand; the library gives both in
+    the order of the names."""
+    found = [*_library.names(data, 1, nesting), *_library.values(data, 1, nesting)]
     if not data.isascii():
-        at = _places.in_characters(data, chain(starts, ends))
-        starts, ends = [at[it] for it in starts], [at[it] for it in ends]
-    spans = map(Span, starts, ends)
+        at = _places.in_characters(data, chain(*found))
+        found = [[*map(at.__getitem__, places)] for places in found]
+    names, values = map(Span, *found[:2]), map(Span, *found[2:])
+    for node in _named(tree):
+        node.id.span = next(names)
+        value = next(values)
+        if node.value is not None:
+            node.value.span = value
+
+
+def _named(tree: ast.Resource) -> Iterator[Union[ast.Message, ast.Term, ast.Attribute]]:
+    """The messages, terms and attributes of the tree, in the order of the text."""
     for entry in tree.body:
         if isinstance(entry, (ast.Message, ast.Term)):
-            entry.id.span = next(spans)
-            for attribute in entry.attributes:
-                attribute.id.span = next(spans)
+            yield entry
+            yield from entry.attributes
 
 
 def serialize(resource: ast.Resource) -> str:

@@ -49,10 +49,11 @@ class FindingRow(NamedTuple):
     severity: int
 
 
-# struct ftl_error, ftl_name and ftl_finding: numbers of type size_t, one or two of 32 bits, and what is added for the
-# next row
+# struct ftl_error, ftl_name, ftl_value and ftl_finding: numbers of type size_t, up to two of 32 bits, and what is added
+# for the next row
 ROW = struct.Struct("@8NI0N")
 NAME_ROW = struct.Struct("@9NI0N")
+VALUE_ROW = struct.Struct("@2N")
 FINDING_ROW = struct.Struct("@10N2I0N")
 
 
@@ -72,11 +73,13 @@ def _load() -> ctypes.CDLL:
         raise ImportError(f"dovelectern has no library for this machine: {error}") from error
     number, size = ctypes.c_uint32, ctypes.c_size_t
     text, written = [ctypes.c_char_p, size], [ctypes.c_void_p, size, ctypes.POINTER(size)]
-    for name, read in (
+    calls: List[Tuple[str, List[Any]]] = [
         ("ftl_answer", [size, *text]), ("ftl_errors", [size, *text]), ("ftl_names", [size, *text]),
-        ("ftl_error_messages", [size, *text]), ("ftl_findings", [size, ctypes.POINTER(_Text), size]),
-        ("ftl_comparison", [size, *text, *text]), ("ftl_kind_name", []), ("ftl_finding_kind_name", []),
-    ):
+        ("ftl_values", [size, *text]), ("ftl_error_messages", [size, *text]),
+        ("ftl_findings", [size, ctypes.POINTER(_Text), size]), ("ftl_comparison", [size, *text, *text]),
+        ("ftl_kind_name", []), ("ftl_finding_kind_name", []),
+    ]
+    for name, read in calls:
         call = getattr(library, name)
         call.restype = number
         call.argtypes = [number, *read, *written]
@@ -126,7 +129,7 @@ def _items(name: str, number: int, nesting: int, texts: Sequence[bytes], width: 
 
 def _given(texts: Sequence[bytes]) -> List[Any]:
     """The texts as an array, and how many they are."""
-    return [(_Text * len(texts))(*((text, len(text)) for text in texts)), len(texts)]
+    return [(_Text * len(texts))(*[_Text(text, len(text)) for text in texts]), len(texts)]
 
 
 def _refusal(name: str, number: int, nesting: int, texts: Sequence[bytes], status: int) -> Exception:
@@ -175,6 +178,14 @@ def names(text: bytes, edition: int, nesting: int) -> Tuple[List[int], List[int]
     width = NAME_ROW.size // ctypes.sizeof(ctypes.c_size_t)
     numbers = rows.cast("N")
     return numbers[4::width].tolist(), numbers[5::width].tolist()
+
+
+def values(text: bytes, edition: int, nesting: int) -> Tuple[List[int], List[int]]:
+    """Where the values of messages, terms and attributes of the text begin, in the order of their names, and where they
+    end, in bytes; of a message without one both are 0."""
+    rows, _ = _items("ftl_values", edition, nesting, [text], VALUE_ROW.size, 16 + len(text) // 64)
+    numbers = rows.cast("N")
+    return numbers[0::2].tolist(), numbers[1::2].tolist()
 
 
 def findings(texts: Sequence[bytes], edition: int, nesting: int) -> List[FindingRow]:

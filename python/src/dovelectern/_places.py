@@ -8,7 +8,7 @@ _CONTINUATIONS = bytes(range(0x80, 0xC0))
 
 def characters(text: bytes) -> int:
     """How many characters begin in the bytes."""
-    return len(text.translate(None, _CONTINUATIONS))
+    return len(text) if text.isascii() else len(text.translate(None, _CONTINUATIONS))
 
 
 def utf16_units(text: bytes) -> int:

@@ -85,6 +85,9 @@ PatternElement = Union[TextElement, Placeable]
 
 @dataclass
 class Pattern(SyntaxNode):
+    """A value. That of a message, a term or an attribute has a span: from directly behind the `=` to its end, with the
+    blank lines directly behind it."""
+
     elements: List[PatternElement] = field(default_factory=list)
     span: Optional[Span] = _span()
 

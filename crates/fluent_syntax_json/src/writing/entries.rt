@@ -7,7 +7,7 @@ ghost use Rattle.fluent_syntax_tree.specs.View.{entry_view, resource_view};
 ghost use Rattle.fluent_syntax_writer.specs.Sink.{Takes, TakesBeginning};
 ghost use Rattle.fluent_syntax_json.specs.Form.{or_null, list_form, comment_form, pattern_form, attribute_form};
 ghost use Rattle.fluent_syntax_json.specs.Form.{message_form, term_form, entry_form, body_form};
-ghost use Rattle.fluent_syntax_json.specs.Writing.{WritesData};
+ghost use Rattle.fluent_syntax_json.specs.Writing.{WritesData, entries_text, next_text};
 ghost use Rattle.fluent_syntax_writer.specs.Writing.{Appends};
 
 use super::names::{write_lines, write_name};
@@ -18,6 +18,12 @@ use fluent_syntax_tree::slice::Slice;
 use fluent_syntax_tree::texts::{BySlice, ReadTexts};
 use fluent_syntax_writer::sink::{SinkError, TextSink};
 use fluent_syntax_writer::text_writer::TextWriter;
+
+/// What stands before the first entry.
+pub const OPENING: &str = "{\"body\":[";
+
+/// What stands behind the last entry.
+pub const CLOSING: &str = "]}";
 
 /// Writes the text that `serde_json` writes of the tree's JSON form to the sink. Takes no memory of its own, since no
 /// value is made.
@@ -63,26 +69,35 @@ fn write_resource<X, T: ReadTexts<X>, W: TextSink>(
     ensures same_sink { writer.new.sink.ghost_name ≡ writer.old.sink.ghost_name }
     ensures written { WritesData W.text W.room writer.old writer.new (body_form (map (entry_view T.text) entries.now)) }
 {
-    writer.write_piece("{\"body\":[");
+    writer.write_piece(OPENING);
     write_entries(writer, entries);
-    writer.write_piece("}");
+    writer.write_piece(CLOSING);
 }
 
-/// Writes the entries, and the bracket that closes their list.
 fn write_entries<X, T: ReadTexts<X>, W: TextSink>(
     writer: &mut TextWriter<'_, T, W>,
     entries: &[Entry<X>],
 )
     ensures written { Appends W.text W.room writer.old writer.new
-        (items_text false (items_of (map entry_form (map (entry_view T.text) entries.now)))) }
+        (entries_text false (map (entry_view T.text) entries.now)) }
 {
     let mut later = false;
     for entry in entries {
-        write_comma(writer, later);
-        write_entry(writer, entry);
+        write_next(writer, entry, later);
         later = true;
     }
-    writer.write_piece("]");
+}
+
+/// Writes the entry, after a comma where one was written before it.
+pub fn write_next<X, T: ReadTexts<X>, W: TextSink>(
+    writer: &mut TextWriter<'_, T, W>,
+    entry: &Entry<X>,
+    later: bool,
+)
+    ensures written { Appends W.text W.room writer.old writer.new (next_text later (entry_view T.text entry.now)) }
+{
+    write_comma(writer, later);
+    write_entry(writer, entry);
 }
 
 fn write_entry<X, T: ReadTexts<X>, W: TextSink>(writer: &mut TextWriter<'_, T, W>, entry: &Entry<X>)

@@ -4,7 +4,7 @@ use Rattle.fluent_syntax_edits.specs.Refusals.{breaks, no_memory}
 use Rattle.fluent_syntax_edits.proofs.text.entry_text.Goals as goal
 
 pub returns-in-Some-clause-fault : goal.returns-in-Some-clause-fault
-returns-in-Some-clause-fault g c = breaks (sym c.broken_rule.ensures.exact ∙ c.in-Some.is)
+returns-in-Some-clause-fault g c = breaks (sym c.broken_rule_with.ensures.exact ∙ c.in-Some.is)
 
 pub returns-in_err-written_text-clause-fault : goal.returns-in_err-written_text-clause-fault
 returns-in_err-written_text-clause-fault g c =

@@ -17,7 +17,7 @@ pattern_obeys-returns-then-is_pattern_by g t c =
     let f = g.T.ReadTexts.text in
     let holds = sym c.is_pattern_by.ensures ∙ c.if-is_pattern_by.true in
     let elements = rw (c.deref.ensures.value, ← view-Pattern f c.args.pattern.now) at c.elements_obey.ensures in
-    elements ∙ pattern_parts (rules_of c.args.standard) (pattern_view f c.args.pattern.now) holds
+    elements ∙ pattern_parts (rules_of c.args.asked.standard) (pattern_view f c.args.pattern.now) holds
 
 pub element_obeys-returns-in-TextElement : goal.element_obeys-returns-in-TextElement
 element_obeys-returns-in-TextElement g t c = rw (c.in-TextElement.is, view-TextElement)
@@ -62,7 +62,8 @@ inline_obeys-returns-then-is_function_name g t c =
     let tested = rw c.as_str-in-FunctionReference.ensures at c.is_function_name.ensures in
     let both = sym tested ∙ c.if-is_function_name.true in
     rw (c.in-FunctionReference.is, view-FunctionReference)
-    (three_hold (name_rule c.args.standard name) (callee_rule c.args.standard name) _ _ both c.arguments_obey.ensures)
+    (three_hold (name_rule c.args.asked.standard name) (callee_rule c.args.asked.standard name) _ _ both
+    c.arguments_obey.ensures)
 
 pub inline_obeys-returns-else-is_function_name : goal.inline_obeys-returns-else-is_function_name
 inline_obeys-returns-else-is_function_name g t c =
@@ -72,8 +73,8 @@ inline_obeys-returns-else-is_function_name g t c =
     let both = sym tested ∙ c.if-is_function_name.false in
     rw (c.in-FunctionReference.is, view-FunctionReference)
     (c.if-is_function_name.false
-    ∙ three_fail (name_rule c.args.standard name) (callee_rule c.args.standard name)
-    (arguments_obey (rules_of c.args.standard) given) both)
+    ∙ three_fail (name_rule c.args.asked.standard name) (callee_rule c.args.asked.standard name)
+    (arguments_obey (rules_of c.args.asked.standard) given) both)
 
 pub inline_obeys-returns-in-MessageReference : goal.inline_obeys-returns-in-MessageReference
 inline_obeys-returns-in-MessageReference g t c =
@@ -83,22 +84,22 @@ pub inline_obeys-returns-then-reference_obeys : goal.inline_obeys-returns-then-r
 inline_obeys-returns-then-reference_obeys g t c =
     let f = g.T.ReadTexts.text in
     let reference = c.in-TermReference in
-    let named = option_obeys (name_rule c.args.standard) (option_map (identifier_view f) reference.attribute) in
+    let named = option_obeys (name_rule c.args.asked.standard) (option_map (identifier_view f) reference.attribute) in
     let both = sym c.reference_obeys-in-TermReference.ensures ∙ c.if-reference_obeys.true in
     rw (reference.is, view-TermReference)
-    (three_hold (name_rule c.args.standard (f reference.id.name)) named _ _ both c.maybe_obeys.ensures)
+    (three_hold (name_rule c.args.asked.standard (f reference.id.name)) named _ _ both c.maybe_obeys.ensures)
 
 pub inline_obeys-returns-else-reference_obeys : goal.inline_obeys-returns-else-reference_obeys
 inline_obeys-returns-else-reference_obeys g t c =
     let f = g.T.ReadTexts.text in
     let reference = c.in-TermReference in
-    let named = option_obeys (name_rule c.args.standard) (option_map (identifier_view f) reference.attribute) in
+    let named = option_obeys (name_rule c.args.asked.standard) (option_map (identifier_view f) reference.attribute) in
     let given = arguments_of (option_map (arguments_view f) reference.arguments) in
     let both = sym c.reference_obeys-in-TermReference.ensures ∙ c.if-reference_obeys.false in
     rw (reference.is, view-TermReference)
     (c.if-reference_obeys.false
-    ∙ three_fail (name_rule c.args.standard (f reference.id.name)) named
-    (maybe_obeys (rules_of c.args.standard) given) both)
+    ∙ three_fail (name_rule c.args.asked.standard (f reference.id.name)) named
+    (maybe_obeys (rules_of c.args.asked.standard) given) both)
 
 pub inline_obeys-returns-in-VariableReference : goal.inline_obeys-returns-in-VariableReference
 inline_obeys-returns-in-VariableReference g t c =

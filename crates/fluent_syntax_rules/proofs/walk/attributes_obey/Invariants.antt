@@ -9,5 +9,5 @@ use Rattle.fluent_syntax_rules.proofs.walk.attributes_obey.Given as goal
 abbrev pub invariant-loop-attribute : goal.invariant-loop-attribute
 invariant-loop-attribute g l =
     let obey = λ (nodes : List (Attribute g.row.X.Denot)).
-    list_all (attribute_obeys (rules_of l.standard)) (map (attribute_view g.T.ReadTexts.text) nodes) in
+    list_all (attribute_obeys (rules_of l.asked.standard)) (map (attribute_view g.T.ReadTexts.text) nodes) in
     record { rest : obey (drop l.attribute-index l.attributes) ≡ obey l.attributes }

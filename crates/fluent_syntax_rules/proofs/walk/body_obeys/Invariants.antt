@@ -9,5 +9,5 @@ use Rattle.fluent_syntax_rules.proofs.walk.body_obeys.Given as goal
 abbrev pub invariant-loop-entry : goal.invariant-loop-entry
 invariant-loop-entry g l =
     let obey = λ (nodes : List (Entry g.row.X.Denot)).
-    list_all (entry_obeys (rules_of l.standard)) (map (entry_view g.T.ReadTexts.text) nodes) in
+    list_all (entry_obeys (rules_of l.asked.standard)) (map (entry_view g.T.ReadTexts.text) nodes) in
     record { rest : obey (drop l.entry-index l.entries) ≡ obey l.entries }

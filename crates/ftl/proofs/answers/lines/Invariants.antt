@@ -5,8 +5,8 @@ use Rattle.fluent_syntax_parser.specs.declared.options.Comments.TheVariants.{Kep
 use Rattle.ftl.proofs.Checked.{CheckedTo}
 use Rattle.ftl.proofs.answers.lines.Given as goal
 
-abbrev pub invariant-loop-parts : goal.invariant-loop-parts
-invariant-loop-parts l = let t = l.text in
+abbrev pub invariant-loop-out : goal.invariant-loop-out
+invariant-loop-out l = let t = l.text in
     let deeper = TextDeeper l.fn.edition t (TileIn l.fn.edition t) l.fn.nesting in record {
       text : l.entries.source.bytes.now ≡ t;
       edition : l.entries.options.edition ≡ l.fn.edition;
@@ -17,5 +17,5 @@ invariant-loop-parts l = let t = l.text in
       deeper : (deeper l.entries.ptr → deeper 0) × (deeper 0 → deeper l.entries.ptr);
     }
 
-abbrev pub decreases-loop-parts : goal.decreases-loop-parts
-decreases-loop-parts l = length l.text - l.entries.ptr
+abbrev pub decreases-loop-out : goal.decreases-loop-out
+decreases-loop-out l = length l.text - l.entries.ptr

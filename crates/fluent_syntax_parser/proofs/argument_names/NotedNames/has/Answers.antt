@@ -2,8 +2,8 @@ use Rattle.std.proofs.Common.{◌∙◌, ◌≤◌, arith, length, ap}
 use Rattle.std.proofs.lemmas.List.{length-map}
 use Rattle.fluent_syntax_tree.specs.Spans.{bytes_at}
 use Rattle.fluent_syntax_parser.specs.Gathered.{names_in_order}
-use Rattle.fluent_syntax_parser.specs.Noted.{is_key}
-use Rattle.fluent_syntax_parser.proofs.Noted.{key_held}
+use Rattle.fluent_syntax_grammar.specs.NameKeys.{is_key}
+use Rattle.fluent_syntax_grammar.proofs.NameKeys.{key_held}
 use Rattle.fluent_syntax_parser.proofs.argument_names.NotedNames.has.Goals as goal
 
 pub returns-else-len-lt-MANY : goal.returns-else-len-lt-MANY

@@ -6,7 +6,7 @@ use Rattle.std.proofs.lemmas.List.{map-append}
 use Rattle.std.proofs.lemmas.Map.Lookups.{exact_bytes}
 use Rattle.fluent_syntax_tree.specs.Spans.{bytes_at}
 use Rattle.fluent_syntax_parser.specs.Gathered.{names_in_order}
-use Rattle.fluent_syntax_parser.proofs.Noted.{notes_behind}
+use Rattle.fluent_syntax_grammar.proofs.NameKeys.{notes_behind}
 use Rattle.fluent_syntax_parser.proofs.argument_names.NotedNames.note_all.Goals as goal
 
 pub loop-index-preserved : goal.loop-index-preserved

@@ -1,6 +1,6 @@
 use Rattle.std.proofs.Common.{◌≡◌, take}
 use Rattle.fluent_syntax_parser.specs.Gathered.{names_in_order}
-use Rattle.fluent_syntax_parser.specs.Noted.{NotesAll}
+use Rattle.fluent_syntax_grammar.specs.NameKeys.{NotesAll}
 use Rattle.fluent_syntax_parser.proofs.argument_names.NotedNames.note_all.Given as goal
 
 abbrev pub invariant-loop-index : goal.invariant-loop-index

@@ -665,8 +665,16 @@ get_long_pattern-returns-clause-meets g m c =
 
 pub get_pattern-returns-in-Some-clause-meets : goal.get_pattern-returns-in-Some-clause-meets
 get_pattern-returns-in-Some-clause-meets g m c =
-    let opens = rw c.in-Some.is at c.in_ok-short.ensures.opens in
-    made (opens.1 _ c.args.ptr c.skip_blank_inline-start.ensures.blank) (ap Some opens.2)
+    made (c.in-Some.ensures.opens _ c.args.ptr c.skip_blank_inline-start.ensures.blank)
+    (ap Some c.in_ok-pattern.ensures)
+
+pub get_pattern-returns-in-Some-end_without_text-clause-meets :
+    goal.get_pattern-returns-in-Some-end_without_text-clause-meets
+get_pattern-returns-in-Some-end_without_text-clause-meets g m c =
+    made (c.in-Some-end_without_text.ensures.opens _ c.args.ptr c.skip_blank_inline-start.ensures.blank) refl
+
+pub get_pattern-returns-in-None-clause-meets : goal.get_pattern-returns-in-None-clause-meets
+get_pattern-returns-in-None-clause-meets g m c = c.get_long_pattern.ensures.meets
 
 -- ---- variants
 
@@ -976,9 +984,9 @@ get_lines-returns-in_err-push-in-Some-eol_end-clause-meets g m c =
     rw (out_of_memory c.from_residual-in_err-push-in-Some-eol_end.result
     c.from_residual-in_err-push-in-Some-eol_end.ensures.1) no_memory
 
-pub get_pattern-returns-in_err-short-clause-meets :
-    goal.get_pattern-returns-in_err-short-clause-meets
-get_pattern-returns-in_err-short-clause-meets g m c =
+pub get_pattern-returns-in_err-pattern-clause-meets :
+    goal.get_pattern-returns-in_err-pattern-clause-meets
+get_pattern-returns-in_err-pattern-clause-meets g m c =
     rw (out_of_memory c.from_residual.result c.from_residual.ensures.1) no_memory
 
 pub get_long_pattern-returns-in_err-pattern-clause-meets :

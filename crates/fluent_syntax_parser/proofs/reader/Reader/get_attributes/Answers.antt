@@ -1,60 +1,14 @@
-use Rattle.std.proofs.Common.{arith}
-use Rattle.fluent_syntax_tree.specs.View.{attribute_view}
-use Rattle.fluent_syntax_grammar.specs.Entries.{no_more, one_more}
-use Rattle.fluent_syntax_parser.proofs.Gathers as gathers
-use Rattle.fluent_syntax_grammar.specs.Entries.{attributes_of}
-use Rattle.fluent_syntax_grammar.specs.Grammar.{within}
-use Rattle.fluent_syntax_grammar.proofs.DeeperEntries.{deeper_attribute, deeper_attributes}
-use Rattle.fluent_syntax_grammar.proofs.Nesting.{functional_within}
-use Rattle.fluent_syntax_parser.specs.Meets.{no_memory, too_deep}
-use Rattle.fluent_syntax_parser.proofs.Made.{on_made}
-use Rattle.fluent_syntax_parser.proofs.Fails.{out_of_memory, shown, too_deep_there}
+use Rattle.std.proofs.Common.{refl}
+use Rattle.fluent_syntax_grammar.specs.Construct.{stops, goes_on, passed}
+use Rattle.fluent_syntax_grammar.specs.Entries.{no_more}
+use Rattle.fluent_syntax_parser.specs.Made.{made}
 use Rattle.fluent_syntax_parser.proofs.reader.Reader.get_attributes.Goals as goal
 
-pub loop-attribute-preserved : goal.loop-attribute-preserved
-loop-attribute-preserved g c =
-    let t = c.args.self.now.source.bytes.now in
-    let R = within c.args.self.now.edition t c.args.nesting in
-    let old = c.loop-attribute.invariant in
-    let read = c.in-Ok.ensures in
-    on_made read.meets (λ a there same. record {
-      forward = omega (arith, old.forward, read.within.0);
-      within = read.within.1;
-      gathered =
-          gathers.one_made (attributes_of c.args.self.now.edition t R) _ (attribute_view g.M.MakeTexts.made) c.args.ptr
-          _ _ _ _ _ c.in_ok-push-in-Ok.ensures.items old.gathered a same (λ more end h. one_more there h);
-      deeper = λ h. old.deeper
-          (deeper_attributes c.args.self.now.edition t R
-          (functional_within c.args.self.now.edition t c.args.nesting) there h);
-    })
+pub returns-in-Ok-clause-meets : goal.returns-in-Ok-clause-meets
+returns-in-Ok-clause-meets g c = c.get_listed_attributes.ensures.meets
 
-pub returns-in-Err-Refused-clause-meets : goal.returns-in-Err-Refused-clause-meets
-returns-in-Err-Refused-clause-meets g c =
-    let t = c.args.self.now.source.bytes.now in
-    let R = within c.args.self.now.edition t c.args.nesting in
-    let found = rw c.in-Err-Refused.field-0-is at c.in-Err-Refused.ensures.meets in
-    gathers.list_made (attributes_of c.args.self.now.edition t R) _ (attribute_view g.M.MakeTexts.made) c.args.ptr _ _ _
-    c.loop-attribute.invariant.gathered (no_more (shown found))
-
-pub returns-in-Err-TooDeep-clause-meets : goal.returns-in-Err-TooDeep-clause-meets
-returns-in-Err-TooDeep-clause-meets g c =
-    let t = c.args.self.now.source.bytes.now in
-    let found = rw c.in-Err-TooDeep.field-0-is at c.in-Err-TooDeep.ensures.meets in
-    too_deep (c.loop-attribute.invariant.deeper
-    (deeper_attribute c.args.self.now.edition t (within c.args.self.now.edition t c.args.nesting)
-    (too_deep_there found)))
-
-pub returns-in_err-push-in-Ok-clause-meets : goal.returns-in_err-push-in-Ok-clause-meets
-returns-in_err-push-in-Ok-clause-meets g c =
-    rw (out_of_memory c.from_residual.result c.from_residual.ensures.1) no_memory
-
-pub returns-in-Err-Memory-clause-meets : goal.returns-in-Err-Memory-clause-meets
-returns-in-Err-Memory-clause-meets g c = no_memory
-
-pub loop-attribute-init : goal.loop-attribute-init
-loop-attribute-init g c = record {
-  forward = omega arith;
-  within = c.requires;
-  gathered = rw c.new-attributes.ensures.items (gathers.no_list _ _ _ _);
-  deeper = λ h. h;
-}
+pub returns-in-Err-clause-meets : goal.returns-in-Err-clause-meets
+returns-in-Err-clause-meets g c =
+    rw c.new.ensures.items
+    (made (no_more (goes_on (passed c.skip_blank_inline-dot.ensures.blank)
+    (stops (c.in-Err.ensures.meets _ _ _ (refl, refl, refl))))) refl)

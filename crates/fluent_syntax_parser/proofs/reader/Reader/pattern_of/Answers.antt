@@ -1,9 +1,7 @@
 use Rattle.std.proofs.Common.{◌≡◌, [], ◌∷◌, ◌++◌, map, ap, ◌∙◌}
 use Rattle.std.specs.List.{flat_map}
-use Rattle.std.proofs.lemmas.List.{map-append}
-use Rattle.fluent_syntax_tree.specs.View.{element_view}
 use Rattle.fluent_syntax_grammar.specs.Layout.{least}
-use Rattle.fluent_syntax_parser.specs.Elements.{element_of, item_view, layout_view}
+use Rattle.fluent_syntax_parser.specs.Elements.{item_view, last_of, layout_view}
 use Rattle.fluent_syntax_parser.specs.Layouts.{counted}
 use Rattle.fluent_syntax_parser.specs.Lines.{line_view}
 use Rattle.fluent_syntax_parser.proofs.Shapes.{items_viewed}
@@ -25,8 +23,8 @@ returns-in-None g c =
     (items_viewed v edition c.common_indent-common.result c.args.layout c.in_ok-items.items.items c.in_ok-items.ensures)
     y same c.in-None.ensures
 
-pub returns-in_ok-push-in-Some : goal.returns-in_ok-push-in-Some
-returns-in_ok-push-in-Some g c =
+pub returns-in_ok-add_last_element-in-Some : goal.returns-in_ok-add_last_element-in-Some
+returns-in_ok-add_last_element-in-Some g c =
     let f = g.M.MakeTexts.source c.args.self.now.texts.now in
     let v = g.M.MakeTexts.made in
     let edition = c.args.self.now.edition in
@@ -34,17 +32,13 @@ returns-in_ok-push-in-Some g c =
     c.args.layout).lines) =
     c.common_indent-common.ensures
     ∙ ap (λ xs. least (flat_map (counted edition) (map (line_view v) xs))) c.deref.ensures.value in
-    let found = c.in_ok-elements-in-Some.elements.items in
-    let last = c.in_ok-element-in-Some.element in
-    let made = map (element_of f) (map (item_view v) c.pop_last.new.items.items) in
     let elements =
-    ap (map (element_view v)) c.in_ok-push-in-Some.ensures.items
-    ∙ map-append (element_view v) found (last ∷ [])
-    ∙ ap (λ xs. xs ++ element_view v last ∷ []) c.in_ok-elements-in-Some.ensures
-    ∙ ap (λ x. made ++ x ∷ []) c.in_ok-element-in-Some.ensures in
+    c.in_ok-add_last_element-in-Some.ensures
+    ∙ ap (λ xs. xs ++ last_of f c.args.self.now.source.bytes.now (item_view v c.in-Some.last) ∷ [])
+    c.in_ok-elements-in-Some.ensures in
     λ y same.
     some_spelled f c.args.self.now.source.bytes.now v edition c.args.layout c.common_indent-common.result
     c.in_ok-items.items.items indent
     (items_viewed v edition c.common_indent-common.result c.args.layout c.in_ok-items.items.items c.in_ok-items.ensures)
     y same c.pop_last.new.items.items c.in-Some.last
-    (record { elements = c.push.new.self }) c.in-Some.ensures elements
+    (record { elements = c.add_last_element.new.elements }) c.in-Some.ensures elements

@@ -1,5 +1,5 @@
 use Rattle.std.proofs.Common.{sym}
-use Rattle.fluent_syntax_parser.specs.ShortPatterns.{with_lf, with_crlf, with_text}
+use Rattle.fluent_syntax_parser.specs.OneLine.{with_lf, with_crlf, with_text}
 use Rattle.fluent_syntax_parser.proofs.source.Source.line_ending.Goals as goal
 
 pub returns-then-next-to-clause-ending : goal.returns-then-next-to-clause-ending

@@ -1,8 +1,6 @@
-use Rattle.std.proofs.Common.{◌<◌, inr, length, sym, arith}
+use Rattle.std.proofs.Common.{◌<◌, length, sym, arith}
 use Rattle.fluent_syntax_grammar.proofs.Functional.{single_block}
-use Rattle.fluent_syntax_grammar.proofs.Tests.{both}
 use Rattle.fluent_syntax_parser.proofs.DeeperTiles.{behind_dropped, dropped_led, text_deeper, tile_deeper}
-use Rattle.fluent_syntax_parser.proofs.NextStarts.{next_behind, starts_behind, starts_behind_comment}
 use Rattle.fluent_syntax_parser.proofs.Rests.{rest_behind, rest_dropped}
 use Rattle.fluent_syntax_parser.proofs.source.Source.tile_start.Goals as goal
 
@@ -17,8 +15,6 @@ loop-comments-init c =
           rest_behind c.args.comments edition t _ _ entries errors block.blank rest;
       deeper = λ edition n h. text_deeper edition t n c.args.comments _ _ block.blank h;
       shallow = λ edition n h. tile_deeper edition t n c.args.comments _ _ block.blank h;
-      next = λ start found. next_behind c.args.comments t _ _ start block.blank found;
-      starts = λ start next. starts_behind c.args.comments t _ _ start block.blank next;
       blank = λ all. single_block.same c.args.ptr _ _ block.blank all;
     }
 
@@ -42,16 +38,5 @@ loop-comments-preserved c =
       shallow = λ edition n h. tile_deeper edition t n c.args.comments _ _ block.blank
           (dropped_led edition t n _ _ inside c.args.comments (sym c.loop-comments-test.ensures)
           (sym c.if-is_byte_at.ensures) line.line (inv.shallow edition n h));
-      next = λ start found. inv.next start
-          (inr (
-            _,
-            both (sym c.loop-comments-test.ensures) (sym c.if-is_byte_at.ensures),
-            line.line,
-            next_behind c.args.comments t _ _ start block.blank found,
-          ));
-      starts = λ start next. starts_behind c.args.comments t _ _ start block.blank
-          (starts_behind_comment c.args.comments t _ start _
-          (both (sym c.loop-comments-test.ensures) (sym c.if-is_byte_at.ensures)) line.line
-          (inv.starts start next));
       blank = λ all. let end = inv.blank all in absurd (omega (arith, end, inside));
     }

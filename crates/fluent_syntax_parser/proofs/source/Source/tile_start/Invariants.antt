@@ -5,9 +5,7 @@ use Rattle.fluent_syntax_tree.specs.declared.spans.Span.{Span}
 use Rattle.fluent_syntax_grammar.specs.Nesting.{TextDeeper}
 use Rattle.fluent_syntax_grammar.specs.Places.{BlankBlock}
 use Rattle.fluent_syntax_grammar.specs.Tiling.{Fault}
-use Rattle.fluent_syntax_parser.proofs.NextStarts.{StartsAt}
 use Rattle.fluent_syntax_parser.specs.Rest.{Rest, RestAt, TileDeeper, TileIn}
-use Rattle.fluent_syntax_parser.specs.ShortGrammar.{NextStart}
 use Rattle.fluent_syntax_parser.proofs.source.Source.tile_start.Given as goal
 
 abbrev pub invariant-loop-comments : goal.invariant-loop-comments
@@ -23,10 +21,6 @@ invariant-loop-comments l = record {
   shallow : (edition : Edition) (n : ℕ) →
       TextDeeper edition l.self.bytes.now (TileIn l.comments edition l.self.bytes.now) n l.ptr →
       TileDeeper edition l.self.bytes.now (TileIn l.comments edition l.self.bytes.now) n l.start;
-  next : (start : ℕ) → StartsAt l.comments l.self.bytes.now l.start start →
-      NextStart l.comments l.self.bytes.now l.ptr start;
-  starts : (start : ℕ) → NextStart l.comments l.self.bytes.now l.ptr start →
-      StartsAt l.comments l.self.bytes.now l.start start;
   blank : BlankBlock l.self.bytes.now l.ptr (length l.self.bytes.now) → l.start ≡ length l.self.bytes.now;
 }
 

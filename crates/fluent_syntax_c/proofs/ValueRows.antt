@@ -1,0 +1,77 @@
+-- Rows of values.
+use Rattle.std.proofs.Common.{◌≡◌, ◌++◌, [], ◌∷◌, ℕ, List, Option, Some, None, length}
+use Rattle.std.proofs.Common.{sym, subst, append_assoc, append-nil}
+use Rattle.fluent_syntax_tree.specs.declared.edition.Edition.{Edition}
+use Rattle.fluent_syntax_tree.specs.declared.spans.Span.{Span}
+use Rattle.fluent_syntax_grammar.specs.Grammar.{family}
+use Rattle.fluent_syntax_grammar.specs.Places.{BlankBlock}
+use Rattle.fluent_syntax_grammar.specs.Tiling.{Tile, Tiled, TileAt, done, entry, next, reads, refuses}
+use Rattle.fluent_syntax_grammar.proofs.FunctionalEntries.{functional_entry}
+use Rattle.fluent_syntax_parser.specs.Extents.{EntryStands, HasExtents}
+use Rattle.fluent_syntax_parser.specs.Tiles.{TileTo}
+use Rattle.fluent_syntax_parser.specs.declared.extents.EntryExtents.{EntryExtents}
+use Rattle.fluent_syntax_parser.specs.declared.tiles.FoundTile.{FoundTile}
+use Rattle.fluent_syntax_c.specs.Values.{AddsValues, TileValues, TilesValues, ValuesTiling, found_values}
+use Rattle.fluent_syntax_c.specs.Values.{no_more, of_comment, of_entry, of_junk, one_more}
+use Rattle.fluent_syntax_c.specs.declared.values.FtlValue.{FtlValue}
+
+module _ (edition : Edition) (t : List ℕ) where
+  -- one more tile's rows
+  values_behind : {tiles : List Tile} {rows : List FtlValue} {tile : Tile} {own : List FtlValue} →
+      TilesValues edition t tiles rows → TileValues edition t tile own →
+      TilesValues edition t (tiles ++ (tile ∷ [])) (rows ++ own)
+  values_behind {tile = tile} {own = own} no_more last =
+      subst (TilesValues edition t (tile ∷ [])) (append-nil own) (one_more last no_more)
+  values_behind {tile = tile} {own = own} (one_more {tile = x} {tiles = xs} {own = first} {others = others} h more)
+      last =
+      subst (TilesValues edition t (x ∷ (xs ++ (tile ∷ [])))) (sym (append_assoc first others own))
+      (one_more h (values_behind more last))
+
+  -- what is found where a tile begins gives the tile's rows
+  tile_values : (s : Span) (tile : Tile) (found : Option EntryExtents) → TileAt edition t s.start s.end tile →
+      HasExtents edition t s.start found → TileValues edition t tile (found_values found)
+  tile_values s tile None (reads {e = e} r) has =
+      let here = has e s.end r in
+      subst (λ tree. TileValues edition t (entry s tree) []) (sym here.2) of_comment
+  tile_values s tile None (refuses r end) has = of_junk
+  tile_values s tile (Some x) (reads {e = e} r) has =
+      let same = (functional_entry edition t).same s.start _ _ has.read r in
+      let same_tree : has.tree ≡ e = cc in
+      let same_end : has.end ≡ s.end = cc in
+      of_entry
+      (subst (λ tree. EntryStands edition t (family edition t) s.start x tree s.end) same_tree
+      (subst (EntryStands edition t (family edition t) s.start x has.tree) same_end has.parts))
+  tile_values s tile (Some x) (refuses r end) has =
+      let same = (functional_entry edition t).same s.start _ _ has.read r in cc
+
+  -- The rows are those of tiles that lead up to the place i.
+  pub record ValuesTo (i : ℕ) (rows : List FtlValue) : Type 0 where
+    pub tiles : List Tile
+    pub values : TilesValues edition t tiles rows
+    pub whole : (more : List Tile) → Tiled t (TileAt edition t) i more → Tiled t (TileAt edition t) 0 (tiles ++ more)
+
+  pub values_of_nothing : ValuesTo 0 []
+  values_of_nothing = record { tiles = []; values = no_more; whole = λ more tiled. tiled }
+
+  -- the rows of what was found behind those before it
+  pub values_on : (i j : ℕ) (found : FoundTile) (before after : List FtlValue) → ValuesTo i before →
+      TileTo edition t i j found → AddsValues edition t found.span.start before after → ValuesTo j after
+  values_on i j found before after values to adds = record {
+    tiles = values.tiles ++ (to.tile ∷ []);
+    values =
+        subst (TilesValues edition t (values.tiles ++ (to.tile ∷ []))) (sym adds.2)
+        (values_behind values.values (tile_values found.span to.tile adds.0 to.stands adds.1));
+    whole = λ more tiled.
+        subst (Tiled t (TileAt edition t) 0) (sym (append_assoc values.tiles (to.tile ∷ []) more))
+        (values.whole (to.tile ∷ more)
+        (next to.blank to.inside to.stands (subst (λ k. Tiled t (TileAt edition t) k more) to.ends tiled)));
+  }
+
+  -- the rows of the whole text, where nothing but a blank block is left
+  pub values_of_all : (i : ℕ) (rows : List FtlValue) → ValuesTo i rows → BlankBlock t i (length t) →
+      ValuesTiling edition t rows
+  values_of_all i rows values blank = record {
+    tiles = values.tiles;
+    has_tiles = subst (Tiled t (TileAt edition t) 0) (append-nil values.tiles) (values.whole [] (done blank));
+    values = values.values;
+  }

@@ -1,0 +1,153 @@
+//! Where the values of messages, terms and attributes stand, as rows.
+ghost use Rattle.std.specs.Prelude.{◌≡◌, ◌≢◌, ◌↔◌, ◌⊎◌, ◌+◌, ◌++◌, ◌<◌, ◌≤◌, ◌^◌, length, Err, IfOk, OnOk};
+ghost use Rattle.std.specs.Str.{IsUtf8};
+ghost use Rattle.fluent_syntax_c.specs.Arguments.{IsNoEdition};
+ghost use Rattle.fluent_syntax_c.specs.Depth.{EditionReadsDeeper};
+ghost use Rattle.fluent_syntax_c.specs.Output.{Leaves};
+ghost use Rattle.fluent_syntax_c.specs.Status.{EndsAs};
+ghost use Rattle.fluent_syntax_c.specs.Values.{AddsValues, AreEditionValues, ValuesTiling, entry_values, value_row};
+
+use crate::outputs::give;
+use crate::readings::{outcome_of, read};
+use crate::status::Refusal;
+use fluent_syntax::parser::Edition;
+use fluent_syntax::spans::{EntryExtents, FoundTile, Halt, Span, Tiles, entry_extents};
+use ftl::Outcome;
+use std::alloc::{AllocError, Global};
+
+/// Where a value stands: `struct ftl_value` of `include/fluent.h`.
+#[repr(C)]
+#[derive(Clone, Copy)]
+pub struct FtlValue {
+    /// The bytes of the input from directly behind the `=` up to the value's end, with the blank lines behind it. Both
+    /// are 0 where a message has no value.
+    pub start: usize,
+    pub end: usize,
+}
+
+/// Writes where the values of the messages, terms and attributes of the input stand, read by the edition of the number,
+/// to the front of `rows`, and their number to `count`. They are as many as the names that `ftl_names` gives, and come
+/// in the same order.
+///
+/// Returns 0, or 1 where the input has syntax errors. Where it returns 5 there are more than `rows` has room for:
+/// `count` tells how many, and `rows` is as it was. Otherwise `count` is 0 and `rows` as it was: 2 where no edition has
+/// the number, 3 where the input is not UTF-8, 4 where a growth was refused, 6 where the input's placeables and
+/// argument lists nest more than `nesting` deep.
+#[unsafe(no_mangle)]
+pub extern "C" fn ftl_values(
+    alloc: Global,
+    edition: u32,
+    nesting: usize,
+    input: &[u8],
+    rows: &mut [FtlValue],
+    count: &mut usize,
+) -> u32
+    ensures leaves { EndsAs result (Leaves (AreEditionValues edition input.now) rows.old rows.new count.new) }
+    ensures argument { (result ≡ 2) ↔ IsNoEdition edition }
+    ensures input { ¬ (IsNoEdition edition) → ((result ≡ 3) ↔ ¬ (IsUtf8 input.now)) }
+    ensures deep { result ≡ 6 → nesting < length input.now }
+    ensures deeper { result ≡ 6 → EditionReadsDeeper edition input.now nesting }
+    ensures shallow { EditionReadsDeeper edition input.now nesting →
+        (result ≡ 3) ⊎ (result ≡ 4) ⊎ (result ≡ 6) }
+{
+    give(edition_values(alloc, edition, nesting, input), rows, count)
+}
+
+/// The values by the edition of the number.
+fn edition_values(
+    alloc: Global,
+    edition: u32,
+    nesting: usize,
+    input: &[u8],
+) -> Result<(Vec<FtlValue>, Outcome), Refusal>
+    ensures rows { IfOk result (λ found. AreEditionValues edition input.now found.0.items found.1) }
+    ensures argument { (result ≡ Err Refusal.Argument) ↔ IsNoEdition edition }
+    ensures input { ¬ (IsNoEdition edition) → ((result ≡ Err Refusal.Input) ↔ ¬ (IsUtf8 input.now)) }
+    ensures deep { result ≡ Err Refusal.Depth → nesting < length input.now }
+    ensures deeper { result ≡ Err Refusal.Depth → EditionReadsDeeper edition input.now nesting }
+    ensures shallow { IfOk result (λ found. EditionReadsDeeper edition input.now nesting → ⊥) }
+    ensures tree { result ≢ Err Refusal.Tree }
+{
+    let reading = read(alloc, edition, nesting, input)?;
+    match text_values(alloc, reading.text, reading.edition, nesting) {
+        Ok(rows) => Ok((rows, outcome_of(&reading.errors))),
+        Err(_) => Err(Refusal::Memory),
+    }
+}
+
+/// The rows of the values of a text that nests no deeper than that.
+fn text_values(
+    alloc: Global,
+    text: &str,
+    edition: Edition,
+    nesting: usize,
+) -> Result<Vec<FtlValue>, AllocError>
+    requires { length text.now + 1 < 2 ^ 63 }
+    ensures { IfOk result (λ rows. ValuesTiling edition text.now rows.items) }
+{
+    let mut rows = Vec::new(alloc);
+    let mut tiles = Tiles::new(text, edition, nesting, 0);
+    loop {
+        match tiles.next_tile(alloc) {
+            Ok(Some(found)) => add_found(&mut rows, alloc, text, edition, nesting, found)?,
+            Ok(None) => return Ok(rows),
+            // it was read before, so it is not too deep
+            Err(Halt::TooDeep | Halt::Memory) => return Err(AllocError),
+        }
+    }
+}
+
+/// Adds the rows of what was found, if it is a message or a term, which nests no deeper than that.
+fn add_found(
+    rows: &mut Vec<FtlValue>,
+    alloc: Global,
+    text: &str,
+    edition: Edition,
+    nesting: usize,
+    found: FoundTile,
+) -> Result<(), AllocError>
+    requires { found.span.start ≤ length text.now }
+    ensures { OnOk result (AddsValues edition text.now found.span.start rows.old.items rows.new.items) }
+{
+    add_values_at(rows, alloc, text, edition, nesting, found.span.start)
+}
+
+/// Adds the rows of the message or the term that begins at the place, if one does, and nests no deeper than that.
+fn add_values_at(
+    rows: &mut Vec<FtlValue>,
+    alloc: Global,
+    text: &str,
+    edition: Edition,
+    nesting: usize,
+    start: usize,
+) -> Result<(), AllocError>
+    requires { start ≤ length text.now }
+    ensures { OnOk result (AddsValues edition text.now start rows.old.items rows.new.items) }
+{
+    match entry_extents(alloc, text, edition, nesting, start) {
+        Ok(Some(extents)) => add_values(rows, &extents),
+        Ok(None) => Ok(()),
+        // it was read before, so it is not too deep
+        Err(Halt::TooDeep | Halt::Memory) => Err(AllocError),
+    }
+}
+
+/// Adds the rows of a message or a term with these parts.
+fn add_values(rows: &mut Vec<FtlValue>, extents: &EntryExtents) -> Result<(), AllocError>
+    ensures { OnOk result (rows.new.items ≡ rows.old.items ++ entry_values extents.now) }
+{
+    rows.push(value_row(extents.value))?;
+    for attribute in &extents.attributes {
+        rows.push(value_row(Some(attribute.value)))?;
+    }
+    Ok(())
+}
+
+fn value_row(value: Option<Span>) -> FtlValue
+    ensures { result ≡ value_row value }
+{
+    match value {
+        Some(Span { start, end }) => FtlValue { start, end },
+        None => FtlValue { start: 0, end: 0 },
+    }
+}

@@ -1,0 +1,10 @@
+use Rattle.fluent_syntax_json.proofs.Bodies.{HasWritten-next, HasWritten-silent}
+use Rattle.fluent_syntax_json.proofs.writing.body_writer.BodyWriter.write_by.Goals as goal
+
+pub returns-then-self-clause-written : goal.returns-then-self-clause-written
+returns-then-self-clause-written g c = λ start body has. HasWritten-silent _ has c.if-self.true
+
+pub returns-clause-written : goal.returns-clause-written
+returns-clause-written g c = λ start body has.
+    HasWritten-next _ c.has_refused-self.result has c.if-self.false c.write_next.ensures.written c.new-writer.ensures.sink
+    c.new-writer.ensures.not_refused c.has_refused-self.ensures

@@ -1,0 +1,37 @@
+use Rattle.fluent_syntax_grammar.specs.Grammar.{within}
+use Rattle.std.proofs.Common.{sym}
+use Rattle.fluent_syntax_tree.specs.Entry.{entry_map}
+use Rattle.fluent_syntax_tree.specs.View.{entry_view}
+use Rattle.fluent_syntax_parser.proofs.EntryForms.{comment_fails, comment_there, message_fails, message_there}
+use Rattle.fluent_syntax_parser.proofs.EntryForms.{adds_as, term_fails}
+use Rattle.fluent_syntax_parser.proofs.EntryForms.{term_there}
+use Rattle.fluent_syntax_parser.proofs.reader.Reader.add_entry.Goals as goal
+
+pub returns-then-is_byte_at-clause-adds : goal.returns-then-is_byte_at-clause-adds
+returns-then-is_byte_at-clause-adds g c =
+    let t = c.args.self.now.source.bytes.now in
+    let edition = c.args.self.now.edition in
+    let R = within edition t c.args.nesting in
+    adds_as (entry_map (g.M.MakeTexts.source c.args.self.now.texts.now)) (entry_view g.M.MakeTexts.made)
+    (λ o h. comment_there edition t R _ o (sym c.if-is_byte_at.ensures) h)
+    (λ f h. comment_fails edition t R _ (sym c.if-is_byte_at.ensures) h) _ _ _ c.add_comment.ensures.adds
+
+pub returns-then-is_byte_at-2-clause-adds : goal.returns-then-is_byte_at-2-clause-adds
+returns-then-is_byte_at-2-clause-adds g c =
+    let t = c.args.self.now.source.bytes.now in
+    let edition = c.args.self.now.edition in
+    let R = within edition t c.args.nesting in
+    adds_as (entry_map (g.M.MakeTexts.source c.args.self.now.texts.now)) (entry_view g.M.MakeTexts.made)
+    (λ o h. term_there edition t R _ o (sym c.if-is_byte_at.ensures) (sym c.if-is_byte_at-2.ensures) h)
+    (λ f h. term_fails edition t R _ (sym c.if-is_byte_at.ensures) (sym c.if-is_byte_at-2.ensures) h) _ _ _
+    c.add_term.ensures.adds
+
+pub returns-else-is_byte_at-2-clause-adds : goal.returns-else-is_byte_at-2-clause-adds
+returns-else-is_byte_at-2-clause-adds g c =
+    let t = c.args.self.now.source.bytes.now in
+    let edition = c.args.self.now.edition in
+    let R = within edition t c.args.nesting in
+    adds_as (entry_map (g.M.MakeTexts.source c.args.self.now.texts.now)) (entry_view g.M.MakeTexts.made)
+    (λ o h. message_there edition t R _ o (sym c.if-is_byte_at.ensures) (sym c.if-is_byte_at-2.ensures) h)
+    (λ f h. message_fails edition t R _ (sym c.if-is_byte_at.ensures) (sym c.if-is_byte_at-2.ensures) h) _ _ _
+    c.add_message.ensures.adds

@@ -1,0 +1,22 @@
+use Rattle.std.proofs.Common.{refl}
+use Rattle.fluent_syntax_tree.specs.View.{element_view}
+use Rattle.fluent_syntax_tree.proofs.Lists.{map_added}
+use Rattle.fluent_syntax_tree.proofs.Views.{view-TextElement, view-Placeable}
+use Rattle.fluent_syntax_parser.proofs.reader.Reader.add_last_element.Goals as goal
+
+pub returns-in_ok-push-in-Run : goal.returns-in_ok-push-in-Run
+returns-in_ok-push-in-Run g c =
+    let v = g.M.MakeTexts.made in
+    map_added (element_view v) _ _ _ _ c.in_ok-push-in-Run.ensures.items
+    (rw (
+      view-TextElement v c.in_ok-value-in-Run.value,
+      c.in_ok-value-in-Run.ensures,
+      c.trimmed_end-end.ensures,
+      c.in-Run.is,
+    ) refl)
+
+pub returns-in_ok-push-in-Placed : goal.returns-in_ok-push-in-Placed
+returns-in_ok-push-in-Placed g c =
+    let v = g.M.MakeTexts.made in
+    map_added (element_view v) _ _ _ _ c.in_ok-push-in-Placed.ensures.items
+    (rw (view-Placeable v c.in-Placed.expression, c.in-Placed.is) refl)

@@ -1,0 +1,87 @@
+use Rattle.std.proofs.Common.{◌≡◌, ◌∙◌, ap, length, arith, refl, sym}
+use Rattle.std.specs.Vec.{vec_len}
+use Rattle.std.proofs.lemmas.Result.{err_from_is_err_and}
+use Rattle.fluent_syntax_tree.specs.declared.spans.Span.{Span}
+use Rattle.fluent_syntax_grammar.specs.Construct.{stops, goes_on, at_place}
+use Rattle.fluent_syntax_grammar.specs.Entries.{message_with}
+use Rattle.fluent_syntax_parser.proofs.FieldForms.{fields_fail, fields_then, is_some_of, message_of_attributes}
+use Rattle.fluent_syntax_parser.proofs.FieldForms.{message_of_value, message_without, no_items, none_of, some_items}
+use Rattle.fluent_syntax_parser.proofs.reader.Reader.add_message.Goals.{else-is_none-via-then-is_none+else-is_empty}
+use Rattle.fluent_syntax_parser.proofs.reader.Reader.add_message.Goals.{else-is_none-via-else-is_none}
+use Rattle.fluent_syntax_grammar.proofs.FunctionalWords.{functional_identifier}
+use Rattle.fluent_syntax_parser.specs.Meets.{no_memory, refused}
+use Rattle.fluent_syntax_parser.specs.Made.{made}
+use Rattle.fluent_syntax_parser.proofs.Made.{on_made}
+use Rattle.fluent_syntax_parser.proofs.Fails.{fails_next, functional_here, out_of_memory}
+use Rattle.fluent_syntax_parser.proofs.reader.Reader.add_message.Goals as goal
+
+pub returns-in_err-end-clause-adds : goal.returns-in_err-end-clause-adds
+returns-in_err-end-clause-adds g c =
+    let p = err_from_is_err_and c.from_residual.result c.from_residual.ensures.1 in
+    rw (p.1, p.2) (refused (λ k from to h. goes_on at_place (stops (c.in_err-end.ensures.meets k from to h))), refl)
+
+pub returns-in_err-fields-clause-adds : goal.returns-in_err-fields-clause-adds
+returns-in_err-fields-clause-adds g c =
+    let t = c.args.self.now.source.bytes.now in
+    let name : Span = record { start = c.args.start; end = c.in_ok-end.end } in
+    let p = err_from_is_err_and c.from_residual-in_err-fields.result c.from_residual-in_err-fields.ensures.1 in
+    rw (p.1, p.2) (
+      fails_next functional_here at_place
+          (fails_next (functional_identifier t) c.in_ok-end.ensures.meets
+          (fields_fail c.args.self.now.edition t _ (message_with t c.args.start name) c.in_err-fields.ensures.meets)),
+      refl,
+    )
+
+pub returns-then-is_empty-clause-adds : goal.returns-then-is_empty-clause-adds
+returns-then-is_empty-clause-adds g c =
+    let t = c.args.self.now.source.bytes.now in
+    let name : Span = record { start = c.args.start; end = c.in_ok-end.end } in
+    let found = c.in_ok-fields.fields in
+    let size : length found.attributes.items ≡ vec_len found.attributes = omega (arith, found.attributes.ok.0) in
+    let none = no_items found.attributes.items _ size c.if-is_empty.ensures in
+    on_made c.in_ok-fields.ensures.meets (λ x read same. (
+      refused (λ k from to (a, b, d). rw (a, b, d)
+          (goes_on at_place
+          (goes_on c.in_ok-end.ensures.meets
+          (fields_then c.args.self.now.edition t _ (message_with t c.args.start name) _ _ x _ read
+          (message_without t c.args.start _ name x.0 x.1
+          (is_some_of _ _ found.value x.0 (ap (λ y. y.0) same) ∙ c.if-is_none.ensures)
+          (none_of _ _ found.attributes.items x.1 (ap (λ y. y.1) same) none)))))),
+      refl,
+    ))
+
+pub returns-in_err-id-clause-adds : goal.returns-in_err-id-clause-adds
+returns-in_err-id-clause-adds g c =
+    rw (out_of_memory c.from_residual-in_err-id.result c.from_residual-in_err-id.ensures.1) (no_memory, refl)
+
+pub returns-in_err-push-clause-adds : goal.returns-in_err-push-clause-adds
+returns-in_err-push-clause-adds g c =
+    rw (out_of_memory c.from_residual-in_err-push.result c.from_residual-in_err-push.ensures.1)
+    (no_memory, c.in_err-push.ensures.items)
+
+pub returns-clause-adds : goal.returns-clause-adds
+returns-clause-adds g c =
+    let t = c.args.self.now.source.bytes.now in
+    let name : Span = record { start = c.args.start; end = c.in_ok-end.end } in
+    let place = c.in_ok-fields.place in
+    let found = c.in_ok-fields.fields in
+    let rest = found.attributes.items in
+    let size : length rest ≡ vec_len found.attributes = omega (arith, found.attributes.ok.0) in
+    on_made c.in_ok-fields.ensures.meets (λ x read same. (
+      _,
+      c.in_ok-push.ensures.items,
+      made
+          (goes_on at_place
+          (goes_on c.in_ok-end.ensures.meets
+          (fields_then c.args.self.now.edition t _ (message_with t c.args.start name) _ _ x _ read
+          (elim c.else-is_none.branch [
+            | else-is_none-via-then-is_none+else-is_empty w ↦
+                message_of_attributes t c.args.start place name x.0 x.1
+                (λ none. some_items rest _ size w.if-is_empty.ensures
+                (none_of _ _ x.1 rest (sym (ap (λ y. y.1) same)) none))
+            | else-is_none-via-else-is_none w ↦
+                message_of_value t c.args.start place name x.0 x.1
+                (is_some_of _ _ found.value x.0 (ap (λ y. y.0) same) ∙ w.if-is_none.ensures)
+          ]))))
+          (rw (c.in_ok-id.ensures, ap (λ y. y.0) same, ap (λ y. y.1) same) refl),
+    ))

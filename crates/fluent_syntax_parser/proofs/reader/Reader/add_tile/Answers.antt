@@ -1,0 +1,64 @@
+use Rattle.std.proofs.Common.{◌∷◌, ◌++◌, [], None, Some, ap, arith, sym, ◌∙◌}
+use Rattle.std.proofs.lemmas.List.{append-nil}
+use Rattle.fluent_syntax_grammar.proofs.TotalEntries.{too_deep_left}
+use Rattle.fluent_syntax_parser.proofs.Fails.{refuses_there, too_deep_there}
+use Rattle.fluent_syntax_parser.proofs.Made.{on_made}
+use Rattle.fluent_syntax_parser.proofs.Rests.{at_any_depth}
+use Rattle.fluent_syntax_parser.proofs.TileForms.{gives_entry, gives_junk, refused_in_text, tile_within}
+use Rattle.fluent_syntax_parser.proofs.reader.Reader.add_tile.Goals as goal
+
+pub add_junk-requires : goal.add_junk-requires
+add_junk-requires g c =
+    let found = rw c.in-Err-Refused.field-0-is at c.in-Err-Refused.ensures.adds in
+    refused_in_text c.args.self.now.edition c.args.self.now.source.bytes.now c.args.start 0 c.requires c.args.nesting _
+    (refuses_there found.0)
+
+pub returns-in-Ok-clause-adds : goal.returns-in-Ok-clause-adds
+returns-in-Ok-clause-adds g c =
+    let read = c.in-Ok.ensures.adds in
+    on_made read.2 (λ tree there same. record {
+      entry = read.0;
+      error = None;
+      added = read.1;
+      tells = sym (append-nil c.args.errors.now.items);
+      tile = record {
+        tree = tree;
+        gives = gives_entry c.args.self.now.edition c.args.self.now.source.bytes.now c.args.start _ c.requires _ tree
+            there;
+        same = same;
+      };
+    })
+
+pub returns-in_ok-end-in-Err-Refused-clause-adds : goal.returns-in_ok-end-in-Err-Refused-clause-adds
+returns-in_ok-end-in-Err-Refused-clause-adds g c =
+    let found = rw c.in-Err-Refused.field-0-is at c.in-Err-Refused.ensures.adds in
+    let read = c.in_ok-end-in-Err-Refused.ensures in
+    let put = read.adds in
+    record {
+      entry = put.entry;
+      error = Some put.error;
+      added = put.added ∙ ap (λ xs. xs ++ put.entry ∷ []) found.1;
+      tells = put.tells;
+      tile = record {
+        tree = _;
+        gives = gives_junk c.args.self.now.edition c.args.self.now.source.bytes.now c.args.start _ c.requires _ _
+            (refuses_there found.0) _ read.ends put.fault;
+        same = put.same;
+      };
+    }
+
+pub returns-in_ok-end-in-Err-Refused-clause-within : goal.returns-in_ok-end-in-Err-Refused-clause-within
+returns-in_ok-end-in-Err-Refused-clause-within g c =
+    let t = c.args.self.now.source.bytes.now in
+    let made = (returns-in_ok-end-in-Err-Refused-clause-adds g c).tile in
+    tile_within c.args.self.now.edition t c.args.start _ c.requires made.gives.tile
+    (at_any_depth c.args.self.now.edition t _ _ _ made.gives.tile made.gives.stands)
+
+pub returns-in-Err-TooDeep-clause-deeper : goal.returns-in-Err-TooDeep-clause-deeper
+returns-in-Err-TooDeep-clause-deeper g c = λ e.
+    too_deep_there (rw c.in-Err-TooDeep.field-0-is at c.in-Err-TooDeep.ensures.adds).0
+
+pub returns-in-Err-TooDeep-clause-nests : goal.returns-in-Err-TooDeep-clause-nests
+returns-in-Err-TooDeep-clause-nests g c = λ e.
+    too_deep_left c.args.self.now.edition c.args.self.now.source.bytes.now _ _ (omega (arith, c.requires))
+    (too_deep_there (rw c.in-Err-TooDeep.field-0-is at c.in-Err-TooDeep.ensures.adds).0)

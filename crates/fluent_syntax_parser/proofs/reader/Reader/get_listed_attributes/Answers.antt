@@ -1,0 +1,57 @@
+use Rattle.std.proofs.Common.{arith}
+use Rattle.fluent_syntax_tree.specs.View.{attribute_view}
+use Rattle.fluent_syntax_grammar.specs.Entries.{no_more, one_more}
+use Rattle.fluent_syntax_parser.proofs.Gathers as gathers
+use Rattle.fluent_syntax_grammar.specs.Entries.{attributes_of}
+use Rattle.fluent_syntax_grammar.specs.Grammar.{within}
+use Rattle.fluent_syntax_grammar.proofs.DeeperEntries.{deeper_attribute, deeper_attributes}
+use Rattle.fluent_syntax_grammar.proofs.Nesting.{functional_within}
+use Rattle.fluent_syntax_parser.specs.Meets.{no_memory, too_deep}
+use Rattle.fluent_syntax_parser.proofs.Made.{on_made}
+use Rattle.fluent_syntax_parser.proofs.Fails.{shown, too_deep_there}
+use Rattle.fluent_syntax_parser.proofs.reader.Reader.get_listed_attributes.Goals as goal
+
+pub loop-next-preserved : goal.loop-next-preserved
+loop-next-preserved g c =
+    let t = c.args.self.now.source.bytes.now in
+    let R = within c.args.self.now.edition t c.args.nesting in
+    let old = c.loop-next.invariant in
+    let read = c.in-Ok.ensures in
+    on_made read.adds.2 (λ a there same. record {
+      forward = omega (arith, old.forward, read.within.0);
+      within = read.within.1;
+      gathered =
+          gathers.one_made (attributes_of c.args.self.now.edition t R) _ (attribute_view g.M.MakeTexts.made) c.args.ptr
+          _ _ _ _ _ read.adds.1 old.gathered a same (λ more end h. one_more there h);
+      deeper = λ h. old.deeper
+          (deeper_attributes c.args.self.now.edition t R
+          (functional_within c.args.self.now.edition t c.args.nesting) there h);
+    })
+
+pub returns-in-Err-Refused-clause-meets : goal.returns-in-Err-Refused-clause-meets
+returns-in-Err-Refused-clause-meets g c =
+    let t = c.args.self.now.source.bytes.now in
+    let R = within c.args.self.now.edition t c.args.nesting in
+    let found = rw c.in-Err-Refused.field-0-is at c.in-Err-Refused.ensures.adds in
+    rw found.1
+    (gathers.list_made (attributes_of c.args.self.now.edition t R) _ (attribute_view g.M.MakeTexts.made) c.args.ptr _ _
+    _ c.loop-next.invariant.gathered (no_more (shown found.0)))
+
+pub returns-in-Err-TooDeep-clause-meets : goal.returns-in-Err-TooDeep-clause-meets
+returns-in-Err-TooDeep-clause-meets g c =
+    let t = c.args.self.now.source.bytes.now in
+    let found = rw c.in-Err-TooDeep.field-0-is at c.in-Err-TooDeep.ensures.adds in
+    too_deep (c.loop-next.invariant.deeper
+    (deeper_attribute c.args.self.now.edition t (within c.args.self.now.edition t c.args.nesting)
+    (too_deep_there found.0)))
+
+pub returns-in-Err-Memory-clause-meets : goal.returns-in-Err-Memory-clause-meets
+returns-in-Err-Memory-clause-meets g c = no_memory
+
+pub loop-next-init : goal.loop-next-init
+loop-next-init g c = record {
+  forward = omega arith;
+  within = c.requires;
+  gathered = rw c.new-attributes.ensures.items (gathers.no_list _ _ _ _);
+  deeper = λ h. h;
+}

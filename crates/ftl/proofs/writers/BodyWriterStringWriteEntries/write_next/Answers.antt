@@ -1,0 +1,12 @@
+use Rattle.ftl.proofs.writers.BodyWriterStringWriteEntries.write_next.Goals as goal
+
+pub returns : goal.returns
+returns c = record {
+  written = record {
+    added = λ {tree} has. record {
+      start = has.start;
+      is_empty = has.is_empty;
+      came = c.write_entry.ensures.written has.start tree has.came;
+    };
+  };
+}

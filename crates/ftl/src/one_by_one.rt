@@ -1,0 +1,80 @@
+//! Entries of a text, each written as it is read: none of them is kept.
+ghost use Rattle.std.specs.Prelude.{◌≡◌, List, length, IfErr, IfOk};
+ghost use Rattle.fluent_syntax_tree.specs.Entry.{EntryTree, body_map};
+ghost use Rattle.fluent_syntax_tree.specs.Spans.{bytes_at};
+ghost use Rattle.fluent_syntax_tree.specs.View.{entry_view};
+ghost use Rattle.fluent_syntax_grammar.specs.Body.{body};
+ghost use Rattle.fluent_syntax_grammar.specs.Grammar.{family};
+ghost use Rattle.fluent_syntax_grammar.specs.Nesting.{TextDeeper};
+ghost use Rattle.fluent_syntax_grammar.specs.Tiling.{Tile, Tiled};
+ghost use Rattle.fluent_syntax_grammar.specs.Written.{Text};
+ghost use Rattle.fluent_syntax_parser.specs.Halts.{HaltsWithin, OnHalt};
+ghost use Rattle.fluent_syntax_parser.specs.Rest.{TileIn};
+ghost use Rattle.ftl.specs.Answer.{outcome_behind, outcome_of};
+ghost use Rattle.ftl.specs.OneByOne.{Came};
+
+use crate::outcome::Outcome;
+use fluent_syntax::ast::Entry;
+use fluent_syntax::parser::ParserError;
+use fluent_syntax::spans::{Entries, Halt, Options, Slices};
+use std::alloc::Global;
+
+/// What writes entries as they come.
+pub trait WriteEntries {
+    /// The entry came to the one writer, which then is the other.
+    ghost writes: { Self → EntryTree Text → Self → Type 0 };
+
+    /// Writes the entry behind those that came before.
+    fn write_next<'s>(&mut self, alloc: Global, entry: &Entry<&'s str>)
+        ensures written { writes self.old (entry_view (λ s. s.now) entry.now) self.new };
+}
+
+/// Writes each entry of the text with its texts, and gives what was found in the text.
+pub fn write_one_by_one<W: WriteEntries>(
+    alloc: Global,
+    writer: &mut W,
+    text: &str,
+    options: Options,
+) -> Result<Outcome, Halt>
+    ensures written { let t = text.now in IfOk result (λ outcome. (tiles : List Tile)
+        × Tiled t (TileIn options.comments options.edition t (family options.edition t)) 0 tiles
+        × Came W.writes writer.old (body_map (bytes_at t) (body tiles)) writer.new × (outcome ≡ outcome_of tiles)) }
+    ensures nests { IfErr result (HaltsWithin options.nesting (length text.now)) }
+    ensures deeper { let t = text.now in let at = TileIn options.comments options.edition t in
+        IfErr result (OnHalt (TextDeeper options.edition t at options.nesting 0)) }
+    ensures shallow { let t = text.now in let at = TileIn options.comments options.edition t in
+        IfOk result (λ outcome. TextDeeper options.edition t at options.nesting 0 → ⊥) }
+{
+    let slices: Slices<'_, '_, &str> = Slices::new(&text);
+    let mut entries = Entries::new(text, options);
+    let mut outcome = Outcome::Clean;
+    while let Some(read) = entries.next_entry_with(alloc, &slices)? {
+        outcome = write_read(alloc, writer, outcome, read);
+    }
+    Ok(outcome)
+}
+
+/// Writes the entry that was read next, and gives the outcome so far.
+fn write_read<W: WriteEntries>(
+    alloc: Global,
+    writer: &mut W,
+    outcome: Outcome,
+    read: (Entry<&str>, Option<ParserError>),
+) -> Outcome
+    ensures written { W.writes writer.old (entry_view (λ s. s.now) read.entry.0) writer.new }
+    ensures outcome { result ≡ outcome_behind outcome read.entry.1 }
+{
+    let (entry, error) = read;
+    writer.write_next(alloc, &entry);
+    outcome_behind(outcome, &error)
+}
+
+/// The outcome of what was read so far and of an entry behind it, which has an error where it is junk.
+fn outcome_behind(outcome: Outcome, error: &Option<ParserError>) -> Outcome
+    ensures { result ≡ outcome_behind outcome error.now }
+{
+    match error {
+        Some(_) => Outcome::SyntaxErrors,
+        None => outcome,
+    }
+}
