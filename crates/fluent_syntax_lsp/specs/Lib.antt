@@ -11,3 +11,4 @@ pub mod Formatting
 pub mod Documents
 pub mod Held
 pub mod Offsets
+pub mod Own

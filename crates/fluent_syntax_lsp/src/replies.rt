@@ -5,8 +5,10 @@ use crate::known::Known;
 use crate::occurrences::{NameKind, Occurrence, bytes_of, name_of};
 use crate::phases::ErrorCode;
 use crate::places::{Place, Places};
+use crate::remarks::Remark;
 use crate::symbols::{Fold, Symbol, SymbolKind};
 use fluent_syntax::spans::Span;
+use fluent_syntax_names::Severity;
 use serde_json::{Value, json};
 use std::alloc::{AllocError, Global};
 
@@ -41,15 +43,19 @@ pub fn capabilities(alloc: Global) -> Result<Value, AllocError> {
     })
 }
 
-/// The notification of a document's diagnostics.
+/// The notification of a document's diagnostics: its errors, and then its findings.
 pub fn diagnostics_notification(
     alloc: Global,
     uri: &str,
     diagnostics: &Vec<Diagnostic>,
+    remarks: &Vec<Remark>,
 ) -> Result<Value, AllocError> {
     let mut list = Vec::new(alloc);
     for diagnostic in diagnostics {
         list.push(diagnostic_form(alloc, diagnostic)?)?;
+    }
+    for remark in remarks {
+        list.push(remark_form(alloc, uri, remark)?)?;
     }
     let list = Value::Array(list);
     json!(in alloc; {
@@ -69,6 +75,36 @@ fn diagnostic_form(alloc: Global, diagnostic: &Diagnostic) -> Result<Value, Allo
         "code": (diagnostic.code),
         "message": (&diagnostic.message)
     })
+}
+
+/// A diagnostic: a finding, with where the name was given first.
+fn remark_form(alloc: Global, uri: &str, remark: &Remark) -> Result<Value, AllocError> {
+    let range = range_form(alloc, remark.range.start, remark.range.end)?;
+    let mut related = Vec::new(alloc);
+    if let Some(first) = remark.first {
+        let first = range_form(alloc, first.start, first.end)?;
+        related.push(json!(in alloc; {
+            "location": {"uri": uri, "range": first},
+            "message": "first given here"
+        })?)?;
+    }
+    let related = Value::Array(related);
+    json!(in alloc; {
+        "range": range,
+        "severity": (severity_number(remark.kind.severity())),
+        "source": "ftl",
+        "code": (remark.kind.name()),
+        "message": (&remark.message),
+        "relatedInformation": related
+    })
+}
+
+/// The number of a severity in the protocol.
+fn severity_number(severity: Severity) -> u64 {
+    match severity {
+        Severity::Error => 1,
+        Severity::Warning => 2,
+    }
 }
 
 /// The edit that sets the whole text.

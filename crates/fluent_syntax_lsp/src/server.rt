@@ -7,12 +7,14 @@ use crate::documents::Document;
 use crate::endings::Ending;
 use crate::formatting::formatted;
 use crate::known::{Open, Wanted, known_documents};
+use crate::limits::FINDINGS_LIMIT;
 use crate::messages::{Message, message_of};
 use crate::methods::Method;
 use crate::occurrences::bytes_of;
 use crate::offsets::byte_of;
 use crate::phases::{ErrorCode, Phase};
 use crate::places::Places;
+use crate::remarks::{Remark, remarks_of};
 use crate::renaming::renaming;
 use crate::replies::{
     answer, capabilities, diagnostics_notification, fold_list, known_symbol, refusal, symbol_list,
@@ -283,8 +285,19 @@ impl Server {
         let Some(open) = self.documents.get(uri) else {
             return Ok(None);
         };
-        let found = open.document.diagnostics(self.alloc)?;
-        Ok(Some(diagnostics_notification(self.alloc, uri, &found)?))
+        let document = &open.document;
+        let errors = document.diagnostics(self.alloc)?;
+        let remarks = self.remarks(document)?;
+        Ok(Some(diagnostics_notification(self.alloc, uri, &errors, &remarks)?))
+    }
+
+    /// What is told of a document's findings; nothing of a document that is too long.
+    fn remarks(&self, document: &Document) -> Result<Vec<Remark>, AllocError> {
+        if document.text().len() > FINDINGS_LIMIT {
+            return Ok(Vec::new(self.alloc));
+        }
+        let findings = document.findings(self.alloc)?;
+        remarks_of(self.alloc, document.text(), &findings)
     }
 
     /// Closes a document, and takes its diagnostics back.
@@ -292,8 +305,9 @@ impl Server {
         match self.documents.remove(uri) {
             None => Ok(None),
             Some(_) => {
-                let none = Vec::new(self.alloc);
-                Ok(Some(diagnostics_notification(self.alloc, uri, &none)?))
+                let errors = Vec::new(self.alloc);
+                let remarks = Vec::new(self.alloc);
+                Ok(Some(diagnostics_notification(self.alloc, uri, &errors, &remarks)?))
             }
         }
     }

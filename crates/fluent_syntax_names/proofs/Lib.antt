@@ -3,6 +3,7 @@ pub mod Linking
 pub mod Gathering
 pub mod Growing
 pub mod Lacking
+pub mod Mapped
 pub mod Nodes
 pub mod Placed
 pub mod Ways

@@ -3,6 +3,7 @@
 use fluent_syntax_lsp::{Diagnostic, Document, NESTING_LIMIT, Place, byte_of, diagnostics_in};
 use fluent_syntax_tests::alike::{assert_holds, assert_same, assert_same_text};
 use std::alloc::Global;
+use std::fmt::Write;
 use std::test::Fail;
 
 /// A text, a line and a column, and the byte there.
@@ -158,4 +159,29 @@ fn a_document_that_nests_too_deeply(rt: HostRuntime) -> Result<(), Fail> {
         matches!(document, Document::TooDeep(_)),
     )?;
     assert_document(alloc, &document, deep.as_str())
+}
+
+/// A text, and the kinds of what is found in it by itself, with where each begins.
+const FOUND: [(&str, &str); 6] = [
+    ("a = A\n", ""),
+    ("# c\na = A\na = B\n", "defined-twice 10\n"),
+    ("b = { b }\n    .t = A\n    .t = B\n", "cyclic-reference 6\nattribute-twice 26\n"),
+    ("a = { b }\n\nb = { a }\n", "cyclic-reference 6\ncyclic-reference 17\n"),
+    ("a = { b } { -c } { a.t }\n", ""),
+    ("bro ken\na = A\na = B\n", "defined-twice 14\n"),
+];
+
+#[test]
+fn findings_of_a_document(rt: HostRuntime) -> Result<(), Fail> {
+    let alloc = rt.alloc();
+    for (text, wanted) in &FOUND {
+        let document = Document::new(alloc, text)?;
+        let mut shown = String::new(alloc);
+        for finding in document.findings(alloc)?.iter() {
+            let place = finding.place.map_or(0, |span| span.start);
+            writeln!(shown, "{} {place}", finding.kind.name())?;
+        }
+        assert_same_text(alloc, *text, shown.as_str(), *wanted)?;
+    }
+    Ok(())
 }
