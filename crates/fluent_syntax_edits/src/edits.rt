@@ -1,5 +1,5 @@
 //! The edits.
-ghost use Rattle.std.specs.Prelude.{◌≡◌, ◌+◌, ◌^◌, ◌<◌, [], false, length, IfErr, IfOk, string_bytes};
+ghost use Rattle.std.specs.Prelude.{◌≡◌, ◌+◌, ◌^◌, ◌<◌, false, length, IfErr, IfOk, string_bytes};
 ghost use Rattle.fluent_syntax_edits.specs.Edits.{
   EditsBytes,
   InsertRefused,

@@ -41,7 +41,8 @@ entries_text-last later (x ∷ xs) e =
     ap (λ text. next_text later x ++ text) (entries_text-last true xs e)
     ∙ sym (append_assoc (next_text later x) (entries_text true xs) (next_text (later_after true xs) e))
 
-later_after-last : (later : Bool) (body : BodyTree Text) (e : EntryTree Text) → later_after later (body ++ e ∷ []) ≡ true
+later_after-last : (later : Bool) (body : BodyTree Text) (e : EntryTree Text) →
+    later_after later (body ++ e ∷ []) ≡ true
 later_after-last later [] e = refl
 later_after-last later (x ∷ xs) e = later_after-last true xs e
 

@@ -1,5 +1,5 @@
 //! Objects, filled key by key.
-ghost use Rattle.std.specs.Prelude.{◌≡◌, [], ◌∷◌, IfOk, codes};
+ghost use Rattle.std.specs.Prelude.{◌≡◌, IfOk, codes};
 ghost use Rattle.serde_json.specs.Data.{string, object, no_members, put};
 ghost use Rattle.serde_json.specs.View.{view};
 ghost use Rattle.fluent_syntax_json.specs.Object.{members_so_far};

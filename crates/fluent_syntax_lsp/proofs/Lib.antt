@@ -1,5 +1,9 @@
+pub mod Adding
 pub mod ByteLemmas
 pub mod FrameLemmas
 pub mod FramesMore
 pub mod InboxLemmas
+pub mod OwnLemmas
 pub mod PlaceLemmas
+pub mod RemarkLemmas
+pub mod TokenTiles

@@ -10,4 +10,8 @@ pub mod Diagnostics
 pub mod Formatting
 pub mod Documents
 pub mod Held
+pub mod Highlights
 pub mod Offsets
+pub mod Own
+pub mod Remarks
+pub mod Tokens

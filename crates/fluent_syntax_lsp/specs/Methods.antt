@@ -6,6 +6,7 @@ use Rattle.fluent_syntax_lsp.specs.declared.methods.Method.TheVariants.{Formatti
 use Rattle.fluent_syntax_lsp.specs.declared.methods.Method.TheVariants.{DidClose, DidSave, Exit}
 use Rattle.fluent_syntax_lsp.specs.declared.methods.Method.TheVariants.{Definition, References, DocumentHighlight}
 use Rattle.fluent_syntax_lsp.specs.declared.methods.Method.TheVariants.{Hover, Rename, Completion, WorkspaceSymbol}
+use Rattle.fluent_syntax_lsp.specs.declared.methods.Method.TheVariants.{SemanticTokens}
 
 abbrev pub name_of : Method → List ℕ
 name_of Initialize = codes "initialize"
@@ -20,6 +21,7 @@ name_of Hover = codes "textDocument/hover"
 name_of Rename = codes "textDocument/rename"
 name_of Completion = codes "textDocument/completion"
 name_of WorkspaceSymbol = codes "workspace/symbol"
+name_of SemanticTokens = codes "textDocument/semanticTokens/full"
 name_of DidOpen = codes "textDocument/didOpen"
 name_of DidChange = codes "textDocument/didChange"
 name_of DidClose = codes "textDocument/didClose"

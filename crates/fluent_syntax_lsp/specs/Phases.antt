@@ -8,6 +8,7 @@ use Rattle.fluent_syntax_lsp.specs.declared.methods.Method.TheVariants.{Formatti
 use Rattle.fluent_syntax_lsp.specs.declared.methods.Method.TheVariants.{DidClose, DidSave, Exit}
 use Rattle.fluent_syntax_lsp.specs.declared.methods.Method.TheVariants.{Definition, References, DocumentHighlight}
 use Rattle.fluent_syntax_lsp.specs.declared.methods.Method.TheVariants.{Hover, Rename, Completion, WorkspaceSymbol}
+use Rattle.fluent_syntax_lsp.specs.declared.methods.Method.TheVariants.{SemanticTokens}
 use Rattle.fluent_syntax_lsp.specs.declared.phases.Phase.{Phase}
 use Rattle.fluent_syntax_lsp.specs.declared.phases.Phase.TheVariants.{Fresh, Running, ShutDown, Exited, Left}
 use Rattle.fluent_syntax_lsp.specs.declared.phases.ErrorCode.{ErrorCode}
@@ -41,6 +42,7 @@ refusal_behind (Some Hover) = None
 refusal_behind (Some Rename) = None
 refusal_behind (Some Completion) = None
 refusal_behind (Some WorkspaceSymbol) = None
+refusal_behind (Some SemanticTokens) = None
 refusal_behind (Some DidOpen) = Some MethodNotFound
 refusal_behind (Some DidChange) = Some MethodNotFound
 refusal_behind (Some DidClose) = Some MethodNotFound

@@ -4,12 +4,16 @@ ghost use Rattle.fluent_syntax_reread.specs.Faults.{IsRange};
 ghost use Rattle.fluent_syntax_reread.specs.Reading.{changed};
 ghost use Rattle.fluent_syntax_lsp.specs.Diagnostics.{DiagnosesDocument, shown};
 ghost use Rattle.fluent_syntax_lsp.specs.Documents.{ChangesBetween, document_text, HasTiles, IsHeldIfShort};
+ghost use Rattle.fluent_syntax_lsp.specs.Own.{FindsInDocument};
+ghost use Rattle.fluent_syntax_lsp.specs.Tokens.{HasTokens};
 
 use crate::diagnostics::{Diagnostic, diagnostics_in, diagnostics_of};
 use crate::held::Held;
 use crate::offsets::byte_of;
 use crate::places::Place;
 use crate::stretches::Stretches;
+use crate::token::Token;
+use fluent_syntax_names::Finding;
 use fluent_syntax_parser::options::Halt;
 use fluent_syntax_reread::placed::Placed;
 use fluent_syntax_reread::{ChangeFault, changed};
@@ -129,6 +133,29 @@ impl Document {
                 diagnostics_of(alloc, held.text(), &errors)
             }
             Document::TooDeep(text) => diagnostics_in(alloc, text.as_str()),
+        }
+    }
+
+    /// What is found in the text by itself, whatever stands in other files, in the order of the text: a name or an
+    /// attribute that is given twice, and a reference that comes back. Nothing is found in a text that nests too
+    /// deeply. `AllocError` where a growth was refused.
+    pub fn findings(&self, alloc: Global) -> Result<Vec<Finding>, AllocError>
+        ensures { IfOk result (λ found. FindsInDocument self.now found.items) }
+    {
+        match self {
+            Document::Held(held) => held.findings(alloc),
+            Document::TooDeep(_) => Ok(Vec::new(alloc)),
+        }
+    }
+
+    /// What of the text can be highlighted, in order; nothing of a text that nests too deeply. `AllocError` where a
+    /// growth was refused.
+    pub fn tokens(&self, alloc: Global) -> Result<Vec<Token>, AllocError>
+        ensures { IfOk result (λ tokens. HasTokens self.now tokens.items) }
+    {
+        match self {
+            Document::Held(held) => held.tokens(alloc),
+            Document::TooDeep(_) => Ok(Vec::new(alloc)),
         }
     }
 }

@@ -6,10 +6,16 @@ ghost use Rattle.fluent_syntax_reread.specs.Placed.{Reads};
 ghost use Rattle.fluent_syntax_reread.specs.Reading.{changed};
 ghost use Rattle.fluent_syntax_tree.specs.declared.edition.Edition.TheVariants.{One};
 ghost use Rattle.fluent_syntax_lsp.specs.Held.{TellsAll};
+ghost use Rattle.fluent_syntax_lsp.specs.Own.{FindsOwn};
+ghost use Rattle.fluent_syntax_lsp.specs.Tokens.{AreTokens};
 ghost use Rattle.fluent_syntax_lsp.specs.declared.limits.TheConstants.{NESTING_LIMIT};
 
 use crate::limits::NESTING_LIMIT;
+use crate::own::outline_of_tiles;
+use crate::token::Token;
+use crate::tokens::tokens_of_tiles;
 use fluent_syntax::parser::{Edition, ParserError};
+use fluent_syntax_names::{Finding, own_findings};
 use fluent_syntax_parser::options::Halt;
 use fluent_syntax_reread::placed::Placed;
 use fluent_syntax_reread::{ChangeFault, Reread};
@@ -87,5 +93,20 @@ impl Held {
         ensures places { IfOk result (λ errors. All (λ e. e.pos.start ≤ length self.now) errors.items) }
     {
         self.reread.errors(alloc)
+    }
+
+    /// What is found in the text by itself, in order. `AllocError` where a growth was refused.
+    pub fn findings(&self, alloc: Global) -> Result<Vec<Finding>, AllocError>
+        ensures { IfOk result (λ found. FindsOwn self.now found.items) }
+    {
+        let outline = outline_of_tiles(alloc, self.text(), self.tiles())?;
+        own_findings(alloc, &outline)
+    }
+
+    /// The tokens of the text, in order. `AllocError` where a growth was refused.
+    pub fn tokens(&self, alloc: Global) -> Result<Vec<Token>, AllocError>
+        ensures { IfOk result (λ tokens. AreTokens self.now tokens.items) }
+    {
+        tokens_of_tiles(alloc, self.tiles())
     }
 }

@@ -1,4 +1,5 @@
 //! The names in a text, each where it stands.
+ghost use Rattle.fluent_syntax_lsp.specs.Remarks.{IsCut};
 
 use crate::documents::Document;
 use crate::stretches::moved;
@@ -57,7 +58,9 @@ pub struct Name<'t> {
 }
 
 /// The bytes of a range of the text; none where it has no such range.
-pub fn bytes_of(text: &str, span: Span) -> &str {
+pub fn bytes_of(text: &str, span: Span) -> &str
+    ensures { IsCut text.now span result.now }
+{
     text.get(span.start..span.end).unwrap_or("")
 }
 

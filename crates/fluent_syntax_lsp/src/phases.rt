@@ -82,7 +82,8 @@ impl Phase {
                     | Method::Hover
                     | Method::Rename
                     | Method::Completion
-                    | Method::WorkspaceSymbol,
+                    | Method::WorkspaceSymbol
+                    | Method::SemanticTokens,
                 ),
             ) => None,
             (Phase::Running, _) => Some(ErrorCode::MethodNotFound),

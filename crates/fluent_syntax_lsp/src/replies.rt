@@ -5,8 +5,10 @@ use crate::known::Known;
 use crate::occurrences::{NameKind, Occurrence, bytes_of, name_of};
 use crate::phases::ErrorCode;
 use crate::places::{Place, Places};
+use crate::remarks::{PlaceRange, Remark};
 use crate::symbols::{Fold, Symbol, SymbolKind};
 use fluent_syntax::spans::Span;
+use fluent_syntax_names::Severity;
 use serde_json::{Value, json};
 use std::alloc::{AllocError, Global};
 
@@ -35,21 +37,40 @@ pub fn capabilities(alloc: Global) -> Result<Value, AllocError> {
             "hoverProvider": true,
             "renameProvider": true,
             "completionProvider": {"triggerCharacters": ["{", "-", "$", "."]},
-            "workspaceSymbolProvider": true
+            "workspaceSymbolProvider": true,
+            "semanticTokensProvider": {
+                "legend": {
+                    "tokenTypes": [
+                        "property", "macro", "variable", "function", "parameter", "string",
+                        "number", "enumMember", "comment"
+                    ],
+                    "tokenModifiers": ["declaration"]
+                },
+                "full": true
+            }
         },
         "serverInfo": {"name": "ftl"}
     })
 }
 
-/// The notification of a document's diagnostics.
+/// The notification of a document's diagnostics: its errors, and then its findings. `related` says whether the editor
+/// takes related information.
 pub fn diagnostics_notification(
     alloc: Global,
     uri: &str,
     diagnostics: &Vec<Diagnostic>,
+    remarks: &Vec<Remark>,
+    related: bool,
 ) -> Result<Value, AllocError> {
     let mut list = Vec::new(alloc);
     for diagnostic in diagnostics {
         list.push(diagnostic_form(alloc, diagnostic)?)?;
+    }
+    for remark in remarks {
+        list.push(match remark.first {
+            Some(first) if related => related_form(alloc, uri, remark, first)?,
+            _ => remark_form(alloc, remark)?,
+        })?;
     }
     let list = Value::Array(list);
     json!(in alloc; {
@@ -69,6 +90,48 @@ fn diagnostic_form(alloc: Global, diagnostic: &Diagnostic) -> Result<Value, Allo
         "code": (diagnostic.code),
         "message": (&diagnostic.message)
     })
+}
+
+/// A diagnostic: a finding.
+fn remark_form(alloc: Global, remark: &Remark) -> Result<Value, AllocError> {
+    let range = range_form(alloc, remark.range.start, remark.range.end)?;
+    json!(in alloc; {
+        "range": range,
+        "severity": (severity_number(remark.kind.severity())),
+        "source": "ftl",
+        "code": (remark.kind.name()),
+        "message": (&remark.message)
+    })
+}
+
+/// A diagnostic: a finding, with where the name was given first.
+fn related_form(
+    alloc: Global,
+    uri: &str,
+    remark: &Remark,
+    first: PlaceRange,
+) -> Result<Value, AllocError> {
+    let range = range_form(alloc, remark.range.start, remark.range.end)?;
+    let first = range_form(alloc, first.start, first.end)?;
+    json!(in alloc; {
+        "range": range,
+        "severity": (severity_number(remark.kind.severity())),
+        "source": "ftl",
+        "code": (remark.kind.name()),
+        "message": (&remark.message),
+        "relatedInformation": [{
+            "location": {"uri": uri, "range": first},
+            "message": "first given here"
+        }]
+    })
+}
+
+/// The number of a severity in the protocol.
+fn severity_number(severity: Severity) -> u64 {
+    match severity {
+        Severity::Error => 1,
+        Severity::Warning => 2,
+    }
 }
 
 /// The edit that sets the whole text.
@@ -156,6 +219,16 @@ pub fn fold_list(alloc: Global, folds: &Vec<Fold>) -> Result<Value, AllocError> 
         list.push(json!(in alloc; {"startLine": first, "endLine": last, "kind": "comment"})?)?;
     }
     Ok(Value::Array(list))
+}
+
+/// The tokens of a text, by their numbers.
+pub fn token_list(alloc: Global, numbers: &[usize]) -> Result<Value, AllocError> {
+    let mut list = Vec::new(alloc);
+    for number in numbers {
+        list.push(json!(in alloc; (*number as u64))?)?;
+    }
+    let list = Value::Array(list);
+    json!(in alloc; {"data": list})
 }
 
 /// The range of a stretch of the text whose places these are.

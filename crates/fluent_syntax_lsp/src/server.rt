@@ -3,20 +3,24 @@
 use crate::asked::Asked;
 use crate::changes::{change_of, place_of};
 use crate::completion::completion;
+use crate::diagnostics::Diagnostic;
 use crate::documents::Document;
 use crate::endings::Ending;
 use crate::formatting::formatted;
+use crate::highlights::{highlights_of, numbers_of};
 use crate::known::{Open, Wanted, known_documents};
+use crate::limits::FINDINGS_LIMIT;
 use crate::messages::{Message, message_of};
 use crate::methods::Method;
 use crate::occurrences::bytes_of;
 use crate::offsets::byte_of;
 use crate::phases::{ErrorCode, Phase};
 use crate::places::Places;
+use crate::remarks::{Remark, remarks_of};
 use crate::renaming::renaming;
 use crate::replies::{
     answer, capabilities, diagnostics_notification, fold_list, known_symbol, refusal, symbol_list,
-    whole_edit,
+    token_list, whole_edit,
 };
 use crate::symbols::{folds_in, symbols_in};
 use serde_json::{Category, Value};
@@ -28,6 +32,8 @@ use std::collections::BTreeMap;
 pub struct Server {
     alloc: Global,
     phase: Phase,
+    /// Whether the editor takes related information of a diagnostic.
+    related: bool,
     /// The open documents, by their names.
     documents: BTreeMap<String, Open>,
 }
@@ -38,6 +44,7 @@ impl Server {
         Server {
             alloc,
             phase: Phase::Fresh,
+            related: false,
             documents: BTreeMap::new(alloc),
         }
     }
@@ -87,10 +94,14 @@ impl Server {
             return self.refuse(id, code);
         }
         let found = match method {
-            Some(Method::Initialize) => Some(capabilities(self.alloc)?),
+            Some(Method::Initialize) => {
+                self.related = takes_related(message);
+                Some(capabilities(self.alloc)?)
+            }
             Some(Method::DocumentSymbol) => self.symbols(message)?,
             Some(Method::Formatting) => self.formatting(message)?,
             Some(Method::FoldingRange) => self.folds(message)?,
+            Some(Method::SemanticTokens) => self.tokens(message)?,
             Some(Method::WorkspaceSymbol) => Some(self.known_symbols(message)?),
             Some(
                 Method::Definition
@@ -129,6 +140,16 @@ impl Server {
         };
         let folds = folds_in(self.alloc, document)?;
         Ok(Some(fold_list(self.alloc, &folds)?))
+    }
+
+    fn tokens(&self, message: &Value) -> Result<Option<Value>, AllocError> {
+        let Some(document) = self.document_of(message) else {
+            return Ok(None);
+        };
+        let tokens = document.tokens(self.alloc)?;
+        let highlights = highlights_of(self.alloc, document.text(), &tokens)?;
+        let numbers = numbers_of(self.alloc, &highlights)?;
+        Ok(Some(token_list(self.alloc, &numbers)?))
     }
 
     /// The edit that formats the document; null where it stays as it is.
@@ -283,8 +304,28 @@ impl Server {
         let Some(open) = self.documents.get(uri) else {
             return Ok(None);
         };
-        let found = open.document.diagnostics(self.alloc)?;
-        Ok(Some(diagnostics_notification(self.alloc, uri, &found)?))
+        let errors = open.document.diagnostics(self.alloc)?;
+        let remarks = self.remarks(&open.document)?;
+        Ok(Some(self.published(uri, &errors, &remarks)?))
+    }
+
+    /// The notification of these diagnostics.
+    fn published(
+        &self,
+        uri: &str,
+        errors: &Vec<Diagnostic>,
+        remarks: &Vec<Remark>,
+    ) -> Result<Value, AllocError> {
+        diagnostics_notification(self.alloc, uri, errors, remarks, self.related)
+    }
+
+    /// What is told of a document's findings; nothing of a document that is too long.
+    fn remarks(&self, document: &Document) -> Result<Vec<Remark>, AllocError> {
+        if document.text().len() > FINDINGS_LIMIT {
+            return Ok(Vec::new(self.alloc));
+        }
+        let findings = document.findings(self.alloc)?;
+        remarks_of(self.alloc, document.text(), &findings)
     }
 
     /// Closes a document, and takes its diagnostics back.
@@ -292,11 +333,20 @@ impl Server {
         match self.documents.remove(uri) {
             None => Ok(None),
             Some(_) => {
-                let none = Vec::new(self.alloc);
-                Ok(Some(diagnostics_notification(self.alloc, uri, &none)?))
+                let errors = Vec::new(self.alloc);
+                let remarks = Vec::new(self.alloc);
+                Ok(Some(self.published(uri, &errors, &remarks)?))
             }
         }
     }
+}
+
+/// Whether an editor that says this of itself takes related information of a diagnostic.
+fn takes_related(message: &Value) -> bool {
+    message
+        .pointer("/params/capabilities/textDocument/publishDiagnostics/relatedInformation")
+        .and_then(Value::as_bool)
+        .unwrap_or(false)
 }
 
 /// The name of the document that a message speaks of.

@@ -24,16 +24,22 @@ module _ {X : Type 0} where
 
   module _ {A : Type 0} (all : List A → Mentions X → Mentions X) (one : A → Mentions X → Mentions X)
       (old now : Mentions X) (nodes : List A) (i : ℕ) where
+    pub leaves_on : ((x : A) (xs : List A) (tail : Mentions X) → all (x ∷ xs) tail ≡ one x (all xs tail))
+        → (next : Mentions X) (x d : A) → i < length nodes → x ≡ get_or nodes i d
+        → Leaves old now (all (drop i nodes)) (all nodes) → Adds now next (one x)
+        → Leaves old next (all (drop (i + 1) nodes)) (all nodes)
+    leaves_on each next x d within is left adds = λ rest.
+        let cut : drop i nodes ≡ x ∷ drop (i + 1) nodes =
+        drop_more nodes i d within ∙ ap (λ y. y ∷ drop (i + 1) nodes) (sym is) in
+        adds (all (drop (i + 1) nodes) rest)
+        ∙ ap (λ l. now ++ l) (sym (each x (drop (i + 1) nodes) rest) ∙ sym (ap (λ ns. all ns rest) cut))
+        ∙ left rest
+
     pub leaves_next : ((x : A) (xs : List A) (tail : Mentions X) → all (x ∷ xs) tail ≡ one x (all xs tail))
         → (next : Mentions X) (x : A) → i < length nodes → x ≡ get_or nodes i x
         → Leaves old now (all (drop i nodes)) (all nodes) → Adds now next (one x)
         → Leaves old next (all (drop (i + 1) nodes)) (all nodes)
-    leaves_next each next x within is left adds = λ rest.
-        let cut : drop i nodes ≡ x ∷ drop (i + 1) nodes =
-        drop_more nodes i x within ∙ ap (λ y. y ∷ drop (i + 1) nodes) (sym is) in
-        adds (all (drop (i + 1) nodes) rest)
-        ∙ ap (λ l. now ++ l) (sym (each x (drop (i + 1) nodes) rest) ∙ sym (ap (λ ns. all ns rest) cut))
-        ∙ left rest
+    leaves_next each next x within is left adds = leaves_on each next x x within is left adds
 
     pub leaves_none : ((tail : Mentions X) → all [] tail ≡ tail) → length nodes ≤ i
         → Leaves old now (all (drop i nodes)) (all nodes) → Adds old now (all nodes)

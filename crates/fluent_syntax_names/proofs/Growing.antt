@@ -72,45 +72,11 @@ module _ (file : ℕ) (text : Text) where
     found_same known (says.Variable x) = refl
     found_same known (says.Function x) = refl
 
--- what is known of each reference agrees
-module _ (A B : Set) (defines : (name : Text) → A.defines name ≡ B.defines name) where
+module _ (A B : Set) where
+  -- what is known of each reference agrees
   abbrev pub SameOn : List Link → Type 0
   SameOn [] = Unit {0}
   SameOn (link ∷ all) = (A.comes_back link.from link.to ≡ B.comes_back link.from link.to) × SameOn all
-
-  circle_same : (file : ℕ) (text : Text) (pattern : PatternName) (target : Option PatternName) (others : List Link)
-      → SameOn (link_to text pattern target others)
-      → (circle_to A.comes_back file text pattern target ≡ circle_to B.comes_back file text pattern target)
-      × SameOn others
-  circle_same file text pattern None others same = (refl, same)
-  circle_same file text pattern (Some target) others same = (
-    ap (λ (b : Bool). if b then Some (finding_at kind.CyclicReference file target.entry.name None) else None) same.0,
-    same.1,
-  )
-
-  found_in_same : (file : ℕ) (text : Text) (known : Known) (pattern : PatternName) (ms : Mentions Span)
-      (others : List Link) → SameOn (links_in text pattern ms others) → (tail tail' : List Finding)
-      → (SameOn others → tail ≡ tail')
-      → found_in A file text known pattern ms tail ≡ found_in B file text known pattern ms tail'
-  found_in_same file text known pattern [] others same tail tail' later = later same
-  found_in_same file text known pattern (m ∷ ms) others same tail tail' later =
-      let rest = links_in text (pattern_after pattern m) ms others in
-      let here = circle_same file text pattern (referred m) rest same in
-      let behind =
-      found_in_same file text (after text known m) (pattern_after pattern m) ms others here.1 tail tail' later in
-      let left = found_in A file text (after text known m) (pattern_after pattern m) ms tail in
-      ap (λ o. put o (put (circle A.comes_back file text pattern m) left))
-      (found_same file text A.defines B.defines defines known m)
-      ∙ ap (λ o. put (found B.defines file text known m) (put o left)) here.0
-      ∙ ap (λ l. put (found B.defines file text known m) (put (circle B.comes_back file text pattern m) l)) behind
-
-  pub found_from_same : (n : ℕ) (files : List Outline) → SameOn (links files) → (tail : List Finding)
-      → found_from A n files tail ≡ found_from B n files tail
-  found_from_same n [] same tail = refl
-  found_from_same n (file ∷ files) same tail =
-      found_in_same n file.text.now nothing no_pattern file.mentions.items (links files) same
-      (found_from A (n + 1) files tail) (found_from B (n + 1) files tail)
-      (λ later. found_from_same (n + 1) files later tail)
 
   -- what agrees for each link of a list
   pub same_on : (all : List Link)
@@ -121,6 +87,41 @@ module _ (A B : Set) (defines : (name : Text) → A.defines name ≡ B.defines n
         (or_left (is_link link.from link.to link) (leads all link.from link.to) (is_own_link link)),
     same_on all (λ from to e. same from to (or_right (is_link from to link) (leads all from to) e)),
   )
+
+  pub circle_same : (file : ℕ) (text : Text) (pattern : PatternName) (target : Option PatternName)
+      (others : List Link) → SameOn (link_to text pattern target others)
+      → (circle_to A.comes_back file text pattern target ≡ circle_to B.comes_back file text pattern target)
+      × SameOn others
+  circle_same file text pattern None others same = (refl, same)
+  circle_same file text pattern (Some target) others same = (
+    ap (λ (b : Bool). if b then Some (finding_at kind.CyclicReference file target.entry.name None) else None) same.0,
+    same.1,
+  )
+
+module _ (A B : Set) (defines : (name : Text) → A.defines name ≡ B.defines name) where
+  found_in_same : (file : ℕ) (text : Text) (known : Known) (pattern : PatternName) (ms : Mentions Span)
+      (others : List Link) → SameOn A B (links_in text pattern ms others) → (tail tail' : List Finding)
+      → (SameOn A B others → tail ≡ tail')
+      → found_in A file text known pattern ms tail ≡ found_in B file text known pattern ms tail'
+  found_in_same file text known pattern [] others same tail tail' later = later same
+  found_in_same file text known pattern (m ∷ ms) others same tail tail' later =
+      let rest = links_in text (pattern_after pattern m) ms others in
+      let here = circle_same A B file text pattern (referred m) rest same in
+      let behind =
+      found_in_same file text (after text known m) (pattern_after pattern m) ms others here.1 tail tail' later in
+      let left = found_in A file text (after text known m) (pattern_after pattern m) ms tail in
+      ap (λ o. put o (put (circle A.comes_back file text pattern m) left))
+      (found_same file text A.defines B.defines defines known m)
+      ∙ ap (λ o. put (found B.defines file text known m) (put o left)) here.0
+      ∙ ap (λ l. put (found B.defines file text known m) (put (circle B.comes_back file text pattern m) l)) behind
+
+  pub found_from_same : (n : ℕ) (files : List Outline) → SameOn A B (links files) → (tail : List Finding)
+      → found_from A n files tail ≡ found_from B n files tail
+  found_from_same n [] same tail = refl
+  found_from_same n (file ∷ files) same tail =
+      found_in_same n file.text.now nothing no_pattern file.mentions.items (links files) same
+      (found_from A (n + 1) files tail) (found_from B (n + 1) files tail)
+      (λ later. found_from_same (n + 1) files later tail)
 
 -- ---- The mentions of a file
 

@@ -1,8 +1,10 @@
 pub mod Adding
-pub mod Linking
+pub mod Alone
 pub mod Gathering
 pub mod Growing
 pub mod Lacking
+pub mod Linking
+pub mod Mapped
 pub mod Nodes
 pub mod Placed
 pub mod Ways

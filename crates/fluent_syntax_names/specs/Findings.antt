@@ -1,5 +1,5 @@
 -- What is found in a set of files of one language.
-use Rattle.std.specs.Prelude.{ℕ, ◌+◌, Bool, true, false, List, [], ◌∷◌, Option, Some, None, if◌then◌else◌}
+use Rattle.std.specs.Prelude.{ℕ, ◌+◌, Bool, true, false, List, [], ◌∷◌, Option, Some, None, filter, if◌then◌else◌}
 use Rattle.std.specs.List.{list_any}
 use Rattle.std.specs.Str.{bytes_eq}
 use Rattle.fluent_syntax_tree.specs.declared.spans.Span.{Span}
@@ -14,6 +14,7 @@ use Rattle.fluent_syntax_names.specs.declared.spelled.EntryName.{EntryName}
 use Rattle.fluent_syntax_names.specs.declared.spelled.PatternName.{PatternName}
 use Rattle.fluent_syntax_names.specs.Mentions.{Mentions}
 use Rattle.fluent_syntax_names.specs.Places.{first_of, place_where}
+use Rattle.fluent_syntax_names.specs.Severities.{stands_alone}
 use Rattle.fluent_syntax_names.specs.Spelled.{Text, message_name, term_name, nameless, name_at, spelled}
 use Rattle.fluent_syntax_names.specs.Spelled.{spelled_attribute}
 use Rattle.fluent_syntax_names.specs.Spelled.{spelled_value, spelled_pattern}
@@ -184,3 +185,7 @@ set_of files = record { defines = is_defined files; comes_back = comes_back (lin
 
 abbrev pub all_findings : List Outline → List Finding
 all_findings files = found_from (set_of files) 0 files []
+
+-- what is found in a file by itself that is found whatever stands in other files
+abbrev pub own_findings : Outline → List Finding
+own_findings file = filter (λ f. stands_alone f.kind) (all_findings (file ∷ []))

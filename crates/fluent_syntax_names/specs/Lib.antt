@@ -4,6 +4,7 @@ pub mod Findings
 pub mod Lacks
 pub mod Mentions
 pub mod Places
+pub mod Sentences
 pub mod Severities
 pub mod Spelled
 pub mod Tables

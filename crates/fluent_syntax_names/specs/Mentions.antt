@@ -1,5 +1,5 @@
 -- What entries say of names, in the order of the text. Each function puts the mentions of its node before a tail.
-use Rattle.std.specs.Prelude.{◌≡◌, Bool, true, false, List, [], ◌∷◌, ◌++◌, Option, Some, None, filter, is_some}
+use Rattle.std.specs.Prelude.{◌≡◌, ℕ, ◌+◌, Bool, true, false, List, [], ◌∷◌, ◌++◌, Option, Some, None, filter, is_some}
 use Rattle.std.specs.List.{filter_map}
 use Rattle.fluent_syntax_tree.specs.Tree.{ExpressionTree, select, inline, InlineTree, string_literal, number_literal}
 use Rattle.fluent_syntax_tree.specs.Tree.{function_reference, message_reference, term_reference, variable_reference}
@@ -10,6 +10,8 @@ use Rattle.fluent_syntax_tree.specs.Tree.{PatternTree, no_elements, elements, Va
 use Rattle.fluent_syntax_tree.specs.Tree.{no_variants, variants}
 use Rattle.fluent_syntax_tree.specs.Entry.{AttributeTree, MessageTree, TermTree, EntryTree, message, term, comment}
 use Rattle.fluent_syntax_tree.specs.Entry.{junk, BodyTree}
+use Rattle.fluent_syntax_tree.specs.Tree.{option_texts}
+use Rattle.fluent_syntax_tree.specs.declared.spans.Span.{Span}
 use Rattle.fluent_syntax_names.specs.declared.mention.Mention.{Mention}
 use Rattle.fluent_syntax_names.specs.declared.mention.Mention.TheVariants as says
 
@@ -144,3 +146,20 @@ module _ {X : Type 0} where
   -- what `left` puts before a tail is still to come, of what `all` does
   abbrev pub Leaves : (old now : Mentions X) → (left all : Mentions X → Mentions X) → Type 0
   Leaves old now left all = (rest : Mentions X) → now ++ left rest ≡ old ++ all rest
+
+-- ---- Mentions further on
+
+-- the mention with f of each text in its place
+abbrev pub mention_map : {X Y : Type 0} → (X → Y) → Mention X → Mention Y
+mention_map f (says.Message x v) = says.Message (f x) v
+mention_map f (says.Term x) = says.Term (f x)
+mention_map f (says.Attribute x) = says.Attribute (f x)
+mention_map f (says.Junk x) = says.Junk (f x)
+mention_map f (says.MessageReference x a) = says.MessageReference (f x) (option_texts f a)
+mention_map f (says.TermReference x a) = says.TermReference (f x) (option_texts f a)
+mention_map f (says.Variable x) = says.Variable (f x)
+mention_map f (says.Function x) = says.Function (f x)
+
+-- the range so many bytes on
+abbrev pub span_on : ℕ → Span → Span
+span_on base s = record { start = base + s.start; end = base + s.end }

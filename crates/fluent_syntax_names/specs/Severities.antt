@@ -1,5 +1,5 @@
 -- How grave each kind is, and what it is called.
-use Rattle.std.specs.Prelude.{ℕ, List, codes}
+use Rattle.std.specs.Prelude.{ℕ, Bool, true, false, List, codes}
 use Rattle.fluent_syntax_names.specs.declared.finding.Kind.{Kind}
 use Rattle.fluent_syntax_names.specs.declared.finding.Kind.TheVariants as kind
 use Rattle.fluent_syntax_names.specs.declared.finding.Severity.{Severity}
@@ -23,3 +23,13 @@ name_of kind.UndefinedTerm = codes "undefined-term"
 name_of kind.UndefinedAttribute = codes "undefined-attribute"
 name_of kind.UndefinedValue = codes "undefined-value"
 name_of kind.CyclicReference = codes "cyclic-reference"
+
+-- whether one in a file is one whatever stands in other files
+abbrev pub stands_alone : Kind → Bool
+stands_alone kind.DefinedTwice = true
+stands_alone kind.AttributeTwice = true
+stands_alone kind.UndefinedMessage = false
+stands_alone kind.UndefinedTerm = false
+stands_alone kind.UndefinedAttribute = false
+stands_alone kind.UndefinedValue = false
+stands_alone kind.CyclicReference = true

@@ -3,7 +3,7 @@ ghost use Rattle.std.specs.Prelude.{◌≡◌, ◌↔◌, ℕ, List, [], None, O
 ghost use Rattle.fluent_syntax_names.specs.Circles.{Reaches, links, no_pattern, reaches};
 ghost use Rattle.fluent_syntax_names.specs.Drawings.{set_by};
 ghost use Rattle.fluent_syntax_names.specs.Findings.{nothing, found_in, found_from, all_findings, put};
-ghost use Rattle.fluent_syntax_names.specs.Findings.{is_defined};
+ghost use Rattle.fluent_syntax_names.specs.Findings.{is_defined, own_findings};
 ghost use Rattle.fluent_syntax_names.specs.Places.{place_of};
 ghost use Rattle.fluent_syntax_names.specs.Tables.{AddsFindings, has_name};
 
@@ -18,6 +18,7 @@ use crate::places::Places;
 use crate::referring::{NO_PATTERN, pattern_after};
 use fluent_syntax_tree::spans::Span;
 use std::alloc::{AllocError, Global};
+use std::slice::from_ref;
 
 /// All that is found in the files of one language, in the order of the files and of their texts.
 ///
@@ -36,6 +37,24 @@ pub fn findings(alloc: Global, files: &[Outline<'_>]) -> Result<Vec<Finding>, Al
     note_files(alloc, &mut defined, files)?;
     let circles = circles_of(alloc, files)?;
     found_in_files(alloc, &defined, &circles, files)
+}
+
+/// What is found in a file by itself, whatever stands in other files, in the order of its text: a name or an attribute
+/// that is given twice, and a reference that comes back. The findings are of the file 0.
+///
+/// Takes the memory of tables of its names and references, and of the list; `AllocError` where there is none.
+pub fn own_findings(alloc: Global, file: &Outline<'_>) -> Result<Vec<Finding>, AllocError>
+    ensures { IfOk result (λ list. list.items ≡ own_findings file.now) }
+{
+    let files = from_ref(file);
+    let circles = circles_of(alloc, files)?;
+    // Where no name is known, each reference is found missing, and none of these findings stands alone.
+    let unknown = Places::new(alloc);
+    let all = found_in_files(alloc, &unknown, &circles, files)?;
+    all.iter()
+        .copied()
+        .filter(|finding| finding.kind.stands_alone())
+        .collect(alloc)
 }
 
 /// Notes all names that the files define.

@@ -1,6 +1,6 @@
 //! What is found.
 ghost use Rattle.std.specs.Prelude.{◌≡◌};
-ghost use Rattle.fluent_syntax_names.specs.Severities.{severity_of, name_of};
+ghost use Rattle.fluent_syntax_names.specs.Severities.{severity_of, name_of, stands_alone};
 
 use fluent_syntax_tree::spans::Span;
 
@@ -77,6 +77,18 @@ impl Kind {
             Kind::UndefinedAttribute => "undefined-attribute",
             Kind::UndefinedValue => "undefined-value",
             Kind::CyclicReference => "cyclic-reference",
+        }
+    }
+
+    /// Whether a finding of this kind in a file is one whatever stands in other files. What no file defines may be
+    /// defined in one more.
+    pub fn stands_alone(self) -> bool
+        ensures { result ≡ stands_alone self }
+    {
+        match self {
+            Kind::DefinedTwice | Kind::AttributeTwice | Kind::CyclicReference => true,
+            Kind::UndefinedMessage | Kind::UndefinedTerm => false,
+            Kind::UndefinedAttribute | Kind::UndefinedValue => false,
         }
     }
 }

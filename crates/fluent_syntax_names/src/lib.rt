@@ -13,6 +13,8 @@ mod finding;
 mod found;
 mod lack;
 mod mention;
+mod message;
+mod moved;
 mod noted;
 mod numbers;
 mod outline;
@@ -24,7 +26,7 @@ mod uses;
 
 pub use comparing::lacks;
 pub use entries::{defined, mentions, references, variables};
-pub use files::findings;
+pub use files::{findings, own_findings};
 pub use finding::{Finding, Kind, Place, Severity};
 pub use lack::{Lack, Part};
 pub use mention::Mention;

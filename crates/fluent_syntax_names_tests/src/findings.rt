@@ -165,7 +165,11 @@ pub(crate) fn outline<'a>(alloc: Global, text: &'a str) -> Result<Outline<'a>, F
     Ok(outline_of(alloc, text, &tree.body)?)
 }
 
-fn push_finding(out: &mut String, files: &[Outline<'_>], finding: &Finding) -> Result<(), Fail> {
+pub(crate) fn push_finding(
+    out: &mut String,
+    files: &[Outline<'_>],
+    finding: &Finding,
+) -> Result<(), Fail> {
     let alloc = *out.allocator();
     let kind = finding.kind.name();
     let file = finding.file;

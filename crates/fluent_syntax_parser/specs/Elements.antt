@@ -13,9 +13,9 @@ use Rattle.fluent_syntax_grammar.specs.Layout as grammar
 use Rattle.fluent_syntax_parser.specs.Layouts as layouts
 use Rattle.fluent_syntax_parser.specs.Layouts.{cut}
 use Rattle.fluent_syntax_parser.specs.Lines.{line_shape, line_view}
-use Rattle.fluent_syntax_parser.specs.declared.elements.Layout.{Layout}
-use Rattle.fluent_syntax_parser.specs.declared.line.Piece.{Piece}
-use Rattle.fluent_syntax_parser.specs.declared.line.Piece.TheVariants as piece
+use Rattle.fluent_syntax_parser.specs.declared.pattern.elements.Layout.{Layout}
+use Rattle.fluent_syntax_parser.specs.declared.pattern.line.Piece.{Piece}
+use Rattle.fluent_syntax_parser.specs.declared.pattern.line.Piece.TheVariants as piece
 
 module _ {S X : Type 0} (text : S → X) where
   abbrev pub item_view : Piece S → layouts.Item (ExpressionTree X)

@@ -1,7 +1,7 @@
 -- Endings of lines whose places are numbers of the machine's.
 use Rattle.std.specs.Prelude.{ℕ, ◌+◌, ◌<◌, ◌^◌}
-use Rattle.fluent_syntax_parser.specs.declared.line.Ending.{Ending}
-use Rattle.fluent_syntax_parser.specs.declared.line.Ending.TheVariants as ends
+use Rattle.fluent_syntax_parser.specs.declared.pattern.line.Ending.{Ending}
+use Rattle.fluent_syntax_parser.specs.declared.pattern.line.Ending.TheVariants as ends
 
 -- the place after a line end
 abbrev pub place_after : Ending → ℕ

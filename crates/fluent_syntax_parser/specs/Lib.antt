@@ -1,3 +1,4 @@
+pub mod AnyDepth
 pub mod Answers
 pub mod CommentLines
 pub mod Elements
@@ -5,7 +6,6 @@ pub mod Endings
 pub mod Extents
 pub mod Faults
 pub mod Fields
-pub mod Flat
 pub mod Gathered
 pub mod Halts
 pub mod Lanes

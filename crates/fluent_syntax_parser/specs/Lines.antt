@@ -5,11 +5,11 @@ use Rattle.fluent_syntax_tree.specs.View.{expression_view}
 use Rattle.fluent_syntax_tree.specs.declared.ast.Expression.{Expression}
 use Rattle.fluent_syntax_grammar.specs.Layout as grammar
 use Rattle.fluent_syntax_parser.specs.Layouts as layout
-use Rattle.fluent_syntax_parser.specs.declared.line.Ending.{Ending}
-use Rattle.fluent_syntax_parser.specs.declared.line.Ending.TheVariants as ends
-use Rattle.fluent_syntax_parser.specs.declared.line.Line.{Line}
-use Rattle.fluent_syntax_parser.specs.declared.line.Piece.{Piece}
-use Rattle.fluent_syntax_parser.specs.declared.line.Piece.TheVariants as piece
+use Rattle.fluent_syntax_parser.specs.declared.pattern.line.Ending.{Ending}
+use Rattle.fluent_syntax_parser.specs.declared.pattern.line.Ending.TheVariants as ends
+use Rattle.fluent_syntax_parser.specs.declared.pattern.line.Line.{Line}
+use Rattle.fluent_syntax_parser.specs.declared.pattern.line.Piece.{Piece}
+use Rattle.fluent_syntax_parser.specs.declared.pattern.line.Piece.TheVariants as piece
 
 abbrev pub ending_view : Ending → grammar.Ending
 ending_view (ends.Lf p) = grammar.lf_at p

@@ -10,7 +10,7 @@ use Rattle.fluent_syntax_tree.specs.declared.edition.Edition.{Edition}
 use Rattle.fluent_syntax_tree.specs.declared.errors.ParserError.{ParserError}
 use Rattle.fluent_syntax_tree.specs.declared.spans.Span.{Span}
 use Rattle.fluent_syntax_parser.specs.Faults.{fault_of, refused_as}
-use Rattle.fluent_syntax_parser.specs.Rest.{EntryTo, GivesTile, Hangs, Rest, faults_of}
+use Rattle.fluent_syntax_parser.specs.Rest.{EntryAt, GivesTile, Hangs, Rest, faults_of}
 use Rattle.fluent_syntax_parser.specs.declared.fault.Refusal.{Refusal}
 use Rattle.fluent_syntax_parser.specs.declared.options.Comments.{Comments}
 
@@ -78,30 +78,33 @@ module _ {S X : Type 0} (f : Span → X) (v : S → X) where
     pub tells : told ≡ errors ++ option_to_list error
     pub tile : MadeTile edition t n i j entry error
 
-  -- An entry stands from i to j before whatever the rest is from there on, and is added, and its error, if there is
-  -- one.
-  pub record AddsEntry (comments : Comments) (edition : Edition) (t : List ℕ) (i j : ℕ) (old new : List (Entry S))
+  -- An entry that comes next from i on stands from the start to j, before whatever the rest is from there on, and is
+  -- added, and its error, if there is one.
+  pub record AddsEntry (comments : Comments) (edition : Edition) (t : List ℕ) (i start j : ℕ) (old new : List (Entry S))
       (errors told : List ParserError) : Type 0 where
     pub entry : Entry S
     pub error : Option ParserError
     pub added : new ≡ old ++ entry ∷ []
     pub tells : told ≡ errors ++ option_to_list error
     pub tree : EntryTree Span
-    pub stands : EntryTo comments edition t i j tree (faults_of error)
+    pub stands : EntryAt comments edition t i start j tree (faults_of error)
     pub same : entry_view v entry ≡ entry_map f tree
 
-  -- What comes next from the place on is added, and ends at the other; or nothing is, and nothing is left.
+  -- What comes next from the place on is added, and stands there; or nothing is, and nothing is left.
   abbrev pub AddsNext : Comments → Edition → List ℕ → ℕ → (old new : List (Entry S)) →
-      (errors told : List ParserError) → Option ℕ → Type 0
+      (errors told : List ParserError) → Option Span → Type 0
   AddsNext comments edition t i old new errors told None =
       Rest comments edition t i [] [] × (new ≡ old) × (told ≡ errors)
-  AddsNext comments edition t i old new errors told (Some j) = AddsEntry comments edition t i j old new errors told
+  AddsNext comments edition t i old new errors told (Some span) =
+      AddsEntry comments edition t i span.start span.end old new errors told
 
-  -- What comes next from the place on, or nothing where nothing is left; what is read ends at the other place.
-  abbrev pub NextMade : Comments → Edition → List ℕ → (i j : ℕ) → Option (Entry S × Option ParserError) → Type 0
-  NextMade comments edition t i j None = Rest comments edition t i [] []
-  NextMade comments edition t i j (Some read) =
-      (tree : EntryTree Span) × EntryTo comments edition t i j tree (faults_of read.1)
+  -- What comes next from the place on, or nothing where nothing is left; what is read stands from the start to the
+  -- other place.
+  abbrev pub NextMade : Comments → Edition → List ℕ → (i start j : ℕ) → Option (Entry S × Option ParserError) →
+      Type 0
+  NextMade comments edition t i start j None = Rest comments edition t i [] []
+  NextMade comments edition t i start j (Some read) =
+      (tree : EntryTree Span) × EntryAt comments edition t i start j tree (faults_of read.1)
       × (entry_view v read.0 ≡ entry_map f tree)
 
   -- The text consists of these entries and errors.

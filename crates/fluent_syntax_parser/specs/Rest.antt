@@ -1,5 +1,5 @@
 -- What is left of a text that is read entry by entry.
-use Rattle.std.specs.Prelude.{◌≡◌, ℕ, ◌<◌, List, [], ◌∷◌, ◌++◌, length, map, Option, Some, None, Bool, true, false}
+use Rattle.std.specs.Prelude.{◌≡◌, ℕ, ◌<◌, ◌≤◌, List, [], ◌∷◌, ◌++◌, length, map, Option, Some, None, Bool, true, false}
 use Rattle.fluent_syntax_tree.specs.Entry.{BodyTree, EntryTree, comment, regular}
 use Rattle.fluent_syntax_tree.specs.View.{entry_view}
 use Rattle.fluent_syntax_tree.specs.declared.ast.Entry.{Entry}
@@ -7,8 +7,10 @@ use Rattle.fluent_syntax_tree.specs.declared.edition.Edition.{Edition}
 use Rattle.fluent_syntax_tree.specs.declared.errors.ParserError.{ParserError}
 use Rattle.fluent_syntax_tree.specs.declared.spans.Span.{Span}
 use Rattle.fluent_syntax_grammar.specs.Body.{alone, body, faults}
+use Rattle.fluent_syntax_grammar.specs.Bytes.{hash}
 use Rattle.fluent_syntax_grammar.specs.Family.{Family}
 use Rattle.fluent_syntax_grammar.specs.Grammar.{family, within}
+use Rattle.fluent_syntax_grammar.specs.Places.{has_byte}
 use Rattle.fluent_syntax_grammar.specs.Tiling as tiling
 use Rattle.fluent_syntax_grammar.specs.Tiling.{Fault, Tile, entry, Tiled, TileAt, RuntimeTileIn}
 use Rattle.fluent_syntax_parser.specs.Faults.{fault_of}
@@ -88,14 +90,32 @@ EntryTo comments edition t i j e faults =
     (entries : BodyTree Span) (errors : List (Option Fault)) → Rest comments edition t j entries errors →
     Rest comments edition t i (e ∷ entries) (faults ++ errors)
 
--- What is read from the one place to the other: that entry, with its error if there is one, before whatever the rest is
--- from there on; or nothing, and nothing is left.
-abbrev pub NextTo : Comments → Edition → List ℕ → (i j : ℕ) → Option (Entry Span × Option ParserError) → Type 0
-NextTo comments edition t i j None = Rest comments edition t i [] []
-NextTo comments edition t i j (Some read) = EntryTo comments edition t i j (tree_of read.0) (faults_of read.1)
+-- The entry begins at the start: from the one place up to it are blank lines, and comments where these are dropped.
+pub record EntryAt (comments : Comments) (edition : Edition) (t : List ℕ) (i start j : ℕ) (e : EntryTree Span)
+    (faults : List (Option Fault)) : Type 0 where
+  pub order : (i ≤ start) × (start < j)
+  pub kept : are_dropped comments ≡ true → has_byte t hash start ≡ false
+  pub before : (entries : BodyTree Span) (errors : List (Option Fault)) →
+      RestAt comments edition t start entries errors → Rest comments edition t i entries errors
+  pub stands : (entries : BodyTree Span) (errors : List (Option Fault)) → Rest comments edition t j entries errors →
+      RestAt comments edition t start (e ∷ entries) (faults ++ errors)
+
+-- What is read from the one place to the other, and where it begins: that entry, with its error if there is one, before
+-- whatever the rest is from there on; or nothing, and nothing is left.
+abbrev pub NextTo : Comments → Edition → List ℕ → (i start j : ℕ) → Option (Entry Span × Option ParserError) → Type 0
+NextTo comments edition t i start j None = Rest comments edition t i [] []
+NextTo comments edition t i start j (Some read) =
+    EntryAt comments edition t i start j (tree_of read.0) (faults_of read.1)
 
 -- The same where only the error is given.
-abbrev pub NextError : Comments → Edition → List ℕ → (i j : ℕ) → Option (Option ParserError) → Type 0
-NextError comments edition t i j None = Rest comments edition t i [] []
-NextError comments edition t i j (Some error) =
-    (e : EntryTree Span) × EntryTo comments edition t i j e (faults_of error)
+abbrev pub NextError : Comments → Edition → List ℕ → (i start j : ℕ) → Option (Option ParserError) → Type 0
+NextError comments edition t i start j None = Rest comments edition t i [] []
+NextError comments edition t i start j (Some error) =
+    (e : EntryTree Span) × EntryAt comments edition t i start j e (faults_of error)
+
+-- The text up to the place is some entries and errors, before whatever the rest is from there on.
+pub record Reached (comments : Comments) (edition : Edition) (t : List ℕ) (i : ℕ) : Type 0 where
+  pub entries : BodyTree Span
+  pub errors : List (Option Fault)
+  pub rest : (others : BodyTree Span) (more : List (Option Fault)) → Rest comments edition t i others more →
+      Rest comments edition t 0 (entries ++ others) (errors ++ more)

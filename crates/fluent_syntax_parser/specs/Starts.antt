@@ -1,7 +1,7 @@
 -- The start that a reader has found.
 use Rattle.fluent_syntax_grammar.specs.Starts as starts
-use Rattle.fluent_syntax_parser.specs.declared.starts.Start.{Start}
-use Rattle.fluent_syntax_parser.specs.declared.starts.Start.TheVariants as found
+use Rattle.fluent_syntax_parser.specs.declared.expression.starts.Start.{Start}
+use Rattle.fluent_syntax_parser.specs.declared.expression.starts.Start.TheVariants as found
 
 abbrev pub start_view : Start → starts.Start
 start_view found.Quote = starts.quote

@@ -4,13 +4,13 @@ ghost use Rattle.fluent_syntax_grammar.specs.Nesting.{TextDeeper};
 ghost use Rattle.fluent_syntax_grammar.specs.Places.{BlankBlock};
 ghost use Rattle.fluent_syntax_parser.specs.Halts.{ComesTo, HaltsWithin, OnHalt};
 ghost use Rattle.fluent_syntax_parser.specs.MadeEntries.{NextMade};
-ghost use Rattle.fluent_syntax_parser.specs.Rest.{NextError, NextTo, TileIn};
+ghost use Rattle.fluent_syntax_parser.specs.Rest.{NextError, NextTo, Reached, TileIn};
 
 use crate::options::{Halt, Options};
 use crate::reader::Reader;
 use crate::source::Source;
 use crate::texts::{AsSpans, MakeTexts};
-use crate::tile::only_item;
+use crate::tiles::tile::only_item;
 use fluent_syntax_tree::ast::Entry;
 use fluent_syntax_tree::errors::ParserError;
 use fluent_syntax_tree::spans::Span;
@@ -21,9 +21,12 @@ use std::alloc::Global;
 pub struct Entries<'s> {
     source: Source<'s>,
     options: Options,
+    /// Where what was read last begins.
+    start: usize,
     ptr: usize,
     ghost within: { ptr ≤ length source.bytes.now },
     ghost small: { length source.bytes.now < 2 ^ 63 },
+    ghost reached: { ∥ Reached options.comments options.edition source.bytes.now ptr ∥₁ },
 }
 
 impl<'s> Entries<'s> {
@@ -32,13 +35,29 @@ impl<'s> Entries<'s> {
         ensures text { result.source.bytes.now ≡ text.now }
         ensures options { result.options ≡ options }
         ensures start { result.ptr ≡ 0 }
+        ensures span { result.start ≡ 0 }
     {
         Entries {
             source: Source {
                 bytes: text.as_bytes(),
             },
             options,
+            start: 0,
             ptr: 0,
+        }
+    }
+
+    /// Where the entry or the junk that was read last stands, in bytes: from its first byte, which is that of the
+    /// comment that hangs on it, to its end. Blank lines directly behind a message or a term are in it, those behind a
+    /// comment are not. Junk ends where the next line begins like an entry.
+    ///
+    /// Before anything was read it is empty, at 0.
+    pub fn span(&self) -> Span
+        ensures { result ≡ record { start = self.now.start; end = self.now.ptr } }
+    {
+        Span {
+            start: self.start,
+            end: self.ptr,
         }
     }
 
@@ -52,7 +71,9 @@ impl<'s> Entries<'s> {
         ensures text { self.new.source ≡ self.old.source }
         ensures options { self.new.options ≡ self.old.options }
         ensures next { let t = self.old.source.bytes.now in let options = self.old.options in
-            IfOk result (NextTo options.comments options.edition t self.old.ptr self.new.ptr) }
+            IfOk result (NextTo options.comments options.edition t self.old.ptr self.new.start self.new.ptr) }
+        ensures places { let t = self.old.source.bytes.now in
+            IfOk result (λ found. IfSome found (λ read. IfSome read.1 (λ error. error.pos.start ≤ length t))) }
         ensures forward { self.old.ptr ≤ self.new.ptr }
         ensures onward { IfOk result (λ found. IfSome found (λ read. self.old.ptr < self.new.ptr)) }
         ensures blank { let t = self.old.source.bytes.now in
@@ -78,8 +99,11 @@ impl<'s> Entries<'s> {
     ) -> Result<Option<(Entry<M::Text>, Option<ParserError>)>, Halt>
         ensures text { self.new.source ≡ self.old.source }
         ensures options { self.new.options ≡ self.old.options }
-        ensures next { let t = self.old.source.bytes.now in let options = self.old.options in IfOk result
-            (NextMade (M.source texts.now) M.made options.comments options.edition t self.old.ptr self.new.ptr) }
+        ensures next { let t = self.old.source.bytes.now in let options = self.old.options in
+            let f = M.source texts.now in IfOk result
+            (NextMade f M.made options.comments options.edition t self.old.ptr self.new.start self.new.ptr) }
+        ensures places { let t = self.old.source.bytes.now in
+            IfOk result (λ found. IfSome found (λ read. IfSome read.1 (λ error. error.pos.start ≤ length t))) }
         ensures forward { self.old.ptr ≤ self.new.ptr }
         ensures onward { IfOk result (λ found. IfSome found (λ read. self.old.ptr < self.new.ptr)) }
         ensures blank { let t = self.old.source.bytes.now in
@@ -107,13 +131,15 @@ impl<'s> Entries<'s> {
         };
         let mut body = Vec::new(alloc);
         let mut errors = Vec::new(alloc);
-        let Some(end) = reader.add_next(&mut body, &mut errors, comments, nesting, self.ptr)? else {
+        let Some(span) = reader.add_next(&mut body, &mut errors, comments, nesting, self.ptr)?
+        else {
             return Ok(None);
         };
-        self.ptr = end;
         let Some(entry) = only_item(body) else {
             return Ok(None);
         };
+        self.start = span.start;
+        self.ptr = span.end;
         Ok(Some((entry, only_item(errors))))
     }
 
@@ -125,7 +151,9 @@ impl<'s> Entries<'s> {
         ensures text { self.new.source ≡ self.old.source }
         ensures options { self.new.options ≡ self.old.options }
         ensures next { let t = self.old.source.bytes.now in let options = self.old.options in
-            IfOk result (NextError options.comments options.edition t self.old.ptr self.new.ptr) }
+            IfOk result (NextError options.comments options.edition t self.old.ptr self.new.start self.new.ptr) }
+        ensures places { let t = self.old.source.bytes.now in
+            IfOk result (λ found. IfSome found (λ error. IfSome error (λ e. e.pos.start ≤ length t))) }
         ensures forward { self.old.ptr ≤ self.new.ptr }
         ensures onward { IfOk result (λ found. IfSome found (λ error. self.old.ptr < self.new.ptr)) }
         ensures blank { let t = self.old.source.bytes.now in
@@ -145,8 +173,9 @@ impl<'s> Entries<'s> {
             comments,
             ..
         } = self.options;
-        if let Some(behind) = self.source.next_text_message(edition, comments, self.ptr) {
-            self.ptr = behind;
+        if let Some(passed) = self.source.next_text_message(edition, comments, self.ptr) {
+            self.start = passed.start;
+            self.ptr = passed.end;
             return Ok(Some(None));
         }
         match self.next_entry(alloc)? {

@@ -1,10 +1,15 @@
-//! Entries.
+//! Entries, by their first bytes.
 ghost use Rattle.std.specs.Prelude.{◌<◌, ◌≤◌, length, IfOk};
 ghost use Rattle.fluent_syntax_tree.specs.Entry.{entry_map};
 ghost use Rattle.fluent_syntax_tree.specs.View.{entry_view};
 ghost use Rattle.fluent_syntax_grammar.specs.Grammar.{within};
 ghost use Rattle.fluent_syntax_grammar.specs.Tiling.{entry_in};
 ghost use Rattle.fluent_syntax_parser.specs.Made.{Adds};
+
+pub(crate) mod attributes;
+pub(crate) mod comment;
+pub(crate) mod messages;
+pub(crate) mod text_messages;
 
 use crate::fault::ReadFault;
 use crate::reader::Reader;

@@ -1,7 +1,6 @@
 //! The errors that are reported, with their texts.
-ghost use Rattle.std.specs.Prelude.{◌≡◌, ◌+◌, ◌^◌, ◌<◌, ℕ, List, IfOk, Some, string_bytes};
+ghost use Rattle.std.specs.Prelude.{◌≡◌, ◌+◌, ◌^◌, ◌<◌, IfOk, Some, string_bytes};
 ghost use Rattle.fluent_syntax_grammar.specs.Strings.{after_character};
-ghost use Rattle.fluent_syntax_grammar.specs.Tiling.{failing_place};
 ghost use Rattle.fluent_syntax_tree.specs.Kind.{kind_of};
 ghost use Rattle.fluent_syntax_parser.specs.Faults.{fault_of, refused_as};
 ghost use Rattle.fluent_syntax_parser.specs.Meets.{from_of, kind_at, to_of};

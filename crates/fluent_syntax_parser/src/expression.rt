@@ -1,5 +1,5 @@
 //! Inline expressions, placeables and selects.
-ghost use Rattle.std.specs.Prelude.{◌≡◌, ◌-◌, ◌<◌, ◌≤◌, length, IfErr, IfOk};
+ghost use Rattle.std.specs.Prelude.{◌≡◌, ◌-◌, ◌<◌, ◌≤◌, length, IfOk};
 ghost use Rattle.fluent_syntax_tree.specs.Tree.{expression_map, inline_map};
 ghost use Rattle.fluent_syntax_tree.specs.View.{expression_view, inline_view};
 ghost use Rattle.fluent_syntax_grammar.specs.Construct.{at_each};
@@ -12,10 +12,17 @@ ghost use Rattle.fluent_syntax_grammar.specs.Starts.{letter, start, term};
 ghost use Rattle.fluent_syntax_parser.specs.Made.{Makes};
 ghost use Rattle.fluent_syntax_parser.specs.Meets.{MeetsEnd};
 
+pub(crate) mod argument_names;
+pub(crate) mod arguments;
+pub(crate) mod forms;
+pub(crate) mod references;
+pub(crate) mod starts;
+pub(crate) mod variants;
+
+use crate::expression::starts::Start;
 use crate::fault::{Fault, ReadFault, Refusal};
 use crate::reader::Reader;
 use crate::source::Source;
-use crate::starts::Start;
 use crate::texts::MakeTexts;
 use fluent_syntax_tree::ast::{Expression, InlineExpression};
 use fluent_syntax_tree::spans::Span;

@@ -11,9 +11,15 @@ ghost use Rattle.fluent_syntax_parser.specs.Layouts.{layout_of};
 ghost use Rattle.fluent_syntax_parser.specs.Made.{Makes};
 ghost use Rattle.fluent_syntax_parser.specs.OneLine.{EndsBlank, EndsLine, NoLines, OpensAs, text_pattern};
 
-use crate::elements::Layout;
+pub(crate) mod elements;
+pub(crate) mod indents;
+pub(crate) mod line;
+pub(crate) mod lines;
+pub(crate) mod tails;
+
 use crate::fault::ReadFault;
-use crate::line::Line;
+use crate::pattern::elements::Layout;
+use crate::pattern::line::Line;
 use crate::reader::Reader;
 use crate::source::Source;
 use crate::texts::MakeTexts;

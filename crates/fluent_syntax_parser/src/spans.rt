@@ -43,10 +43,10 @@ impl<'s, 't, M: MakeTexts> Reader<'s, 't, M> {
         let mut errors = Vec::new(self.alloc);
         let mut ptr = 0;
         loop {
-            let Some(end) = self.add_next(&mut body, &mut errors, comments, nesting, ptr)? else {
+            let Some(span) = self.add_next(&mut body, &mut errors, comments, nesting, ptr)? else {
                 return Ok((body, errors));
             };
-            ptr = end;
+            ptr = span.end;
         }
     }
 }

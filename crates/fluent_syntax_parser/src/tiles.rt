@@ -1,13 +1,16 @@
 //! What stands in a text, one after the other, and where.
 ghost use Rattle.std.specs.Prelude.{◌≡◌, ◌-◌, ◌^◌, ◌<◌, ◌≤◌, length, IfErr, IfOk, IfSome, OnErr};
-ghost use Rattle.fluent_syntax_grammar.specs.Places.{BlankBlock};
 ghost use Rattle.fluent_syntax_parser.specs.Halts.{HaltsWithin};
+
+pub(crate) mod junk;
+pub(crate) mod next;
+pub(crate) mod tile;
 
 use crate::options::Halt;
 use crate::reader::Reader;
 use crate::source::Source;
 use crate::texts::AsSpans;
-use crate::tile::only_item;
+use crate::tiles::tile::only_item;
 use fluent_syntax_tree::ast::Entry;
 use fluent_syntax_tree::edition::Edition;
 use fluent_syntax_tree::errors::ParserError;

@@ -7,9 +7,14 @@ ghost use Rattle.fluent_syntax_grammar.specs.Places.{Word};
 ghost use Rattle.fluent_syntax_grammar.specs.Words.{digits, identifier, number, optional, token};
 ghost use Rattle.fluent_syntax_parser.specs.Meets.{MeetsEnd, MeetsText};
 
+pub(crate) mod blanks;
+pub(crate) mod lanes;
+pub(crate) mod line_ends;
+pub(crate) mod strings;
+
 use crate::fault::{Fault, Refusal};
-use crate::lanes::{LANES, name_run};
 use crate::source::Source;
+use crate::words::lanes::{LANES, name_run};
 use fluent_syntax_tree::spans::Span;
 
 fn is_name_byte(byte: u8) -> bool

@@ -18,7 +18,7 @@ use Rattle.fluent_syntax_parser.specs.Tiles.{Gives}
 use Rattle.fluent_syntax_parser.specs.Answers.{Answers}
 use Rattle.fluent_syntax_parser.specs.declared.fault.ParseFault.{ParseFault}
 use Rattle.fluent_syntax_parser.specs.declared.fault.ParseFault.TheVariants.{Memory, Syntax}
-use Rattle.fluent_syntax_parser.proofs.ErrorPlaces.{told_in_text}
+use Rattle.fluent_syntax_parser.proofs.tilings.ErrorPlaces.{told_in_text}
 use Rattle.fluent_syntax_reread.specs.Held.{AsParsed, BeginWithin, bytes_of, HoldsAnswer, IsBody, IsHeld, told_by}
 use Rattle.fluent_syntax_reread.specs.Held.{told_errors}
 use Rattle.fluent_syntax_reread.specs.Placed.{EachTells, Reads}

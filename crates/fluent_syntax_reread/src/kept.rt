@@ -8,7 +8,7 @@ ghost use Rattle.fluent_syntax_grammar.specs.Locality.{is_comment, lacks_field};
 ghost use Rattle.fluent_syntax_grammar.specs.Places.{starts_line};
 ghost use Rattle.fluent_syntax_grammar.specs.Tiling.{is_entry_byte};
 ghost use Rattle.fluent_syntax_parser.specs.Rest.{tree_of};
-ghost use Rattle.fluent_syntax_reread.specs.Kept.{is_comment_there, stays_in, stays_put, Keeps, Stays};
+ghost use Rattle.fluent_syntax_reread.specs.Kept.{stays_in, stays_put, Keeps, Stays};
 
 use crate::placed::Placed;
 use fluent_syntax_tree::ast::Entry;

@@ -1,5 +1,5 @@
 -- What is found first: that there is nothing exactly where a tree is canonical, and that what is named is so.
-use Rattle.std.proofs.Common.{◌≡◌, ℕ, zero, suc, ◌+◌, List, [], ◌∷◌, take, Option, Some, None, Bool, true, false, ◌&&◌}
+use Rattle.std.proofs.Common.{◌≡◌, ℕ, suc, ◌+◌, List, [], ◌∷◌, take, Option, Some, None, Bool, true, false, ◌&&◌}
 use Rattle.std.proofs.Common.{not, refl, sym, ap, subst, ◌∙◌, arith}
 use Rattle.std.specs.Prelude.{is_none, slice_get, IfSome}
 use Rattle.std.specs.List.{list_all, find}

@@ -1,5 +1,5 @@
 -- Which entry of a tree is the first that is not canonical, and which rule it breaks first.
-use Rattle.std.specs.Prelude.{ℕ, ◌+◌, ◌≡◌, List, [], ◌∷◌, take, Option, Some, None, Bool, true, false, not, slice_get}
+use Rattle.std.specs.Prelude.{ℕ, ◌+◌, ◌≡◌, List, [], ◌∷◌, take, Option, Some, None, true, false, not, slice_get}
 use Rattle.std.specs.List.{find, list_all}
 use Rattle.fluent_syntax_tree.specs.Entry.{EntryTree, BodyTree}
 use Rattle.fluent_syntax_tree.specs.declared.edition.Edition.{Edition}

@@ -87,7 +87,7 @@ pub fn first_uncanonical<'s, S: Slice<'s>>(
     ensures none { is_none result ≡ is_canonical edition (resource_view S.text tree.now) }
     ensures first { IfSome result (λ found. IsFirstBroken edition (resource_view S.text tree.now) found) }
 {
-    first::first_uncanonical::<S, BySlice<'s>>(None, edition, &tree.body)
+    first_uncanonical_by(None, tree, edition)
 }
 
 /// What `first_uncanonical` gives, in time near that of walks over the tree for every tree.
@@ -103,7 +103,19 @@ pub fn first_uncanonical_with<'s, S: Slice<'s>>(
     ensures none { is_none result ≡ is_canonical edition (resource_view S.text tree.now) }
     ensures first { IfSome result (λ found. IsFirstBroken edition (resource_view S.text tree.now) found) }
 {
-    first::first_uncanonical::<S, BySlice<'s>>(Some(alloc), edition, &tree.body)
+    first_uncanonical_by(Some(alloc), tree, edition)
+}
+
+fn first_uncanonical_by<'s, S: Slice<'s>>(
+    alloc: Option<Global>,
+    tree: &Resource<S>,
+    edition: Edition,
+) -> Option<Uncanonical>
+    ensures exact { result ≡ first_uncanonical edition (resource_view S.text tree.now) }
+    ensures none { is_none result ≡ is_canonical edition (resource_view S.text tree.now) }
+    ensures first { IfSome result (λ found. IsFirstBroken edition (resource_view S.text tree.now) found) }
+{
+    first::first_uncanonical::<S, BySlice<'s>>(alloc, edition, &tree.body)
 }
 
 /// The first rule of canonical trees that the entry breaks in the edition; `None` where it breaks none. A tree is
@@ -115,7 +127,7 @@ pub fn broken_rule<'s, S: Slice<'s>>(entry: &Entry<S>, edition: Edition) -> Opti
     ensures exact { result ≡ broken_rule edition (entry_view S.text entry.now) }
     ensures none { is_none result ≡ entry_obeys (canonical_rules edition) (entry_view S.text entry.now) }
 {
-    first::broken_rule::<S, BySlice<'s>>(None, edition, entry)
+    broken_rule_by(None, entry, edition)
 }
 
 /// What `broken_rule` gives, in time near that of walks over the entry for every entry, as `first_uncanonical_with`.
@@ -127,5 +139,16 @@ pub fn broken_rule_with<'s, S: Slice<'s>>(
     ensures exact { result ≡ broken_rule edition (entry_view S.text entry.now) }
     ensures none { is_none result ≡ entry_obeys (canonical_rules edition) (entry_view S.text entry.now) }
 {
-    first::broken_rule::<S, BySlice<'s>>(Some(alloc), edition, entry)
+    broken_rule_by(Some(alloc), entry, edition)
+}
+
+fn broken_rule_by<'s, S: Slice<'s>>(
+    alloc: Option<Global>,
+    entry: &Entry<S>,
+    edition: Edition,
+) -> Option<Rule>
+    ensures exact { result ≡ broken_rule edition (entry_view S.text entry.now) }
+    ensures none { is_none result ≡ entry_obeys (canonical_rules edition) (entry_view S.text entry.now) }
+{
+    first::broken_rule::<S, BySlice<'s>>(alloc, edition, entry)
 }

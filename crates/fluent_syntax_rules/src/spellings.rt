@@ -1,5 +1,5 @@
 //! The spellings of names, numbers and strings.
-ghost use Rattle.std.specs.Prelude.{◌≡◌, ◌∷◌, List, ℕ, Bool, false, MatchOption};
+ghost use Rattle.std.specs.Prelude.{◌≡◌, ◌∷◌, List, ℕ, false, MatchOption};
 ghost use Rattle.std.specs.List.{list_all};
 ghost use Rattle.fluent_syntax_grammar.specs.Bytes.{is_name_byte, is_digit};
 ghost use Rattle.fluent_syntax_grammar.specs.Inline.{is_callee_byte};

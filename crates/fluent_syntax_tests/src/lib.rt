@@ -15,6 +15,8 @@ mod entries;
 #[cfg(test)]
 mod entries_one_by_one;
 #[cfg(test)]
+mod entry_spans;
+#[cfg(test)]
 mod errors;
 #[cfg(test)]
 mod extents;

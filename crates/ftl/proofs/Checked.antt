@@ -1,6 +1,5 @@
 -- Texts that are checked entry by entry.
-use Rattle.std.proofs.Common.{◌≡◌, ℕ, ◌≤◌, List, [], ◌∷◌, ◌++◌, length, map, Option, Some, None, refl, sym, ◌∙◌, ap}
-use Rattle.std.specs.Prelude.{IfSome}
+use Rattle.std.proofs.Common.{◌≡◌, ℕ, List, [], ◌∷◌, ◌++◌, map, Option, Some, None, refl, sym, ◌∙◌, ap}
 use Rattle.std.specs.List.{flat_map}
 use Rattle.std.proofs.lemmas.Grind.{flat_map-append}
 use Rattle.std.proofs.lemmas.List.{append-nil, append_assoc, map-append}
@@ -13,8 +12,6 @@ use Rattle.fluent_syntax_grammar.specs.Tiling.{Fault, Tile, Tiling}
 use Rattle.fluent_syntax_parser.specs.Faults.{fault_of}
 use Rattle.fluent_syntax_parser.specs.Rest.{EntryTo, Rest, faults_of}
 use Rattle.fluent_syntax_parser.specs.declared.options.Comments.TheVariants.{Kept}
-use Rattle.fluent_syntax_parser.proofs.ErrorPlaces.{error_in_text}
-use Rattle.fluent_syntax_parser.proofs.PartsOfEntries.{some_rest}
 use Rattle.ftl.specs.Answer.{error_line, error_lines, line_of_error, told}
 use Rattle.ftl.proofs.Errors.{lines_of_faults}
 
@@ -41,10 +38,6 @@ one_line : (t : List ℕ) (error : Option ParserError) → lines_of t (errors_of
 one_line t None = refl
 one_line t (Some error) = append-nil (error_line t (told error))
 
-pub if_some : {X : Type 0} {P : X → Type 0} (o : Option X) → ((x : X) → o ≡ Some x → P x) → IfSome o P
-if_some None h = tt
-if_some (Some x) h = h x refl
-
 module _ (edition : Edition) (t : List ℕ) where
   pub nothing_checked : CheckedTo edition t 0 []
   nothing_checked = record { spans = []; errors = []; lines_are = refl; rest = λ entries others rest. rest }
@@ -63,14 +56,6 @@ module _ (edition : Edition) (t : List ℕ) where
 
     module _ (j : ℕ) (e : EntryTree Span) (error : Option ParserError)
         (next : EntryTo Kept edition t i j e (faults_of error)) where
-      -- the next error begins within the text
-      pub next_in_text : j ≤ length t → (one : ParserError) → error ≡ Some one → one.pos.start ≤ length t
-      next_in_text inside one is =
-          let some = some_rest t edition Kept j inside in
-          let whole = checked.rest _ _ (next some.0 some.1 some.2) in
-          let more = rw is at whole in
-          error_in_text t Kept edition _ (map fault_of checked.errors) one some.1 more
-
       -- with the line of the next error, the text is checked up to where that entry ends
       pub checked_on : (longer : List ℕ) → longer ≡ lines ++ line_of_error t error → CheckedTo edition t j longer
       checked_on longer more = record {

@@ -224,19 +224,10 @@ pub fn formatted_within(
     ensures deeper { OnErr result (NestsDeeper edition text.now nesting) }
     ensures shallow { IfOk result (λ answer. IfOk answer (λ given. NestsDeeper edition text.now nesting → ⊥)) }
 {
-    let mut all_canonical = true;
-    let kept = Comments::Kept;
-    match format_noting(alloc, text, edition, kept, nesting, &mut all_canonical)? {
-        Ok((text, outcome)) => Ok(Ok(Formatted {
-            text,
-            outcome,
-            is_canonical: all_canonical,
-        })),
-        Err(fault) => Ok(Err(fault)),
-    }
+    normal_form(alloc, text, edition, Comments::Kept, nesting, true)
 }
 
-/// What `format_noting` gives.
+/// The text of the tree of the text, without its junk.
 fn format(
     alloc: Global,
     text: &str,
@@ -253,25 +244,26 @@ fn format(
     ensures shallow { IfOk result (λ answer. IfOk answer (λ given.
         TextDeeper edition text.now (TileIn comments edition text.now) nesting 0 → ⊥)) }
 {
-    let mut all_canonical = false;
-    format_noting(alloc, text, edition, comments, nesting, &mut all_canonical)
+    match normal_form(alloc, text, edition, comments, nesting, false)? {
+        Ok(Formatted { text, outcome, .. }) => Ok(Ok((text, outcome))),
+        Err(fault) => Ok(Err(fault)),
+    }
 }
 
-/// The text of the tree of the text, without its junk. Notes where an entry of the tree is not canonical, if that is not
-/// noted already.
-fn format_noting(
+/// The text in its normal form. Only if `asks`, it asks whether the tree is canonical; else it says that it is not.
+fn normal_form(
     alloc: Global,
     text: &str,
     edition: Edition,
     comments: Comments,
     nesting: usize,
-    all_canonical: &mut bool,
-) -> Result<Result<(String, Outcome), RunFault>, TooDeep>
+    asks: bool,
+) -> Result<Result<Formatted, RunFault>, TooDeep>
     ensures text { IfOk result (λ answer. IfOk answer (λ given. (tiles : List Tile)
         × Tiled text.now (TileIn comments edition text.now (family edition text.now)) 0 tiles
-        × (string_bytes given.0 ≡ normal_text text.now tiles) × (given.1 ≡ outcome_of tiles))) }
+        × (string_bytes given.text ≡ normal_text text.now tiles) × (given.outcome ≡ outcome_of tiles))) }
     ensures canonical { let t = text.now in
-        IfOk result (λ answer. IfOk answer (λ given. all_canonical.new ≡ true → (tiles : List Tile)
+        IfOk result (λ answer. IfOk answer (λ given. given.is_canonical ≡ true → (tiles : List Tile)
         × Tiled t (TileIn comments edition t (family edition t)) 0 tiles
         × (is_canonical edition (body_map (bytes_at t) (body tiles)) ≡ true))) }
     ensures err { IfOk result (λ answer. IfErr answer (λ fault. fault ≡ RunFault.Memory)) }
@@ -285,7 +277,7 @@ fn format_noting(
         comments,
         nesting,
     };
-    match normal(alloc, text, options, all_canonical) {
+    match normal(alloc, text, options, asks) {
         Ok(given) => Ok(Ok(given)),
         Err(Halt::Memory) => Ok(Err(RunFault::Memory)),
         Err(Halt::TooDeep) => Err(TooDeep),
@@ -293,16 +285,11 @@ fn format_noting(
 }
 
 /// The same, written as the entries come: none of them is kept.
-fn normal(
-    alloc: Global,
-    text: &str,
-    options: Options,
-    all_canonical: &mut bool,
-) -> Result<(String, Outcome), Halt>
+fn normal(alloc: Global, text: &str, options: Options, asks: bool) -> Result<Formatted, Halt>
     ensures text { let t = text.now in IfOk result (λ given. (tiles : List Tile)
         × Tiled t (TileIn options.comments options.edition t (family options.edition t)) 0 tiles
-        × (string_bytes given.0 ≡ normal_text t tiles) × (given.1 ≡ outcome_of tiles)) }
-    ensures canonical { let t = text.now in IfOk result (λ given. all_canonical.new ≡ true → (tiles : List Tile)
+        × (string_bytes given.text ≡ normal_text t tiles) × (given.outcome ≡ outcome_of tiles)) }
+    ensures canonical { let t = text.now in IfOk result (λ given. given.is_canonical ≡ true → (tiles : List Tile)
         × Tiled t (TileIn options.comments options.edition t (family options.edition t)) 0 tiles
         × (is_canonical options.edition (body_map (bytes_at t) (body tiles)) ≡ true)) }
     ensures nests { IfErr result (HaltsWithin options.nesting (length text.now)) }
@@ -311,11 +298,15 @@ fn normal(
     ensures shallow { let t = text.now in let at = TileIn options.comments options.edition t in
         IfOk result (λ given. TextDeeper options.edition t at options.nesting 0 → ⊥) }
 {
-    let mut writer = NormalWriter::new(alloc, options.edition, *all_canonical);
+    let mut writer = NormalWriter::new(alloc, options.edition, asks);
     let outcome = write_one_by_one(alloc, &mut writer, text, options)?;
-    *all_canonical = writer.all_canonical();
-    let written = writer.finish()?;
-    Ok((written, outcome))
+    let is_canonical = writer.all_canonical();
+    let text = writer.finish()?;
+    Ok(Formatted {
+        text,
+        outcome,
+        is_canonical,
+    })
 }
 
 /// The JSON form of the text's tree, as compact text, and LF.

@@ -1,5 +1,5 @@
 //! A tree as JSON is written as the text of the tree.
-ghost use Rattle.std.specs.Prelude.{◌≡◌, ◌≤◌, Err, IfErr, IfOk, string_bytes};
+ghost use Rattle.std.specs.Prelude.{◌≤◌, Err, IfErr, IfOk, string_bytes};
 ghost use Rattle.fluent_syntax_tree.specs.View.{resource_view};
 ghost use Rattle.ftl.specs.FromJson.{IsFault, IsSpelled, IsTextOf};
 

@@ -1,5 +1,5 @@
 //! A whole run: reads all, answers, writes.
-ghost use Rattle.std.specs.Prelude.{◌≡◌, ◌⊎◌, ◌++◌, ℕ, List, true, false, IfOk, IfErr, OnOk, OnErr, IfSome, Err, ◌≢◌};
+ghost use Rattle.std.specs.Prelude.{◌≡◌, ◌⊎◌, ◌++◌, true, false, IfOk, IfErr, OnOk, OnErr, IfSome, Err, ◌≢◌};
 ghost use Rattle.std.specs.Prelude.{◌<◌, length, vec_len};
 ghost use Rattle.std.specs.Io.KnownBytes.{Appends};
 ghost use Rattle.ftl.specs.Answer.{ReadsDeeper};
@@ -61,7 +61,8 @@ pub fn run_within<R: Read, W: Write>(
     ensures unwritten { IfOk result (λ ended. (ended ≡ Err RunFault.Input) ⊎ (ended ≡ Err RunFault.Memory)
         → writer.new ≡ writer.old) }
     ensures deep { OnErr result (writer.new ≡ writer.old) }
-    ensures deeper { OnErr result (IfSome (R.remaining (inner_of reader.old)) (λ bytes. ReadsDeeper command bytes nesting)) }
+    ensures deeper { OnErr result (IfSome (R.remaining (inner_of reader.old))
+        (λ bytes. ReadsDeeper command bytes nesting)) }
     ensures shallow { IfOk result (λ ended. IfOk ended (λ _. IfSome (R.remaining (inner_of reader.old))
         (λ bytes. ReadsDeeper command bytes nesting → ⊥))) }
 {

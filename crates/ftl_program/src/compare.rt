@@ -2,18 +2,27 @@
 
 use crate::colors::form_over_paths;
 use crate::lint::listed;
-use crate::telling::refuse_run;
+use crate::project::project_settings;
+use crate::telling::{refuse_compare, refuse_run};
 use ftl::RunFault;
 use ftl_files::Disk;
 use ftl_project::{Pair, Share, Streams, Tally, check_summary, compare_files, share_line};
+use ftl_settings::Settings;
 use ftl_words::Compare;
 use std::alloc::{AllocError, Global};
 use std::io;
 
 /// Compares what the paths name, one by one, with the reference; the exit status.
 pub(crate) fn compare_paths(rt: &HostRuntime, compare: &Compare<'_>) -> u8 {
+    let settings = match project_settings(rt) {
+        Ok(settings) => settings,
+        Err(status) => return status,
+    };
+    let Some((reference, others)) = sides(&settings, &compare.paths) else {
+        return refuse_compare(rt);
+    };
     let mut tally = Tally::new();
-    match compare_all(rt, compare, &mut tally) {
+    match compare_all(rt, compare, reference, others, &mut tally) {
         Ok(()) => (),
         Err(fault) => return refuse_run(rt, fault),
     }
@@ -26,11 +35,29 @@ pub(crate) fn compare_paths(rt: &HostRuntime, compare: &Compare<'_>) -> u8 {
     tally.status()
 }
 
-fn compare_all(rt: &HostRuntime, compare: &Compare<'_>, tally: &mut Tally) -> Result<(), RunFault> {
-    let reference = listed(rt, compare.reference, tally)?;
-    for other in &compare.others {
+/// The reference, which the project names, or else is the first of the paths; and the others. `None` where there is no
+/// other.
+fn sides<'a>(settings: &'a Settings, paths: &'a [&'a str]) -> Option<(&'a str, &'a [&'a str])> {
+    if let Some(reference) = &settings.reference {
+        return Some((reference.as_str(), paths));
+    }
+    match paths.split_first() {
+        Some((reference, others)) if !others.is_empty() => Some((*reference, others)),
+        _ => None,
+    }
+}
+
+fn compare_all(
+    rt: &HostRuntime,
+    compare: &Compare<'_>,
+    reference: &str,
+    others: &[&str],
+    tally: &mut Tally,
+) -> Result<(), RunFault> {
+    let reference_files = listed(rt, reference, tally)?;
+    for other in others {
         let files = listed(rt, *other, tally)?;
-        let Ok(pairs) = pairs_of(rt.alloc(), compare.reference, &reference, *other, &files) else {
+        let Ok(pairs) = pairs_of(rt.alloc(), reference, &reference_files, *other, &files) else {
             return Err(RunFault::Memory);
         };
         compare_one(rt, compare, *other, &pairs, tally)?;

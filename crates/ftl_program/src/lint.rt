@@ -1,7 +1,9 @@
 //! Files and folders, searched for mistakes between names.
 
 use crate::colors::form_over_paths;
+use crate::project::project_settings;
 use crate::telling::refuse_run;
+use fluent_syntax_names::Kind;
 use ftl::RunFault;
 use ftl_files::{Disk, list};
 use ftl_project::{Fault, Streams, Tally, Telling, check_summary, lint_files, tell};
@@ -9,10 +11,14 @@ use ftl_words::Lint;
 use std::alloc::AllocError;
 use std::io;
 
-/// Searches all files that the paths name, as one set; the exit status.
+/// Searches all files that the paths name, as one set; the exit status. Kinds that the project ignores are not told.
 pub(crate) fn lint_paths(rt: &HostRuntime, lint: &Lint<'_>) -> u8 {
+    let settings = match project_settings(rt) {
+        Ok(settings) => settings,
+        Err(status) => return status,
+    };
     let mut tally = Tally::new();
-    match lint_all(rt, lint, &mut tally) {
+    match lint_all(rt, lint, settings.ignored, &mut tally) {
         Ok(()) => (),
         Err(fault) => return refuse_run(rt, fault),
     }
@@ -25,11 +31,19 @@ pub(crate) fn lint_paths(rt: &HostRuntime, lint: &Lint<'_>) -> u8 {
     tally.status()
 }
 
-fn lint_all(rt: &HostRuntime, lint: &Lint<'_>, tally: &mut Tally) -> Result<(), RunFault> {
+fn lint_all(
+    rt: &HostRuntime,
+    lint: &Lint<'_>,
+    mut ignored: Vec<Kind>,
+    tally: &mut Tally,
+) -> Result<(), RunFault> {
+    if ignored.extend_from_slice(&lint.ignored).is_err() {
+        return Err(RunFault::Memory);
+    }
     let files = files_of(rt, lint, tally)?;
     let telling = Telling {
         form: form_over_paths(rt, Some(lint.form), lint.color),
-        ignored: &lint.ignored,
+        ignored: &ignored,
     };
     let mut streams = Streams {
         out: &mut io::writer(rt),

@@ -8,6 +8,7 @@ mod editor;
 mod help;
 mod lint;
 mod paths;
+mod project;
 mod standard;
 mod telling;
 mod words;

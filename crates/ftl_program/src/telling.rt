@@ -46,6 +46,12 @@ pub(crate) fn refuse_words<R: Print + Eprint + AllocGlobal>(rt: &R, error: &Erro
     }
 }
 
+/// Tells that there is nothing to compare with the reference.
+pub(crate) fn refuse_compare<R: Eprint>(rt: &R) -> u8 {
+    let _ = rt.eprintln("ftl: compare wants a reference, and what to compare with it");
+    refuse(rt, usage(), WRONG_WORDS)
+}
+
 /// Tells that standard input is no file to be written or named.
 pub(crate) fn refuse_writing<R: Eprint>(rt: &R) -> u8 {
     let _ = rt.eprintln("ftl: --write and --check are for files and folders");

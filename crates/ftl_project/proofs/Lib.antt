@@ -1,2 +1,9 @@
-mod ReadBack
+mod Counting
+mod FormattingEach
+mod Known
+mod Normal
 mod Reaching
+mod ReadBack
+mod Said
+mod Statuses
+mod ToldInOrder

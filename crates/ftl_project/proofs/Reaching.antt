@@ -4,6 +4,7 @@ use Rattle.fluent_syntax_tree.specs.declared.edition.Edition.{Edition}
 use Rattle.ftl_files.specs.Store.{AllStand, OthersStand}
 use Rattle.ftl_project.specs.Rewriting.{AllReach, BecomesRewriting, Reaches, Rewrites, goes, stays}
 use Rattle.ftl_project.specs.declared.fault.Fault.{Fault}
+use Rattle.ftl_project.specs.declared.reading.Reading.{Reading}
 use Rattle.ftl_project.specs.declared.rewriting.Rewriting.{Rewriting}
 use Rattle.ftl_project.specs.declared.rewriting.Rewriting.TheVariants as rewriting
 
@@ -36,11 +37,16 @@ module _ (edition : Edition) where
   one_path old new path reach others = λ other. ⊎_elim (same (old other) (new other))
       (⊎_elim (at_path old new path other reach) (came (old other) (new other))) (others other)
 
-  pub AllReach-rewrites : (path : List ℕ) (old new : List ℕ → Option (List ℕ)) (result : Result Rewriting Fault) →
-      Rewrites edition path old new result → AllReach edition old new
-  AllReach-rewrites path old new (Ok rewriting.Rewritten) done = one_path old new path (goes stays done.0) done.1
-  AllReach-rewrites path old new (Ok rewriting.Same) stand = AllReach-stand old new stand
-  AllReach-rewrites path old new (Ok (rewriting.Errors refused)) stand = AllReach-stand old new stand
-  AllReach-rewrites path old new (Ok (rewriting.Unsafe entry)) stand = AllReach-stand old new stand
-  AllReach-rewrites path old new (Err fault) done = one_path old new path
-      (⊎_elim (same (old path) (new path)) (λ becomes. goes stays becomes) done.0) done.1
+-- what one file has come to after its rewriting, and the others
+pub AllReach-rewrites : (reading : Reading) (path : List ℕ) (old new : List ℕ → Option (List ℕ))
+    (result : Result Rewriting Fault) → Rewrites reading path old new result → AllReach reading.edition old new
+AllReach-rewrites reading path old new (Ok rewriting.Rewritten) done =
+    one_path reading.edition old new path (goes stays done.0) done.1
+AllReach-rewrites reading path old new (Ok rewriting.Same) done =
+    AllReach-stand reading.edition old new done.0
+AllReach-rewrites reading path old new (Ok (rewriting.Errors refused)) done =
+    AllReach-stand reading.edition old new done.0
+AllReach-rewrites reading path old new (Ok (rewriting.Unsafe entry)) done =
+    AllReach-stand reading.edition old new done.0
+AllReach-rewrites reading path old new (Err fault) done = one_path reading.edition old new path
+    (⊎_elim (same reading.edition (old path) (new path)) (λ becomes. goes stays becomes) done.0) done.1

@@ -1,3 +1,12 @@
+pub mod Answered
+pub mod Comparing
+pub mod Errors
+pub mod Faults
+pub mod Formatting
+pub mod Linting
+pub mod Reports
 pub mod Rewriting
+pub mod Runs
 pub mod Safe
+pub mod Summaries
 pub mod Tally

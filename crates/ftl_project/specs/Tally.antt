@@ -1,6 +1,23 @@
--- The exit status of a run.
-use Rattle.std.specs.Prelude.{ℕ, ◌==◌, if◌then◌else◌}
+-- What a run counts, and its exit status.
+use Rattle.std.specs.Prelude.{ℕ, ◌+◌, ◌-◌, ◌^◌, ◌==◌, Bool, max, min, if◌then◌else◌}
 use Rattle.ftl_project.specs.declared.tally.Tally.{Tally}
+
+-- How a file was met: it was answered, with so many errors, and is concerned or not; or it was not, with a fault of
+-- that
+-- status.
+pub data Met : Type 0 where
+  answered : (errors : ℕ) (is_concerned : Bool) → Met
+  failed : (status : ℕ) → Met
+
+-- the tally once the file is counted in it; a number that has come to the greatest `usize` stays there
+abbrev pub counted : Tally → Met → Tally
+counted tally (answered errors is_concerned) = record {
+  files = min (tally.files + 1) (2 ^ 64 - 1);
+  concerned = min (tally.concerned + (if is_concerned then 1 else 0)) (2 ^ 64 - 1);
+  errors = min (tally.errors + errors) (2 ^ 64 - 1);
+  fault = tally.fault;
+}
+counted tally (failed status) = record tally { fault = max tally.fault status }
 
 -- the greatest status of a fault, else 1 where a file has errors or changes, else 0
 abbrev pub status_of : Tally → ℕ

@@ -1,5 +1,11 @@
 //! Files are checked.
+ghost use Rattle.std.specs.Prelude.{◌≡◌, ◌≢◌, List, Err, IfErr, IfOk, IfSome, OnOk, length, string_bytes};
 ghost use Rattle.ftl_files.specs.Store.{AllStand};
+ghost use Rattle.ftl_project.specs.Answered.{IsChecked, TellsErrors};
+ghost use Rattle.ftl_project.specs.Errors.{HasErrors};
+ghost use Rattle.ftl_project.specs.Faults.{IsFault, IsTooDeep, IsUnparsed};
+ghost use Rattle.fluent_syntax_tree.specs.declared.errors.ParserError.{ParserError};
+ghost use Rattle.ftl_project.specs.Runs.{Writes, WritesEach};
 
 use crate::fault::Fault;
 use crate::form::Form;
@@ -16,7 +22,8 @@ use ftl_files::Store;
 use std::alloc::{AllocError, Global};
 use std::io::Write;
 
-/// Checks the files, and tells their errors in the form. No file is changed.
+/// Checks the files, and tells their errors in the form. No file is changed, and each is counted, with as many errors
+/// as it has.
 ///
 /// `Err` where the run stopped: `Memory`, or `Output`.
 pub fn check_files<S: Store, O: Write, E: Write>(
@@ -28,25 +35,59 @@ pub fn check_files<S: Store, O: Write, E: Write>(
     tally: &mut Tally,
     streams: &mut Streams<'_, O, E>,
 ) -> Result<(), RunFault>
-    ensures { AllStand (S.bytes_at store.old) (S.bytes_at store.new) }
+    ensures stand { AllStand (S.bytes_at store.old) (S.bytes_at store.new) }
+    ensures each { OnOk result (WritesEach
+        (λ file. IsChecked reading form (string_bytes file) (S.bytes_at store.old (string_bytes file))) files.now
+        tally.old tally.new (O.contents streams.old.out.now) (O.contents streams.new.out.now)) }
+    ensures err { result ≢ Err RunFault.Input }
 {
     for file in files {
-        let path = file.as_str();
-        match check_file(alloc, store, path, reading, form) {
-            Ok(checked) => {
-                tally.count(checked.errors, checked.errors != 0);
-                put(streams.out, checked.told.as_str())?;
-                if checked.has_mark {
-                    put_note(alloc, streams.err, path, MARKED)?;
-                }
-            }
-            Err(fault) => tell(alloc, tally, path, &fault, streams)?,
-        }
+        tell_checked(alloc, store, file.as_str(), reading, form, tally, streams)?;
     }
     Ok(())
 }
 
-const MARKED: &str = "begins with a byte order mark, so its first entry is junk";
+/// Checks a file, tells its errors, and counts it.
+fn tell_checked<S: Store, O: Write, E: Write>(
+    alloc: Global,
+    store: &mut S,
+    path: &str,
+    reading: Reading,
+    form: Form,
+    tally: &mut Tally,
+    streams: &mut Streams<'_, O, E>,
+) -> Result<(), RunFault>
+    ensures stand { AllStand (S.bytes_at store.old) (S.bytes_at store.new) }
+    ensures counted { OnOk result
+        (Writes (IsChecked reading form path.now (S.bytes_at store.old path.now)) tally.old tally.new
+        (O.contents streams.old.out.now) (O.contents streams.new.out.now)) }
+    ensures err { result ≢ Err RunFault.Input }
+{
+    let checked = match check_file(alloc, store, path, reading, form) {
+        Ok(checked) => checked,
+        Err(fault) => return tell(alloc, tally, path, &fault, streams),
+    };
+    tally.count(checked.errors, checked.errors != 0);
+    put(streams.out, checked.told.as_str())?;
+    if checked.has_mark {
+        tell_mark(alloc, path, streams)
+    } else {
+        Ok(())
+    }
+}
+
+/// Tells that a file begins with a byte order mark.
+fn tell_mark<O: Write, E: Write>(
+    alloc: Global,
+    path: &str,
+    streams: &mut Streams<'_, O, E>,
+) -> Result<(), RunFault>
+    ensures out { streams.new.out ≡ streams.old.out }
+    ensures err { result ≢ Err RunFault.Input }
+{
+    let note = "begins with a byte order mark, so its first entry is junk";
+    put_note(alloc, streams.err, path, note)
+}
 
 /// What was found in a file.
 #[derive(Drop)]
@@ -65,7 +106,12 @@ fn check_file<S: Store>(
     reading: Reading,
     form: Form,
 ) -> Result<Checked, Fault>
-    ensures { AllStand (S.bytes_at store.old) (S.bytes_at store.new) }
+    ensures stand { AllStand (S.bytes_at store.old) (S.bytes_at store.new) }
+    ensures told { IfOk result (λ checked. (found : List ParserError)
+        × IfSome (S.bytes_at store.old path.now)
+        (λ known. TellsErrors reading form path.now known found (string_bytes checked.told))
+        × (checked.errors ≡ length found)) }
+    ensures fault { IfErr result (IsFault (IsTooDeep reading) (S.bytes_at store.old path.now)) }
 {
     let text = read_text(store, path)?;
     let refused = errors_of(alloc, text, reading)?;
@@ -80,7 +126,11 @@ fn check_file<S: Store>(
 }
 
 /// The text with its errors, which may be none.
-fn errors_of(alloc: Global, text: String, reading: Reading) -> Result<Refused, Fault> {
+fn errors_of(alloc: Global, text: String, reading: Reading) -> Result<Refused, Fault>
+    ensures text { IfOk result (λ refused. string_bytes refused.text ≡ string_bytes text) }
+    ensures errors { IfOk result (λ refused. HasErrors reading.edition (string_bytes text) refused.errors.items) }
+    ensures fault { IfErr result (IsUnparsed (IsTooDeep reading (string_bytes text))) }
+{
     if text.len() == usize::MAX {
         return Err(Fault::Memory);
     }

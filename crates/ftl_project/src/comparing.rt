@@ -1,5 +1,9 @@
 //! Files of a reference language are compared with those of another.
+ghost use Rattle.std.specs.Prelude.{◌≡◌, ◌≢◌, Err, IfOk, OnOk, string_bytes};
 ghost use Rattle.ftl_files.specs.Store.{AllStand};
+ghost use Rattle.ftl_project.specs.Comparing.{IsCompared, IsMissing};
+ghost use Rattle.ftl_project.specs.Runs.{Counts, CountsEach};
+ghost use Rattle.ftl_project.specs.Summaries.{share_line_of};
 
 use crate::fault::Fault;
 use crate::findings::{name_in, severity_name, spot_of};
@@ -15,7 +19,6 @@ use fluent_syntax_names::{Lack, Mention, Outline, Part, Severity, lacks};
 use ftl::RunFault;
 use ftl_files::Store;
 use std::alloc::{AllocError, Global};
-use std::fmt::Write as _;
 use std::io::Write;
 
 /// A file of the reference, and the one that is to be its translation.
@@ -44,8 +47,8 @@ struct Compared {
     share: Share,
 }
 
-/// Tells what the other files lack of the reference's, and what is obsolete there, pair by pair. No file is changed. A
-/// file that can't be read is told, and the other pairs are compared.
+/// Tells what the other files lack of the reference's, and what is obsolete there, pair by pair. No file is changed,
+/// and each pair is counted. A file that can't be read is told, and the other pairs are compared.
 ///
 /// `Err` where the run stopped: `Memory`, or `Output`.
 pub fn compare_files<S: Store, O: Write, E: Write>(
@@ -58,20 +61,39 @@ pub fn compare_files<S: Store, O: Write, E: Write>(
     share: &mut Share,
     streams: &mut Streams<'_, O, E>,
 ) -> Result<(), RunFault>
-    ensures { AllStand (S.bytes_at store.old) (S.bytes_at store.new) }
+    ensures stand { AllStand (S.bytes_at store.old) (S.bytes_at store.new) }
+    ensures each { OnOk result (CountsEach IsCompared pairs.now tally.old tally.new) }
+    ensures err { result ≢ Err RunFault.Input }
 {
     for pair in pairs {
-        match compare_pair(alloc, store, pair, reading, form) {
-            Ok(compared) => {
-                tally.count(compared.errors, compared.errors != 0);
-                share.wanted = share.wanted.saturating_add(compared.share.wanted);
-                share.missing = share.missing.saturating_add(compared.share.missing);
-                put(streams.out, compared.told.as_str())?;
-            }
-            Err(fault) => tell(alloc, tally, pair.other.as_str(), &fault, streams)?,
-        }
+        let compared = compare_pair(alloc, store, pair, reading, form);
+        tell_compared(alloc, pair, compared, tally, share, streams)?;
     }
     Ok(())
+}
+
+/// Tells what came of a pair, and counts it.
+fn tell_compared<O: Write, E: Write>(
+    alloc: Global,
+    pair: &Pair,
+    compared: Result<Compared, Fault>,
+    tally: &mut Tally,
+    share: &mut Share,
+    streams: &mut Streams<'_, O, E>,
+) -> Result<(), RunFault>
+    requires { IfOk compared (λ compared. IsMissing pair.now compared.errors) }
+    ensures counted { OnOk result (Counts (IsCompared pair.now) tally.old tally.new) }
+    ensures err { result ≢ Err RunFault.Input }
+{
+    match compared {
+        Ok(compared) => {
+            tally.count(compared.errors, compared.errors != 0);
+            share.wanted = share.wanted.saturating_add(compared.share.wanted);
+            share.missing = share.missing.saturating_add(compared.share.missing);
+            put(streams.out, compared.told.as_str())
+        }
+        Err(fault) => tell(alloc, tally, pair.other.as_str(), &fault, streams),
+    }
 }
 
 fn compare_pair<S: Store>(
@@ -81,7 +103,8 @@ fn compare_pair<S: Store>(
     reading: Reading,
     form: Form,
 ) -> Result<Compared, Fault>
-    ensures { AllStand (S.bytes_at store.old) (S.bytes_at store.new) }
+    ensures stand { AllStand (S.bytes_at store.old) (S.bytes_at store.new) }
+    ensures missing { IfOk result (λ compared. IsMissing pair.now compared.errors) }
 {
     let reference = read_text(store, pair.reference.as_str())?;
     let other = if pair.is_there {
@@ -103,7 +126,9 @@ fn as_compared(
     reference: &Outline<'_>,
     other: &Outline<'_>,
     form: Form,
-) -> Result<Compared, AllocError> {
+) -> Result<Compared, AllocError>
+    ensures { IfOk result (λ compared. IsMissing pair.now compared.errors) }
+{
     let mut told = String::new(alloc);
     let wanted = entries(reference);
     if !pair.is_there {
@@ -279,10 +304,10 @@ fn more_message(alloc: Global, other: &Outline<'_>, lack: &Lack) -> Result<Strin
 /// How much of the reference is there, on a line: `95 of 100 messages and terms are there`.
 ///
 /// `AllocError`: a growth was refused.
-pub fn share_line(alloc: Global, share: &Share) -> Result<String, AllocError> {
+pub fn share_line(alloc: Global, share: &Share) -> Result<String, AllocError>
+    ensures { IfOk result (λ line. string_bytes line ≡ share_line_of share.now) }
+{
     let wanted = share.wanted;
     let there = wanted.saturating_sub(share.missing);
-    let mut line = String::new(alloc);
-    writeln!(line, "{there} of {wanted} messages and terms are there")?;
-    Ok(line)
+    format!(in alloc; "{there} of {wanted} messages and terms are there\n")
 }

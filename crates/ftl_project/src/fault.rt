@@ -1,5 +1,6 @@
 //! Why a file was not answered.
 ghost use Rattle.std.specs.Prelude.{◌≤◌};
+ghost use Rattle.ftl_project.specs.Faults.{HasStatus};
 
 use ftl::JsonFault;
 use std::io::ErrorKind;
@@ -28,6 +29,7 @@ impl Fault {
     pub fn status(&self) -> u8
         ensures least { 3 ≤ result }
         ensures greatest { result ≤ 6 }
+        ensures status { HasStatus self.now result }
     {
         match self {
             Fault::Memory => 4,
@@ -41,6 +43,10 @@ impl Fault {
 }
 
 impl fmt::Display for Fault {
+    ghost use Rattle.ftl_project.specs.Summaries.{fault_text};
+
+    ghost output = { fault_text };
+
     fn fmt<W: fmt::Write>(&self, f: &mut fmt::Formatter<W>) -> fmt::Result {
         match self {
             Fault::Read(error) => write!(f, "can't be read: {error}"),

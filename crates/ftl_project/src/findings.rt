@@ -3,10 +3,9 @@
 use crate::form::Form;
 use crate::line_starts::LineStarts;
 use crate::remarks::{Remark, Spot, push_remark};
-use fluent_syntax_names::{Finding, Kind, Severity};
+use fluent_syntax_names::{Finding, Severity};
 use fluent_syntax_tree::spans::Span;
 use std::alloc::{AllocError, Global};
-use std::fmt::Write;
 
 /// A file that was read.
 #[derive(Debug, Drop)]
@@ -85,19 +84,8 @@ fn message(
     finding: &Finding,
 ) -> Result<String, AllocError> {
     let name = finding.place.map_or("", |span| name_in(text, span));
-    let mut out = String::new(alloc);
-    match finding.kind {
-        Kind::DefinedTwice => write!(out, "`{name}` is defined twice")?,
-        Kind::AttributeTwice => write!(out, "the entry has the attribute `{name}` twice")?,
-        Kind::UndefinedMessage => write!(out, "no file defines the message `{name}`")?,
-        Kind::UndefinedTerm => write!(out, "no file defines the term `-{name}`")?,
-        Kind::UndefinedAttribute => write!(out, "no file defines its attribute `{name}`")?,
-        Kind::UndefinedValue => write!(out, "no file gives the message `{name}` a value")?,
-        Kind::CyclicReference => write!(out, "`{name}` leads back to this reference")?,
-    }
-    if let Some(first) = finding.other {
-        let (line, _) = lines.line_column(first.span.start);
-        write!(out, ", first on line {line}")?;
-    }
-    Ok(out)
+    let first = finding
+        .other
+        .map(|first| lines.line_column(first.span.start).0);
+    finding.kind.sentence(alloc, name, first)
 }

@@ -1,6 +1,12 @@
 //! Files are formatted in place, or named where they would change.
+ghost use Rattle.std.specs.Io.KnownBytes.{Appends};
+ghost use Rattle.std.specs.Prelude.{◌≡◌, ◌≢◌, ◌++◌, codes, Err, IfOk, OnOk, length, string_bytes, true};
+ghost use Rattle.ftl_excerpts.specs.Excerpt.{shown_text};
 ghost use Rattle.ftl_files.specs.Store.{AllStand};
+ghost use Rattle.ftl_project.specs.Formatting.{AllNormal, Formats, FormatsEach, IsNamed};
 ghost use Rattle.ftl_project.specs.Rewriting.{AllReach};
+ghost use Rattle.ftl_project.specs.Runs.{Writes, WritesEach};
+ghost use Rattle.ftl_project.specs.Tally.{answered, counted};
 
 use crate::fault::Fault;
 use crate::form::Form;
@@ -21,6 +27,10 @@ use std::io::Write;
 /// Puts the normal form in the place of each file that has no syntax error and whose normal form reads back. However
 /// the run ends, each file stands as it was, or is its normal form.
 ///
+/// - `reaches`: so they stand.
+/// - `each`: a run that ends in `Ok` came to each file, in order, and counted it by what became of it.
+/// - `normal`: where the tally has no fault then, each file that has such a normal form is that.
+///
 /// `Err` where the run stopped: `Memory`, or `Output`.
 pub fn write_files<S: Store, O: Write, E: Write>(
     alloc: Global,
@@ -30,7 +40,12 @@ pub fn write_files<S: Store, O: Write, E: Write>(
     tally: &mut Tally,
     streams: &mut Streams<'_, O, E>,
 ) -> Result<(), RunFault>
-    ensures { AllReach reading.edition (S.bytes_at store.old) (S.bytes_at store.new) }
+    ensures reaches { AllReach reading.edition (S.bytes_at store.old) (S.bytes_at store.new) }
+    ensures each { OnOk result
+        (FormatsEach reading files.now (S.bytes_at store.old) (S.bytes_at store.new) tally.old tally.new) }
+    ensures normal { OnOk result (tally.new.fault ≡ 0
+        → AllNormal reading.edition files.now (S.bytes_at store.old) (S.bytes_at store.new)) }
+    ensures err { result ≢ Err RunFault.Input }
 {
     for file in files {
         write_file(alloc, store, file.as_str(), reading, tally, streams)?;
@@ -46,10 +61,17 @@ fn write_file<S: Store, O: Write, E: Write>(
     tally: &mut Tally,
     streams: &mut Streams<'_, O, E>,
 ) -> Result<(), RunFault>
-    ensures { AllReach reading.edition (S.bytes_at store.old) (S.bytes_at store.new) }
+    ensures reaches { AllReach reading.edition (S.bytes_at store.old) (S.bytes_at store.new) }
+    ensures counted { OnOk result
+        (Formats reading path.now (S.bytes_at store.old) (S.bytes_at store.new) tally.old tally.new) }
+    ensures err { result ≢ Err RunFault.Input }
 {
     match rewrite(alloc, store, path, reading) {
-        Ok(Rewriting::Same | Rewriting::Rewritten) => {
+        Ok(Rewriting::Same) => {
+            tally.count(0, false);
+            Ok(())
+        }
+        Ok(Rewriting::Rewritten) => {
             tally.count(0, false);
             Ok(())
         }
@@ -59,7 +81,7 @@ fn write_file<S: Store, O: Write, E: Write>(
     }
 }
 
-/// Names each file that `write_files` would change, on a line. No file is changed.
+/// Names each file that `write_files` would change, on a line. No file is changed, and each is counted.
 ///
 /// `Err` where the run stopped: `Memory`, or `Output`.
 pub fn name_files<S: Store, O: Write, E: Write>(
@@ -70,7 +92,11 @@ pub fn name_files<S: Store, O: Write, E: Write>(
     tally: &mut Tally,
     streams: &mut Streams<'_, O, E>,
 ) -> Result<(), RunFault>
-    ensures { AllStand (S.bytes_at store.old) (S.bytes_at store.new) }
+    ensures stand { AllStand (S.bytes_at store.old) (S.bytes_at store.new) }
+    ensures each { OnOk result (WritesEach
+        (λ file. IsNamed reading (string_bytes file) (S.bytes_at store.old (string_bytes file))) files.now
+        tally.old tally.new (O.contents streams.old.out.now) (O.contents streams.new.out.now)) }
+    ensures err { result ≢ Err RunFault.Input }
 {
     for file in files {
         name_file(alloc, store, file.as_str(), reading, tally, streams)?;
@@ -86,7 +112,11 @@ fn name_file<S: Store, O: Write, E: Write>(
     tally: &mut Tally,
     streams: &mut Streams<'_, O, E>,
 ) -> Result<(), RunFault>
-    ensures { AllStand (S.bytes_at store.old) (S.bytes_at store.new) }
+    ensures stand { AllStand (S.bytes_at store.old) (S.bytes_at store.new) }
+    ensures counted { OnOk result
+        (Writes (IsNamed reading path.now (S.bytes_at store.old path.now)) tally.old tally.new
+        (O.contents streams.old.out.now) (O.contents streams.new.out.now)) }
+    ensures err { result ≢ Err RunFault.Input }
 {
     let text = match read_text(store, path) {
         Ok(text) => text,
@@ -99,7 +129,7 @@ fn name_file<S: Store, O: Write, E: Write>(
         }
         Ok(Replacement::Text(_)) => {
             tally.count(0, true);
-            put_line(alloc, streams.out, path, "")
+            put_path(alloc, streams.out, path)
         }
         Ok(Replacement::Errors(errors)) => {
             let refused = Refused { text, errors };
@@ -117,7 +147,11 @@ fn tell_errors<O: Write, E: Write>(
     refused: &Refused,
     tally: &mut Tally,
     streams: &mut Streams<'_, O, E>,
-) -> Result<(), RunFault> {
+) -> Result<(), RunFault>
+    ensures counted { tally.new ≡ counted tally.old (answered (length refused.now.errors.items) true) }
+    ensures out { streams.new.out ≡ streams.old.out }
+    ensures err { result ≢ Err RunFault.Input }
+{
     tally.count(refused.errors.len(), true);
     match report(alloc, path, refused, Form::Full) {
         Ok(told) => put(streams.err, told.as_str()),
@@ -132,7 +166,11 @@ fn tell_unsafe<O: Write, E: Write>(
     entry: UnsafeEntry,
     tally: &mut Tally,
     streams: &mut Streams<'_, O, E>,
-) -> Result<(), RunFault> {
+) -> Result<(), RunFault>
+    ensures counted { tally.new ≡ counted tally.old (answered 0 true) }
+    ensures out { streams.new.out ≡ streams.old.out }
+    ensures err { result ≢ Err RunFault.Input }
+{
     tally.count(0, true);
     match unsafe_line(alloc, path, entry, "left as it is") {
         Ok(line) => put(streams.err, line.as_str()),
@@ -140,20 +178,23 @@ fn tell_unsafe<O: Write, E: Write>(
     }
 }
 
-/// Writes a path, with a note behind it, on a line.
-fn put_line<W: Write>(
-    alloc: Global,
-    writer: &mut W,
-    path: &str,
-    note: &str,
-) -> Result<(), RunFault> {
-    let mut line = String::new(alloc);
-    let is_made = push_shown_text(&mut line, path).is_ok()
-        && line.push_str(note).is_ok()
-        && line.push('\n').is_ok();
-    if is_made {
-        put(writer, line.as_str())
-    } else {
-        Err(RunFault::Memory)
+/// Writes a path on a line.
+fn put_path<W: Write>(alloc: Global, writer: &mut W, path: &str) -> Result<(), RunFault>
+    ensures written { OnOk result
+        (Appends (W.contents writer.old) (W.contents writer.new) (shown_text path.now ++ codes "\n")) }
+    ensures err { result ≢ Err RunFault.Input }
+{
+    match path_line(alloc, path) {
+        Ok(line) => put(writer, line.as_str()),
+        Err(AllocError) => Err(RunFault::Memory),
     }
+}
+
+fn path_line(alloc: Global, path: &str) -> Result<String, AllocError>
+    ensures { IfOk result (λ line. string_bytes line ≡ shown_text path.now ++ codes "\n") }
+{
+    let mut line = String::new(alloc);
+    push_shown_text(&mut line, path)?;
+    line.push('\n')?;
+    Ok(line)
 }

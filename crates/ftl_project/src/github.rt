@@ -1,4 +1,6 @@
 //! An error as a line that GitHub shows beside the source.
+ghost use Rattle.std.specs.Prelude.{OnOk, codes, string_bytes};
+ghost use Rattle.ftl_project.specs.Reports.{EndsIn};
 
 use crate::reporting::Place;
 use fluent_syntax::parser::ParserError;
@@ -10,7 +12,9 @@ pub(crate) fn push_github_line(
     out: &mut String,
     place: &Place<'_>,
     error: &ParserError,
-) -> Result<(), AllocError> {
+) -> Result<(), AllocError>
+    ensures { OnOk result (EndsIn (codes "\n") (string_bytes out.new)) }
+{
     out.push_str("::error file=")?;
     push_property(out, place.path)?;
     write!(

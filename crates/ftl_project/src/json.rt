@@ -1,4 +1,6 @@
 //! An error as a JSON object on a line.
+ghost use Rattle.std.specs.Prelude.{OnOk, codes, string_bytes};
+ghost use Rattle.ftl_project.specs.Reports.{EndsIn};
 
 use crate::reporting::Place;
 use fluent_syntax::parser::{ErrorKind, ParserError};
@@ -11,7 +13,9 @@ pub(crate) fn push_json_line(
     out: &mut String,
     place: &Place<'_>,
     error: &ParserError,
-) -> Result<(), AllocError> {
+) -> Result<(), AllocError>
+    ensures { OnOk result (EndsIn (codes "}\n") (string_bytes out.new)) }
+{
     let (line, column) = (place.line, place.column);
     out.push_str("{\"path\":")?;
     push_json_text(out, place.path)?;

@@ -1,5 +1,7 @@
 //! Files are searched for mistakes between names.
+ghost use Rattle.std.specs.Prelude.{◌≡◌, ◌≢◌, ◌+◌, Err, IfOk, OnOk, length, vec_len};
 ghost use Rattle.ftl_files.specs.Store.{AllStand};
+ghost use Rattle.ftl_project.specs.Linting.{AddsFiles, CountsRead, HasRead, ReadsOne};
 
 use crate::fault::Fault;
 use crate::findings::{Source, report_findings};
@@ -38,7 +40,9 @@ pub fn lint_files<S: Store, O: Write, E: Write>(
     tally: &mut Tally,
     streams: &mut Streams<'_, O, E>,
 ) -> Result<(), RunFault>
-    ensures { AllStand (S.bytes_at store.old) (S.bytes_at store.new) }
+    ensures stand { AllStand (S.bytes_at store.old) (S.bytes_at store.new) }
+    ensures counted { OnOk result (CountsRead (length files.now) tally.old tally.new) }
+    ensures err { result ≢ Err RunFault.Input }
 {
     let sources = read_sources(alloc, store, files, tally, streams)?;
     lint_sources(alloc, &sources, reading, telling, tally, streams)
@@ -52,21 +56,37 @@ fn read_sources<S: Store, O: Write, E: Write>(
     tally: &mut Tally,
     streams: &mut Streams<'_, O, E>,
 ) -> Result<Vec<Source>, RunFault>
-    ensures { AllStand (S.bytes_at store.old) (S.bytes_at store.new) }
+    ensures stand { AllStand (S.bytes_at store.old) (S.bytes_at store.new) }
+    ensures read { IfOk result (λ sources. HasRead (length files.now) (vec_len sources) tally.old tally.new) }
+    ensures err { result ≢ Err RunFault.Input }
 {
     let mut sources = Vec::new(alloc);
     for file in files {
-        let path = file.as_str();
-        match read_text(store, path) {
-            Ok(text) => {
-                if add_source(alloc, &mut sources, path, text).is_err() {
-                    return Err(RunFault::Memory);
-                }
-            }
-            Err(fault) => tell(alloc, tally, path, &fault, streams)?,
-        }
+        read_source(alloc, store, file.as_str(), &mut sources, tally, streams)?;
     }
     Ok(sources)
+}
+
+/// Adds the text of a file that can be read, and tells one that can't.
+fn read_source<S: Store, O: Write, E: Write>(
+    alloc: Global,
+    store: &mut S,
+    path: &str,
+    sources: &mut Vec<Source>,
+    tally: &mut Tally,
+    streams: &mut Streams<'_, O, E>,
+) -> Result<(), RunFault>
+    ensures stand { AllStand (S.bytes_at store.old) (S.bytes_at store.new) }
+    ensures read { OnOk result (ReadsOne (vec_len sources.old) (vec_len sources.new) tally.old tally.new) }
+    ensures err { result ≢ Err RunFault.Input }
+{
+    match read_text(store, path) {
+        Ok(text) => match add_source(alloc, sources, path, text) {
+            Ok(()) => Ok(()),
+            Err(AllocError) => Err(RunFault::Memory),
+        },
+        Err(fault) => tell(alloc, tally, path, &fault, streams),
+    }
 }
 
 fn add_source(
@@ -74,7 +94,9 @@ fn add_source(
     sources: &mut Vec<Source>,
     path: &str,
     text: String,
-) -> Result<(), AllocError> {
+) -> Result<(), AllocError>
+    ensures { OnOk result (vec_len sources.new ≡ vec_len sources.old + 1) }
+{
     let path = String::from_str(alloc, path)?;
     sources.push(Source { path, text })?;
     Ok(())
@@ -87,7 +109,10 @@ fn lint_sources<O: Write, E: Write>(
     telling: Telling<'_>,
     tally: &mut Tally,
     streams: &mut Streams<'_, O, E>,
-) -> Result<(), RunFault> {
+) -> Result<(), RunFault>
+    ensures counted { OnOk result (AddsFiles (length sources.now) tally.old tally.new) }
+    ensures err { result ≢ Err RunFault.Input }
+{
     let outlines = outlines(alloc, sources, reading, tally, streams)?;
     let Ok(found) = told_findings(alloc, &outlines, telling.ignored) else {
         return Err(RunFault::Memory);
@@ -110,7 +135,11 @@ fn outlines<'a, O: Write, E: Write>(
     reading: Reading,
     tally: &mut Tally,
     streams: &mut Streams<'_, O, E>,
-) -> Result<Vec<Outline<'a>>, RunFault> {
+) -> Result<Vec<Outline<'a>>, RunFault>
+    ensures files { tally.new.files ≡ tally.old.files }
+    ensures fault { tally.new.fault ≡ 0 → tally.old.fault ≡ 0 }
+    ensures err { result ≢ Err RunFault.Input }
+{
     let mut outlines = Vec::new(alloc);
     for source in sources {
         let outline = match outline(alloc, source.text.as_str(), reading) {
@@ -164,7 +193,9 @@ fn told_findings(
 }
 
 /// Counts the files, and those that have an error among the findings.
-fn count(tally: &mut Tally, files: usize, found: &[Finding]) {
+fn count(tally: &mut Tally, files: usize, found: &[Finding])
+    ensures { AddsFiles files tally.old tally.new }
+{
     tally.files = tally.files.saturating_add(files);
     let mut last = None;
     for finding in found {

@@ -1,5 +1,11 @@
 //! Files are answered on standard output.
+ghost use Rattle.std.specs.Prelude.{◌≡◌, ◌≢◌, Err, IfErr, IfOk, IfSome, OnOk, string_bytes};
+ghost use Rattle.ftl.specs.Answer.{IsAnswer, ReadsDeeper};
 ghost use Rattle.ftl_files.specs.Store.{AllStand};
+ghost use Rattle.ftl_project.specs.Answered.{IsPrinted, has_errors};
+ghost use Rattle.ftl_project.specs.Faults.{IsFault};
+ghost use Rattle.ftl_project.specs.Runs.{Writes, WritesEach};
+ghost use Rattle.ftl_project.specs.Tally.{answered, counted};
 
 use crate::fault::Fault;
 use crate::rewriting::read_text;
@@ -11,7 +17,7 @@ use std::alloc::Global;
 use std::io::Write;
 
 /// Writes the command's text of each file, in the order of the files. A file that was not answered is told, and the
-/// others are answered. No file is changed.
+/// others are answered. No file is changed, and each is counted.
 ///
 /// `Err` where the run stopped: `Memory`, or `Output`.
 pub fn print_files<S: Store, O: Write, E: Write>(
@@ -23,19 +29,49 @@ pub fn print_files<S: Store, O: Write, E: Write>(
     tally: &mut Tally,
     streams: &mut Streams<'_, O, E>,
 ) -> Result<(), RunFault>
-    ensures { AllStand (S.bytes_at store.old) (S.bytes_at store.new) }
+    ensures stand { AllStand (S.bytes_at store.old) (S.bytes_at store.new) }
+    ensures each { OnOk result (WritesEach
+        (λ file. IsPrinted command nesting (S.bytes_at store.old (string_bytes file))) files.now tally.old tally.new
+        (O.contents streams.old.out.now) (O.contents streams.new.out.now)) }
+    ensures err { result ≢ Err RunFault.Input }
 {
     for file in files {
-        let path = file.as_str();
-        match answer_file(alloc, store, path, command, nesting) {
-            Ok((text, outcome)) => {
-                put(streams.out, text.as_str())?;
-                tell_outcome(alloc, path, outcome, tally, streams)?;
-            }
-            Err(fault) => tell(alloc, tally, path, &fault, streams)?,
-        }
+        print_file(
+            alloc,
+            store,
+            file.as_str(),
+            command,
+            nesting,
+            tally,
+            streams,
+        )?;
     }
     Ok(())
+}
+
+/// Writes the command's text of a file, and counts it.
+fn print_file<S: Store, O: Write, E: Write>(
+    alloc: Global,
+    store: &mut S,
+    path: &str,
+    command: Command,
+    nesting: usize,
+    tally: &mut Tally,
+    streams: &mut Streams<'_, O, E>,
+) -> Result<(), RunFault>
+    ensures stand { AllStand (S.bytes_at store.old) (S.bytes_at store.new) }
+    ensures counted { OnOk result
+        (Writes (IsPrinted command nesting (S.bytes_at store.old path.now)) tally.old tally.new
+        (O.contents streams.old.out.now) (O.contents streams.new.out.now)) }
+    ensures err { result ≢ Err RunFault.Input }
+{
+    match answer_file(alloc, store, path, command, nesting) {
+        Ok((text, outcome)) => {
+            put(streams.out, text.as_str())?;
+            tell_outcome(alloc, path, outcome, tally, streams)
+        }
+        Err(fault) => tell(alloc, tally, path, &fault, streams),
+    }
 }
 
 /// The command's text of a file, and what was found in it.
@@ -46,7 +82,11 @@ fn answer_file<S: Store>(
     command: Command,
     nesting: usize,
 ) -> Result<(String, Outcome), Fault>
-    ensures { AllStand (S.bytes_at store.old) (S.bytes_at store.new) }
+    ensures stand { AllStand (S.bytes_at store.old) (S.bytes_at store.new) }
+    ensures answer { IfOk result (λ answer. IfSome (S.bytes_at store.old path.now)
+        (λ known. IsAnswer command known (string_bytes answer.0) answer.1)) }
+    ensures fault { IfErr result
+        (IsFault (λ known. ReadsDeeper command known nesting) (S.bytes_at store.old path.now)) }
 {
     let text = read_text(store, path)?;
     match answer_within(alloc, command, text.as_bytes(), nesting) {
@@ -63,7 +103,11 @@ fn tell_outcome<O: Write, E: Write>(
     outcome: Outcome,
     tally: &mut Tally,
     streams: &mut Streams<'_, O, E>,
-) -> Result<(), RunFault> {
+) -> Result<(), RunFault>
+    ensures counted { tally.new ≡ counted tally.old (answered 0 (has_errors outcome)) }
+    ensures out { streams.new.out ≡ streams.old.out }
+    ensures err { result ≢ Err RunFault.Input }
+{
     tally.count(0, outcome == Outcome::SyntaxErrors);
     match outcome {
         Outcome::Clean => Ok(()),

@@ -1,7 +1,8 @@
 //! What is to stand in the place of a file's text.
-ghost use Rattle.std.specs.Prelude.{◌+◌, ◌<◌, ◌^◌, ◌≤◌, All, IfOk, length};
+ghost use Rattle.std.specs.Prelude.{◌+◌, ◌<◌, ◌^◌, ◌≡◌, IfErr, IfOk, length};
 ghost use Rattle.fluent_syntax_grammar.specs.RoundTrip.{ReadsAs};
 ghost use Rattle.fluent_syntax_tree.specs.View.{resource_view};
+ghost use Rattle.ftl_project.specs.Faults.{IsTooDeep, IsUnparsed};
 ghost use Rattle.ftl_project.specs.Rewriting.{ErrorsIn, IsReplacement};
 
 use crate::fault::Fault;
@@ -36,6 +37,7 @@ pub fn replacement_for(alloc: Global, text: &str, reading: Reading) -> Result<Re
     ensures is { IfOk result (IsReplacement reading.edition text.now) }
     ensures places { IfOk result (ErrorsIn text.now) }
     ensures short { IfOk result (λ _. length text.now + 1 < 2 ^ 64) }
+    ensures fault { IfErr result (IsUnparsed (IsTooDeep reading text.now)) }
 {
     if text.len() == usize::MAX {
         return Err(Fault::Memory);
@@ -58,12 +60,16 @@ fn rewritten(
     requires { ReadsAs reading.edition text.now (resource_view (λ s. s.now) tree.now) }
     ensures is { IfOk result (IsReplacement reading.edition text.now) }
     ensures no_errors { IfOk result (ErrorsIn text.now) }
+    ensures fault { IfErr result (λ fault. fault ≡ Fault.Memory) }
 {
     formats_again(text.as_bytes());
     reads_back(tree);
     match first_unsafe(alloc, tree, reading.edition) {
         Ok(None) => (),
-        Ok(Some(broken)) => return left_as_is(alloc, text, reading, broken),
+        Ok(Some(broken)) => {
+            let entry = located(alloc, text, reading, broken)?;
+            return Ok(Replacement::Unsafe(entry));
+        }
         Err(AllocError) => return Err(Fault::Memory),
     }
     match serialize(alloc, tree) {
@@ -73,18 +79,17 @@ fn rewritten(
     }
 }
 
-/// The text stays, by that entry of its tree.
-fn left_as_is(
+/// The entry of that number, with its place in the text.
+fn located(
     alloc: Global,
     text: &str,
     reading: Reading,
     broken: Uncanonical,
-) -> Result<Replacement, Fault>
-    ensures is { IfOk result (IsReplacement reading.edition text.now) }
-    ensures no_errors { IfOk result (ErrorsIn text.now) }
+) -> Result<UnsafeEntry, Fault>
+    ensures { IfErr result (λ fault. fault ≡ Fault.Memory) }
 {
     match unsafe_entry(alloc, text, reading, broken) {
-        Ok(entry) => Ok(Replacement::Unsafe(entry)),
+        Ok(entry) => Ok(entry),
         Err(AllocError) => Err(Fault::Memory),
     }
 }

@@ -1,6 +1,7 @@
 //! A file is replaced by its normal form.
-ghost use Rattle.std.specs.Prelude.{IfOk, IfSome, ◌≡◌, string_bytes};
+ghost use Rattle.std.specs.Prelude.{◌≡◌, IfErr, IfOk, IfSome, string_bytes};
 ghost use Rattle.ftl_files.specs.Store.{AllStand};
+ghost use Rattle.ftl_project.specs.Faults.{IsUnread};
 ghost use Rattle.ftl_project.specs.Rewriting.{Rewrites};
 
 use crate::fault::Fault;
@@ -32,7 +33,7 @@ pub fn rewrite<S: Store>(
     path: &str,
     reading: Reading,
 ) -> Result<Rewriting, Fault>
-    ensures { Rewrites reading.edition path.now (S.bytes_at store.old) (S.bytes_at store.new) result }
+    ensures { Rewrites reading path.now (S.bytes_at store.old) (S.bytes_at store.new) result }
 {
     let text = read_text(store, path)?;
     match replacement_for(alloc, text.as_str(), reading)? {
@@ -49,6 +50,7 @@ pub fn rewrite<S: Store>(
 /// The text of the file.
 pub(crate) fn read_text<S: Store>(store: &mut S, path: &str) -> Result<String, Fault>
     ensures text { IfOk result (λ text. IfSome (S.bytes_at store.old path.now) (λ bytes. string_bytes text ≡ bytes)) }
+    ensures fault { IfErr result (IsUnread (S.bytes_at store.old path.now)) }
     ensures stand { AllStand (S.bytes_at store.old) (S.bytes_at store.new) }
 {
     let bytes = match store.read(path) {

@@ -1,4 +1,8 @@
 //! What a run writes to.
+ghost use Rattle.std.specs.Io.KnownBytes.{Appends};
+ghost use Rattle.std.specs.Prelude.{◌≡◌, ◌≢◌, ℕ, Err, OnOk};
+ghost use Rattle.ftl_project.specs.Faults.{HasStatus};
+ghost use Rattle.ftl_project.specs.Tally.{counted, failed};
 
 use crate::fault::Fault;
 use crate::tally::Tally;
@@ -26,7 +30,11 @@ pub fn tell<O: Write, E: Write>(
     path: &str,
     fault: &Fault,
     streams: &mut Streams<'_, O, E>,
-) -> Result<(), RunFault> {
+) -> Result<(), RunFault>
+    ensures counted { (status : ℕ) × HasStatus fault.now status × (tally.new ≡ counted tally.old (failed status)) }
+    ensures out { streams.new.out ≡ streams.old.out }
+    ensures err { result ≢ Err RunFault.Input }
+{
     tally.add_fault(fault.status());
     match fault_line(alloc, path, fault) {
         Ok(line) => put(streams.err, line.as_str()),
@@ -48,7 +56,9 @@ pub(crate) fn put_note<W: Write>(
     writer: &mut W,
     path: &str,
     note: &str,
-) -> Result<(), RunFault> {
+) -> Result<(), RunFault>
+    ensures { result ≢ Err RunFault.Input }
+{
     match note_line(alloc, path, note) {
         Ok(line) => put(writer, line.as_str()),
         Err(AllocError) => Err(RunFault::Memory),
@@ -63,7 +73,10 @@ fn note_line(alloc: Global, path: &str, note: &str) -> Result<String, AllocError
 }
 
 /// Writes the text.
-pub(crate) fn put<W: Write>(writer: &mut W, text: &str) -> Result<(), RunFault> {
+pub(crate) fn put<W: Write>(writer: &mut W, text: &str) -> Result<(), RunFault>
+    ensures written { OnOk result (Appends (W.contents writer.old) (W.contents writer.new) text.now) }
+    ensures err { result ≢ Err RunFault.Input }
+{
     match writer.write_all(text.as_bytes()) {
         Ok(()) => Ok(()),
         Err(_) => Err(RunFault::Output),

@@ -1,9 +1,10 @@
 //! What a run met.
-ghost use Rattle.std.specs.Prelude.{◌≡◌, ◌+◌, ◌-◌, ◌^◌, max, min, if◌then◌else◌};
-ghost use Rattle.ftl_project.specs.Tally.{status_of};
+ghost use Rattle.std.specs.Prelude.{◌≡◌, IfOk, string_bytes};
+ghost use Rattle.ftl_project.specs.Summaries.{check_summary_of, error_count_of, file_count_of};
+ghost use Rattle.ftl_project.specs.Summaries.{format_summary_of};
+ghost use Rattle.ftl_project.specs.Tally.{answered, counted, failed, status_of};
 
 use std::alloc::{AllocError, Global};
-use std::fmt::Write;
 
 /// What a run met.
 #[derive(Clone, Copy, Debug, PartialEq, Eq)]
@@ -46,11 +47,7 @@ impl Tally {
 
     /// One file more was answered, with so many errors. It is concerned if it has some, or is not as it is to be.
     pub fn count(&mut self, errors: usize, is_concerned: bool)
-        ensures files { self.new.files ≡ min (self.old.files + 1) (2 ^ 64 - 1) }
-        ensures concerned { self.new.concerned
-            ≡ min (self.old.concerned + (if is_concerned then 1 else 0)) (2 ^ 64 - 1) }
-        ensures errors { self.new.errors ≡ min (self.old.errors + errors) (2 ^ 64 - 1) }
-        ensures fault { self.new.fault ≡ self.old.fault }
+        ensures { self.new ≡ counted self.old (answered errors is_concerned) }
     {
         self.files = self.files.saturating_add(1);
         self.errors = self.errors.saturating_add(errors);
@@ -59,7 +56,7 @@ impl Tally {
 
     /// A file was not answered, with a fault of that status.
     pub fn add_fault(&mut self, status: u8)
-        ensures { self.new ≡ record self.old { fault = max self.old.fault status } }
+        ensures { self.new ≡ counted self.old (failed status) }
     {
         self.fault = self.fault.max(status);
     }
@@ -68,41 +65,52 @@ impl Tally {
 /// What a check met, as a line with its LF: `3 errors in 2 of 57 files`, or without errors `57 files`.
 ///
 /// `AllocError`: a growth was refused.
-pub fn check_summary(alloc: Global, tally: &Tally) -> Result<String, AllocError> {
+pub fn check_summary(alloc: Global, tally: &Tally) -> Result<String, AllocError>
+    ensures { IfOk result (λ line. string_bytes line ≡ check_summary_of tally.now) }
+{
     let Tally {
         concerned,
         errors,
         ..
     } = *tally;
-    let mut line = String::new(alloc);
-    match errors {
-        0 => (),
-        1 => write!(line, "1 error in {concerned} of ")?,
-        _ => write!(line, "{errors} errors in {concerned} of ")?,
+    let files = file_count(alloc, tally.files)?;
+    if errors == 0 {
+        return format!(in alloc; "{files}\n");
     }
-    push_files(&mut line, tally.files)?;
-    line.push('\n')?;
-    Ok(line)
+    let found = error_count(alloc, errors)?;
+    format!(in alloc; "{found} in {concerned} of {files}\n")
 }
 
 /// What a formatting met, as a line with its LF: `2 of 57 files not in normal form`, or where all are `57 files`.
 ///
 /// `AllocError`: a growth was refused.
-pub fn format_summary(alloc: Global, tally: &Tally) -> Result<String, AllocError> {
+pub fn format_summary(alloc: Global, tally: &Tally) -> Result<String, AllocError>
+    ensures { IfOk result (λ line. string_bytes line ≡ format_summary_of tally.now) }
+{
     let concerned = tally.concerned;
-    let mut line = String::new(alloc);
+    let files = file_count(alloc, tally.files)?;
     if concerned == 0 {
-        push_files(&mut line, tally.files)?;
-        line.push('\n')?;
-    } else {
-        write!(line, "{concerned} of ")?;
-        push_files(&mut line, tally.files)?;
-        line.push_str(" not in normal form\n")?;
+        return format!(in alloc; "{files}\n");
     }
-    Ok(line)
+    format!(in alloc; "{concerned} of {files} not in normal form\n")
 }
 
-fn push_files(line: &mut String, files: usize) -> Result<(), AllocError> {
-    let counted = if files == 1 { "file" } else { "files" };
-    write!(line, "{files} {counted}")
+/// `1 error`, or `3 errors`.
+fn error_count(alloc: Global, errors: usize) -> Result<String, AllocError>
+    ensures { IfOk result (λ text. string_bytes text ≡ error_count_of errors) }
+{
+    match errors {
+        1 => format!(in alloc; "1 error"),
+        _ => format!(in alloc; "{errors} errors"),
+    }
+}
+
+/// `1 file`, or `57 files`.
+fn file_count(alloc: Global, files: usize) -> Result<String, AllocError>
+    ensures { IfOk result (λ text. string_bytes text ≡ file_count_of files) }
+{
+    match files {
+        1 => format!(in alloc; "1 file"),
+        _ => format!(in alloc; "{files} files"),
+    }
 }

@@ -1,4 +1,8 @@
 //! The entry by which a text would not read back once it is formatted.
+ghost use Rattle.std.specs.Prelude.{◌≡◌, ℕ, List, IfErr, IfOk, string_bytes};
+ghost use Rattle.ftl_project.specs.Faults.{IsTooDeep, IsUnparsed};
+ghost use Rattle.ftl_project.specs.Rewriting.{FindsUnsafe};
+ghost use Rattle.ftl_project.specs.Summaries.{unsafe_line_of};
 
 use crate::fault::Fault;
 use crate::reading::Reading;
@@ -9,7 +13,6 @@ use fluent_syntax::spans::{Comments, Entries, Halt, Lines, Options, Span};
 use ftl::first_unsafe;
 use ftl_excerpts::push_shown_text;
 use std::alloc::{AllocError, Global};
-use std::fmt::Write;
 
 /// An entry of a text by which its normal form would not read back.
 #[derive(Clone, Copy, Debug, Drop, PartialEq, Eq)]
@@ -27,11 +30,10 @@ pub struct UnsafeEntry {
 ///
 /// `Memory`: a growth was refused, or the text is as long as the greatest `usize`. `TooDeep`: it nests deeper than it
 /// may.
-pub fn unsafe_in(
-    alloc: Global,
-    text: &str,
-    reading: Reading,
-) -> Result<Option<UnsafeEntry>, Fault> {
+pub fn unsafe_in(alloc: Global, text: &str, reading: Reading) -> Result<Option<UnsafeEntry>, Fault>
+    ensures found { IfOk result (FindsUnsafe reading.edition text.now) }
+    ensures fault { IfErr result (IsUnparsed (IsTooDeep reading text.now)) }
+{
     if text.len() == usize::MAX {
         return Err(Fault::Memory);
     }
@@ -52,17 +54,22 @@ pub fn unsafe_in(
 }
 
 /// `PATH:LINE:COLUMN: NOTE: RULE`, on a line.
+///
+/// `AllocError`: a growth was refused.
 pub fn unsafe_line(
     alloc: Global,
     path: &str,
     entry: UnsafeEntry,
     note: &str,
-) -> Result<String, AllocError> {
+) -> Result<String, AllocError>
+    ensures { IfOk result (λ line. (rule : List ℕ)
+        × (string_bytes line ≡ unsafe_line_of path.now entry note.now rule)) }
+{
     let UnsafeEntry { line, column, rule } = entry;
-    let mut out = String::new(alloc);
-    push_shown_text(&mut out, path)?;
-    writeln!(out, ":{line}:{column}: {note}: {rule}")?;
-    Ok(out)
+    let mut shown = String::new(alloc);
+    push_shown_text(&mut shown, path)?;
+    let rule = format!(in alloc; "{rule}")?;
+    format!(in alloc; "{shown}:{line}:{column}: {note}: {rule}\n")
 }
 
 /// The entry of that number, with its place in the text, which has no errors.

@@ -16,4 +16,6 @@ mod reports;
 #[cfg(test)]
 mod runs;
 #[cfg(test)]
+mod settings;
+#[cfg(test)]
 mod shelf;

@@ -46,7 +46,8 @@ const ROWS: [Row; 7] = [
         "a\"\n.ftl",
         BROKEN,
         Form::Json,
-        "{\"path\":\"a\\\"\\u000a.ftl\",\"line\":2,\"column\":5,\"start\":10,\"end\":11,\"junk\":{\"start\":6,\"end\":14},\
+        "{\"path\":\"a\\\"\\u000a.ftl\",\"line\":2,\"column\":5,\"start\":10,\"end\":11,\
+        \"junk\":{\"start\":6,\"end\":14},\
         \"kind\":\"ExpectedToken\",\"payload\":\"=\",\"message\":\"Expected a token starting with \\\"=\\\"\"}\n",
     ),
     (

@@ -1,8 +1,11 @@
 //! Open documents of the language server: bytes of places, and changes.
 
-use fluent_syntax_lsp::{Diagnostic, Document, NESTING_LIMIT, Place, byte_of, diagnostics_in};
+use fluent_syntax_lsp::{
+    Diagnostic, Document, NESTING_LIMIT, Place, byte_of, diagnostics_in, highlights_of, numbers_of,
+};
 use fluent_syntax_tests::alike::{assert_holds, assert_same, assert_same_text};
 use std::alloc::Global;
+use std::fmt::Write;
 use std::test::Fail;
 
 /// A text, a line and a column, and the byte there.
@@ -147,6 +150,7 @@ fn a_document_that_nests_too_deeply(rt: HostRuntime) -> Result<(), Fail> {
     let (start, end) = (place_of((0, 0)), place_of((9, 0)));
     let mut document = Document::new(alloc, deep.as_str())?;
     assert_holds(alloc, "deep", matches!(document, Document::TooDeep(_)))?;
+    assert_same(alloc, "tokens", &document.tokens(alloc)?.len(), &0)?;
     assert_document(alloc, &document, deep.as_str())?;
     document.change_between(alloc, start, end, "b = c\n")?;
     assert_holds(alloc, "shallow", matches!(document, Document::Held(_)))?;
@@ -158,4 +162,106 @@ fn a_document_that_nests_too_deeply(rt: HostRuntime) -> Result<(), Fail> {
         matches!(document, Document::TooDeep(_)),
     )?;
     assert_document(alloc, &document, deep.as_str())
+}
+
+/// A text, and the kinds of what is found in it by itself, with where each begins.
+const FOUND: [(&str, &str); 6] = [
+    ("a = A\n", ""),
+    ("# c\na = A\na = B\n", "defined-twice 10\n"),
+    (
+        "b = { b }\n    .t = A\n    .t = B\n",
+        "cyclic-reference 6\nattribute-twice 26\n",
+    ),
+    (
+        "a = { b }\n\nb = { a }\n",
+        "cyclic-reference 6\ncyclic-reference 17\n",
+    ),
+    ("a = { b } { -c } { a.t }\n", ""),
+    ("bro ken\na = A\na = B\n", "defined-twice 14\n"),
+];
+
+#[test]
+fn findings_of_a_document(rt: HostRuntime) -> Result<(), Fail> {
+    let alloc = rt.alloc();
+    for (text, wanted) in &FOUND {
+        let document = Document::new(alloc, text)?;
+        let mut shown = String::new(alloc);
+        for finding in document.findings(alloc)?.iter() {
+            let place = finding.place.map_or(0, |span| span.start);
+            writeln!(shown, "{} {place}", finding.kind.name())?;
+        }
+        assert_same_text(alloc, *text, shown.as_str(), *wanted)?;
+    }
+    Ok(())
+}
+
+/// A text, and what each of its tokens is, with the text of each.
+const TOKENS: [(&str, &str); 9] = [
+    ("", ""),
+    ("a = A\n", "Message a\n"),
+    (
+        "# one\n#\n#  two\n-a = A\n",
+        "Comment one\nComment \nComment  two\nTerm a\n",
+    ),
+    (
+        "a =\n    .b = { c.d }\n",
+        "Message a\nAttribute b\nMessageReference c\nAttributeReference d\n",
+    ),
+    (
+        "a = { -b.c ->\n   *[d] { -e(f: 1) }\n }\n",
+        "Message a\nTermReference b\nAttributeReference c\nVariantKey d\n\
+        TermReference e\nArgumentName f\nNumberLiteral 1\n",
+    ),
+    (
+        "a = { F($b, \"c\", 2, d: \"e\") }\n",
+        "Message a\nFunction F\nVariable b\nStringLiteral c\nNumberLiteral 2\n\
+        ArgumentName d\nStringLiteral e\n",
+    ),
+    (
+        "a = { $b ->\n    [1] c\n   *[d] { { e } }\n }\n",
+        "Message a\nVariable b\nVariantKey 1\nVariantKey d\nMessageReference e\n",
+    ),
+    (
+        "bro ken\n## g\n\n### r\na = A\n",
+        "Comment g\nComment r\nMessage a\n",
+    ),
+    ("a = { $b\nc = C\n", "Message c\n"),
+];
+
+#[test]
+fn tokens_of_a_document(rt: HostRuntime) -> Result<(), Fail> {
+    let alloc = rt.alloc();
+    for (text, wanted) in &TOKENS {
+        let document = Document::new(alloc, text)?;
+        let mut shown = String::new(alloc);
+        for token in document.tokens(alloc)?.iter() {
+            let name = text.get(token.span.start..token.span.end).unwrap_or("?");
+            writeln!(shown, "{:?} {name}", token.kind)?;
+        }
+        assert_same_text(alloc, *text, shown.as_str(), *wanted)?;
+    }
+    Ok(())
+}
+
+/// A text, and the numbers of its tokens, five for each.
+const NUMBERS: [(&str, &str); 4] = [
+    ("", ""),
+    ("a = { $b }\n", "0 0 1 0 1 0 6 2 2 0 "),
+    ("# 😀\n#\n-c = { \"\" }\n", "0 2 2 8 0 2 0 2 1 1 0 7 2 5 0 "),
+    ("# a\rb\nc = C\n", "2 0 1 0 1 "),
+];
+
+#[test]
+fn numbers_of_tokens(rt: HostRuntime) -> Result<(), Fail> {
+    let alloc = rt.alloc();
+    for (text, wanted) in &NUMBERS {
+        let tokens = Document::new(alloc, text)?.tokens(alloc)?;
+        let highlights = highlights_of(alloc, *text, &tokens)?;
+        let mut shown = String::new(alloc);
+        for number in numbers_of(alloc, &highlights)?.iter() {
+            write!(shown, "{number} ")?;
+        }
+        assert_same_text(alloc, *text, shown.as_str(), *wanted)?;
+    }
+    Ok(())
 }

@@ -221,12 +221,16 @@ fn endings(rt: HostRuntime) -> Result<(), Fail> {
 /// A name, and its method.
 type MethodRow = (&'static str, Option<Method>);
 
-const METHODS: [MethodRow; 13] = [
+const METHODS: [MethodRow; 14] = [
     ("initialize", Some(Method::Initialize)),
     ("shutdown", Some(Method::Shutdown)),
     ("textDocument/documentSymbol", Some(Method::DocumentSymbol)),
     ("textDocument/formatting", Some(Method::Formatting)),
     ("textDocument/foldingRange", Some(Method::FoldingRange)),
+    (
+        "textDocument/semanticTokens/full",
+        Some(Method::SemanticTokens),
+    ),
     ("textDocument/didOpen", Some(Method::DidOpen)),
     ("textDocument/didChange", Some(Method::DidChange)),
     ("textDocument/didClose", Some(Method::DidClose)),
@@ -560,6 +564,9 @@ const INITIALIZED: &str = "{\"id\":1,\"jsonrpc\":\"2.0\",\"result\":{\"capabilit
     \"documentFormattingProvider\":true,\"documentHighlightProvider\":true,\"documentSymbolProvider\":true,\
     \"foldingRangeProvider\":true,\"hoverProvider\":true,\"positionEncoding\":\"utf-16\",\
     \"referencesProvider\":true,\"renameProvider\":true,\
+    \"semanticTokensProvider\":{\"full\":true,\"legend\":{\"tokenModifiers\":[\"declaration\"],\
+    \"tokenTypes\":[\"property\",\"macro\",\"variable\",\"function\",\"parameter\",\"string\",\"number\",\
+    \"enumMember\",\"comment\"]}},\
     \"textDocumentSync\":{\"change\":2,\"openClose\":true,\"save\":true},\"workspaceSymbolProvider\":true},\
     \"serverInfo\":{\"name\":\"ftl\"}}}";
 

@@ -17,22 +17,18 @@ pub struct Compare<'a> {
     pub form: Form,
     /// Whether it is told in colours.
     pub color: Color,
-    /// A file, or a folder for every file below.
-    pub reference: &'a str,
-    /// Files or folders alike.
-    pub others: Vec<&'a str>,
+    /// Files, or folders for every file below: the reference, where the project names none, and the others.
+    pub paths: Vec<&'a str>,
 }
 
 /// The word, with its options.
 pub(crate) fn compare_command<'a>(alloc: Global) -> Result<Command<'a>, AllocError> {
-    let reference = Arg::new(alloc, "reference")
-        .value_name("REFERENCE")
-        .help("The file or the folder of the reference language")
-        .action(ArgAction::Set)
-        .required(true);
-    let others = Arg::new(alloc, "others")
-        .value_name("OTHER")
-        .help("Files, or folders whose files are matched by their paths below")
+    let paths = Arg::new(alloc, "paths")
+        .value_name("PATH")
+        .help(
+            "The reference, if no ftl.toml names it, and files or folders to compare with it; files in folders are \
+            matched by their paths below",
+        )
         .action(ArgAction::Append)
         .num_args(1..)
         .required(true);
@@ -41,13 +37,13 @@ pub(crate) fn compare_command<'a>(alloc: Global) -> Result<Command<'a>, AllocErr
         .after_help(
             "Examples:
   ftl compare en de fr            each .ftl file below en with those of de and of fr
-  ftl compare en/menu.ftl de/menu.ftl",
+  ftl compare en/menu.ftl de/menu.ftl
+  ftl compare de fr               where the file ftl.toml here has the line: reference = \"en\"",
         )
         .arg(form(alloc))?
         .arg(color(alloc))?
         .arg(nesting(alloc))?
-        .arg(reference)?
-        .arg(others)
+        .arg(paths)
 }
 
 /// What the options ask for.
@@ -56,15 +52,14 @@ pub(crate) fn compare_of<'a>(
     reading: Reading,
     options: &ArgMatches<'a>,
 ) -> Result<Compare<'a>, AllocError> {
-    let others = match options.get_strs("others") {
-        Some(others) => Vec::from_slice(alloc, others)?,
+    let paths = match options.get_strs("paths") {
+        Some(paths) => Vec::from_slice(alloc, paths)?,
         None => Vec::new(alloc),
     };
     Ok(Compare {
         reading,
         form: form_of(options),
         color: color_of(options),
-        reference: options.get_str("reference").unwrap_or(""),
-        others,
+        paths,
     })
 }

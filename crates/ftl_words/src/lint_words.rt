@@ -6,6 +6,7 @@ use crate::requested::color_of;
 use clap::{Arg, ArgAction, ArgMatches, Command, value_parser};
 use fluent_syntax_names::Kind;
 use ftl_project::{Form, Reading};
+use ftl_settings::kind_named;
 use std::alloc::{AllocError, Global};
 
 /// Files to search for mistakes between names.
@@ -102,7 +103,9 @@ pub(crate) fn lint_of<'a>(
     };
     let mut ignored = Vec::new(alloc);
     for name in options.get_strs("ignore").unwrap_or(&[]) {
-        ignored.push(kind_of(*name))?;
+        if let Some(kind) = kind_named(*name) {
+            ignored.push(kind)?;
+        }
     }
     Ok(Lint {
         reading,
@@ -111,18 +114,6 @@ pub(crate) fn lint_of<'a>(
         ignored,
         paths,
     })
-}
-
-fn kind_of(name: &str) -> Kind {
-    match name {
-        "defined-twice" => Kind::DefinedTwice,
-        "attribute-twice" => Kind::AttributeTwice,
-        "undefined-message" => Kind::UndefinedMessage,
-        "undefined-term" => Kind::UndefinedTerm,
-        "undefined-attribute" => Kind::UndefinedAttribute,
-        "undefined-value" => Kind::UndefinedValue,
-        _ => Kind::CyclicReference,
-    }
 }
 
 /// The form that the options name.

@@ -1,11 +1,11 @@
 //! Entries and resources.
-ghost use Rattle.std.specs.Prelude.{◌≡◌, [], ◌∷◌, OnOk, OnErr, codes, map, option_map, false};
+ghost use Rattle.std.specs.Prelude.{◌≡◌, OnOk, OnErr, map, option_map, false};
 ghost use Rattle.serde_json.specs.View.{items_of};
 ghost use Rattle.serde_json.specs.Written.{compact_text, items_text};
 ghost use Rattle.fluent_syntax_tree.specs.View.{comment_view, pattern_view, attribute_view, message_view, term_view};
 ghost use Rattle.fluent_syntax_tree.specs.View.{entry_view, resource_view};
 ghost use Rattle.fluent_syntax_writer.specs.Sink.{Takes, TakesBeginning};
-ghost use Rattle.fluent_syntax_json.specs.Form.{or_null, list_form, comment_form, pattern_form, attribute_form};
+ghost use Rattle.fluent_syntax_json.specs.Form.{or_null, comment_form, pattern_form, attribute_form};
 ghost use Rattle.fluent_syntax_json.specs.Form.{message_form, term_form, entry_form, body_form};
 ghost use Rattle.fluent_syntax_json.specs.Writing.{WritesData, entries_text, next_text};
 ghost use Rattle.fluent_syntax_writer.specs.Writing.{Appends};

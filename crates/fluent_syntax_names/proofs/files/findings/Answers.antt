@@ -13,7 +13,7 @@ returns-clause-findings c =
     let A = set_by (place_of c.note_files.new.table.table) c.in_ok-circles.circles in
     let B = set_of files in
     let defines = c.in_ok-note_files.ensures in
-    let same = found_from_same A B defines 0 files (same_on A B defines (links files) c.in_ok-circles.ensures) [] in
+    let same = found_from_same A B defines 0 files (same_on A B (links files) c.in_ok-circles.ensures) [] in
     rw (← same) c.found_in_files.ensures
 
 pub returns-clause-reached : goal.returns-clause-reached

@@ -2,9 +2,9 @@ use Rattle.std.proofs.Common.{Ok, arith, subst}
 use Rattle.fluent_syntax_grammar.specs.Grammar.{within}
 use Rattle.fluent_syntax_grammar.proofs.TotalEntries.{too_deep_left}
 use Rattle.fluent_syntax_parser.specs.Extents.{FindsEntry}
-use Rattle.fluent_syntax_parser.proofs.ExtentForms.{has_extents, none_is_read}
-use Rattle.fluent_syntax_parser.proofs.ExtentRanges.{extents_in_text}
-use Rattle.fluent_syntax_parser.proofs.Fails.{shown, too_deep_there}
+use Rattle.fluent_syntax_parser.proofs.entry_forms.ExtentForms.{has_extents, none_is_read}
+use Rattle.fluent_syntax_parser.proofs.entry_forms.ExtentRanges.{extents_in_text}
+use Rattle.fluent_syntax_parser.proofs.readers.Fails.{shown, too_deep_there}
 use Rattle.fluent_syntax_parser.proofs.extents.entry_extents.Goals as goal
 
 pub returns-in-Ok-clause-extents : goal.returns-in-Ok-clause-extents

@@ -2,8 +2,8 @@ use Rattle.std.proofs.lemmas.Result.{IfOk-weaker}
 use Rattle.fluent_syntax_tree.specs.Entry.{body_map}
 use Rattle.fluent_syntax_parser.specs.Answers.{AnswersIn, AnswersSpansIn}
 use Rattle.fluent_syntax_parser.specs.Parts.{HasParts}
-use Rattle.fluent_syntax_parser.proofs.AnswerOf.{spans_answered}
-use Rattle.fluent_syntax_parser.proofs.PartsOfTiling.{parts_answered}
+use Rattle.fluent_syntax_parser.proofs.tilings.AnswerOf.{spans_answered}
+use Rattle.fluent_syntax_parser.proofs.tilings.PartsOfTiling.{parts_answered}
 use Rattle.fluent_syntax_parser.proofs.spans.parse_by.Goals as goal
 
 pub returns-clause-tiling : goal.returns-clause-tiling

@@ -1,8 +1,8 @@
 use Rattle.std.proofs.Common.{arith}
 use Rattle.fluent_syntax_tree.specs.Entry.{body_map}
-use Rattle.fluent_syntax_parser.proofs.AnswerOf.{answers_of}
-use Rattle.fluent_syntax_parser.proofs.ErrorPlaces.{errors_answered_in_text}
-use Rattle.fluent_syntax_parser.proofs.PartsOfEntries.{some_rest}
+use Rattle.fluent_syntax_parser.proofs.tilings.AnswerOf.{answers_of}
+use Rattle.fluent_syntax_parser.proofs.tilings.ErrorPlaces.{errors_answered_in_text}
+use Rattle.fluent_syntax_parser.proofs.tilings.PartsOfEntries.{some_rest}
 use Rattle.fluent_syntax_parser.proofs.spans.parse_texts.Goals as goal
 
 pub returns-in-Err-Memory-clause-tiling : goal.returns-in-Err-Memory-clause-tiling

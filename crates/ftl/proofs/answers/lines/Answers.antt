@@ -1,6 +1,9 @@
 use Rattle.std.proofs.Common.{ap, ◌∙◌}
 use Rattle.std.proofs.lemmas.Result.{err_from_is_err_and}
-use Rattle.ftl.proofs.Checked.{all_checked, checked_on, if_some, next_in_text, nothing_checked}
+use Rattle.fluent_syntax_parser.specs.Rest.{faults_of}
+use Rattle.fluent_syntax_parser.specs.declared.options.Comments.TheVariants.{Kept}
+use Rattle.fluent_syntax_parser.proofs.tilings.Rests.{entry_to}
+use Rattle.ftl.proofs.Checked.{all_checked, checked_on, nothing_checked}
 use Rattle.ftl.proofs.answers.lines.Goals as goal
 
 pub loop-out-init : goal.loop-out-init
@@ -16,13 +19,8 @@ loop-out-init c = record {
 
 pub write_if_error-requires : goal.write_if_error-requires
 write_if_error-requires c =
-    let t = c.args.text.now in
     let inv = c.loop-out.invariant in
-    let here = c.in_ok-error.ensures in
-    let next = rw (inv.text, inv.edition, inv.comments, c.in-Some.is) at here.next in
-    let inside = rw (here.text, inv.text) at c.next_error.new.self.within in
-    let error = c.in-Some.error in
-    rw inv.places (if_some error (next_in_text c.args.edition t _ _ inv.checked _ next.0 error next.1 inside))
+    rw inv.places (rw (inv.text, c.in-Some.is) at c.in_ok-error.ensures.places)
 
 pub loop-out-preserved : goal.loop-out-preserved
 loop-out-preserved c =
@@ -30,6 +28,8 @@ loop-out-preserved c =
     let inv = c.loop-out.invariant in
     let here = c.in_ok-error.ensures in
     let next = rw (inv.text, inv.edition, inv.comments, c.in-Some.is) at here.next in
+    let error = c.in-Some.error in
+    let there = entry_to Kept c.args.edition t _ _ _ next.0 (faults_of error) next.1 in
     let line = rw inv.places at c.in_ok-write_if_error.ensures.line in
     record {
       text = ap (λ source. source.bytes.now) here.text ∙ inv.text;
@@ -37,7 +37,7 @@ loop-out-preserved c =
       comments = ap (λ options. options.comments) here.options ∙ inv.comments;
       nesting = ap (λ options. options.nesting) here.options ∙ inv.nesting;
       places = c.in_ok-write_if_error.ensures.source ∙ inv.places;
-      checked = checked_on c.args.edition t _ _ inv.checked _ next.0 c.in-Some.error next.1 _ line;
+      checked = checked_on c.args.edition t _ _ inv.checked _ next.0 error there _ line;
       deeper =
           let shallow = rw (inv.text, inv.edition, inv.comments, inv.nesting, c.in-Some.is) at here.shallow in
           (λ d. inv.deeper.0 (shallow.1 d), λ d. shallow.0 (inv.deeper.1 d));

@@ -6,10 +6,10 @@ pub returns-clause-text : goal.returns-clause-text
 returns-clause-text c =
     let read = c.in_ok-outcome.ensures.written in
     let has = came_normal read.2 c.new-writer.ensures in
-    (read.0, read.1, c.in_ok-written.ensures _ _ has, read.3)
+    (read.0, read.1, c.in_ok-text.ensures _ _ has, read.3)
 
 pub returns-clause-canonical : goal.returns-clause-canonical
 returns-clause-canonical c = λ all.
     let read = c.in_ok-outcome.ensures.written in
     let has = came_normal read.2 c.new-writer.ensures in
-    (read.0, read.1, has.canonical (sym c.all_canonical.ensures ∙ all))
+    (read.0, read.1, has.canonical (sym c.all_canonical-is_canonical.ensures ∙ all))

@@ -1,4 +1,6 @@
 use Rattle.std.proofs.Common.{◌∙◌, [], ap}
+use Rattle.fluent_syntax_parser.specs.Rest.{faults_of}
+use Rattle.fluent_syntax_parser.proofs.tilings.Rests.{entry_to}
 use Rattle.ftl.specs.OneByOne.{none_came, one_more}
 use Rattle.ftl.proofs.ReadTo.{all_read, nothing_read, read_on}
 use Rattle.ftl.proofs.one_by_one.write_one_by_one.Goals as goal
@@ -25,7 +27,8 @@ loop-read-preserved g c =
     let here = c.in_ok-read.ensures in
     let next = rw (inv.text, inv.options, c.in-Some.is, c.new-slices.ensures) at here.next in
     let error = c.in-Some.read.1 in
-    let longer = read_on options.comments options.edition t _ _ _ inv.so_far.2 _ next.0 error next.1 in
+    let there = entry_to options.comments options.edition t _ _ _ next.0 (faults_of error) next.1 in
+    let longer = read_on options.comments options.edition t _ _ _ inv.so_far.2 _ next.0 error there in
     record {
       text = ap (λ source. source.bytes.now) here.text ∙ inv.text;
       options = here.options ∙ inv.options;

@@ -1,20 +1,42 @@
-use Rattle.std.proofs.Common.{refl}
+use Rattle.std.proofs.Common.{arith, refl, subst}
+use Rattle.ftl_project.specs.Formatting.{Formats}
+use Rattle.ftl_project.proofs.FormattingEach.{FormatsSo-all, FormatsSo-more}
+use Rattle.ftl_project.proofs.Normal.{AllNormal-each}
 use Rattle.ftl_project.proofs.Reaching.{AllReach-stand, AllReach-trans}
 use Rattle.ftl_project.proofs.formatting.write_files.Goals as goal
 
 pub loop-file-init : goal.loop-file-init
 loop-file-init g c =
-    let at = g.S.Store.bytes_at in
-    AllReach-stand c.args.reading.edition (at c.args.store.now) (at c.args.store.now) (λ path. refl)
+    let at = g.S.Store.bytes_at c.args.store.now in
+    record {
+      reaches = AllReach-stand c.args.reading.edition at at (λ path. refl);
+      each = λ new after rest. rest;
+    }
 
-pub returns-in_err-write_file : goal.returns-in_err-write_file
-returns-in_err-write_file g c =
+pub returns-in_err-write_file-clause-reaches : goal.returns-in_err-write_file-clause-reaches
+returns-in_err-write_file-clause-reaches g c =
     let at = g.S.Store.bytes_at in
     AllReach-trans c.args.reading.edition (at c.args.store.now) (at c.loop-file.store) (at c.write_file.new.store)
-    c.loop-file.invariant c.write_file.ensures
+    c.loop-file.invariant.reaches c.write_file.ensures.reaches
 
 pub loop-file-preserved : goal.loop-file-preserved
 loop-file-preserved g c =
     let at = g.S.Store.bytes_at in
-    AllReach-trans c.args.reading.edition (at c.args.store.now) (at c.loop-file.store) (at c.write_file.new.store)
-    c.loop-file.invariant c.write_file.ensures
+    let formats = subst (λ path. Formats c.args.reading path (at c.loop-file.store) (at c.write_file.new.store)
+    c.loop-file.tally c.write_file.new.tally) c.as_str.ensures.value c.in_ok-write_file.ensures.counted in
+    record {
+      reaches = AllReach-trans c.args.reading.edition (at c.args.store.now) (at c.loop-file.store)
+          (at c.write_file.new.store) c.loop-file.invariant.reaches c.write_file.ensures.reaches;
+      each = FormatsSo-more c.args.reading c.args.files.now c.loop-file.file-index c.file-item.result
+          (at c.args.store.now) (at c.loop-file.store) (at c.write_file.new.store) c.args.tally.now c.loop-file.tally
+          c.write_file.new.tally (omega arith) c.file-item.is c.loop-file.invariant.each formats;
+    }
+
+pub returns-clause-normal : goal.returns-clause-normal
+returns-clause-normal g c =
+    let at = g.S.Store.bytes_at in
+    let start = at c.args.store.now in
+    let each = FormatsSo-all c.args.reading c.args.files.now c.loop-file.file-index start (at c.loop-file.store)
+    c.args.tally.now c.loop-file.tally (omega arith) c.loop-file.invariant.each in
+    AllNormal-each c.args.reading c.args.files.now start start (at c.loop-file.store) c.args.tally.now c.loop-file.tally
+    (AllReach-stand c.args.reading.edition start start (λ path. refl)) each

@@ -1,5 +1,11 @@
 use Rattle.ftl_project.specs.Rewriting.{AllReach}
+use Rattle.ftl_project.proofs.FormattingEach.{FormatsSo}
 use Rattle.ftl_project.proofs.formatting.write_files.Given as goal
 
 abbrev pub invariant-loop-file : goal.invariant-loop-file
-invariant-loop-file g l = AllReach l.reading.edition (g.S.Store.bytes_at l.fn.store) (g.S.Store.bytes_at l.store)
+invariant-loop-file g l =
+    let at = g.S.Store.bytes_at in
+    record {
+      reaches : AllReach l.reading.edition (at l.fn.store) (at l.store);
+      each : FormatsSo l.reading l.files l.file-index (at l.fn.store) (at l.store) l.fn.tally l.tally;
+    }

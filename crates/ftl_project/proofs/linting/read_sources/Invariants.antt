@@ -1,5 +1,12 @@
+use Rattle.std.proofs.Common.{vec_len}
 use Rattle.ftl_files.specs.Store.{AllStand}
+use Rattle.ftl_project.specs.Linting.{HasRead}
 use Rattle.ftl_project.proofs.linting.read_sources.Given as goal
 
 abbrev pub invariant-loop-file : goal.invariant-loop-file
-invariant-loop-file g l = AllStand (g.S.Store.bytes_at l.fn.store) (g.S.Store.bytes_at l.store)
+invariant-loop-file g l =
+    let at = g.S.Store.bytes_at in
+    record {
+      stand : AllStand (at l.fn.store) (at l.store);
+      read : HasRead l.file-index (vec_len l.sources) l.fn.tally l.tally;
+    }

@@ -1,7 +1,8 @@
-use Rattle.fluent_syntax_parser.proofs.MadeEntries.{answer_of_spans}
+use Rattle.fluent_syntax_parser.proofs.entry_forms.MadeEntries.{answer_of_spans}
 use Rattle.fluent_syntax_parser.proofs.entries.Entries.next_entry.Goals as goal
 
 pub returns-clause-next : goal.returns-clause-next
 returns-clause-next c =
     let options = c.args.self.now.options in
-    answer_of_spans options.comments options.edition c.args.self.now.source.bytes.now _ _ _ c.next_entry_with.ensures.next
+    let t = c.args.self.now.source.bytes.now in
+    answer_of_spans options.comments options.edition t _ _ _ _ c.next_entry_with.ensures.next

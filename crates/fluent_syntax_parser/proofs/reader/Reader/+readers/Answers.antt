@@ -14,9 +14,9 @@ use Rattle.fluent_syntax_grammar.proofs.Facts.{has_inside, right_true}
 use Rattle.fluent_syntax_grammar.proofs.Tests.{both}
 use Rattle.fluent_syntax_grammar.proofs.LineEnds.{after_none}
 use Rattle.fluent_syntax_parser.specs.Gathered.{names_in}
-use Rattle.fluent_syntax_parser.proofs.LineEndings.{by_eol, ends_line, ends_text}
-use Rattle.fluent_syntax_parser.proofs.Names.{none_named, some_named, some_names, used_in_order}
-use Rattle.fluent_syntax_parser.proofs.Stars.{one_false}
+use Rattle.fluent_syntax_parser.proofs.patterns.LineEndings.{by_eol, ends_line, ends_text}
+use Rattle.fluent_syntax_parser.proofs.scanning.Names.{none_named, some_named, some_names, used_in_order}
+use Rattle.fluent_syntax_parser.proofs.expressions.Stars.{one_false}
 use Rattle.fluent_syntax_grammar.specs.Arguments.{argument_name}
 use Rattle.fluent_syntax_grammar.specs.Bytes.{asterisk, colon, greater_than, hyphen, left_brace, left_bracket}
 use Rattle.fluent_syntax_grammar.specs.Bytes.{left_parenthesis, right_bracket}
@@ -39,20 +39,28 @@ use Rattle.fluent_syntax_parser.specs.Layouts.{placed}
 use Rattle.fluent_syntax_parser.specs.Lines.{line_view, piece_view}
 use Rattle.fluent_syntax_parser.specs.Made.{made}
 use Rattle.fluent_syntax_parser.specs.Meets.{no_memory, refused, too_deep}
-use Rattle.fluent_syntax_parser.proofs.ArgumentLists.{all_arguments, argument_with, inline_fails, late, list_closed}
-use Rattle.fluent_syntax_parser.proofs.ArgumentLists.{list_open, named, no_arguments_yet}
-use Rattle.fluent_syntax_parser.proofs.ArgumentLists.{named_fails, one_named, one_positional, positional, token_there}
-use Rattle.fluent_syntax_parser.proofs.Behind.{all_made, item_fails, item_made, no_items}
-use Rattle.fluent_syntax_parser.proofs.Fails.{braces, fails_braces, fails_first, fails_list, fails_next, fails_no}
-use Rattle.fluent_syntax_parser.proofs.Fails.{fails_seen, fails_yes, functional_arrow_end, functional_here}
-use Rattle.fluent_syntax_parser.proofs.Fails.{functional_look, functional_reaches, functional_star, functional_steps}
-use Rattle.fluent_syntax_parser.proofs.Fails.{list, no_call, no_placeable, out_of_memory}
-use Rattle.fluent_syntax_parser.proofs.GatheredVariants.{all_variants, no_variant, variant_made, variant_with}
-use Rattle.fluent_syntax_parser.proofs.InlineStarts.{by_number, by_start, by_value, no_value, referred, value_fails}
-use Rattle.fluent_syntax_parser.proofs.Made.{no_value_read, on_made, on_value, same_selector_fault, same_term_attribute}
-use Rattle.fluent_syntax_parser.proofs.Pieces.{bare_brace, end_pieces, line_read, no_lines, no_pieces, own_line_fails}
-use Rattle.fluent_syntax_parser.proofs.Pieces.{further, placed_fails, placed_piece, run_piece, run_there}
-use Rattle.fluent_syntax_parser.proofs.Selects.{is_selector, no_selector, selector_fails}
+use Rattle.fluent_syntax_parser.proofs.expressions.ArgumentLists.{all_arguments, argument_with, inline_fails, late}
+use Rattle.fluent_syntax_parser.proofs.expressions.ArgumentLists.{list_closed}
+use Rattle.fluent_syntax_parser.proofs.expressions.ArgumentLists.{list_open, named, no_arguments_yet}
+use Rattle.fluent_syntax_parser.proofs.expressions.ArgumentLists.{named_fails, one_named, one_positional, positional}
+use Rattle.fluent_syntax_parser.proofs.expressions.ArgumentLists.{token_there}
+use Rattle.fluent_syntax_parser.proofs.readers.Behind.{all_made, item_fails, item_made, no_items}
+use Rattle.fluent_syntax_parser.proofs.readers.Fails.{braces, fails_braces, fails_first, fails_list, fails_next}
+use Rattle.fluent_syntax_parser.proofs.readers.Fails.{fails_no}
+use Rattle.fluent_syntax_parser.proofs.readers.Fails.{fails_seen, fails_yes, functional_arrow_end, functional_here}
+use Rattle.fluent_syntax_parser.proofs.readers.Fails.{functional_look, functional_reaches, functional_star}
+use Rattle.fluent_syntax_parser.proofs.readers.Fails.{functional_steps}
+use Rattle.fluent_syntax_parser.proofs.readers.Fails.{list, no_call, no_placeable, out_of_memory}
+use Rattle.fluent_syntax_parser.proofs.expressions.GatheredVariants.{all_variants, no_variant, variant_made}
+use Rattle.fluent_syntax_parser.proofs.expressions.GatheredVariants.{variant_with}
+use Rattle.fluent_syntax_parser.proofs.expressions.InlineStarts.{by_number, by_start, by_value, no_value, referred}
+use Rattle.fluent_syntax_parser.proofs.expressions.InlineStarts.{value_fails}
+use Rattle.fluent_syntax_parser.proofs.readers.Made.{no_value_read, on_made, on_value, same_selector_fault}
+use Rattle.fluent_syntax_parser.proofs.readers.Made.{same_term_attribute}
+use Rattle.fluent_syntax_parser.proofs.patterns.Pieces.{bare_brace, end_pieces, line_read, no_lines, no_pieces}
+use Rattle.fluent_syntax_parser.proofs.patterns.Pieces.{own_line_fails}
+use Rattle.fluent_syntax_parser.proofs.patterns.Pieces.{further, placed_fails, placed_piece, run_piece, run_there}
+use Rattle.fluent_syntax_parser.proofs.expressions.Selects.{is_selector, no_selector, selector_fails}
 use Rattle.fluent_syntax_parser.proofs.reader.Reader.+readers.Goals as goal
 use Rattle.fluent_syntax_parser.proofs.reader.Reader.+readers.Goals.{
   get_arguments-in_default-via-in-Some+else-is_byte_at,

@@ -6,9 +6,9 @@ use Rattle.fluent_syntax_parser.specs.Layouts.{line_of, piece_of}
 use Rattle.fluent_syntax_parser.specs.Lines.{line_view, piece_view}
 use Rattle.fluent_syntax_parser.specs.Gathered.{names_in, names_in_order}
 use Rattle.fluent_syntax_parser.specs.Noted.{Notes}
-use Rattle.fluent_syntax_parser.proofs.ArgumentLists.{MadeArguments}
-use Rattle.fluent_syntax_parser.proofs.Behind.{MadeItems}
-use Rattle.fluent_syntax_parser.proofs.GatheredVariants.{MadeVariants}
+use Rattle.fluent_syntax_parser.proofs.expressions.ArgumentLists.{MadeArguments}
+use Rattle.fluent_syntax_parser.proofs.readers.Behind.{MadeItems}
+use Rattle.fluent_syntax_parser.proofs.expressions.GatheredVariants.{MadeVariants}
 use Rattle.fluent_syntax_parser.proofs.reader.Reader.+readers.Given as goal
 
 -- how much deeper it may nest, times the number of ranks, and the reader's rank

@@ -5,7 +5,7 @@ use Rattle.fluent_syntax_grammar.specs.Entries.{attribute_of}
 use Rattle.fluent_syntax_grammar.specs.Grammar.{within}
 use Rattle.fluent_syntax_parser.specs.Made.{made}
 use Rattle.fluent_syntax_parser.specs.Meets.{no_memory}
-use Rattle.fluent_syntax_parser.proofs.Fails.{out_of_memory}
+use Rattle.fluent_syntax_parser.proofs.readers.Fails.{out_of_memory}
 use Rattle.fluent_syntax_parser.proofs.reader.Reader.add_attribute.Goals as goal
 
 pub returns-in_err-extents-clause-adds : goal.returns-in_err-extents-clause-adds

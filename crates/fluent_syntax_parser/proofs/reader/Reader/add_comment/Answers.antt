@@ -2,8 +2,8 @@ use Rattle.std.proofs.Common.{refl, sym, arith}
 use Rattle.std.proofs.lemmas.Result.{err_from_is_err_and}
 use Rattle.fluent_syntax_tree.specs.Entry.{group, regular, resource}
 use Rattle.fluent_syntax_grammar.specs.Comments.{comment_of}
-use Rattle.fluent_syntax_parser.proofs.CommentEntries.{comment_made, level_other}
-use Rattle.fluent_syntax_parser.proofs.Fails.{fails_seen, out_of_memory}
+use Rattle.fluent_syntax_parser.proofs.entry_forms.CommentEntries.{comment_made, level_other}
+use Rattle.fluent_syntax_parser.proofs.readers.Fails.{fails_seen, out_of_memory}
 use Rattle.fluent_syntax_parser.specs.Meets.{no_memory}
 use Rattle.fluent_syntax_parser.proofs.reader.Reader.add_comment.Goals as goal
 use Rattle.fluent_syntax_parser.proofs.reader.Reader.add_comment.Goals.{in-1, in-2, in_default}

@@ -4,15 +4,17 @@ use Rattle.std.proofs.lemmas.Result.{err_from_is_err_and}
 use Rattle.fluent_syntax_tree.specs.declared.spans.Span.{Span}
 use Rattle.fluent_syntax_grammar.specs.Construct.{stops, goes_on, at_place}
 use Rattle.fluent_syntax_grammar.specs.Entries.{message_with}
-use Rattle.fluent_syntax_parser.proofs.FieldForms.{fields_fail, fields_then, is_some_of, message_of_attributes}
-use Rattle.fluent_syntax_parser.proofs.FieldForms.{message_of_value, message_without, no_items, none_of, some_items}
+use Rattle.fluent_syntax_parser.proofs.entry_forms.FieldForms.{fields_fail, fields_then, is_some_of}
+use Rattle.fluent_syntax_parser.proofs.entry_forms.FieldForms.{message_of_attributes}
+use Rattle.fluent_syntax_parser.proofs.entry_forms.FieldForms.{message_of_value, message_without, no_items, none_of}
+use Rattle.fluent_syntax_parser.proofs.entry_forms.FieldForms.{some_items}
 use Rattle.fluent_syntax_parser.proofs.reader.Reader.add_message.Goals.{else-is_none-via-then-is_none+else-is_empty}
 use Rattle.fluent_syntax_parser.proofs.reader.Reader.add_message.Goals.{else-is_none-via-else-is_none}
 use Rattle.fluent_syntax_grammar.proofs.FunctionalWords.{functional_identifier}
 use Rattle.fluent_syntax_parser.specs.Meets.{no_memory, refused}
 use Rattle.fluent_syntax_parser.specs.Made.{made}
-use Rattle.fluent_syntax_parser.proofs.Made.{on_made}
-use Rattle.fluent_syntax_parser.proofs.Fails.{fails_next, functional_here, out_of_memory}
+use Rattle.fluent_syntax_parser.proofs.readers.Made.{on_made}
+use Rattle.fluent_syntax_parser.proofs.readers.Fails.{fails_next, functional_here, out_of_memory}
 use Rattle.fluent_syntax_parser.proofs.reader.Reader.add_message.Goals as goal
 
 pub returns-in_err-end-clause-adds : goal.returns-in_err-end-clause-adds

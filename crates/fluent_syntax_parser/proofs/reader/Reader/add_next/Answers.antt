@@ -1,12 +1,14 @@
-use Rattle.std.proofs.Common.{◌≡◌, ◌<◌, ◌∷◌, ◌++◌, ◌∙◌, [], true, false, length, refl, sym, ap, arith}
+use Rattle.std.proofs.Common.{◌<◌, ◌∷◌, ◌++◌, ◌∙◌, [], length, refl, sym, ap, arith}
 use Rattle.std.proofs.lemmas.Result.{err_from_is_err_and}
-use Rattle.fluent_syntax_tree.specs.View.{entry_view}
-use Rattle.fluent_syntax_parser.proofs.DeeperTiles.{behind_comment, behind_hung, behind_one, entry_deeper, hung_led}
-use Rattle.fluent_syntax_parser.proofs.DeeperTiles.{one_led, tile_at_end}
-use Rattle.fluent_syntax_parser.proofs.MadeEntries.{comment_seen, comment_tree, ends_with, other_tree}
-use Rattle.fluent_syntax_parser.specs.MadeEntries.{ends_with_comment, is_comment}
-use Rattle.fluent_syntax_parser.proofs.Rests.{in_mode, none_left, rest_comment, rest_tile}
+use Rattle.fluent_syntax_parser.proofs.tilings.DeeperTiles.{behind_comment, behind_hung, behind_one, entry_deeper}
+use Rattle.fluent_syntax_parser.proofs.tilings.DeeperTiles.{hung_led}
+use Rattle.fluent_syntax_parser.proofs.tilings.DeeperTiles.{one_led, tile_at_end}
+use Rattle.fluent_syntax_parser.proofs.entry_forms.MadeEntries.{comment_added, other_added}
+use Rattle.fluent_syntax_parser.specs.MadeEntries.{ends_with_comment}
+use Rattle.fluent_syntax_parser.proofs.tilings.Rests.{in_mode, none_left, rest_comment, rest_tile}
 use Rattle.fluent_syntax_parser.proofs.reader.Reader.add_next.Goals as goal
+
+-- ---- what is added
 
 pub returns-then-start-self-clause-next : goal.returns-then-start-self-clause-next
 returns-then-start-self-clause-next g c = (
@@ -21,25 +23,28 @@ returns-then-not-ends_with_comment-clause-next g c =
     let t = c.args.self.now.source.bytes.now in
     let edition = c.args.self.now.edition in
     let f = g.M.MakeTexts.source c.args.self.now.texts.now in
-    let v = g.M.MakeTexts.made in
     let start = c.tile_start-start in
     let read = c.in_ok-end.ensures in
     let put = read.adds in
     let tile = put.tile in
     let inside : start.result < length t = omega (arith, read.within.0, read.within.1) in
-    let other : is_comment put.entry ≡ false =
-    sym (ends_with c.args.body.now.items put.entry) ∙ ap ends_with_comment (sym put.added)
-    ∙ ap ends_with_comment (sym c.deref.ensures.value) ∙ sym c.ends_with_comment.ensures
-    ∙ c.if-not-ends_with_comment.true in
+    let last = ap ends_with_comment (sym c.deref.ensures.value) ∙ sym c.ends_with_comment.ensures in
+    let other =
+    other_added f g.M.MakeTexts.made _ _ put.entry tile.tree put.added tile.same
+    (last ∙ c.if-not-ends_with_comment.true) in
     record {
       entry = put.entry;
       error = put.error;
       added = put.added;
       tells = put.tells;
       tree = tile.tree;
-      stands = λ entries errors rest. start.ensures.rest edition _ _
-          (rest_tile edition t _ _ inside c.args.comments start.ensures.dropped tile.tree put.error c.args.nesting
-          tile.gives (other_tree f v put.entry tile.tree tile.same other) entries errors rest);
+      stands = record {
+        order = (start.ensures.within.0, read.within.0);
+        kept = start.ensures.dropped;
+        before = start.ensures.rest edition;
+        stands = rest_tile edition t _ _ inside c.args.comments start.ensures.dropped tile.tree put.error c.args.nesting
+            tile.gives other;
+      };
       same = tile.same;
     }
 
@@ -48,30 +53,31 @@ returns-clause-next g c =
     let t = c.args.self.now.source.bytes.now in
     let edition = c.args.self.now.edition in
     let f = g.M.MakeTexts.source c.args.self.now.texts.now in
-    let v = g.M.MakeTexts.made in
     let start = c.tile_start-start in
     let read = c.in_ok-end.ensures in
     let put = read.adds in
     let tile = put.tile in
     let inside : start.result < length t = omega (arith, read.within.0, read.within.1) in
-    let comments : is_comment put.entry ≡ true =
-    sym (ends_with c.args.body.now.items put.entry) ∙ ap ends_with_comment (sym put.added)
-    ∙ ap ends_with_comment (sym c.deref.ensures.value) ∙ sym c.ends_with_comment.ensures
-    ∙ c.if-not-ends_with_comment.false in
-    let seen = comment_seen put.entry comments in
-    let is = comment_tree f v tile.tree _ (sym (ap (entry_view v) seen.1) ∙ tile.same) in
-    let hung = c.in_ok-end-2.ensures.hangs c.args.body.now.items seen.0
-    (put.added ∙ ap (λ x. c.args.body.now.items ++ x ∷ []) seen.1) in
-    let made = hung.2 is.0 is.2 in
+    let last = ap ends_with_comment (sym c.deref.ensures.value) ∙ sym c.ends_with_comment.ensures in
+    let is =
+    comment_added f g.M.MakeTexts.made _ _ put.entry tile.tree put.added tile.same
+    (last ∙ c.if-not-ends_with_comment.false) in
+    let before = c.args.body.now.items in
+    let hung = c.in_ok-end-2.ensures.hangs before is.lines (put.added ∙ ap (λ x. before ++ x ∷ []) is.is) in
+    let made = hung.2 is.content is.same in
     record {
       entry = hung.0;
       error = put.error;
       added = hung.1;
       tells = put.tells;
       tree = made.0;
-      stands = λ entries errors rest. start.ensures.rest edition _ _
-          (rest_comment edition t _ _ _ inside tile.tree put.error tile.gives is.0 is.1 c.args.comments
-          start.ensures.dropped made.0 _ made.1 entries errors rest);
+      stands = record {
+        order = (start.ensures.within.0, omega (arith, read.within.0, c.in_ok-end-2.ensures.within.0));
+        kept = start.ensures.dropped;
+        before = start.ensures.rest edition;
+        stands = rest_comment edition t _ _ _ inside tile.tree put.error tile.gives is.content is.tree_is
+            c.args.comments start.ensures.dropped made.0 _ made.1;
+      };
       same = made.2;
     }
 
@@ -92,58 +98,19 @@ returns-in_err-end-2-clause-deeper g c =
     let t = c.args.self.now.source.bytes.now in
     let edition = c.args.self.now.edition in
     let f = g.M.MakeTexts.source c.args.self.now.texts.now in
-    let v = g.M.MakeTexts.made in
     let start = c.tile_start-start in
     let read = c.in_ok-end.ensures in
     let put = read.adds in
     let tile = put.tile in
     let inside : start.result < length t = omega (arith, read.within.0, read.within.1) in
-    let comments : is_comment put.entry ≡ true =
-    sym (ends_with c.args.body.now.items put.entry) ∙ ap ends_with_comment (sym put.added)
-    ∙ ap ends_with_comment (sym c.deref.ensures.value) ∙ sym c.ends_with_comment.ensures
-    ∙ c.if-not-ends_with_comment.false in
-    let seen = comment_seen put.entry comments in
-    let is = comment_tree f v tile.tree _ (sym (ap (entry_view v) seen.1) ∙ tile.same) in
+    let last = ap ends_with_comment (sym c.deref.ensures.value) ∙ sym c.ends_with_comment.ensures in
+    let is =
+    comment_added f g.M.MakeTexts.made _ _ put.entry tile.tree put.added tile.same
+    (last ∙ c.if-not-ends_with_comment.false) in
     let p = err_from_is_err_and c.from_residual-in_err-end-2.result c.from_residual-in_err-end-2.ensures.1 in
     rw (p.1, p.2) (λ e. start.ensures.deeper edition c.args.nesting
-    (behind_comment edition t c.args.nesting _ _ inside tile.tree put.error tile.gives is.0 is.1
+    (behind_comment edition t c.args.nesting _ _ inside tile.tree put.error tile.gives is.content is.tree_is
     c.args.comments start.ensures.dropped (c.in_err-end-2.ensures.deeper e)))
-
-pub returns-clause-behind : goal.returns-clause-behind
-returns-clause-behind g c =
-    let t = c.args.self.now.source.bytes.now in
-    let edition = c.args.self.now.edition in
-    let f = g.M.MakeTexts.source c.args.self.now.texts.now in
-    let v = g.M.MakeTexts.made in
-    let start = c.tile_start-start in
-    let read = c.in_ok-end.ensures in
-    let put = read.adds in
-    let tile = put.tile in
-    let inside : start.result < length t = omega (arith, read.within.0, read.within.1) in
-    let comments : is_comment put.entry ≡ true =
-    sym (ends_with c.args.body.now.items put.entry) ∙ ap ends_with_comment (sym put.added)
-    ∙ ap ends_with_comment (sym c.deref.ensures.value) ∙ sym c.ends_with_comment.ensures
-    ∙ c.if-not-ends_with_comment.false in
-    let seen = comment_seen put.entry comments in
-    let is = comment_tree f v tile.tree _ (sym (ap (entry_view v) seen.1) ∙ tile.same) in
-    λ h. start.ensures.deeper edition c.args.nesting
-    (behind_hung edition t c.args.nesting _ _ inside tile.tree put.error tile.gives is.0 is.1
-    c.args.comments start.ensures.dropped _ c.in_ok-end-2.ensures.behind h)
-
-pub returns-then-not-ends_with_comment-clause-behind : goal.returns-then-not-ends_with_comment-clause-behind
-returns-then-not-ends_with_comment-clause-behind g c =
-    let t = c.args.self.now.source.bytes.now in
-    let edition = c.args.self.now.edition in
-    let f = g.M.MakeTexts.source c.args.self.now.texts.now in
-    let v = g.M.MakeTexts.made in
-    let start = c.tile_start-start in
-    let read = c.in_ok-end.ensures in
-    let put = read.adds in
-    let tile = put.tile in
-    let inside : start.result < length t = omega (arith, read.within.0, read.within.1) in
-    λ h. start.ensures.deeper edition c.args.nesting
-    (behind_one edition t c.args.nesting c.args.comments _ _ inside _
-    (in_mode c.args.comments edition t _ _ _ _ start.ensures.dropped tile.gives.stands) h)
 
 pub returns-then-start-self-clause-shallow : goal.returns-then-start-self-clause-shallow
 returns-then-start-self-clause-shallow g c =
@@ -156,33 +123,32 @@ returns-clause-shallow g c =
     let t = c.args.self.now.source.bytes.now in
     let edition = c.args.self.now.edition in
     let f = g.M.MakeTexts.source c.args.self.now.texts.now in
-    let v = g.M.MakeTexts.made in
     let start = c.tile_start-start in
     let read = c.in_ok-end.ensures in
     let put = read.adds in
     let tile = put.tile in
     let inside : start.result < length t = omega (arith, read.within.0, read.within.1) in
-    let comments : is_comment put.entry ≡ true =
-    sym (ends_with c.args.body.now.items put.entry) ∙ ap ends_with_comment (sym put.added)
-    ∙ ap ends_with_comment (sym c.deref.ensures.value) ∙ sym c.ends_with_comment.ensures
-    ∙ c.if-not-ends_with_comment.false in
-    let seen = comment_seen put.entry comments in
-    let is = comment_tree f v tile.tree _ (sym (ap (entry_view v) seen.1) ∙ tile.same) in
-    λ h. hung_led edition t c.args.nesting _ _ inside tile.tree put.error tile.gives is.0 is.1
-    c.args.comments start.ensures.dropped _ c.in_ok-end-2.ensures.shallow
-    (start.ensures.shallow edition c.args.nesting h)
+    let last = ap ends_with_comment (sym c.deref.ensures.value) ∙ sym c.ends_with_comment.ensures in
+    let is =
+    comment_added f g.M.MakeTexts.made _ _ put.entry tile.tree put.added tile.same
+    (last ∙ c.if-not-ends_with_comment.false) in
+    let hung = c.in_ok-end-2.ensures in (
+      λ h. hung_led edition t c.args.nesting _ _ inside tile.tree put.error tile.gives is.content is.tree_is
+          c.args.comments start.ensures.dropped _ hung.shallow (start.ensures.shallow edition c.args.nesting h),
+      λ h. start.ensures.deeper edition c.args.nesting
+          (behind_hung edition t c.args.nesting _ _ inside tile.tree put.error tile.gives is.content is.tree_is
+          c.args.comments start.ensures.dropped _ hung.behind h),
+    )
 
 pub returns-then-not-ends_with_comment-clause-shallow : goal.returns-then-not-ends_with_comment-clause-shallow
 returns-then-not-ends_with_comment-clause-shallow g c =
     let t = c.args.self.now.source.bytes.now in
     let edition = c.args.self.now.edition in
-    let f = g.M.MakeTexts.source c.args.self.now.texts.now in
-    let v = g.M.MakeTexts.made in
+    let n = c.args.nesting in
     let start = c.tile_start-start in
     let read = c.in_ok-end.ensures in
-    let put = read.adds in
-    let tile = put.tile in
     let inside : start.result < length t = omega (arith, read.within.0, read.within.1) in
-    λ h. one_led edition t c.args.nesting c.args.comments _ _ inside _
-    (in_mode c.args.comments edition t _ _ _ _ start.ensures.dropped tile.gives.stands)
-    (start.ensures.shallow edition c.args.nesting h)
+    let tile = in_mode c.args.comments edition t _ _ _ _ start.ensures.dropped read.adds.tile.gives.stands in (
+      λ h. one_led edition t n c.args.comments _ _ inside _ tile (start.ensures.shallow edition n h),
+      λ h. start.ensures.deeper edition n (behind_one edition t n c.args.comments _ _ inside _ tile h),
+    )

@@ -6,13 +6,13 @@ use Rattle.fluent_syntax_tree.specs.Tree.{pattern_map}
 use Rattle.fluent_syntax_grammar.specs.Entries.{term_with}
 use Rattle.fluent_syntax_grammar.specs.Grammar.{within}
 use Rattle.fluent_syntax_parser.specs.Fields.{fields}
-use Rattle.fluent_syntax_parser.proofs.FieldForms.{fields_fail, fields_then, no_field, some_field}
+use Rattle.fluent_syntax_parser.proofs.entry_forms.FieldForms.{fields_fail, fields_then, no_field, some_field}
 use Rattle.fluent_syntax_grammar.specs.Bytes.{hyphen}
 use Rattle.fluent_syntax_grammar.proofs.FunctionalWords.{functional_identifier, functional_token}
 use Rattle.fluent_syntax_parser.specs.Meets.{no_memory, refused}
 use Rattle.fluent_syntax_parser.specs.Made.{made}
-use Rattle.fluent_syntax_parser.proofs.Made.{on_made}
-use Rattle.fluent_syntax_parser.proofs.Fails.{fails_next, functional_here, out_of_memory}
+use Rattle.fluent_syntax_parser.proofs.readers.Made.{on_made}
+use Rattle.fluent_syntax_parser.proofs.readers.Fails.{fails_next, functional_here, out_of_memory}
 use Rattle.fluent_syntax_parser.proofs.reader.Reader.add_term.Goals as goal
 
 pub returns-in_err-letter-clause-adds : goal.returns-in_err-letter-clause-adds

@@ -1,10 +1,10 @@
 use Rattle.std.proofs.Common.{◌∷◌, ◌++◌, [], None, Some, ap, arith, sym, ◌∙◌}
 use Rattle.std.proofs.lemmas.List.{append-nil}
 use Rattle.fluent_syntax_grammar.proofs.TotalEntries.{too_deep_left}
-use Rattle.fluent_syntax_parser.proofs.Fails.{refuses_there, too_deep_there}
-use Rattle.fluent_syntax_parser.proofs.Made.{on_made}
-use Rattle.fluent_syntax_parser.proofs.Rests.{at_any_depth}
-use Rattle.fluent_syntax_parser.proofs.TileForms.{gives_entry, gives_junk, refused_in_text, tile_within}
+use Rattle.fluent_syntax_parser.proofs.readers.Fails.{refuses_there, too_deep_there}
+use Rattle.fluent_syntax_parser.proofs.readers.Made.{on_made}
+use Rattle.fluent_syntax_parser.proofs.tilings.Rests.{at_any_depth}
+use Rattle.fluent_syntax_parser.proofs.tilings.TileForms.{gives_entry, gives_junk, refused_in_text, tile_within}
 use Rattle.fluent_syntax_parser.proofs.reader.Reader.add_tile.Goals as goal
 
 pub add_junk-requires : goal.add_junk-requires

@@ -5,8 +5,8 @@ use Rattle.fluent_syntax_grammar.specs.Grammar.{within}
 use Rattle.fluent_syntax_grammar.proofs.DeeperEntries.{deeper_attribute, deeper_attributes}
 use Rattle.fluent_syntax_grammar.proofs.Nesting.{functional_within}
 use Rattle.fluent_syntax_parser.specs.Meets.{no_memory, too_deep}
-use Rattle.fluent_syntax_parser.proofs.ExtentForms.{all_extents, no_extents, one_extent}
-use Rattle.fluent_syntax_parser.proofs.Fails.{out_of_memory, shown, too_deep_there}
+use Rattle.fluent_syntax_parser.proofs.entry_forms.ExtentForms.{all_extents, no_extents, one_extent}
+use Rattle.fluent_syntax_parser.proofs.readers.Fails.{out_of_memory, shown, too_deep_there}
 use Rattle.fluent_syntax_parser.proofs.reader.Reader.attribute_list_parts.Goals as goal
 
 pub loop-extents-preserved-in_ok-push-in-Ok : goal.loop-extents-preserved-in_ok-push-in-Ok

@@ -2,7 +2,7 @@ use Rattle.std.proofs.Common.{length, ◌-◌, ◌≤◌}
 use Rattle.fluent_syntax_grammar.specs.Entries.{attributes_of}
 use Rattle.fluent_syntax_grammar.specs.Grammar as grammar
 use Rattle.fluent_syntax_grammar.specs.Nesting.{TooDeep}
-use Rattle.fluent_syntax_parser.proofs.ExtentForms.{GathersExtents}
+use Rattle.fluent_syntax_parser.proofs.entry_forms.ExtentForms.{GathersExtents}
 use Rattle.fluent_syntax_parser.proofs.reader.Reader.attribute_list_parts.Given as goal
 
 abbrev pub invariant-loop-extents : goal.invariant-loop-extents

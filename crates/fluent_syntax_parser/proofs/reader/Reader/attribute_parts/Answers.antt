@@ -8,8 +8,8 @@ use Rattle.fluent_syntax_grammar.specs.Patterns.{pattern}
 use Rattle.fluent_syntax_grammar.proofs.FunctionalWords.{functional_identifier, functional_inline_blank}
 use Rattle.fluent_syntax_grammar.proofs.FunctionalWords.{functional_token}
 use Rattle.fluent_syntax_parser.specs.Meets.{refused}
-use Rattle.fluent_syntax_parser.proofs.Made.{no_value_read, on_made, on_value}
-use Rattle.fluent_syntax_parser.proofs.Fails.{fails_first, fails_next}
+use Rattle.fluent_syntax_parser.proofs.readers.Made.{no_value_read, on_made, on_value}
+use Rattle.fluent_syntax_parser.proofs.readers.Fails.{fails_first, fails_next}
 use Rattle.fluent_syntax_parser.proofs.reader.Reader.attribute_parts.Goals as goal
 
 pub returns-in_err-letter-clause-finds : goal.returns-in_err-letter-clause-finds

@@ -1,7 +1,7 @@
 use Rattle.std.proofs.Common.{sym}
 use Rattle.std.proofs.lemmas.Result.{err_from_is_err_and}
 use Rattle.fluent_syntax_grammar.specs.Grammar.{within}
-use Rattle.fluent_syntax_parser.proofs.EntryForms.{message_fails, message_there, term_fails, term_there}
+use Rattle.fluent_syntax_parser.proofs.entry_forms.EntryForms.{message_fails, message_there, term_fails, term_there}
 use Rattle.fluent_syntax_parser.proofs.reader.Reader.entry_parts.Goals as goal
 
 pub returns-in_err-extents : goal.returns-in_err-extents

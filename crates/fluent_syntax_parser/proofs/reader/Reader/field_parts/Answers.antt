@@ -10,9 +10,9 @@ use Rattle.fluent_syntax_grammar.proofs.FunctionalWords.{functional_blank_block,
 use Rattle.fluent_syntax_grammar.proofs.FunctionalWords.{functional_token}
 use Rattle.fluent_syntax_grammar.proofs.Nesting.{functional_within}
 use Rattle.fluent_syntax_parser.specs.Meets.{refused}
-use Rattle.fluent_syntax_parser.proofs.ExtentForms.{same_place}
-use Rattle.fluent_syntax_parser.proofs.Made.{on_made}
-use Rattle.fluent_syntax_parser.proofs.Fails.{fails_first, fails_next}
+use Rattle.fluent_syntax_parser.proofs.entry_forms.ExtentForms.{same_place}
+use Rattle.fluent_syntax_parser.proofs.readers.Made.{on_made}
+use Rattle.fluent_syntax_parser.proofs.readers.Fails.{fails_first, fails_next}
 use Rattle.fluent_syntax_parser.proofs.reader.Reader.field_parts.Goals as goal
 
 pub returns-in_err-start : goal.returns-in_err-start

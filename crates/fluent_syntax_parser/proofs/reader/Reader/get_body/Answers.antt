@@ -1,6 +1,7 @@
 use Rattle.std.proofs.Common.{rules}
 use Rattle.fluent_syntax_parser.specs.Rest.{faults_of}
-use Rattle.fluent_syntax_parser.proofs.MadeEntries.{all_read, none_read, read_on, told_faults}
+use Rattle.fluent_syntax_parser.proofs.entry_forms.MadeEntries.{all_read, none_read, read_on, told_faults}
+use Rattle.fluent_syntax_parser.proofs.tilings.Rests.{entry_to}
 use Rattle.fluent_syntax_parser.proofs.reader.Reader.get_body.Goals as goal
 
 pub loop-errors-init : goal.loop-errors-init
@@ -19,23 +20,24 @@ pub loop-errors-preserved : goal.loop-errors-preserved
 loop-errors-preserved g c =
     let old = c.loop-errors in
     let f = g.M.MakeTexts.source c.args.self.now.texts.now in
-    let next = rw c.in-Some.is at c.in_ok-end.ensures.next in
-    let behind = rw c.in-Some.is at c.in_ok-end.ensures.behind in
-    let shallow = rw c.in-Some.is at c.in_ok-end.ensures.shallow in
+    let next = rw c.in-Some.is at c.in_ok-span.ensures.next in
+    let stands =
+    entry_to c.args.comments c.args.self.now.edition c.args.self.now.source.bytes.now _ _ _ next.tree _ next.stands in
+    let nested = rw c.in-Some.is at c.in_ok-span.ensures.shallow in
     record {
       within = search rules;
       read = read_on f g.M.MakeTexts.made c.args.comments c.args.self.now.edition c.args.self.now.source.bytes.now _ _ _
-          old.invariant.read _ next.entry next.tree (faults_of next.error) next.stands next.same _ next.added _
+          old.invariant.read _ next.entry next.tree (faults_of next.error) stands next.same _ next.added _
           (told_faults _ _ next.error next.tells);
-      deeper = λ h. old.invariant.deeper (behind h);
-      shallow = λ h. shallow (old.invariant.shallow h);
+      deeper = λ h. old.invariant.deeper (nested.1 h);
+      shallow = λ h. nested.0 (old.invariant.shallow h);
       blank = search rules;
     }
 
 pub returns-in_default-clause-read : goal.returns-in_default-clause-read
 returns-in_default-clause-read g c =
     let f = g.M.MakeTexts.source c.args.self.now.texts.now in
-    let none = rw c.in_default.is at c.in_ok-end.ensures.next in
+    let none = rw c.in_default.is at c.in_ok-span.ensures.next in
     rw (none.1, none.2)
     (all_read f g.M.MakeTexts.made c.args.comments c.args.self.now.edition c.args.self.now.source.bytes.now _ _ _
     c.loop-errors.invariant.read none.0)

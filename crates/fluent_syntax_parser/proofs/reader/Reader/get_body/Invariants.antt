@@ -2,7 +2,7 @@ use Rattle.std.proofs.Common.{◌≡◌, ◌-◌, ◌≤◌, [], length}
 use Rattle.fluent_syntax_grammar.specs.Nesting.{TextDeeper}
 use Rattle.fluent_syntax_grammar.specs.Places.{BlankBlock}
 use Rattle.fluent_syntax_parser.specs.Rest.{TileIn}
-use Rattle.fluent_syntax_parser.proofs.MadeEntries.{MadeTo}
+use Rattle.fluent_syntax_parser.proofs.entry_forms.MadeEntries.{MadeTo}
 use Rattle.fluent_syntax_parser.proofs.reader.Reader.get_body.Given as goal
 
 -- Whatever the rest is, the text has it behind what was read. In a text that is one blank block nothing is read.

@@ -5,8 +5,8 @@ use Rattle.fluent_syntax_grammar.specs.Comments.{one_more, other_level, no_comme
 use Rattle.fluent_syntax_grammar.specs.Construct.{stops, goes_on, given}
 use Rattle.fluent_syntax_parser.specs.CommentLines.{line_of}
 use Rattle.fluent_syntax_parser.specs.Meets.{no_memory, refused}
-use Rattle.fluent_syntax_parser.proofs.CommentEntries.{all_lines}
-use Rattle.fluent_syntax_parser.proofs.Fails.{out_of_memory}
+use Rattle.fluent_syntax_parser.proofs.entry_forms.CommentEntries.{all_lines}
+use Rattle.fluent_syntax_parser.proofs.readers.Fails.{out_of_memory}
 use Rattle.fluent_syntax_parser.proofs.reader.Reader.get_comment_content.Goals as goal
 
 pub returns-in_err-first-clause-meets : goal.returns-in_err-first-clause-meets

@@ -1,5 +1,5 @@
 use Rattle.std.proofs.Common.{length, ◌-◌, ◌<◌, ◌≤◌}
-use Rattle.fluent_syntax_parser.proofs.CommentEntries.{MadeLines}
+use Rattle.fluent_syntax_parser.proofs.entry_forms.CommentEntries.{MadeLines}
 use Rattle.fluent_syntax_parser.proofs.reader.Reader.get_comment_content.Given as goal
 
 -- what the lines from here on add, the comment has behind what was added so far

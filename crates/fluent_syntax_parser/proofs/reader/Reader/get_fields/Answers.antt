@@ -8,8 +8,8 @@ use Rattle.fluent_syntax_grammar.proofs.FunctionalWords.{functional_token}
 use Rattle.fluent_syntax_grammar.proofs.Nesting.{functional_within}
 use Rattle.fluent_syntax_parser.specs.Meets.{refused}
 use Rattle.fluent_syntax_parser.specs.Made.{made}
-use Rattle.fluent_syntax_parser.proofs.Made.{on_made}
-use Rattle.fluent_syntax_parser.proofs.Fails.{fails_first, fails_next}
+use Rattle.fluent_syntax_parser.proofs.readers.Made.{on_made}
+use Rattle.fluent_syntax_parser.proofs.readers.Fails.{fails_first, fails_next}
 use Rattle.fluent_syntax_parser.proofs.reader.Reader.get_fields.Goals as goal
 
 pub returns-in_err-start-clause-meets : goal.returns-in_err-start-clause-meets

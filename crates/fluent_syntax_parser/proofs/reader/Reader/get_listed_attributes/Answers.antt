@@ -1,14 +1,14 @@
 use Rattle.std.proofs.Common.{arith}
 use Rattle.fluent_syntax_tree.specs.View.{attribute_view}
 use Rattle.fluent_syntax_grammar.specs.Entries.{no_more, one_more}
-use Rattle.fluent_syntax_parser.proofs.Gathers as gathers
+use Rattle.fluent_syntax_parser.proofs.readers.Gathers as gathers
 use Rattle.fluent_syntax_grammar.specs.Entries.{attributes_of}
 use Rattle.fluent_syntax_grammar.specs.Grammar.{within}
 use Rattle.fluent_syntax_grammar.proofs.DeeperEntries.{deeper_attribute, deeper_attributes}
 use Rattle.fluent_syntax_grammar.proofs.Nesting.{functional_within}
 use Rattle.fluent_syntax_parser.specs.Meets.{no_memory, too_deep}
-use Rattle.fluent_syntax_parser.proofs.Made.{on_made}
-use Rattle.fluent_syntax_parser.proofs.Fails.{shown, too_deep_there}
+use Rattle.fluent_syntax_parser.proofs.readers.Made.{on_made}
+use Rattle.fluent_syntax_parser.proofs.readers.Fails.{shown, too_deep_there}
 use Rattle.fluent_syntax_parser.proofs.reader.Reader.get_listed_attributes.Goals as goal
 
 pub loop-next-preserved : goal.loop-next-preserved

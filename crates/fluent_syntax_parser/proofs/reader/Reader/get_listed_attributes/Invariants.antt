@@ -4,7 +4,7 @@ use Rattle.fluent_syntax_grammar.specs.Nesting.{TooDeep}
 use Rattle.std.proofs.Common.{length, ◌-◌, ◌≤◌}
 use Rattle.fluent_syntax_tree.specs.Entry.{attribute_map}
 use Rattle.fluent_syntax_tree.specs.View.{attribute_view}
-use Rattle.fluent_syntax_parser.proofs.Gathers.{MadeList}
+use Rattle.fluent_syntax_parser.proofs.readers.Gathers.{MadeList}
 use Rattle.fluent_syntax_parser.proofs.reader.Reader.get_listed_attributes.Given as goal
 
 abbrev pub invariant-loop-next : goal.invariant-loop-next

@@ -8,8 +8,8 @@ use Rattle.fluent_syntax_parser.specs.Gathered.{maybe_view}
 use Rattle.fluent_syntax_parser.specs.Made.{made}
 use Rattle.fluent_syntax_parser.specs.Meets.{no_memory, refused}
 use Rattle.fluent_syntax_parser.specs.declared.fault.Fault.TheVariants as fault
-use Rattle.fluent_syntax_parser.proofs.Fails.{out_of_memory}
-use Rattle.fluent_syntax_parser.proofs.Given.{none_given, some_given}
+use Rattle.fluent_syntax_parser.proofs.readers.Fails.{out_of_memory}
+use Rattle.fluent_syntax_parser.proofs.expressions.Given.{none_given, some_given}
 use Rattle.fluent_syntax_parser.proofs.reader.Reader.get_named_reference.Goals as goal
 
 pub returns-then-not-is_callee-clause-meets : goal.returns-then-not-is_callee-clause-meets

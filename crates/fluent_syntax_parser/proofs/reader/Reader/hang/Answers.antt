@@ -2,14 +2,14 @@ use Rattle.std.proofs.Common.{◌<◌, ◌∷◌, ◌++◌, [], length, refl, sy
 use Rattle.fluent_syntax_tree.specs.Entry.{comment, regular}
 use Rattle.fluent_syntax_tree.specs.declared.ast.Entry.TheVariants as entries
 use Rattle.fluent_syntax_grammar.specs.Tiling.{reads}
-use Rattle.fluent_syntax_parser.proofs.EntryForms.{hash_hangs_not}
-use Rattle.fluent_syntax_parser.proofs.HangsOn.{behind_blank, hangs_not, hangs_on, no_entry, other_entry}
+use Rattle.fluent_syntax_parser.proofs.entry_forms.EntryForms.{hash_hangs_not}
+use Rattle.fluent_syntax_parser.proofs.entry_forms.HangsOn.{behind_blank, hangs_not, hangs_on, no_entry, other_entry}
 use Rattle.fluent_syntax_grammar.proofs.TotalEntries.{too_deep_left}
-use Rattle.fluent_syntax_parser.proofs.DeeperTiles.{behind_one, entry_deeper, one_led, text_deeper, tile_deeper}
-use Rattle.fluent_syntax_parser.proofs.Fails.{refuses_there, too_deep_there}
-use Rattle.fluent_syntax_parser.proofs.Made.{on_made}
-use Rattle.fluent_syntax_parser.proofs.MadeEntries.{hung_made, hung_not}
-use Rattle.fluent_syntax_parser.proofs.Rests.{at_any_depth_entry}
+use Rattle.fluent_syntax_parser.proofs.tilings.DeeperTiles.{behind_one, entry_deeper, one_led, text_deeper, tile_deeper}
+use Rattle.fluent_syntax_parser.proofs.readers.Fails.{refuses_there, too_deep_there}
+use Rattle.fluent_syntax_parser.proofs.readers.Made.{on_made}
+use Rattle.fluent_syntax_parser.proofs.entry_forms.MadeEntries.{hung_made, hung_not}
+use Rattle.fluent_syntax_parser.proofs.tilings.Rests.{at_any_depth_entry}
 use Rattle.fluent_syntax_parser.specs.declared.options.Comments.TheVariants.{Kept}
 use Rattle.fluent_syntax_parser.proofs.reader.Reader.hang.Goals as goal
 use Rattle.fluent_syntax_parser.proofs.reader.Reader.hang.Goals.{then-is_byte_at-via-then-is_byte_at}

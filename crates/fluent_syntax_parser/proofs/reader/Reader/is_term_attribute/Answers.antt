@@ -1,5 +1,5 @@
 use Rattle.std.proofs.Common.{sym, ◌∙◌}
-use Rattle.fluent_syntax_parser.proofs.InlineForms.{attribute_of_term, no_term}
+use Rattle.fluent_syntax_parser.proofs.expressions.InlineForms.{attribute_of_term, no_term}
 use Rattle.fluent_syntax_parser.proofs.reader.Reader.is_term_attribute.Goals as goal
 
 pub returns-in-TermReference : goal.returns-in-TermReference

@@ -8,10 +8,12 @@ use Rattle.fluent_syntax_grammar.specs.Grammar.{within}
 use Rattle.fluent_syntax_grammar.proofs.FunctionalWords.{functional_identifier}
 use Rattle.fluent_syntax_parser.specs.Extents.{message_stands}
 use Rattle.fluent_syntax_parser.specs.Meets.{refused}
-use Rattle.fluent_syntax_parser.proofs.ExtentForms.{fields_there, no_attribute_extents, no_attributes, same_value}
-use Rattle.fluent_syntax_parser.proofs.Fails.{fails_next, functional_here}
-use Rattle.fluent_syntax_parser.proofs.FieldForms.{fields_fail, fields_then, message_of_attributes, message_of_value}
-use Rattle.fluent_syntax_parser.proofs.FieldForms.{message_without, no_items, some_items}
+use Rattle.fluent_syntax_parser.proofs.entry_forms.ExtentForms.{fields_there, no_attribute_extents, no_attributes}
+use Rattle.fluent_syntax_parser.proofs.entry_forms.ExtentForms.{same_value}
+use Rattle.fluent_syntax_parser.proofs.readers.Fails.{fails_next, functional_here}
+use Rattle.fluent_syntax_parser.proofs.entry_forms.FieldForms.{fields_fail, fields_then, message_of_attributes}
+use Rattle.fluent_syntax_parser.proofs.entry_forms.FieldForms.{message_of_value}
+use Rattle.fluent_syntax_parser.proofs.entry_forms.FieldForms.{message_without, no_items, some_items}
 use Rattle.fluent_syntax_parser.proofs.reader.Reader.message_parts.Goals.{else-is_none-via-else-is_none}
 use Rattle.fluent_syntax_parser.proofs.reader.Reader.message_parts.Goals.{else-is_none-via-then-is_none+else-is_empty}
 use Rattle.fluent_syntax_parser.proofs.reader.Reader.message_parts.Goals as goal

@@ -4,8 +4,8 @@ use Rattle.fluent_syntax_grammar.specs.Layout.{least}
 use Rattle.fluent_syntax_parser.specs.Elements.{item_view, last_of, layout_view}
 use Rattle.fluent_syntax_parser.specs.Layouts.{counted}
 use Rattle.fluent_syntax_parser.specs.Lines.{line_view}
-use Rattle.fluent_syntax_parser.proofs.Shapes.{items_viewed}
-use Rattle.fluent_syntax_parser.proofs.Spelled.{none_spelled, some_spelled}
+use Rattle.fluent_syntax_parser.proofs.patterns.Shapes.{items_viewed}
+use Rattle.fluent_syntax_parser.proofs.patterns.Spelled.{none_spelled, some_spelled}
 use Rattle.fluent_syntax_parser.proofs.reader.Reader.pattern_of.Goals as goal
 
 pub returns-in-None : goal.returns-in-None

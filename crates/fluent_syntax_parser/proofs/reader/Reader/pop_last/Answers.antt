@@ -1,5 +1,5 @@
 use Rattle.std.proofs.Common.{sym}
-use Rattle.fluent_syntax_parser.proofs.Cut.{popped_stays, popped_falls}
+use Rattle.fluent_syntax_parser.proofs.patterns.Cut.{popped_stays, popped_falls}
 use Rattle.fluent_syntax_parser.proofs.reader.Reader.pop_last.Goals as goal
 
 pub returns-then-stays : goal.returns-then-stays

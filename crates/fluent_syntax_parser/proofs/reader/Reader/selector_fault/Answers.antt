@@ -1,6 +1,6 @@
 use Rattle.std.proofs.Common.{refl}
-use Rattle.fluent_syntax_parser.proofs.InlineForms.{fault_of_message, fault_of_attribute, fault_of_term}
-use Rattle.fluent_syntax_parser.proofs.InlineForms.{no_fault_of_term, fault_of_placeable, no_fault}
+use Rattle.fluent_syntax_parser.proofs.expressions.InlineForms.{fault_of_message, fault_of_attribute, fault_of_term}
+use Rattle.fluent_syntax_parser.proofs.expressions.InlineForms.{no_fault_of_term, fault_of_placeable, no_fault}
 use Rattle.fluent_syntax_parser.proofs.reader.Reader.selector_fault.Goals as goal
 
 pub returns-in-None : goal.returns-in-None

@@ -8,9 +8,9 @@ use Rattle.fluent_syntax_grammar.specs.Grammar.{within}
 use Rattle.fluent_syntax_grammar.proofs.FunctionalWords.{functional_identifier, functional_token}
 use Rattle.fluent_syntax_parser.specs.Extents.{term_stands}
 use Rattle.fluent_syntax_parser.specs.Meets.{refused}
-use Rattle.fluent_syntax_parser.proofs.ExtentForms.{fields_there, with_value, without_value}
-use Rattle.fluent_syntax_parser.proofs.Fails.{fails_next, functional_here}
-use Rattle.fluent_syntax_parser.proofs.FieldForms.{fields_fail, fields_then}
+use Rattle.fluent_syntax_parser.proofs.entry_forms.ExtentForms.{fields_there, with_value, without_value}
+use Rattle.fluent_syntax_parser.proofs.readers.Fails.{fails_next, functional_here}
+use Rattle.fluent_syntax_parser.proofs.entry_forms.FieldForms.{fields_fail, fields_then}
 use Rattle.fluent_syntax_parser.proofs.reader.Reader.term_parts.Goals as goal
 
 pub returns-in_err-letter : goal.returns-in_err-letter

@@ -1,4 +1,4 @@
-use Rattle.fluent_syntax_parser.proofs.BlankLines.{blank_lines}
+use Rattle.fluent_syntax_parser.proofs.patterns.BlankLines.{blank_lines}
 use Rattle.fluent_syntax_parser.proofs.source.Source.end_behind_blank_lines.Goals as goal
 
 pub returns-clause-lines : goal.returns-clause-lines

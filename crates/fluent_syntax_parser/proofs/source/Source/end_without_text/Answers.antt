@@ -1,5 +1,5 @@
 use Rattle.std.proofs.Common.{sym}
-use Rattle.fluent_syntax_parser.proofs.OneLine.{empty_read}
+use Rattle.fluent_syntax_parser.proofs.patterns.OneLine.{empty_read}
 use Rattle.fluent_syntax_parser.proofs.source.Source.end_without_text.Goals as goal
 
 pub returns-clause-opens : goal.returns-clause-opens

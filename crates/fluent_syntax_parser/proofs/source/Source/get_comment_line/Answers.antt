@@ -2,7 +2,7 @@ use Rattle.std.proofs.Common.{length, ◌+◌, ◌<◌, refl, arith}
 use Rattle.std.proofs.lemmas.Option.{slice_get-get_or, slice_get_past}
 use Rattle.std.proofs.lemmas.Result.{err_from_is_err_and}
 use Rattle.fluent_syntax_grammar.specs.Construct.{Read, Refused, stops, goes_on, given, at_place, passed, chosen}
-use Rattle.fluent_syntax_parser.proofs.LineEnds.{line_rest}
+use Rattle.fluent_syntax_parser.proofs.scanning.LineEnds.{line_rest}
 use Rattle.fluent_syntax_parser.proofs.source.Source.get_comment_line.Goals as goal
 
 pub returns-then-ptr-self-clause-meets : goal.returns-then-ptr-self-clause-meets

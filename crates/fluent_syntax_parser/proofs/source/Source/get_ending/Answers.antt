@@ -1,5 +1,5 @@
 use Rattle.std.proofs.Common.{sym}
-use Rattle.fluent_syntax_parser.proofs.LineEndings.{ends_line, ends_text}
+use Rattle.fluent_syntax_parser.proofs.patterns.LineEndings.{ends_line, ends_text}
 use Rattle.fluent_syntax_parser.proofs.source.Source.get_ending.Goals as goal
 
 pub returns-in-Some-clause-meets : goal.returns-in-Some-clause-meets

@@ -1,6 +1,6 @@
 use Rattle.std.proofs.Common.{sym, ◌∙◌}
 use Rattle.fluent_syntax_tree.specs.Spans.{bytes_at}
-use Rattle.fluent_syntax_parser.proofs.Names.{name_found, name_not_yet}
+use Rattle.fluent_syntax_parser.proofs.scanning.Names.{name_found, name_not_yet}
 use Rattle.fluent_syntax_parser.proofs.source.Source.has_name.Goals as goal
 
 pub returns-then-eq : goal.returns-then-eq

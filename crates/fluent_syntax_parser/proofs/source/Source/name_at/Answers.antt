@@ -1,5 +1,5 @@
 use Rattle.std.proofs.Common.{refl}
-use Rattle.fluent_syntax_parser.proofs.ArgumentNames.{name_found, none_found}
+use Rattle.fluent_syntax_parser.proofs.expressions.ArgumentNames.{name_found, none_found}
 use Rattle.fluent_syntax_parser.proofs.source.Source.name_at.Goals as goal
 
 pub returns-in-Ok : goal.returns-in-Ok

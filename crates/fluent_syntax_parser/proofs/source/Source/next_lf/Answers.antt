@@ -1,6 +1,6 @@
 use Rattle.fluent_syntax_grammar.specs.Bytes.{lf}
 use Rattle.memchr.specs.Find.{is_byte}
-use Rattle.fluent_syntax_parser.proofs.Scans.{scanned}
+use Rattle.fluent_syntax_parser.proofs.scanning.Scans.{scanned}
 use Rattle.fluent_syntax_parser.proofs.source.Source.next_lf.Goals as goal
 
 pub returns-clause-line : goal.returns-clause-line

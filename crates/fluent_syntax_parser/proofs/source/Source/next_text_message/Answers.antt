@@ -2,9 +2,9 @@ use Rattle.std.proofs.Common.{◌<◌, arith, length, refl, sym}
 use Rattle.fluent_syntax_tree.specs.Entry.{message}
 use Rattle.fluent_syntax_grammar.specs.Grammar.{within}
 use Rattle.fluent_syntax_grammar.specs.Tiling.{reads}
-use Rattle.fluent_syntax_parser.proofs.DeeperTiles.{behind_one, one_led}
-use Rattle.fluent_syntax_parser.proofs.EntryForms.{message_at_letter}
-use Rattle.fluent_syntax_parser.proofs.Rests.{at_any_depth_entry, in_mode, rest_entry}
+use Rattle.fluent_syntax_parser.proofs.tilings.DeeperTiles.{behind_one, one_led}
+use Rattle.fluent_syntax_parser.proofs.entry_forms.EntryForms.{message_at_letter}
+use Rattle.fluent_syntax_parser.proofs.tilings.Rests.{at_any_depth_entry, in_mode, rest_entry}
 use Rattle.fluent_syntax_parser.proofs.source.Source.next_text_message.Goals as goal
 
 pub returns-clause-next : goal.returns-clause-next
@@ -14,12 +14,16 @@ returns-clause-next c =
     let start = c.tile_start-start in
     let found = c.in_ok-end.ensures in
     let inside : start.result < length t = omega (arith, found.within.0, found.within.1) in
-    let flat = found.message 0 in
-    let read = message_at_letter t _ (sym c.if-not-is_letter_at.ensures) edition (within edition t 0) _ flat.1 in (
-      message flat.0,
-      λ entries errors rest. start.ensures.rest edition _ _
-          (rest_entry edition t _ _ inside c.args.comments start.ensures.dropped _ (at_any_depth_entry edition t 0 _ read)
-          refl entries errors rest),
+    let there = found.message 0 in
+    let read = message_at_letter t _ (sym c.if-not-is_letter_at.ensures) edition (within edition t 0) _ there.1 in
+    let entry = at_any_depth_entry edition t 0 _ read in (
+      message there.0,
+      record {
+        order = (start.ensures.within.0, found.within.0);
+        kept = start.ensures.dropped;
+        before = start.ensures.rest edition;
+        stands = rest_entry edition t _ _ inside c.args.comments start.ensures.dropped _ entry refl;
+      },
     )
 
 pub returns-clause-nests : goal.returns-clause-nests
@@ -29,8 +33,8 @@ returns-clause-nests c = λ n.
     let start = c.tile_start-start in
     let found = c.in_ok-end.ensures in
     let inside : start.result < length t = omega (arith, found.within.0, found.within.1) in
-    let flat = found.message n in
-    let read = message_at_letter t _ (sym c.if-not-is_letter_at.ensures) edition (within edition t n) _ flat.1 in
+    let there = found.message n in
+    let read = message_at_letter t _ (sym c.if-not-is_letter_at.ensures) edition (within edition t n) _ there.1 in
     let tile = in_mode c.args.comments edition t _ _ _ _ start.ensures.dropped (reads read) in (
       λ deeper. one_led edition t n c.args.comments _ _ inside _ tile (start.ensures.shallow edition n deeper),
       λ deeper. start.ensures.deeper edition n (behind_one edition t n c.args.comments _ _ inside _ tile deeper),

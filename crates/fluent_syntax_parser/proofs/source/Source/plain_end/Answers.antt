@@ -1,6 +1,6 @@
 use Rattle.fluent_syntax_grammar.specs.Bytes.{backslash, double_quote, lf}
 use Rattle.memchr.specs.Find.{is_byte3}
-use Rattle.fluent_syntax_parser.proofs.Scans.{scanned}
+use Rattle.fluent_syntax_parser.proofs.scanning.Scans.{scanned}
 use Rattle.fluent_syntax_parser.proofs.source.Source.plain_end.Goals as goal
 
 pub returns-clause-text : goal.returns-clause-text

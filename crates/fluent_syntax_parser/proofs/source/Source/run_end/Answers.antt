@@ -3,7 +3,7 @@ use Rattle.std.specs.Prelude.{◌&&◌}
 use Rattle.fluent_syntax_grammar.specs.Bytes.{lf, cr}
 use Rattle.fluent_syntax_grammar.specs.Places.{has_byte}
 use Rattle.fluent_syntax_grammar.proofs.Tests.{and_left, and_right}
-use Rattle.fluent_syntax_parser.proofs.Runs.{run_to, run_before_crlf}
+use Rattle.fluent_syntax_parser.proofs.patterns.Runs.{run_to, run_before_crlf}
 use Rattle.fluent_syntax_parser.proofs.source.Source.run_end.Goals as goal
 use Rattle.fluent_syntax_parser.proofs.source.Source.run_end.Goals.{
   else-end-ptr-via-then-end-ptr+then-is_byte_at+else-is_byte_at-2,

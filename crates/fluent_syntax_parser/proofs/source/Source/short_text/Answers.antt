@@ -1,5 +1,5 @@
 use Rattle.std.proofs.Common.{◌≤◌, arith, length}
-use Rattle.fluent_syntax_parser.proofs.OneLine.{short_read}
+use Rattle.fluent_syntax_parser.proofs.patterns.OneLine.{short_read}
 use Rattle.fluent_syntax_parser.proofs.source.Source.short_text.Goals as goal
 
 pub returns-in-Some-end_behind_blank_lines-clause-opens : goal.returns-in-Some-end_behind_blank_lines-clause-opens

@@ -1,5 +1,5 @@
 use Rattle.fluent_syntax_grammar.specs.Construct.{goes_on}
-use Rattle.fluent_syntax_parser.proofs.LineEnds.{line_rest}
+use Rattle.fluent_syntax_parser.proofs.scanning.LineEnds.{line_rest}
 use Rattle.fluent_syntax_parser.proofs.source.Source.skip_comment.Goals as goal
 
 pub returns-clause-line : goal.returns-clause-line

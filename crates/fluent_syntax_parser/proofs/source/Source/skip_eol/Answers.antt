@@ -1,6 +1,6 @@
 use Rattle.fluent_syntax_grammar.specs.Construct.{chosen}
 use Rattle.fluent_syntax_grammar.specs.Places.{after_eol}
-use Rattle.fluent_syntax_parser.proofs.LineEnds.{eol_passed}
+use Rattle.fluent_syntax_parser.proofs.scanning.LineEnds.{eol_passed}
 use Rattle.fluent_syntax_parser.proofs.source.Source.skip_eol.Goals as goal
 
 pub returns-clause-meets : goal.returns-clause-meets

@@ -4,8 +4,8 @@ use Rattle.fluent_syntax_grammar.specs.Bytes.{capital_u, small_u}
 use Rattle.fluent_syntax_grammar.specs.Construct.{Refused, goes_on, failed, passed, chosen, first, second}
 use Rattle.fluent_syntax_grammar.specs.Strings.{hex_digits}
 use Rattle.fluent_syntax_parser.specs.Strings.{escape}
-use Rattle.fluent_syntax_parser.proofs.Carried.{end_as}
-use Rattle.fluent_syntax_parser.proofs.StringBytes.{decimal_32, simple, not_simple, unequal}
+use Rattle.fluent_syntax_parser.proofs.readers.Carried.{end_as}
+use Rattle.fluent_syntax_parser.proofs.scanning.StringBytes.{decimal_32, simple, not_simple, unequal}
 use Rattle.fluent_syntax_parser.proofs.source.Source.skip_escape.Goals as goal
 
 pub returns-in-None-clause-meets : goal.returns-in-None-clause-meets

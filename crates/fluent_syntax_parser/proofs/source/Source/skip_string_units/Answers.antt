@@ -3,7 +3,7 @@ use Rattle.std.proofs.lemmas.Option.{gets}
 use Rattle.std.proofs.lemmas.Result.{err_from_is_err_and}
 use Rattle.fluent_syntax_grammar.specs.Construct.{failed, first, second}
 use Rattle.fluent_syntax_grammar.specs.Strings.{before_quote, unit_and_more, bad_unit}
-use Rattle.fluent_syntax_parser.proofs.StringBytes.{plain_units, lf_there}
+use Rattle.fluent_syntax_parser.proofs.scanning.StringBytes.{plain_units, lf_there}
 use Rattle.fluent_syntax_parser.proofs.source.Source.skip_string_units.Goals as goal
 
 pub returns-in-None-clause-meets : goal.returns-in-None-clause-meets

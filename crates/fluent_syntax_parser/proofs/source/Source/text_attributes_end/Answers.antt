@@ -1,7 +1,7 @@
 use Rattle.std.proofs.Common.{[], arith, refl}
 use Rattle.fluent_syntax_grammar.specs.Construct.{goes_on, passed, stops}
 use Rattle.fluent_syntax_grammar.specs.Entries.{no_more, one_more}
-use Rattle.fluent_syntax_parser.proofs.Flat.{attribute_stands}
+use Rattle.fluent_syntax_parser.proofs.entry_forms.AnyDepth.{attribute_stands}
 use Rattle.fluent_syntax_parser.proofs.source.Source.text_attributes_end.Goals as goal
 
 pub loop-start-init : goal.loop-start-init

@@ -1,4 +1,4 @@
-use Rattle.fluent_syntax_parser.proofs.Flat.{message_of_attributes, message_of_value}
+use Rattle.fluent_syntax_parser.proofs.entry_forms.AnyDepth.{message_of_attributes, message_of_value}
 use Rattle.fluent_syntax_parser.proofs.source.Source.text_message_end.Goals as goal
 
 pub returns-in-Some-clause-message : goal.returns-in-Some-clause-message

@@ -1,7 +1,7 @@
 use Rattle.std.proofs.Common.{◌<◌, length, sym, arith}
 use Rattle.fluent_syntax_grammar.proofs.Functional.{single_block}
-use Rattle.fluent_syntax_parser.proofs.DeeperTiles.{behind_dropped, dropped_led, text_deeper, tile_deeper}
-use Rattle.fluent_syntax_parser.proofs.Rests.{rest_behind, rest_dropped}
+use Rattle.fluent_syntax_parser.proofs.tilings.DeeperTiles.{behind_dropped, dropped_led, text_deeper, tile_deeper}
+use Rattle.fluent_syntax_parser.proofs.tilings.Rests.{rest_behind, rest_dropped}
 use Rattle.fluent_syntax_parser.proofs.source.Source.tile_start.Goals as goal
 
 pub loop-comments-init : goal.loop-comments-init

@@ -1,5 +1,5 @@
 use Rattle.std.proofs.Common.{◌≤◌, ◌-◌, length, arith}
-use Rattle.fluent_syntax_parser.proofs.Ranges.{trimmed_most}
+use Rattle.fluent_syntax_parser.proofs.scanning.Ranges.{trimmed_most}
 use Rattle.fluent_syntax_parser.proofs.source.Source.trimmed_end.Goals as goal
 
 pub overflow_add-result : goal.overflow_add-result

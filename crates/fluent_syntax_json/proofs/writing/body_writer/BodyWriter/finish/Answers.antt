@@ -7,8 +7,10 @@ returns-then-refused-clause-refused g c = λ start body has. HasWritten-stopped 
 
 pub returns-clause-taken : goal.returns-clause-taken
 returns-clause-taken g c = λ start body has.
-    on_ok_weaker c.write_str-closed.result (HasWritten-closed has c.if-refused.false) c.write_str-closed.ensures.taken
+    let closing = c.write_str-closed in
+    on_ok_weaker closing.result (HasWritten-closed has c.if-refused.false) closing.ensures.taken
 
 pub returns-clause-refused : goal.returns-clause-refused
 returns-clause-refused g c = λ start body has.
-    on_err_weaker c.write_str-closed.result (HasWritten-unclosed has c.if-refused.false) c.write_str-closed.ensures.refused
+    let closing = c.write_str-closed in
+    on_err_weaker closing.result (HasWritten-unclosed has c.if-refused.false) closing.ensures.refused

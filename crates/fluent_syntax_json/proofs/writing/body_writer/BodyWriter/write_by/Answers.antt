@@ -6,5 +6,7 @@ returns-then-self-clause-written g c = λ start body has. HasWritten-silent _ ha
 
 pub returns-clause-written : goal.returns-clause-written
 returns-clause-written g c = λ start body has.
-    HasWritten-next _ c.has_refused-self.result has c.if-self.false c.write_next.ensures.written c.new-writer.ensures.sink
-    c.new-writer.ensures.not_refused c.has_refused-self.ensures
+    let made = c.new-writer.ensures in
+    let refused = c.has_refused-self in
+    HasWritten-next _ refused.result has c.if-self.false c.write_next.ensures.written made.sink made.not_refused
+    refused.ensures

@@ -1,0 +1,39 @@
+-- What is found in a document by itself.
+use Rattle.std.specs.Prelude.{◌≡◌, ℕ, List, [], ◌∷◌}
+use Rattle.fluent_syntax_tree.specs.Entry.{entry_map}
+use Rattle.fluent_syntax_tree.specs.declared.edition.Edition.TheVariants.{One}
+use Rattle.fluent_syntax_tree.specs.declared.spans.Span.{Span}
+use Rattle.fluent_syntax_grammar.specs.Body.{body}
+use Rattle.fluent_syntax_grammar.specs.Tiling.{Tile, Tiling}
+use Rattle.fluent_syntax_names.specs.Findings.{own_findings}
+use Rattle.fluent_syntax_names.specs.Mentions.{Mentions, body_mentions, entry_mentions, span_on}
+use Rattle.fluent_syntax_names.specs.declared.finding.Finding.{Finding}
+use Rattle.fluent_syntax_names.specs.declared.outline.Outline.{Outline}
+use Rattle.fluent_syntax_parser.specs.Rest.{tree_of}
+use Rattle.fluent_syntax_reread.specs.declared.placed.Placed.{Placed}
+use Rattle.fluent_syntax_lsp.specs.declared.documents.Document.{Document}
+use Rattle.fluent_syntax_lsp.specs.declared.documents.Document.TheVariants.{Held, TooDeep}
+
+-- what the tiles say of names, before others
+abbrev pub placed_mentions : List Placed → Mentions Span → Mentions Span
+placed_mentions [] tail = tail
+placed_mentions (p ∷ ps) tail =
+    entry_mentions (entry_map (span_on p.base) (tree_of p.found.entry)) (placed_mentions ps tail)
+
+-- The outline is the text with all that the entries of its tiling say of names.
+pub record IsOutlineOf (t : List ℕ) (outline : Outline) : Type 0 where
+  pub tiles : List Tile
+  pub tiling : Tiling One t tiles
+  pub text : outline.text.now ≡ t
+  pub mentions : outline.mentions.items ≡ body_mentions (body tiles) []
+
+-- It is what is found in the text whatever stands in other files, in order.
+pub record FindsOwn (t : List ℕ) (found : List Finding) : Type 0 where
+  pub outline : Outline
+  pub is_outline : IsOutlineOf t outline
+  pub found_there : found ≡ own_findings outline
+
+-- The same of a document; in a text that nests too deeply nothing is found.
+abbrev pub FindsInDocument : Document → List Finding → Type 0
+FindsInDocument (Held t) found = FindsOwn t found
+FindsInDocument (TooDeep text) found = found ≡ []

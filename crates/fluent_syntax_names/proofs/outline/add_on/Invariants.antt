@@ -1,0 +1,9 @@
+use Rattle.std.proofs.Common.{◌++◌, drop, map}
+use Rattle.fluent_syntax_tree.specs.declared.spans.Span.{Span}
+use Rattle.fluent_syntax_names.specs.Mentions.{Leaves, Mentions, mention_map, span_on}
+use Rattle.fluent_syntax_names.proofs.outline.add_on.Given as goal
+
+abbrev pub invariant-loop-mention : goal.invariant-loop-mention
+invariant-loop-mention l =
+    let all = λ (ms : Mentions Span) (tail : Mentions Span). map (mention_map (span_on l.base)) ms ++ tail in
+    record { left : Leaves l.fn.list.items l.list.items (all (drop l.mention-index l.said)) (all l.said) }

@@ -1,0 +1,20 @@
+-- What is said of a finding of each kind.
+use Rattle.std.specs.Prelude.{ℕ, List, ◌++◌, codes, Option, Some, None}
+use Rattle.std.specs.Fmt.{decimal}
+use Rattle.fluent_syntax_names.specs.declared.finding.Kind.{Kind}
+use Rattle.fluent_syntax_names.specs.declared.finding.Kind.TheVariants as kind
+
+-- of the name at its place
+abbrev pub sentence_of : Kind → List ℕ → List ℕ
+sentence_of kind.DefinedTwice name = codes "`" ++ name ++ codes "` is defined twice"
+sentence_of kind.AttributeTwice name = codes "the entry has the attribute `" ++ name ++ codes "` twice"
+sentence_of kind.UndefinedMessage name = codes "no file defines the message `" ++ name ++ codes "`"
+sentence_of kind.UndefinedTerm name = codes "no file defines the term `-" ++ name ++ codes "`"
+sentence_of kind.UndefinedAttribute name = codes "no file defines its attribute `" ++ name ++ codes "`"
+sentence_of kind.UndefinedValue name = codes "no file gives the message `" ++ name ++ codes "` a value"
+sentence_of kind.CyclicReference name = codes "`" ++ name ++ codes "` leads back to this reference"
+
+-- and of the line where the name was given first
+abbrev pub behind_first : Option ℕ → List ℕ
+behind_first None = codes ""
+behind_first (Some line) = codes ", first on line " ++ decimal line

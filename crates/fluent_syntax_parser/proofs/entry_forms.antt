@@ -1,0 +1,8 @@
+pub mod AnyDepth
+pub mod CommentEntries
+pub mod EntryForms
+pub mod ExtentForms
+pub mod ExtentRanges
+pub mod FieldForms
+pub mod HangsOn
+pub mod MadeEntries

@@ -1,0 +1,199 @@
+-- Where the parts of an entry stand, there the entry is read.
+use Rattle.std.proofs.Common.{◌≡◌, ℕ, true, false, List, [], ◌∷◌, ◌++◌, append_assoc, Option, Some, None, refl}
+use Rattle.std.proofs.Common.{sym, subst}
+use Rattle.std.specs.Prelude.{Ok, option_map, is_some, slice_get}
+use Rattle.fluent_syntax_tree.specs.Entry.{AttributeTree, EntryTree, Level, comment}
+use Rattle.fluent_syntax_tree.specs.Kind.{Kind}
+use Rattle.fluent_syntax_tree.specs.Tree.{PatternTree}
+use Rattle.fluent_syntax_tree.specs.declared.edition.Edition.{Edition}
+use Rattle.fluent_syntax_tree.specs.declared.spans.Span.{Span}
+use Rattle.fluent_syntax_grammar.specs.Bytes.{hash}
+use Rattle.fluent_syntax_grammar.specs.Comments.{comment_entry}
+use Rattle.fluent_syntax_grammar.specs.Construct.{Read, Refused, goes_on, given, passed, chosen}
+use Rattle.fluent_syntax_grammar.specs.Entries.{attribute_of, attributes_of, no_more, one_more}
+use Rattle.fluent_syntax_grammar.specs.Family.{Family}
+use Rattle.fluent_syntax_grammar.specs.Grammar.{family, within}
+use Rattle.fluent_syntax_grammar.specs.Places.{has_byte}
+use Rattle.fluent_syntax_grammar.specs.Tiling.{entry_at, entry_in}
+use Rattle.fluent_syntax_grammar.proofs.Holds.{gave}
+use Rattle.fluent_syntax_grammar.proofs.Facts.{append_nothing}
+use Rattle.fluent_syntax_grammar.proofs.FunctionalEntries.{functional_entry}
+use Rattle.fluent_syntax_grammar.proofs.Included.{IsIncluded, IsIncludedFamily, included_pattern, inclusions}
+use Rattle.fluent_syntax_grammar.proofs.IncludedEntries.{included_entry}
+use Rattle.fluent_syntax_grammar.proofs.Nesting.{within_family}
+use Rattle.fluent_syntax_parser.proofs.entry_forms.EntryForms.{of_hash}
+use Rattle.fluent_syntax_parser.specs.Extents.{AttributeStands, AttributesStand, none_stands, one_stands}
+use Rattle.fluent_syntax_parser.specs.Extents.{FieldsStand, EntryStands, message_stands, term_stands, EntryFound}
+use Rattle.fluent_syntax_parser.specs.Extents.{FindsEntry, HasExtents}
+use Rattle.fluent_syntax_parser.specs.Fields.{FieldTrees, fields}
+use Rattle.fluent_syntax_parser.specs.declared.extents.AttributeExtents.{AttributeExtents}
+use Rattle.fluent_syntax_parser.specs.declared.extents.EntryExtents.{EntryExtents}
+
+-- ---- they are read
+
+module _ (edition : Edition) (t : List ℕ) (R : Family) where
+  pub attributes_there : {i end : ℕ} {xs : List AttributeExtents} {rest : List (AttributeTree Span)} →
+      AttributesStand edition t R i xs rest end → attributes_of edition t R i (Read rest end)
+  attributes_there (none_stands x) = no_more x
+  attributes_there (one_stands {x = x} {a = a} begins s more) =
+      one_more (subst (λ i. attribute_of edition t R i (Read a x.span.end)) begins s.whole) (attributes_there more)
+
+  -- what stands behind a name, from the place to the end
+  module _ (i end : ℕ) (xs : List AttributeExtents) where
+    pub fields_there : (o : Option Span) (f : FieldTrees Span) → FieldsStand edition t R i o xs f end →
+        fields edition t R i (Read f end)
+    fields_there o f s =
+        goes_on (passed s.behind)
+        (goes_on s.sign
+        (goes_on s.value
+        (goes_on (passed s.blank)
+        (goes_on (attributes_there s.attributes)
+        given))))
+
+    pub same_value : (o : Option Span) (f : FieldTrees Span) → FieldsStand edition t R i o xs f end →
+        is_some f.0 ≡ is_some o
+    same_value None (None, rest) s = refl
+    same_value None (Some v, rest) s = let h = s.there in cc
+    same_value (Some p) (None, rest) s = let h = s.there in cc
+    same_value (Some p) (Some v, rest) s = refl
+
+    pub with_value : {G : Type 0} (o : Option Span) (f : FieldTrees Span) → FieldsStand edition t R i o xs f end →
+        is_some o ≡ true → ((v : PatternTree Span) → FieldsStand edition t R i o xs (Some v, f.1) end → G) → G
+    with_value None f s e k = cc
+    with_value (Some p) (None, rest) s e k = let h = s.there in cc
+    with_value (Some p) (Some v, rest) s e k = k v s
+
+    pub without_value : (o : Option Span) (f : FieldTrees Span) → FieldsStand edition t R i o xs f end →
+        is_some o ≡ false → FieldsStand edition t R i o xs (None, f.1) end
+    without_value None (None, rest) s e = s
+    without_value None (Some v, rest) s e = let h = s.there in cc
+    without_value (Some p) f s e = cc
+
+  pub no_attributes : {i end : ℕ} {xs : List AttributeExtents} {rest : List (AttributeTree Span)} →
+      AttributesStand edition t R i xs rest end → xs ≡ [] → rest ≡ []
+  no_attributes (none_stands x) e = refl
+  no_attributes (one_stands begins s more) e = cc
+
+  pub no_attribute_extents : {i end : ℕ} {xs : List AttributeExtents} {rest : List (AttributeTree Span)} →
+      AttributesStand edition t R i xs rest end → rest ≡ [] → xs ≡ []
+  no_attribute_extents (none_stands x) e = refl
+  no_attribute_extents (one_stands begins s more) e = cc
+
+  -- ---- a list that a loop gathers
+
+  -- What stands from the one place to the other is what was gathered: before what follows it, it stands with that.
+  pub record GathersExtents (i : ℕ) (xs : List AttributeExtents) (j : ℕ) : Type 0 where
+    pub items : List (AttributeTree Span)
+    pub stand : (more : List AttributeExtents) (rest : List (AttributeTree Span)) (end : ℕ) →
+        AttributesStand edition t R j more rest end → AttributesStand edition t R i (xs ++ more) (items ++ rest) end
+
+  pub no_extents : (i : ℕ) → GathersExtents i [] i
+  no_extents i = record { items = []; stand = λ more rest end h. h }
+
+  pub one_extent : (i : ℕ) (xs ys : List AttributeExtents) (j : ℕ) (x : AttributeExtents) → ys ≡ xs ++ x ∷ [] →
+      GathersExtents i xs j → (a : AttributeTree Span) → AttributeStands edition t R x a → x.span.start ≡ j →
+      GathersExtents i ys x.span.end
+  one_extent i xs ys j x all g a s begins = record {
+    items = g.items ++ a ∷ [];
+    stand = λ more rest end h.
+        rw (all, append_assoc xs (x ∷ []) more, append_assoc g.items (a ∷ []) rest)
+        (g.stand (x ∷ more) (a ∷ rest) end (one_stands begins s h));
+  }
+
+  pub all_extents : (i : ℕ) (xs : List AttributeExtents) (j : ℕ) → (g : GathersExtents i xs j) → {from to : ℕ} →
+      {k : Kind} → attribute_of edition t R j (Refused k from to) →
+      AttributesStand edition t R i xs g.items j
+  all_extents i xs j g none =
+      rw (← append_nothing xs, ← append_nothing g.items) (g.stand [] [] j (none_stands none))
+
+-- ---- within a family that is included in another
+
+module _ (edition : Edition) (t : List ℕ) (R S : Family) (h : IsIncludedFamily R S) where
+  included_attribute : IsIncluded (attribute_of edition t R) (attribute_of edition t S)
+  included_attribute = search (inclusions, included_pattern) depth 30
+
+  attribute_included : {x : AttributeExtents} {a : AttributeTree Span} → AttributeStands edition t R x a →
+      AttributeStands edition t S x a
+  attribute_included s = record {
+    whole = included_attribute.part _ _ s.whole;
+    dot = s.dot;
+    before = s.before;
+    point = s.point;
+    name = s.name;
+    named = s.named;
+    equals = s.equals;
+    behind = s.behind;
+    sign = s.sign;
+    value = (included_pattern edition t R S h).part _ _ s.value;
+    ends = s.ends;
+  }
+
+  attributes_included : {i end : ℕ} {xs : List AttributeExtents} {rest : List (AttributeTree Span)} →
+      AttributesStand edition t R i xs rest end → AttributesStand edition t S i xs rest end
+  attributes_included (none_stands x) = none_stands (included_attribute.part _ _ x)
+  attributes_included (one_stands begins s more) =
+      one_stands begins (attribute_included s) (attributes_included more)
+
+  fields_included : {i end : ℕ} {o : Option Span} {xs : List AttributeExtents} {f : FieldTrees Span} →
+      FieldsStand edition t R i o xs f end → FieldsStand edition t S i o xs f end
+  fields_included s = record {
+    equals = s.equals;
+    behind = s.behind;
+    place = s.place;
+    sign = s.sign;
+    value = (included_pattern edition t R S h).part _ _ s.value;
+    there = s.there;
+    line = s.line;
+    blank = s.blank;
+    attributes = attributes_included s.attributes;
+  }
+
+  parts_included : {i end : ℕ} {x : EntryExtents} {e : EntryTree Span} → EntryStands edition t R i x e end →
+      EntryStands edition t S i x e end
+  parts_included (message_stands begins name s) = message_stands begins name (fields_included s)
+  parts_included (term_stands mark name s) = term_stands mark name (fields_included s)
+
+  pub found_included : (i : ℕ) (x : EntryExtents) → EntryFound edition t R i x → EntryFound edition t S i x
+  found_included i x s = record {
+    tree = s.tree;
+    end = s.end;
+    read = (included_entry edition t R S h).part _ _ s.read;
+    parts = parts_included s.parts;
+  }
+
+-- ---- where no message and no term is read
+
+module _ (t : List ℕ) (i j : ℕ) (e : EntryTree Span) where
+  abbrev IsComment : Type 0
+  IsComment = (level : Level) × (content : List Span) × (e ≡ comment level content)
+
+  comment_read : comment_entry t i (Read e j) → IsComment
+  comment_read (chosen (goes_on x (goes_on {j = m} y z))) = (_, _, sym (gave _ e m j z).0)
+
+  pub hash_is_comment : (edition : Edition) → has_byte t hash i ≡ true → entry_at edition t i (Read e j) → IsComment
+  hash_is_comment edition there (chosen x) =
+      comment_read (of_hash edition t (family edition t) i (Read e j) (slice_get t i) there x)
+
+  pub none_is_read : (edition : Edition) (n from to : ℕ) (k : Kind) →
+      entry_in edition t (within edition t n) i (Refused k from to) → entry_at edition t i (Read e j) → IsComment
+  none_is_read edition n from to k x read =
+      let same =
+      (functional_entry edition t).same i _ _
+      ((included_entry edition t (within edition t n) (family edition t) (within_family edition t n)).part i _ x) read
+      in cc
+
+module _ (edition : Edition) (t : List ℕ) (n i : ℕ) where
+  pub has_extents : (found : Option EntryExtents) → FindsEntry edition t (within edition t n) i (Ok found) →
+      HasExtents edition t i found
+  has_extents None there = λ e end h. hash_is_comment t i end e edition there h
+  has_extents (Some x) s =
+      found_included edition t (within edition t n) (family edition t) (within_family edition t n) i x s
+
+-- ---- a place that there is where there is a value
+
+pub same_place : {A B C : Type 0} (f : A → C) (g : B → C) (place : Span) (o : Option A) (p : Option B) →
+    option_map f o ≡ option_map g p → option_map (λ v. place) o ≡ option_map (λ v. place) p
+same_place f g place None None e = refl
+same_place f g place None (Some y) e = cc
+same_place f g place (Some x) None e = cc
+same_place f g place (Some x) (Some y) e = refl

@@ -1,0 +1,261 @@
+-- Entries whose texts were made, and the trees of spans that they stand for.
+use Rattle.std.proofs.Common.{◌≡◌, ◌<◌, ℕ, suc, ◌-◌, List, [], ◌∷◌, ◌++◌, length, Bool, true, false, map}
+use Rattle.std.proofs.Common.{Option, Some, None, option_map, refl, sym, ap, subst, arith, ◌∙◌}
+use Rattle.std.specs.Prelude.{is_some, option_to_list, slice_get, Result, Ok, Err, IfOk}
+use Rattle.std.proofs.lemmas.List.{append-nil, append_assoc, map-append, same_from_push}
+use Rattle.fluent_syntax_tree.specs.Entry.{BodyTree, EntryTree, body_map, comment, entry_map, group, junk, message}
+use Rattle.fluent_syntax_tree.specs.Entry.{regular, resource, term}
+use Rattle.fluent_syntax_tree.specs.View.{comment_view, entry_view}
+use Rattle.fluent_syntax_tree.specs.declared.ast.Comment.{Comment}
+use Rattle.fluent_syntax_tree.specs.declared.ast.Entry.{Entry}
+use Rattle.fluent_syntax_tree.specs.declared.ast.Entry.TheVariants as entries
+use Rattle.fluent_syntax_tree.specs.declared.edition.Edition.{Edition}
+use Rattle.fluent_syntax_tree.specs.declared.errors.ParserError.{ParserError}
+use Rattle.fluent_syntax_tree.specs.declared.spans.Span.{Span}
+use Rattle.fluent_syntax_grammar.specs.Body.{hung}
+use Rattle.fluent_syntax_grammar.specs.Tiling.{Fault}
+use Rattle.fluent_syntax_parser.specs.Faults.{fault_of}
+use Rattle.fluent_syntax_parser.specs.MadeEntries.{MadeBody, NextMade, commented, ends_with_comment}
+use Rattle.fluent_syntax_parser.specs.MadeEntries.{is_comment}
+use Rattle.fluent_syntax_parser.specs.Rest.{EntryAt, EntryTo, NextTo, Rest, faults_of, may_hang, tree_of}
+use Rattle.fluent_syntax_parser.specs.declared.options.Comments.{Comments}
+use Rattle.fluent_syntax_parser.specs.declared.options.Halt.{Halt}
+use Rattle.fluent_syntax_parser.proofs.readers.SameTrees.{same_entry}
+
+-- ---- optional values
+
+abbrev or : {B : Type 0} → B → Option B → B
+or b None = b
+or b (Some c) = c
+
+some_of : {A B : Type 0} (g : A → B) (o : Option A) (b : B) → Some b ≡ option_map g o →
+    (a : A) × (o ≡ Some a) × (b ≡ g a)
+some_of g None b e = cc
+some_of g (Some a) b e = (a, refl, ap (or b) e)
+
+pub same_some : {X : Type 0} (a b : X) → Some a ≡ Some b → a ≡ b
+same_some a b e = ap (or a) e
+
+-- what is taken from the end of a list that holds one item at most
+pub only : {X : Type 0} (item taken : Option X) (left : List X) →
+    option_to_list item ≡ left ++ option_to_list taken →
+    (0 < length (option_to_list item) → is_some taken ≡ true) → taken ≡ item
+only None None left same some = refl
+only None (Some y) [] same some = cc
+only None (Some y) (x ∷ left) same some = cc
+only (Some x) None left same some = let taken = some (omega arith) in cc
+only (Some x) (Some y) left same some = ap Some (sym (same_from_push [] left x y same).1)
+
+none_of : {A B : Type 0} (g : A → B) (o : Option A) → None ≡ option_map g o → o ≡ None
+none_of g None e = refl
+none_of g (Some a) e = cc
+
+-- ---- entries with a comment
+
+-- the tree with the comment, where it is a message or a term
+abbrev with_lines : {X : Type 0} → List X → EntryTree X → Option (EntryTree X)
+with_lines content (message m) = Some (message (record m { comment = Some content }))
+with_lines content (term m) = Some (term (record m { comment = Some content }))
+with_lines content (comment level c) = None
+with_lines content (junk x) = None
+
+hung_is : (content : List Span) (e : EntryTree Span) → hung content e ≡ with_lines content e
+hung_is content (message m) = refl
+hung_is content (term m) = refl
+hung_is content (comment level c) = refl
+hung_is content (junk x) = refl
+
+mapped_lines : {X : Type 0} (f : Span → X) (content : List Span) (e : EntryTree Span) →
+    with_lines (map f content) (entry_map f e) ≡ option_map (entry_map f) (with_lines content e)
+mapped_lines f content (message m) = refl
+mapped_lines f content (term m) = refl
+mapped_lines f content (comment level c) = refl
+mapped_lines f content (junk x) = refl
+
+viewed_lines : {S X : Type 0} (v : S → X) (c : Comment S) (e : Entry S) →
+    with_lines (comment_view v c) (entry_view v e) ≡ option_map (entry_view v) (commented c e)
+viewed_lines v c (entries.Message m) = refl
+viewed_lines v c (entries.Term m) = refl
+viewed_lines v c (entries.Comment d) = refl
+viewed_lines v c (entries.GroupComment d) = refl
+viewed_lines v c (entries.ResourceComment d) = refl
+viewed_lines v c (entries.Junk x) = refl
+
+-- ---- comments of level 1
+
+mapped_may : {X : Type 0} (f : Span → X) (e : EntryTree Span) → may_hang (entry_map f e) ≡ may_hang e
+mapped_may f (message m) = refl
+mapped_may f (term m) = refl
+mapped_may f (comment regular c) = refl
+mapped_may f (comment group c) = refl
+mapped_may f (comment resource c) = refl
+mapped_may f (junk x) = refl
+
+viewed_may : {S X : Type 0} (v : S → X) (e : Entry S) → may_hang (entry_view v e) ≡ is_comment e
+viewed_may v (entries.Message m) = refl
+viewed_may v (entries.Term m) = refl
+viewed_may v (entries.Comment d) = refl
+viewed_may v (entries.GroupComment d) = refl
+viewed_may v (entries.ResourceComment d) = refl
+viewed_may v (entries.Junk x) = refl
+
+comment_seen : {S : Type 0} (e : Entry S) → is_comment e ≡ true → (c : Comment S) × (e ≡ entries.Comment c)
+comment_seen (entries.Message m) h = cc
+comment_seen (entries.Term m) h = cc
+comment_seen (entries.Comment c) h = (c, refl)
+comment_seen (entries.GroupComment c) h = cc
+comment_seen (entries.ResourceComment c) h = cc
+comment_seen (entries.Junk x) h = cc
+
+-- the last entry, as a slice gives it
+abbrev pub last_seen : {S : Type 0} → Option (Entry S) → Bool
+last_seen None = false
+last_seen (Some e) = is_comment e
+
+last_at : {S : Type 0} (e : Entry S) (es : List (Entry S)) →
+    last_seen (slice_get (e ∷ es) (length es)) ≡ ends_with_comment (e ∷ es)
+last_at e [] = refl
+last_at e (d ∷ es) = last_at d es
+
+pub last_of : {S : Type 0} (es : List (Entry S)) → last_seen (slice_get es (length es - 1)) ≡ ends_with_comment es
+last_of [] = refl
+last_of (e ∷ es) =
+    let before : suc (length es) - 1 ≡ length es = omega arith in
+    ap (λ n. last_seen (slice_get (e ∷ es) n)) before ∙ last_at e es
+
+ends_with : {S : Type 0} (es : List (Entry S)) (e : Entry S) → ends_with_comment (es ++ e ∷ []) ≡ is_comment e
+ends_with [] e = refl
+ends_with (d ∷ []) e = refl
+ends_with (d ∷ x ∷ es) e = ends_with (x ∷ es) e
+
+abbrev lines_or : {X : Type 0} → List X → EntryTree X → List X
+lines_or xs (comment level lines) = lines
+lines_or xs e = xs
+
+-- one more in the middle
+one_more : {X : Type 0} (before : List X) (x : X) (after : List X) → before ++ x ∷ [] ++ after ≡ before ++ x ∷ after
+one_more before x after = append_assoc before (x ∷ []) after
+
+module _ {S X : Type 0} (f : Span → X) (v : S → X) where
+  module _ (c : Comment S) (e : Entry S) (content : List Span) (tree : EntryTree Span)
+      (lines : comment_view v c ≡ map f content) (same : entry_view v e ≡ entry_map f tree) where
+    same_hung : option_map (entry_view v) (commented c e) ≡ option_map (entry_map f) (hung content tree)
+    same_hung =
+        sym (viewed_lines v c e) ∙ ap (λ xs. with_lines xs (entry_view v e)) lines
+        ∙ ap (λ x. with_lines (map f content) x) same ∙ mapped_lines f content tree
+        ∙ ap (option_map (entry_map f)) (sym (hung_is content tree))
+
+    -- the entry with the comment stands for the tree with it
+    pub hung_made : (with_comment : Entry S) → commented c e ≡ Some with_comment →
+        (x : EntryTree Span) × (hung content tree ≡ Some x) × (entry_view v with_comment ≡ entry_map f x)
+    hung_made with_comment h =
+        some_of (entry_map f) (hung content tree) (entry_view v with_comment)
+        (ap (option_map (entry_view v)) (sym h) ∙ same_hung)
+
+    pub hung_not : commented c e ≡ None → hung content tree ≡ None
+    hung_not h = none_of (entry_map f) (hung content tree) (ap (option_map (entry_view v)) (sym h) ∙ same_hung)
+
+  -- what stands for a comment of level 1
+  comment_tree : (tree : EntryTree Span) (xs : List X) → comment regular xs ≡ entry_map f tree →
+      (content : List Span) × (tree ≡ comment regular content) × (xs ≡ map f content)
+  comment_tree (message m) xs e = cc
+  comment_tree (term m) xs e = cc
+  comment_tree (comment regular c) xs e = (c, refl, ap (lines_or xs) e)
+  comment_tree (comment group c) xs e = cc
+  comment_tree (comment resource c) xs e = cc
+  comment_tree (junk x) xs e = cc
+
+  other_tree : (e : Entry S) (tree : EntryTree Span) → entry_view v e ≡ entry_map f tree → is_comment e ≡ false →
+      may_hang tree ≡ false
+  other_tree e tree same h =
+      sym (mapped_may f tree) ∙ ap may_hang (sym same) ∙ viewed_may v e ∙ h
+
+  -- The entry is a comment of level 1, and so is the tree that it stands for.
+  pub record IsComment (e : Entry S) (tree : EntryTree Span) : Type 0 where
+    pub lines : Comment S
+    pub is : e ≡ entries.Comment lines
+    pub content : List Span
+    pub tree_is : tree ≡ comment regular content
+    pub same : comment_view v lines ≡ map f content
+
+  module _ (before body : List (Entry S)) (e : Entry S) (tree : EntryTree Span) (added : body ≡ before ++ e ∷ [])
+      (same : entry_view v e ≡ entry_map f tree) where
+    last_is : (b : Bool) → ends_with_comment body ≡ b → is_comment e ≡ b
+    last_is b h = sym (ends_with before e) ∙ ap ends_with_comment (sym added) ∙ h
+
+    pub comment_added : ends_with_comment body ≡ true → IsComment e tree
+    comment_added h =
+        let seen = comment_seen e (last_is true h) in
+        let of_tree = comment_tree tree _ (sym (ap (entry_view v) seen.1) ∙ same) in
+        record { lines = seen.0; is = seen.1; content = of_tree.0; tree_is = of_tree.1; same = of_tree.2 }
+
+    pub other_added : ends_with_comment body ≡ false → may_hang tree ≡ false
+    other_added h = other_tree e tree same (last_is false h)
+
+  -- ---- what was read up to a place, before whatever is left from there on
+
+  pub record MadeTo (comments : Comments) (edition : Edition) (t : List ℕ) (i : ℕ) (body : List (Entry S))
+      (errors : List ParserError) : Type 0 where
+    pub trees : BodyTree Span
+    pub same : map (entry_view v) body ≡ body_map f trees
+    pub rest : (others : BodyTree Span) (faults : List (Option Fault)) → Rest comments edition t i others faults →
+        Rest comments edition t 0 (trees ++ others) (map fault_of errors ++ faults)
+
+  module _ (comments : Comments) (edition : Edition) (t : List ℕ) where
+    pub none_read : MadeTo comments edition t 0 [] []
+    none_read = record { trees = []; same = refl; rest = λ others faults h. h }
+
+    module _ (i : ℕ) (body : List (Entry S)) (errors : List ParserError)
+        (read : MadeTo comments edition t i body errors)
+      where
+        -- with nothing left, all was read
+        pub all_read : Rest comments edition t i [] [] → MadeBody f v comments edition t body errors
+        all_read none = record {
+          trees = read.trees;
+          same = read.same;
+          rest = rw (← append-nil read.trees, ← append-nil (map fault_of errors)) (read.rest [] [] none);
+        }
+
+        -- with the next entry and its error, what was read reaches to where that ends
+        pub read_on : (j : ℕ) (e : Entry S) (tree : EntryTree Span) (faults : List (Option Fault)) →
+            EntryTo comments edition t i j tree faults → entry_view v e ≡ entry_map f tree → (longer : List (Entry S)) →
+            longer ≡ body ++ e ∷ [] → (told : List ParserError) → map fault_of told ≡ map fault_of errors ++ faults →
+            MadeTo comments edition t j longer told
+        read_on j e tree faults next same longer all told more = record {
+          trees = read.trees ++ tree ∷ [];
+          same =
+              ap (map (entry_view v)) all ∙ map-append (entry_view v) body (e ∷ [])
+              ∙ ap (λ xs. xs ++ entry_view v e ∷ []) read.same ∙ ap (λ x. body_map f read.trees ++ x ∷ []) same
+              ∙ sym (map-append (entry_map f) read.trees (tree ∷ []));
+          rest = λ others after h. rw
+              (one_more read.trees tree others, more, append_assoc (map fault_of errors) faults after)
+              (read.rest _ _ (next others after h));
+        }
+
+-- what one error more tells, if there is one
+pub told_faults : (errors told : List ParserError) (error : Option ParserError) →
+    told ≡ errors ++ option_to_list error → map fault_of told ≡ map fault_of errors ++ faults_of error
+told_faults errors told None same = ap (map fault_of) same ∙ map-append fault_of errors []
+told_faults errors told (Some e) same = ap (map fault_of) same ∙ map-append fault_of errors (e ∷ [])
+
+-- ---- entries of spans
+
+pub entry_of_spans : (comments : Comments) (edition : Edition) (t : List ℕ) (i start j : ℕ) (e : Entry Span)
+    (faults : List (Option Fault)) (tree : EntryTree Span) → EntryAt comments edition t i start j tree faults →
+    entry_view (λ s. s) e ≡ entry_map (λ s. s) tree → EntryAt comments edition t i start j (tree_of e) faults
+entry_of_spans comments edition t i start j e faults tree next same =
+    subst (λ x. EntryAt comments edition t i start j x faults) (sym (same ∙ same_entry tree)) next
+
+-- the same of what comes next
+next_of_spans : (comments : Comments) (edition : Edition) (t : List ℕ) (i start j : ℕ)
+    (found : Option (Entry Span × Option ParserError)) →
+    NextMade (λ s. s) (λ s. s) comments edition t i start j found → NextTo comments edition t i start j found
+next_of_spans comments edition t i start j None none = none
+next_of_spans comments edition t i start j (Some (e, error)) (tree, stands, same) =
+    entry_of_spans comments edition t i start j e (faults_of error) tree stands same
+
+pub answer_of_spans : (comments : Comments) (edition : Edition) (t : List ℕ) (i start j : ℕ)
+    (r : Result (Option (Entry Span × Option ParserError)) Halt) →
+    IfOk r (NextMade (λ s. s) (λ s. s) comments edition t i start j) → IfOk r (NextTo comments edition t i start j)
+answer_of_spans comments edition t i start j (Ok found) next = next_of_spans comments edition t i start j found next
+answer_of_spans comments edition t i start j (Err halt) next = next

@@ -1,0 +1,10 @@
+pub mod ArgumentLists
+pub mod ArgumentNames
+pub mod GatheredArguments
+pub mod GatheredVariants
+pub mod Given
+pub mod InlineForms
+pub mod InlineStarts
+pub mod Noted
+pub mod Selects
+pub mod Stars

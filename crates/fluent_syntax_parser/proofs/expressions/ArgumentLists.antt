@@ -1,0 +1,218 @@
+-- The next argument of a list, by what stands there.
+use Rattle.std.proofs.Common.{◌≡◌, ℕ, ◌+◌, ◌≤◌, ◌<◌, true, false, List, [], ◌∷◌, ◌++◌, length, map, Option, Some, None}
+use Rattle.std.proofs.Common.{refl}
+use Rattle.std.proofs.Common.{sym, ap, ◌∙◌, subst, inl, inr}
+use Rattle.std.specs.Prelude.{◌==◌, ◌⊎◌, slice_get}
+use Rattle.std.proofs.lemmas.List.{map-append}
+use Rattle.std.proofs.lemmas.Option.{slice_get-get_or, slice_get_past}
+use Rattle.fluent_syntax_tree.specs.Kind.{ExpectedToken, PositionalArgumentFollowsNamed}
+use Rattle.fluent_syntax_tree.specs.Spans.{bytes_at}
+use Rattle.fluent_syntax_tree.specs.Tree.{ArgumentsTree, InlineTree, NamedTree, arguments, named_argument}
+use Rattle.fluent_syntax_tree.specs.Tree.{no_inlines, no_named, inlines_of, nameds_of, arguments_map, inline_map}
+use Rattle.fluent_syntax_tree.specs.Tree.{named_map}
+use Rattle.fluent_syntax_tree.specs.View.{inline_view, named_view}
+use Rattle.fluent_syntax_tree.proofs.Views.{view-NamedArgument}
+use Rattle.fluent_syntax_tree.specs.declared.ast.Identifier.{Identifier}
+use Rattle.fluent_syntax_tree.specs.declared.ast.InlineExpression.{InlineExpression}
+use Rattle.fluent_syntax_tree.specs.declared.ast.NamedArgument.{NamedArgument, roll-NamedArgument}
+use Rattle.fluent_syntax_tree.specs.declared.spans.Span.{Span}
+use Rattle.fluent_syntax_grammar.specs.Arguments as rules
+use Rattle.fluent_syntax_grammar.specs.Arguments.{Argument, add_argument, argument_name, argument_rest, argument_value}
+use Rattle.fluent_syntax_grammar.specs.Arguments.{is_used, named_rest, next_argument, next_argument_at, more_arguments}
+use Rattle.fluent_syntax_grammar.specs.Arguments.{positional_rest}
+use Rattle.fluent_syntax_grammar.specs.Arguments.{separator}
+use Rattle.fluent_syntax_grammar.specs.Bytes.{colon, right_parenthesis}
+use Rattle.fluent_syntax_grammar.specs.Construct.{Outcome, Read, Refused, ◌>>=◌, gives, at_each, goes_on, given}
+use Rattle.fluent_syntax_grammar.specs.Construct.{failed, passed, chosen, first, second, More, no_item, item}
+use Rattle.fluent_syntax_grammar.specs.Family.{Family}
+use Rattle.fluent_syntax_grammar.specs.Inline.{inline_expression}
+use Rattle.fluent_syntax_grammar.specs.Places.{Blank, has_byte}
+use Rattle.fluent_syntax_grammar.specs.Starts.{start}
+use Rattle.fluent_syntax_grammar.specs.Words.{token}
+use Rattle.fluent_syntax_grammar.proofs.Facts.{byte_found}
+use Rattle.fluent_syntax_grammar.proofs.FunctionalRules.{IsFunctionalFamily, functional_inline}
+use Rattle.fluent_syntax_grammar.proofs.FunctionalRules.{functional_next_argument}
+use Rattle.fluent_syntax_parser.specs.Gathered.{names_in}
+use Rattle.fluent_syntax_parser.proofs.expressions.GatheredArguments.{arguments_mapped, put_arguments, put_named}
+use Rattle.fluent_syntax_parser.proofs.expressions.GatheredArguments.{put_none}
+use Rattle.fluent_syntax_parser.proofs.expressions.GatheredArguments.{put_positional, put_whole}
+use Rattle.fluent_syntax_parser.proofs.scanning.Names.{names_added}
+use Rattle.fluent_syntax_parser.specs.Meets.{Fails}
+use Rattle.fluent_syntax_parser.specs.declared.fault.ReadFault.{ReadFault}
+use Rattle.fluent_syntax_parser.specs.Made.{IsMade, made}
+use Rattle.fluent_syntax_parser.proofs.readers.Behind.{Behind, list_read, one_behind}
+use Rattle.fluent_syntax_parser.proofs.readers.Fails.{fails_first, fails_next, fails_no, fails_seen, functional_look}
+
+pub token_there : (t : List ℕ) (b i : ℕ) → has_byte t b i ≡ true → token t b i (Read tt (i + 1))
+token_there t b i there =
+    goes_on (chosen (first there (goes_on (passed (record { by = refl })) given))) (first refl given)
+
+module _ (t : List ℕ) (R : Family) where
+  -- the text's end
+  pub list_open : (names : List (List ℕ)) (i : ℕ) → length t ≤ i →
+      next_argument t R names i (Refused (ExpectedToken right_parenthesis) i (i + 1))
+  list_open names i past =
+      let none = slice_get_past t i past in
+      chosen {o = Refused (ExpectedToken right_parenthesis) i (i + 1)} (rw none (failed refl))
+
+  -- the list's `)`
+  pub list_closed : (names : List (List ℕ)) (i : ℕ) → has_byte t right_parenthesis i ≡ true →
+      next_argument t R names i (Read no_item (i + 1))
+  list_closed names i there =
+      let found = byte_found (λ c. c == right_parenthesis) (slice_get t i) there in
+      let close = token_there t right_parenthesis i there in
+      chosen {o = Read no_item (i + 1)} (rw found.1 (first found.2 (goes_on close given)))
+
+  module _ (names : List (List ℕ)) (i : ℕ) (within : i < length t) (no_end : has_byte t right_parenthesis i ≡ false)
+    where
+      begins : (o : Outcome (More Argument (List (List ℕ)))) →
+          (inline_expression t R >>= λ e.
+          at_each (has_byte t colon) gives >>= λ is_named. argument_rest t R names e (argument_name e) is_named) i o
+          →
+          next_argument t R names i o
+      begins o h =
+          let byte = slice_get-get_or t i 0 within in
+          let test = rw byte at no_end in
+          chosen {o = o} (rw byte (second test h))
+
+      begins_fails : {f : ReadFault} →
+          Fails t (inline_expression t R >>= λ e.
+          at_each (has_byte t colon) gives >>= λ is_named. argument_rest t R names e (argument_name e) is_named) i f
+          →
+          Fails t (next_argument t R names) i f
+      begins_fails h =
+          let byte = slice_get-get_or t i 0 within in
+          let test = rw byte at no_end in
+          fails_seen (next_argument_at t R names) _ (sym byte) (fails_no test h)
+
+      pub inline_fails : {f : ReadFault} → Fails t (inline_expression t R) i f → Fails t (next_argument t R names) i f
+      inline_fails h = begins_fails (fails_first h)
+
+      module _ (e : InlineTree Span) (j : ℕ) (read : inline_expression t R i (Read e j)) where
+        pub named : (name : Span) → argument_name e ≡ Some name → has_byte t colon j ≡ true →
+            (o : Outcome (More Argument (List (List ℕ)))) → named_rest t R names name j o → next_argument t R names i o
+        named name is mark o h = begins o (goes_on read (goes_on (chosen given) (rw (is, mark) h)))
+
+        pub named_fails : IsFunctionalFamily R → (name : Span) → argument_name e ≡ Some name →
+            has_byte t colon j ≡ true → {f : ReadFault} → Fails t (named_rest t R names name) j f →
+            Fails t (next_argument t R names) i f
+        named_fails g name is mark {f = f} h =
+            begins_fails (fails_next (functional_inline t R g) read
+            (fails_next (functional_look (has_byte t colon)) (chosen given) (rw (is, mark) h)))
+
+        unmarked : (name : Option Span) (o : Outcome (More Argument (List (List ℕ)))) →
+            positional_rest t names e j o → argument_rest t R names e name false j o
+        unmarked None o h = h
+        unmarked (Some name) o h = h
+
+        pub positional : (argument_name e ≡ None) ⊎ (has_byte t colon j ≡ false) →
+            (o : Outcome (More Argument (List (List ℕ)))) → positional_rest t names e j o → next_argument t R names i o
+        positional (inl none) o h = begins o (goes_on read (goes_on (chosen given) (rw none h)))
+        positional (inr none) o h =
+            begins o (goes_on read (goes_on (chosen given) (rw none (unmarked (argument_name e) o h))))
+
+  -- a positional argument after a named one
+  pub late : (names : List (List ℕ)) (e : InlineTree Span) (j : ℕ) → (names ≡ [] → ⊥) →
+      positional_rest t names e j (Refused PositionalArgumentFollowsNamed j (j + 1))
+  late [] e j some = absurd (some refl)
+  late (name ∷ names) e j some = failed refl
+
+-- a named argument of these parts
+abbrev pub argument_with : {S : Type 0} → Identifier S → InlineExpression S → NamedArgument S
+argument_with {S = S} name value = roll-NamedArgument S (record { name = name; value = value })
+
+-- What was gathered stands for what was read, with f of each text in its place.
+pub record MadeArguments {S X : Type 0} (t : List ℕ) (R : Family) (f : Span → X) (v : S → X) (from : ℕ)
+    (positional : List (InlineExpression S)) (named : List (NamedArgument S)) (names : List (List ℕ)) (j : ℕ) : Type 0
+  where
+    pub ps : List (InlineTree Span)
+    pub ns : List (NamedTree Span)
+    pub same_ps : map (inline_view v) positional ≡ map (inline_map f) ps
+    pub same_ns : map (named_view v) named ≡ map (named_map f) ns
+    pub behind : Behind t (next_argument t R) add_argument (arguments no_inlines no_named) [] from
+        (put_arguments ps ns) names j
+
+module _ {S X : Type 0} (t : List ℕ) (R : Family) (f : Span → X) (v : S → X) (from : ℕ) where
+  none_read : (b : ArgumentsTree Span) (end : ℕ) → more_arguments t R [] from (Read b end) →
+      more_arguments t R [] from (Read (put_arguments [] [] b) end)
+  none_read b end h = subst (λ a. more_arguments t R [] from (Read a end)) (sym (put_none b)) h
+
+  pub no_arguments_yet : MadeArguments t R f v from [] [] [] from
+  no_arguments_yet = record {
+    ps = [];
+    ns = [];
+    same_ps = refl;
+    same_ns = refl;
+    behind = record { read = none_read; fails = λ e h. h };
+  }
+
+  -- the list ends
+  pub all_arguments : (ps : List (InlineExpression S)) (ns : List (NamedArgument S)) (names : List (List ℕ))
+      (j m : ℕ) → MadeArguments t R f v from ps ns names j → next_argument t R names j (Read no_item m) →
+      IsMade (arguments_map f) (more_arguments t R []) from
+      (arguments (inlines_of (map (inline_view v) ps)) (nameds_of (map (named_view v) ns))) m
+  all_arguments ps ns names j m g x =
+      made (list_read (arguments (inlines_of g.ps) (nameds_of g.ns)) m g.behind (put_whole g.ps g.ns) x)
+      (rw (g.same_ps, g.same_ns) (arguments_mapped f g.ps g.ns))
+
+  module _ (h : IsFunctionalFamily R) (ps : List (InlineExpression S)) (ns : List (NamedArgument S)) (i : ℕ)
+      (names : List Span) (g : MadeArguments t R f v from ps ns (names_in t names) i) (within : i < length t)
+      (no_end : has_byte t right_parenthesis i ≡ false) (e : InlineTree Span) (j : ℕ)
+      (read : inline_expression t R i (Read e j)) where
+    -- one more named argument
+    pub one_named : (x : NamedArgument S) (name : Span) → argument_name e ≡ Some name → has_byte t colon j ≡ true →
+        is_used (bytes_at t name) (names_in t names) ≡ false → v x.name.name ≡ f name →
+        (more : List (NamedArgument S)) → more ≡ ns ++ x ∷ [] → (others : List Span) → others ≡ names ++ name ∷ [] →
+        (m end next : ℕ) → Blank t (j + 1) m → (value : InlineTree Span) →
+        at_each (start t) (argument_value t R) m (Read value end) → inline_view v x.value ≡ inline_map f value →
+        separator t end (Read tt next) → MadeArguments t R f v from ps more (names_in t others) next
+    one_named x name is mark new same more pushed others noted m end next blank value read_value same_value after =
+        let all : names_in t others ≡ bytes_at t name ∷ names_in t names =
+        ap (names_in t) noted ∙ names_added t names name in
+        let added = rules.named name value in
+        let tree : NamedTree Span = named_argument name value in
+        subst (λ xs. MadeArguments t R f v from ps more xs next) (sym all) (record {
+          ps = g.ps;
+          ns = g.ns ++ tree ∷ [];
+          same_ps = g.same_ps;
+          same_ns =
+              ap (map (named_view v)) pushed ∙ map-append (named_view v) ns (x ∷ [])
+              ∙ ap (λ zs. zs ++ named_view v x ∷ []) g.same_ns
+              ∙ ap (λ z. map (named_map f) g.ns ++ z ∷ [])
+              (view-NamedArgument v x ∙ rw (same, same_value) refl)
+              ∙ sym (map-append (named_map f) g.ns (tree ∷ []));
+          behind =
+              one_behind (put_arguments g.ps (g.ns ++ tree ∷ [])) added (bytes_at t name ∷ names_in t names) next
+              g.behind (functional_next_argument t R h (names_in t names)) (put_named g.ps g.ns name value)
+              (named t R (names_in t names) i within no_end e j read name is mark
+              (Read (item added (bytes_at t name ∷ names_in t names)) next)
+              (second new
+              (goes_on (token_there t colon j mark)
+              (goes_on (passed blank)
+              (goes_on read_value
+              (goes_on after given))))));
+        })
+
+    -- one more positional argument
+    pub one_positional : (argument_name e ≡ None) ⊎ (has_byte t colon j ≡ false) → names ≡ [] →
+        (x : InlineExpression S) → inline_view v x ≡ inline_map f e → (more : List (InlineExpression S)) →
+        more ≡ ps ++ x ∷ [] → (next : ℕ) → separator t j (Read tt next) →
+        MadeArguments t R f v from more ns (names_in t names) next
+    one_positional is none x same more pushed next after =
+        let all : names_in t names ≡ [] = rw none refl in
+        let added = rules.positional e in
+        subst (λ xs. MadeArguments t R f v from more ns xs next) (sym all) (record {
+          ps = g.ps ++ e ∷ [];
+          ns = g.ns;
+          same_ps =
+              ap (map (inline_view v)) pushed ∙ map-append (inline_view v) ps (x ∷ [])
+              ∙ ap (λ zs. zs ++ inline_view v x ∷ []) g.same_ps
+              ∙ ap (λ z. map (inline_map f) g.ps ++ z ∷ []) same ∙ sym (map-append (inline_map f) g.ps (e ∷ []));
+          same_ns = g.same_ns;
+          behind =
+              one_behind (put_arguments (g.ps ++ e ∷ []) g.ns) added [] next g.behind
+              (functional_next_argument t R h (names_in t names)) (put_positional g.ps g.ns e)
+              (positional t R (names_in t names) i within no_end e j read is (Read (item added []) next)
+              (subst (λ xs. positional_rest t xs e j (Read (item added []) next)) (sym all)
+              (goes_on after given)));
+        })

@@ -1,0 +1,79 @@
+-- Gathered variants before those of the rest of a select.
+use Rattle.std.proofs.Common.{◌≡◌, ℕ, List, [], ◌∷◌, ◌++◌, Bool, false, map, refl, ap, sym, ◌∙◌}
+use Rattle.std.proofs.lemmas.List.{map-append}
+use Rattle.fluent_syntax_tree.specs.Tree.{VariantTree, VariantTrees, no_variants, variants, variants_of, variant_map}
+use Rattle.fluent_syntax_tree.specs.Tree.{variants_map}
+use Rattle.fluent_syntax_tree.specs.View.{variant_view}
+use Rattle.fluent_syntax_tree.specs.declared.ast.Pattern.{Pattern}
+use Rattle.fluent_syntax_tree.specs.declared.ast.Variant.{Variant}
+use Rattle.fluent_syntax_tree.specs.declared.ast.VariantKey.{VariantKey}
+use Rattle.fluent_syntax_tree.specs.declared.spans.Span.{Span}
+use Rattle.fluent_syntax_grammar.specs.Construct.{Construct, Read, More, no_item, item, many}
+use Rattle.fluent_syntax_grammar.specs.Laws.{IsFunctional}
+use Rattle.fluent_syntax_parser.specs.Gathered.{variants_view}
+use Rattle.fluent_syntax_parser.specs.Made.{IsMade, made}
+use Rattle.fluent_syntax_parser.proofs.readers.Behind.{Behind, list_read, one_behind}
+
+abbrev pub put_variants : List (VariantTree Span) → VariantTrees Span → VariantTrees Span
+put_variants [] vs = vs
+put_variants (x ∷ xs) vs = variants x (put_variants xs vs)
+
+-- one more
+variants_added : (xs : List (VariantTree Span)) (x : VariantTree Span) (vs : VariantTrees Span) →
+    put_variants (xs ++ x ∷ []) vs ≡ put_variants xs (variants x vs)
+variants_added [] x vs = refl
+variants_added (y ∷ ys) x vs = ap (variants y) (variants_added ys x vs)
+
+-- no others
+variants_whole : (xs : List (VariantTree Span)) → put_variants xs no_variants ≡ variants_of xs
+variants_whole [] = refl
+variants_whole (x ∷ xs) = ap (variants x) (variants_whole xs)
+
+variants_mapped : {X : Type 0} (f : Span → X) (xs : List (VariantTree Span)) →
+    variants_of (map (variant_map f) xs) ≡ variants_map f (variants_of xs)
+variants_mapped f [] = refl
+variants_mapped f (x ∷ xs) = ap (variants (variant_map f x)) (variants_mapped f xs)
+
+-- a variant of these parts
+abbrev pub variant_with : {S : Type 0} → VariantKey S → Pattern S → Bool → Variant S
+variant_with key value star = record { key = key; value = value; default = star }
+
+-- What was gathered stands for what was read, with f of each text in its place.
+pub record MadeVariants {S X : Type 0} (t : List ℕ) (next : Bool → Construct (More (VariantTree Span) Bool))
+    (f : Span → X) (v : S → X) (i : ℕ) (xs : List (Variant S)) (starred : Bool) (j : ℕ) : Type 0 where
+  pub items : List (VariantTree Span)
+  pub same : map (variant_view v) xs ≡ map (variant_map f) items
+  pub behind : Behind t next variants no_variants false i (put_variants items) starred j
+
+module _ {S X : Type 0} {t : List ℕ} {next : Bool → Construct (More (VariantTree Span) Bool)} {f : Span → X}
+    (v : S → X) {i : ℕ} where
+  pub no_variant : MadeVariants t next f v i [] false i
+  no_variant = record {
+    items = [];
+    same = refl;
+    behind = record { read = λ b end h. h; fails = λ e h. h };
+  }
+
+  module _ {j m : ℕ} {starred : Bool} where
+    -- one more
+    pub variant_made : (xs ys : List (Variant S)) (x : Variant S) → ys ≡ xs ++ x ∷ [] →
+        MadeVariants t next f v i xs starred j → IsFunctional (next starred) → (a : VariantTree Span) (later : Bool) →
+        next starred j (Read (item a later) m) → variant_view v x ≡ variant_map f a →
+        MadeVariants t next f v i ys later m
+    variant_made xs ys x all g h a later read same = record {
+      items = g.items ++ a ∷ [];
+      same =
+          ap (map (variant_view v)) all ∙ map-append (variant_view v) xs (x ∷ [])
+          ∙ ap (λ zs. zs ++ variant_view v x ∷ []) g.same
+          ∙ ap (λ z. map (variant_map f) g.items ++ z ∷ []) same ∙ sym (map-append (variant_map f) g.items (a ∷ []));
+      behind =
+          one_behind (put_variants (g.items ++ a ∷ [])) a later m g.behind h (variants_added g.items a) read;
+    }
+
+    -- the list ends
+    pub all_variants : (xs : List (Variant S)) → MadeVariants t next f v i xs starred j →
+        next starred j (Read no_item m) →
+        IsMade (variants_map f) (many next variants no_variants false) i (variants_view v xs) m
+    all_variants xs g x =
+        made (list_read (variants_of g.items) m g.behind (variants_whole g.items) x)
+        (ap variants_of g.same ∙ variants_mapped f g.items)

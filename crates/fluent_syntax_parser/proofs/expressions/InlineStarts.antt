@@ -1,0 +1,87 @@
+-- An inline expression, by what stands at its start.
+use Rattle.std.proofs.Common.{◌≡◌, ℕ, ◌+◌, List, subst, refl, inl as left, inr}
+use Rattle.std.specs.Prelude.{◌⊎◌, Result, Ok, Err}
+use Rattle.fluent_syntax_tree.specs.Kind.{ExpectedLiteral}
+use Rattle.fluent_syntax_tree.specs.Tree.{InlineTree, MaybeArguments, number_literal}
+use Rattle.fluent_syntax_tree.specs.declared.spans.Span.{Span}
+use Rattle.fluent_syntax_grammar.specs.Arguments.{argument_value}
+use Rattle.fluent_syntax_grammar.specs.Construct.{Outcome, Read, Refused, ◌>>=◌, gives, at_each, chosen, failed}
+use Rattle.fluent_syntax_grammar.specs.Construct.{goes_on}
+use Rattle.fluent_syntax_grammar.specs.Family.{Family, call_arguments}
+use Rattle.fluent_syntax_grammar.specs.Inline.{inline_expression, inline_of, named_reference}
+use Rattle.fluent_syntax_grammar.specs.Starts.{Start, digit, letter, minus, quote, start}
+use Rattle.fluent_syntax_grammar.specs.Words.{identifier, number}
+use Rattle.fluent_syntax_grammar.proofs.FunctionalRules.{IsFunctionalFamily, functional_call}
+use Rattle.fluent_syntax_grammar.proofs.FunctionalWords.{functional_identifier}
+use Rattle.fluent_syntax_parser.specs.Made.{Makes, made}
+use Rattle.fluent_syntax_parser.specs.Meets.{Fails}
+use Rattle.fluent_syntax_parser.specs.Starts.{start_view}
+use Rattle.fluent_syntax_parser.specs.declared.fault.ReadFault.{ReadFault}
+use Rattle.fluent_syntax_parser.proofs.readers.Fails.{fails_next, fails_seen}
+use Rattle.fluent_syntax_parser.proofs.readers.Made.{on_made}
+use Rattle.fluent_syntax_parser.specs.declared.expression.starts.Start as found
+use Rattle.fluent_syntax_parser.specs.declared.expression.starts.Start.TheVariants as starts
+
+module _ (t : List ℕ) (R : Family) (i : ℕ) where
+  pub by_start : (s : Start) (o : Outcome (InlineTree Span)) → s ≡ start t i → inline_of t R s i o →
+      inline_expression t R i o
+  by_start s o e h =
+      chosen (subst (λ x. inline_of t R x i o) e h)
+
+  pub by_number : (s : found.Start) (o : Outcome (InlineTree Span)) → (s ≡ starts.Digit) ⊎ (s ≡ starts.Minus) →
+      start_view s ≡ start t i → (number t >>= λ v. gives (number_literal v)) i o →
+      inline_expression t R i o
+  by_number s o (left is) e h = let e' : digit ≡ start t i = rw is at e in by_start digit o e' h
+  by_number s o (inr is) e h = let e' : minus ≡ start t i = rw is at e in by_start minus o e' h
+
+  pub by_value : (s : found.Start) (o : Outcome (InlineTree Span)) →
+      (s ≡ starts.Quote) ⊎ ((s ≡ starts.Digit) ⊎ (s ≡ starts.Letter)) → start_view s ≡ start t i →
+      inline_expression t R i o → at_each (start t) (argument_value t R) i o
+  by_value s o (left is) e h =
+      let e' : quote ≡ start t i = rw is at e in
+      chosen (subst (λ x. argument_value t R x i o) e' h)
+  by_value s o (inr (left is)) e h =
+      let e' : digit ≡ start t i = rw is at e in
+      chosen (subst (λ x. argument_value t R x i o) e' h)
+  by_value s o (inr (inr is)) e h =
+      let e' : letter ≡ start t i = rw is at e in
+      chosen (subst (λ x. argument_value t R x i o) e' h)
+
+  pub value_fails : (s : found.Start) → (s ≡ starts.Quote) ⊎ ((s ≡ starts.Digit) ⊎ (s ≡ starts.Letter)) →
+      start_view s ≡ start t i → {f : ReadFault} → Fails t (inline_expression t R) i f →
+      Fails t (at_each (start t) (argument_value t R)) i f
+  value_fails s (left is) e h =
+      let e' : quote ≡ start t i = rw is at e in fails_seen (argument_value t R) quote e' h
+  value_fails s (inr (left is)) e h =
+      let e' : digit ≡ start t i = rw is at e in fails_seen (argument_value t R) digit e' h
+  value_fails s (inr (inr is)) e h =
+      let e' : letter ≡ start t i = rw is at e in fails_seen (argument_value t R) letter e' h
+
+  refused_value : (s : found.Start) → (s ≡ starts.Quote → ⊥) → (s ≡ starts.Digit → ⊥) → (s ≡ starts.Letter → ⊥) →
+      argument_value t R (start_view s) i (Refused ExpectedLiteral i (i + 1))
+  refused_value starts.Quote a b c = absurd (a refl)
+  refused_value starts.Digit a b c = absurd (b refl)
+  refused_value starts.Letter a b c = absurd (c refl)
+  refused_value starts.Term a b c = failed refl
+  refused_value starts.Minus a b c = failed refl
+  refused_value starts.Dollar a b c = failed refl
+  refused_value starts.Brace a b c = failed refl
+  refused_value starts.Other a b c = failed refl
+
+  pub no_value : (s : found.Start) → (s ≡ starts.Quote → ⊥) → (s ≡ starts.Digit → ⊥) → (s ≡ starts.Letter → ⊥) →
+      start_view s ≡ start t i →
+      at_each (start t) (argument_value t R) i (Refused ExpectedLiteral i (i + 1))
+  no_value s a b c e =
+      chosen (subst (λ x. argument_value t R x i (Refused ExpectedLiteral i (i + 1))) e
+      (refused_value s a b c))
+
+-- a name with its arguments, by the reference that these are
+pub referred : {B X : Type 0} (t : List ℕ) (R : Family) (i : ℕ) (f : InlineTree Span → B) (view : X → B) {name : Span}
+    {a : MaybeArguments Span} {m j : ℕ} (r : Result (X × ℕ) ReadFault) →
+    Makes t f (named_reference t name a) view j r → letter ≡ start t i → identifier t i (Read name m) →
+    call_arguments t R m (Read a j) → IsFunctionalFamily R → Makes t f (inline_expression t R) view i r
+referred t R i f view (Ok x) h s n c g =
+    on_made h (λ e read same. made (by_start t R i letter _ s (goes_on n (goes_on c read))) same)
+referred t R i f view (Err e) h s n c g =
+    fails_seen (inline_of t R) letter s
+    (fails_next (functional_identifier t) n (fails_next (functional_call t R g) c h))

@@ -1,0 +1,34 @@
+use Rattle.std.proofs.Common.{◌≡◌, ◌+◌, ◌++◌, arith, length, map, ap, ◌∙◌, Some}
+use Rattle.std.specs.Prelude.{◌==◌, vec_len}
+use Rattle.std.proofs.lemmas.Result.{IfOk-equal}
+use Rattle.fluent_syntax_parser.specs.Elements.{flushed, indent_of, item_shape, leading}
+use Rattle.fluent_syntax_parser.specs.Layouts.{with_ending}
+use Rattle.fluent_syntax_parser.specs.Lines.{ending_view, line_shape, piece_shape}
+use Rattle.fluent_syntax_parser.proofs.scanning.Names.{none_named, some_named}
+use Rattle.fluent_syntax_parser.proofs.patterns.Waiting.{bare_line, full_line, none_mapped}
+use Rattle.fluent_syntax_parser.proofs.pattern.elements.add_line.Goals as goal
+
+pub returns-then-is_empty : goal.returns-then-is_empty
+returns-then-is_empty g c =
+    let l = c.args.line in
+    let size : vec_len l.pieces ≡ length l.pieces.items = omega (arith, l.pieces.ok.0) in
+    let none = none_named l.pieces.items (c.if-is_empty.ensures ∙ ap (λ n. n == 0) size) in
+    IfOk-equal c.add_bare_line.result _ _ _ c.add_bare_line.ensures
+    (ap (λ xs. map item_shape c.args.items.now.items ++ xs)
+    (bare_line c.args.edition c.args.common (line_shape l) _ c.kept_from-kept.ensures (ap (map piece_shape) none)))
+
+pub returns : goal.returns
+returns g c =
+    let l = c.args.line in
+    let size : vec_len l.pieces ≡ length l.pieces.items = omega (arith, l.pieces.ok.0) in
+    let some = some_named l.pieces.items (c.if-is_empty.ensures ∙ ap (λ n. n == 0) size) in
+    let old = map item_shape c.args.items.now.items in
+    let kept = c.kept_from-kept.result in
+    let line = with_ending (leading (Some kept) (map piece_shape l.pieces.items)) (ending_view l.ending) in
+    let indent =
+    c.indent_of-indent.ensures
+    ∙ ap (λ ps. indent_of c.args.edition kept (l.start + l.spaces) (map piece_shape ps)) c.deref.ensures.value in
+    IfOk-equal c.add_pieces.result _ _ _ c.add_pieces.ensures
+    (ap (λ xs. xs ++ line) (c.in_ok-add_waiting.ensures ∙ ap (flushed old) indent)
+    ∙ full_line c.args.edition c.args.common (line_shape l) kept c.kept_from-kept.ensures old
+    (λ e. some (none_mapped piece_shape l.pieces.items e)))

@@ -1,0 +1,10 @@
+pub mod BlankLines
+pub mod Cut
+pub mod Layouts
+pub mod LineEndings
+pub mod OneLine
+pub mod Pieces
+pub mod Runs
+pub mod Shapes
+pub mod Spelled
+pub mod Waiting

@@ -1,0 +1,178 @@
+-- Blank lines: they belong to a pattern, and none of their items stays where nothing follows them.
+use Rattle.std.proofs.Common.{◌≡◌, ℕ, zero, suc, ◌+◌, ◌-◌, ◌<◌, ◌≤◌, List, [], ◌∷◌, ◌++◌, length, take, drop, get_or}
+use Rattle.std.proofs.Common.{Option, Some, None, Bool, true, false, refl, sym, subst, arith}
+use Rattle.std.specs.Prelude.{slice_get, slice_range, ◌==◌, ◌||◌, ◌&&◌, if◌then◌else◌, min, nat_lt}
+use Rattle.std.specs.List.{flat_map}
+use Rattle.std.proofs.Math.Seq.{drop-cons}
+use Rattle.std.proofs.lemmas.Bool.Decides.{nat_tests}
+use Rattle.std.proofs.lemmas.Option.{slice_get-get_or, slice_get_within}
+use Rattle.fluent_syntax_tree.specs.declared.edition.Edition.{Edition}
+use Rattle.fluent_syntax_grammar.specs.Bytes.{lf, cr, space}
+use Rattle.fluent_syntax_grammar.specs.Construct.{Read, at_place, chosen, first, given, goes_on, item_and_more}
+use Rattle.fluent_syntax_grammar.specs.Construct.{list_ends, passed}
+use Rattle.fluent_syntax_grammar.specs.Elements.{Item, cut, is_nonblank, line_items}
+use Rattle.fluent_syntax_grammar.specs.Family.{Family}
+use Rattle.fluent_syntax_grammar.specs.Grammar.{within}
+use Rattle.fluent_syntax_grammar.specs.Layout.{Line, crlf_at, lf_at}
+use Rattle.fluent_syntax_grammar.specs.Lines.{belongs, more_lines, more_pieces, own_line}
+use Rattle.fluent_syntax_grammar.specs.Places.{BlankBlock, InlineBlank, after_eol, has_byte, has_eol, line, no_line}
+use Rattle.fluent_syntax_grammar.proofs.Facts.{byte_found, equal}
+use Rattle.fluent_syntax_parser.proofs.patterns.LineEndings.{ends_line}
+use Rattle.fluent_syntax_parser.specs.OneLine.{AreBlank, EndsBlank, NoLines}
+
+-- ---- line ends
+
+pub eol_there : (a b : Bool) (i k : ℕ) → (if a then Some (i + 1) else if b then Some (i + 2) else None) ≡ Some k →
+    (a || b) ≡ true
+eol_there true b i k e = refl
+eol_there false true i k e = refl
+eol_there false false i k e = cc
+
+pub crlf_byte : (a b c : Bool) (i k : ℕ) →
+    (if a then Some (i + 1) else if b && c then Some (i + 2) else None) ≡ Some k → (k ≡ i + 1 → ⊥) → c ≡ true
+crlf_byte true b c i k e other = let same : i + 1 ≡ k = cc in absurd (other (sym same))
+crlf_byte false true true i k e other = refl
+crlf_byte false true false i k e other = cc
+crlf_byte false false c i k e other = cc
+
+lf_byte : (a b : Bool) (i k : ℕ) → (if a then Some (i + 1) else if b then Some (i + 2) else None) ≡ Some k →
+    k ≡ i + 1 → a ≡ true
+lf_byte true b i k e same = refl
+lf_byte false true i k e same = let two : i + 2 ≡ k = cc in absurd (omega (arith, two, same))
+lf_byte false false i k e same = cc
+
+-- ---- texts that are blank
+
+module _ (t : List ℕ) (i j : ℕ) (l : i < j) (within : j ≤ length t) where
+  pub range_cons : (n : ℕ) → j - i ≡ suc n → slice_range t i j ≡ get_or t i 0 ∷ take n (drop (suc i) t)
+  range_cons n e = rw (drop-cons t i 0 (omega arith), e) refl
+
+pub lf_blank : (t : List ℕ) (i j : ℕ) → j ≡ i + 1 → has_byte t lf i ≡ true → is_nonblank (slice_range t i j) ≡ false
+lf_blank t i j l e =
+    let f = byte_found (λ c. c == lf) (slice_get t i) e in
+    let within = slice_get_within t i f.0 f.1 in
+    let same : get_or t i 0 ≡ lf = let h = slice_get-get_or t i 0 within in let b : f.0 ≡ lf = equal f.0 lf f.2 in cc in
+    let n : j - i ≡ suc 0 = omega arith in
+    rw (range_cons t i j (omega arith) (omega arith) 0 n, same) refl
+
+space_first : (b : ℕ) (bs : List ℕ) → (b == space) ≡ true → is_nonblank (b ∷ bs) ≡ is_nonblank bs
+space_first b [] e =
+    let other : (b == lf) ≡ false = grind (arith, nat_tests) in
+    rw (other, e) refl
+space_first b (c ∷ bs) e = rw e refl
+
+module _ (t : List ℕ) (k : ℕ) (there : has_byte t lf k ≡ true) where
+  inside : k < length t
+  inside = let f = byte_found (λ c. c == lf) (slice_get t k) there in slice_get_within t k f.0 f.1
+
+  -- spaces and an LF
+  blank_text : (n i : ℕ) → n ≡ k - i → i ≤ k → ((j : ℕ) → i ≤ j → j < k → has_byte t space j ≡ true) →
+      is_nonblank (slice_range t i (k + 1)) ≡ false
+  blank_text zero i size l spaces =
+      let same : k ≡ i = omega (arith, size, l) in
+      lf_blank t i (k + 1) (omega (arith, same)) (subst (λ p. has_byte t lf p ≡ true) same there)
+  blank_text (suc m) i size l spaces =
+      let some : i < k = omega (arith, size) in
+      let f = byte_found (λ c. c == space) (slice_get t i) (spaces i (omega arith) some) in
+      let same : get_or t i 0 ≡ f.0 = let h = slice_get-get_or t i 0 (omega (arith, inside, some)) in let e = f.1 in cc
+      in
+      rw (
+        range_cons t i (k + 1) (omega (arith, some)) (omega (arith, inside)) (k + 1 - suc i) (omega (arith, some)),
+        same,
+        space_first f.0 (slice_range t (suc i) (k + 1)) f.2,
+      )
+      (blank_text m (suc i) (omega (arith, size)) (omega (arith, some)) (λ j a b. spaces j (omega (arith, a)) b))
+
+-- ---- lines that are blank
+
+-- a blank line from i to m, whose line end begins at k
+abbrev blank_line : (i k m : ℕ) → Line
+blank_line i k m =
+    record { start = i; spaces = k - i; pieces = []; ending = if m == k + 1 then lf_at k else crlf_at k }
+
+module _ (edition : Edition) (t : List ℕ) (common : Option ℕ) (i k m : ℕ) (blank : InlineBlank t i k)
+    (eol : after_eol t k ≡ Some m) (rest : List Item) (none : cut t rest ≡ []) where
+  kept_blank : (c : Option ℕ) → m ≡ k + 1 →
+      cut t (line_items edition c (record { start = i; spaces = k - i; pieces = []; ending = lf_at k }) ++ rest) ≡ []
+  kept_blank None same =
+      let there = lf_byte (has_byte t lf k) _ k m eol same in
+      let forward = blank.forward in
+      let empty = blank_text t k there 0 (i + (k - i)) (omega (arith, forward)) (omega (arith, forward))
+      (λ j a b. absurd (omega (arith, a, b, forward))) in
+      rw (none, empty) refl
+  kept_blank (Some c) same =
+      let there = lf_byte (has_byte t lf k) _ k m eol same in
+      let forward = blank.forward in
+      let empty = blank_text t k there (k - (i + min (k - i) c)) (i + min (k - i) c) refl (omega (arith, forward))
+      (λ j a b. blank.each j (omega (arith, a)) b) in
+      rw (none, empty) refl
+
+  by_test : (b : Bool) → (m == k + 1) ≡ b →
+      cut t (line_items edition common (record {
+        start = i;
+        spaces = k - i;
+        pieces = [];
+        ending = if b then lf_at k else crlf_at k;
+      }) ++ rest) ≡ []
+  by_test true is = kept_blank common (equal m (k + 1) is)
+  by_test false is =
+      let other : m ≡ k + 1 → ⊥ = λ same. grind (arith, nat_tests) in
+      let empty = lf_blank t (k + 1) (k + 2) (omega arith)
+      (crlf_byte (has_byte t lf k) (has_byte t cr k) _ k m eol other) in
+      rw (none, empty) refl
+
+  blank_items : cut t (line_items edition common (blank_line i k m) ++ rest) ≡ []
+  blank_items = by_test (m == k + 1) refl
+
+module _ (t : List ℕ) (R : Family) where
+  pub no_piece : (i : ℕ) (o : Option ℕ) → slice_get t i ≡ o → has_eol t i ≡ true → more_pieces t R i (Read [] i)
+  no_piece i None e eol = list_ends (chosen (rw e given))
+  no_piece i (Some b) e eol = list_ends (chosen (rw e (chosen (first eol given))))
+
+module _ (edition : Edition) (t : List ℕ) where
+  byte_there : (k : ℕ) (o : Option ℕ) → slice_get t k ≡ o → has_eol t k ≡ true → (b : ℕ) × (slice_get t k ≡ Some b)
+  byte_there k None e eol = let f = rw e at eol in cc
+  byte_there k (Some b) e eol = (b, e)
+
+  owned : (k : ℕ) (b : Bool) → has_eol t k ≡ true → belongs t b k ≡ true
+  owned k true eol = rw eol refl
+  owned k false eol = rw eol refl
+
+  -- the lines of a blank block
+  blanks : (i j : ℕ) → BlankBlock t i j → List Line
+  blanks i j (no_line blank none) = []
+  blanks i j (line {k = k} {m = m} blank eol more) = blank_line i k m ∷ blanks m j more
+
+  blanks_read : (R : Family) (i j end : ℕ) (block : BlankBlock t i j) → more_lines t R j (Read [] end) →
+      more_lines t R i (Read (blanks i j block) end)
+  unfolding blanks
+  blanks_read R i j end (no_line blank none) last = last
+  blanks_read R i j end (line {k = k} {m = m} blank eol more) last =
+      let there = eol_there (has_byte t lf k) _ k m eol in
+      let byte = byte_there k (slice_get t k) refl there in
+      item_and_more
+      (own_line blank byte.1 (owned k (nat_lt i k) there)
+      (goes_on
+      (goes_on at_place
+      (goes_on (passed blank)
+      (goes_on at_place
+      (goes_on (no_piece t R k (slice_get t k) refl there)
+      (goes_on (ends_line t k m eol)
+      given)))))
+      given))
+      (blanks_read R m j end more last)
+
+  blanks_blank : (i j : ℕ) (block : BlankBlock t i j) → AreBlank edition t (blanks i j block)
+  unfolding blanks
+  blanks_blank i j (no_line blank none) = λ common. refl
+  blanks_blank i j (line {k = k} {m = m} blank eol more) = λ common.
+      blank_items edition t common i k m blank eol (flat_map (line_items edition common) (blanks m j more))
+      (blanks_blank m j more common)
+
+  -- the blank lines of a blank block, where no line of a pattern follows them
+  pub blank_lines : (i j end : ℕ) → BlankBlock t i j → NoLines edition t j end → EndsBlank edition t i end
+  blank_lines i j end block last = record {
+    lines = blanks i j block;
+    read = λ n. blanks_read (within edition t n) i j end block (last n);
+    blank = blanks_blank i j block;
+  }

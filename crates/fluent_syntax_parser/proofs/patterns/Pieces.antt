@@ -1,0 +1,107 @@
+-- The next piece of a line, by its first byte; and the lines of a pattern.
+use Rattle.std.proofs.Common.{◌≡◌, ℕ, ◌+◌, ◌-◌, ◌<◌, List, Option, Some, None, Bool, true, false, not, refl}
+use Rattle.std.proofs.Common.{sym, ap, ◌∙◌, subst, arith, true≢false}
+use Rattle.std.specs.Prelude.{slice_get, ◌==◌, ◌||◌, ◌&&◌, nat_lt}
+use Rattle.std.proofs.lemmas.Bool.Decides.{nat_tests}
+use Rattle.fluent_syntax_tree.specs.Kind.{UnbalancedClosingBrace}
+use Rattle.fluent_syntax_grammar.specs.Bytes.{lf, left_brace, right_brace}
+use Rattle.fluent_syntax_grammar.specs.Construct.{Outcome, Read, Refused, ◌>>=◌, gives, goes_on}
+use Rattle.fluent_syntax_grammar.specs.Construct.{given, failed, passed, chosen, first, second, at_place, More, no_item}
+use Rattle.fluent_syntax_grammar.specs.Construct.{item}
+use Rattle.fluent_syntax_grammar.specs.Family.{Family}
+use Rattle.fluent_syntax_grammar.specs.Layout.{Piece, run, placed, Ending, Line}
+use Rattle.fluent_syntax_grammar.specs.Lines.{is_run_place, next_piece, next_piece_at, text_run, ending, no_byte}
+use Rattle.fluent_syntax_grammar.specs.Lines.{belongs, line, more_pieces, next_line, other_line, own_line}
+use Rattle.fluent_syntax_grammar.specs.Nesting.{TooDeep}
+use Rattle.fluent_syntax_grammar.specs.Placeables.{placeable}
+use Rattle.fluent_syntax_grammar.specs.Places.{Stretch, holds, has_byte, has_eol, InlineBlank}
+use Rattle.fluent_syntax_grammar.proofs.Functional.{single_stretch}
+use Rattle.fluent_syntax_parser.specs.Meets.{Fails, no_memory, refused, too_deep}
+use Rattle.fluent_syntax_parser.specs.declared.fault.ReadFault.{ReadFault}
+use Rattle.fluent_syntax_parser.proofs.readers.Fails.{fails_no, fails_seen, fails_yes}
+
+run_test : (o : Option ℕ) (b : ℕ) (eol : Bool) → o ≡ Some b → eol ≡ false → (b ≡ right_brace → ⊥) →
+    (b ≡ left_brace → ⊥) → (b ≡ lf → ⊥) →
+    (holds (λ b. not (b == lf || b == left_brace || b == right_brace)) o && not eol) ≡ true
+run_test o b eol e f close opening line = rw (e, f) (grind (arith, nat_tests))
+
+module _ (t : List ℕ) (R : Family) (i b : ℕ) (e : slice_get t i ≡ Some b) (eol : has_eol t i ≡ false) where
+  by_piece : (o : Outcome (More Piece (Unit {0}))) → next_piece_at t R (Some b) i o → next_piece t R i o
+  by_piece o h = chosen (subst (λ x. next_piece_at t R x i o) (sym e) h)
+
+  pub bare_brace : b ≡ right_brace → next_piece t R i (Refused UnbalancedClosingBrace i (i + 1))
+  bare_brace is = by_piece _ (chosen (second eol (first (rw is refl) (failed refl))))
+
+  pub brace_stands : b ≡ left_brace → has_byte t left_brace i ≡ true
+  brace_stands is = rw (e, is) refl
+
+  pub placed_piece : b ≡ left_brace → (o : Outcome (More Piece (Unit {0}))) →
+      (placeable t R >>= λ e. gives (item (placed e) tt)) i o → next_piece t R i o
+  placed_piece is o h = by_piece o (chosen (second eol (second (rw is refl) (first (rw is refl) h))))
+
+  pub placed_fails : b ≡ left_brace → {f : ReadFault} →
+      Fails t (placeable t R >>= λ e. gives {A = More Piece (Unit {0})} (item (placed e) tt)) i f →
+      Fails t (next_piece t R) i f
+  placed_fails is h =
+      fails_seen (next_piece_at t R) (Some b) (sym e)
+      (fails_seen _ false (sym eol) (fails_no refl (fails_no (rw is refl) (fails_yes (rw is refl) h))))
+
+  module _ (close : b ≡ right_brace → ⊥) (opening : b ≡ left_brace → ⊥) where
+    no_close : (b == right_brace) ≡ false
+    no_close = grind (arith, nat_tests)
+
+    no_open : (b == left_brace) ≡ false
+    no_open = grind (arith, nat_tests)
+
+    pub run_piece : (j : ℕ) → Stretch (is_run_place t) i j → next_piece t R i (Read (item (run i j) tt) j)
+    run_piece j w =
+        let text : text_run t i (Read (run i j) j) = goes_on at_place (goes_on (passed w) (goes_on at_place given)) in
+        by_piece _ (chosen (second eol (second no_close (second no_open (goes_on text given)))))
+
+    no_line : b ≡ lf → ⊥
+    no_line is = let f = rw e at eol in cc
+
+    pub run_there : is_run_place t i ≡ true
+    run_there = run_test (slice_get t i) b (has_eol t i) e eol close opening no_line
+
+-- a stretch that begins with what it is of
+pub further : (test : ℕ → Bool) (i j : ℕ) → Stretch test i j → test i ≡ true → i < j
+further test i j w here =
+    let apart : i ≡ j → ⊥ = λ same. true≢false (sym here ∙ ap test same ∙ w.longest) in
+    omega (arith, w.forward, apart)
+
+module _ (t : List ℕ) (R : Family) where
+  pub no_pieces : (i : ℕ) (o : Option ℕ) → slice_get t i ≡ o → (o ≡ None → ⊥) → has_eol t i ≡ true →
+      next_piece t R i (Read no_item i)
+  no_pieces i None e some eol = absurd (some refl)
+  no_pieces i (Some b) e some eol = chosen (rw e (chosen (first eol given)))
+
+  pub end_pieces : (i : ℕ) → slice_get t i ≡ None → next_piece t R i (Read no_item i)
+  end_pieces i e = chosen (rw e given)
+
+  pub no_lines : (i : ℕ) → slice_get t i ≡ None → next_line t R i (Read no_item i)
+  no_lines i e =
+      no_byte (record { forward = omega arith; each = λ k l r. absurd (omega arith); longest = rw e refl }) e
+
+  pub line_read : (i k : ℕ) → InlineBlank t i k → (ps : List Piece) (j m : ℕ) (end : Ending) →
+      more_pieces t R k (Read ps j) → ending t j (Read end m) →
+      line t R i (Read (record { start = i; spaces = k - i; pieces = ps; ending = end }) m)
+  line_read i k blank ps j m end pieces ends =
+      goes_on at_place (goes_on (passed blank) (goes_on at_place (goes_on pieces (goes_on ends given))))
+
+  own_too_deep : {i k : ℕ} → InlineBlank t i k → belongs t (nat_lt i k) k ≡ true → {b : ℕ} → slice_get t k ≡ Some b →
+      TooDeep (line t R >>= λ l. gives {A = More Line (Unit {0})} (item l tt)) i → TooDeep (next_line t R) i
+  own_too_deep {i = i} {k = k} w own e h o (no_byte {k = m} v none) =
+      let same : m ≡ k = single_stretch.same i m k v w in
+      let f = rw same at none in cc
+  own_too_deep {i = i} {k = k} w own e h o (other_line {k = m} v there other) =
+      let same : m ≡ k = single_stretch.same i m k v w in
+      let f = rw same at other in cc
+  own_too_deep w own e h o (own_line v there is x) = h o x
+
+  pub own_line_fails : {i k b : ℕ} → InlineBlank t i k → slice_get t k ≡ Some b → belongs t (nat_lt i k) k ≡ true →
+      {f : ReadFault} → Fails t (line t R >>= λ l. gives {A = More Line (Unit {0})} (item l tt)) i f →
+      Fails t (next_line t R) i f
+  own_line_fails w e own (refused h) = refused (λ k from to s. own_line w e own (h k from to s))
+  own_line_fails w e own (too_deep h) = too_deep (own_too_deep w own e h)
+  own_line_fails w e own no_memory = no_memory

@@ -1,0 +1,98 @@
+-- The elements that are made of a layout.
+use Rattle.std.proofs.Common.{◌≡◌, ℕ, List, [], ◌∷◌, ◌++◌, map, Option, Some, None, option_map, refl, sym, ap, ◌∙◌}
+use Rattle.std.specs.List.{flat_map}
+use Rattle.fluent_syntax_tree.specs.Tree.{ElementTree, ExpressionTree, text_element, placeable, elements_of}
+use Rattle.fluent_syntax_tree.specs.Tree.{element_map, pattern_map}
+use Rattle.fluent_syntax_tree.specs.View.{element_view, pattern_view}
+use Rattle.fluent_syntax_tree.proofs.Views.{view-Pattern}
+use Rattle.fluent_syntax_tree.specs.declared.ast.Pattern.{Pattern}
+use Rattle.fluent_syntax_tree.specs.declared.edition.Edition.{Edition}
+use Rattle.fluent_syntax_tree.specs.declared.spans.Span.{Span}
+use Rattle.fluent_syntax_grammar.specs.Elements as grammar
+use Rattle.fluent_syntax_grammar.specs.Elements.{if_any, pattern_of, trimmed_end}
+use Rattle.fluent_syntax_grammar.specs.Layout as layout
+use Rattle.fluent_syntax_grammar.specs.Layout.{least}
+use Rattle.fluent_syntax_parser.specs.Elements.{element_of, item_view, last_of, layout_view}
+use Rattle.fluent_syntax_parser.specs.Layouts as layouts
+use Rattle.fluent_syntax_parser.specs.Layouts.{text, filled, counted, cut, items_with, item_of, layout_of}
+use Rattle.fluent_syntax_parser.specs.declared.pattern.line.Piece.{Piece}
+use Rattle.fluent_syntax_parser.specs.declared.pattern.elements.Layout.{Layout}
+use Rattle.fluent_syntax_parser.proofs.patterns.Layouts.{any_of, common_of, cut_of, items_of}
+
+if_some : {X : Type 0} (xs : List (ElementTree X)) (x : ElementTree X) →
+    if_any (xs ++ x ∷ []) ≡ Some (elements_of (xs ++ x ∷ []))
+if_some [] x = refl
+if_some (y ∷ ys) x = refl
+
+no_item_of : {X : Type 0} (f : Span → X) (xs : List grammar.Item) → map (item_of f) xs ≡ [] → xs ≡ []
+no_item_of f [] e = refl
+no_item_of f (x ∷ xs) e = cc
+
+module _ {X : Type 0} (f : Span → X) (t : List ℕ) where
+  -- the elements of the items
+  abbrev spelled : List (layouts.Item (ExpressionTree X)) → List (ElementTree X)
+  spelled [] = []
+  spelled (text from to ∷ []) = text_element (f (record { start = from; end = trimmed_end t from to })) ∷ []
+  spelled (text from to ∷ x ∷ xs) = text_element (f (record { start = from; end = to })) ∷ spelled (x ∷ xs)
+  spelled (filled e ∷ xs) = placeable e ∷ spelled xs
+
+  spelled_of : (xs : List grammar.Item) →
+      map (element_map f) (grammar.spelled t xs) ≡ spelled (map (item_of f) xs)
+  spelled_of [] = refl
+  spelled_of (grammar.text from to ∷ []) = refl
+  spelled_of (grammar.text from to ∷ grammar.text a b ∷ xs) =
+      ap (λ zs. text_element (f (record { start = from; end = to })) ∷ zs) (spelled_of (grammar.text a b ∷ xs))
+  spelled_of (grammar.text from to ∷ grammar.filled e ∷ xs) =
+      ap (λ zs. text_element (f (record { start = from; end = to })) ∷ zs) (spelled_of (grammar.filled e ∷ xs))
+  spelled_of (grammar.filled e ∷ xs) = ap (λ zs. element_map f (placeable e) ∷ zs) (spelled_of xs)
+
+  spelled_end : (xs : List (layouts.Item (ExpressionTree X))) (x : layouts.Item (ExpressionTree X)) →
+      spelled (xs ++ x ∷ []) ≡ map (element_of f) xs ++ last_of f t x ∷ []
+  spelled_end [] (text from to) = refl
+  spelled_end [] (filled e) = refl
+  spelled_end (text from to ∷ []) x =
+      ap (λ zs. text_element (f (record { start = from; end = to })) ∷ zs) (spelled_end [] x)
+  spelled_end (text from to ∷ y ∷ ys) x =
+      ap (λ zs. text_element (f (record { start = from; end = to })) ∷ zs) (spelled_end (y ∷ ys) x)
+  spelled_end (filled e ∷ xs) x = ap (λ zs. placeable e ∷ zs) (spelled_end xs x)
+
+  -- what the grammar's layout spells, by the items that are left of it
+  spells : (edition : Edition) (y : layout.Layout) →
+      option_map (pattern_map f) (pattern_of edition t y)
+      ≡ if_any (spelled (map (item_of f) (grammar.cut t (grammar.items edition y))))
+  spells edition y =
+      any_of f (grammar.spelled t (grammar.cut t (grammar.items edition y)))
+      ∙ ap if_any (spelled_of (grammar.cut t (grammar.items edition y)))
+
+  module _ {S : Type 0} (v : S → X) (edition : Edition) (laid : Layout S) (common : Option ℕ) (all : List (Piece S))
+      (indent : common ≡ least (flat_map (counted edition) (layout_view v laid).lines))
+      (made : map (item_view v) all ≡ items_with edition common (layout_view v laid))
+      (y : layout.Layout) (same : layout_view v laid ≡ layout_of f y) where
+    all_items : map (item_view v) all ≡ map (item_of f) (grammar.items edition y)
+    all_items =
+        made
+        ∙ ap (λ c. items_with edition c (layout_view v laid))
+        (indent ∙ ap (λ l. least (flat_map (counted edition) l.lines)) same ∙ common_of f edition y)
+        ∙ ap (items_with edition (layout.common_indent edition y)) same
+        ∙ items_of f edition y
+
+    all_cut : cut t (map (item_view v) all) ≡ map (item_of f) (grammar.cut t (grammar.items edition y))
+    all_cut = ap (cut t) all_items ∙ cut_of f t (grammar.items edition y)
+
+    pub none_spelled : cut t (map (item_view v) all) ≡ [] →
+        None ≡ option_map (pattern_map f) (pattern_of edition t y)
+    none_spelled none =
+        let left = no_item_of f (grammar.cut t (grammar.items edition y)) (sym all_cut ∙ none) in
+        ap (λ xs. option_map (pattern_map f) (if_any (grammar.spelled t xs))) (sym left)
+
+    pub some_spelled : (left : List (Piece S)) (last : Piece S) (pattern : Pattern S) →
+        cut t (map (item_view v) all) ≡ map (item_view v) left ++ item_view v last ∷ [] →
+        map (element_view v) pattern.elements.items
+        ≡ map (element_of f) (map (item_view v) left) ++ last_of f t (item_view v last) ∷ [] →
+        Some (pattern_view v pattern) ≡ option_map (pattern_map f) (pattern_of edition t y)
+    some_spelled left last pattern cuts elements =
+        ap Some (view-Pattern v pattern ∙ ap elements_of elements)
+        ∙ sym (if_some (map (element_of f) (map (item_view v) left)) (last_of f t (item_view v last)))
+        ∙ ap if_any (sym (spelled_end (map (item_view v) left) (item_view v last)))
+        ∙ ap (λ xs. if_any (spelled xs)) (sym cuts ∙ all_cut)
+        ∙ sym (spells edition y)

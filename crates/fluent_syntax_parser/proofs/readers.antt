@@ -1,0 +1,6 @@
+pub mod Behind
+pub mod Carried
+pub mod Fails
+pub mod Gathers
+pub mod Made
+pub mod SameTrees

@@ -1,0 +1,6 @@
+pub mod LaneRuns
+pub mod LineEnds
+pub mod Names
+pub mod Ranges
+pub mod Scans
+pub mod StringBytes

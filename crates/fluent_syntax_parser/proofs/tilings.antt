@@ -1,0 +1,7 @@
+pub mod AnswerOf
+pub mod DeeperTiles
+pub mod ErrorPlaces
+pub mod PartsOfEntries
+pub mod PartsOfTiling
+pub mod Rests
+pub mod TileForms

@@ -1,0 +1,122 @@
+-- Texts that nest deeper, from tile to tile.
+use Rattle.std.proofs.Common.{◌≡◌, ℕ, ◌<◌, List, [], ◌∷◌, length, Option, true, false, refl, subst, arith}
+use Rattle.fluent_syntax_tree.specs.Entry.{EntryTree, comment, regular}
+use Rattle.fluent_syntax_tree.specs.declared.edition.Edition.{Edition}
+use Rattle.fluent_syntax_tree.specs.declared.errors.ParserError.{ParserError}
+use Rattle.fluent_syntax_tree.specs.declared.spans.Span.{Span}
+use Rattle.fluent_syntax_grammar.specs.Bytes.{hash}
+use Rattle.fluent_syntax_grammar.specs.Construct.{Read}
+use Rattle.fluent_syntax_grammar.specs.Grammar.{within}
+use Rattle.fluent_syntax_grammar.specs.Nesting.{TextDeeper, TooDeep}
+use Rattle.fluent_syntax_grammar.specs.Places.{BlankBlock, has_byte}
+use Rattle.fluent_syntax_grammar.specs.Tiling as tiling
+use Rattle.fluent_syntax_grammar.specs.Tiling.{Tile, Tiled, done, next, drops, entry_in, reads, refuses, stands}
+use Rattle.fluent_syntax_grammar.specs.Tiling.{whole_line}
+use Rattle.fluent_syntax_grammar.proofs.Functional.{single_block}
+use Rattle.fluent_syntax_grammar.proofs.Nesting.{functional_within}
+use Rattle.fluent_syntax_grammar.proofs.OneTiling.{IsOneTile, one_runtime_tile_in, one_tile_in}
+use Rattle.fluent_syntax_parser.specs.Rest.{GivesTile, Standing, TileDeeper, TileIn, are_dropped, at_end, at_tile}
+use Rattle.fluent_syntax_parser.specs.declared.options.Comments.{Comments}
+use Rattle.fluent_syntax_parser.specs.declared.options.Comments.TheVariants.{Kept, Dropped}
+use Rattle.fluent_syntax_parser.proofs.tilings.Rests.{behind_block, is_no_bare_comment}
+
+-- ---- tiles of whatever kind
+
+module _ (t : List ℕ) (at : (i j : ℕ) → Tile → Type 0) where
+  -- behind a blank block the tiles are those from its end on
+  standing_there : (i start : ℕ) (tiles : List Tile) → BlankBlock t i start → Tiled t at i tiles →
+      Standing t at start tiles
+  standing_there i start tiles block (done all) = at_end (single_block.same i start (length t) block all)
+  standing_there i start tiles block (next {start = s} {end = end} {tile = tile} {tiles = more} other l x rest) =
+      let same = single_block.same i s start other block in
+      at_tile (subst (λ k. k < length t) same l) (subst (λ k. at k end tile) same x) rest
+
+module _ (edition : Edition) (t : List ℕ) (n : ℕ) where
+  one_within : (comments : Comments) → IsOneTile (TileIn comments edition t (within edition t n))
+  one_within Kept = one_tile_in edition t (within edition t n) (functional_within edition t n)
+  one_within Dropped = one_runtime_tile_in edition t (within edition t n) (functional_within edition t n)
+
+  module _ (comments : Comments) (i j : ℕ) where
+    -- a blank block holds no entry
+    pub text_deeper : BlankBlock t i j → TileDeeper edition t (TileIn comments edition t) n j →
+        TextDeeper edition t (TileIn comments edition t) n i
+    text_deeper block d tiles tiled =
+        d tiles (standing_there t (TileIn comments edition t (within edition t n)) i j tiles block tiled)
+
+    pub tile_deeper : BlankBlock t i j → TextDeeper edition t (TileIn comments edition t) n i →
+        TileDeeper edition t (TileIn comments edition t) n j
+    tile_deeper block d tiles standing =
+        d tiles (behind_block t (TileIn comments edition t (within edition t n)) i j tiles block standing)
+
+    module _ (inside : i < length t) (tile : Tile)
+        (there : TileIn comments edition t (within edition t n) i j tile) where
+      -- behind a tile that stands
+      pub behind_one : TextDeeper edition t (TileIn comments edition t) n j →
+          TileDeeper edition t (TileIn comments edition t) n i
+      behind_one d tiles (at_end e) = omega (arith, e, inside)
+      behind_one d tiles (at_tile {end = k} {tile = x} {tiles = more} l y rest) =
+          let same : k ≡ j = (one_within comments).same_end i k j x tile y there in
+          d more (subst (λ k. Tiled t (TileIn comments edition t (within edition t n)) k more) same rest)
+
+      pub one_led : TileDeeper edition t (TileIn comments edition t) n i →
+          TextDeeper edition t (TileIn comments edition t) n j
+      one_led d more rest = d (_ ∷ more) (at_tile inside there rest)
+
+  -- no tile stands where the entry nests too deeply
+  pub entry_deeper : (comments : Comments) (i : ℕ) → (are_dropped comments ≡ true → has_byte t hash i ≡ false) →
+      i < length t → TooDeep (entry_in edition t (within edition t n)) i →
+      TileDeeper edition t (TileIn comments edition t) n i
+  entry_deeper comments i none inside d tiles (at_end e) = omega (arith, e, inside)
+  entry_deeper Kept i none inside d tiles (at_tile l (reads x) rest) = d _ x
+  entry_deeper Kept i none inside d tiles (at_tile l (refuses x end) rest) = d _ x
+  entry_deeper Dropped i none inside d tiles (at_tile l (drops there line) rest) = let f = none refl in cc
+  entry_deeper Dropped i none inside d tiles (at_tile l (stands bare (reads x)) rest) = d _ x
+  entry_deeper Dropped i none inside d tiles (at_tile l (stands bare (refuses x end)) rest) = d _ x
+
+  -- tiles stand at the text's end: none
+  pub tile_at_end : (comments : Comments) (i : ℕ) → i ≡ length t →
+      TileDeeper edition t (TileIn comments edition t) n i → ⊥
+  tile_at_end comments i end d = d [] (at_end end)
+
+  -- ---- behind a line that is dropped
+
+  module _ (i j : ℕ) (inside : i < length t) (comments : Comments) (dropped : are_dropped comments ≡ true)
+      (there : has_byte t hash i ≡ true) (line : whole_line t i (Read tt j)) where
+    dropped_there : (comments : Comments) → are_dropped comments ≡ true →
+        TileIn comments edition t (within edition t n) i j tiling.dropped
+    dropped_there Kept no_drop = cc
+    dropped_there Dropped drop = drops there line
+
+    pub behind_dropped : TextDeeper edition t (TileIn comments edition t) n j →
+        TileDeeper edition t (TileIn comments edition t) n i
+    behind_dropped = behind_one comments i j inside _ (dropped_there comments dropped)
+
+    pub dropped_led : TileDeeper edition t (TileIn comments edition t) n i →
+        TextDeeper edition t (TileIn comments edition t) n j
+    dropped_led = one_led comments i j inside _ (dropped_there comments dropped)
+
+  -- ---- behind a comment of level 1, which is read where comments are kept
+
+  module _ (i j : ℕ) (inside : i < length t) (e : EntryTree Span) (error : Option ParserError)
+      (tile : GivesTile edition t n i j e error) (content : List Span)
+      (same : e ≡ comment regular content) where
+    pub behind_comment : (comments : Comments) → (are_dropped comments ≡ true → has_byte t hash i ≡ false) →
+        TextDeeper edition t (tiling.TileIn edition t) n j → TileDeeper edition t (TileIn comments edition t) n i
+    behind_comment Kept none h = behind_one Kept i j inside tile.tile tile.stands h
+    behind_comment Dropped none h =
+        absurd (is_no_bare_comment edition t n i j inside e error tile content same (none refl))
+
+    -- behind what may hang on it
+    pub behind_hung : (comments : Comments) → (are_dropped comments ≡ true → has_byte t hash i ≡ false) → (k : ℕ) →
+        (TextDeeper edition t (tiling.TileIn edition t) n k → TextDeeper edition t (tiling.TileIn edition t) n j) →
+        TextDeeper edition t (TileIn comments edition t) n k → TileDeeper edition t (TileIn comments edition t) n i
+    behind_hung Kept none k through h = behind_one Kept i j inside tile.tile tile.stands (through h)
+    behind_hung Dropped none k through h =
+        absurd (is_no_bare_comment edition t n i j inside e error tile content same (none refl))
+
+    pub hung_led : (comments : Comments) → (are_dropped comments ≡ true → has_byte t hash i ≡ false) → (k : ℕ) →
+        (TextDeeper edition t (tiling.TileIn edition t) n j → TextDeeper edition t (tiling.TileIn edition t) n k) →
+        TileDeeper edition t (TileIn comments edition t) n i → TextDeeper edition t (TileIn comments edition t) n k
+    hung_led Kept none k through h = through (one_led Kept i j inside tile.tile tile.stands h)
+    hung_led Dropped none k through h =
+        absurd (is_no_bare_comment edition t n i j inside e error tile content same (none refl))

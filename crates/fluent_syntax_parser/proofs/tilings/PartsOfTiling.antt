@@ -1,0 +1,30 @@
+-- The texts of an answer are parts of the source.
+use Rattle.std.proofs.Common.{List, ℕ, sym, subst}
+use Rattle.std.specs.Prelude.{Result, Ok, Err}
+use Rattle.std.specs.Str.{IsUtf8}
+use Rattle.fluent_syntax_tree.specs.Every.{body_every}
+use Rattle.fluent_syntax_tree.specs.Spans.{IsPart}
+use Rattle.fluent_syntax_tree.specs.declared.ast.Resource.{Resource}
+use Rattle.fluent_syntax_tree.specs.declared.edition.Edition.{Edition}
+use Rattle.fluent_syntax_tree.specs.declared.spans.Span.{Span}
+use Rattle.fluent_syntax_grammar.specs.Tiling.{Tile}
+use Rattle.fluent_syntax_grammar.specs.Body.{body}
+use Rattle.fluent_syntax_parser.specs.Answers.{Answers, AnswersSpansIn}
+use Rattle.fluent_syntax_parser.specs.Parts.{HasParts}
+use Rattle.fluent_syntax_parser.proofs.tilings.PartsOfEntries.{body_parts}
+use Rattle.fluent_syntax_parser.specs.declared.options.Comments.{Comments}
+use Rattle.fluent_syntax_parser.specs.declared.fault.ParseFault.{ParseFault}
+use Rattle.fluent_syntax_parser.specs.declared.fault.ParseFault.TheVariants.{Syntax, Memory}
+
+module _ (t : List ℕ) where
+  parts_given : (tiles : List Tile) (result : Result (Resource Span) (ParseFault Span)) →
+      body_every (IsPart t) (body tiles) → Answers (λ s. s) (λ b. b) tiles result → HasParts t result
+  parts_given tiles (Ok tree) parts (same, none) = subst (body_every (IsPart t)) (sym same) parts
+  parts_given tiles (Err (Syntax tree errors)) parts (same, told, some) =
+      subst (body_every (IsPart t)) (sym same) parts
+  parts_given tiles (Err Memory) parts given = tt
+
+  pub parts_answered : (comments : Comments) (edition : Edition) (result : Result (Resource Span) (ParseFault Span)) →
+      IsUtf8 t → AnswersSpansIn comments edition t result → HasParts t result
+  parts_answered comments edition result utf8 (tiles, tiled, given) =
+      parts_given tiles result (body_parts t edition comments tiles utf8 tiled) given

@@ -1,0 +1,198 @@
+-- What is left of a text, from place to place.
+use Rattle.std.proofs.Common.{◌≡◌, ℕ, ◌<◌, true, false, List, [], ◌∷◌, ◌++◌, length, map, Option, Some, None, refl, ◌∙◌}
+use Rattle.std.proofs.Common.{ap, subst}
+use Rattle.std.proofs.lemmas.List.{append_assoc}
+use Rattle.std.proofs.Math.Logic.{∥∥₁_map}
+use Rattle.fluent_syntax_tree.specs.Entry.{BodyTree, EntryTree, message, term, comment, junk, regular, group, resource}
+use Rattle.fluent_syntax_tree.specs.declared.edition.Edition.{Edition}
+use Rattle.fluent_syntax_tree.specs.declared.errors.ParserError.{ParserError}
+use Rattle.fluent_syntax_tree.specs.declared.spans.Span.{Span}
+use Rattle.fluent_syntax_grammar.specs.Body.{alone, body, faults, hangs}
+use Rattle.fluent_syntax_grammar.specs.Bytes.{hash}
+use Rattle.fluent_syntax_grammar.specs.Construct.{Outcome, Read}
+use Rattle.fluent_syntax_grammar.specs.Places.{BlankBlock, has_byte}
+use Rattle.fluent_syntax_grammar.specs.Family.{Family}
+use Rattle.fluent_syntax_grammar.specs.Grammar.{family, within}
+use Rattle.fluent_syntax_grammar.specs.Tiling as tiling
+use Rattle.fluent_syntax_grammar.specs.Tiling.{Fault, Tile, entry, refused, dropped, Tiled, done, next, TileAt}
+use Rattle.fluent_syntax_grammar.specs.Tiling.{entry_at, entry_in, reads}
+use Rattle.fluent_syntax_grammar.specs.Tiling.{refuses, drops, stands, whole_line}
+use Rattle.fluent_syntax_grammar.proofs.BareEntries.{bare_tile_at}
+use Rattle.fluent_syntax_grammar.proofs.Runtime.{IsBareTile}
+use Rattle.fluent_syntax_grammar.proofs.IncludedEntries.{included_entry, tile_part}
+use Rattle.fluent_syntax_grammar.proofs.Nesting.{within_family}
+use Rattle.fluent_syntax_parser.specs.Rest.{EntryAt, EntryTo, GivesTile, Hangs, Reached, Rest, RestAt, Standing, TileIn}
+use Rattle.fluent_syntax_parser.specs.Rest.{are_dropped, at_end, at_tile, faults_of, may_hang}
+use Rattle.fluent_syntax_parser.specs.declared.options.Comments.{Comments}
+use Rattle.fluent_syntax_parser.specs.declared.options.Comments.TheVariants.{Kept, Dropped}
+
+-- ---- what a tile gives before others
+
+hangs_none : (x y : Tile) (e : EntryTree Span) → alone x ≡ e ∷ [] → may_hang e ≡ false → hangs x y ≡ None
+hangs_none (entry s (comment regular c)) y e same other =
+    let is_comment : comment regular c ≡ e = cc in
+    let may = ap may_hang is_comment in
+    cc
+hangs_none (entry s (comment group c)) y e same other = refl
+hangs_none (entry s (comment resource c)) y e same other = refl
+hangs_none (entry s (message m)) y e same other = refl
+hangs_none (entry s (term m)) y e same other = refl
+hangs_none (entry s (junk x)) y e same other = refl
+hangs_none (refused f) y e same other = refl
+hangs_none dropped y e same other = refl
+
+body_then : (x : Tile) (more : List Tile) (e : EntryTree Span) → alone x ≡ e ∷ [] → may_hang e ≡ false →
+    body (x ∷ more) ≡ e ∷ body more
+body_then x [] e same other = same
+body_then x (y ∷ more) e same other = rw (hangs_none x y e same other, same) refl
+
+dropped_then : (more : List Tile) → body (dropped ∷ more) ≡ body more
+dropped_then [] = refl
+dropped_then (y ∷ more) = refl
+
+faults_then : (x : Tile) (more : List Tile) →
+    map Some (faults (x ∷ more)) ≡ map Some (faults (x ∷ [])) ++ map Some (faults more)
+faults_then (entry s e) more = refl
+faults_then (refused f) more = refl
+faults_then dropped more = refl
+
+-- ---- the rest from place to place
+
+module _ (t : List ℕ) (at : (i j : ℕ) → Tile → Type 0) where
+  pub behind_block : (i j : ℕ) (tiles : List Tile) → BlankBlock t i j → Standing t at j tiles → Tiled t at i tiles
+  behind_block i j tiles block (at_end e) = done (subst (BlankBlock t i) e block)
+  behind_block i j tiles block (at_tile l x more) = next block l x more
+
+module _ (comments : Comments) (edition : Edition) (t : List ℕ) where
+  pub none_left : (i : ℕ) → i ≡ length t → RestAt comments edition t i [] []
+  none_left i end = record { tiles = []; standing = at_end end; gives = refl; tells = refl }
+
+  pub rest_behind : (i j : ℕ) (entries : BodyTree Span) (errors : List (Option Fault)) → BlankBlock t i j →
+      RestAt comments edition t j entries errors → Rest comments edition t i entries errors
+  rest_behind i j entries errors block rest = record {
+    tiles = rest.tiles;
+    tiled = behind_block t (TileIn comments edition t (family edition t)) i j rest.tiles block rest.standing;
+    gives = rest.gives;
+    tells = rest.tells;
+  }
+
+pub in_mode : (comments : Comments) (edition : Edition) (t : List ℕ) (R : Family) (i j : ℕ) (tile : Tile) →
+    (are_dropped comments ≡ true → has_byte t hash i ≡ false) → tiling.TileIn edition t R i j tile →
+    TileIn comments edition t R i j tile
+in_mode Kept edition t R i j tile none x = x
+in_mode Dropped edition t R i j tile none x = stands (none refl) x
+
+-- the tile at whatever depth
+pub at_any_depth : (edition : Edition) (t : List ℕ) (n i j : ℕ) (tile : Tile) →
+    tiling.TileIn edition t (within edition t n) i j tile → TileAt edition t i j tile
+at_any_depth edition t n = tile_part edition t (within edition t n) (family edition t) (within_family edition t n)
+
+pub at_any_depth_entry : (edition : Edition) (t : List ℕ) (n i : ℕ) {o : Outcome (EntryTree Span)} →
+    entry_in edition t (within edition t n) i o → entry_at edition t i o
+at_any_depth_entry edition t n i x =
+    (included_entry edition t (within edition t n) (family edition t) (within_family edition t n)).part i _ x
+
+module _ (edition : Edition) (t : List ℕ) (i j : ℕ) (inside : i < length t) where
+  pub rest_dropped : (comments : Comments) → are_dropped comments ≡ true → has_byte t hash i ≡ true →
+      whole_line t i (Read tt j) → (entries : BodyTree Span) (errors : List (Option Fault)) →
+      Rest comments edition t j entries errors → RestAt comments edition t i entries errors
+  rest_dropped Kept no_drop there line entries errors rest = cc
+  rest_dropped Dropped drop there line entries errors rest = record {
+    tiles = dropped ∷ rest.tiles;
+    standing = at_tile inside (drops there line) rest.tiled;
+    gives = dropped_then rest.tiles ∙ rest.gives;
+    tells = rest.tells;
+  }
+
+  module _ (comments : Comments) (none : are_dropped comments ≡ true → has_byte t hash i ≡ false) (e : EntryTree Span)
+      (error : Option ParserError) (n : ℕ) (tile : GivesTile edition t n i j e error) where
+    pub rest_tile : may_hang e ≡ false → (entries : BodyTree Span) (errors : List (Option Fault)) →
+        Rest comments edition t j entries errors →
+        RestAt comments edition t i (e ∷ entries) (faults_of error ++ errors)
+    rest_tile other entries errors rest = record {
+      tiles = tile.tile ∷ rest.tiles;
+      standing = at_tile inside (in_mode comments edition t (family edition t) i j tile.tile none
+          (at_any_depth edition t n i j tile.tile tile.stands)) rest.tiled;
+      gives = body_then tile.tile rest.tiles e tile.entry other ∙ ap (λ b. e ∷ b) rest.gives;
+      tells = rw (faults_then tile.tile rest.tiles, tile.errors, rest.tells) refl;
+    }
+
+  module _ (comments : Comments) (none : are_dropped comments ≡ true → has_byte t hash i ≡ false) (e : EntryTree Span)
+      (read : entry_at edition t i (Read e j)) where
+    -- an entry that is no comment
+    pub rest_entry : may_hang e ≡ false → (entries : BodyTree Span) (errors : List (Option Fault)) →
+        Rest comments edition t j entries errors → RestAt comments edition t i (e ∷ entries) errors
+    rest_entry other entries errors rest =
+        let tile = entry (record { start = i; end = j }) e in
+        record {
+          tiles = tile ∷ rest.tiles;
+          standing = at_tile inside
+              (in_mode comments edition t (family edition t) i j tile none (reads read)) rest.tiled;
+          gives = body_then tile rest.tiles e refl other ∙ ap (λ b. e ∷ b) rest.gives;
+          tells = rest.tells;
+        }
+
+-- ---- a comment that may hang
+
+comment_tile : (edition : Edition) (t : List ℕ) (i j : ℕ) (tile : Tile) (content : List Span) →
+    TileAt edition t i j tile → alone tile ≡ comment regular content ∷ [] →
+    tile ≡ entry (record { start = i; end = j }) (comment regular content)
+comment_tile edition t i j tile content (reads {e = e} read) same =
+    let is_comment : e ≡ comment regular content = cc in
+    ap (λ x. entry (record { start = i; end = j }) x) is_comment
+comment_tile edition t i j tile content (refuses read end) same = cc
+
+module _ (edition : Edition) (t : List ℕ) (n i j : ℕ) (inside : i < length t) (e : EntryTree Span)
+    (error : Option ParserError) (tile : GivesTile edition t n i j e error) (content : List Span)
+    (same : e ≡ comment regular content) where
+  stands_there : TileAt edition t i j tile.tile
+  stands_there = at_any_depth edition t n i j tile.tile tile.stands
+
+  pub is_comment : tile.tile ≡ entry (record { start = i; end = j }) (comment regular content)
+  is_comment = comment_tile edition t i j tile.tile content stands_there (tile.entry ∙ ap (λ x. x ∷ []) same)
+
+  -- a comment begins with `#`
+  pub is_no_bare_comment : has_byte t hash i ≡ false → ⊥
+  is_no_bare_comment none = subst IsBareTile is_comment (bare_tile_at edition t i j tile.tile none stands_there)
+
+  pub rest_comment : (comments : Comments) → (are_dropped comments ≡ true → has_byte t hash i ≡ false) →
+      (with_comment : EntryTree Span) (k : ℕ) → Hangs edition t content j with_comment k →
+      (entries : BodyTree Span) (errors : List (Option Fault)) → Rest comments edition t k entries errors →
+      RestAt comments edition t i (with_comment ∷ entries) (faults_of error ++ errors)
+  rest_comment Kept none with_comment k after entries errors rest =
+      let behind = after i entries errors rest in
+      record {
+        tiles = tile.tile ∷ behind.0;
+        standing = at_tile inside stands_there behind.1;
+        gives = ap (λ x. body (x ∷ behind.0)) is_comment ∙ behind.2;
+        tells = rw (faults_then tile.tile behind.0, tile.errors, behind.3) refl;
+      }
+  rest_comment Dropped none with_comment k after entries errors rest = absurd (is_no_bare_comment (none refl))
+
+-- ---- entries, one behind the other
+
+module _ (comments : Comments) (edition : Edition) (t : List ℕ) where
+  pub entry_to : (i start j : ℕ) (e : EntryTree Span) (told : List (Option Fault)) →
+      EntryAt comments edition t i start j e told → EntryTo comments edition t i j e told
+  entry_to i start j e told there = λ entries errors rest. there.before _ _ (there.stands entries errors rest)
+
+  pub none_reached : Reached comments edition t 0
+  none_reached = record { entries = []; errors = []; rest = λ others more rest. rest }
+
+  reached_on : (i j : ℕ) (e : EntryTree Span) (told : List (Option Fault)) → EntryTo comments edition t i j e told →
+      Reached comments edition t i → Reached comments edition t j
+  reached_on i j e told there reached = record {
+    entries = reached.entries ++ e ∷ [];
+    errors = reached.errors ++ told;
+    rest = λ others more rest. rw (
+      append_assoc reached.entries (e ∷ []) others,
+      append_assoc reached.errors told more,
+    )
+        (reached.rest _ _ (there others more rest));
+  }
+
+  pub reached_behind : (i start j : ℕ) (e : EntryTree Span) (told : List (Option Fault)) →
+      EntryAt comments edition t i start j e told → ∥ Reached comments edition t i ∥₁ →
+      ∥ Reached comments edition t j ∥₁
+  reached_behind i start j e told there reached =
+      ∥∥₁_map reached (reached_on i j e told (entry_to i start j e told there))

@@ -1,0 +1,152 @@
+//! Argument lists.
+ghost use Rattle.std.specs.Prelude.{◌≡◌, ◌-◌, ◌<◌, ◌≤◌, [], length, IfOk};
+ghost use Rattle.fluent_syntax_tree.specs.Spans.{bytes_at};
+ghost use Rattle.fluent_syntax_tree.specs.Tree.{arguments_map, inline_map, maybe_map};
+ghost use Rattle.fluent_syntax_tree.specs.View.{arguments_view, inline_view};
+ghost use Rattle.fluent_syntax_grammar.specs.Arguments.{argument_value, is_used, more_arguments, separator};
+ghost use Rattle.fluent_syntax_grammar.specs.Construct.{Read, at_each};
+ghost use Rattle.fluent_syntax_grammar.specs.Family.{call_arguments};
+ghost use Rattle.fluent_syntax_grammar.specs.Grammar.{within};
+ghost use Rattle.fluent_syntax_grammar.specs.Starts.{start};
+ghost use Rattle.fluent_syntax_parser.specs.Gathered.{maybe_view, names_in_order};
+ghost use Rattle.fluent_syntax_parser.specs.Made.{Makes};
+
+use crate::expression::argument_names::NotedNames;
+use crate::expression::starts::Start;
+use crate::fault::{Fault, ReadFault, Refusal};
+use crate::reader::Reader;
+use crate::source::Source;
+use crate::texts::MakeTexts;
+use fluent_syntax_tree::ast::{CallArguments, InlineExpression, NamedArgument};
+use fluent_syntax_tree::spans::Span;
+
+impl<'s> Source<'s> {
+    /// Whether a name is one of the names, by its bytes.
+    pub(crate) fn has_name(&self, names: &[Span], name: Span) -> bool
+        ensures { let t = self.now.bytes.now in
+            result ≡ is_used (bytes_at t name) (names_in_order t names.now) }
+    {
+        for other in names {
+            if self.bytes_of(name) == self.bytes_of(*other) {
+                return true;
+            }
+        }
+        false
+    }
+
+    /// Passes over a blank, perhaps a comma, and a blank.
+    pub(crate) fn skip_separator(&self, ptr: usize) -> usize
+        requires { ptr ≤ length self.now.bytes.now }
+        ensures meets { separator self.now.bytes.now ptr (Read tt result) }
+        ensures within { (ptr ≤ result) × (result ≤ length self.now.bytes.now) }
+    {
+        let ptr = self.skip_blank(ptr);
+        let (_, ptr) = self.take_byte_if(b',', ptr);
+        self.skip_blank(ptr)
+    }
+}
+
+impl<'s, 't, M: MakeTexts> Reader<'s, 't, M> {
+    /// Reads the value of a named argument: a string, a number without `-`, a function or a message reference.
+    #[cycle(readers)]
+    fn get_argument_value(
+        &self,
+        nesting: usize,
+        ptr: usize,
+    ) -> Result<(InlineExpression<M::Text>, usize), ReadFault>
+        requires { ptr ≤ length self.now.source.bytes.now }
+        ensures meets { let t = self.now.source.bytes.now in
+            Makes t (inline_map (M.source self.now.texts.now))
+            (at_each (start t) (argument_value t (within self.now.edition t nesting))) (inline_view M.made) ptr result }
+        ensures within { IfOk result (λ read. (ptr < read.1) × (read.1 ≤ length self.now.source.bytes.now)) }
+    {
+        match self.source.start(ptr) {
+            Start::Quote | Start::Digit | Start::Letter => {
+                let (value, end) = self.get_inline_expression(nesting, ptr)?;
+                Ok((value, end))
+            }
+            _ => Err(ReadFault::Refused(Refusal {
+                fault: Fault::Literal,
+                place: ptr,
+            })),
+        }
+    }
+
+    /// Reads the rest of an argument list with its `)`, after the `(` and the blank there.
+    #[cycle(readers)]
+    #[inline(never)]
+    fn get_arguments(
+        &self,
+        nesting: usize,
+        ptr: usize,
+    ) -> Result<(CallArguments<M::Text>, usize), ReadFault>
+        requires { ptr ≤ length self.now.source.bytes.now }
+        ensures meets { let t = self.now.source.bytes.now in
+            Makes t (arguments_map (M.source self.now.texts.now))
+            (more_arguments t (within self.now.edition t nesting) []) (arguments_view M.made) ptr result }
+        ensures within { IfOk result (λ read. (ptr < read.1) × (read.1 ≤ length self.now.source.bytes.now)) }
+    {
+        let mut positional = Vec::new(self.alloc);
+        let mut named = Vec::new(self.alloc);
+        let mut noted = NotedNames::new(self.alloc);
+        let mut place = ptr;
+        while !self.source.is_byte_at(b')', place) {
+            if place == self.source.bytes.len() {
+                return Err(ReadFault::Refused(Refusal {
+                    fault: Fault::Token(b')'),
+                    place,
+                }));
+            }
+            let (expression, next) = self.get_inline_expression(nesting, place)?;
+            match self.argument_name(&expression, place) {
+                Some(name) if self.source.is_byte_at(b':', next) => {
+                    if noted.has(&self.source, name) {
+                        let fault = Fault::Duplicated(name);
+                        return Err(ReadFault::Refused(Refusal { fault, place: next }));
+                    }
+                    let start = self.source.skip_blank(next + 1);
+                    let (value, end) = self.get_argument_value(nesting, start)?;
+                    noted.note(&self.source, name)?;
+                    let name = self.identifier(name)?;
+                    named.push(NamedArgument { name, value })?;
+                    place = self.source.skip_separator(end);
+                }
+                _ => {
+                    if !noted.is_empty() {
+                        let fault = Fault::PositionalAfterNamed;
+                        return Err(ReadFault::Refused(Refusal { fault, place: next }));
+                    }
+                    positional.push(expression)?;
+                    place = self.source.skip_separator(next);
+                }
+            }
+        }
+        Ok((CallArguments { positional, named }, place + 1))
+    }
+
+    /// Reads a blank and, if `(` follows, the arguments up to `)`.
+    #[cycle(readers)]
+    pub(crate) fn get_call_arguments(
+        &self,
+        nesting: usize,
+        ptr: usize,
+    ) -> Result<(Option<CallArguments<M::Text>>, usize), ReadFault>
+        requires { ptr ≤ length self.now.source.bytes.now }
+        ensures meets { let t = self.now.source.bytes.now in
+            Makes t (maybe_map (M.source self.now.texts.now)) (call_arguments t (within self.now.edition t nesting))
+            (maybe_view M.made) ptr result }
+        ensures within { IfOk result (λ read. (ptr ≤ read.1) × (read.1 ≤ length self.now.source.bytes.now)) }
+    {
+        let start = self.source.skip_blank(ptr);
+        let (bracket, start) = self.source.take_byte_if(b'(', start);
+        if !bracket {
+            return Ok((None, start));
+        }
+        if nesting == 0 {
+            return Err(ReadFault::TooDeep);
+        }
+        let start = self.source.skip_blank(start);
+        let (arguments, end) = self.get_arguments(nesting - 1, start)?;
+        Ok((Some(arguments), end))
+    }
+}

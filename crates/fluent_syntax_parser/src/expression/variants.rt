@@ -1,0 +1,113 @@
+//! The variants of a select.
+ghost use Rattle.std.specs.Prelude.{◌≡◌, ◌-◌, ◌<◌, ◌≤◌, false, length, IfOk};
+ghost use Rattle.fluent_syntax_tree.specs.Tree.{variants_map};
+ghost use Rattle.fluent_syntax_tree.specs.View.{key_view};
+ghost use Rattle.fluent_syntax_grammar.specs.Grammar.{within};
+ghost use Rattle.fluent_syntax_grammar.specs.Places.{has};
+ghost use Rattle.fluent_syntax_grammar.specs.Variants.{has_default, is_number_start, more_variants, variant_key};
+ghost use Rattle.fluent_syntax_parser.specs.Gathered.{variants_view};
+ghost use Rattle.fluent_syntax_parser.specs.Made.{Makes};
+ghost use Rattle.fluent_syntax_parser.specs.Meets.{Answers};
+
+use crate::fault::{Fault, ReadFault, Refusal};
+use crate::reader::Reader;
+use crate::source::Source;
+use crate::texts::MakeTexts;
+use fluent_syntax_tree::ast::{Variant, VariantKey};
+use fluent_syntax_tree::edition::Edition;
+use fluent_syntax_tree::spans::Span;
+
+/// Whether a list of variants may end, where a star may stand before its end.
+fn has_default(edition: Edition, starred: bool, star: bool) -> bool
+    ensures { result ≡ has_default edition starred star }
+{
+    match edition {
+        Edition::One => starred || star,
+        Edition::Two => starred,
+    }
+}
+
+impl<'s> Source<'s> {
+    fn is_number_start(&self, ptr: usize) -> bool
+        ensures { result ≡ has self.now.bytes.now is_number_start ptr }
+    {
+        self.is_digit_at(ptr) || self.is_byte_at(b'-', ptr)
+    }
+
+    pub(crate) fn get_variant_key(&self, ptr: usize) -> Result<(VariantKey<Span>, usize), Refusal>
+        requires { ptr ≤ length self.now.bytes.now }
+        ensures meets { let t = self.now.bytes.now in
+            Answers t (variant_key t) (key_view (λ s. s)) ptr result }
+        ensures within { IfOk result (λ read. (ptr < read.1) × (read.1 ≤ length self.now.bytes.now)) }
+    {
+        if self.is_number_start(ptr) {
+            let end = self.number_end(ptr)?;
+            let value = Span { start: ptr, end };
+            Ok((VariantKey::NumberLiteral { value }, end))
+        } else {
+            let end = self.identifier_end(ptr)?;
+            let name = Span { start: ptr, end };
+            Ok((VariantKey::Identifier { name }, end))
+        }
+    }
+}
+
+impl<'s, 't, M: MakeTexts> Reader<'s, 't, M> {
+    /// Reads variants up to the place where neither `[` nor `*[` stands.
+    #[cycle(readers)]
+    #[inline(never)]
+    pub(crate) fn get_variants(
+        &self,
+        nesting: usize,
+        ptr: usize,
+    ) -> Result<(Vec<Variant<M::Text>>, usize), ReadFault>
+        requires { ptr ≤ length self.now.source.bytes.now }
+        ensures meets { let t = self.now.source.bytes.now in
+            Makes t (variants_map (M.source self.now.texts.now))
+            (more_variants self.now.edition t (within self.now.edition t nesting) false)
+            (λ variants. variants_view M.made variants.items) ptr result }
+        ensures within { IfOk result (λ read. (ptr ≤ read.1) × (read.1 ≤ length self.now.source.bytes.now)) }
+    {
+        let mut variants = Vec::new(self.alloc);
+        let mut starred = false;
+        let mut place = ptr;
+        loop {
+            let (star, next) = self.source.take_byte_if(b'*', place);
+            if starred && star {
+                return Err(ReadFault::Refused(Refusal {
+                    fault: Fault::SecondDefault,
+                    place: next,
+                }));
+            }
+            let (bracket, next) = self.source.take_byte_if(b'[', next);
+            if !bracket {
+                if has_default(self.edition, starred, star) {
+                    return Ok((variants, next));
+                }
+                return Err(ReadFault::Refused(Refusal {
+                    fault: Fault::NoDefault,
+                    place: next,
+                }));
+            }
+            let start = self.source.skip_blank(next);
+            let (key, next) = self.source.get_variant_key(start)?;
+            let next = self.source.skip_blank(next);
+            let next = self.source.expect_byte(b']', next)?;
+            let (value, next) = self.get_pattern(nesting, next)?;
+            let Some(value) = value else {
+                return Err(ReadFault::Refused(Refusal {
+                    fault: Fault::Value,
+                    place: next,
+                }));
+            };
+            let key = self.key(key)?;
+            variants.push(Variant {
+                key,
+                value,
+                default: star,
+            })?;
+            starred |= star;
+            place = self.source.skip_blank(next);
+        }
+    }
+}

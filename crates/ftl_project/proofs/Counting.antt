@@ -1,0 +1,90 @@
+-- Files that are counted one after another.
+use Rattle.std.proofs.Common.{◌≡◌, ◌<◌, ◌+◌, ◌∙◌, ℕ, List, [], ◌∷◌, Option, None, Some, Result, Ok, Err, ap, drop}
+use Rattle.std.proofs.Common.{get_or, length, string_bytes}
+use Rattle.std.proofs.Common.{◌≤◌, refl, subst, sym}
+use Rattle.std.proofs.lemmas.List.{append-nil, drop_all, drop_more}
+use Rattle.std.specs.Global.{Global}
+use Rattle.std.specs.Io.KnownBytes.{Appends}
+use Rattle.std.specs.Prelude.{OnOk, String}
+use Rattle.ftl_project.specs.Faults.{Fails, HasStatus}
+use Rattle.ftl_project.specs.Runs.{Counts, CountsEach, Writes, WritesEach}
+use Rattle.ftl_project.specs.Tally.{Met, counted, failed}
+use Rattle.ftl_project.specs.declared.fault.Fault.{Fault}
+use Rattle.ftl_project.specs.declared.tally.Tally.{Tally}
+
+-- What is left at an index is the file there, and what is left behind it.
+pub left_at : {A : Type 0} (files : List A) (index : ℕ) (file : A) → index < length files →
+    file ≡ get_or files index file → drop index files ≡ file ∷ drop (index + 1) files
+left_at files index file below is =
+    drop_more files index file below ∙ ap (λ x. x ∷ drop (index + 1) files) (sym is)
+
+same_bytes : (known : Option (List ℕ)) → Appends known known []
+same_bytes None = tt
+same_bytes (Some bytes) = sym (append-nil bytes)
+
+pub appends_nothing : (before after : Option (List ℕ)) → after ≡ before → Appends before after []
+appends_nothing before after same = subst (λ o. Appends before o []) (sym same) (same_bytes before)
+
+pub appends_as : (before between after : Option (List ℕ)) (said text : List ℕ) → Appends before between said →
+    said ≡ text → after ≡ between → Appends before after text
+appends_as before between after said text appends says same =
+    subst (λ t. Appends before after t) says (subst (λ o. Appends before o said) (sym same) appends)
+
+pub on_ok : {A E P : Type 0} (result : Result A E) → P → OnOk result P
+on_ok (Ok value) holds = holds
+on_ok (Err error) holds = tt
+
+pub on_ok_then : {A E P Q : Type 0} (result : Result A E) → (P → Q) → OnOk result P → OnOk result Q
+on_ok_then (Ok value) then holds = then holds
+on_ok_then (Err error) then holds = tt
+
+-- A fault that was told was counted, and nothing was written of the file.
+pub Writes-told : {E : Type 0} (Is : Met → List ℕ → Type 0) (Why : Fault → Type 0) (result : Result (Unit {0}) E)
+    (fault : Fault) (old new : Tally) (before after : Option (List ℕ)) →
+    ((status : ℕ) → Fails Why status → Is (failed status) []) → Why fault →
+    ((status : ℕ) × HasStatus fault status × (new ≡ counted old (failed status))) → after ≡ before →
+    OnOk result (Writes Is old new before after)
+Writes-told Is Why result fault old new before after fails why told same = on_ok result
+    (failed told.0, [], fails told.0 (fault, why, told.1), told.2, appends_nothing before after same)
+
+module _ {A : Type 0} (Meets : A → Met → Type 0) (files : List A) where
+  -- Whatever the files from the index on add, all of them then add that to the beginning.
+  abbrev pub CountsSo : (index : ℕ) (old now : Tally) → Type 0
+  CountsSo index old now = (new : Tally) → CountsEach Meets (drop index files) now new → CountsEach Meets files old new
+
+  pub CountsSo-more : (index : ℕ) (file : A) (old now next : Tally) → index < length files →
+      file ≡ get_or files index file → CountsSo index old now → Counts (Meets file) now next →
+      CountsSo (index + 1) old next
+  CountsSo-more index file old now next below is so counts = λ new rest.
+      so new (subst (λ left. CountsEach Meets left now new) (sym (left_at files index file below is))
+      (next, counts, rest))
+
+-- Files are met as their bytes are, which are those of the beginning.
+module _ (Is : (path : List ℕ) → Option (List ℕ) → Met → List ℕ → Type 0) (at : List ℕ → Option (List ℕ))
+    (files : List (String Global)) where
+  abbrev Meets : String Global → Met → List ℕ → Type 0
+  Meets file = Is (string_bytes file) (at (string_bytes file))
+
+  -- Whatever the files from the index on add, all of them then add that to the beginning.
+  abbrev pub WritesSo : (index : ℕ) (old now : Tally) (before between : Option (List ℕ)) → Type 0
+  WritesSo index old now before between = (new : Tally) (after : Option (List ℕ)) →
+      WritesEach Meets (drop index files) now new between after → WritesEach Meets files old new before after
+
+  pub WritesSo-more : (here : List ℕ → Option (List ℕ)) (index : ℕ) (file : String Global) (path : List ℕ)
+      (old now next : Tally) (before between behind : Option (List ℕ)) → index < length files →
+      file ≡ get_or files index file → path ≡ string_bytes file → here path ≡ at path →
+      WritesSo index old now before between → Writes (Is path (here path)) now next between behind →
+      WritesSo (index + 1) old next before behind
+  WritesSo-more here index file path old now next before between behind below is same stands so writes =
+      λ new after rest.
+      let at_path = subst (λ bytes. Writes (Is path bytes) now next between behind) stands writes in
+      let at_file = subst (λ p. Writes (Is p (at p)) now next between behind) same at_path in
+      so new after (subst (λ left. WritesEach Meets left now new between after)
+      (sym (left_at files index file below is))
+      (next, behind, at_file, rest))
+
+  pub WritesSo-all : (index : ℕ) (old now : Tally) (before between : Option (List ℕ)) → length files ≤ index →
+      WritesSo index old now before between → WritesEach Meets files old now before between
+  WritesSo-all index old now before between all so = so now between
+      (subst (λ left. WritesEach Meets left now now between between) (sym (drop_all index files all))
+      (refl, same_bytes between))

@@ -1,0 +1,15 @@
+use Rattle.std.proofs.Common.{arith, ap, inr}
+use Rattle.ftl_project.specs.declared.tally.Tally.{Tally}
+use Rattle.ftl_project.proofs.Counting.{on_ok}
+use Rattle.ftl_project.proofs.Statuses.{status_least}
+use Rattle.ftl_project.proofs.linting.read_source.Goals as goal
+
+pub returns-in-Err-clause-read : goal.returns-in-Err-clause-read
+returns-in-Err-clause-read g c =
+    let told = c.tell.ensures.counted in
+    let least = status_least c.in-Err.fault told.0 told.1 in
+    let fault = ap (λ (t : Tally). t.fault) told.2 in
+    on_ok c.tell.result (record {
+      one = inr (omega arith, omega (arith, least, fault));
+      files_same = ap (λ (t : Tally). t.files) told.2;
+    })

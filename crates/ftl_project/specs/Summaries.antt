@@ -1,0 +1,53 @@
+-- Lines that are told.
+use Rattle.std.specs.Prelude.{ℕ, ◌-◌, ◌==◌, List, ◌++◌, Option, None, Some, codes, if◌then◌else◌}
+use Rattle.std.specs.Fmt.{decimal}
+use Rattle.ftl_excerpts.specs.Excerpt.{shown_text}
+use Rattle.ftl_project.specs.declared.comparing.Share.{Share}
+use Rattle.ftl_project.specs.declared.fault.Fault.{Fault}
+use Rattle.ftl_project.specs.declared.fault.Fault.TheVariants.{Json, Memory, NotText, Read, TooDeep, Write}
+use Rattle.ftl_project.specs.declared.tally.Tally.{Tally}
+use Rattle.ftl_project.specs.declared.unsafe_entry.UnsafeEntry.{UnsafeEntry}
+
+abbrev pub file_count_of : ℕ → List ℕ
+file_count_of files = if files == 1 then codes "1 file" else decimal files ++ codes " files"
+
+abbrev pub error_count_of : ℕ → List ℕ
+error_count_of errors = if errors == 1 then codes "1 error" else decimal errors ++ codes " errors"
+
+-- how many errors there are, if there are some, and how many files
+abbrev pub check_summary_of : Tally → List ℕ
+check_summary_of tally =
+    if tally.errors == 0 then file_count_of tally.files ++ codes "\n"
+    else error_count_of tally.errors ++ codes " in " ++ decimal tally.concerned ++ codes " of " ++
+    file_count_of tally.files ++ codes "\n"
+
+-- how many files are not in normal form, if there are some, and how many files
+abbrev pub format_summary_of : Tally → List ℕ
+format_summary_of tally =
+    if tally.concerned == 0 then file_count_of tally.files ++ codes "\n"
+    else decimal tally.concerned ++ codes " of " ++ file_count_of tally.files ++ codes " not in normal form\n"
+
+-- how much of the reference is there
+abbrev pub share_line_of : Share → List ℕ
+share_line_of share =
+    decimal (share.wanted - share.missing) ++ codes " of " ++ decimal share.wanted ++
+    codes " messages and terms are there\n"
+
+-- a place in a file, a note, and a text for its rule
+abbrev pub placed_note : (path : List ℕ) (line column : ℕ) (note rule : List ℕ) → List ℕ
+placed_note path line column note rule =
+    path ++ codes ":" ++ decimal line ++ codes ":" ++ decimal column ++ codes ": " ++ note ++ codes ": " ++ rule ++
+    codes "\n"
+
+-- the same of an entry
+abbrev pub unsafe_line_of : (path : List ℕ) → UnsafeEntry → (note rule : List ℕ) → List ℕ
+unsafe_line_of path entry note rule = placed_note (shown_text path) entry.line entry.column note rule
+
+-- what a fault says; what the system or the JSON says is not known
+abbrev pub fault_text : Fault → Option (List ℕ)
+fault_text (Read error) = None
+fault_text (NotText place) = Some (codes "is not UTF-8 from byte " ++ decimal place ++ codes " on")
+fault_text Memory = Some (codes "no memory")
+fault_text (Write error) = None
+fault_text TooDeep = Some (codes "nests deeper than it may")
+fault_text (Json fault) = None

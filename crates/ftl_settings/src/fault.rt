@@ -1,0 +1,41 @@
+//! Why an `ftl.toml` says nothing that can be gone by.
+use std::alloc::AllocError;
+use std::fmt;
+
+/// Why an `ftl.toml` says nothing that can be gone by.
+#[derive(Debug, Drop)]
+pub enum SettingsFault {
+    /// A growth was refused.
+    Memory,
+    /// The text is no TOML: what is wrong, and where, in words.
+    Toml(String),
+    /// A key that stands for nothing.
+    Key(String),
+    /// The value of `reference` is no text.
+    Reference,
+    /// The value of `ignore` is no list of names of kinds.
+    Ignore,
+}
+
+impl From<AllocError> for SettingsFault {
+    ghost use Rattle.ftl_settings.specs.declared.fault.SettingsFault.TheVariants.{Memory};
+    ghost use Rattle.std.specs.Prelude.{◌≡◌};
+
+    ghost from_gives = { λ _ fault. fault ≡ Memory };
+
+    fn from(_error: AllocError) -> Self {
+        SettingsFault::Memory
+    }
+}
+
+impl fmt::Display for SettingsFault {
+    fn fmt<W: fmt::Write>(&self, f: &mut fmt::Formatter<W>) -> fmt::Result {
+        match self {
+            SettingsFault::Memory => f.write_str("out of memory"),
+            SettingsFault::Toml(message) => write!(f, "{message}"),
+            SettingsFault::Key(key) => write!(f, "no setting is called `{key}`"),
+            SettingsFault::Reference => f.write_str("`reference` wants a path in quotes"),
+            SettingsFault::Ignore => f.write_str("`ignore` wants a list of names of kinds"),
+        }
+    }
+}
