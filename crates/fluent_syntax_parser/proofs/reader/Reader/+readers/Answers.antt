@@ -5,7 +5,7 @@ use Rattle.std.proofs.lemmas.Result.{err_from_is_err_and}
 use Rattle.fluent_syntax_tree.specs.Spans.{bytes_at}
 use Rattle.fluent_syntax_tree.specs.Tree.{inline, inline_placeable, number_literal, some_arguments, string_literal}
 use Rattle.fluent_syntax_tree.specs.Tree.{pattern_map, variable_reference, variant}
-use Rattle.fluent_syntax_tree.specs.View.{expression_view, key_view}
+use Rattle.fluent_syntax_tree.specs.View.{inline_view, key_view}
 use Rattle.fluent_syntax_tree.proofs.Views.{view-StringLiteral, view-NumberLiteral, view-TermReference}
 use Rattle.fluent_syntax_tree.proofs.Views.{view-VariableReference, view-InlinePlaceable, view-Inline, view-Select}
 use Rattle.fluent_syntax_tree.proofs.Views.{view-Variant, view-roll-CallArguments}
@@ -177,8 +177,8 @@ get_inner_placeable-returns-clause-meets g m c =
     given))
     (c.in_ok-expression-2.ensures ∙ ap inline_placeable same))
 
-pub get_inline_expression-get_number-requires-starts : goal.get_inline_expression-get_number-requires-starts
-get_inline_expression-get_number-requires-starts g m c =
+pub get_inline_expression-get_number-requires-clause-starts : goal.get_inline_expression-get_number-requires-clause-starts
+get_inline_expression-get_number-requires-clause-starts g m c =
     number_starts c.args.self.now.source.bytes.now _ c.start.result c.in-Digit.is c.start.ensures
 
 pub get_inline_expression-returns-in-Quote-clause-meets : goal.get_inline_expression-returns-in-Quote-clause-meets
@@ -251,18 +251,19 @@ pub get_expression-returns-then-is_arrow-clause-meets : goal.get_expression-retu
 get_expression-returns-then-is_arrow-clause-meets g m c =
     let t = c.args.self.now.source.bytes.now in
     on_made c.in_ok-expression.ensures.meets (λ e read same.
-    behind_blank c.args.self.now.edition t _ _ _ read c.skip_blank-ptr.ensures.blank (sym c.if-is_arrow.ensures)
+    behind_blank c.args.self.now.edition t _ _ _ _ read c.skip_blank-ptr.ensures.blank (sym c.if-is_arrow.ensures)
     (functional_within c.args.self.now.edition t _) (c.get_select.ensures.meets e same))
 
 pub get_expression-returns-then-is_term_attribute-clause-meets :
     goal.get_expression-returns-then-is_term_attribute-clause-meets
 get_expression-returns-then-is_term_attribute-clause-meets g m c =
+    let seen = inline_view g.M.MakeTexts.made in
     on_made c.in_ok-expression.ensures.meets (λ e read same. refused (λ k from to (a, b, d). rw (a, b, d)
     (goes_on read
     (goes_on (passed c.skip_blank-ptr.ensures.blank)
     (goes_on (chosen given)
     (second (sym c.if-is_arrow.ensures)
-    (first (sym (same_term_attribute _ e) ∙ ap is_term_attribute (sym same) ∙ sym c.if-is_term_attribute.ensures)
+    (first (sym (same_term_attribute _ e) ∙ ap is_term_attribute (sym (ap seen c.deref.ensures ∙ same)) ∙ sym c.if-is_term_attribute.ensures)
     (failed refl))))))))
 
 pub get_expression-returns-in_err-expression-2-clause-meets :
@@ -273,12 +274,13 @@ get_expression-returns-in_err-expression-2-clause-meets g m c =
 
 pub get_expression-returns-clause-meets : goal.get_expression-returns-clause-meets
 get_expression-returns-clause-meets g m c =
+    let seen = inline_view g.M.MakeTexts.made in
     on_made c.in_ok-expression.ensures.meets (λ e read same. made
     (goes_on read
     (goes_on (passed c.skip_blank-ptr.ensures.blank)
     (goes_on (chosen given)
     (second (sym c.if-is_arrow.ensures)
-    (second (sym (same_term_attribute _ e) ∙ ap is_term_attribute (sym same) ∙ sym c.if-is_term_attribute.ensures)
+    (second (sym (same_term_attribute _ e) ∙ ap is_term_attribute (sym (ap seen c.deref.ensures ∙ same)) ∙ sym c.if-is_term_attribute.ensures)
     given)))))
     (c.in_ok-expression-2.ensures ∙ ap inline same))
 
@@ -287,17 +289,18 @@ get_expression-returns-clause-meets g m c =
 pub get_select-returns-in_err-start-clause-meets : goal.get_select-returns-in_err-start-clause-meets
 get_select-returns-in_err-start-clause-meets g m c = λ e same.
     let t = c.args.self.now.source.bytes.now in
+    let is = same_fault _ _ e (ap (inline_view g.M.MakeTexts.made) c.deref.ensures ∙ same) in
     let p = err_from_is_err_and c.from_residual.result c.from_residual.ensures.1 in
-    let is = same_fault _ same c.in_err-start.ensures.meets in
     rw (p.1, p.2) (refused (λ k from to h.
-    select_refused c.args.self.now.edition t _ e (selector_fault e) (is k from to h)))
+    select_refused c.args.self.now.edition t _ e _ is k from to (c.in_err-start.ensures.meets k from to h)))
 
 pub get_select-returns-in_err-variants-clause-meets : goal.get_select-returns-in_err-variants-clause-meets
 get_select-returns-in_err-variants-clause-meets g m c = λ e same.
     let t = c.args.self.now.source.bytes.now in
+    let is = same_fault _ _ e (ap (inline_view g.M.MakeTexts.made) c.deref.ensures ∙ same) in
     let p = err_from_is_err_and c.from_residual-in_err-variants.result c.from_residual-in_err-variants.ensures.1 in
-    rw (p.1, p.2) (select_fails c.args.self.now.edition t _ e (selector_fault e)
-    (same_fault _ same c.in_ok-start.ensures.meets) c.in_err-variants.ensures.meets)
+    rw (p.1, p.2)
+    (select_fails c.args.self.now.edition t _ e _ is c.in_ok-start.ensures.meets c.in_err-variants.ensures.meets)
 
 pub get_select-returns-in_err-expression-clause-meets : goal.get_select-returns-in_err-expression-clause-meets
 get_select-returns-in_err-expression-clause-meets g m c = λ e same.
@@ -307,8 +310,9 @@ get_select-returns-in_err-expression-clause-meets g m c = λ e same.
 pub get_select-returns-clause-meets : goal.get_select-returns-clause-meets
 get_select-returns-clause-meets g m c = λ e same.
     let t = c.args.self.now.source.bytes.now in
+    let is = same_fault _ _ e (ap (inline_view g.M.MakeTexts.made) c.deref.ensures ∙ same) in
     on_made c.in_ok-variants.ensures.meets (λ vs read same_variants. made
-    (select_read c.args.self.now.edition t _ e (selector_fault e) (same_fault _ same c.in_ok-start.ensures.meets) read)
+    (select_read c.args.self.now.edition t _ e _ is c.in_ok-start.ensures.meets read)
     (c.in_ok-expression.ensures ∙ rw (same, same_variants) refl))
 
 -- ---- the arguments of a reference
@@ -398,6 +402,7 @@ get_arguments-returns-in_err-expression-clause-meets g m c =
 
 pub get_arguments-returns-then-has-clause-meets : goal.get_arguments-returns-then-has-clause-meets
 get_arguments-returns-then-has-clause-meets g m c =
+    let seen = inline_view g.M.MakeTexts.made in
     let t = c.args.self.now.source.bytes.now in
     let names = c.loop-noted.noted.names.items in
     let used = used_in_order t (bytes_at t c.in-Some.name) names ∙ sym c.if-has.ensures in
@@ -405,7 +410,7 @@ get_arguments-returns-then-has-clause-meets g m c =
     item_fails c.loop-noted.invariant.gathered.behind (refused (λ k from to (a, b, d). rw (a, b, d)
     (named t _ (names_in t names) _
     (omega (arith, c.if-place-self.false, c.loop-noted.invariant.within)) (sym c.loop-noted-test.ensures) e _
-    read c.in-Some.name (sym (c.in-Some.ensures c.args.nesting _ e read same)) (sym c.if-is_byte_at.ensures) _
+    read c.in-Some.name (sym (c.in-Some.ensures c.args.nesting _ e read (ap seen c.deref.ensures ∙ same))) (sym c.if-is_byte_at.ensures) _
     (first used (failed refl))))))
 
 pub get_arguments-skip_blank-start-requires : goal.get_arguments-skip_blank-start-requires
@@ -414,6 +419,7 @@ get_arguments-skip_blank-start-requires g m c = grind (arith, gets)
 pub get_arguments-returns-in_err-value-in-Some-clause-meets :
     goal.get_arguments-returns-in_err-value-in-Some-clause-meets
 get_arguments-returns-in_err-value-in-Some-clause-meets g m c =
+    let seen = inline_view g.M.MakeTexts.made in
     let t = c.args.self.now.source.bytes.now in
     let names = c.loop-noted.noted.names.items in
     let new = used_in_order t (bytes_at t c.in-Some.name) names ∙ sym c.if-has.ensures in
@@ -426,7 +432,7 @@ get_arguments-returns-in_err-value-in-Some-clause-meets g m c =
     (named_fails t _ (names_in t names) _
     (omega (arith, c.if-place-self.false, c.loop-noted.invariant.within)) (sym c.loop-noted-test.ensures) e _
     read (functional_within c.args.self.now.edition t _) c.in-Some.name
-    (sym (c.in-Some.ensures c.args.nesting _ e read same)) mark
+    (sym (c.in-Some.ensures c.args.nesting _ e read (ap seen c.deref.ensures ∙ same))) mark
     (fails_no new
     (fails_next (functional_token t colon) (token_there t colon _ mark)
     (fails_next (functional_blank t) (passed c.skip_blank-start.ensures.blank)
@@ -444,6 +450,7 @@ get_arguments-returns-clause-meets g m c =
 
 pub get_arguments-loop-noted-preserved-then-is_byte_at : goal.get_arguments-loop-noted-preserved-then-is_byte_at
 get_arguments-loop-noted-preserved-then-is_byte_at g m c =
+    let seen = inline_view g.M.MakeTexts.made in
     let t = c.args.self.now.source.bytes.now in
     let old = c.loop-noted in
     let new = used_in_order t (bytes_at t c.in-Some.name) old.noted.names.items ∙ sym c.if-has.ensures in
@@ -465,15 +472,16 @@ get_arguments-loop-noted-preserved-then-is_byte_at g m c =
           old.noted.names.items
           old.invariant.gathered (omega (arith, c.if-place-self.false, old.invariant.within))
           (sym c.loop-noted-test.ensures) e _ read named.0 c.in-Some.name
-          (sym (c.in-Some.ensures c.args.nesting _ e read same)) (sym c.if-is_byte_at.ensures) new
+          (sym (c.in-Some.ensures c.args.nesting _ e read (ap seen c.deref.ensures ∙ same))) (sym c.if-is_byte_at.ensures) new
           named.2 _ named.1 _ c.in_ok-note-in-Some.ensures.names _ _ _
-          c.skip_blank-start.ensures.blank value read_value (ap (inline_view g.M.MakeTexts.made) named.3 ∙ same_value)
+          c.skip_blank-start.ensures.blank value read_value (ap seen named.3 ∙ same_value)
           c.skip_separator-place.ensures.meets;
       noted = c.in_ok-note-in-Some.ensures.noted;
     }))
 
 pub get_arguments-returns-then-not-is_empty-clause-meets : goal.get_arguments-returns-then-not-is_empty-clause-meets
 get_arguments-returns-then-not-is_empty-clause-meets g m c =
+    let seen = inline_view g.M.MakeTexts.made in
     let t = c.args.self.now.source.bytes.now in
     let old = c.loop-noted in
     let some = some_named old.noted.names.items c.if-not-is_empty.ensures in
@@ -481,7 +489,7 @@ get_arguments-returns-then-not-is_empty-clause-meets g m c =
     let is : (argument_name e ≡ None) ⊎ (has_byte t colon c.in_ok-expression.next ≡ false) =
     elim c.in_default.branch [
       | get_arguments-in_default-via-in-Some+else-is_byte_at w ↦ inr (sym w.if-is_byte_at.ensures)
-      | get_arguments-in_default-via-in_default w ↦ inl (sym (w.in_default.ensures c.args.nesting _ e read same))
+      | get_arguments-in_default-via-in_default w ↦ inl (sym (w.in_default.ensures c.args.nesting _ e read (ap seen c.deref.ensures ∙ same)))
     ] in
     item_fails old.invariant.gathered.behind (refused (λ k from to (a, b, d). rw (a, b, d)
     (positional t _ (names_in t old.noted.names.items) old.place
@@ -492,6 +500,7 @@ get_arguments-returns-then-not-is_empty-clause-meets g m c =
 
 pub get_arguments-loop-noted-preserved : goal.get_arguments-loop-noted-preserved
 get_arguments-loop-noted-preserved g m c =
+    let seen = inline_view g.M.MakeTexts.made in
     let t = c.args.self.now.source.bytes.now in
     let old = c.loop-noted in
     let none = none_named old.noted.names.items c.if-not-is_empty.ensures in
@@ -499,7 +508,7 @@ get_arguments-loop-noted-preserved g m c =
     let is : (argument_name e ≡ None) ⊎ (has_byte t colon c.in_ok-expression.next ≡ false) =
     elim c.in_default.branch [
       | get_arguments-in_default-via-in-Some+else-is_byte_at w ↦ inr (sym w.if-is_byte_at.ensures)
-      | get_arguments-in_default-via-in_default w ↦ inl (sym (w.in_default.ensures c.args.nesting _ e read same))
+      | get_arguments-in_default-via-in_default w ↦ inl (sym (w.in_default.ensures c.args.nesting _ e read (ap seen c.deref.ensures ∙ same)))
     ] in
     record {
       forward =
@@ -990,6 +999,3 @@ get_pieces-loop-pieces-smaller g m c =
 pub get_lines-invariant_of-push-in-Some-eol_end-clause-ends :
     goal.get_lines-invariant_of-push-in-Some-eol_end-clause-ends
 get_lines-invariant_of-push-in-Some-eol_end-clause-ends g m c = c.ending_at-ending.ensures.ends
-
-pub get_expression-overflow_add-ptr : goal.get_expression-overflow_add-ptr
-get_expression-overflow_add-ptr g m c = omega (arith, c.skip_blank-ptr.ensures.within, c.args.self.now.small)
