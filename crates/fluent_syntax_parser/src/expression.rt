@@ -136,6 +136,7 @@ impl<'s, 't, M: MakeTexts> Reader<'s, 't, M> {
 
     /// Reads an inline expression: what stands at the place decides its form.
     #[cycle(readers)]
+    #[inline(always)]
     pub(crate) fn get_inline_expression(
         &self,
         nesting: usize,
