@@ -82,7 +82,6 @@ impl<'s, 't, M: MakeTexts> Reader<'s, 't, M> {
                 Ok(())
             }
             Piece::Placed { expression } => {
-                let expression = Box::into_inner(expression);
                 elements.push(PatternElement::Placeable { expression })?;
                 Ok(())
             }
@@ -122,7 +121,6 @@ impl<'s, 't, M: MakeTexts> Reader<'s, 't, M> {
                 Ok(())
             }
             Piece::Placed { expression } => {
-                let expression = Box::into_inner(expression);
                 elements.push(PatternElement::Placeable { expression })?;
                 Ok(())
             }
