@@ -1,6 +1,6 @@
 -- What is done with each of a list, one after another.
-use Rattle.std.proofs.Common.{◌≡◌, ◌<◌, ◌≤◌, ◌+◌, ◌++◌, [], ◌∷◌, ℕ, List, length, get_or, take, subst, sym}
-use Rattle.std.proofs.lemmas.List.{take_all, take_more}
+use Rattle.std.proofs.Common.{◌≡◌, ◌<◌, ◌+◌, ◌++◌, [], ◌∷◌, ℕ, List, length, get_or, take, subst, sym}
+use Rattle.std.proofs.lemmas.List.{take_more}
 use Rattle.std.specs.Global.{Global}
 use Rattle.std.specs.Prelude.{Option, String, string_bytes}
 use Rattle.fluent_syntax_names.specs.declared.outline.Outline.{Outline}
@@ -15,16 +15,11 @@ use Rattle.ftl_project.specs.declared.reading.Reading.{Reading}
 use Rattle.ftl_project.specs.declared.tally.Tally.{Tally}
 
 -- What was told of the first ones, and of one more.
-pub TellsEach-more : {A : Type 0} (Is : A → List ℕ → Type 0) (items : List A) (index : ℕ) (item : A)
-    (told text all : List ℕ) → index < length items → item ≡ get_or items index item →
-    TellsEach Is (take index items) told → Is item text → all ≡ told ++ text →
-    TellsEach Is (take (index + 1) items) all
-TellsEach-more Is items index item told text all below is tells that whole =
-    rw (take_more items index item below, sym is, whole) (behind item text tells that)
-
-pub TellsEach-all : {A : Type 0} (Is : A → List ℕ → Type 0) (items : List A) (index : ℕ) (told : List ℕ) →
-    length items ≤ index → TellsEach Is (take index items) told → TellsEach Is items told
-TellsEach-all Is items index told all tells = subst (λ done. TellsEach Is done told) (take_all items index all) tells
+pub TellsEach-more : {A : Type 0} (Is : A → List ℕ → Type 0) (items : List A) (index : ℕ) (d : A)
+    (told text all : List ℕ) → index < length items → TellsEach Is (take index items) told →
+    Is (get_or items index d) text → all ≡ told ++ text → TellsEach Is (take (index + 1) items) all
+TellsEach-more Is items index d told text all below tells that whole =
+    rw (take_more items index d below, whole) (behind (get_or items index d) text tells that)
 
 -- The pairs that were compared first, and one more.
 pub ComparesEach-more : (reading : Reading) (form : Form) (at : List ℕ → Option (List ℕ)) (pairs : List Pair)

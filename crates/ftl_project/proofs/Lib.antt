@@ -1,3 +1,4 @@
+mod Compared
 mod Counting
 mod FormattingEach
 mod InOrder

@@ -49,24 +49,33 @@ more_message part.Attribute name = codes "the reference does not define `" ++ na
 more_message part.Reference name = codes "the reference does not define `" ++ name ++ codes "`"
 more_message part.Variable name = codes "the reference does not use `$" ++ name ++ codes "`"
 
--- This is told of a difference in the file; of no difference nothing is.
+-- This is told of a difference in the file, with a message that says so; of no difference nothing is told.
 abbrev pub IsDifferenceTold : Form → (path text : List ℕ) → Option Spot → Option Difference →
-    (message told : List ℕ) → Type 0
-IsDifferenceTold form path text place None message told = told ≡ []
-IsDifferenceTold form path text place (Some difference) message told =
-    IsRemark form path text place (difference_name difference) message told
+    (Says : List ℕ → Type 0) → (told : List ℕ) → Type 0
+IsDifferenceTold form path text place None Says told = told ≡ []
+IsDifferenceTold form path text place (Some difference) Says told =
+    (message : List ℕ) × Says message × IsRemark form path text place (difference_name difference) message told
+
+-- The message is that of the part, by its name in the text.
+abbrev pub SaysMissing : (path text : List ℕ) → Lack → (message : List ℕ) → Type 0
+SaysMissing path text lack message =
+    (name : List ℕ) × IsName text lack.name name × (message ≡ missing_message path text lack name)
+
+abbrev pub SaysMore : (text : List ℕ) → Lack → (message : List ℕ) → Type 0
+SaysMore text lack message =
+    (name : List ℕ) × IsName text lack.name name × (message ≡ more_message lack.part name)
 
 -- This is told of what the reference's text has and the other file lacks.
 abbrev pub IsMissingTold : Form → Pair → (text : List ℕ) → Lack → (told : List ℕ) → Type 0
-IsMissingTold form pair text lack told = (name : List ℕ) × IsName text lack.name name
-    × IsDifferenceTold form (string_bytes pair.other) [] None (side_difference Reference lack.part)
-    (missing_message (string_bytes pair.reference) text lack name) told
+IsMissingTold form pair text lack told =
+    IsDifferenceTold form (string_bytes pair.other) [] None (side_difference Reference lack.part)
+    (SaysMissing (string_bytes pair.reference) text lack) told
 
 -- This is told of what the other file's text has and the reference lacks.
 abbrev pub IsMoreTold : Form → Pair → (text : List ℕ) → Lack → (told : List ℕ) → Type 0
-IsMoreTold form pair text lack told = (name : List ℕ) × IsName text lack.name name
-    × IsDifferenceTold form (string_bytes pair.other) text (Some (spot_at text lack.name))
-    (side_difference Other lack.part) (more_message lack.part name) told
+IsMoreTold form pair text lack told =
+    IsDifferenceTold form (string_bytes pair.other) text (Some (spot_at text lack.name))
+    (side_difference Other lack.part) (SaysMore text lack) told
 
 -- ---- how many
 

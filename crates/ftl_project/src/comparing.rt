@@ -1,14 +1,14 @@
 //! Files of a reference language are compared with those of another.
-ghost use Rattle.std.specs.Prelude.{◌≡◌, ◌≢◌, ◌⊎◌, ◌+◌, ◌<◌, ◌^◌, ◌++◌, ℕ, List, [], None, Some, Err, IfErr, IfOk};
+ghost use Rattle.std.specs.Prelude.{◌≡◌, ◌≢◌, ◌⊎◌, ◌+◌, ◌<◌, ◌^◌, ◌++◌, [], None, Some, Err, IfErr, IfOk};
 ghost use Rattle.std.specs.Prelude.{OnOk, codes, length, string_bytes};
 ghost use Rattle.fluent_syntax_names.specs.declared.outline.Outline.{Outline};
 ghost use Rattle.ftl_files.specs.Store.{AllStand};
 ghost use Rattle.ftl_project.specs.Comparing.{Compares, ComparesEach, IsAlone, IsBeside, IsComparison, IsMissingTold};
-ghost use Rattle.ftl_project.specs.Comparing.{IsMoreTold, IsPairFault, errors_of, lacked_entries, missing_at};
-ghost use Rattle.ftl_project.specs.Comparing.{missing_what, more_message, with_share};
+ghost use Rattle.ftl_project.specs.Comparing.{IsMoreTold, IsPairFault, SaysMissing, SaysMore, errors_of};
+ghost use Rattle.ftl_project.specs.Comparing.{lacked_entries, missing_what, more_message, with_share};
 ghost use Rattle.ftl_project.specs.Faults.{IsTooDeep, IsUnparsed};
 ghost use Rattle.ftl_project.specs.Outlines.{IsOutline, IsShort};
-ghost use Rattle.ftl_project.specs.Remarks.{IsName, IsRemark, TellsEach};
+ghost use Rattle.ftl_project.specs.Remarks.{IsRemark, TellsEach, spot_at};
 ghost use Rattle.ftl_project.specs.Summaries.{share_line_of};
 
 use crate::differences::Side;
@@ -310,9 +310,8 @@ fn missing_message(
     spot: Spot,
     lack: &Lack,
 ) -> Result<String, AllocError>
-    ensures { IfOk result (λ message. (name : List ℕ) × IsName text.now lack.now.name name
-        × (string_bytes message ≡ missing_what lack.now.part ++ codes "`" ++ name ++ codes "` of "
-        ++ missing_at path.now spot)) }
+    requires { spot ≡ spot_at text.now lack.now.name }
+    ensures { IfOk result (λ message. SaysMissing path.now text.now lack.now (string_bytes message)) }
 {
     let what = missing_what(lack.part);
     let name = name_in(text, lack.name);
@@ -372,12 +371,18 @@ fn more_told<'t>(
         place: Some(spot),
         kind: difference.name(),
         severity: severity_name(difference.severity()),
-        message: more_message(alloc, lack.part, name_in(text, lack.name))?,
+        message: more_message(alloc, text, lack)?,
     };
     remark_text(alloc, &remark, form)
 }
 
-fn more_message(alloc: Global, part: Part, name: &str) -> Result<String, AllocError>
+fn more_message(alloc: Global, text: &str, lack: &Lack) -> Result<String, AllocError>
+    ensures { IfOk result (λ message. SaysMore text.now lack.now (string_bytes message)) }
+{
+    more_words(alloc, lack.part, name_in(text, lack.name))
+}
+
+fn more_words(alloc: Global, part: Part, name: &str) -> Result<String, AllocError>
     ensures { IfOk result (λ message. string_bytes message ≡ more_message part name.now) }
 {
     match part {

@@ -47,7 +47,7 @@ pub fn lint_files<S: Store, O: Write, E: Write>(
 ) -> Result<(), RunFault>
     ensures stand { AllStand (S.bytes_at store.old) (S.bytes_at store.new) }
     ensures counted { OnOk result (CountsRead (length files.now) tally.old tally.new) }
-    ensures searched { OnOk result (SearchesFiles reading telling.form telling.ignored.now (S.bytes_at store.old)
+    ensures searched { OnOk result (SearchesFiles reading telling.entry.form telling.entry.ignored.now (S.bytes_at store.old)
         files.now tally.old tally.new (O.contents streams.old.out.now) (O.contents streams.new.out.now)) }
     ensures err { result ≢ Err RunFault.Input }
 {
@@ -126,7 +126,7 @@ fn lint_sources<O: Write, E: Write>(
     streams: &mut Streams<'_, O, E>,
 ) -> Result<(), RunFault>
     ensures counted { OnOk result (AddsFiles (length sources.now) tally.old tally.new) }
-    ensures searched { OnOk result (Searches reading telling.form telling.ignored.now sources.now tally.old tally.new
+    ensures searched { OnOk result (Searches reading telling.entry.form telling.entry.ignored.now sources.now tally.old tally.new
         (O.contents streams.old.out.now) (O.contents streams.new.out.now)) }
     ensures err { result ≢ Err RunFault.Input }
 {
@@ -163,11 +163,18 @@ fn outlines<'a, O: Write, E: Write>(
     let mut outlines = Vec::new(alloc);
     for source in sources {
         let outline = source_outline(alloc, source, reading, tally, streams)?;
-        if outlines.push(outline).is_err() {
+        let Ok(()) = add_outline(&mut outlines, outline) else {
             return Err(RunFault::Memory);
-        }
+        };
     }
     Ok(outlines)
+}
+
+fn add_outline<'a>(outlines: &mut Vec<Outline<'a>>, outline: Outline<'a>) -> Result<(), AllocError>
+    ensures { OnOk result (outlines.new.items ≡ outlines.old.items ++ outline.entry ∷ []) }
+{
+    outlines.push(outline)?;
+    Ok(())
 }
 
 /// What the file says of names; nothing where it nests too deep, which is told.
