@@ -45,12 +45,12 @@ module _ (reading : Reading) (form : Form) (at : List ℕ → Option (List ℕ))
       IsComparison reading form at pair.is_there pair errors share told
   beside text more errors share told there same alike that =
       subst (λ is_there. IsComparison reading form at is_there pair errors share told) (sym there) (
-    that.0,
-    known (λ b. IsOutline reading.edition b that.0) (at (string_bytes pair.reference)) text same that.1,
-    that.2,
-    known (λ b. IsOutline reading.edition b that.2) (at (string_bytes pair.other)) more alike that.3,
-    that.4,
-  )
+        that.0,
+        known (λ b. IsOutline reading.edition b that.0) (at (string_bytes pair.reference)) text same that.1,
+        that.2,
+        known (λ b. IsOutline reading.edition b that.2) (at (string_bytes pair.other)) more alike that.3,
+        that.4,
+      )
 
   -- A fault of the pair that was told was counted, and nothing was written of the pair.
   pub Compares-told : {E : Type 0} (result : Result (Unit {0}) E) (fault : Fault) (old new : Tally) (share : Share)

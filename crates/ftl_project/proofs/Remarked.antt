@@ -1,5 +1,5 @@
 -- What is told of remarks that are alike.
-use Rattle.std.proofs.Common.{◌≡◌, ◌∙◌, ℕ, List, Option, Result, Ok, Err, string_bytes, subst}
+use Rattle.std.proofs.Common.{◌≡◌, ℕ, List, Option, Result, Ok, Err, string_bytes, subst}
 use Rattle.std.specs.Global.{Global}
 use Rattle.std.specs.Prelude.{IfOk, String, slice_get}
 use Rattle.fluent_syntax_names.specs.Severities.{name_of}
@@ -37,6 +37,6 @@ pub IsFindingTold-as : (form : Form) (sources : List Source) (outlines : List Ou
 IsFindingTold-as form sources outlines finding path text told same_path same_text that = (
   that.0,
   subst (λ t. IsRemark form (path_of (slice_get sources finding.file)) t (spot_in t finding.place)
-  (name_of finding.kind) that.0 told) same_text
-  (subst (λ p. IsRemark form p text (spot_in text finding.place) (name_of finding.kind) that.0 told) same_path that.1),
+      (name_of finding.kind) that.0 told) same_text
+      (subst (λ p. IsRemark form p text (spot_in text finding.place) (name_of finding.kind) that.0 told) same_path that.1),
 )

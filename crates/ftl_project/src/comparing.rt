@@ -253,7 +253,10 @@ fn errors_of(side: Side, lacks: &[Lack]) -> usize
 fn lacked_entries(lacks: &[Lack]) -> usize
     ensures { result ≡ lacked_entries lacks.now }
 {
-    lacks.iter().filter(|lack| matches!(lack.part, Part::Entry)).count()
+    lacks
+        .iter()
+        .filter(|lack| matches!(lack.part, Part::Entry))
+        .count()
 }
 
 /// What is told of the parts that the reference has and the other file lacks.

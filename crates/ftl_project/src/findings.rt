@@ -76,12 +76,7 @@ fn text_of<'t>(outlines: &[Outline<'t>], number: usize) -> &'t str
 }
 
 /// The lines of the file of the number; those of the last one where it is the same.
-fn lines_in<'t>(
-    outlines: &[Outline<'t>],
-    last: usize,
-    lines: Lines<'t>,
-    number: usize,
-) -> Lines<'t>
+fn lines_in<'t>(outlines: &[Outline<'t>], last: usize, lines: Lines<'t>, number: usize) -> Lines<'t>
     requires last { lines ≡ text_of (slice_get outlines.now last) }
     requires short { All IsShort outlines.now }
     ensures { result ≡ text_of (slice_get outlines.now number) }

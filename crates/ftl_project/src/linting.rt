@@ -195,13 +195,7 @@ fn source_outline<'a, O: Write, E: Write>(
     match outline(alloc, source.text.as_str(), reading) {
         Ok(outline) => Ok(outline),
         Err(Fault::TooDeep) => {
-            tell(
-                alloc,
-                tally,
-                source.path.as_str(),
-                &Fault::TooDeep,
-                streams,
-            )?;
+            tell(alloc, tally, source.path.as_str(), &Fault::TooDeep, streams)?;
             Ok(Outline::new(alloc, ""))
         }
         Err(_) => Err(RunFault::Memory),

@@ -1,4 +1,4 @@
-use Rattle.std.proofs.Common.{◌++◌, append_assoc, codes, string_bytes}
+use Rattle.std.proofs.Common.{append_assoc}
 use Rattle.std.proofs.lemmas.Result.{IfOk-weaker}
 use Rattle.ftl_project.specs.Comparing.{missing_message}
 use Rattle.ftl_project.proofs.Said.{said_as}

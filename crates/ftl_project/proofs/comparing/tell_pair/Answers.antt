@@ -18,7 +18,7 @@ returns-in-Ok-clause-counted g c =
       c.count.ensures,
       c.add.ensures,
       appends_as (written c.args.streams.now.out.now) after after c.as_str.result.now (string_bytes compared.told)
-      appends c.as_str.ensures.value refl,
+          appends c.as_str.ensures.value refl,
     )) c.put.ensures.written
 
 pub returns-in-Err-clause-counted : goal.returns-in-Err-clause-counted
