@@ -36,7 +36,12 @@ impl Asked<'_> {
         };
         let mut list = Vec::new(alloc);
         for known in &self.documents {
-            add_locations(alloc, &mut list, known, &known.places_of(alloc, name, wanted)?)?;
+            add_locations(
+                alloc,
+                &mut list,
+                known,
+                &known.places_of(alloc, name, wanted)?,
+            )?;
         }
         Ok(Value::Array(list))
     }

@@ -152,11 +152,7 @@ impl Known<'_> {
 }
 
 /// The entry or junk at the byte of a document.
-fn entry_of(
-    alloc: Global,
-    document: &Document,
-    byte: usize,
-) -> Result<Option<String>, AllocError> {
+fn entry_of(alloc: Global, document: &Document, byte: usize) -> Result<Option<String>, AllocError> {
     match document.entry_at(byte) {
         Some(entry) => Ok(Some(String::from_str(alloc, entry)?)),
         None => Ok(None),
@@ -171,7 +167,7 @@ fn places_in(
     name: Name<'_>,
     wanted: Wanted,
 ) -> Result<Vec<Span>, AllocError>
-    ensures { IfOk result (λ found. found.items ≡ places_of text.now occurrences.now name wanted) }
+    ensures { IfOk result (λ found. found.items ≡ places_of text.now occurrences.now name.entry wanted) }
 {
     let mut found = Vec::new(alloc);
     for occurrence in occurrences {

@@ -37,8 +37,8 @@ mod token_patterns;
 mod tokens;
 mod workspace;
 
-pub use diagnostics::{Diagnostic, diagnostics_in};
 pub use closed::Closed;
+pub use diagnostics::{Diagnostic, diagnostics_in};
 pub use documents::Document;
 pub use endings::Ending;
 pub use formatting::formatted;

@@ -1,5 +1,5 @@
 //! The names in a text, each where it stands.
-ghost use Rattle.std.specs.Prelude.{◌≡◌, ◌∷◌, IfOk, None, OnOk, Some};
+ghost use Rattle.std.specs.Prelude.{◌≡◌, ◌∷◌, false, IfOk, None, OnOk, Some};
 ghost use Rattle.fluent_syntax_lsp.specs.Occurrences.{AddsMention, AddsNames, attribute_of, named, occurrences};
 ghost use Rattle.fluent_syntax_lsp.specs.Occurrences.{cut, is_attribute, is_named, is_same_kind, place_of};
 ghost use Rattle.fluent_syntax_lsp.specs.Remarks.{IsCut};
@@ -92,7 +92,7 @@ fn cut(text: &[u8], span: Span) -> &[u8]
 
 /// Whether it is this name that occurs in the text.
 pub fn is_named(text: &str, occurrence: &Occurrence, name: Name<'_>) -> bool
-    ensures { result ≡ is_named text.now occurrence.now name }
+    ensures { result ≡ is_named text.now occurrence.now name.entry }
 {
     let text = text.as_bytes();
     is_same_kind(occurrence.kind, name.kind)
@@ -114,7 +114,7 @@ fn is_same_kind(a: NameKind, b: NameKind) -> bool
 
 /// Whether the range has this attribute's name, or there are none.
 fn is_attribute(text: &[u8], span: Option<Span>, attribute: Option<&str>) -> bool
-    ensures { result ≡ is_attribute text.now span attribute }
+    ensures { result ≡ is_attribute text.now span attribute.entry }
 {
     match (span, attribute) {
         (None, None) => true,

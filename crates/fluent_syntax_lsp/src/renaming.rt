@@ -45,8 +45,8 @@ fn renamed<'n>(name: Name<'n>, new_name: &'n str) -> Name<'n> {
     }
 }
 
-/// The edits by which the name at the place has the new name in all open documents and closed files. None where there is
-/// no message, term or attribute at the place, the new name is no identifier, or something has it already.
+/// The edits by which the name at the place has the new name in all open documents and closed files. None where there
+/// is no message, term or attribute at the place, the new name is no identifier, or something has it already.
 pub fn renaming(
     alloc: Global,
     asked: &Asked<'_>,

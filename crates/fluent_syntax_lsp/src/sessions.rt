@@ -12,8 +12,8 @@ use std::io::{Read, Write};
 /// How many bytes are asked of a reader at once.
 const BLOCK: usize = 16_384;
 
-/// Answers the messages that the reader gives on the writer, until the session ends, and says how it ended. Of the files
-/// it reads those below the folders that the editor names.
+/// Answers the messages that the reader gives on the writer, until the session ends, and says how it ended. Of the
+/// files it reads those below the folders that the editor names.
 pub fn serve<R: Read, W: Write, F: Folders>(
     alloc: Global,
     reader: &mut Watched<R>,

@@ -89,7 +89,12 @@ fn folders_of_paths(rt: HostRuntime) -> Result<(), Fail> {
     }
     for row in &SHARED {
         let (first, second, shared) = row;
-        assert_same(rt.alloc(), *second, &shared_folders(*first, *second), shared)?;
+        assert_same(
+            rt.alloc(),
+            *second,
+            &shared_folders(*first, *second),
+            shared,
+        )?;
     }
     Ok(())
 }
@@ -166,10 +171,12 @@ const INITIALIZE: &str = "{\"jsonrpc\":\"2.0\",\"id\":1,\"method\":\"initialize\
 
 const INITIALIZED: &str = "{\"jsonrpc\":\"2.0\",\"method\":\"initialized\",\"params\":{}}";
 
-const OPENED: &str = "{\"jsonrpc\":\"2.0\",\"method\":\"textDocument/didOpen\",\"params\":{\"textDocument\":\
+const OPENED: &str =
+    "{\"jsonrpc\":\"2.0\",\"method\":\"textDocument/didOpen\",\"params\":{\"textDocument\":\
     {\"uri\":\"file:///w/de/c.ftl\",\"version\":1,\"text\":\"c = { menu }\"}}}";
 
-const DEFINITION: &str = "{\"jsonrpc\":\"2.0\",\"id\":2,\"method\":\"textDocument/definition\",\"params\":\
+const DEFINITION: &str =
+    "{\"jsonrpc\":\"2.0\",\"id\":2,\"method\":\"textDocument/definition\",\"params\":\
     {\"textDocument\":{\"uri\":\"file:///w/de/c.ftl\"},\"position\":{\"line\":0,\"character\":7}}}";
 
 const RENAME: &str = "{\"jsonrpc\":\"2.0\",\"id\":3,\"method\":\"textDocument/rename\",\"params\":\
@@ -177,7 +184,8 @@ const RENAME: &str = "{\"jsonrpc\":\"2.0\",\"id\":3,\"method\":\"textDocument/re
     \"newName\":\"x\"}}";
 
 /// The nearest definition alone.
-const DEFINED: &str = "{\"id\":2,\"jsonrpc\":\"2.0\",\"result\":[{\"range\":{\"end\":{\"character\":4,\"line\":0},\
+const DEFINED: &str =
+    "{\"id\":2,\"jsonrpc\":\"2.0\",\"result\":[{\"range\":{\"end\":{\"character\":4,\"line\":0},\
     \"start\":{\"character\":0,\"line\":0}},\"uri\":\"file:///w/de/a.ftl\"}]}";
 
 /// The edits of all files, of which one is open.
@@ -203,7 +211,12 @@ fn a_session_over_closed_files(rt: HostRuntime) -> Result<(), Fail> {
         input.push_str(body)?;
     }
     let mut writer = Vec::new(alloc);
-    let _ = serve(alloc, &mut Watched::new(input.as_bytes()), &mut writer, &files);
+    let _ = serve(
+        alloc,
+        &mut Watched::new(input.as_bytes()),
+        &mut writer,
+        &files,
+    );
     let output = String::from_utf8_lossy(alloc, writer.as_slice())?;
     assert_holds(alloc, "the definition", output.contains(DEFINED))?;
     for edits in &RENAMED {

@@ -1,4 +1,4 @@
-use Rattle.std.proofs.Common.{◌≡◌, ◌∙◌, [], None}
+use Rattle.std.proofs.Common.{◌≡◌, ◌∙◌, [], None, ap}
 use Rattle.std.proofs.lemmas.Result.{IfOk-weaker}
 use Rattle.fluent_syntax_lsp.specs.Occurrences.{occurrences, Occurs}
 use Rattle.fluent_syntax_lsp.specs.Own.{IsOutlineOf}
@@ -16,6 +16,8 @@ returns c =
       text = c.in_ok-outline.ensures.text ∙ c.text.ensures;
       mentions = c.in_ok-outline.ensures.mentions ∙ placed_body places read.tiles [] read.each;
     } in
-    IfOk-weaker c.occurrences_of.result (λ found. found.items ≡ occurrences None outline.mentions.items)
+    let same = ap (occurrences None) c.deref.ensures.value in
+    IfOk-weaker c.occurrences_of.result (λ found. found.items ≡ occurrences None c.deref.result.now)
     (λ found. Occurs c.args.self.now found.items)
-    (λ found is. record { outline = outline; is_outline = is_outline; found_there = is }) c.occurrences_of.ensures
+    (λ found is. record { outline = outline; is_outline = is_outline; found_there = is ∙ same })
+    c.occurrences_of.ensures
