@@ -4,7 +4,7 @@ use crate::limits::{FILES_LIMIT, FOLDERS_LIMIT};
 use std::alloc::{AllocError, Global};
 use std::collections::VecDeque;
 use std::fs::{self, DirEntry};
-use std::io;
+use std::io::{self, ErrorKind};
 use std::rt::Files;
 
 /// The paths of the files below the folder whose names end in `.ftl`, in the order of their bytes. No symlink is
@@ -38,15 +38,25 @@ fn list_folder<R: Files + AllocGlobal + Clone + Drop>(
     files: &mut Vec<String>,
     folders: &mut VecDeque<String>,
 ) -> Result<(), AllocError> {
-    let Ok(entries) = fs::read_dir(rt, folder) else {
-        return Ok(());
+    let entries = match fs::read_dir(rt, folder) {
+        Ok(entries) => entries,
+        Err(error) => return pass_over(&error),
     };
     for entry in entries {
-        if let Ok(entry) = entry {
-            list_entry(alloc, &entry, files, folders)?;
+        match entry {
+            Ok(entry) => list_entry(alloc, &entry, files, folders)?,
+            Err(error) => pass_over(&error)?,
         }
     }
     Ok(())
+}
+
+/// Passes over what can't be read. `AllocError` where that is for want of memory.
+fn pass_over(error: &io::Error) -> Result<(), AllocError> {
+    match error.kind() {
+        ErrorKind::OutOfMemory => Err(AllocError),
+        _ => Ok(()),
+    }
 }
 
 fn list_entry<R: Files + AllocGlobal + Clone + Drop>(
@@ -64,7 +74,8 @@ fn list_entry<R: Files + AllocGlobal + Clone + Drop>(
         Ok(kind) if kind.is_file() && name.ends_with(".ftl") => {
             files.push(String::from_str(alloc, path.as_str())?)?;
         }
-        _ => (),
+        Ok(_) => (),
+        Err(error) => pass_over(&error)?,
     }
     Ok(())
 }
