@@ -54,7 +54,9 @@ impl Asked<'_> {
         };
         let mut list = Vec::new(alloc);
         for (number, places) in self.nearest(alloc, name)?.iter() {
-            add_locations(alloc, &mut list, &self.documents[*number], places)?;
+            if let Some(known) = self.documents.get(*number) {
+                add_locations(alloc, &mut list, known, places)?;
+            }
         }
         Ok(Value::Array(list))
     }
@@ -107,13 +109,8 @@ impl Asked<'_> {
         };
         let mut shown = String::new(alloc);
         for (number, places) in self.nearest(alloc, name)?.iter() {
-            for span in places {
-                if let Some(entry) = self.documents[*number].entry_at(alloc, span.start)? {
-                    if !shown.is_empty() {
-                        shown.push_str("\n")?;
-                    }
-                    shown.push_str(entry.as_str())?;
-                }
+            if let Some(known) = self.documents.get(*number) {
+                add_entries(alloc, &mut shown, known, places)?;
             }
         }
         if shown.is_empty() {
@@ -133,6 +130,24 @@ fn add_locations(
     let mut places = Places::new(known.text);
     for span in found {
         list.push(location_form(alloc, known.uri, &mut places, *span)?)?;
+    }
+    Ok(())
+}
+
+/// Adds the entries at the places of a document or file, a line between each two.
+fn add_entries(
+    alloc: Global,
+    shown: &mut String,
+    known: &Known<'_>,
+    found: &[Span],
+) -> Result<(), AllocError> {
+    for span in found {
+        if let Some(entry) = known.entry_at(alloc, span.start)? {
+            if !shown.is_empty() {
+                shown.push_str("\n")?;
+            }
+            shown.push_str(entry.as_str())?;
+        }
     }
     Ok(())
 }

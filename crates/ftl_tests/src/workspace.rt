@@ -1,10 +1,11 @@
 //! The files of a workspace: URIs, what is read of folders in memory, and a session over them.
 
-use fluent_syntax_lsp::{Closed, Document, NameKind, serve};
+use fluent_syntax_lsp::{Closed, Document, NameKind, Occurrence, serve};
 use fluent_syntax_tests::alike::{assert_holds, assert_same, assert_same_text};
 use ftl::Watched;
 use ftl_workspace::{
-    FILE_LIMIT, Folders, InMemory, is_below, path_of_uri, read_files, shared_folders, uri_of_path,
+    FILE_LIMIT, Folders, InMemory, SourceFile, is_below, path_of_uri, read_files, shared_folders,
+    uri_of_path,
 };
 use std::alloc::Global;
 use std::test::Fail;
@@ -114,6 +115,19 @@ fn some_files(alloc: Global) -> Result<InMemory, Fail> {
     Ok(files)
 }
 
+/// Whether the files have these paths and texts.
+fn are_files(found: &[SourceFile], expected: &[(&str, &str)]) -> bool {
+    found.len() == expected.len()
+        && found.iter().zip(expected).all(|(file, row)| file.path.as_str() == row.0
+            && file.text.as_str() == row.1)
+}
+
+const FOUND: [(&str, &str); 3] = [
+    ("/w/de/a.ftl", "menu = Karte\n"),
+    ("/w/de/b.ftl", "use = { menu }\n"),
+    ("/w/en/a.ftl", "menu = Menu\n"),
+];
+
 #[test]
 fn files_of_a_folder(rt: HostRuntime) -> Result<(), Fail> {
     let alloc = rt.alloc();
@@ -121,19 +135,27 @@ fn files_of_a_folder(rt: HostRuntime) -> Result<(), Fail> {
     let listed = files.files_below(alloc, "/w")?;
     assert_same(alloc, "listed", &listed.len(), &5)?;
     let found = read_files(alloc, &files, "/w")?;
-    let paths = ["/w/de/a.ftl", "/w/de/b.ftl", "/w/en/a.ftl"];
-    let are_so = found
-        .iter()
-        .map(|file| file.path.as_str())
-        .eq(paths.iter().copied());
-    assert_holds(alloc, "the paths", are_so)?;
-    assert_same_text(alloc, "a text", found[1].text.as_str(), "use = { menu }\n")?;
-    assert_same(
-        alloc,
-        "none there",
-        &read_files(alloc, &files, "/v")?.len(),
-        &0,
-    )
+    assert_holds(alloc, "found", are_files(&found, &FOUND))?;
+    let none = read_files(alloc, &files, "/v")?;
+    assert_holds(alloc, "none there", none.is_empty())
+}
+
+/// Names of a text, by what they are and where they stand.
+const NAMES: [(NameKind, usize, usize); 6] = [
+    (NameKind::Message, 0, 1),
+    (NameKind::Message, 6, 7),
+    (NameKind::Message, 8, 9),
+    (NameKind::Variable, 15, 16),
+    (NameKind::Message, 24, 25),
+    (NameKind::Function, 30, 31),
+];
+
+/// Whether these are the names.
+fn are_names(found: &[Occurrence], expected: &[(NameKind, usize, usize)]) -> bool {
+    found.len() == expected.len()
+        && found.iter().zip(expected).all(|(name, row)| {
+            name.kind == row.0 && name.place().start == row.1 && name.place().end == row.2
+        })
 }
 
 #[test]
@@ -142,28 +164,14 @@ fn names_of_a_closed_file(rt: HostRuntime) -> Result<(), Fail> {
     let text = String::from_str(alloc, "a = { b.c } { $d }\n    .e = { F() }\n")?;
     let document = Document::new(alloc, text.as_str())?;
     let open = document.occurrences(alloc)?;
-    let Some(file) = Closed::new(alloc, "/w/a b.ftl", text)? else {
-        return assert_holds(alloc, "it can be read", false);
-    };
-    assert_same_text(alloc, "its URI", file.uri.as_str(), "file:///w/a%20b.ftl")?;
-    let places = [(0, 1), (6, 7), (8, 9), (15, 16), (24, 25), (30, 31)];
-    let kinds = [
-        NameKind::Message,
-        NameKind::Message,
-        NameKind::Message,
-        NameKind::Variable,
-        NameKind::Message,
-        NameKind::Function,
-    ];
-    assert_same(alloc, "names", &file.occurrences.len(), &places.len())?;
-    for number in 0..places.len() {
-        let found = &file.occurrences[number];
-        let place = found.place();
-        assert_same(alloc, "a place", &(place.start, place.end), &places[number])?;
-        assert_same(alloc, "a kind", &found.kind, &kinds[number])?;
-        assert_holds(alloc, "the same", open[number].place() == place)?;
+    assert_holds(alloc, "of a document", are_names(&open, &NAMES))?;
+    match Closed::new(alloc, "/w/a b.ftl", text)? {
+        Some(file) => {
+            assert_same_text(alloc, "its URI", file.uri.as_str(), "file:///w/a%20b.ftl")?;
+            assert_holds(alloc, "of a file", are_names(&file.occurrences, &NAMES))
+        }
+        None => assert_holds(alloc, "it can be read", false),
     }
-    Ok(())
 }
 
 const INITIALIZE: &str = "{\"jsonrpc\":\"2.0\",\"id\":1,\"method\":\"initialize\",\
@@ -205,10 +213,10 @@ fn a_session_over_closed_files(rt: HostRuntime) -> Result<(), Fail> {
     let alloc = rt.alloc();
     let files = some_files(alloc)?;
     let mut input = String::new(alloc);
-    for body in [INITIALIZE, INITIALIZED, OPENED, DEFINITION, RENAME] {
+    for body in &[INITIALIZE, INITIALIZED, OPENED, DEFINITION, RENAME] {
         let header = format!(in alloc; "Content-Length: {}\r\n\r\n", body.len())?;
         input.push_str(header.as_str())?;
-        input.push_str(body)?;
+        input.push_str(*body)?;
     }
     let mut writer = Vec::new(alloc);
     let _ = serve(
