@@ -202,8 +202,8 @@ const RENAMED: [&str; 4] = [
     {\"character\":6,\"line\":0}}}],\"textDocument\":{\"uri\":\"file:///w/de/c.ftl\",\"version\":1}}",
     "{\"edits\":[{\"newText\":\"x\",\"range\":{\"end\":{\"character\":4,\"line\":0},\"start\":\
     {\"character\":0,\"line\":0}}}],\"textDocument\":{\"uri\":\"file:///w/de/a.ftl\",\"version\":null}}",
-    "{\"edits\":[{\"newText\":\"x\",\"range\":{\"end\":{\"character\":10,\"line\":0},\"start\":\
-    {\"character\":6,\"line\":0}}}],\"textDocument\":{\"uri\":\"file:///w/de/b.ftl\",\"version\":null}}",
+    "{\"edits\":[{\"newText\":\"x\",\"range\":{\"end\":{\"character\":12,\"line\":0},\"start\":\
+    {\"character\":8,\"line\":0}}}],\"textDocument\":{\"uri\":\"file:///w/de/b.ftl\",\"version\":null}}",
     "{\"edits\":[{\"newText\":\"x\",\"range\":{\"end\":{\"character\":4,\"line\":0},\"start\":\
     {\"character\":0,\"line\":0}}}],\"textDocument\":{\"uri\":\"file:///w/en/a.ftl\",\"version\":null}}",
 ];
