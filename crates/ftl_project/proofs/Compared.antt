@@ -26,7 +26,8 @@ same_files at here stand = fun_ext stand
 pub of_text : (at : List ℕ → Option (List ℕ)) (path own text said : List ℕ) → path ≡ own → text ≡ said →
     IfSome (at path) (λ b. said ≡ b) → IfSome (at own) (λ b. text ≡ b)
 of_text at path own text said same_path same_text read =
-    subst (λ p. IfSome (at p) (λ b. text ≡ b)) same_path (subst (λ t. IfSome (at path) (λ b. t ≡ b)) (sym same_text) read)
+    subst (λ p. IfSome (at p) (λ b. text ≡ b)) same_path
+    (subst (λ t. IfSome (at path) (λ b. t ≡ b)) (sym same_text) read)
 
 module _ (reading : Reading) (form : Form) (at : List ℕ → Option (List ℕ)) (pair : Pair) where
   pub alone : (text : List ℕ) (errors : ℕ) (share : Share) (told : List ℕ) → pair.is_there ≡ false →
@@ -34,8 +35,11 @@ module _ (reading : Reading) (form : Form) (at : List ℕ → Option (List ℕ))
       ((outline : Outline) × IsOutline reading.edition text outline × IsAlone form pair outline errors share told) →
       IsComparison reading form at pair.is_there pair errors share told
   alone text errors share told gone same that =
-      subst (λ is_there. IsComparison reading form at is_there pair errors share told) (sym gone)
-      (that.0, known (λ b. IsOutline reading.edition b that.0) (at (string_bytes pair.reference)) text same that.1, that.2)
+      subst (λ is_there. IsComparison reading form at is_there pair errors share told) (sym gone) (
+        that.0,
+        known (λ b. IsOutline reading.edition b that.0) (at (string_bytes pair.reference)) text same that.1,
+        that.2,
+      )
 
   pub beside : (text more : List ℕ) (errors : ℕ) (share : Share) (told : List ℕ) → pair.is_there ≡ true →
       IfSome (at (string_bytes pair.reference)) (λ b. text ≡ b) →

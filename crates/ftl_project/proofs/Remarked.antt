@@ -38,5 +38,6 @@ IsFindingTold-as form sources outlines finding path text told same_path same_tex
   that.0,
   subst (λ t. IsRemark form (path_of (slice_get sources finding.file)) t (spot_in t finding.place)
       (name_of finding.kind) that.0 told) same_text
-      (subst (λ p. IsRemark form p text (spot_in text finding.place) (name_of finding.kind) that.0 told) same_path that.1),
+      (subst (λ p. IsRemark form p text (spot_in text finding.place) (name_of finding.kind) that.0 told) same_path
+      that.1),
 )

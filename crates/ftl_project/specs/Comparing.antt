@@ -133,7 +133,8 @@ module _ (reading : Reading) (form : Form) (at : List ℕ → Option (List ℕ))
 
   -- what comes of a pair, by whether the other file is there
   abbrev pub IsComparison : (is_there : Bool) → Pair → (errors : ℕ) → Share → (text : List ℕ) → Type 0
-  IsComparison false pair errors share text = (reference : Outline) × IsOutlineAt (string_bytes pair.reference) reference
+  IsComparison false pair errors share text = (reference : Outline)
+      × IsOutlineAt (string_bytes pair.reference) reference
       × IsAlone form pair reference errors share text
   IsComparison true pair errors share text = (reference : Outline) × IsOutlineAt (string_bytes pair.reference) reference
       × (other : Outline) × IsOutlineAt (string_bytes pair.other) other

@@ -1,6 +1,7 @@
 -- How files are searched, and what is counted and told.
 use Rattle.std.specs.Io.KnownBytes.{Appends}
-use Rattle.std.specs.Prelude.{◌≡◌, ◌≤◌, ◌⊎◌, ◌+◌, ◌-◌, ◌^◌, ◌++◌, ◌&&◌, ℕ, min, Bool, not, List, [], ◌∷◌, length, nat_eq}
+use Rattle.std.specs.Prelude.{◌≡◌, ◌≤◌, ◌⊎◌, ◌+◌, ◌-◌, ◌^◌, ◌++◌, ◌&&◌, ℕ, min, Bool, not, List, [], ◌∷◌}
+use Rattle.std.specs.Prelude.{length, nat_eq}
 use Rattle.std.specs.Prelude.{Option, None, Some, IfSome, String, count_by, filter, if◌then◌else◌, slice_get}
 use Rattle.std.specs.Prelude.{string_bytes}
 use Rattle.std.specs.Global.{Global}
@@ -82,7 +83,8 @@ OutlinesSource reading source outline old new =
 pub data OutlinesEach (reading : Reading) : List Source → List Outline → (old new : Tally) → Type 0 where
   no_sources : {tally : Tally} → OutlinesEach reading [] [] tally tally
   outline_more : {sources : List Source} {outlines : List Outline} {old now new : Tally} → (source : Source)
-      (outline : Outline) → OutlinesEach reading sources outlines old now → OutlinesSource reading source outline now new →
+      (outline : Outline) → OutlinesEach reading sources outlines old now →
+      OutlinesSource reading source outline now new →
       OutlinesEach reading (sources ++ (source ∷ [])) (outlines ++ (outline ∷ [])) old new
 
 -- ---- what is found

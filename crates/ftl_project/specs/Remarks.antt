@@ -1,5 +1,6 @@
 -- What is told of what is found in a file.
-use Rattle.std.specs.Prelude.{◌≡◌, ◌⊎◌, ◌+◌, ◌≤◌, ◌++◌, ℕ, List, [], ◌∷◌, Option, None, Some, codes, length, min, slice_range}
+use Rattle.std.specs.Prelude.{◌≡◌, ◌⊎◌, ◌+◌, ◌≤◌, ◌++◌, ℕ, List, [], ◌∷◌, Option, None, Some, codes}
+use Rattle.std.specs.Prelude.{length, min, slice_range}
 use Rattle.std.specs.Str.{IsCharBoundary}
 use Rattle.fluent_syntax.specs.Lines.{column_at, line_at}
 use Rattle.fluent_syntax_tree.specs.declared.spans.Span.{Span}

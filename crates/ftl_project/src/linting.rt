@@ -47,8 +47,8 @@ pub fn lint_files<S: Store, O: Write, E: Write>(
 ) -> Result<(), RunFault>
     ensures stand { AllStand (S.bytes_at store.old) (S.bytes_at store.new) }
     ensures counted { OnOk result (CountsRead (length files.now) tally.old tally.new) }
-    ensures searched { OnOk result (SearchesFiles reading telling.entry.form telling.entry.ignored.now (S.bytes_at store.old)
-        files.now tally.old tally.new (O.contents streams.old.out.now) (O.contents streams.new.out.now)) }
+    ensures searched { OnOk result (SearchesFiles reading telling.entry.form telling.entry.ignored.now
+        (S.bytes_at store.old) files.now tally.old tally.new (O.contents streams.old.out.now) (O.contents streams.new.out.now)) }
     ensures err { result ≢ Err RunFault.Input }
 {
     let sources = read_sources(alloc, store, files, tally, streams)?;
@@ -126,8 +126,8 @@ fn lint_sources<O: Write, E: Write>(
     streams: &mut Streams<'_, O, E>,
 ) -> Result<(), RunFault>
     ensures counted { OnOk result (AddsFiles (length sources.now) tally.old tally.new) }
-    ensures searched { OnOk result (Searches reading telling.entry.form telling.entry.ignored.now sources.now tally.old tally.new
-        (O.contents streams.old.out.now) (O.contents streams.new.out.now)) }
+    ensures searched { OnOk result (Searches reading telling.entry.form telling.entry.ignored.now
+        sources.now tally.old tally.new (O.contents streams.old.out.now) (O.contents streams.new.out.now)) }
     ensures err { result ≢ Err RunFault.Input }
 {
     let outlines = outlines(alloc, sources, reading, tally, streams)?;
