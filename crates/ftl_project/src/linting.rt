@@ -48,7 +48,8 @@ pub fn lint_files<S: Store, O: Write, E: Write>(
     ensures stand { AllStand (S.bytes_at store.old) (S.bytes_at store.new) }
     ensures counted { OnOk result (CountsRead (length files.now) tally.old tally.new) }
     ensures searched { OnOk result (SearchesFiles reading telling.entry.form telling.entry.ignored.now
-        (S.bytes_at store.old) files.now tally.old tally.new (O.contents streams.old.out.now) (O.contents streams.new.out.now)) }
+        (S.bytes_at store.old) files.now tally.old tally.new (O.contents streams.old.out.now)
+        (O.contents streams.new.out.now)) }
     ensures err { result ≢ Err RunFault.Input }
 {
     let sources = read_sources(alloc, store, files, tally, streams)?;

@@ -5,7 +5,8 @@ use Rattle.fluent_syntax_tree.specs.Kind.{Kind}
 use Rattle.fluent_syntax_tree.specs.Tree.{ExpressionTree, InlineTree, VariantTrees, inline_map, select}
 use Rattle.fluent_syntax_tree.specs.declared.edition.Edition.{Edition}
 use Rattle.fluent_syntax_tree.specs.declared.spans.Span.{Span}
-use Rattle.fluent_syntax_grammar.specs.Construct.{Outcome, Read, Refused, stops, goes_on, given, failed, passed, chosen, first}
+use Rattle.fluent_syntax_grammar.specs.Construct.{Outcome, Read, Refused, stops, goes_on, given, failed, passed}
+use Rattle.fluent_syntax_grammar.specs.Construct.{chosen, first}
 use Rattle.fluent_syntax_grammar.specs.Family.{Family}
 use Rattle.fluent_syntax_grammar.specs.Inline.{inline_expression}
 use Rattle.fluent_syntax_grammar.specs.Placeables.{expression, has_arrow, select_with, selector_fault}
@@ -89,8 +90,8 @@ module _ (edition : Edition) (t : List ℕ) (R : Family) (e : InlineTree Span) (
 
 -- The rest of an expression behind which an arrow stands, by its select.
 pub behind_blank : {B X : Type 0} (edition : Edition) (t : List ℕ) (R : Family) (f : ExpressionTree Span → B)
-    (view : X → B) {i j k : ℕ} {e : InlineTree Span} (r : Result (X × ℕ) ReadFault) → inline_expression t R i (Read e j) →
-    Blank t j k → has_arrow t k ≡ true → IsFunctionalFamily R →
+    (view : X → B) {i j k : ℕ} {e : InlineTree Span} (r : Result (X × ℕ) ReadFault) →
+    inline_expression t R i (Read e j) → Blank t j k → has_arrow t k ≡ true → IsFunctionalFamily R →
     Makes t f (select_with edition t R e (selector_fault e)) view k r → Makes t f (expression edition t R) view i r
 behind_blank edition t R f view (Ok x) read blank arrow g h = on_made h (λ b there same. made
     (goes_on read (goes_on (passed blank) (goes_on (chosen given) (first arrow there)))) same)

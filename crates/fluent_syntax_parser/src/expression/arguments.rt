@@ -90,7 +90,8 @@ impl<'s, 't, M: MakeTexts> Reader<'s, 't, M> {
         requires { ptr ≤ length self.now.source.bytes.now }
         ensures meets { let t = self.now.source.bytes.now in
             Makes t (inline_map (M.source self.now.texts.now))
-            (at_each (start t) (argument_value t (within self.now.edition t nesting))) (boxed_inline_view M.made) ptr result }
+            (at_each (start t) (argument_value t (within self.now.edition t nesting))) (boxed_inline_view M.made) ptr
+            result }
         ensures within { IfOk result (λ read. (ptr < read.1) × (read.1 ≤ length self.now.source.bytes.now)) }
     {
         match self.source.start(ptr) {

@@ -177,7 +177,8 @@ get_inner_placeable-returns-clause-meets g m c =
     given))
     (c.in_ok-expression-2.ensures ∙ ap inline_placeable same))
 
-pub get_inline_expression-get_number-requires-clause-starts : goal.get_inline_expression-get_number-requires-clause-starts
+pub get_inline_expression-get_number-requires-clause-starts :
+    goal.get_inline_expression-get_number-requires-clause-starts
 get_inline_expression-get_number-requires-clause-starts g m c =
     number_starts c.args.self.now.source.bytes.now _ c.start.result c.in-Digit.is c.start.ensures
 
@@ -258,12 +259,14 @@ pub get_expression-returns-then-is_term_attribute-clause-meets :
     goal.get_expression-returns-then-is_term_attribute-clause-meets
 get_expression-returns-then-is_term_attribute-clause-meets g m c =
     let seen = inline_view g.M.MakeTexts.made in
-    on_made c.in_ok-expression.ensures.meets (λ e read same. refused (λ k from to (a, b, d). rw (a, b, d)
+    on_made c.in_ok-expression.ensures.meets (λ e read same.
+    let there = ap seen c.deref.ensures ∙ same in
+    refused (λ k from to (a, b, d). rw (a, b, d)
     (goes_on read
     (goes_on (passed c.skip_blank-ptr.ensures.blank)
     (goes_on (chosen given)
     (second (sym c.if-is_arrow.ensures)
-    (first (sym (same_term_attribute _ e) ∙ ap is_term_attribute (sym (ap seen c.deref.ensures ∙ same)) ∙ sym c.if-is_term_attribute.ensures)
+    (first (sym (same_term_attribute _ e) ∙ ap is_term_attribute (sym there) ∙ sym c.if-is_term_attribute.ensures)
     (failed refl))))))))
 
 pub get_expression-returns-in_err-expression-2-clause-meets :
@@ -275,12 +278,14 @@ get_expression-returns-in_err-expression-2-clause-meets g m c =
 pub get_expression-returns-clause-meets : goal.get_expression-returns-clause-meets
 get_expression-returns-clause-meets g m c =
     let seen = inline_view g.M.MakeTexts.made in
-    on_made c.in_ok-expression.ensures.meets (λ e read same. made
+    on_made c.in_ok-expression.ensures.meets (λ e read same.
+    let there = ap seen c.deref.ensures ∙ same in
+    made
     (goes_on read
     (goes_on (passed c.skip_blank-ptr.ensures.blank)
     (goes_on (chosen given)
     (second (sym c.if-is_arrow.ensures)
-    (second (sym (same_term_attribute _ e) ∙ ap is_term_attribute (sym (ap seen c.deref.ensures ∙ same)) ∙ sym c.if-is_term_attribute.ensures)
+    (second (sym (same_term_attribute _ e) ∙ ap is_term_attribute (sym there) ∙ sym c.if-is_term_attribute.ensures)
     given)))))
     (c.in_ok-expression-2.ensures ∙ ap inline same))
 
@@ -407,10 +412,11 @@ get_arguments-returns-then-has-clause-meets g m c =
     let names = c.loop-noted.noted.names.items in
     let used = used_in_order t (bytes_at t c.in-Some.name) names ∙ sym c.if-has.ensures in
     on_made c.in_ok-expression.ensures.meets (λ e read same.
+    let there = ap seen c.deref.ensures ∙ same in
     item_fails c.loop-noted.invariant.gathered.behind (refused (λ k from to (a, b, d). rw (a, b, d)
     (named t _ (names_in t names) _
     (omega (arith, c.if-place-self.false, c.loop-noted.invariant.within)) (sym c.loop-noted-test.ensures) e _
-    read c.in-Some.name (sym (c.in-Some.ensures c.args.nesting _ e read (ap seen c.deref.ensures ∙ same))) (sym c.if-is_byte_at.ensures) _
+    read c.in-Some.name (sym (c.in-Some.ensures c.args.nesting _ e read there)) (sym c.if-is_byte_at.ensures) _
     (first used (failed refl))))))
 
 pub get_arguments-skip_blank-start-requires : goal.get_arguments-skip_blank-start-requires
@@ -428,11 +434,12 @@ get_arguments-returns-in_err-value-in-Some-clause-meets g m c =
     c.from_residual-in_err-value-in-Some.ensures.1 in
     rw (p.1, p.2)
     (on_made c.in_ok-expression.ensures.meets (λ e read same.
+    let there = ap seen c.deref.ensures ∙ same in
     item_fails c.loop-noted.invariant.gathered.behind
     (named_fails t _ (names_in t names) _
     (omega (arith, c.if-place-self.false, c.loop-noted.invariant.within)) (sym c.loop-noted-test.ensures) e _
     read (functional_within c.args.self.now.edition t _) c.in-Some.name
-    (sym (c.in-Some.ensures c.args.nesting _ e read (ap seen c.deref.ensures ∙ same))) mark
+    (sym (c.in-Some.ensures c.args.nesting _ e read there)) mark
     (fails_no new
     (fails_next (functional_token t colon) (token_there t colon _ mark)
     (fails_next (functional_blank t) (passed c.skip_blank-start.ensures.blank)
@@ -456,6 +463,7 @@ get_arguments-loop-noted-preserved-then-is_byte_at g m c =
     let new = used_in_order t (bytes_at t c.in-Some.name) old.noted.names.items ∙ sym c.if-has.ensures in
     let named = c.in_ok-add_named-in-Some.ensures in
     on_made c.in_ok-expression.ensures.meets (λ e read same.
+    let there = ap seen c.deref.ensures ∙ same in
     on_made c.in_ok-value-in-Some.ensures.meets (λ value read_value same_value. record {
       forward =
           omega (
@@ -472,7 +480,7 @@ get_arguments-loop-noted-preserved-then-is_byte_at g m c =
           old.noted.names.items
           old.invariant.gathered (omega (arith, c.if-place-self.false, old.invariant.within))
           (sym c.loop-noted-test.ensures) e _ read named.0 c.in-Some.name
-          (sym (c.in-Some.ensures c.args.nesting _ e read (ap seen c.deref.ensures ∙ same))) (sym c.if-is_byte_at.ensures) new
+          (sym (c.in-Some.ensures c.args.nesting _ e read there)) (sym c.if-is_byte_at.ensures) new
           named.2 _ named.1 _ c.in_ok-note-in-Some.ensures.names _ _ _
           c.skip_blank-start.ensures.blank value read_value (ap seen named.3 ∙ same_value)
           c.skip_separator-place.ensures.meets;
@@ -486,10 +494,11 @@ get_arguments-returns-then-not-is_empty-clause-meets g m c =
     let old = c.loop-noted in
     let some = some_named old.noted.names.items c.if-not-is_empty.ensures in
     on_made c.in_ok-expression.ensures.meets (λ e read same.
+    let there = ap seen c.deref.ensures ∙ same in
     let is : (argument_name e ≡ None) ⊎ (has_byte t colon c.in_ok-expression.next ≡ false) =
     elim c.in_default.branch [
       | get_arguments-in_default-via-in-Some+else-is_byte_at w ↦ inr (sym w.if-is_byte_at.ensures)
-      | get_arguments-in_default-via-in_default w ↦ inl (sym (w.in_default.ensures c.args.nesting _ e read (ap seen c.deref.ensures ∙ same)))
+      | get_arguments-in_default-via-in_default w ↦ inl (sym (w.in_default.ensures c.args.nesting _ e read there))
     ] in
     item_fails old.invariant.gathered.behind (refused (λ k from to (a, b, d). rw (a, b, d)
     (positional t _ (names_in t old.noted.names.items) old.place
@@ -505,10 +514,11 @@ get_arguments-loop-noted-preserved g m c =
     let old = c.loop-noted in
     let none = none_named old.noted.names.items c.if-not-is_empty.ensures in
     on_made c.in_ok-expression.ensures.meets (λ e read same.
+    let there = ap seen c.deref.ensures ∙ same in
     let is : (argument_name e ≡ None) ⊎ (has_byte t colon c.in_ok-expression.next ≡ false) =
     elim c.in_default.branch [
       | get_arguments-in_default-via-in-Some+else-is_byte_at w ↦ inr (sym w.if-is_byte_at.ensures)
-      | get_arguments-in_default-via-in_default w ↦ inl (sym (w.in_default.ensures c.args.nesting _ e read (ap seen c.deref.ensures ∙ same)))
+      | get_arguments-in_default-via-in_default w ↦ inl (sym (w.in_default.ensures c.args.nesting _ e read there))
     ] in
     record {
       forward =
