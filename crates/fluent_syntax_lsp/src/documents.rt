@@ -4,11 +4,13 @@ ghost use Rattle.fluent_syntax_reread.specs.Faults.{IsRange};
 ghost use Rattle.fluent_syntax_reread.specs.Reading.{changed};
 ghost use Rattle.fluent_syntax_lsp.specs.Diagnostics.{DiagnosesDocument, shown};
 ghost use Rattle.fluent_syntax_lsp.specs.Documents.{ChangesBetween, document_text, HasTiles, IsHeldIfShort};
+ghost use Rattle.fluent_syntax_lsp.specs.Occurrences.{OccursIn};
 ghost use Rattle.fluent_syntax_lsp.specs.Own.{FindsInDocument};
 ghost use Rattle.fluent_syntax_lsp.specs.Tokens.{HasTokens};
 
 use crate::diagnostics::{Diagnostic, diagnostics_in, diagnostics_of};
 use crate::held::Held;
+use crate::occurrences::Occurrence;
 use crate::offsets::byte_of;
 use crate::places::Place;
 use crate::stretches::Stretches;
@@ -144,6 +146,16 @@ impl Document {
     {
         match self {
             Document::Held(held) => held.findings(alloc),
+            Document::TooDeep(_) => Ok(Vec::new(alloc)),
+        }
+    }
+
+    /// The names in the text, in order; none in a text that nests too deeply. `AllocError` where a growth was refused.
+    pub fn occurrences(&self, alloc: Global) -> Result<Vec<Occurrence>, AllocError>
+        ensures { IfOk result (λ found. OccursIn self.now found.items) }
+    {
+        match self {
+            Document::Held(held) => held.occurrences(alloc),
             Document::TooDeep(_) => Ok(Vec::new(alloc)),
         }
     }

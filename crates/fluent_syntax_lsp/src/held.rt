@@ -6,11 +6,13 @@ ghost use Rattle.fluent_syntax_reread.specs.Placed.{Reads};
 ghost use Rattle.fluent_syntax_reread.specs.Reading.{changed};
 ghost use Rattle.fluent_syntax_tree.specs.declared.edition.Edition.TheVariants.{One};
 ghost use Rattle.fluent_syntax_lsp.specs.Held.{TellsAll};
+ghost use Rattle.fluent_syntax_lsp.specs.Occurrences.{Occurs};
 ghost use Rattle.fluent_syntax_lsp.specs.Own.{FindsOwn};
 ghost use Rattle.fluent_syntax_lsp.specs.Tokens.{AreTokens};
 ghost use Rattle.fluent_syntax_lsp.specs.declared.limits.TheConstants.{NESTING_LIMIT};
 
 use crate::limits::NESTING_LIMIT;
+use crate::occurrences::{Occurrence, occurrences_of};
 use crate::own::outline_of_tiles;
 use crate::token::Token;
 use crate::tokens::tokens_of_tiles;
@@ -101,6 +103,14 @@ impl Held {
     {
         let outline = outline_of_tiles(alloc, self.text(), self.tiles())?;
         own_findings(alloc, &outline)
+    }
+
+    /// The names in the text, in order. `AllocError` where a growth was refused.
+    pub fn occurrences(&self, alloc: Global) -> Result<Vec<Occurrence>, AllocError>
+        ensures { IfOk result (λ found. Occurs self.now found.items) }
+    {
+        let outline = outline_of_tiles(alloc, self.text(), self.tiles())?;
+        occurrences_of(alloc, &outline.mentions)
     }
 
     /// The tokens of the text, in order. `AllocError` where a growth was refused.

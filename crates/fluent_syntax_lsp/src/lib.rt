@@ -4,6 +4,7 @@
 mod asked;
 mod breaks;
 mod changes;
+mod closed;
 mod completion;
 mod diagnostics;
 mod documents;
@@ -34,7 +35,9 @@ mod symbols;
 mod token;
 mod token_patterns;
 mod tokens;
+mod workspace;
 
+pub use closed::Closed;
 pub use diagnostics::{Diagnostic, diagnostics_in};
 pub use documents::Document;
 pub use endings::Ending;
@@ -44,6 +47,7 @@ pub use held::Held;
 pub use highlights::{Highlight, highlights_of, numbers_of};
 pub use limits::{BODY_LIMIT, HEADER_LIMIT, NESTING_LIMIT};
 pub use methods::Method;
+pub use occurrences::{Name, NameKind, Occurrence};
 pub use offsets::byte_of;
 pub use phases::{ErrorCode, Phase};
 pub use places::{Place, Places};

@@ -1,4 +1,4 @@
-//! The open documents, and the answer to each message.
+//! The open documents and the files of the workspace, and the answer to each message.
 
 use crate::asked::Asked;
 use crate::changes::{change_of, place_of};
@@ -8,7 +8,7 @@ use crate::documents::Document;
 use crate::endings::Ending;
 use crate::formatting::formatted;
 use crate::highlights::{highlights_of, numbers_of};
-use crate::known::{Open, Wanted, known_documents};
+use crate::known::{Known, Open, Wanted, known_documents};
 use crate::limits::FINDINGS_LIMIT;
 use crate::messages::{Message, message_of};
 use crate::methods::Method;
@@ -20,14 +20,16 @@ use crate::remarks::{Remark, remarks_of};
 use crate::renaming::renaming;
 use crate::replies::{
     answer, capabilities, diagnostics_notification, fold_list, known_symbol, refusal, symbol_list,
-    token_list, whole_edit,
+    token_list, watch_request, whole_edit,
 };
 use crate::symbols::{folds_in, symbols_in};
+use crate::workspace::Workspace;
+use ftl_workspace::{Folders, path_of_uri};
 use serde_json::{Category, Value};
 use std::alloc::{AllocError, Global};
 use std::collections::BTreeMap;
 
-/// The open documents and how far the session is.
+/// The open documents, the files of the workspace, and how far the session is.
 #[derive(Drop)]
 pub struct Server {
     alloc: Global,
@@ -36,6 +38,8 @@ pub struct Server {
     related: bool,
     /// The open documents, by their names.
     documents: BTreeMap<String, Open>,
+    /// The files that may be closed.
+    workspace: Workspace,
 }
 
 impl Server {
@@ -46,6 +50,7 @@ impl Server {
             phase: Phase::Fresh,
             related: false,
             documents: BTreeMap::new(alloc),
+            workspace: Workspace::new(alloc),
         }
     }
 
@@ -54,10 +59,15 @@ impl Server {
         self.phase.ending()
     }
 
-    /// Takes a message, and gives the one to send for it. None where there is none.
+    /// Takes a message, and gives the one to send for it. None where there is none. Closed files are read where it
+    /// tells that they may be others now, and before a renaming.
     ///
     /// `AllocError` where a growth was refused.
-    pub fn take(&mut self, body: &[u8]) -> Result<Option<Value>, AllocError> {
+    pub fn take<F: Folders>(
+        &mut self,
+        body: &[u8],
+        files: &F,
+    ) -> Result<Option<Value>, AllocError> {
         let value = match Value::from_slice(self.alloc, body) {
             Ok(value) => value,
             Err(error) => {
@@ -70,9 +80,12 @@ impl Server {
         match message_of(&value) {
             Message::Request { id, method } => {
                 let id = id.clone()?;
+                if Method::from_name(method) == Some(Method::Rename) {
+                    self.workspace.read(self.alloc, files)?;
+                }
                 self.request(id, method, &value)
             }
-            Message::Notification { method } => self.notification(method, &value),
+            Message::Notification { method } => self.notification(method, &value, files),
             Message::Response => Ok(None),
             Message::Invalid => self.refuse(Value::Null, ErrorCode::InvalidRequest),
         }
@@ -96,6 +109,7 @@ impl Server {
         let found = match method {
             Some(Method::Initialize) => {
                 self.related = takes_related(message);
+                self.workspace = Workspace::told(self.alloc, message)?;
                 Some(capabilities(self.alloc)?)
             }
             Some(Method::DocumentSymbol) => self.symbols(message)?,
@@ -166,6 +180,11 @@ impl Server {
         }
     }
 
+    /// The open documents and the closed files.
+    fn known(&self) -> Result<Vec<Known<'_>>, AllocError> {
+        known_documents(self.alloc, &self.documents, self.workspace.files())
+    }
+
     /// What a request asks of. None where it names no open document, or no place.
     fn asked(&self, message: &Value) -> Result<Option<Asked<'_>>, AllocError> {
         let (Some(uri), Some(place)) = (
@@ -174,11 +193,14 @@ impl Server {
         ) else {
             return Ok(None);
         };
-        let documents = known_documents(self.alloc, &self.documents)?;
+        let documents = self.known()?;
+        if !self.documents.contains_key(uri) {
+            return Ok(None);
+        }
         let Some(number) = documents.iter().position(|known| known.uri == uri) else {
             return Ok(None);
         };
-        let byte = byte_of(documents[number].text(), place);
+        let byte = byte_of(documents[number].text, place);
         Ok(Some(Asked {
             documents,
             number,
@@ -196,9 +218,7 @@ impl Server {
             return Ok(None);
         };
         match method {
-            Some(Method::Definition) => {
-                Ok(Some(asked.locations(self.alloc, Wanted::Definitions)?))
-            }
+            Some(Method::Definition) => Ok(Some(asked.definitions(self.alloc)?)),
             Some(Method::References) => {
                 Ok(Some(asked.locations(self.alloc, wanted_by(message))?))
             }
@@ -213,17 +233,17 @@ impl Server {
         }
     }
 
-    /// What the open documents define whose name has the text that is asked for in it.
+    /// What the open documents and the closed files define whose name has the text that is asked for in it.
     fn known_symbols(&self, message: &Value) -> Result<Value, AllocError> {
         let query = message
             .pointer("/params/query")
             .and_then(Value::as_str)
             .unwrap_or("");
         let mut list = Vec::new(self.alloc);
-        for known in known_documents(self.alloc, &self.documents)?.iter() {
-            let mut places = Places::new(known.text());
-            for occurrence in &known.occurrences {
-                let shown = bytes_of(known.text(), occurrence.place());
+        for known in self.known()?.iter() {
+            let mut places = Places::new(known.text);
+            for occurrence in known.occurrences() {
+                let shown = bytes_of(known.text, occurrence.place());
                 if occurrence.defines && shown.contains(query) {
                     list.push(known_symbol(self.alloc, known, &mut places, *occurrence)?)?;
                 }
@@ -233,11 +253,22 @@ impl Server {
     }
 
     /// Follows a notification.
-    fn notification(&mut self, name: &str, message: &Value) -> Result<Option<Value>, AllocError> {
+    fn notification<F: Folders>(
+        &mut self,
+        name: &str,
+        message: &Value,
+        files: &F,
+    ) -> Result<Option<Value>, AllocError> {
         let method = Method::from_name(name);
         if self.phase != Phase::Running {
             self.phase = self.phase.after_notification(method);
             return Ok(None);
+        }
+        if changes_files(method) {
+            self.workspace.read(self.alloc, files)?;
+        }
+        if method == Some(Method::Initialized) && self.workspace.wants_watch() {
+            return Ok(Some(watch_request(self.alloc)?));
         }
         let Some(uri) = uri_of(message) else {
             self.phase = self.phase.after_notification(method);
@@ -269,7 +300,12 @@ impl Server {
         };
         let name = String::from_str(self.alloc, uri)?;
         let document = Document::new(self.alloc, text)?;
-        let open = Open { version, document };
+        let path = path_of_uri(self.alloc, uri)?;
+        let open = Open {
+            path,
+            version,
+            document,
+        };
         drop(self.documents.insert(name, open)?);
         self.publish(uri)
     }
@@ -339,6 +375,14 @@ impl Server {
             }
         }
     }
+}
+
+/// Whether the files of the workspace may be others behind a notification.
+fn changes_files(method: Option<Method>) -> bool {
+    matches!(
+        method,
+        Some(Method::Initialized | Method::DidClose | Method::DidChangeWatchedFiles)
+    )
 }
 
 /// Whether an editor that says this of itself takes related information of a diagnostic.

@@ -1,13 +1,15 @@
 //! Argument lists.
-ghost use Rattle.std.specs.Prelude.{◌≡◌, ◌-◌, ◌<◌, ◌≤◌, [], length, IfOk};
+ghost use Rattle.std.specs.Prelude.{◌≡◌, ◌-◌, ◌<◌, ◌≤◌, ◌++◌, ◌∷◌, [], length, IfOk, OnOk};
 ghost use Rattle.fluent_syntax_tree.specs.Spans.{bytes_at};
 ghost use Rattle.fluent_syntax_tree.specs.Tree.{arguments_map, inline_map, maybe_map};
-ghost use Rattle.fluent_syntax_tree.specs.View.{arguments_view, inline_view};
+ghost use Rattle.fluent_syntax_tree.specs.View.{arguments_view};
+ghost use Rattle.fluent_syntax_tree.specs.declared.ast.NamedArgument.{NamedArgument};
 ghost use Rattle.fluent_syntax_grammar.specs.Arguments.{argument_value, is_used, more_arguments, separator};
 ghost use Rattle.fluent_syntax_grammar.specs.Construct.{Read, at_each};
 ghost use Rattle.fluent_syntax_grammar.specs.Family.{call_arguments};
 ghost use Rattle.fluent_syntax_grammar.specs.Grammar.{within};
 ghost use Rattle.fluent_syntax_grammar.specs.Starts.{start};
+ghost use Rattle.fluent_syntax_parser.specs.Boxed.{boxed_inline_view};
 ghost use Rattle.fluent_syntax_parser.specs.Gathered.{maybe_view, names_in_order};
 ghost use Rattle.fluent_syntax_parser.specs.Made.{Makes};
 
@@ -19,6 +21,7 @@ use crate::source::Source;
 use crate::texts::MakeTexts;
 use fluent_syntax_tree::ast::{CallArguments, InlineExpression, NamedArgument};
 use fluent_syntax_tree::spans::Span;
+use std::alloc::AllocError;
 
 impl<'s> Source<'s> {
     /// Whether a name is one of the names, by its bytes.
@@ -46,18 +49,49 @@ impl<'s> Source<'s> {
     }
 }
 
+/// Adds a positional argument.
+#[inline(never)]
+fn add_positional<T: Drop>(
+    expression: Box<InlineExpression<T>>,
+    positional: &mut Vec<InlineExpression<T>>,
+) -> Result<(), AllocError>
+    ensures { OnOk result (positional.new.items ≡ positional.old.items ++ expression.value ∷ []) }
+{
+    positional.push(Box::into_inner(expression))?;
+    Ok(())
+}
+
 impl<'s, 't, M: MakeTexts> Reader<'s, 't, M> {
+    /// Adds a named argument.
+    #[inline(never)]
+    fn add_named(
+        &self,
+        name: Span,
+        value: Box<InlineExpression<M::Text>>,
+        named: &mut Vec<NamedArgument<M::Text>>,
+    ) -> Result<(), AllocError>
+        ensures { let f = M.source self.now.texts.now in OnOk result ((argument : NamedArgument M.Text)
+            × (named.new.items ≡ named.old.items ++ argument ∷ []) × (M.made argument.name.name ≡ f name)
+            × (argument.value ≡ value.value)) }
+    {
+        let name = self.identifier(name)?;
+        let value = Box::into_inner(value);
+        named.push(NamedArgument { name, value })?;
+        Ok(())
+    }
+
     /// Reads the value of a named argument: a string, a number without `-`, a function or a message reference.
     #[cycle(readers)]
     fn get_argument_value(
         &self,
         nesting: usize,
         ptr: usize,
-    ) -> Result<(InlineExpression<M::Text>, usize), ReadFault>
+    ) -> Result<(Box<InlineExpression<M::Text>>, usize), ReadFault>
         requires { ptr ≤ length self.now.source.bytes.now }
         ensures meets { let t = self.now.source.bytes.now in
             Makes t (inline_map (M.source self.now.texts.now))
-            (at_each (start t) (argument_value t (within self.now.edition t nesting))) (inline_view M.made) ptr result }
+            (at_each (start t) (argument_value t (within self.now.edition t nesting))) (boxed_inline_view M.made) ptr
+            result }
         ensures within { IfOk result (λ read. (ptr < read.1) × (read.1 ≤ length self.now.source.bytes.now)) }
     {
         match self.source.start(ptr) {
@@ -107,8 +141,7 @@ impl<'s, 't, M: MakeTexts> Reader<'s, 't, M> {
                     let start = self.source.skip_blank(next + 1);
                     let (value, end) = self.get_argument_value(nesting, start)?;
                     noted.note(&self.source, name)?;
-                    let name = self.identifier(name)?;
-                    named.push(NamedArgument { name, value })?;
+                    self.add_named(name, value, &mut named)?;
                     place = self.source.skip_separator(end);
                 }
                 _ => {
@@ -116,7 +149,7 @@ impl<'s, 't, M: MakeTexts> Reader<'s, 't, M> {
                         let fault = Fault::PositionalAfterNamed;
                         return Err(ReadFault::Refused(Refusal { fault, place: next }));
                     }
-                    positional.push(expression)?;
+                    add_positional(expression, &mut positional)?;
                     place = self.source.skip_separator(next);
                 }
             }

@@ -5,7 +5,7 @@ use Rattle.std.proofs.lemmas.Result.{err_from_is_err_and}
 use Rattle.fluent_syntax_tree.specs.Spans.{bytes_at}
 use Rattle.fluent_syntax_tree.specs.Tree.{inline, inline_placeable, number_literal, some_arguments, string_literal}
 use Rattle.fluent_syntax_tree.specs.Tree.{pattern_map, variable_reference, variant}
-use Rattle.fluent_syntax_tree.specs.View.{expression_view, key_view}
+use Rattle.fluent_syntax_tree.specs.View.{inline_view, key_view}
 use Rattle.fluent_syntax_tree.proofs.Views.{view-StringLiteral, view-NumberLiteral, view-TermReference}
 use Rattle.fluent_syntax_tree.proofs.Views.{view-VariableReference, view-InlinePlaceable, view-Inline, view-Select}
 use Rattle.fluent_syntax_tree.proofs.Views.{view-Variant, view-roll-CallArguments}
@@ -53,14 +53,15 @@ use Rattle.fluent_syntax_parser.proofs.readers.Fails.{functional_steps}
 use Rattle.fluent_syntax_parser.proofs.readers.Fails.{list, no_call, no_placeable, out_of_memory}
 use Rattle.fluent_syntax_parser.proofs.expressions.GatheredVariants.{all_variants, no_variant, variant_made}
 use Rattle.fluent_syntax_parser.proofs.expressions.GatheredVariants.{variant_with}
-use Rattle.fluent_syntax_parser.proofs.expressions.InlineStarts.{by_number, by_start, by_value, no_value, referred}
+use Rattle.fluent_syntax_parser.proofs.expressions.InlineStarts.{by_start, by_value, no_value, number_starts, referred}
 use Rattle.fluent_syntax_parser.proofs.expressions.InlineStarts.{value_fails}
 use Rattle.fluent_syntax_parser.proofs.readers.Made.{no_value_read, on_made, on_value, same_selector_fault}
 use Rattle.fluent_syntax_parser.proofs.readers.Made.{same_term_attribute}
 use Rattle.fluent_syntax_parser.proofs.patterns.Pieces.{bare_brace, end_pieces, line_read, no_lines, no_pieces}
 use Rattle.fluent_syntax_parser.proofs.patterns.Pieces.{own_line_fails}
 use Rattle.fluent_syntax_parser.proofs.patterns.Pieces.{further, placed_fails, placed_piece, run_piece, run_there}
-use Rattle.fluent_syntax_parser.proofs.expressions.Selects.{is_selector, no_selector, selector_fails}
+use Rattle.fluent_syntax_parser.proofs.expressions.Selects.{behind_blank, same_fault, select_fails, select_read}
+use Rattle.fluent_syntax_parser.proofs.expressions.Selects.{select_refused}
 use Rattle.fluent_syntax_parser.proofs.reader.Reader.+readers.Goals as goal
 use Rattle.fluent_syntax_parser.proofs.reader.Reader.+readers.Goals.{
   get_arguments-in_default-via-in-Some+else-is_byte_at,
@@ -68,23 +69,6 @@ use Rattle.fluent_syntax_parser.proofs.reader.Reader.+readers.Goals.{
 use Rattle.fluent_syntax_parser.proofs.reader.Reader.+readers.Goals.{get_arguments-in_default-via-in_default}
 
 -- ---- inline expressions
-
-pub get_inline_expression-returns-in_err-value-in-Quote-clause-meets :
-    goal.get_inline_expression-returns-in_err-value-in-Quote-clause-meets
-get_inline_expression-returns-in_err-value-in-Quote-clause-meets g m c =
-    let p = err_from_is_err_and c.from_residual.result c.from_residual.ensures.1 in
-    rw (p.1, p.2) (refused (λ k from to h.
-    by_start c.args.self.now.source.bytes.now _ _ starts.quote _ c.in-Quote.ensures
-    (stops (c.in_err-value-in-Quote.ensures.meets k from to h))))
-
-pub get_inline_expression-returns-in_err-end-in-Digit-clause-meets :
-    goal.get_inline_expression-returns-in_err-end-in-Digit-clause-meets
-get_inline_expression-returns-in_err-end-in-Digit-clause-meets g m c =
-    let p = err_from_is_err_and c.from_residual-in_err-end-in-Digit.result c.from_residual-in_err-end-in-Digit.ensures.1
-    in
-    rw (p.1, p.2) (refused (λ k from to h.
-    by_number c.args.self.now.source.bytes.now _ _ c.start.result _ c.in-Digit.is c.start.ensures
-    (stops (c.in_err-end-in-Digit.ensures.meets k from to h))))
 
 pub get_term_reference-returns-in_err-start-clause-meets :
     goal.get_term_reference-returns-in_err-start-clause-meets
@@ -128,25 +112,6 @@ get_term_reference-returns-in_err-arguments-clause-meets g m c =
     (fails_next (functional_accessor t) c.in_ok-attribute.ensures.meets
     (fails_first c.in_err-arguments.ensures.meets)))))
 
-pub get_inline_expression-returns-in_err-start-in-Dollar-clause-meets :
-    goal.get_inline_expression-returns-in_err-start-in-Dollar-clause-meets
-get_inline_expression-returns-in_err-start-in-Dollar-clause-meets g m c =
-    let p = err_from_is_err_and c.from_residual-in_err-start-in-Dollar.result
-    c.from_residual-in_err-start-in-Dollar.ensures.1 in
-    rw (p.1, p.2) (refused (λ k from to h.
-    by_start c.args.self.now.source.bytes.now _ _ starts.dollar _ c.in-Dollar.ensures
-    (stops (c.in_err-start-in-Dollar.ensures.meets k from to h))))
-
-pub get_inline_expression-returns-in_err-end-in-Dollar-clause-meets :
-    goal.get_inline_expression-returns-in_err-end-in-Dollar-clause-meets
-get_inline_expression-returns-in_err-end-in-Dollar-clause-meets g m c =
-    let p = err_from_is_err_and c.from_residual-in_err-end-in-Dollar.result
-    c.from_residual-in_err-end-in-Dollar.ensures.1 in
-    rw (p.1, p.2) (refused (λ k from to h.
-    by_start c.args.self.now.source.bytes.now _ _ starts.dollar _ c.in-Dollar.ensures
-    (goes_on c.in_ok-start-in-Dollar.ensures.meets
-    (stops (c.in_err-end-in-Dollar.ensures.meets k from to h)))))
-
 pub get_reference-returns-in_err-end-clause-meets :
     goal.get_reference-returns-in_err-end-clause-meets
 get_reference-returns-in_err-end-clause-meets g m c =
@@ -166,36 +131,6 @@ get_reference-returns-in_err-arguments-clause-meets g m c =
     (fails_next (functional_identifier t) c.in_ok-end.ensures.meets
     (fails_first c.in_err-arguments.ensures.meets)))
 
-pub get_inline_expression-returns-in_err-expression-in-Brace-clause-meets :
-    goal.get_inline_expression-returns-in_err-expression-in-Brace-clause-meets
-get_inline_expression-returns-in_err-expression-in-Brace-clause-meets g m c =
-    let t = c.args.self.now.source.bytes.now in
-    let p = err_from_is_err_and c.from_residual-in_err-expression-in-Brace.result
-    c.from_residual-in_err-expression-in-Brace.ensures.1 in
-    rw (p.1, p.2)
-    (fails_seen (inline_of t _) starts.brace c.in-Brace.ensures
-    (fails_first c.in_err-expression-in-Brace.ensures.meets))
-
-pub get_inline_expression-returns-in_ok-value-in-Quote-2-clause-meets :
-    goal.get_inline_expression-returns-in_ok-value-in-Quote-2-clause-meets
-get_inline_expression-returns-in_ok-value-in-Quote-2-clause-meets g m c =
-    made
-    (by_start c.args.self.now.source.bytes.now _ _ starts.quote _ c.in-Quote.ensures
-    (goes_on c.in_ok-value-in-Quote.ensures.meets
-    given))
-    (view-StringLiteral g.M.MakeTexts.made c.in_ok-value-in-Quote-2.value ∙ ap string_literal
-    c.in_ok-value-in-Quote-2.ensures)
-
-pub get_inline_expression-returns-in_ok-value-in-Digit-clause-meets :
-    goal.get_inline_expression-returns-in_ok-value-in-Digit-clause-meets
-get_inline_expression-returns-in_ok-value-in-Digit-clause-meets g m c =
-    made
-    (by_number c.args.self.now.source.bytes.now _ _ c.start.result _ c.in-Digit.is c.start.ensures
-    (goes_on c.in_ok-end-in-Digit.ensures.meets
-    given))
-    (view-NumberLiteral g.M.MakeTexts.made c.in_ok-value-in-Digit.value ∙ ap number_literal
-    c.in_ok-value-in-Digit.ensures)
-
 pub get_term_reference-returns-clause-meets : goal.get_term_reference-returns-clause-meets
 get_term_reference-returns-clause-meets g m c =
     on_made c.in_ok-arguments.ensures.meets (λ a read same. made
@@ -205,19 +140,13 @@ get_term_reference-returns-clause-meets g m c =
     (goes_on c.in_ok-attribute.ensures.meets
     (goes_on read
     given)))))
-    (view-TermReference g.M.MakeTexts.made c.in_ok-id.id c.in_ok-attribute-2.attribute c.in_ok-arguments.arguments
-    ∙ rw (c.in_ok-id.ensures, c.in_ok-attribute-2.ensures, same) refl))
+    (c.in_ok-expression.ensures ∙ rw same refl))
 
-pub get_inline_expression-returns-in_ok-id-in-Dollar-clause-meets :
-    goal.get_inline_expression-returns-in_ok-id-in-Dollar-clause-meets
-get_inline_expression-returns-in_ok-id-in-Dollar-clause-meets g m c =
-    made
-    (by_start c.args.self.now.source.bytes.now _ _ starts.dollar _ c.in-Dollar.ensures
-    (goes_on c.in_ok-start-in-Dollar.ensures.meets
-    (goes_on c.in_ok-end-in-Dollar.ensures.meets
-    given)))
-    (view-VariableReference g.M.MakeTexts.made c.in_ok-id-in-Dollar.id ∙ ap variable_reference
-    c.in_ok-id-in-Dollar.ensures)
+pub get_term_reference-returns-in_err-expression-clause-meets :
+    goal.get_term_reference-returns-in_err-expression-clause-meets
+get_term_reference-returns-in_err-expression-clause-meets g m c =
+    rw (out_of_memory c.from_residual-in_err-expression.result
+    c.from_residual-in_err-expression.ensures.1) no_memory
 
 pub get_reference-returns-clause-meets : goal.get_reference-returns-clause-meets
 get_reference-returns-clause-meets g m c =
@@ -225,15 +154,42 @@ get_reference-returns-clause-meets g m c =
     referred c.args.self.now.source.bytes.now _ _ _ _ _ (c.get_named_reference.ensures.meets a same) c.requires.starts
     c.in_ok-end.ensures.meets read (functional_within c.args.self.now.edition c.args.self.now.source.bytes.now _))
 
-pub get_inline_expression-returns-in_ok-expression-in-Brace-2-clause-meets :
-    goal.get_inline_expression-returns-in_ok-expression-in-Brace-2-clause-meets
-get_inline_expression-returns-in_ok-expression-in-Brace-2-clause-meets g m c =
-    on_made c.in_ok-expression-in-Brace.ensures.meets (λ a read same. made
-    (by_start c.args.self.now.source.bytes.now _ _ starts.brace _ c.in-Brace.ensures
+pub get_inner_placeable-returns-in_err-expression-clause-meets :
+    goal.get_inner_placeable-returns-in_err-expression-clause-meets
+get_inner_placeable-returns-in_err-expression-clause-meets g m c =
+    let t = c.args.self.now.source.bytes.now in
+    let p = err_from_is_err_and c.from_residual.result c.from_residual.ensures.1 in
+    rw (p.1, p.2)
+    (fails_seen (inline_of t _) starts.brace c.requires.starts
+    (fails_first c.in_err-expression.ensures.meets))
+
+pub get_inner_placeable-returns-in_err-expression-2-clause-meets :
+    goal.get_inner_placeable-returns-in_err-expression-2-clause-meets
+get_inner_placeable-returns-in_err-expression-2-clause-meets g m c =
+    rw (out_of_memory c.from_residual-in_err-expression-2.result
+    c.from_residual-in_err-expression-2.ensures.1) no_memory
+
+pub get_inner_placeable-returns-clause-meets : goal.get_inner_placeable-returns-clause-meets
+get_inner_placeable-returns-clause-meets g m c =
+    on_made c.in_ok-expression.ensures.meets (λ a read same. made
+    (by_start c.args.self.now.source.bytes.now _ _ starts.brace _ c.requires.starts
     (goes_on read
     given))
-    (view-InlinePlaceable g.M.MakeTexts.made c.in_ok-expression-in-Brace-2.expression
-    ∙ ap inline_placeable (ap (expression_view g.M.MakeTexts.made) c.in_ok-expression-in-Brace-2.ensures.ok ∙ same)))
+    (c.in_ok-expression-2.ensures ∙ ap inline_placeable same))
+
+pub get_inline_expression-get_number-requires-clause-starts :
+    goal.get_inline_expression-get_number-requires-clause-starts
+get_inline_expression-get_number-requires-clause-starts g m c =
+    number_starts c.args.self.now.source.bytes.now _ c.start.result c.in-Digit.is c.start.ensures
+
+pub get_inline_expression-returns-in-Quote-clause-meets : goal.get_inline_expression-returns-in-Quote-clause-meets
+get_inline_expression-returns-in-Quote-clause-meets g m c = c.get_string.ensures.meets _
+
+pub get_inline_expression-returns-in-Digit-clause-meets : goal.get_inline_expression-returns-in-Digit-clause-meets
+get_inline_expression-returns-in-Digit-clause-meets g m c = c.get_number.ensures.meets _
+
+pub get_inline_expression-returns-in-Dollar-clause-meets : goal.get_inline_expression-returns-in-Dollar-clause-meets
+get_inline_expression-returns-in-Dollar-clause-meets g m c = c.get_variable.ensures.meets _
 
 pub get_inline_expression-returns-in-Other-clause-meets : goal.get_inline_expression-returns-in-Other-clause-meets
 get_inline_expression-returns-in-Other-clause-meets g m c =
@@ -292,100 +248,77 @@ get_expression-returns-in_err-expression-clause-meets g m c =
     let p = err_from_is_err_and c.from_residual.result c.from_residual.ensures.1 in
     rw (p.1, p.2) (fails_first c.in_err-expression.ensures.meets)
 
+pub get_expression-returns-then-is_arrow-clause-meets : goal.get_expression-returns-then-is_arrow-clause-meets
+get_expression-returns-then-is_arrow-clause-meets g m c =
+    let t = c.args.self.now.source.bytes.now in
+    on_made c.in_ok-expression.ensures.meets (λ e read same.
+    behind_blank c.args.self.now.edition t _ _ _ _ read c.skip_blank-ptr.ensures.blank (sym c.if-is_arrow.ensures)
+    (functional_within c.args.self.now.edition t _) (c.get_select.ensures.meets e same))
+
 pub get_expression-returns-then-is_term_attribute-clause-meets :
     goal.get_expression-returns-then-is_term_attribute-clause-meets
 get_expression-returns-then-is_term_attribute-clause-meets g m c =
-    on_made c.in_ok-expression.ensures.meets (λ e read same. refused (λ k from to (a, b, d). rw (a, b, d)
+    let seen = inline_view g.M.MakeTexts.made in
+    on_made c.in_ok-expression.ensures.meets (λ e read same.
+    let there = ap seen c.deref.ensures ∙ same in
+    refused (λ k from to (a, b, d). rw (a, b, d)
     (goes_on read
     (goes_on (passed c.skip_blank-ptr.ensures.blank)
     (goes_on (chosen given)
-    (second (sym c.if-not-is_arrow.ensures)
-    (first (sym (same_term_attribute _ e) ∙ ap is_term_attribute (sym same) ∙ sym c.if-is_term_attribute.ensures)
+    (second (sym c.if-is_arrow.ensures)
+    (first (sym (same_term_attribute _ e) ∙ ap is_term_attribute (sym there) ∙ sym c.if-is_term_attribute.ensures)
     (failed refl))))))))
 
-pub get_expression-returns-then-not-is_arrow-clause-meets : goal.get_expression-returns-then-not-is_arrow-clause-meets
-get_expression-returns-then-not-is_arrow-clause-meets g m c =
-    on_made c.in_ok-expression.ensures.meets (λ e read same. made
+pub get_expression-returns-in_err-expression-2-clause-meets :
+    goal.get_expression-returns-in_err-expression-2-clause-meets
+get_expression-returns-in_err-expression-2-clause-meets g m c =
+    rw (out_of_memory c.from_residual-in_err-expression-2.result
+    c.from_residual-in_err-expression-2.ensures.1) no_memory
+
+pub get_expression-returns-clause-meets : goal.get_expression-returns-clause-meets
+get_expression-returns-clause-meets g m c =
+    let seen = inline_view g.M.MakeTexts.made in
+    on_made c.in_ok-expression.ensures.meets (λ e read same.
+    let there = ap seen c.deref.ensures ∙ same in
+    made
     (goes_on read
     (goes_on (passed c.skip_blank-ptr.ensures.blank)
     (goes_on (chosen given)
-    (second (sym c.if-not-is_arrow.ensures)
-    (second (sym (same_term_attribute _ e) ∙ ap is_term_attribute (sym same) ∙ sym c.if-is_term_attribute.ensures)
+    (second (sym c.if-is_arrow.ensures)
+    (second (sym (same_term_attribute _ e) ∙ ap is_term_attribute (sym there) ∙ sym c.if-is_term_attribute.ensures)
     given)))))
-    (view-Inline g.M.MakeTexts.made c.in_ok-expression.expression ∙ ap inline same))
+    (c.in_ok-expression-2.ensures ∙ ap inline same))
 
-pub get_expression-returns-in-Some-clause-meets : goal.get_expression-returns-in-Some-clause-meets
-get_expression-returns-in-Some-clause-meets g m c =
-    let is = c.in-Some.ensures c.args.self.now.source.bytes.now c.skip_blank-ptr.result in
-    on_made c.in_ok-expression.ensures.meets (λ e read same.
-    refused {r = record { fault = c.in-Some.fault; place = c.skip_blank-ptr.result }} (λ k from to (a, b, d).
-    rw (a, b ∙ is.1, d ∙ is.2)
-    (goes_on read
-    (goes_on (passed c.skip_blank-ptr.ensures.blank)
-    (goes_on (chosen given)
-    (first (sym c.if-not-is_arrow.ensures)
-    (no_selector c.args.self.now.edition c.args.self.now.source.bytes.now _ _ _ _
-    (sym (same_selector_fault _ e) ∙ ap selector_fault (sym same) ∙ is.0))))))))
+-- ---- selects
 
-pub get_expression-returns-in_err-ptr-in-None-clause-meets : goal.get_expression-returns-in_err-ptr-in-None-clause-meets
-get_expression-returns-in_err-ptr-in-None-clause-meets g m c =
-    let is = c.in-None.ensures c.args.self.now.source.bytes.now c.skip_blank-ptr.result in
-    let p = err_from_is_err_and c.from_residual-in_err-ptr-in-None.result c.from_residual-in_err-ptr-in-None.ensures.1
-    in
-    rw (p.1, p.2) (on_made c.in_ok-expression.ensures.meets (λ e read same. refused (λ k from to h.
-    goes_on read
-    (goes_on (passed c.skip_blank-ptr.ensures.blank)
-    (goes_on (chosen given)
-    (first (sym c.if-not-is_arrow.ensures)
-    (is_selector c.args.self.now.edition c.args.self.now.source.bytes.now _ _ _ _
-    (sym (same_selector_fault _ e) ∙ ap selector_fault (sym same) ∙ is)
-    (stops
-    (goes_on (passed (record { by = refl }))
-    (goes_on (passed c.skip_blank_inline-ptr.ensures.blank)
-    (stops (c.in_err-ptr-in-None.ensures.meets k from to h))))))))))))
-
-pub get_expression-returns-in_err-variants-in-None-clause-meets :
-    goal.get_expression-returns-in_err-variants-in-None-clause-meets
-get_expression-returns-in_err-variants-in-None-clause-meets g m c =
+pub get_select-returns-in_err-start-clause-meets : goal.get_select-returns-in_err-start-clause-meets
+get_select-returns-in_err-start-clause-meets g m c = λ e same.
     let t = c.args.self.now.source.bytes.now in
-    let is = c.in-None.ensures t c.skip_blank-ptr.result in
-    let p = err_from_is_err_and c.from_residual-in_err-variants-in-None.result
-    c.from_residual-in_err-variants-in-None.ensures.1 in
-    rw (p.1, p.2)
-    (on_made c.in_ok-expression.ensures.meets (λ e read same.
-    fails_next (functional_inline t _ (functional_within c.args.self.now.edition t _)) read
-    (fails_next (functional_blank t) (passed c.skip_blank-ptr.ensures.blank)
-    (fails_next (functional_look (has_arrow t)) (chosen given)
-    (fails_yes (sym c.if-not-is_arrow.ensures)
-    (selector_fails c.args.self.now.edition t _ _ _
-    (sym (same_selector_fault _ e) ∙ ap selector_fault (sym same) ∙ is)
-    (fails_first
-    (fails_next functional_steps (passed (record { by = refl }))
-    (fails_next (functional_inline_blank t) (passed c.skip_blank_inline-ptr.ensures.blank)
-    (fails_next (functional_arrow_end t) c.in_ok-ptr-in-None.ensures.meets
-    (fails_next (functional_blank t) (passed c.skip_blank-ptr-in-None.ensures.blank)
-    c.in_err-variants-in-None.ensures.meets)))))))))))
+    let is = same_fault _ _ e (ap (inline_view g.M.MakeTexts.made) c.deref.ensures ∙ same) in
+    let p = err_from_is_err_and c.from_residual.result c.from_residual.ensures.1 in
+    rw (p.1, p.2) (refused (λ k from to h.
+    select_refused c.args.self.now.edition t _ e _ is k from to (c.in_err-start.ensures.meets k from to h)))
 
-pub get_expression-returns-in_ok-variants-in-None-clause-meets :
-    goal.get_expression-returns-in_ok-variants-in-None-clause-meets
-get_expression-returns-in_ok-variants-in-None-clause-meets g m c =
-    let is = c.in-None.ensures c.args.self.now.source.bytes.now c.skip_blank-ptr.result in
-    on_made c.in_ok-expression.ensures.meets (λ e read same.
-    on_made c.in_ok-variants-in-None.ensures.meets (λ vs read_variants same_variants. made
-    (goes_on read
-    (goes_on (passed c.skip_blank-ptr.ensures.blank)
-    (goes_on (chosen given)
-    (first (sym c.if-not-is_arrow.ensures)
-    (is_selector c.args.self.now.edition c.args.self.now.source.bytes.now _ _ _ _
-    (sym (same_selector_fault _ e) ∙ ap selector_fault (sym same) ∙ is)
-    (goes_on
-    (goes_on (passed (record { by = refl }))
-    (goes_on (passed c.skip_blank_inline-ptr.ensures.blank)
-    (goes_on c.in_ok-ptr-in-None.ensures.meets
-    (goes_on (passed c.skip_blank-ptr-in-None.ensures.blank)
-    read_variants)))) given))))))
-    (view-Select g.M.MakeTexts.made c.in_ok-expression.expression c.in_ok-variants-in-None.variants
-    ∙ rw (same, same_variants) refl)))
+pub get_select-returns-in_err-variants-clause-meets : goal.get_select-returns-in_err-variants-clause-meets
+get_select-returns-in_err-variants-clause-meets g m c = λ e same.
+    let t = c.args.self.now.source.bytes.now in
+    let is = same_fault _ _ e (ap (inline_view g.M.MakeTexts.made) c.deref.ensures ∙ same) in
+    let p = err_from_is_err_and c.from_residual-in_err-variants.result c.from_residual-in_err-variants.ensures.1 in
+    rw (p.1, p.2)
+    (select_fails c.args.self.now.edition t _ e _ is c.in_ok-start.ensures.meets c.in_err-variants.ensures.meets)
+
+pub get_select-returns-in_err-expression-clause-meets : goal.get_select-returns-in_err-expression-clause-meets
+get_select-returns-in_err-expression-clause-meets g m c = λ e same.
+    rw (out_of_memory c.from_residual-in_err-expression.result
+    c.from_residual-in_err-expression.ensures.1) no_memory
+
+pub get_select-returns-clause-meets : goal.get_select-returns-clause-meets
+get_select-returns-clause-meets g m c = λ e same.
+    let t = c.args.self.now.source.bytes.now in
+    let is = same_fault _ _ e (ap (inline_view g.M.MakeTexts.made) c.deref.ensures ∙ same) in
+    on_made c.in_ok-variants.ensures.meets (λ vs read same_variants. made
+    (select_read c.args.self.now.edition t _ e _ is c.in_ok-start.ensures.meets read)
+    (c.in_ok-expression.ensures ∙ rw (same, same_variants) refl))
 
 -- ---- the arguments of a reference
 
@@ -474,14 +407,16 @@ get_arguments-returns-in_err-expression-clause-meets g m c =
 
 pub get_arguments-returns-then-has-clause-meets : goal.get_arguments-returns-then-has-clause-meets
 get_arguments-returns-then-has-clause-meets g m c =
+    let seen = inline_view g.M.MakeTexts.made in
     let t = c.args.self.now.source.bytes.now in
     let names = c.loop-noted.noted.names.items in
     let used = used_in_order t (bytes_at t c.in-Some.name) names ∙ sym c.if-has.ensures in
     on_made c.in_ok-expression.ensures.meets (λ e read same.
+    let there = ap seen c.deref.ensures ∙ same in
     item_fails c.loop-noted.invariant.gathered.behind (refused (λ k from to (a, b, d). rw (a, b, d)
     (named t _ (names_in t names) _
     (omega (arith, c.if-place-self.false, c.loop-noted.invariant.within)) (sym c.loop-noted-test.ensures) e _
-    read c.in-Some.name (sym (c.in-Some.ensures c.args.nesting _ e read same)) (sym c.if-is_byte_at.ensures) _
+    read c.in-Some.name (sym (c.in-Some.ensures c.args.nesting _ e read there)) (sym c.if-is_byte_at.ensures) _
     (first used (failed refl))))))
 
 pub get_arguments-skip_blank-start-requires : goal.get_arguments-skip_blank-start-requires
@@ -490,6 +425,7 @@ get_arguments-skip_blank-start-requires g m c = grind (arith, gets)
 pub get_arguments-returns-in_err-value-in-Some-clause-meets :
     goal.get_arguments-returns-in_err-value-in-Some-clause-meets
 get_arguments-returns-in_err-value-in-Some-clause-meets g m c =
+    let seen = inline_view g.M.MakeTexts.made in
     let t = c.args.self.now.source.bytes.now in
     let names = c.loop-noted.noted.names.items in
     let new = used_in_order t (bytes_at t c.in-Some.name) names ∙ sym c.if-has.ensures in
@@ -498,11 +434,12 @@ get_arguments-returns-in_err-value-in-Some-clause-meets g m c =
     c.from_residual-in_err-value-in-Some.ensures.1 in
     rw (p.1, p.2)
     (on_made c.in_ok-expression.ensures.meets (λ e read same.
+    let there = ap seen c.deref.ensures ∙ same in
     item_fails c.loop-noted.invariant.gathered.behind
     (named_fails t _ (names_in t names) _
     (omega (arith, c.if-place-self.false, c.loop-noted.invariant.within)) (sym c.loop-noted-test.ensures) e _
     read (functional_within c.args.self.now.edition t _) c.in-Some.name
-    (sym (c.in-Some.ensures c.args.nesting _ e read same)) mark
+    (sym (c.in-Some.ensures c.args.nesting _ e read there)) mark
     (fails_no new
     (fails_next (functional_token t colon) (token_there t colon _ mark)
     (fails_next (functional_blank t) (passed c.skip_blank-start.ensures.blank)
@@ -520,11 +457,13 @@ get_arguments-returns-clause-meets g m c =
 
 pub get_arguments-loop-noted-preserved-then-is_byte_at : goal.get_arguments-loop-noted-preserved-then-is_byte_at
 get_arguments-loop-noted-preserved-then-is_byte_at g m c =
+    let seen = inline_view g.M.MakeTexts.made in
     let t = c.args.self.now.source.bytes.now in
     let old = c.loop-noted in
     let new = used_in_order t (bytes_at t c.in-Some.name) old.noted.names.items ∙ sym c.if-has.ensures in
-    let added = argument_with c.in_ok-name-in-Some.name c.in_ok-value-in-Some.value in
+    let named = c.in_ok-add_named-in-Some.ensures in
     on_made c.in_ok-expression.ensures.meets (λ e read same.
+    let there = ap seen c.deref.ensures ∙ same in
     on_made c.in_ok-value-in-Some.ensures.meets (λ value read_value same_value. record {
       forward =
           omega (
@@ -540,23 +479,26 @@ get_arguments-loop-noted-preserved-then-is_byte_at g m c =
           one_named t _ _ g.M.MakeTexts.made _ (functional_within c.args.self.now.edition t _) _ _ _
           old.noted.names.items
           old.invariant.gathered (omega (arith, c.if-place-self.false, old.invariant.within))
-          (sym c.loop-noted-test.ensures) e _ read added c.in-Some.name
-          (sym (c.in-Some.ensures c.args.nesting _ e read same)) (sym c.if-is_byte_at.ensures) new
-          c.in_ok-name-in-Some.ensures _ c.in_ok-push-in-Some.ensures.items _ c.in_ok-note-in-Some.ensures.names _ _ _
-          c.skip_blank-start.ensures.blank value read_value same_value c.skip_separator-place.ensures.meets;
+          (sym c.loop-noted-test.ensures) e _ read named.0 c.in-Some.name
+          (sym (c.in-Some.ensures c.args.nesting _ e read there)) (sym c.if-is_byte_at.ensures) new
+          named.2 _ named.1 _ c.in_ok-note-in-Some.ensures.names _ _ _
+          c.skip_blank-start.ensures.blank value read_value (ap seen named.3 ∙ same_value)
+          c.skip_separator-place.ensures.meets;
       noted = c.in_ok-note-in-Some.ensures.noted;
     }))
 
 pub get_arguments-returns-then-not-is_empty-clause-meets : goal.get_arguments-returns-then-not-is_empty-clause-meets
 get_arguments-returns-then-not-is_empty-clause-meets g m c =
+    let seen = inline_view g.M.MakeTexts.made in
     let t = c.args.self.now.source.bytes.now in
     let old = c.loop-noted in
     let some = some_named old.noted.names.items c.if-not-is_empty.ensures in
     on_made c.in_ok-expression.ensures.meets (λ e read same.
+    let there = ap seen c.deref.ensures ∙ same in
     let is : (argument_name e ≡ None) ⊎ (has_byte t colon c.in_ok-expression.next ≡ false) =
     elim c.in_default.branch [
       | get_arguments-in_default-via-in-Some+else-is_byte_at w ↦ inr (sym w.if-is_byte_at.ensures)
-      | get_arguments-in_default-via-in_default w ↦ inl (sym (w.in_default.ensures c.args.nesting _ e read same))
+      | get_arguments-in_default-via-in_default w ↦ inl (sym (w.in_default.ensures c.args.nesting _ e read there))
     ] in
     item_fails old.invariant.gathered.behind (refused (λ k from to (a, b, d). rw (a, b, d)
     (positional t _ (names_in t old.noted.names.items) old.place
@@ -567,14 +509,16 @@ get_arguments-returns-then-not-is_empty-clause-meets g m c =
 
 pub get_arguments-loop-noted-preserved : goal.get_arguments-loop-noted-preserved
 get_arguments-loop-noted-preserved g m c =
+    let seen = inline_view g.M.MakeTexts.made in
     let t = c.args.self.now.source.bytes.now in
     let old = c.loop-noted in
     let none = none_named old.noted.names.items c.if-not-is_empty.ensures in
     on_made c.in_ok-expression.ensures.meets (λ e read same.
+    let there = ap seen c.deref.ensures ∙ same in
     let is : (argument_name e ≡ None) ⊎ (has_byte t colon c.in_ok-expression.next ≡ false) =
     elim c.in_default.branch [
       | get_arguments-in_default-via-in-Some+else-is_byte_at w ↦ inr (sym w.if-is_byte_at.ensures)
-      | get_arguments-in_default-via-in_default w ↦ inl (sym (w.in_default.ensures c.args.nesting _ e read same))
+      | get_arguments-in_default-via-in_default w ↦ inl (sym (w.in_default.ensures c.args.nesting _ e read there))
     ] in
     record {
       forward =
@@ -589,8 +533,8 @@ get_arguments-loop-noted-preserved g m c =
           one_positional t _ _ g.M.MakeTexts.made _ (functional_within c.args.self.now.edition t _) _ _ _
           old.noted.names.items
           old.invariant.gathered (omega (arith, c.if-place-self.false, old.invariant.within))
-          (sym c.loop-noted-test.ensures) e _ read is none c.in_ok-expression.expression same _
-          c.in_ok-push-in_default.ensures.items _ c.skip_separator-place-in_default.ensures.meets;
+          (sym c.loop-noted-test.ensures) e _ read is none c.in_ok-expression.expression.value same _
+          c.in_ok-add_positional-in_default.ensures _ c.skip_separator-place-in_default.ensures.meets;
       noted = old.invariant.noted;
     })
 
@@ -860,7 +804,7 @@ get_pieces-loop-pieces-preserved-then-byte-eq123 g m c =
       forward = omega (arith, c.loop-pieces.invariant.forward, read.within.0);
       within = read.within.1;
       gathered =
-          item_made (piece_view g.M.MakeTexts.made) _ _ _ c.in_ok-push-in-Some.ensures.items
+          item_made (piece_view g.M.MakeTexts.made) _ _ _ c.in_ok-add_placed-in-Some.ensures
           c.loop-pieces.invariant.gathered
           (functional_next_piece t (within c.args.self.now.edition t c.args.nesting)
           (functional_within c.args.self.now.edition t _)) _
@@ -877,7 +821,7 @@ get_pieces-loop-pieces-preserved g m c =
       forward = omega (arith, c.loop-pieces.invariant.forward, run.forward);
       within = c.run_end-to.ensures.within;
       gathered =
-          item_made (piece_view g.M.MakeTexts.made) _ _ _ c.in_ok-push-in-Some-2.ensures.items
+          item_made (piece_view g.M.MakeTexts.made) _ _ _ c.in_ok-push-in-Some.ensures.items
           c.loop-pieces.invariant.gathered
           (functional_next_piece t (within c.args.self.now.edition t c.args.nesting)
           (functional_within c.args.self.now.edition t _)) _
@@ -952,33 +896,19 @@ get_lines-loop-lines-preserved g m c =
           (rw (c.ending_at-ending.ensures.seen, same) refl);
     })
 
-pub get_expression-skip_blank_inline-ptr-requires : goal.get_expression-skip_blank_inline-ptr-requires
-get_expression-skip_blank_inline-ptr-requires g m c =
-    let t = c.args.self.now.source.bytes.now in
-    let i = c.skip_blank-ptr.result in
-    let mark = right_true _ _ (sym c.if-not-is_arrow.ensures) in
-    let inside = has_inside (λ b. b == greater_than) t (i + 1) mark in
-    omega (arith, inside)
-
 -- ---- out of memory
 
-pub get_arguments-returns-in_err-push-in-Some-clause-meets :
-    goal.get_arguments-returns-in_err-push-in-Some-clause-meets
-get_arguments-returns-in_err-push-in-Some-clause-meets g m c =
-    rw (out_of_memory c.from_residual-in_err-push-in-Some.result
-    c.from_residual-in_err-push-in-Some.ensures.1) no_memory
+pub get_arguments-returns-in_err-add_named-in-Some-clause-meets :
+    goal.get_arguments-returns-in_err-add_named-in-Some-clause-meets
+get_arguments-returns-in_err-add_named-in-Some-clause-meets g m c =
+    rw (out_of_memory c.from_residual-in_err-add_named-in-Some.result
+    c.from_residual-in_err-add_named-in-Some.ensures.1) no_memory
 
-pub get_arguments-returns-in_err-push-in_default-clause-meets :
-    goal.get_arguments-returns-in_err-push-in_default-clause-meets
-get_arguments-returns-in_err-push-in_default-clause-meets g m c =
-    rw (out_of_memory c.from_residual-in_err-push-in_default.result
-    c.from_residual-in_err-push-in_default.ensures.1) no_memory
-
-pub get_inline_expression-returns-in_err-expression-in-Brace-2-clause-meets :
-    goal.get_inline_expression-returns-in_err-expression-in-Brace-2-clause-meets
-get_inline_expression-returns-in_err-expression-in-Brace-2-clause-meets g m c =
-    rw (out_of_memory c.from_residual-in_err-expression-in-Brace-2.result
-    c.from_residual-in_err-expression-in-Brace-2.ensures.1) no_memory
+pub get_arguments-returns-in_err-add_positional-in_default-clause-meets :
+    goal.get_arguments-returns-in_err-add_positional-in_default-clause-meets
+get_arguments-returns-in_err-add_positional-in_default-clause-meets g m c =
+    rw (out_of_memory c.from_residual-in_err-add_positional-in_default.result
+    c.from_residual-in_err-add_positional-in_default.ensures.1) no_memory
 
 pub get_lines-returns-in_err-push-in-None-eol_end-clause-meets :
     goal.get_lines-returns-in_err-push-in-None-eol_end-clause-meets
@@ -1003,17 +933,17 @@ get_long_pattern-returns-in_err-pattern-clause-meets g m c =
     rw (out_of_memory c.from_residual-in_err-pattern.result
     c.from_residual-in_err-pattern.ensures.1) no_memory
 
+pub get_pieces-returns-in_err-add_placed-in-Some-clause-meets :
+    goal.get_pieces-returns-in_err-add_placed-in-Some-clause-meets
+get_pieces-returns-in_err-add_placed-in-Some-clause-meets g m c =
+    rw (out_of_memory c.from_residual-in_err-add_placed-in-Some.result
+    c.from_residual-in_err-add_placed-in-Some.ensures.1) no_memory
+
 pub get_pieces-returns-in_err-push-in-Some-clause-meets :
     goal.get_pieces-returns-in_err-push-in-Some-clause-meets
 get_pieces-returns-in_err-push-in-Some-clause-meets g m c =
     rw (out_of_memory c.from_residual-in_err-push-in-Some.result
     c.from_residual-in_err-push-in-Some.ensures.1) no_memory
-
-pub get_pieces-returns-in_err-push-in-Some-2-clause-meets :
-    goal.get_pieces-returns-in_err-push-in-Some-2-clause-meets
-get_pieces-returns-in_err-push-in-Some-2-clause-meets g m c =
-    rw (out_of_memory c.from_residual-in_err-push-in-Some-2.result
-    c.from_residual-in_err-push-in-Some-2.ensures.1) no_memory
 
 pub get_variants-returns-in_err-push-clause-meets :
     goal.get_variants-returns-in_err-push-clause-meets
@@ -1025,42 +955,6 @@ pub get_arguments-returns-in_err-note-in-Some-clause-meets :
 get_arguments-returns-in_err-note-in-Some-clause-meets g m c =
     rw (out_of_memory c.from_residual-in_err-note-in-Some.result
     c.from_residual-in_err-note-in-Some.ensures.1) no_memory
-
-pub get_inline_expression-returns-in_err-value-in-Quote-2-clause-meets :
-    goal.get_inline_expression-returns-in_err-value-in-Quote-2-clause-meets
-get_inline_expression-returns-in_err-value-in-Quote-2-clause-meets g m c =
-    rw (out_of_memory c.from_residual-in_err-value-in-Quote-2.result
-    c.from_residual-in_err-value-in-Quote-2.ensures.1) no_memory
-
-pub get_inline_expression-returns-in_err-value-in-Digit-clause-meets :
-    goal.get_inline_expression-returns-in_err-value-in-Digit-clause-meets
-get_inline_expression-returns-in_err-value-in-Digit-clause-meets g m c =
-    rw (out_of_memory c.from_residual-in_err-value-in-Digit.result
-    c.from_residual-in_err-value-in-Digit.ensures.1) no_memory
-
-pub get_inline_expression-returns-in_err-id-in-Dollar-clause-meets :
-    goal.get_inline_expression-returns-in_err-id-in-Dollar-clause-meets
-get_inline_expression-returns-in_err-id-in-Dollar-clause-meets g m c =
-    rw (out_of_memory c.from_residual-in_err-id-in-Dollar.result
-    c.from_residual-in_err-id-in-Dollar.ensures.1) no_memory
-
-pub get_term_reference-returns-in_err-id-clause-meets :
-    goal.get_term_reference-returns-in_err-id-clause-meets
-get_term_reference-returns-in_err-id-clause-meets g m c =
-    rw (out_of_memory c.from_residual-in_err-id.result
-    c.from_residual-in_err-id.ensures.1) no_memory
-
-pub get_term_reference-returns-in_err-attribute-2-clause-meets :
-    goal.get_term_reference-returns-in_err-attribute-2-clause-meets
-get_term_reference-returns-in_err-attribute-2-clause-meets g m c =
-    rw (out_of_memory c.from_residual-in_err-attribute-2.result
-    c.from_residual-in_err-attribute-2.ensures.1) no_memory
-
-pub get_arguments-returns-in_err-name-in-Some-clause-meets :
-    goal.get_arguments-returns-in_err-name-in-Some-clause-meets
-get_arguments-returns-in_err-name-in-Some-clause-meets g m c =
-    rw (out_of_memory c.from_residual-in_err-name-in-Some.result
-    c.from_residual-in_err-name-in-Some.ensures.1) no_memory
 
 pub get_variants-returns-in_err-key-2-clause-meets :
     goal.get_variants-returns-in_err-key-2-clause-meets
@@ -1115,6 +1009,3 @@ get_pieces-loop-pieces-smaller g m c =
 pub get_lines-invariant_of-push-in-Some-eol_end-clause-ends :
     goal.get_lines-invariant_of-push-in-Some-eol_end-clause-ends
 get_lines-invariant_of-push-in-Some-eol_end-clause-ends g m c = c.ending_at-ending.ensures.ends
-
-pub get_expression-overflow_add-ptr : goal.get_expression-overflow_add-ptr
-get_expression-overflow_add-ptr g m c = omega (arith, c.skip_blank-ptr.ensures.within, c.args.self.now.small)

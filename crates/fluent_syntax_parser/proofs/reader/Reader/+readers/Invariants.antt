@@ -53,7 +53,13 @@ abbrev pub decreases-get_variants : goal.decreases-get_variants
 decreases-get_variants g l = 10 * l.nesting + 6
 
 abbrev pub decreases-get_expression : goal.decreases-get_expression
-decreases-get_expression g l = 10 * l.nesting + 7
+decreases-get_expression g l = 10 * l.nesting + 8
+
+abbrev pub decreases-get_select : goal.decreases-get_select
+decreases-get_select g l = 10 * l.nesting + 7
+
+abbrev pub decreases-get_inner_placeable : goal.decreases-get_inner_placeable
+decreases-get_inner_placeable g l = 10 * l.nesting + 1
 
 -- ---- loops
 

@@ -1,0 +1,9 @@
+use Rattle.std.proofs.Common.{◌∙◌, ap}
+use Rattle.fluent_syntax_tree.specs.View.{inline_view}
+use Rattle.fluent_syntax_tree.proofs.Views.{view-InlinePlaceable}
+use Rattle.fluent_syntax_parser.proofs.reader.Reader.boxed_placeable.Goals as goal
+
+pub returns : goal.returns
+returns g c =
+    let v = g.M.MakeTexts.made in
+    ap (inline_view v) c.in_ok-boxed.ensures.ok ∙ view-InlinePlaceable v c.args.expression

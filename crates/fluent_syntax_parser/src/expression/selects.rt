@@ -1,0 +1,82 @@
+//! Selects, from the arrow on.
+ghost use Rattle.std.specs.Prelude.{◌≡◌, ◌<◌, ◌≤◌, length, true, IfOk};
+ghost use Rattle.fluent_syntax_tree.specs.Tree.{InlineTree, expression_map, inline_map, select};
+ghost use Rattle.fluent_syntax_tree.specs.View.{inline_view};
+ghost use Rattle.fluent_syntax_tree.specs.declared.spans.Span.{Span};
+ghost use Rattle.fluent_syntax_grammar.specs.Grammar.{within};
+ghost use Rattle.fluent_syntax_grammar.specs.Placeables.{has_arrow, select_with, selector_fault};
+ghost use Rattle.fluent_syntax_parser.specs.Boxed.{boxed_expression_view, boxed_inline_view};
+ghost use Rattle.fluent_syntax_parser.specs.Gathered.{variants_view};
+ghost use Rattle.fluent_syntax_parser.specs.Made.{Makes};
+ghost use Rattle.fluent_syntax_parser.specs.Meets.{MeetsEnd};
+ghost use Rattle.fluent_syntax_parser.specs.Selects.{select_start};
+
+use crate::fault::{ReadFault, Refusal};
+use crate::reader::Reader;
+use crate::texts::MakeTexts;
+use fluent_syntax_tree::ast::{Expression, InlineExpression, Variant};
+use std::alloc::AllocError;
+
+impl<'s, 't, M: MakeTexts> Reader<'s, 't, M> {
+    /// Where the first variant of a select stands, whose arrow stands at the place; or why it is no select.
+    #[inline(never)]
+    fn variants_start(
+        &self,
+        selector: &InlineExpression<M::Text>,
+        ptr: usize,
+    ) -> Result<usize, Refusal>
+        requires within { ptr ≤ length self.now.source.bytes.now }
+        requires arrow { has_arrow self.now.source.bytes.now ptr ≡ true }
+        ensures meets { let t = self.now.source.bytes.now in
+            MeetsEnd t (select_start t (selector_fault (inline_view M.made selector.now))) ptr result }
+        ensures within { IfOk result (λ start. (ptr < start) × (start ≤ length self.now.source.bytes.now)) }
+    {
+        match self.selector_fault(selector) {
+            Some(fault) => Err(Refusal { fault, place: ptr }),
+            None => {
+                let ptr = self.source.skip_blank_inline(ptr + 2);
+                let ptr = self.source.arrow_line_end(ptr)?;
+                Ok(self.source.skip_blank(ptr))
+            }
+        }
+    }
+
+    /// A box with the select of variants.
+    #[inline(never)]
+    fn boxed_select(
+        &self,
+        selector: Box<InlineExpression<M::Text>>,
+        variants: Vec<Variant<M::Text>>,
+    ) -> Result<Box<Expression<M::Text>>, AllocError>
+        ensures { IfOk result (λ boxed. boxed_expression_view M.made boxed
+            ≡ select (boxed_inline_view M.made selector) (variants_view M.made variants.items)) }
+    {
+        let selector = Box::into_inner(selector);
+        let boxed = Box::new(self.alloc, Expression::Select { selector, variants })?;
+        Ok(boxed)
+    }
+
+    /// Reads a select by what was read before its arrow, from the arrow on.
+    #[cycle(readers)]
+    #[inline(never)]
+    pub(crate) fn get_select(
+        &self,
+        nesting: usize,
+        selector: Box<InlineExpression<M::Text>>,
+        ptr: usize,
+    ) -> Result<(Box<Expression<M::Text>>, usize), ReadFault>
+        requires within { ptr ≤ length self.now.source.bytes.now }
+        requires arrow { has_arrow self.now.source.bytes.now ptr ≡ true }
+        ensures meets { let t = self.now.source.bytes.now in let f = M.source self.now.texts.now in
+            (e : InlineTree Span) → boxed_inline_view M.made selector ≡ inline_map f e →
+            Makes t (expression_map f)
+            (select_with self.now.edition t (within self.now.edition t nesting) e (selector_fault e))
+            (boxed_expression_view M.made) ptr result }
+        ensures within { IfOk result (λ read. (ptr < read.1) × (read.1 ≤ length self.now.source.bytes.now)) }
+    {
+        let start = self.variants_start(&selector, ptr)?;
+        let (variants, end) = self.get_variants(nesting, start)?;
+        let expression = self.boxed_select(selector, variants)?;
+        Ok((expression, end))
+    }
+}
