@@ -1,8 +1,9 @@
 -- What a layout spells, as a reader makes it.
-use Rattle.std.specs.Prelude.{◌≡◌, ℕ, ◌+◌, List, [], ◌∷◌, ◌++◌, map, Option, Some, None, option_map, min}
+use Rattle.std.specs.Prelude.{◌≡◌, Box, ℕ, ◌+◌, List, [], ◌∷◌, ◌++◌, map, Option, Some, None, option_map, min}
 use Rattle.std.specs.Prelude.{nat_lt, if◌then◌else◌}
+use Rattle.std.specs.Global.{Global}
 use Rattle.fluent_syntax_tree.specs.Tree.{ElementTree, ExpressionTree, text_element, pattern_map, placeable}
-use Rattle.fluent_syntax_tree.specs.View.{expression_view, pattern_view}
+use Rattle.fluent_syntax_tree.specs.View.{pattern_view}
 use Rattle.fluent_syntax_tree.specs.declared.ast.Expression.{Expression}
 use Rattle.fluent_syntax_tree.specs.declared.ast.Pattern.{Pattern}
 use Rattle.fluent_syntax_tree.specs.declared.edition.Edition.{Edition}
@@ -10,6 +11,7 @@ use Rattle.fluent_syntax_tree.specs.declared.edition.Edition.TheVariants.{One, T
 use Rattle.fluent_syntax_tree.specs.declared.spans.Span.{Span}
 use Rattle.fluent_syntax_grammar.specs.Elements.{pattern_of, trimmed_end}
 use Rattle.fluent_syntax_grammar.specs.Layout as grammar
+use Rattle.fluent_syntax_parser.specs.Boxed.{boxed_expression_view}
 use Rattle.fluent_syntax_parser.specs.Layouts as layouts
 use Rattle.fluent_syntax_parser.specs.Layouts.{cut}
 use Rattle.fluent_syntax_parser.specs.Lines.{line_shape, line_view}
@@ -20,7 +22,7 @@ use Rattle.fluent_syntax_parser.specs.declared.pattern.line.Piece.TheVariants as
 module _ {S X : Type 0} (text : S → X) where
   abbrev pub item_view : Piece S → layouts.Item (ExpressionTree X)
   item_view (piece.Run from to) = layouts.text from to
-  item_view (piece.Placed e) = layouts.filled (expression_view text e)
+  item_view (piece.Placed e) = layouts.filled (boxed_expression_view text e)
 
   abbrev pub layout_view : Layout S → layouts.Layout (ExpressionTree X)
   layout_view y = record { opening = option_map (line_view text) y.opening; lines = map (line_view text) y.lines.items }
@@ -32,11 +34,11 @@ module _ {S X : Type 0} (text : S → X) where
 
 -- with each placeable as it is
 module _ {S : Type 0} where
-  abbrev pub item_shape : Piece S → layouts.Item (Expression S)
+  abbrev pub item_shape : Piece S → layouts.Item (Box (Expression S) Global)
   item_shape (piece.Run from to) = layouts.text from to
   item_shape (piece.Placed e) = layouts.filled e
 
-  abbrev pub layout_shape : Layout S → layouts.Layout (Expression S)
+  abbrev pub layout_shape : Layout S → layouts.Layout (Box (Expression S) Global)
   layout_shape y = record { opening = option_map line_shape y.opening; lines = map line_shape y.lines.items }
 
 module _ {E : Type 0} where

@@ -4,10 +4,10 @@ use Rattle.std.proofs.Common.{refl, sym, ap, ◌∙◌}
 use Rattle.std.specs.Prelude.{nat_lt, if◌then◌else◌}
 use Rattle.std.specs.List.{flat_map}
 use Rattle.std.proofs.lemmas.List.{map-append}
-use Rattle.fluent_syntax_tree.specs.View.{expression_view}
 use Rattle.fluent_syntax_tree.specs.declared.edition.Edition.{Edition}
 use Rattle.fluent_syntax_tree.specs.declared.edition.Edition.TheVariants.{One, Two}
 use Rattle.fluent_syntax_grammar.specs.Layout.{Ending, lf_at, crlf_at, text_end}
+use Rattle.fluent_syntax_parser.specs.Boxed.{boxed_expression_view}
 use Rattle.fluent_syntax_parser.specs.Elements.{item_shape, item_view, layout_shape, layout_view}
 use Rattle.fluent_syntax_parser.specs.Layouts as layouts
 use Rattle.fluent_syntax_parser.specs.Layouts.{Piece, Line, Item, run, placed, text, filled, with_ending, kept_from}
@@ -97,38 +97,38 @@ items_are (p ∷ ps) = rw (item_is p, items_are ps) refl
 -- ---- what a reader has made, as its expressions are seen
 
 module _ {S X : Type 0} (v : S → X) where
-  item_seen : (x : parts.Piece S) → item_view v x ≡ item_map (expression_view v) (item_shape x)
+  item_seen : (x : parts.Piece S) → item_view v x ≡ item_map (boxed_expression_view v) (item_shape x)
   item_seen (part.Run from to) = refl
   item_seen (part.Placed e) = refl
 
   items_seen : (xs : List (parts.Piece S)) →
-      map (item_view v) xs ≡ map (item_map (expression_view v)) (map item_shape xs)
+      map (item_view v) xs ≡ map (item_map (boxed_expression_view v)) (map item_shape xs)
   items_seen [] = refl
   items_seen (x ∷ xs) = rw (item_seen x, items_seen xs) refl
 
-  piece_seen : (p : parts.Piece S) → piece_view v p ≡ piece_map (expression_view v) (piece_shape p)
+  piece_seen : (p : parts.Piece S) → piece_view v p ≡ piece_map (boxed_expression_view v) (piece_shape p)
   piece_seen (part.Run from to) = refl
   piece_seen (part.Placed e) = refl
 
   pieces_seen : (ps : List (parts.Piece S)) →
-      map (piece_view v) ps ≡ map (piece_map (expression_view v)) (map piece_shape ps)
+      map (piece_view v) ps ≡ map (piece_map (boxed_expression_view v)) (map piece_shape ps)
   pieces_seen [] = refl
   pieces_seen (p ∷ ps) = rw (piece_seen p, pieces_seen ps) refl
 
-  line_seen : (l : rows.Line S) → line_view v l ≡ line_map (expression_view v) (line_shape l)
+  line_seen : (l : rows.Line S) → line_view v l ≡ line_map (boxed_expression_view v) (line_shape l)
   line_seen l = rw (pieces_seen l.pieces.items) refl
 
   lines_seen : (ls : List (rows.Line S)) →
-      map (line_view v) ls ≡ map (line_map (expression_view v)) (map line_shape ls)
+      map (line_view v) ls ≡ map (line_map (boxed_expression_view v)) (map line_shape ls)
   lines_seen [] = refl
   lines_seen (l ∷ ls) = rw (line_seen l, lines_seen ls) refl
 
   opening_seen : (o : Option (rows.Line S)) →
-      option_map (line_view v) o ≡ option_map (line_map (expression_view v)) (option_map line_shape o)
+      option_map (line_view v) o ≡ option_map (line_map (boxed_expression_view v)) (option_map line_shape o)
   opening_seen None = refl
   opening_seen (Some l) = ap Some (line_seen l)
 
-  layout_seen : (y : Layout S) → layout_view v y ≡ layout_map (expression_view v) (layout_shape y)
+  layout_seen : (y : Layout S) → layout_view v y ≡ layout_map (boxed_expression_view v) (layout_shape y)
   layout_seen y = rw (opening_seen y.opening, lines_seen y.lines.items) refl
 
   -- the items of a layout
@@ -137,6 +137,6 @@ module _ {S X : Type 0} (v : S → X) where
       map (item_view v) all ≡ items_with edition common (layout_view v y)
   items_viewed edition common y all same =
       items_seen all
-      ∙ ap (map (item_map (expression_view v))) same
-      ∙ sym (items_mapped (expression_view v) edition common (layout_shape y))
+      ∙ ap (map (item_map (boxed_expression_view v))) same
+      ∙ sym (items_mapped (boxed_expression_view v) edition common (layout_shape y))
       ∙ ap (items_with edition common) (sym (layout_seen y))

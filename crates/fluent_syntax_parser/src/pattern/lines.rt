@@ -1,6 +1,6 @@
 //! The lines of a pattern.
 ghost use Rattle.std.specs.Prelude.{◌≡◌, ◌+◌, ◌-◌, ◌<◌, ◌≤◌, length, map, slice_get, IfOk, None, Some, false};
-ghost use Rattle.std.specs.Prelude.{◌==◌, ◌++◌, ◌∷◌, [], if◌then◌else◌, OnOk};
+ghost use Rattle.std.specs.Prelude.{◌==◌, if◌then◌else◌};
 ghost use Rattle.fluent_syntax_grammar.specs.Construct.{Read};
 ghost use Rattle.fluent_syntax_grammar.specs.Grammar.{within};
 ghost use Rattle.fluent_syntax_grammar.specs.Layout.{crlf_at, lf_at};
@@ -11,7 +11,6 @@ ghost use Rattle.fluent_syntax_parser.specs.Endings.{EndsWithin};
 ghost use Rattle.fluent_syntax_parser.specs.Lanes.{is_passed};
 ghost use Rattle.fluent_syntax_parser.specs.Layouts.{line_of, piece_of};
 ghost use Rattle.fluent_syntax_parser.specs.Lines.{ending_view, line_view, piece_view};
-ghost use Rattle.fluent_syntax_parser.specs.declared.pattern.line.Piece.TheVariants.{Placed};
 
 use crate::fault::{Fault, ReadFault, Refusal};
 use crate::pattern::line::{Ending, Line, Piece};
@@ -19,9 +18,7 @@ use crate::reader::Reader;
 use crate::source::Source;
 use crate::texts::MakeTexts;
 use crate::words::lanes::{LANES, text_run};
-use fluent_syntax_tree::ast::Expression;
 use memchr::memchr3;
-use std::alloc::AllocError;
 
 /// The ending at a place, by where it ends.
 fn ending_at(place: usize, next: usize) -> Ending
@@ -104,19 +101,6 @@ impl<'s> Source<'s> {
     }
 }
 
-/// Adds the placeable of an expression to the pieces of a line.
-#[inline(never)]
-fn add_placed<T: Drop>(
-    expression: Box<Expression<T>>,
-    pieces: &mut Vec<Piece<T>>,
-) -> Result<(), AllocError>
-    ensures { OnOk result (pieces.new.items ≡ pieces.old.items ++ Placed expression.value ∷ []) }
-{
-    let expression = Box::into_inner(expression);
-    pieces.push(Piece::Placed { expression })?;
-    Ok(())
-}
-
 impl<'s, 't, M: MakeTexts> Reader<'s, 't, M> {
     /// Reads the rest of a line, up to its ending.
     #[cycle(readers)]
@@ -150,7 +134,7 @@ impl<'s, 't, M: MakeTexts> Reader<'s, 't, M> {
                     }
                     if byte == b'{' {
                         let (expression, next) = self.get_placeable(nesting, place)?;
-                        add_placed(expression, &mut pieces)?;
+                        pieces.push(Piece::Placed { expression })?;
                         place = next;
                     } else {
                         let to = self.source.run_end(place);

@@ -82,6 +82,7 @@ impl<'s, 't, M: MakeTexts> Reader<'s, 't, M> {
                 Ok(())
             }
             Piece::Placed { expression } => {
+                let expression = Box::into_inner(expression);
                 elements.push(PatternElement::Placeable { expression })?;
                 Ok(())
             }
@@ -121,6 +122,7 @@ impl<'s, 't, M: MakeTexts> Reader<'s, 't, M> {
                 Ok(())
             }
             Piece::Placed { expression } => {
+                let expression = Box::into_inner(expression);
                 elements.push(PatternElement::Placeable { expression })?;
                 Ok(())
             }

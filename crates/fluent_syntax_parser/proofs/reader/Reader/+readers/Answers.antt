@@ -804,7 +804,7 @@ get_pieces-loop-pieces-preserved-then-byte-eq123 g m c =
       forward = omega (arith, c.loop-pieces.invariant.forward, read.within.0);
       within = read.within.1;
       gathered =
-          item_made (piece_view g.M.MakeTexts.made) _ _ _ c.in_ok-add_placed-in-Some.ensures
+          item_made (piece_view g.M.MakeTexts.made) _ _ _ c.in_ok-push-in-Some.ensures.items
           c.loop-pieces.invariant.gathered
           (functional_next_piece t (within c.args.self.now.edition t c.args.nesting)
           (functional_within c.args.self.now.edition t _)) _
@@ -821,7 +821,7 @@ get_pieces-loop-pieces-preserved g m c =
       forward = omega (arith, c.loop-pieces.invariant.forward, run.forward);
       within = c.run_end-to.ensures.within;
       gathered =
-          item_made (piece_view g.M.MakeTexts.made) _ _ _ c.in_ok-push-in-Some.ensures.items
+          item_made (piece_view g.M.MakeTexts.made) _ _ _ c.in_ok-push-in-Some-2.ensures.items
           c.loop-pieces.invariant.gathered
           (functional_next_piece t (within c.args.self.now.edition t c.args.nesting)
           (functional_within c.args.self.now.edition t _)) _
@@ -933,17 +933,17 @@ get_long_pattern-returns-in_err-pattern-clause-meets g m c =
     rw (out_of_memory c.from_residual-in_err-pattern.result
     c.from_residual-in_err-pattern.ensures.1) no_memory
 
-pub get_pieces-returns-in_err-add_placed-in-Some-clause-meets :
-    goal.get_pieces-returns-in_err-add_placed-in-Some-clause-meets
-get_pieces-returns-in_err-add_placed-in-Some-clause-meets g m c =
-    rw (out_of_memory c.from_residual-in_err-add_placed-in-Some.result
-    c.from_residual-in_err-add_placed-in-Some.ensures.1) no_memory
-
 pub get_pieces-returns-in_err-push-in-Some-clause-meets :
     goal.get_pieces-returns-in_err-push-in-Some-clause-meets
 get_pieces-returns-in_err-push-in-Some-clause-meets g m c =
     rw (out_of_memory c.from_residual-in_err-push-in-Some.result
     c.from_residual-in_err-push-in-Some.ensures.1) no_memory
+
+pub get_pieces-returns-in_err-push-in-Some-2-clause-meets :
+    goal.get_pieces-returns-in_err-push-in-Some-2-clause-meets
+get_pieces-returns-in_err-push-in-Some-2-clause-meets g m c =
+    rw (out_of_memory c.from_residual-in_err-push-in-Some-2.result
+    c.from_residual-in_err-push-in-Some-2.ensures.1) no_memory
 
 pub get_variants-returns-in_err-push-clause-meets :
     goal.get_variants-returns-in_err-push-clause-meets
