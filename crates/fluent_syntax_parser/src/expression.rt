@@ -1,6 +1,6 @@
 //! Inline expressions, placeables and selects.
 ghost use Rattle.std.specs.Prelude.{◌≡◌, ◌-◌, ◌<◌, ◌≤◌, length, IfOk};
-ghost use Rattle.fluent_syntax_tree.specs.Tree.{expression_map, inline, inline_map, inline_placeable};
+ghost use Rattle.fluent_syntax_tree.specs.Tree.{expression_map, inline, inline_placeable};
 ghost use Rattle.fluent_syntax_grammar.specs.Construct.{at_each};
 ghost use Rattle.fluent_syntax_grammar.specs.Family.{placeable};
 ghost use Rattle.fluent_syntax_grammar.specs.Grammar.{within};
@@ -8,7 +8,7 @@ ghost use Rattle.fluent_syntax_grammar.specs.Inline.{inline_expression};
 ghost use Rattle.fluent_syntax_grammar.specs.Placeables.{arrow_line_end, expression, has_arrow};
 ghost use Rattle.fluent_syntax_grammar.specs.Places.{after_eol};
 ghost use Rattle.fluent_syntax_grammar.specs.Starts.{brace, letter, start, term};
-ghost use Rattle.fluent_syntax_parser.specs.Boxed.{boxed_expression_view, boxed_inline_view};
+ghost use Rattle.fluent_syntax_parser.specs.Boxed.{boxed_expression_view, mapped_inline};
 ghost use Rattle.fluent_syntax_parser.specs.Made.{Makes};
 ghost use Rattle.fluent_syntax_parser.specs.Meets.{MeetsEnd};
 
@@ -64,12 +64,12 @@ impl<'s, 't, M: MakeTexts> Reader<'s, 't, M> {
         &self,
         nesting: usize,
         ptr: usize,
-    ) -> Result<(Box<InlineExpression<M::Text>>, usize), ReadFault>
+    ) -> Result<(Box<Expression<M::Text>>, usize), ReadFault>
         requires within { ptr ≤ length self.now.source.bytes.now }
         requires starts { term ≡ start self.now.source.bytes.now ptr }
         ensures meets { let t = self.now.source.bytes.now in
-            Makes t (inline_map (M.source self.now.texts.now)) (inline_expression t (within self.now.edition t nesting))
-            (boxed_inline_view M.made) ptr result }
+            Makes t (mapped_inline (M.source self.now.texts.now))
+            (inline_expression t (within self.now.edition t nesting)) (boxed_expression_view M.made) ptr result }
         ensures within { IfOk result (λ read. (ptr < read.1) × (read.1 ≤ length self.now.source.bytes.now)) }
     {
         let start = self.source.expect_byte(b'-', ptr)?;
@@ -87,12 +87,12 @@ impl<'s, 't, M: MakeTexts> Reader<'s, 't, M> {
         &self,
         nesting: usize,
         ptr: usize,
-    ) -> Result<(Box<InlineExpression<M::Text>>, usize), ReadFault>
+    ) -> Result<(Box<Expression<M::Text>>, usize), ReadFault>
         requires within { ptr ≤ length self.now.source.bytes.now }
         requires starts { letter ≡ start self.now.source.bytes.now ptr }
         ensures meets { let t = self.now.source.bytes.now in
-            Makes t (inline_map (M.source self.now.texts.now)) (inline_expression t (within self.now.edition t nesting))
-            (boxed_inline_view M.made) ptr result }
+            Makes t (mapped_inline (M.source self.now.texts.now))
+            (inline_expression t (within self.now.edition t nesting)) (boxed_expression_view M.made) ptr result }
         ensures within { IfOk result (λ read. (ptr < read.1) × (read.1 ≤ length self.now.source.bytes.now)) }
     {
         let end = self.source.identifier_end(ptr)?;
@@ -101,16 +101,17 @@ impl<'s, 't, M: MakeTexts> Reader<'s, 't, M> {
         self.get_named_reference(name, arguments, ptr)
     }
 
-    /// A box with the inline expression that a placeable is.
+    /// A box with the expression that a placeable is.
     #[inline(never)]
     fn boxed_placeable(
         &self,
         expression: Box<Expression<M::Text>>,
-    ) -> Result<Box<InlineExpression<M::Text>>, AllocError>
-        ensures { IfOk result (λ boxed.
-            boxed_inline_view M.made boxed ≡ inline_placeable (boxed_expression_view M.made expression)) }
+    ) -> Result<Box<Expression<M::Text>>, AllocError>
+        ensures { IfOk result (λ boxed. boxed_expression_view M.made boxed
+            ≡ inline (inline_placeable (boxed_expression_view M.made expression))) }
     {
-        let boxed = Box::new(self.alloc, InlineExpression::Placeable { expression })?;
+        let placeable = InlineExpression::Placeable { expression };
+        let boxed = Box::new(self.alloc, Expression::Inline(placeable))?;
         Ok(boxed)
     }
 
@@ -121,12 +122,12 @@ impl<'s, 't, M: MakeTexts> Reader<'s, 't, M> {
         &self,
         nesting: usize,
         ptr: usize,
-    ) -> Result<(Box<InlineExpression<M::Text>>, usize), ReadFault>
+    ) -> Result<(Box<Expression<M::Text>>, usize), ReadFault>
         requires within { ptr ≤ length self.now.source.bytes.now }
         requires starts { brace ≡ start self.now.source.bytes.now ptr }
         ensures meets { let t = self.now.source.bytes.now in
-            Makes t (inline_map (M.source self.now.texts.now)) (inline_expression t (within self.now.edition t nesting))
-            (boxed_inline_view M.made) ptr result }
+            Makes t (mapped_inline (M.source self.now.texts.now))
+            (inline_expression t (within self.now.edition t nesting)) (boxed_expression_view M.made) ptr result }
         ensures within { IfOk result (λ read. (ptr < read.1) × (read.1 ≤ length self.now.source.bytes.now)) }
     {
         let (expression, end) = self.get_placeable(nesting, ptr)?;
@@ -141,11 +142,11 @@ impl<'s, 't, M: MakeTexts> Reader<'s, 't, M> {
         &self,
         nesting: usize,
         ptr: usize,
-    ) -> Result<(Box<InlineExpression<M::Text>>, usize), ReadFault>
+    ) -> Result<(Box<Expression<M::Text>>, usize), ReadFault>
         requires { ptr ≤ length self.now.source.bytes.now }
         ensures meets { let t = self.now.source.bytes.now in
-            Makes t (inline_map (M.source self.now.texts.now)) (inline_expression t (within self.now.edition t nesting))
-            (boxed_inline_view M.made) ptr result }
+            Makes t (mapped_inline (M.source self.now.texts.now))
+            (inline_expression t (within self.now.edition t nesting)) (boxed_expression_view M.made) ptr result }
         ensures within { IfOk result (λ read. (ptr < read.1) × (read.1 ≤ length self.now.source.bytes.now)) }
     {
         match self.source.start(ptr) {
@@ -160,19 +161,6 @@ impl<'s, 't, M: MakeTexts> Reader<'s, 't, M> {
                 place: ptr,
             })),
         }
-    }
-
-    /// A box with the expression that an inline expression is.
-    #[inline(never)]
-    fn boxed_inline(
-        &self,
-        expression: Box<InlineExpression<M::Text>>,
-    ) -> Result<Box<Expression<M::Text>>, AllocError>
-        ensures { IfOk result (λ boxed.
-            boxed_expression_view M.made boxed ≡ inline (boxed_inline_view M.made expression)) }
-    {
-        let boxed = Box::new(self.alloc, Expression::Inline(Box::into_inner(expression)))?;
-        Ok(boxed)
     }
 
     /// Reads an inline expression or a select.
@@ -194,13 +182,12 @@ impl<'s, 't, M: MakeTexts> Reader<'s, 't, M> {
         if self.source.is_arrow(ptr) {
             return self.get_select(nesting, expression, ptr);
         }
-        if self.is_term_attribute(&expression) {
+        if self.is_term_attribute(self.inline_in(&expression)) {
             return Err(ReadFault::Refused(Refusal {
                 fault: Fault::TermAttribute,
                 place: ptr,
             }));
         }
-        let expression = self.boxed_inline(expression)?;
         Ok((expression, ptr))
     }
 

@@ -1,11 +1,11 @@
 //! Selects, from the arrow on.
 ghost use Rattle.std.specs.Prelude.{◌≡◌, ◌<◌, ◌≤◌, length, true, IfOk};
-ghost use Rattle.fluent_syntax_tree.specs.Tree.{InlineTree, expression_map, inline_map, select};
+ghost use Rattle.fluent_syntax_tree.specs.Tree.{InlineTree, expression_map, inline, select};
 ghost use Rattle.fluent_syntax_tree.specs.View.{inline_view};
 ghost use Rattle.fluent_syntax_tree.specs.declared.spans.Span.{Span};
 ghost use Rattle.fluent_syntax_grammar.specs.Grammar.{within};
 ghost use Rattle.fluent_syntax_grammar.specs.Placeables.{has_arrow, select_with, selector_fault};
-ghost use Rattle.fluent_syntax_parser.specs.Boxed.{boxed_expression_view, boxed_inline_view};
+ghost use Rattle.fluent_syntax_parser.specs.Boxed.{boxed_expression_view, mapped_inline, IsInline};
 ghost use Rattle.fluent_syntax_parser.specs.Gathered.{variants_view};
 ghost use Rattle.fluent_syntax_parser.specs.Made.{Makes};
 ghost use Rattle.fluent_syntax_parser.specs.Meets.{MeetsEnd};
@@ -45,13 +45,14 @@ impl<'s, 't, M: MakeTexts> Reader<'s, 't, M> {
     #[inline(never)]
     fn boxed_select(
         &self,
-        selector: Box<InlineExpression<M::Text>>,
+        selector: Box<Expression<M::Text>>,
         variants: Vec<Variant<M::Text>>,
     ) -> Result<Box<Expression<M::Text>>, AllocError>
-        ensures { IfOk result (λ boxed. boxed_expression_view M.made boxed
-            ≡ select (boxed_inline_view M.made selector) (variants_view M.made variants.items)) }
+        requires { IsInline M.made selector.value }
+        ensures { IfOk result (λ boxed. (e : InlineTree _) → boxed_expression_view M.made selector ≡ inline e →
+            boxed_expression_view M.made boxed ≡ select e (variants_view M.made variants.items)) }
     {
-        let selector = Box::into_inner(selector);
+        let selector = self.inline_of(selector);
         let boxed = Box::new(self.alloc, Expression::Select { selector, variants })?;
         Ok(boxed)
     }
@@ -62,19 +63,20 @@ impl<'s, 't, M: MakeTexts> Reader<'s, 't, M> {
     pub(crate) fn get_select(
         &self,
         nesting: usize,
-        selector: Box<InlineExpression<M::Text>>,
+        selector: Box<Expression<M::Text>>,
         ptr: usize,
     ) -> Result<(Box<Expression<M::Text>>, usize), ReadFault>
         requires within { ptr ≤ length self.now.source.bytes.now }
         requires arrow { has_arrow self.now.source.bytes.now ptr ≡ true }
+        requires selector { IsInline M.made selector.value }
         ensures meets { let t = self.now.source.bytes.now in let f = M.source self.now.texts.now in
-            (e : InlineTree Span) → boxed_inline_view M.made selector ≡ inline_map f e →
+            (e : InlineTree Span) → boxed_expression_view M.made selector ≡ mapped_inline f e →
             Makes t (expression_map f)
             (select_with self.now.edition t (within self.now.edition t nesting) e (selector_fault e))
             (boxed_expression_view M.made) ptr result }
         ensures within { IfOk result (λ read. (ptr < read.1) × (read.1 ≤ length self.now.source.bytes.now)) }
     {
-        let start = self.variants_start(&selector, ptr)?;
+        let start = self.variants_start(self.inline_in(&selector), ptr)?;
         let (variants, end) = self.get_variants(nesting, start)?;
         let expression = self.boxed_select(selector, variants)?;
         Ok((expression, end))

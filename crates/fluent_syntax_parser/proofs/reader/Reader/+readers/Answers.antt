@@ -1,11 +1,11 @@
-use Rattle.std.proofs.Common.{◌≡◌, ◌+◌, ◌∙◌, refl, sym, ap, arith, false, None, Some, inl, inr}
+use Rattle.std.proofs.Common.{◌≡◌, ◌+◌, ◌∙◌, refl, sym, ap, arith, false, None, Some, inl, inr, rules}
 use Rattle.std.specs.Prelude.{◌==◌, ◌⊎◌}
 use Rattle.std.proofs.lemmas.Option.{gets}
 use Rattle.std.proofs.lemmas.Result.{err_from_is_err_and}
 use Rattle.fluent_syntax_tree.specs.Spans.{bytes_at}
 use Rattle.fluent_syntax_tree.specs.Tree.{inline, inline_placeable, number_literal, some_arguments, string_literal}
 use Rattle.fluent_syntax_tree.specs.Tree.{pattern_map, variable_reference, variant}
-use Rattle.fluent_syntax_tree.specs.View.{inline_view, key_view}
+use Rattle.fluent_syntax_tree.specs.View.{expression_view, key_view}
 use Rattle.fluent_syntax_tree.proofs.Views.{view-StringLiteral, view-NumberLiteral, view-TermReference}
 use Rattle.fluent_syntax_tree.proofs.Views.{view-VariableReference, view-InlinePlaceable, view-Inline, view-Select}
 use Rattle.fluent_syntax_tree.proofs.Views.{view-Variant, view-roll-CallArguments}
@@ -53,6 +53,7 @@ use Rattle.fluent_syntax_parser.proofs.readers.Fails.{functional_steps}
 use Rattle.fluent_syntax_parser.proofs.readers.Fails.{list, no_call, no_placeable, out_of_memory}
 use Rattle.fluent_syntax_parser.proofs.expressions.GatheredVariants.{all_variants, no_variant, variant_made}
 use Rattle.fluent_syntax_parser.proofs.expressions.GatheredVariants.{variant_with}
+use Rattle.fluent_syntax_parser.proofs.expressions.Inlines.{inline_seen}
 use Rattle.fluent_syntax_parser.proofs.expressions.InlineStarts.{by_start, by_value, no_value, number_starts, referred}
 use Rattle.fluent_syntax_parser.proofs.expressions.InlineStarts.{value_fails}
 use Rattle.fluent_syntax_parser.proofs.readers.Made.{no_value_read, on_made, on_value, same_selector_fault}
@@ -175,7 +176,7 @@ get_inner_placeable-returns-clause-meets g m c =
     (by_start c.args.self.now.source.bytes.now _ _ starts.brace _ c.requires.starts
     (goes_on read
     given))
-    (c.in_ok-expression-2.ensures ∙ ap inline_placeable same))
+    (c.in_ok-expression-2.ensures ∙ ap (λ e. inline (inline_placeable e)) same))
 
 pub get_inline_expression-get_number-requires-clause-starts :
     goal.get_inline_expression-get_number-requires-clause-starts
@@ -258,9 +259,8 @@ get_expression-returns-then-is_arrow-clause-meets g m c =
 pub get_expression-returns-then-is_term_attribute-clause-meets :
     goal.get_expression-returns-then-is_term_attribute-clause-meets
 get_expression-returns-then-is_term_attribute-clause-meets g m c =
-    let seen = inline_view g.M.MakeTexts.made in
     on_made c.in_ok-expression.ensures.meets (λ e read same.
-    let there = ap seen c.deref.ensures ∙ same in
+    let there = inline_seen _ _ c.deref.ensures c.inline_in.ensures same in
     refused (λ k from to (a, b, d). rw (a, b, d)
     (goes_on read
     (goes_on (passed c.skip_blank-ptr.ensures.blank)
@@ -269,17 +269,10 @@ get_expression-returns-then-is_term_attribute-clause-meets g m c =
     (first (sym (same_term_attribute _ e) ∙ ap is_term_attribute (sym there) ∙ sym c.if-is_term_attribute.ensures)
     (failed refl))))))))
 
-pub get_expression-returns-in_err-expression-2-clause-meets :
-    goal.get_expression-returns-in_err-expression-2-clause-meets
-get_expression-returns-in_err-expression-2-clause-meets g m c =
-    rw (out_of_memory c.from_residual-in_err-expression-2.result
-    c.from_residual-in_err-expression-2.ensures.1) no_memory
-
 pub get_expression-returns-clause-meets : goal.get_expression-returns-clause-meets
 get_expression-returns-clause-meets g m c =
-    let seen = inline_view g.M.MakeTexts.made in
     on_made c.in_ok-expression.ensures.meets (λ e read same.
-    let there = ap seen c.deref.ensures ∙ same in
+    let there = inline_seen _ _ c.deref.ensures c.inline_in.ensures same in
     made
     (goes_on read
     (goes_on (passed c.skip_blank-ptr.ensures.blank)
@@ -287,14 +280,28 @@ get_expression-returns-clause-meets g m c =
     (second (sym c.if-is_arrow.ensures)
     (second (sym (same_term_attribute _ e) ∙ ap is_term_attribute (sym there) ∙ sym c.if-is_term_attribute.ensures)
     given)))))
-    (c.in_ok-expression-2.ensures ∙ ap inline same))
+    same)
+
+pub get_expression-inline_in-requires : goal.get_expression-inline_in-requires
+get_expression-inline_in-requires g m c =
+    on_made c.in_ok-expression.ensures.meets (λ e read same.
+    (_, ap (expression_view g.M.MakeTexts.made) c.deref.ensures ∙ same))
+
+pub get_expression-get_select-requires : goal.get_expression-get_select-requires
+get_expression-get_select-requires g m c = λ κs le.
+    on_made c.in_ok-expression.ensures.meets (λ e read same.
+    (search rules, (le.0, (le.1, (c.skip_blank-ptr.ensures.within, (sym c.if-is_arrow.ensures, (_, same)))))))
 
 -- ---- selects
+
+pub get_select-inline_in-requires : goal.get_select-inline_in-requires
+get_select-inline_in-requires g m c =
+    (c.requires.selector.0, ap (expression_view g.M.MakeTexts.made) c.deref.ensures ∙ c.requires.selector.1)
 
 pub get_select-returns-in_err-start-clause-meets : goal.get_select-returns-in_err-start-clause-meets
 get_select-returns-in_err-start-clause-meets g m c = λ e same.
     let t = c.args.self.now.source.bytes.now in
-    let is = same_fault _ _ e (ap (inline_view g.M.MakeTexts.made) c.deref.ensures ∙ same) in
+    let is = same_fault _ _ e (inline_seen _ _ c.deref.ensures c.inline_in.ensures same) in
     let p = err_from_is_err_and c.from_residual.result c.from_residual.ensures.1 in
     rw (p.1, p.2) (refused (λ k from to h.
     select_refused c.args.self.now.edition t _ e _ is k from to (c.in_err-start.ensures.meets k from to h)))
@@ -302,7 +309,7 @@ get_select-returns-in_err-start-clause-meets g m c = λ e same.
 pub get_select-returns-in_err-variants-clause-meets : goal.get_select-returns-in_err-variants-clause-meets
 get_select-returns-in_err-variants-clause-meets g m c = λ e same.
     let t = c.args.self.now.source.bytes.now in
-    let is = same_fault _ _ e (ap (inline_view g.M.MakeTexts.made) c.deref.ensures ∙ same) in
+    let is = same_fault _ _ e (inline_seen _ _ c.deref.ensures c.inline_in.ensures same) in
     let p = err_from_is_err_and c.from_residual-in_err-variants.result c.from_residual-in_err-variants.ensures.1 in
     rw (p.1, p.2)
     (select_fails c.args.self.now.edition t _ e _ is c.in_ok-start.ensures.meets c.in_err-variants.ensures.meets)
@@ -315,10 +322,10 @@ get_select-returns-in_err-expression-clause-meets g m c = λ e same.
 pub get_select-returns-clause-meets : goal.get_select-returns-clause-meets
 get_select-returns-clause-meets g m c = λ e same.
     let t = c.args.self.now.source.bytes.now in
-    let is = same_fault _ _ e (ap (inline_view g.M.MakeTexts.made) c.deref.ensures ∙ same) in
+    let is = same_fault _ _ e (inline_seen _ _ c.deref.ensures c.inline_in.ensures same) in
     on_made c.in_ok-variants.ensures.meets (λ vs read same_variants. made
     (select_read c.args.self.now.edition t _ e _ is c.in_ok-start.ensures.meets read)
-    (c.in_ok-expression.ensures ∙ rw (same, same_variants) refl))
+    (c.in_ok-expression.ensures _ same ∙ rw same_variants refl))
 
 -- ---- the arguments of a reference
 
@@ -390,6 +397,19 @@ get_argument_value-returns-in_default g m c = record {
 
 -- ---- argument lists
 
+pub get_arguments-inline_in-requires : goal.get_arguments-inline_in-requires
+get_arguments-inline_in-requires g m c =
+    on_made c.in_ok-expression.ensures.meets (λ e read same.
+    (_, ap (expression_view g.M.MakeTexts.made) c.deref.ensures ∙ same))
+
+pub get_arguments-add_named-requires : goal.get_arguments-add_named-requires
+get_arguments-add_named-requires g m c =
+    on_made c.in_ok-value-in-Some.ensures.meets (λ e read same. (_, same))
+
+pub get_arguments-add_positional-requires : goal.get_arguments-add_positional-requires
+get_arguments-add_positional-requires g m c =
+    on_made c.in_ok-expression.ensures.meets (λ e read same. (_, same))
+
 pub get_arguments-returns-then-place-self-clause-meets : goal.get_arguments-returns-then-place-self-clause-meets
 get_arguments-returns-then-place-self-clause-meets g m c =
     item_fails c.loop-noted.invariant.gathered.behind (refused (λ k from to (a, b, d). rw (a, b, d)
@@ -407,12 +427,11 @@ get_arguments-returns-in_err-expression-clause-meets g m c =
 
 pub get_arguments-returns-then-has-clause-meets : goal.get_arguments-returns-then-has-clause-meets
 get_arguments-returns-then-has-clause-meets g m c =
-    let seen = inline_view g.M.MakeTexts.made in
     let t = c.args.self.now.source.bytes.now in
     let names = c.loop-noted.noted.names.items in
     let used = used_in_order t (bytes_at t c.in-Some.name) names ∙ sym c.if-has.ensures in
     on_made c.in_ok-expression.ensures.meets (λ e read same.
-    let there = ap seen c.deref.ensures ∙ same in
+    let there = inline_seen _ _ c.deref.ensures c.inline_in.ensures same in
     item_fails c.loop-noted.invariant.gathered.behind (refused (λ k from to (a, b, d). rw (a, b, d)
     (named t _ (names_in t names) _
     (omega (arith, c.if-place-self.false, c.loop-noted.invariant.within)) (sym c.loop-noted-test.ensures) e _
@@ -425,7 +444,6 @@ get_arguments-skip_blank-start-requires g m c = grind (arith, gets)
 pub get_arguments-returns-in_err-value-in-Some-clause-meets :
     goal.get_arguments-returns-in_err-value-in-Some-clause-meets
 get_arguments-returns-in_err-value-in-Some-clause-meets g m c =
-    let seen = inline_view g.M.MakeTexts.made in
     let t = c.args.self.now.source.bytes.now in
     let names = c.loop-noted.noted.names.items in
     let new = used_in_order t (bytes_at t c.in-Some.name) names ∙ sym c.if-has.ensures in
@@ -434,7 +452,7 @@ get_arguments-returns-in_err-value-in-Some-clause-meets g m c =
     c.from_residual-in_err-value-in-Some.ensures.1 in
     rw (p.1, p.2)
     (on_made c.in_ok-expression.ensures.meets (λ e read same.
-    let there = ap seen c.deref.ensures ∙ same in
+    let there = inline_seen _ _ c.deref.ensures c.inline_in.ensures same in
     item_fails c.loop-noted.invariant.gathered.behind
     (named_fails t _ (names_in t names) _
     (omega (arith, c.if-place-self.false, c.loop-noted.invariant.within)) (sym c.loop-noted-test.ensures) e _
@@ -457,13 +475,12 @@ get_arguments-returns-clause-meets g m c =
 
 pub get_arguments-loop-noted-preserved-then-is_byte_at : goal.get_arguments-loop-noted-preserved-then-is_byte_at
 get_arguments-loop-noted-preserved-then-is_byte_at g m c =
-    let seen = inline_view g.M.MakeTexts.made in
     let t = c.args.self.now.source.bytes.now in
     let old = c.loop-noted in
     let new = used_in_order t (bytes_at t c.in-Some.name) old.noted.names.items ∙ sym c.if-has.ensures in
     let named = c.in_ok-add_named-in-Some.ensures in
     on_made c.in_ok-expression.ensures.meets (λ e read same.
-    let there = ap seen c.deref.ensures ∙ same in
+    let there = inline_seen _ _ c.deref.ensures c.inline_in.ensures same in
     on_made c.in_ok-value-in-Some.ensures.meets (λ value read_value same_value. record {
       forward =
           omega (
@@ -482,19 +499,18 @@ get_arguments-loop-noted-preserved-then-is_byte_at g m c =
           (sym c.loop-noted-test.ensures) e _ read named.0 c.in-Some.name
           (sym (c.in-Some.ensures c.args.nesting _ e read there)) (sym c.if-is_byte_at.ensures) new
           named.2 _ named.1 _ c.in_ok-note-in-Some.ensures.names _ _ _
-          c.skip_blank-start.ensures.blank value read_value (ap seen named.3 ∙ same_value)
+          c.skip_blank-start.ensures.blank value read_value (inline_seen _ _ refl named.3 same_value)
           c.skip_separator-place.ensures.meets;
       noted = c.in_ok-note-in-Some.ensures.noted;
     }))
 
 pub get_arguments-returns-then-not-is_empty-clause-meets : goal.get_arguments-returns-then-not-is_empty-clause-meets
 get_arguments-returns-then-not-is_empty-clause-meets g m c =
-    let seen = inline_view g.M.MakeTexts.made in
     let t = c.args.self.now.source.bytes.now in
     let old = c.loop-noted in
     let some = some_named old.noted.names.items c.if-not-is_empty.ensures in
     on_made c.in_ok-expression.ensures.meets (λ e read same.
-    let there = ap seen c.deref.ensures ∙ same in
+    let there = inline_seen _ _ c.deref.ensures c.inline_in.ensures same in
     let is : (argument_name e ≡ None) ⊎ (has_byte t colon c.in_ok-expression.next ≡ false) =
     elim c.in_default.branch [
       | get_arguments-in_default-via-in-Some+else-is_byte_at w ↦ inr (sym w.if-is_byte_at.ensures)
@@ -509,12 +525,12 @@ get_arguments-returns-then-not-is_empty-clause-meets g m c =
 
 pub get_arguments-loop-noted-preserved : goal.get_arguments-loop-noted-preserved
 get_arguments-loop-noted-preserved g m c =
-    let seen = inline_view g.M.MakeTexts.made in
     let t = c.args.self.now.source.bytes.now in
     let old = c.loop-noted in
     let none = none_named old.noted.names.items c.if-not-is_empty.ensures in
+    let added = c.in_ok-add_positional-in_default.ensures in
     on_made c.in_ok-expression.ensures.meets (λ e read same.
-    let there = ap seen c.deref.ensures ∙ same in
+    let there = inline_seen _ _ c.deref.ensures c.inline_in.ensures same in
     let is : (argument_name e ≡ None) ⊎ (has_byte t colon c.in_ok-expression.next ≡ false) =
     elim c.in_default.branch [
       | get_arguments-in_default-via-in-Some+else-is_byte_at w ↦ inr (sym w.if-is_byte_at.ensures)
@@ -533,8 +549,8 @@ get_arguments-loop-noted-preserved g m c =
           one_positional t _ _ g.M.MakeTexts.made _ (functional_within c.args.self.now.edition t _) _ _ _
           old.noted.names.items
           old.invariant.gathered (omega (arith, c.if-place-self.false, old.invariant.within))
-          (sym c.loop-noted-test.ensures) e _ read is none c.in_ok-expression.expression.value same _
-          c.in_ok-add_positional-in_default.ensures _ c.skip_separator-place-in_default.ensures.meets;
+          (sym c.loop-noted-test.ensures) e _ read is none added.0 (inline_seen _ _ refl added.2 same) _ added.1 _
+          c.skip_separator-place-in_default.ensures.meets;
       noted = old.invariant.noted;
     })
 

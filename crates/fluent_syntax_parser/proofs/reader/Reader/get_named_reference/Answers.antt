@@ -1,8 +1,8 @@
 use Rattle.std.proofs.Common.{◌∙◌, ap, refl, sym}
 use Rattle.std.proofs.lemmas.Result.{err_from_is_err_and}
-use Rattle.fluent_syntax_tree.specs.Tree.{function_reference}
-use Rattle.fluent_syntax_tree.specs.View.{arguments_view, inline_view}
-use Rattle.fluent_syntax_tree.proofs.Views.{view-FunctionReference, view-MessageReference}
+use Rattle.fluent_syntax_tree.specs.Tree.{function_reference, inline}
+use Rattle.fluent_syntax_tree.specs.View.{arguments_view, expression_view}
+use Rattle.fluent_syntax_tree.proofs.Views.{view-FunctionReference, view-Inline, view-MessageReference}
 use Rattle.fluent_syntax_grammar.specs.Construct.{stops, goes_on, given, failed, first, second}
 use Rattle.fluent_syntax_parser.specs.Gathered.{maybe_view}
 use Rattle.fluent_syntax_parser.specs.Made.{made}
@@ -32,10 +32,10 @@ returns-in_ok-expression-in-Some-clause-meets g c = λ a same.
     let found = some_given _ a (ap (maybe_view g.M.MakeTexts.made) (sym c.in-Some.is) ∙ same) in
     rw found.1 (made
     (first (sym c.if-not-is_callee.ensures) given)
-    (ap (inline_view g.M.MakeTexts.made) c.in_ok-expression-in-Some.ensures.ok
-    ∙ view-FunctionReference g.M.MakeTexts.made c.in_ok-id-in-Some.id c.in-Some.arguments
+    (ap (expression_view g.M.MakeTexts.made) c.in_ok-expression-in-Some.ensures.ok ∙ view-Inline g.M.MakeTexts.made _
+    ∙ ap inline (view-FunctionReference g.M.MakeTexts.made c.in_ok-id-in-Some.id c.in-Some.arguments
     ∙ ap (λ x. function_reference x (arguments_view g.M.MakeTexts.made c.in-Some.arguments)) c.in_ok-id-in-Some.ensures
-    ∙ ap (function_reference (g.M.MakeTexts.source c.args.self.now.texts.now c.args.name)) found.2))
+    ∙ ap (function_reference (g.M.MakeTexts.source c.args.self.now.texts.now c.args.name)) found.2)))
 
 pub returns-in_err-attribute-in-None-clause-meets : goal.returns-in_err-attribute-in-None-clause-meets
 returns-in_err-attribute-in-None-clause-meets g c = λ a same.
@@ -63,6 +63,6 @@ returns-in_ok-expression-in-None-clause-meets g c = λ a same.
     let none = none_given _ a (ap (maybe_view g.M.MakeTexts.made) (sym c.in-None.is) ∙ same) in
     rw none (made
     (goes_on c.in_ok-attribute-in-None.ensures.meets given)
-    (ap (inline_view g.M.MakeTexts.made) c.in_ok-expression-in-None.ensures.ok
-    ∙ view-MessageReference g.M.MakeTexts.made c.in_ok-id-in-None.id c.in_ok-attribute-in-None-2.attribute
-    ∙ rw (c.in_ok-id-in-None.ensures, c.in_ok-attribute-in-None-2.ensures) refl))
+    (ap (expression_view g.M.MakeTexts.made) c.in_ok-expression-in-None.ensures.ok ∙ view-Inline g.M.MakeTexts.made _
+    ∙ ap inline (view-MessageReference g.M.MakeTexts.made c.in_ok-id-in-None.id c.in_ok-attribute-in-None-2.attribute
+    ∙ rw (c.in_ok-id-in-None.ensures, c.in_ok-attribute-in-None-2.ensures) refl)))

@@ -1,8 +1,8 @@
 use Rattle.std.proofs.Common.{◌∙◌, ap}
 use Rattle.std.proofs.lemmas.Result.{err_from_is_err_and}
-use Rattle.fluent_syntax_tree.specs.Tree.{number_literal}
-use Rattle.fluent_syntax_tree.specs.View.{inline_view}
-use Rattle.fluent_syntax_tree.proofs.Views.{view-NumberLiteral}
+use Rattle.fluent_syntax_tree.specs.Tree.{inline, number_literal}
+use Rattle.fluent_syntax_tree.specs.View.{expression_view}
+use Rattle.fluent_syntax_tree.proofs.Views.{view-Inline, view-NumberLiteral}
 use Rattle.fluent_syntax_grammar.specs.Construct.{stops, goes_on, given}
 use Rattle.fluent_syntax_parser.specs.Made.{made}
 use Rattle.fluent_syntax_parser.specs.Meets.{no_memory, refused}
@@ -32,5 +32,6 @@ returns-clause-meets g c = λ n.
     (by_number c.args.self.now.source.bytes.now _ _ _ c.requires.starts
     (goes_on c.in_ok-end.ensures.meets
     given))
-    (ap (inline_view v) c.in_ok-expression.ensures.ok ∙ view-NumberLiteral v c.in_ok-value.value
-    ∙ ap number_literal c.in_ok-value.ensures)
+    (ap (expression_view v) c.in_ok-expression.ensures.ok ∙ view-Inline v _
+    ∙ ap inline (view-NumberLiteral v c.in_ok-value.value
+    ∙ ap number_literal c.in_ok-value.ensures))

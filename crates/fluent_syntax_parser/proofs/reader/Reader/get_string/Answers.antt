@@ -1,8 +1,8 @@
 use Rattle.std.proofs.Common.{◌∙◌, ap}
 use Rattle.std.proofs.lemmas.Result.{err_from_is_err_and}
-use Rattle.fluent_syntax_tree.specs.Tree.{string_literal}
-use Rattle.fluent_syntax_tree.specs.View.{inline_view}
-use Rattle.fluent_syntax_tree.proofs.Views.{view-StringLiteral}
+use Rattle.fluent_syntax_tree.specs.Tree.{inline, string_literal}
+use Rattle.fluent_syntax_tree.specs.View.{expression_view}
+use Rattle.fluent_syntax_tree.proofs.Views.{view-Inline, view-StringLiteral}
 use Rattle.fluent_syntax_grammar.specs.Construct.{stops, goes_on, given}
 use Rattle.fluent_syntax_grammar.specs.Starts as starts
 use Rattle.fluent_syntax_parser.specs.Made.{made}
@@ -33,5 +33,6 @@ returns-clause-meets g c = λ n.
     (by_start c.args.self.now.source.bytes.now _ _ starts.quote _ c.requires.starts
     (goes_on c.in_ok-value.ensures.meets
     given))
-    (ap (inline_view v) c.in_ok-expression.ensures.ok ∙ view-StringLiteral v c.in_ok-value-2.value
-    ∙ ap string_literal c.in_ok-value-2.ensures)
+    (ap (expression_view v) c.in_ok-expression.ensures.ok ∙ view-Inline v _
+    ∙ ap inline (view-StringLiteral v c.in_ok-value-2.value
+    ∙ ap string_literal c.in_ok-value-2.ensures))

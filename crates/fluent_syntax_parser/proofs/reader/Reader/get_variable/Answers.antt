@@ -1,8 +1,8 @@
 use Rattle.std.proofs.Common.{◌∙◌, ap}
 use Rattle.std.proofs.lemmas.Result.{err_from_is_err_and}
-use Rattle.fluent_syntax_tree.specs.Tree.{variable_reference}
-use Rattle.fluent_syntax_tree.specs.View.{inline_view}
-use Rattle.fluent_syntax_tree.proofs.Views.{view-VariableReference}
+use Rattle.fluent_syntax_tree.specs.Tree.{inline, variable_reference}
+use Rattle.fluent_syntax_tree.specs.View.{expression_view}
+use Rattle.fluent_syntax_tree.proofs.Views.{view-Inline, view-VariableReference}
 use Rattle.fluent_syntax_grammar.specs.Construct.{stops, goes_on, given}
 use Rattle.fluent_syntax_grammar.specs.Starts as starts
 use Rattle.fluent_syntax_parser.specs.Made.{made}
@@ -42,5 +42,6 @@ returns-clause-meets g c = λ n.
     (goes_on c.in_ok-start.ensures.meets
     (goes_on c.in_ok-end.ensures.meets
     given)))
-    (ap (inline_view v) c.in_ok-expression.ensures.ok ∙ view-VariableReference v c.in_ok-id.id
-    ∙ ap variable_reference c.in_ok-id.ensures)
+    (ap (expression_view v) c.in_ok-expression.ensures.ok ∙ view-Inline v _
+    ∙ ap inline (view-VariableReference v c.in_ok-id.id
+    ∙ ap variable_reference c.in_ok-id.ensures))
