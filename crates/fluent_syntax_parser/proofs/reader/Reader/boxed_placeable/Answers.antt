@@ -7,4 +7,5 @@ use Rattle.fluent_syntax_parser.proofs.reader.Reader.boxed_placeable.Goals as go
 pub returns : goal.returns
 returns g c =
     let v = g.M.MakeTexts.made in
-    ap (expression_view v) c.in_ok-boxed.ensures.ok ∙ view-Inline v _ ∙ ap inline (view-InlinePlaceable v c.args.expression)
+    ap (expression_view v) c.in_ok-boxed.ensures.ok ∙ view-Inline v _
+    ∙ ap inline (view-InlinePlaceable v c.args.expression)

@@ -10,4 +10,5 @@ pub returns : goal.returns
 returns g c = λ e same.
     let v = g.M.MakeTexts.made in
     ap (expression_view v) c.in_ok-boxed.ensures.ok ∙ view-Select v c.inline_of-selector.result c.args.variants
-    ∙ ap (λ x. select x (variants_view v c.args.variants.items)) (inline_seen v _ refl c.inline_of-selector.ensures same)
+    ∙ ap (λ x. select x (variants_view v c.args.variants.items))
+    (inline_seen v _ refl c.inline_of-selector.ensures same)
