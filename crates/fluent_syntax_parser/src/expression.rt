@@ -50,6 +50,7 @@ impl<'s> Source<'s> {
             Some(end) => Ok(end),
             None => Err(Refusal {
                 fault: Fault::LineEnd,
+                from: ptr,
                 place: ptr,
             }),
         }
@@ -156,10 +157,11 @@ impl<'s, 't, M: MakeTexts> Reader<'s, 't, M> {
             Start::Dollar => self.get_variable(ptr),
             Start::Letter => self.get_reference(nesting, ptr),
             Start::Brace => self.get_inner_placeable(nesting, ptr),
-            Start::Other => Err(ReadFault::Refused(Refusal {
+            Start::Other => Err(ReadFault::Refused {
                 fault: Fault::InlineExpression,
+                from: ptr,
                 place: ptr,
-            })),
+            }),
         }
     }
 
@@ -183,10 +185,11 @@ impl<'s, 't, M: MakeTexts> Reader<'s, 't, M> {
             return self.get_select(nesting, expression, ptr);
         }
         if self.is_term_attribute(self.inline_in(&expression)) {
-            return Err(ReadFault::Refused(Refusal {
+            return Err(ReadFault::Refused {
                 fault: Fault::TermAttribute,
+                from: ptr,
                 place: ptr,
-            }));
+            });
         }
         Ok((expression, ptr))
     }

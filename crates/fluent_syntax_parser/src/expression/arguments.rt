@@ -105,10 +105,11 @@ impl<'s, 't, M: MakeTexts> Reader<'s, 't, M> {
                 let (value, end) = self.get_inline_expression(nesting, ptr)?;
                 Ok((value, end))
             }
-            _ => Err(ReadFault::Refused(Refusal {
+            _ => Err(ReadFault::Refused {
                 fault: Fault::Literal,
+                from: ptr,
                 place: ptr,
-            })),
+            }),
         }
     }
 
@@ -132,17 +133,21 @@ impl<'s, 't, M: MakeTexts> Reader<'s, 't, M> {
         let mut place = ptr;
         while !self.source.is_byte_at(b')', place) {
             if place == self.source.bytes.len() {
-                return Err(ReadFault::Refused(Refusal {
+                return Err(ReadFault::Refused {
                     fault: Fault::Token(b')'),
+                    from: place,
                     place,
-                }));
+                });
             }
             let (expression, next) = self.get_inline_expression(nesting, place)?;
             match self.argument_name(self.inline_in(&expression), place) {
                 Some(name) if self.source.is_byte_at(b':', next) => {
                     if noted.has(&self.source, name) {
-                        let fault = Fault::Duplicated(name);
-                        return Err(ReadFault::Refused(Refusal { fault, place: next }));
+                        return Err(ReadFault::Refused {
+                            fault: Fault::Duplicated,
+                            from: place,
+                            place: next,
+                        });
                     }
                     let start = self.source.skip_blank(next + 1);
                     let (value, end) = self.get_argument_value(nesting, start)?;
@@ -152,8 +157,11 @@ impl<'s, 't, M: MakeTexts> Reader<'s, 't, M> {
                 }
                 _ => {
                     if !noted.is_empty() {
-                        let fault = Fault::PositionalAfterNamed;
-                        return Err(ReadFault::Refused(Refusal { fault, place: next }));
+                        return Err(ReadFault::Refused {
+                            fault: Fault::PositionalAfterNamed,
+                            from: next,
+                            place: next,
+                        });
                     }
                     self.add_positional(expression, &mut positional)?;
                     place = self.source.skip_separator(next);

@@ -71,10 +71,11 @@ impl<'s, 't, M: MakeTexts> Reader<'s, 't, M> {
         match arguments {
             Some(arguments) => {
                 if !self.source.is_callee(name) {
-                    return Err(ReadFault::Refused(Refusal {
+                    return Err(ReadFault::Refused {
                         fault: Fault::Callee,
+                        from: ptr,
                         place: ptr,
-                    }));
+                    });
                 }
                 let id = self.identifier(name)?;
                 let reference = InlineExpression::FunctionReference { id, arguments };

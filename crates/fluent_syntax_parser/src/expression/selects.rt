@@ -32,7 +32,11 @@ impl<'s, 't, M: MakeTexts> Reader<'s, 't, M> {
         ensures within { IfOk result (λ start. (ptr < start) × (start ≤ length self.now.source.bytes.now)) }
     {
         match self.selector_fault(selector) {
-            Some(fault) => Err(Refusal { fault, place: ptr }),
+            Some(fault) => Err(Refusal {
+                fault,
+                from: ptr,
+                place: ptr,
+            }),
             None => {
                 let ptr = self.source.skip_blank_inline(ptr + 2);
                 let ptr = self.source.arrow_line_end(ptr)?;

@@ -74,20 +74,22 @@ impl<'s, 't, M: MakeTexts> Reader<'s, 't, M> {
         loop {
             let (star, next) = self.source.take_byte_if(b'*', place);
             if starred && star {
-                return Err(ReadFault::Refused(Refusal {
+                return Err(ReadFault::Refused {
                     fault: Fault::SecondDefault,
+                    from: next,
                     place: next,
-                }));
+                });
             }
             let (bracket, next) = self.source.take_byte_if(b'[', next);
             if !bracket {
                 if has_default(self.edition, starred, star) {
                     return Ok((variants, next));
                 }
-                return Err(ReadFault::Refused(Refusal {
+                return Err(ReadFault::Refused {
                     fault: Fault::NoDefault,
+                    from: next,
                     place: next,
-                }));
+                });
             }
             let start = self.source.skip_blank(next);
             let (key, next) = self.source.get_variant_key(start)?;
@@ -95,10 +97,11 @@ impl<'s, 't, M: MakeTexts> Reader<'s, 't, M> {
             let next = self.source.expect_byte(b']', next)?;
             let (value, next) = self.get_pattern(nesting, next)?;
             let Some(value) = value else {
-                return Err(ReadFault::Refused(Refusal {
+                return Err(ReadFault::Refused {
                     fault: Fault::Value,
+                    from: next,
                     place: next,
-                }));
+                });
             };
             let key = self.key(key)?;
             variants.push(Variant {

@@ -127,10 +127,11 @@ impl<'s, 't, M: MakeTexts> Reader<'s, 't, M> {
                         return Ok((pieces, place));
                     }
                     if byte == b'}' {
-                        return Err(ReadFault::Refused(Refusal {
+                        return Err(ReadFault::Refused {
                             fault: Fault::UnbalancedBrace,
+                            from: place,
                             place,
-                        }));
+                        });
                     }
                     if byte == b'{' {
                         let (expression, next) = self.get_placeable(nesting, place)?;

@@ -2,6 +2,7 @@ use Rattle.std.proofs.Common.{◌≡◌, ◌+◌, ◌∙◌, refl, sym, ap, arit
 use Rattle.std.specs.Prelude.{◌==◌, ◌⊎◌}
 use Rattle.std.proofs.lemmas.Option.{gets}
 use Rattle.std.proofs.lemmas.Result.{err_from_is_err_and}
+use Rattle.fluent_syntax_tree.specs.Kind.{DuplicatedNamedArgument}
 use Rattle.fluent_syntax_tree.specs.Spans.{bytes_at}
 use Rattle.fluent_syntax_tree.specs.Tree.{inline, inline_placeable, number_literal, some_arguments, string_literal}
 use Rattle.fluent_syntax_tree.specs.Tree.{pattern_map, variable_reference, variant}
@@ -39,6 +40,7 @@ use Rattle.fluent_syntax_parser.specs.Layouts.{placed}
 use Rattle.fluent_syntax_parser.specs.Lines.{line_view, piece_view}
 use Rattle.fluent_syntax_parser.specs.Made.{made}
 use Rattle.fluent_syntax_parser.specs.Meets.{no_memory, refused, too_deep}
+use Rattle.fluent_syntax_parser.proofs.expressions.ArgumentNames.{argument_text}
 use Rattle.fluent_syntax_parser.proofs.expressions.ArgumentLists.{all_arguments, argument_with, inline_fails, late}
 use Rattle.fluent_syntax_parser.proofs.expressions.ArgumentLists.{list_closed}
 use Rattle.fluent_syntax_parser.proofs.expressions.ArgumentLists.{list_open, named, no_arguments_yet}
@@ -432,10 +434,13 @@ get_arguments-returns-then-has-clause-meets g m c =
     let used = used_in_order t (bytes_at t c.in-Some.name) names ∙ sym c.if-has.ensures in
     on_made c.in_ok-expression.ensures.meets (λ e read same.
     let there = inline_seen _ _ c.deref.ensures c.inline_in.ensures same in
-    item_fails c.loop-noted.invariant.gathered.behind (refused (λ k from to (a, b, d). rw (a, b, d)
+    let is = sym (c.in-Some.ensures c.args.nesting _ e read there) in
+    let text = sym (argument_text t _ _ e _ read c.in-Some.name is) in
+    item_fails c.loop-noted.invariant.gathered.behind (refused (λ k from to (a, b, d).
+    rw (a ∙ ap DuplicatedNamedArgument text, b, d)
     (named t _ (names_in t names) _
     (omega (arith, c.if-place-self.false, c.loop-noted.invariant.within)) (sym c.loop-noted-test.ensures) e _
-    read c.in-Some.name (sym (c.in-Some.ensures c.args.nesting _ e read there)) (sym c.if-is_byte_at.ensures) _
+    read c.in-Some.name is (sym c.if-is_byte_at.ensures) _
     (first used (failed refl))))))
 
 pub get_arguments-skip_blank-start-requires : goal.get_arguments-skip_blank-start-requires

@@ -15,7 +15,8 @@ use Rattle.fluent_syntax_parser.proofs.reader.Reader.get_named_reference.Goals a
 pub returns-then-not-is_callee-clause-meets : goal.returns-then-not-is_callee-clause-meets
 returns-then-not-is_callee-clause-meets g c = λ a same.
     let found = some_given _ a (ap (maybe_view g.M.MakeTexts.made) (sym c.in-Some.is) ∙ same) in
-    rw found.1 (refused {r = record { fault = fault.Callee; place = c.args.ptr }} (λ k from to (a, b, d). rw (a, b, d)
+    rw found.1 (refused {f = fault.Callee} {from = c.args.ptr} {place = c.args.ptr} (λ k from to (a, b, d).
+    rw (a, b, d)
     (second (sym c.if-not-is_callee.ensures) (failed refl))))
 
 pub returns-in_err-id-in-Some-clause-meets : goal.returns-in_err-id-in-Some-clause-meets
