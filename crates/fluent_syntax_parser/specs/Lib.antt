@@ -16,6 +16,7 @@ pub mod Made
 pub mod MadeEntries
 pub mod Meets
 pub mod OneLine
+pub mod Opened
 pub mod Parts
 pub mod Rest
 pub mod Selects

@@ -81,7 +81,8 @@ impl<'s, 't, M: MakeTexts> Reader<'s, 't, M> {
         ensures within { IfOk result (λ read. (ptr < read.1) × (read.1 ≤ length self.now.source.bytes.now)) }
     {
         let start = self.variants_start(self.inline_in(&selector), ptr)?;
-        let (variants, end) = self.get_variants(nesting, start)?;
+        let mut variants = Vec::new(self.alloc);
+        let end = self.gather_variants(nesting, start, &mut variants)?;
         let expression = self.boxed_select(selector, variants)?;
         Ok((expression, end))
     }

@@ -40,6 +40,7 @@ use Rattle.fluent_syntax_parser.specs.Layouts.{placed}
 use Rattle.fluent_syntax_parser.specs.Lines.{line_view, piece_view}
 use Rattle.fluent_syntax_parser.specs.Made.{made}
 use Rattle.fluent_syntax_parser.specs.Meets.{no_memory, refused, too_deep}
+use Rattle.fluent_syntax_parser.specs.declared.fault.Fault.TheVariants as fault
 use Rattle.fluent_syntax_parser.proofs.expressions.ArgumentNames.{argument_text}
 use Rattle.fluent_syntax_parser.proofs.expressions.ArgumentLists.{all_arguments, argument_with, inline_fails, late}
 use Rattle.fluent_syntax_parser.proofs.expressions.ArgumentLists.{list_closed}
@@ -308,13 +309,13 @@ get_select-returns-in_err-start-clause-meets g m c = λ e same.
     rw (p.1, p.2) (refused (λ k from to h.
     select_refused c.args.self.now.edition t _ e _ is k from to (c.in_err-start.ensures.meets k from to h)))
 
-pub get_select-returns-in_err-variants-clause-meets : goal.get_select-returns-in_err-variants-clause-meets
-get_select-returns-in_err-variants-clause-meets g m c = λ e same.
+pub get_select-returns-in_err-end-clause-meets : goal.get_select-returns-in_err-end-clause-meets
+get_select-returns-in_err-end-clause-meets g m c = λ e same.
     let t = c.args.self.now.source.bytes.now in
     let is = same_fault _ _ e (inline_seen _ _ c.deref.ensures c.inline_in.ensures same) in
-    let p = err_from_is_err_and c.from_residual-in_err-variants.result c.from_residual-in_err-variants.ensures.1 in
+    let p = err_from_is_err_and c.from_residual-in_err-end.result c.from_residual-in_err-end.ensures.1 in
     rw (p.1, p.2)
-    (select_fails c.args.self.now.edition t _ e _ is c.in_ok-start.ensures.meets c.in_err-variants.ensures.meets)
+    (select_fails c.args.self.now.edition t _ e _ is c.in_ok-start.ensures.meets c.in_err-end.ensures.meets)
 
 pub get_select-returns-in_err-expression-clause-meets : goal.get_select-returns-in_err-expression-clause-meets
 get_select-returns-in_err-expression-clause-meets g m c = λ e same.
@@ -325,7 +326,7 @@ pub get_select-returns-clause-meets : goal.get_select-returns-clause-meets
 get_select-returns-clause-meets g m c = λ e same.
     let t = c.args.self.now.source.bytes.now in
     let is = same_fault _ _ e (inline_seen _ _ c.deref.ensures c.inline_in.ensures same) in
-    on_made c.in_ok-variants.ensures.meets (λ vs read same_variants. made
+    on_made c.in_ok-end.ensures.meets (λ vs read same_variants. made
     (select_read c.args.self.now.edition t _ e _ is c.in_ok-start.ensures.meets read)
     (c.in_ok-expression.ensures _ same ∙ rw same_variants refl))
 
@@ -436,7 +437,8 @@ get_arguments-returns-then-has-clause-meets g m c =
     let there = inline_seen _ _ c.deref.ensures c.inline_in.ensures same in
     let is = sym (c.in-Some.ensures c.args.nesting _ e read there) in
     let text = sym (argument_text t _ _ e _ read c.in-Some.name is) in
-    item_fails c.loop-noted.invariant.gathered.behind (refused (λ k from to (a, b, d).
+    item_fails c.loop-noted.invariant.gathered.behind
+    (refused {f = fault.Duplicated} {from = c.loop-noted.place} {place = c.in_ok-expression.next} (λ k from to (a, b, d).
     rw (a ∙ ap DuplicatedNamedArgument text, b, d)
     (named t _ (names_in t names) _
     (omega (arith, c.if-place-self.false, c.loop-noted.invariant.within)) (sym c.loop-noted-test.ensures) e _
@@ -564,77 +566,72 @@ get_arguments-returns-clause-within g m c = grind (arith, gets)
 
 -- ---- patterns
 
-pub get_layout-returns-in_err-lines-in-Some-clause-meets :
-    goal.get_layout-returns-in_err-lines-in-Some-clause-meets
-get_layout-returns-in_err-lines-in-Some-clause-meets g m c =
+pub gather_opening-returns-in-Some-clause-opens : goal.gather_opening-returns-in-Some-clause-opens
+gather_opening-returns-in-Some-clause-opens g m c =
+    let t = c.args.self.now.source.bytes.now in
+    let there = record { there = refl } in
+    let blank = c.skip_blank_block.ensures.blank in record {
+      opening = None;
+      same = rw c.requires.empty refl;
+      read = λ ls end h. by_eol t _ _ _ _ c.in-Some.ensures.eol
+          (goes_on (passed there) (goes_on (passed blank) (goes_on h given)));
+      fails = λ e h.
+          fails_seen (layout_at t _) _ c.in-Some.ensures.eol
+          (fails_next functional_reaches (passed there)
+          (fails_next (functional_blank_block t) (passed blank) (fails_first h)));
+    }
+
+pub gather_opening-returns-in_err-end-clause-opens : goal.gather_opening-returns-in_err-end-clause-opens
+gather_opening-returns-in_err-end-clause-opens g m c =
     let t = c.args.self.now.source.bytes.now in
     let p = err_from_is_err_and c.from_residual.result c.from_residual.ensures.1 in
-    rw (p.1, p.2)
-    (fails_seen (layout_at t _) _ c.in-Some.ensures.eol
-    (fails_next functional_reaches (passed (record { there = refl }))
-    (fails_next (functional_blank_block t) (passed c.skip_blank_block-first.ensures.blank)
-    (fails_first c.in_err-lines-in-Some.ensures.meets))))
-
-pub get_layout-returns-in_ok-lines-in-Some-clause-meets : goal.get_layout-returns-in_ok-lines-in-Some-clause-meets
-get_layout-returns-in_ok-lines-in-Some-clause-meets g m c =
-    on_made c.in_ok-lines-in-Some.ensures.meets (λ ls read same. made
-    (by_eol c.args.self.now.source.bytes.now _ _ _ _ c.in-Some.ensures.eol
-    (goes_on (passed (record { there = refl }))
-    (goes_on (passed c.skip_blank_block-first.ensures.blank)
-    (goes_on read
-    given))))
-    (rw same refl))
-
-pub get_layout-returns-in_err-pieces-in-None-clause-meets :
-    goal.get_layout-returns-in_err-pieces-in-None-clause-meets
-get_layout-returns-in_err-pieces-in-None-clause-meets g m c =
-    let t = c.args.self.now.source.bytes.now in
-    let p = err_from_is_err_and c.from_residual-in_err-pieces-in-None.result
-    c.from_residual-in_err-pieces-in-None.ensures.1 in
     rw (p.1, p.2)
     (fails_seen (layout_at t _) _ c.in-None.ensures.eol
-    (fails_next functional_here at_place
-    (fails_first c.in_err-pieces-in-None.ensures.meets)))
+    (fails_next functional_here at_place (fails_first c.in_err-end.ensures.meets)))
 
-pub get_layout-returns-in_err-lines-in-None-clause-meets : goal.get_layout-returns-in_err-lines-in-None-clause-meets
-get_layout-returns-in_err-lines-in-None-clause-meets g m c =
+pub gather_opening-returns-clause-opens : goal.gather_opening-returns-clause-opens
+gather_opening-returns-clause-opens g m c =
     let t = c.args.self.now.source.bytes.now in
-    let p = err_from_is_err_and c.from_residual-in_err-lines-in-None.result
-    c.from_residual-in_err-lines-in-None.ensures.1 in
-    rw (p.1, p.2)
-    (on_made c.in_ok-pieces-in-None.ensures.meets (λ ps read same.
-    fails_seen (layout_at t _) _ c.in-None.ensures.eol
-    (fails_next functional_here at_place
-    (fails_next (functional_pieces t _ (functional_within c.args.self.now.edition t _)) read
-    (fails_next (functional_ending t) c.get_ending-ending.ensures.meets
-    (fails_first c.in_err-lines-in-None.ensures.meets))))))
+    let v = g.M.MakeTexts.made in
+    let R = within c.args.self.now.edition t c.args.nesting in
+    let ends = c.get_ending-ending.ensures.meets in
+    let end = ending_view c.get_ending-ending.result.0 in
+    on_made c.in_ok-end.ensures.meets (λ ps there same. record {
+      opening = Some (record { start = c.args.ptr; spaces = 0; pieces = ps; ending = end });
+      same =
+          opening_viewed v c.gather_pieces-end.new.pieces.items c.end_opening.new.pieces.items end
+          c.in_ok-end_opening.ensures ∙ ap (λ xs. with_ending xs end) same;
+      read = λ ls last h. by_eol t _ _ _ _ c.in-None.ensures.eol
+          (goes_on at_place (goes_on there (goes_on ends (goes_on h given))));
+      fails = λ e h.
+          fails_seen (layout_at t _) _ c.in-None.ensures.eol
+          (fails_next functional_here at_place
+          (fails_next (functional_pieces t R (functional_within c.args.self.now.edition t _)) there
+          (fails_next (functional_ending t) ends (fails_first h))));
+    })
 
-pub get_layout-returns-in_ok-lines-in-None-clause-meets : goal.get_layout-returns-in_ok-lines-in-None-clause-meets
-get_layout-returns-in_ok-lines-in-None-clause-meets g m c =
-    on_made c.in_ok-pieces-in-None.ensures.meets (λ ps read same.
-    on_made c.in_ok-lines-in-None.ensures.meets (λ ls read_lines same_lines. made
-    (by_eol c.args.self.now.source.bytes.now _ _ _ _ c.in-None.ensures.eol
-    (goes_on at_place
-    (goes_on read
-    (goes_on c.get_ending-ending.ensures.meets
-    (goes_on read_lines
-    given)))))
-    (rw (same, same_lines) refl)))
-
-pub get_long_pattern-returns-in_err-layout-clause-meets : goal.get_long_pattern-returns-in_err-layout-clause-meets
-get_long_pattern-returns-in_err-layout-clause-meets g m c =
+pub get_long_pattern-returns-in_err-next-clause-meets : goal.get_long_pattern-returns-in_err-next-clause-meets
+get_long_pattern-returns-in_err-next-clause-meets g m c =
     let t = c.args.self.now.source.bytes.now in
     let p = err_from_is_err_and c.from_residual.result c.from_residual.ensures.1 in
+    rw (p.1, p.2)
+    (fails_first (fails_next (functional_inline_blank t) (passed c.requires.blank) c.in_err-next.ensures.opens))
+
+pub get_long_pattern-returns-in_err-end-clause-meets : goal.get_long_pattern-returns-in_err-end-clause-meets
+get_long_pattern-returns-in_err-end-clause-meets g m c =
+    let t = c.args.self.now.source.bytes.now in
+    let p = err_from_is_err_and c.from_residual-in_err-end.result c.from_residual-in_err-end.ensures.1 in
     rw (p.1, p.2)
     (fails_first
     (fails_next (functional_inline_blank t) (passed c.requires.blank)
-    c.in_err-layout.ensures.meets))
+    (c.in_ok-next.ensures.opens.fails _ c.in_err-end.ensures.meets)))
 
 pub get_long_pattern-returns-clause-meets : goal.get_long_pattern-returns-clause-meets
 get_long_pattern-returns-clause-meets g m c =
-    on_made c.in_ok-layout.ensures.meets (λ y read same. made
-    (goes_on (goes_on (passed c.requires.blank) read) given)
-    (c.in_ok-pattern.ensures y same))
+    let opened = c.in_ok-next.ensures.opens in
+    on_made c.in_ok-end.ensures.meets (λ ls there same. made
+    (goes_on (goes_on (passed c.requires.blank) (opened.read ls _ there)) given)
+    (c.in_ok-pattern.ensures (record { opening = opened.opening; lines = ls }) opened.same same))
 
 pub get_pattern-returns-in-Some-clause-meets : goal.get_pattern-returns-in-Some-clause-meets
 get_pattern-returns-in-Some-clause-meets g m c =
@@ -651,16 +648,16 @@ get_pattern-returns-in-None-clause-meets g m c = c.get_long_pattern.ensures.meet
 
 -- ---- variants
 
-pub get_variants-returns-then-star-clause-meets : goal.get_variants-returns-then-star-clause-meets
-get_variants-returns-then-star-clause-meets g m c =
+pub gather_variants-returns-then-star-clause-meets : goal.gather_variants-returns-then-star-clause-meets
+gather_variants-returns-then-star-clause-meets g m c =
     item_fails c.loop-starred.invariant.gathered.behind (refused (λ k from to (a, b, d). rw (a, b, d)
     (goes_on c.take_byte_if-star.ensures.meets
     (stops
     (first (both c.if-starred.true c.if-star.true)
     (failed refl))))))
 
-pub get_variants-returns-then-has_default-clause-meets : goal.get_variants-returns-then-has_default-clause-meets
-get_variants-returns-then-has_default-clause-meets g m c =
+pub gather_variants-returns-then-has_default-clause-meets : goal.gather_variants-returns-then-has_default-clause-meets
+gather_variants-returns-then-has_default-clause-meets g m c =
     all_variants g.M.MakeTexts.made _ c.loop-starred.invariant.gathered
     (goes_on c.take_byte_if-star.ensures.meets
     (goes_on (second (one_false _ _ c.else-starred.either) given)
@@ -669,8 +666,8 @@ get_variants-returns-then-has_default-clause-meets g m c =
     (first (sym c.if-has_default.ensures)
     given)))))
 
-pub get_variants-returns-then-not-bracket-clause-meets : goal.get_variants-returns-then-not-bracket-clause-meets
-get_variants-returns-then-not-bracket-clause-meets g m c =
+pub gather_variants-returns-then-not-bracket-clause-meets : goal.gather_variants-returns-then-not-bracket-clause-meets
+gather_variants-returns-then-not-bracket-clause-meets g m c =
     item_fails c.loop-starred.invariant.gathered.behind (refused (λ k from to (a, b, d). rw (a, b, d)
     (goes_on c.take_byte_if-star.ensures.meets
     (goes_on (second (one_false _ _ c.else-starred.either) given)
@@ -679,8 +676,8 @@ get_variants-returns-then-not-bracket-clause-meets g m c =
     (second (sym c.if-has_default.ensures)
     (failed refl))))))))
 
-pub get_variants-returns-in_err-key-clause-meets : goal.get_variants-returns-in_err-key-clause-meets
-get_variants-returns-in_err-key-clause-meets g m c =
+pub gather_variants-returns-in_err-key-clause-meets : goal.gather_variants-returns-in_err-key-clause-meets
+gather_variants-returns-in_err-key-clause-meets g m c =
     let p = err_from_is_err_and c.from_residual.result c.from_residual.ensures.1 in
     rw (p.1, p.2) (item_fails c.loop-starred.invariant.gathered.behind (refused (λ k from to h.
     (goes_on c.take_byte_if-star.ensures.meets
@@ -690,8 +687,8 @@ get_variants-returns-in_err-key-clause-meets g m c =
     (goes_on (passed c.skip_blank-start.ensures.blank)
     (stops (c.in_err-key.ensures.meets k from to h))))))))))
 
-pub get_variants-returns-in_err-next-clause-meets : goal.get_variants-returns-in_err-next-clause-meets
-get_variants-returns-in_err-next-clause-meets g m c =
+pub gather_variants-returns-in_err-next-clause-meets : goal.gather_variants-returns-in_err-next-clause-meets
+gather_variants-returns-in_err-next-clause-meets g m c =
     let p = err_from_is_err_and c.from_residual-in_err-next.result c.from_residual-in_err-next.ensures.1 in
     rw (p.1, p.2) (item_fails c.loop-starred.invariant.gathered.behind (refused (λ k from to h.
     (goes_on c.take_byte_if-star.ensures.meets
@@ -703,9 +700,9 @@ get_variants-returns-in_err-next-clause-meets g m c =
     (goes_on (passed c.skip_blank-next.ensures.blank)
     (stops (c.in_err-next.ensures.meets k from to h))))))))))))
 
-pub get_variants-returns-in_err-value-clause-meets :
-    goal.get_variants-returns-in_err-value-clause-meets
-get_variants-returns-in_err-value-clause-meets g m c =
+pub gather_variants-returns-in_err-value-clause-meets :
+    goal.gather_variants-returns-in_err-value-clause-meets
+gather_variants-returns-in_err-value-clause-meets g m c =
     let t = c.args.self.now.source.bytes.now in
     let p = err_from_is_err_and c.from_residual-in_err-value.result c.from_residual-in_err-value.ensures.1 in
     rw (p.1, p.2)
@@ -721,8 +718,8 @@ get_variants-returns-in_err-value-clause-meets g m c =
     (fails_next (functional_token t right_bracket) c.in_ok-next.ensures.meets
     (fails_first c.in_err-value.ensures.meets))))))))))
 
-pub get_variants-returns-in_default-clause-meets : goal.get_variants-returns-in_default-clause-meets
-get_variants-returns-in_default-clause-meets g m c =
+pub gather_variants-returns-in_default-clause-meets : goal.gather_variants-returns-in_default-clause-meets
+gather_variants-returns-in_default-clause-meets g m c =
     let t = c.args.self.now.source.bytes.now in
     let found = rw c.in_default.is at c.in_ok-value.ensures.meets in
     let value_read = pattern c.args.self.now.edition t (within c.args.self.now.edition t c.args.nesting) in
@@ -740,12 +737,12 @@ get_variants-returns-in_default-clause-meets g m c =
     (goes_on none
     (failed refl)))))))))))))
 
-pub get_variants-loop-starred-preserved : goal.get_variants-loop-starred-preserved
-get_variants-loop-starred-preserved g m c =
+pub gather_variants-loop-starred-preserved : goal.gather_variants-loop-starred-preserved
+gather_variants-loop-starred-preserved g m c =
     let t = c.args.self.now.source.bytes.now in
     let found = rw c.in-Some.is at c.in_ok-value.ensures.meets in
     let old = c.loop-starred in
-    let new = variant_with c.in_ok-key-2.key c.in-Some.value c.take_byte_if-star.result.0 in
+    let added = c.in_ok-add_variant.ensures in
     let value_read = pattern c.args.self.now.edition t (within c.args.self.now.edition t c.args.nesting) in
     on_made found (λ o read same.
     on_value (pattern_map (g.M.MakeTexts.source c.args.self.now.texts.now)) value_read o read same
@@ -765,7 +762,7 @@ get_variants-loop-starred-preserved g m c =
           );
       within = c.skip_blank-place.ensures.within;
       gathered =
-          variant_made g.M.MakeTexts.made _ _ new c.in_ok-push.ensures.items old.invariant.gathered
+          variant_made g.M.MakeTexts.made _ _ added.0 added.1 old.invariant.gathered
           (functional_next_variant c.args.self.now.edition t _ (functional_within c.args.self.now.edition t _)
           old.starred)
           (variant (key_view (λ s. s) c.in_ok-key.key) value c.take_byte_if-star.result.0) _
@@ -780,53 +777,53 @@ get_variants-loop-starred-preserved g m c =
           (goes_on there
           (goes_on (passed c.skip_blank-place.ensures.blank)
           given))))))))))
-          (view-Variant g.M.MakeTexts.made new ∙ rw (c.in_ok-key-2.ensures, same_value) refl);
+          (added.2 ∙ rw same_value refl);
     }))
 
 -- ---- pieces
 
-pub get_pieces-returns-in-None-clause-meets : goal.get_pieces-returns-in-None-clause-meets
-get_pieces-returns-in-None-clause-meets g m c =
-    all_made (piece_view g.M.MakeTexts.made) _ c.loop-pieces.invariant.gathered (end_pieces
+pub gather_pieces-returns-in-None-clause-meets : goal.gather_pieces-returns-in-None-clause-meets
+gather_pieces-returns-in-None-clause-meets g m c =
+    all_made (piece_view g.M.MakeTexts.made) _ c.loop-place.invariant.gathered (end_pieces
     c.args.self.now.source.bytes.now
     (within c.args.self.now.edition c.args.self.now.source.bytes.now c.args.nesting) _ (sym c.in-None.ensures))
 
-pub get_pieces-returns-then-is_eol_at-clause-meets : goal.get_pieces-returns-then-is_eol_at-clause-meets
-get_pieces-returns-then-is_eol_at-clause-meets g m c =
-    all_made (piece_view g.M.MakeTexts.made) _ c.loop-pieces.invariant.gathered
+pub gather_pieces-returns-then-is_eol_at-clause-meets : goal.gather_pieces-returns-then-is_eol_at-clause-meets
+gather_pieces-returns-then-is_eol_at-clause-meets g m c =
+    all_made (piece_view g.M.MakeTexts.made) _ c.loop-place.invariant.gathered
     (no_pieces c.args.self.now.source.bytes.now (within c.args.self.now.edition c.args.self.now.source.bytes.now
     c.args.nesting) _ _
     (sym c.in-Some.ensures) (λ e. cc) (sym c.if-is_eol_at.ensures))
 
-pub get_pieces-returns-then-byte-eq125-clause-meets : goal.get_pieces-returns-then-byte-eq125-clause-meets
-get_pieces-returns-then-byte-eq125-clause-meets g m c =
-    item_fails c.loop-pieces.invariant.gathered.behind (refused (λ k from to (a, b, d). rw (a, b, d)
+pub gather_pieces-returns-then-byte-eq125-clause-meets : goal.gather_pieces-returns-then-byte-eq125-clause-meets
+gather_pieces-returns-then-byte-eq125-clause-meets g m c =
+    item_fails c.loop-place.invariant.gathered.behind (refused (λ k from to (a, b, d). rw (a, b, d)
     (bare_brace c.args.self.now.source.bytes.now (within c.args.self.now.edition c.args.self.now.source.bytes.now
     c.args.nesting) _ _
     (sym c.in-Some.ensures) (sym c.if-is_eol_at.ensures)
     c.if-byte-eq125.true)))
 
-pub get_pieces-returns-in_err-expression-in-Some-clause-meets :
-    goal.get_pieces-returns-in_err-expression-in-Some-clause-meets
-get_pieces-returns-in_err-expression-in-Some-clause-meets g m c =
+pub gather_pieces-returns-in_err-expression-in-Some-clause-meets :
+    goal.gather_pieces-returns-in_err-expression-in-Some-clause-meets
+gather_pieces-returns-in_err-expression-in-Some-clause-meets g m c =
     let p = err_from_is_err_and c.from_residual.result c.from_residual.ensures.1 in
     rw (p.1, p.2)
-    (item_fails c.loop-pieces.invariant.gathered.behind
+    (item_fails c.loop-place.invariant.gathered.behind
     (placed_fails c.args.self.now.source.bytes.now (within c.args.self.now.edition c.args.self.now.source.bytes.now
     c.args.nesting) _ _
     (sym c.in-Some.ensures) (sym c.if-is_eol_at.ensures)
     c.if-byte-eq123.true (fails_first c.in_err-expression-in-Some.ensures.meets)))
 
-pub get_pieces-loop-pieces-preserved-then-byte-eq123 : goal.get_pieces-loop-pieces-preserved-then-byte-eq123
-get_pieces-loop-pieces-preserved-then-byte-eq123 g m c =
+pub gather_pieces-loop-place-preserved-then-byte-eq123 : goal.gather_pieces-loop-place-preserved-then-byte-eq123
+gather_pieces-loop-place-preserved-then-byte-eq123 g m c =
     let t = c.args.self.now.source.bytes.now in
     let read = c.in_ok-expression-in-Some.ensures in
     on_made read.meets (λ e there same. record {
-      forward = omega (arith, c.loop-pieces.invariant.forward, read.within.0);
+      forward = omega (arith, c.loop-place.invariant.forward, read.within.0);
       within = read.within.1;
       gathered =
-          item_made (piece_view g.M.MakeTexts.made) _ _ _ c.in_ok-push-in-Some.ensures.items
-          c.loop-pieces.invariant.gathered
+          item_made (piece_view g.M.MakeTexts.made) _ _ _ c.in_ok-add_placed-in-Some.ensures
+          c.loop-place.invariant.gathered
           (functional_next_piece t (within c.args.self.now.edition t c.args.nesting)
           (functional_within c.args.self.now.edition t _)) _
           (placed_piece t (within c.args.self.now.edition t c.args.nesting) _ _ (sym c.in-Some.ensures)
@@ -834,16 +831,16 @@ get_pieces-loop-pieces-preserved-then-byte-eq123 g m c =
           (goes_on there given)) (ap placed same);
     })
 
-pub get_pieces-loop-pieces-preserved : goal.get_pieces-loop-pieces-preserved
-get_pieces-loop-pieces-preserved g m c =
+pub gather_pieces-loop-place-preserved : goal.gather_pieces-loop-place-preserved
+gather_pieces-loop-place-preserved g m c =
     let t = c.args.self.now.source.bytes.now in
     let run = c.run_end-to.ensures.run in
     record {
-      forward = omega (arith, c.loop-pieces.invariant.forward, run.forward);
+      forward = omega (arith, c.loop-place.invariant.forward, run.forward);
       within = c.run_end-to.ensures.within;
       gathered =
-          item_made (piece_view g.M.MakeTexts.made) _ _ _ c.in_ok-push-in-Some-2.ensures.items
-          c.loop-pieces.invariant.gathered
+          item_made (piece_view g.M.MakeTexts.made) _ _ _ c.in_ok-add_run-in-Some.ensures
+          c.loop-place.invariant.gathered
           (functional_next_piece t (within c.args.self.now.edition t c.args.nesting)
           (functional_within c.args.self.now.edition t _)) _
           (run_piece t (within c.args.self.now.edition t c.args.nesting) _ _ (sym c.in-Some.ensures)
@@ -853,68 +850,76 @@ get_pieces-loop-pieces-preserved g m c =
 
 -- ---- lines
 
-pub get_lines-returns-in-None-clause-meets : goal.get_lines-returns-in-None-clause-meets
-get_lines-returns-in-None-clause-meets g m c =
-    all_made (line_view g.M.MakeTexts.made) _ c.loop-lines.invariant.gathered
-    (no_byte c.skip_blank_inline-first.ensures.blank (sym c.in-None.ensures))
-
-pub get_lines-returns-then-not-belongs-clause-meets : goal.get_lines-returns-then-not-belongs-clause-meets
-get_lines-returns-then-not-belongs-clause-meets g m c =
-    all_made (line_view g.M.MakeTexts.made) _ c.loop-lines.invariant.gathered
-    (other_line c.skip_blank_inline-first.ensures.blank (sym c.in-Some.ensures) (sym c.if-not-belongs.ensures))
-
-pub get_lines-returns-in_err-pieces-in-Some-clause-meets :
-    goal.get_lines-returns-in_err-pieces-in-Some-clause-meets
-get_lines-returns-in_err-pieces-in-Some-clause-meets g m c =
+pub gather_line-returns-in_err-end-clause-adds : goal.gather_line-returns-in_err-end-clause-adds
+gather_line-returns-in_err-end-clause-adds g m c =
     let t = c.args.self.now.source.bytes.now in
     let p = err_from_is_err_and c.from_residual.result c.from_residual.ensures.1 in
-    let blank = c.skip_blank_inline-first.ensures.blank in
+    rw (p.1, p.2) (
+      fails_next functional_here at_place
+          (fails_next (functional_inline_blank t) (passed c.requires.blank)
+          (fails_next functional_here at_place
+          (fails_first c.in_err-end.ensures.meets))),
+      refl,
+    )
+
+pub gather_line-returns-in_err-next-clause-adds : goal.gather_line-returns-in_err-next-clause-adds
+gather_line-returns-in_err-next-clause-adds g m c =
+    rw (out_of_memory c.from_residual-in_err-next.result c.from_residual-in_err-next.ensures.1)
+    (no_memory, c.in_err-next.ensures.stays)
+
+pub gather_line-returns-clause-adds : goal.gather_line-returns-clause-adds
+gather_line-returns-clause-adds g m c =
+    let t = c.args.self.now.source.bytes.now in
+    let (added, found, pushed, is, ends) = c.in_ok-next.ensures.adds in
+    on_made c.in_ok-end.ensures.meets (λ ps there same. (
+      added,
+      pushed,
+      made (line_read t (within c.args.self.now.edition t c.args.nesting) _ _ c.requires.blank _ _ _ _ there ends)
+          (is ∙ rw same refl),
+    ))
+
+pub gather_line-returns-clause-within : goal.gather_line-returns-clause-within
+gather_line-returns-clause-within g m c =
+    let pieces = c.in_ok-end.ensures in
+    let next = c.in_ok-next.ensures in
+    let onward =
+    line_onward c.args.self.now.source.bytes.now _ _ _ c.requires.within pieces.within.0 next.within.0 pieces.stops
+    next.further in
+    (omega (arith, onward, c.requires.blank.forward), next.within.1)
+
+pub gather_lines-returns-in-None-clause-meets : goal.gather_lines-returns-in-None-clause-meets
+gather_lines-returns-in-None-clause-meets g m c =
+    all_made (line_view g.M.MakeTexts.made) _ c.loop-start.invariant.gathered
+    (no_byte c.skip_blank_inline-first.ensures.blank (sym c.in-None.ensures))
+
+pub gather_lines-returns-then-not-belongs-clause-meets : goal.gather_lines-returns-then-not-belongs-clause-meets
+gather_lines-returns-then-not-belongs-clause-meets g m c =
+    all_made (line_view g.M.MakeTexts.made) _ c.loop-start.invariant.gathered
+    (other_line c.skip_blank_inline-first.ensures.blank (sym c.in-Some.ensures) (sym c.if-not-belongs.ensures))
+
+pub gather_lines-returns-in_err-start-in-Some-clause-meets :
+    goal.gather_lines-returns-in_err-start-in-Some-clause-meets
+gather_lines-returns-in_err-start-in-Some-clause-meets g m c =
+    let t = c.args.self.now.source.bytes.now in
+    let p = err_from_is_err_and c.from_residual.result c.from_residual.ensures.1 in
     rw (p.1, p.2)
-    (item_fails c.loop-lines.invariant.gathered.behind
-    (own_line_fails t (within c.args.self.now.edition t c.args.nesting) blank (sym c.in-Some.ensures)
-    (sym c.if-not-belongs.ensures)
-    (fails_first
-    (fails_next functional_here at_place
-    (fails_next (functional_inline_blank t) (passed blank)
-    (fails_next functional_here at_place
-    (fails_first c.in_err-pieces-in-Some.ensures.meets)))))))
+    (item_fails c.loop-start.invariant.gathered.behind
+    (own_line_fails t (within c.args.self.now.edition t c.args.nesting) c.skip_blank_inline-first.ensures.blank
+    (sym c.in-Some.ensures) (sym c.if-not-belongs.ensures) (fails_first c.in_err-start-in-Some.ensures.adds.0)))
 
-pub get_lines-returns-in-None-eol_end-clause-meets : goal.get_lines-returns-in-None-eol_end-clause-meets
-get_lines-returns-in-None-eol_end-clause-meets g m c =
+pub gather_lines-loop-start-preserved : goal.gather_lines-loop-start-preserved
+gather_lines-loop-start-preserved g m c =
     let t = c.args.self.now.source.bytes.now in
-    let blank = c.skip_blank_inline-first.ensures.blank in
-    let pieces = c.in_ok-pieces-in-Some.ensures in
-    let none = sym c.in-None-eol_end.ensures.eol in
-    on_made pieces.meets (λ ps there same.
-    let read = line_read t (within c.args.self.now.edition t c.args.nesting) _ _ blank _ _ _ _ there
-    (ends_text t _ none) in
-    all_made (line_view g.M.MakeTexts.made) _
-    (item_made (line_view g.M.MakeTexts.made) _ _ _ c.in_ok-push-in-None-eol_end.ensures.items
-    c.loop-lines.invariant.gathered
-    (functional_next_line t (within c.args.self.now.edition t c.args.nesting)
-    (functional_within c.args.self.now.edition t _)) _
-    (own_line blank (sym c.in-Some.ensures) (sym c.if-not-belongs.ensures) (goes_on read given)) (rw same refl))
-    (no_lines t (within c.args.self.now.edition t c.args.nesting) _ (pieces.stops (after_none t _ none))))
-
-pub get_lines-loop-lines-preserved : goal.get_lines-loop-lines-preserved
-get_lines-loop-lines-preserved g m c =
-    let t = c.args.self.now.source.bytes.now in
-    let blank = c.skip_blank_inline-first.ensures.blank in
-    let pieces = c.in_ok-pieces-in-Some.ensures in
-    let eol = c.in-Some-eol_end.ensures in
-    on_made pieces.meets (λ ps there same.
-    let read = line_read t (within c.args.self.now.edition t c.args.nesting) _ _ blank _ _ _ _ there
-    (ends_line t _ _ (sym eol.eol)) in
-    record {
-      forward = omega (arith, c.loop-lines.invariant.forward, blank.forward, pieces.within.0, eol.within.0);
-      within = eol.within.1;
+    let read = c.in_ok-start-in-Some.ensures in
+    on_made read.adds.2 (λ l there same. record {
+      forward = omega (arith, c.loop-start.invariant.forward, read.within.0);
+      within = read.within.1;
       gathered =
-          item_made (line_view g.M.MakeTexts.made) _ _ _ c.in_ok-push-in-Some-eol_end.ensures.items
-          c.loop-lines.invariant.gathered
+          item_made (line_view g.M.MakeTexts.made) _ _ _ read.adds.1 c.loop-start.invariant.gathered
           (functional_next_line t (within c.args.self.now.edition t c.args.nesting)
           (functional_within c.args.self.now.edition t _)) _
-          (own_line blank (sym c.in-Some.ensures) (sym c.if-not-belongs.ensures) (goes_on read given))
-          (rw (c.ending_at-ending.ensures.seen, same) refl);
+          (own_line c.skip_blank_inline-first.ensures.blank (sym c.in-Some.ensures) (sym c.if-not-belongs.ensures)
+          (goes_on there given)) same;
     })
 
 -- ---- out of memory
@@ -931,18 +936,6 @@ get_arguments-returns-in_err-add_positional-in_default-clause-meets g m c =
     rw (out_of_memory c.from_residual-in_err-add_positional-in_default.result
     c.from_residual-in_err-add_positional-in_default.ensures.1) no_memory
 
-pub get_lines-returns-in_err-push-in-None-eol_end-clause-meets :
-    goal.get_lines-returns-in_err-push-in-None-eol_end-clause-meets
-get_lines-returns-in_err-push-in-None-eol_end-clause-meets g m c =
-    rw (out_of_memory c.from_residual-in_err-push-in-None-eol_end.result
-    c.from_residual-in_err-push-in-None-eol_end.ensures.1) no_memory
-
-pub get_lines-returns-in_err-push-in-Some-eol_end-clause-meets :
-    goal.get_lines-returns-in_err-push-in-Some-eol_end-clause-meets
-get_lines-returns-in_err-push-in-Some-eol_end-clause-meets g m c =
-    rw (out_of_memory c.from_residual-in_err-push-in-Some-eol_end.result
-    c.from_residual-in_err-push-in-Some-eol_end.ensures.1) no_memory
-
 pub get_pattern-returns-in_err-pattern-clause-meets :
     goal.get_pattern-returns-in_err-pattern-clause-meets
 get_pattern-returns-in_err-pattern-clause-meets g m c =
@@ -954,22 +947,22 @@ get_long_pattern-returns-in_err-pattern-clause-meets g m c =
     rw (out_of_memory c.from_residual-in_err-pattern.result
     c.from_residual-in_err-pattern.ensures.1) no_memory
 
-pub get_pieces-returns-in_err-push-in-Some-clause-meets :
-    goal.get_pieces-returns-in_err-push-in-Some-clause-meets
-get_pieces-returns-in_err-push-in-Some-clause-meets g m c =
-    rw (out_of_memory c.from_residual-in_err-push-in-Some.result
-    c.from_residual-in_err-push-in-Some.ensures.1) no_memory
+pub gather_pieces-returns-in_err-add_placed-in-Some-clause-meets :
+    goal.gather_pieces-returns-in_err-add_placed-in-Some-clause-meets
+gather_pieces-returns-in_err-add_placed-in-Some-clause-meets g m c =
+    rw (out_of_memory c.from_residual-in_err-add_placed-in-Some.result
+    c.from_residual-in_err-add_placed-in-Some.ensures.1) no_memory
 
-pub get_pieces-returns-in_err-push-in-Some-2-clause-meets :
-    goal.get_pieces-returns-in_err-push-in-Some-2-clause-meets
-get_pieces-returns-in_err-push-in-Some-2-clause-meets g m c =
-    rw (out_of_memory c.from_residual-in_err-push-in-Some-2.result
-    c.from_residual-in_err-push-in-Some-2.ensures.1) no_memory
+pub gather_pieces-returns-in_err-add_run-in-Some-clause-meets :
+    goal.gather_pieces-returns-in_err-add_run-in-Some-clause-meets
+gather_pieces-returns-in_err-add_run-in-Some-clause-meets g m c =
+    rw (out_of_memory c.from_residual-in_err-add_run-in-Some.result
+    c.from_residual-in_err-add_run-in-Some.ensures.1) no_memory
 
-pub get_variants-returns-in_err-push-clause-meets :
-    goal.get_variants-returns-in_err-push-clause-meets
-get_variants-returns-in_err-push-clause-meets g m c =
-    rw (out_of_memory c.from_residual-in_err-push.result c.from_residual-in_err-push.ensures.1) no_memory
+pub gather_variants-returns-in_err-add_variant-clause-meets :
+    goal.gather_variants-returns-in_err-add_variant-clause-meets
+gather_variants-returns-in_err-add_variant-clause-meets g m c =
+    rw (out_of_memory c.from_residual-in_err-add_variant.result c.from_residual-in_err-add_variant.ensures.1) no_memory
 
 pub get_arguments-returns-in_err-note-in-Some-clause-meets :
     goal.get_arguments-returns-in_err-note-in-Some-clause-meets
@@ -977,11 +970,10 @@ get_arguments-returns-in_err-note-in-Some-clause-meets g m c =
     rw (out_of_memory c.from_residual-in_err-note-in-Some.result
     c.from_residual-in_err-note-in-Some.ensures.1) no_memory
 
-pub get_variants-returns-in_err-key-2-clause-meets :
-    goal.get_variants-returns-in_err-key-2-clause-meets
-get_variants-returns-in_err-key-2-clause-meets g m c =
-    rw (out_of_memory c.from_residual-in_err-key-2.result
-    c.from_residual-in_err-key-2.ensures.1) no_memory
+pub gather_opening-returns-in_err-end_opening-clause-opens : goal.gather_opening-returns-in_err-end_opening-clause-opens
+gather_opening-returns-in_err-end_opening-clause-opens g m c =
+    rw (out_of_memory c.from_residual-in_err-end_opening.result
+    c.from_residual-in_err-end_opening.ensures.1) no_memory
 
 -- ---- where a loop begins
 
@@ -995,38 +987,34 @@ get_arguments-loop-noted-init g m c = record {
   noted = rw c.new-noted.ensures.names c.new-noted.ensures.noted;
 }
 
-pub get_variants-loop-starred-init : goal.get_variants-loop-starred-init
-get_variants-loop-starred-init g m c = record {
+pub gather_variants-loop-starred-init : goal.gather_variants-loop-starred-init
+gather_variants-loop-starred-init g m c = record {
   forward = omega arith;
-  within = c.requires;
-  gathered = rw c.new-variants.ensures.items (no_variant g.M.MakeTexts.made);
+  within = c.requires.within;
+  gathered = rw c.requires.empty (no_variant g.M.MakeTexts.made);
 }
 
-pub get_pieces-loop-pieces-init : goal.get_pieces-loop-pieces-init
-get_pieces-loop-pieces-init g m c = record {
+pub gather_pieces-loop-place-init : goal.gather_pieces-loop-place-init
+gather_pieces-loop-place-init g m c = record {
   forward = omega arith;
-  within = c.requires;
-  gathered = rw c.new-pieces.ensures.items (no_items (piece_view g.M.MakeTexts.made));
+  within = c.requires.within;
+  gathered = rw c.requires.empty (no_items (piece_view g.M.MakeTexts.made));
 }
 
-pub get_lines-loop-lines-init : goal.get_lines-loop-lines-init
-get_lines-loop-lines-init g m c = record {
+pub gather_lines-loop-start-init : goal.gather_lines-loop-start-init
+gather_lines-loop-start-init g m c = record {
   forward = omega arith;
-  within = c.requires;
-  gathered = rw c.new-lines.ensures.items (no_items (line_view g.M.MakeTexts.made));
+  within = c.requires.within;
+  gathered = rw c.requires.empty (no_items (line_view g.M.MakeTexts.made));
 }
 
 -- ---- numbers
 
-pub get_pieces-loop-pieces-smaller : goal.get_pieces-loop-pieces-smaller
-get_pieces-loop-pieces-smaller g m c =
+pub gather_pieces-loop-place-smaller : goal.gather_pieces-loop-place-smaller
+gather_pieces-loop-place-smaller g m c =
     let t = c.args.self.now.source.bytes.now in
     let run = c.run_end-to.ensures.run in
     let there = run_there t (within c.args.self.now.edition t c.args.nesting) _ _ (sym c.in-Some.ensures)
     (sym c.if-is_eol_at.ensures) c.if-byte-eq125.false c.if-byte-eq123.false in
-    let longer = further (is_run_place t) c.loop-pieces.place c.run_end-to.result run there in
+    let longer = further (is_run_place t) c.loop-place.place c.run_end-to.result run there in
     omega (arith, longer, c.run_end-to.ensures.within)
-
-pub get_lines-invariant_of-push-in-Some-eol_end-clause-ends :
-    goal.get_lines-invariant_of-push-in-Some-eol_end-clause-ends
-get_lines-invariant_of-push-in-Some-eol_end-clause-ends g m c = c.ending_at-ending.ensures.ends

@@ -34,14 +34,17 @@ decreases-get_argument_value g l = 10 * l.nesting + 3
 abbrev pub decreases-get_arguments : goal.decreases-get_arguments
 decreases-get_arguments g l = 10 * l.nesting + 4
 
-abbrev pub decreases-get_pieces : goal.decreases-get_pieces
-decreases-get_pieces g l = 10 * l.nesting + 1
+abbrev pub decreases-gather_pieces : goal.decreases-gather_pieces
+decreases-gather_pieces g l = 10 * l.nesting + 1
 
-abbrev pub decreases-get_lines : goal.decreases-get_lines
-decreases-get_lines g l = 10 * l.nesting + 2
+abbrev pub decreases-gather_lines : goal.decreases-gather_lines
+decreases-gather_lines g l = 10 * l.nesting + 3
 
-abbrev pub decreases-get_layout : goal.decreases-get_layout
-decreases-get_layout g l = 10 * l.nesting + 3
+abbrev pub decreases-gather_line : goal.decreases-gather_line
+decreases-gather_line g l = 10 * l.nesting + 2
+
+abbrev pub decreases-gather_opening : goal.decreases-gather_opening
+decreases-gather_opening g l = 10 * l.nesting + 2
 
 abbrev pub decreases-get_pattern : goal.decreases-get_pattern
 decreases-get_pattern g l = 10 * l.nesting + 5
@@ -49,8 +52,8 @@ decreases-get_pattern g l = 10 * l.nesting + 5
 abbrev pub decreases-get_long_pattern : goal.decreases-get_long_pattern
 decreases-get_long_pattern g l = 10 * l.nesting + 4
 
-abbrev pub decreases-get_variants : goal.decreases-get_variants
-decreases-get_variants g l = 10 * l.nesting + 6
+abbrev pub decreases-gather_variants : goal.decreases-gather_variants
+decreases-gather_variants g l = 10 * l.nesting + 6
 
 abbrev pub decreases-get_expression : goal.decreases-get_expression
 decreases-get_expression g l = 10 * l.nesting + 8
@@ -78,8 +81,8 @@ invariant-get_arguments-loop-noted g l =
 abbrev pub decreases-get_arguments-loop-noted : goal.decreases-get_arguments-loop-noted
 decreases-get_arguments-loop-noted g l = length l.self.source.bytes.now - l.place
 
-abbrev pub invariant-get_variants-loop-starred : goal.invariant-get_variants-loop-starred
-invariant-get_variants-loop-starred g l =
+abbrev pub invariant-gather_variants-loop-starred : goal.invariant-gather_variants-loop-starred
+invariant-gather_variants-loop-starred g l =
     let t = l.self.source.bytes.now in
     record {
       forward : l.ptr ≤ l.place;
@@ -89,11 +92,11 @@ invariant-get_variants-loop-starred g l =
           (g.M.MakeTexts.source l.self.texts.now) g.M.MakeTexts.made l.ptr l.variants.items l.starred l.place;
     }
 
-abbrev pub decreases-get_variants-loop-starred : goal.decreases-get_variants-loop-starred
-decreases-get_variants-loop-starred g l = length l.self.source.bytes.now - l.place
+abbrev pub decreases-gather_variants-loop-starred : goal.decreases-gather_variants-loop-starred
+decreases-gather_variants-loop-starred g l = length l.self.source.bytes.now - l.place
 
-abbrev pub invariant-get_pieces-loop-pieces : goal.invariant-get_pieces-loop-pieces
-invariant-get_pieces-loop-pieces g l =
+abbrev pub invariant-gather_pieces-loop-place : goal.invariant-gather_pieces-loop-place
+invariant-gather_pieces-loop-place g l =
     let t = l.self.source.bytes.now in
     record {
       forward : l.ptr ≤ l.place;
@@ -104,11 +107,11 @@ invariant-get_pieces-loop-pieces g l =
           l.place;
     }
 
-abbrev pub decreases-get_pieces-loop-pieces : goal.decreases-get_pieces-loop-pieces
-decreases-get_pieces-loop-pieces g l = length l.self.source.bytes.now - l.place
+abbrev pub decreases-gather_pieces-loop-place : goal.decreases-gather_pieces-loop-place
+decreases-gather_pieces-loop-place g l = length l.self.source.bytes.now - l.place
 
-abbrev pub invariant-get_lines-loop-lines : goal.invariant-get_lines-loop-lines
-invariant-get_lines-loop-lines g l =
+abbrev pub invariant-gather_lines-loop-start : goal.invariant-gather_lines-loop-start
+invariant-gather_lines-loop-start g l =
     let t = l.self.source.bytes.now in
     record {
       forward : l.ptr ≤ l.start;
@@ -119,5 +122,5 @@ invariant-get_lines-loop-lines g l =
           l.start;
     }
 
-abbrev pub decreases-get_lines-loop-lines : goal.decreases-get_lines-loop-lines
-decreases-get_lines-loop-lines g l = length l.self.source.bytes.now - l.start
+abbrev pub decreases-gather_lines-loop-start : goal.decreases-gather_lines-loop-start
+decreases-gather_lines-loop-start g l = length l.self.source.bytes.now - l.start

@@ -13,6 +13,7 @@ use Rattle.fluent_syntax_parser.proofs.reader.Reader.add_message.Goals.{else-is_
 use Rattle.fluent_syntax_parser.proofs.reader.Reader.add_message.Goals.{else-is_none-via-else-is_none}
 use Rattle.fluent_syntax_grammar.proofs.FunctionalWords.{functional_identifier}
 use Rattle.fluent_syntax_parser.specs.Meets.{no_memory, refused}
+use Rattle.fluent_syntax_parser.specs.declared.fault.Fault.TheVariants as fault
 use Rattle.fluent_syntax_parser.specs.Made.{made}
 use Rattle.fluent_syntax_parser.proofs.readers.Made.{on_made}
 use Rattle.fluent_syntax_parser.proofs.readers.Fails.{fails_next, functional_here, out_of_memory}
@@ -45,7 +46,8 @@ returns-then-is_empty-clause-adds g c =
     let none = no_items found.attributes.items _ size c.if-is_empty.ensures in
     let text = sym (identifier_text t c.in_ok-end.ensures.meets) in
     on_made c.in_ok-fields.ensures.meets (λ x read same. (
-      refused (λ k from to (a, b, d). rw (a ∙ ap ExpectedMessageField text, b, d)
+      refused {f = fault.MessageField} {from = c.args.start} {place = c.in_ok-fields.place} (λ k from to (a, b, d).
+          rw (a ∙ ap ExpectedMessageField text, b, d)
           (goes_on at_place
           (goes_on c.in_ok-end.ensures.meets
           (fields_then c.args.self.now.edition t _ (message_with t c.args.start name) _ _ x _ read

@@ -11,6 +11,7 @@ use Rattle.fluent_syntax_parser.proofs.entry_forms.FieldForms.{fields_fail, fiel
 use Rattle.fluent_syntax_grammar.specs.Bytes.{hyphen}
 use Rattle.fluent_syntax_grammar.proofs.FunctionalWords.{functional_identifier, functional_token}
 use Rattle.fluent_syntax_parser.specs.Meets.{no_memory, refused}
+use Rattle.fluent_syntax_parser.specs.declared.fault.Fault.TheVariants as fault
 use Rattle.fluent_syntax_parser.specs.Made.{made}
 use Rattle.fluent_syntax_parser.proofs.readers.Made.{on_made}
 use Rattle.fluent_syntax_parser.proofs.readers.Fails.{fails_next, functional_here, out_of_memory}
@@ -84,7 +85,8 @@ returns-in-None-clause-adds g c =
     let text = sym (identifier_text t c.in_ok-end.ensures.meets) in
     let before = mark_before t c.in_ok-letter.ensures.meets in
     on_made found (λ x read same. (
-      refused (λ k from to (a, b, d). rw (a ∙ ap ExpectedTermField text, b ∙ before, d)
+      refused {f = fault.TermField} {from = c.in_ok-letter.letter} {place = c.in_ok-fields.place} (λ k from to (a, b, d).
+          rw (a ∙ ap ExpectedTermField text, b ∙ before, d)
           (goes_on at_place
           (goes_on c.in_ok-letter.ensures.meets
           (goes_on c.in_ok-end.ensures.meets

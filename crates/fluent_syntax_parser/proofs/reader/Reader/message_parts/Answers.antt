@@ -9,6 +9,7 @@ use Rattle.fluent_syntax_grammar.specs.Grammar.{within}
 use Rattle.fluent_syntax_grammar.proofs.FunctionalWords.{functional_identifier}
 use Rattle.fluent_syntax_parser.specs.Extents.{message_stands}
 use Rattle.fluent_syntax_parser.specs.Meets.{refused}
+use Rattle.fluent_syntax_parser.specs.declared.fault.Fault.TheVariants as fault
 use Rattle.fluent_syntax_parser.proofs.entry_forms.ExtentForms.{fields_there, no_attribute_extents, no_attributes}
 use Rattle.fluent_syntax_parser.proofs.entry_forms.ExtentForms.{same_value}
 use Rattle.fluent_syntax_parser.proofs.readers.Fails.{fails_next, functional_here}
@@ -46,7 +47,8 @@ returns-then-is_empty g c =
     let none = no_items found.attributes.items _ size c.if-is_empty.ensures in
     let text = sym (identifier_text t c.in_ok-end.ensures.meets) in
     let (f, stand) = found.ensures in
-    refused (λ k from to (a, b, d). rw (a ∙ ap ExpectedMessageField text, b, d)
+    refused {f = fault.MessageField} {from = c.args.start} {place = found.place} (λ k from to (a, b, d).
+    rw (a ∙ ap ExpectedMessageField text, b, d)
     (goes_on at_place
     (goes_on c.in_ok-end.ensures.meets
     (fields_then edition t R (message_with t c.args.start name) _ _ f _

@@ -9,6 +9,7 @@ use Rattle.fluent_syntax_grammar.specs.Grammar.{within}
 use Rattle.fluent_syntax_grammar.proofs.FunctionalWords.{functional_identifier, functional_token}
 use Rattle.fluent_syntax_parser.specs.Extents.{term_stands}
 use Rattle.fluent_syntax_parser.specs.Meets.{refused}
+use Rattle.fluent_syntax_parser.specs.declared.fault.Fault.TheVariants as fault
 use Rattle.fluent_syntax_parser.proofs.entry_forms.ExtentForms.{fields_there, with_value, without_value}
 use Rattle.fluent_syntax_parser.proofs.readers.Fails.{fails_next, functional_here}
 use Rattle.fluent_syntax_parser.proofs.entry_forms.FieldForms.{fields_fail, fields_then}
@@ -49,7 +50,8 @@ returns-then-is_none g c =
     let (f, stand) = found.ensures in
     let text = sym (identifier_text t c.in_ok-end.ensures.meets) in
     let before = mark_before t c.in_ok-letter.ensures.meets in
-    refused (λ k from to (a, b, d). rw (a ∙ ap ExpectedTermField text, b ∙ before, d)
+    refused {f = fault.TermField} {from = c.in_ok-letter.letter} {place = found.place} (λ k from to (a, b, d).
+    rw (a ∙ ap ExpectedTermField text, b ∙ before, d)
     (goes_on at_place
     (goes_on c.in_ok-letter.ensures.meets
     (goes_on c.in_ok-end.ensures.meets
