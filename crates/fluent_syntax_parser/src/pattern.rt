@@ -148,13 +148,15 @@ impl<'s, 't, M: MakeTexts> Reader<'s, 't, M> {
             Opens t (within self.now.edition t nesting) (M.source self.now.texts.now) M.made ptr items.new.items result }
         ensures within { IfOk result (λ next. (ptr ≤ next) × (next ≤ length self.now.source.bytes.now)) }
     {
-        if let Some(next) = self.source.eol_end(ptr) {
-            return Ok(self.source.skip_blank_block(next));
+        match self.source.eol_end(ptr) {
+            Some(next) => Ok(self.source.skip_blank_block(next)),
+            None => {
+                let end = self.gather_pieces(nesting, ptr, items)?;
+                let (ending, next) = self.source.get_ending(end);
+                end_opening(ending, items)?;
+                Ok(next)
+            }
         }
-        let end = self.gather_pieces(nesting, ptr, items)?;
-        let (ending, next) = self.source.get_ending(end);
-        end_opening(ending, items)?;
-        Ok(next)
     }
 
     /// Reads a pattern that does not stand on one line, or that has a placeable. The inline blank that opens it ends at

@@ -72,11 +72,11 @@ further test i j w here =
     omega (arith, w.forward, apart)
 
 -- a line is not empty where a byte stands in it
-pub line_onward : (t : List ℕ) (first end next : ℕ) → first < length t → first ≤ end → end ≤ next →
-    (has_eol t end ≡ false → slice_get t end ≡ None) → (has_eol t end ≡ true → end < next) → first < next
-line_onward t first end next inside forward on stops further = by (has_eol t end) refl
+pub line_onward : (t : List ℕ) (from end next : ℕ) → from < length t → from ≤ end → end ≤ next →
+    (has_eol t end ≡ false → slice_get t end ≡ None) → (has_eol t end ≡ true → end < next) → from < next
+line_onward t from end next inside forward on stops further = by (has_eol t end) refl
   where
-    by : (b : Bool) → has_eol t end ≡ b → first < next
+    by : (b : Bool) → has_eol t end ≡ b → from < next
     by true e = omega (arith, further e)
     by false e =
         let past : end < length t → ⊥ = λ l. let some = slice_get-get_or t end 0 l in let none = stops e in cc in

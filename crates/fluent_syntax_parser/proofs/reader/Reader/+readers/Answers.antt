@@ -37,7 +37,8 @@ use Rattle.fluent_syntax_grammar.proofs.FunctionalWords.{functional_identifier}
 use Rattle.fluent_syntax_grammar.proofs.FunctionalWords.{functional_inline_blank, functional_optional, functional_token}
 use Rattle.fluent_syntax_grammar.proofs.Nesting.{functional_within}
 use Rattle.fluent_syntax_parser.specs.Layouts.{placed}
-use Rattle.fluent_syntax_parser.specs.Lines.{line_view, piece_view}
+use Rattle.fluent_syntax_parser.specs.Layouts.{with_ending}
+use Rattle.fluent_syntax_parser.specs.Lines.{ending_view, line_view, piece_view}
 use Rattle.fluent_syntax_parser.specs.Made.{made}
 use Rattle.fluent_syntax_parser.specs.Meets.{no_memory, refused, too_deep}
 use Rattle.fluent_syntax_parser.specs.declared.fault.Fault.TheVariants as fault
@@ -62,7 +63,8 @@ use Rattle.fluent_syntax_parser.proofs.expressions.InlineStarts.{value_fails}
 use Rattle.fluent_syntax_parser.proofs.readers.Made.{no_value_read, on_made, on_value, same_selector_fault}
 use Rattle.fluent_syntax_parser.proofs.readers.Made.{same_term_attribute}
 use Rattle.fluent_syntax_parser.proofs.patterns.Pieces.{bare_brace, end_pieces, line_read, no_lines, no_pieces}
-use Rattle.fluent_syntax_parser.proofs.patterns.Pieces.{own_line_fails}
+use Rattle.fluent_syntax_parser.proofs.patterns.Pieces.{line_onward, own_line_fails}
+use Rattle.fluent_syntax_parser.proofs.patterns.Shapes.{opening_viewed}
 use Rattle.fluent_syntax_parser.proofs.patterns.Pieces.{further, placed_fails, placed_piece, run_piece, run_there}
 use Rattle.fluent_syntax_parser.proofs.expressions.Selects.{behind_blank, same_fault, select_fails, select_read}
 use Rattle.fluent_syntax_parser.proofs.expressions.Selects.{select_refused}
@@ -569,38 +571,37 @@ get_arguments-returns-clause-within g m c = grind (arith, gets)
 pub gather_opening-returns-in-Some-clause-opens : goal.gather_opening-returns-in-Some-clause-opens
 gather_opening-returns-in-Some-clause-opens g m c =
     let t = c.args.self.now.source.bytes.now in
-    let there = record { there = refl } in
     let blank = c.skip_blank_block.ensures.blank in record {
       opening = None;
       same = rw c.requires.empty refl;
       read = λ ls end h. by_eol t _ _ _ _ c.in-Some.ensures.eol
-          (goes_on (passed there) (goes_on (passed blank) (goes_on h given)));
+          (goes_on (passed (record { there = refl })) (goes_on (passed blank) (goes_on h given)));
       fails = λ e h.
           fails_seen (layout_at t _) _ c.in-Some.ensures.eol
-          (fails_next functional_reaches (passed there)
+          (fails_next functional_reaches (passed (record { there = refl }))
           (fails_next (functional_blank_block t) (passed blank) (fails_first h)));
     }
 
-pub gather_opening-returns-in_err-end-clause-opens : goal.gather_opening-returns-in_err-end-clause-opens
-gather_opening-returns-in_err-end-clause-opens g m c =
+pub gather_opening-returns-in_err-end-in-None-clause-opens : goal.gather_opening-returns-in_err-end-in-None-clause-opens
+gather_opening-returns-in_err-end-in-None-clause-opens g m c =
     let t = c.args.self.now.source.bytes.now in
     let p = err_from_is_err_and c.from_residual.result c.from_residual.ensures.1 in
     rw (p.1, p.2)
     (fails_seen (layout_at t _) _ c.in-None.ensures.eol
-    (fails_next functional_here at_place (fails_first c.in_err-end.ensures.meets)))
+    (fails_next functional_here at_place (fails_first c.in_err-end-in-None.ensures.meets)))
 
-pub gather_opening-returns-clause-opens : goal.gather_opening-returns-clause-opens
-gather_opening-returns-clause-opens g m c =
+pub gather_opening-returns-in_ok-end_opening-in-None-clause-opens : goal.gather_opening-returns-in_ok-end_opening-in-None-clause-opens
+gather_opening-returns-in_ok-end_opening-in-None-clause-opens g m c =
     let t = c.args.self.now.source.bytes.now in
     let v = g.M.MakeTexts.made in
     let R = within c.args.self.now.edition t c.args.nesting in
     let ends = c.get_ending-ending.ensures.meets in
     let end = ending_view c.get_ending-ending.result.0 in
-    on_made c.in_ok-end.ensures.meets (λ ps there same. record {
+    on_made c.in_ok-end-in-None.ensures.meets (λ ps there same. record {
       opening = Some (record { start = c.args.ptr; spaces = 0; pieces = ps; ending = end });
       same =
-          opening_viewed v c.gather_pieces-end.new.pieces.items c.end_opening.new.pieces.items end
-          c.in_ok-end_opening.ensures ∙ ap (λ xs. with_ending xs end) same;
+          opening_viewed v c.gather_pieces.new.pieces.items c.end_opening.new.pieces.items end
+          c.in_ok-end_opening-in-None.ensures ∙ ap (λ xs. with_ending xs end) same;
       read = λ ls last h. by_eol t _ _ _ _ c.in-None.ensures.eol
           (goes_on at_place (goes_on there (goes_on ends (goes_on h given))));
       fails = λ e h.
@@ -784,20 +785,20 @@ gather_variants-loop-starred-preserved g m c =
 
 pub gather_pieces-returns-in-None-clause-meets : goal.gather_pieces-returns-in-None-clause-meets
 gather_pieces-returns-in-None-clause-meets g m c =
-    all_made (piece_view g.M.MakeTexts.made) _ c.loop-place.invariant.gathered (end_pieces
+    all_made (piece_view g.M.MakeTexts.made) _ c.loop-byte.invariant.gathered (end_pieces
     c.args.self.now.source.bytes.now
     (within c.args.self.now.edition c.args.self.now.source.bytes.now c.args.nesting) _ (sym c.in-None.ensures))
 
 pub gather_pieces-returns-then-is_eol_at-clause-meets : goal.gather_pieces-returns-then-is_eol_at-clause-meets
 gather_pieces-returns-then-is_eol_at-clause-meets g m c =
-    all_made (piece_view g.M.MakeTexts.made) _ c.loop-place.invariant.gathered
+    all_made (piece_view g.M.MakeTexts.made) _ c.loop-byte.invariant.gathered
     (no_pieces c.args.self.now.source.bytes.now (within c.args.self.now.edition c.args.self.now.source.bytes.now
     c.args.nesting) _ _
     (sym c.in-Some.ensures) (λ e. cc) (sym c.if-is_eol_at.ensures))
 
 pub gather_pieces-returns-then-byte-eq125-clause-meets : goal.gather_pieces-returns-then-byte-eq125-clause-meets
 gather_pieces-returns-then-byte-eq125-clause-meets g m c =
-    item_fails c.loop-place.invariant.gathered.behind (refused (λ k from to (a, b, d). rw (a, b, d)
+    item_fails c.loop-byte.invariant.gathered.behind (refused (λ k from to (a, b, d). rw (a, b, d)
     (bare_brace c.args.self.now.source.bytes.now (within c.args.self.now.edition c.args.self.now.source.bytes.now
     c.args.nesting) _ _
     (sym c.in-Some.ensures) (sym c.if-is_eol_at.ensures)
@@ -808,22 +809,22 @@ pub gather_pieces-returns-in_err-expression-in-Some-clause-meets :
 gather_pieces-returns-in_err-expression-in-Some-clause-meets g m c =
     let p = err_from_is_err_and c.from_residual.result c.from_residual.ensures.1 in
     rw (p.1, p.2)
-    (item_fails c.loop-place.invariant.gathered.behind
+    (item_fails c.loop-byte.invariant.gathered.behind
     (placed_fails c.args.self.now.source.bytes.now (within c.args.self.now.edition c.args.self.now.source.bytes.now
     c.args.nesting) _ _
     (sym c.in-Some.ensures) (sym c.if-is_eol_at.ensures)
     c.if-byte-eq123.true (fails_first c.in_err-expression-in-Some.ensures.meets)))
 
-pub gather_pieces-loop-place-preserved-then-byte-eq123 : goal.gather_pieces-loop-place-preserved-then-byte-eq123
-gather_pieces-loop-place-preserved-then-byte-eq123 g m c =
+pub gather_pieces-loop-byte-preserved-then-byte-eq123 : goal.gather_pieces-loop-byte-preserved-then-byte-eq123
+gather_pieces-loop-byte-preserved-then-byte-eq123 g m c =
     let t = c.args.self.now.source.bytes.now in
     let read = c.in_ok-expression-in-Some.ensures in
     on_made read.meets (λ e there same. record {
-      forward = omega (arith, c.loop-place.invariant.forward, read.within.0);
+      forward = omega (arith, c.loop-byte.invariant.forward, read.within.0);
       within = read.within.1;
       gathered =
           item_made (piece_view g.M.MakeTexts.made) _ _ _ c.in_ok-add_placed-in-Some.ensures
-          c.loop-place.invariant.gathered
+          c.loop-byte.invariant.gathered
           (functional_next_piece t (within c.args.self.now.edition t c.args.nesting)
           (functional_within c.args.self.now.edition t _)) _
           (placed_piece t (within c.args.self.now.edition t c.args.nesting) _ _ (sym c.in-Some.ensures)
@@ -831,16 +832,16 @@ gather_pieces-loop-place-preserved-then-byte-eq123 g m c =
           (goes_on there given)) (ap placed same);
     })
 
-pub gather_pieces-loop-place-preserved : goal.gather_pieces-loop-place-preserved
-gather_pieces-loop-place-preserved g m c =
+pub gather_pieces-loop-byte-preserved : goal.gather_pieces-loop-byte-preserved
+gather_pieces-loop-byte-preserved g m c =
     let t = c.args.self.now.source.bytes.now in
     let run = c.run_end-to.ensures.run in
     record {
-      forward = omega (arith, c.loop-place.invariant.forward, run.forward);
+      forward = omega (arith, c.loop-byte.invariant.forward, run.forward);
       within = c.run_end-to.ensures.within;
       gathered =
           item_made (piece_view g.M.MakeTexts.made) _ _ _ c.in_ok-add_run-in-Some.ensures
-          c.loop-place.invariant.gathered
+          c.loop-byte.invariant.gathered
           (functional_next_piece t (within c.args.self.now.edition t c.args.nesting)
           (functional_within c.args.self.now.edition t _)) _
           (run_piece t (within c.args.self.now.edition t c.args.nesting) _ _ (sym c.in-Some.ensures)
@@ -889,12 +890,12 @@ gather_line-returns-clause-within g m c =
 
 pub gather_lines-returns-in-None-clause-meets : goal.gather_lines-returns-in-None-clause-meets
 gather_lines-returns-in-None-clause-meets g m c =
-    all_made (line_view g.M.MakeTexts.made) _ c.loop-start.invariant.gathered
+    all_made (line_view g.M.MakeTexts.made) _ c.loop-byte.invariant.gathered
     (no_byte c.skip_blank_inline-first.ensures.blank (sym c.in-None.ensures))
 
 pub gather_lines-returns-then-not-belongs-clause-meets : goal.gather_lines-returns-then-not-belongs-clause-meets
 gather_lines-returns-then-not-belongs-clause-meets g m c =
-    all_made (line_view g.M.MakeTexts.made) _ c.loop-start.invariant.gathered
+    all_made (line_view g.M.MakeTexts.made) _ c.loop-byte.invariant.gathered
     (other_line c.skip_blank_inline-first.ensures.blank (sym c.in-Some.ensures) (sym c.if-not-belongs.ensures))
 
 pub gather_lines-returns-in_err-start-in-Some-clause-meets :
@@ -903,19 +904,19 @@ gather_lines-returns-in_err-start-in-Some-clause-meets g m c =
     let t = c.args.self.now.source.bytes.now in
     let p = err_from_is_err_and c.from_residual.result c.from_residual.ensures.1 in
     rw (p.1, p.2)
-    (item_fails c.loop-start.invariant.gathered.behind
+    (item_fails c.loop-byte.invariant.gathered.behind
     (own_line_fails t (within c.args.self.now.edition t c.args.nesting) c.skip_blank_inline-first.ensures.blank
     (sym c.in-Some.ensures) (sym c.if-not-belongs.ensures) (fails_first c.in_err-start-in-Some.ensures.adds.0)))
 
-pub gather_lines-loop-start-preserved : goal.gather_lines-loop-start-preserved
-gather_lines-loop-start-preserved g m c =
+pub gather_lines-loop-byte-preserved : goal.gather_lines-loop-byte-preserved
+gather_lines-loop-byte-preserved g m c =
     let t = c.args.self.now.source.bytes.now in
     let read = c.in_ok-start-in-Some.ensures in
     on_made read.adds.2 (λ l there same. record {
-      forward = omega (arith, c.loop-start.invariant.forward, read.within.0);
+      forward = omega (arith, c.loop-byte.invariant.forward, read.within.0);
       within = read.within.1;
       gathered =
-          item_made (line_view g.M.MakeTexts.made) _ _ _ read.adds.1 c.loop-start.invariant.gathered
+          item_made (line_view g.M.MakeTexts.made) _ _ _ read.adds.1 c.loop-byte.invariant.gathered
           (functional_next_line t (within c.args.self.now.edition t c.args.nesting)
           (functional_within c.args.self.now.edition t _)) _
           (own_line c.skip_blank_inline-first.ensures.blank (sym c.in-Some.ensures) (sym c.if-not-belongs.ensures)
@@ -970,10 +971,10 @@ get_arguments-returns-in_err-note-in-Some-clause-meets g m c =
     rw (out_of_memory c.from_residual-in_err-note-in-Some.result
     c.from_residual-in_err-note-in-Some.ensures.1) no_memory
 
-pub gather_opening-returns-in_err-end_opening-clause-opens : goal.gather_opening-returns-in_err-end_opening-clause-opens
-gather_opening-returns-in_err-end_opening-clause-opens g m c =
-    rw (out_of_memory c.from_residual-in_err-end_opening.result
-    c.from_residual-in_err-end_opening.ensures.1) no_memory
+pub gather_opening-returns-in_err-end_opening-in-None-clause-opens : goal.gather_opening-returns-in_err-end_opening-in-None-clause-opens
+gather_opening-returns-in_err-end_opening-in-None-clause-opens g m c =
+    rw (out_of_memory c.from_residual-in_err-end_opening-in-None.result
+    c.from_residual-in_err-end_opening-in-None.ensures.1) no_memory
 
 -- ---- where a loop begins
 
@@ -994,15 +995,15 @@ gather_variants-loop-starred-init g m c = record {
   gathered = rw c.requires.empty (no_variant g.M.MakeTexts.made);
 }
 
-pub gather_pieces-loop-place-init : goal.gather_pieces-loop-place-init
-gather_pieces-loop-place-init g m c = record {
+pub gather_pieces-loop-byte-init : goal.gather_pieces-loop-byte-init
+gather_pieces-loop-byte-init g m c = record {
   forward = omega arith;
   within = c.requires.within;
   gathered = rw c.requires.empty (no_items (piece_view g.M.MakeTexts.made));
 }
 
-pub gather_lines-loop-start-init : goal.gather_lines-loop-start-init
-gather_lines-loop-start-init g m c = record {
+pub gather_lines-loop-byte-init : goal.gather_lines-loop-byte-init
+gather_lines-loop-byte-init g m c = record {
   forward = omega arith;
   within = c.requires.within;
   gathered = rw c.requires.empty (no_items (line_view g.M.MakeTexts.made));
@@ -1010,11 +1011,11 @@ gather_lines-loop-start-init g m c = record {
 
 -- ---- numbers
 
-pub gather_pieces-loop-place-smaller : goal.gather_pieces-loop-place-smaller
-gather_pieces-loop-place-smaller g m c =
+pub gather_pieces-loop-byte-smaller : goal.gather_pieces-loop-byte-smaller
+gather_pieces-loop-byte-smaller g m c =
     let t = c.args.self.now.source.bytes.now in
     let run = c.run_end-to.ensures.run in
     let there = run_there t (within c.args.self.now.edition t c.args.nesting) _ _ (sym c.in-Some.ensures)
     (sym c.if-is_eol_at.ensures) c.if-byte-eq125.false c.if-byte-eq123.false in
-    let longer = further (is_run_place t) c.loop-place.place c.run_end-to.result run there in
+    let longer = further (is_run_place t) c.loop-byte.place c.run_end-to.result run there in
     omega (arith, longer, c.run_end-to.ensures.within)

@@ -95,8 +95,8 @@ invariant-gather_variants-loop-starred g l =
 abbrev pub decreases-gather_variants-loop-starred : goal.decreases-gather_variants-loop-starred
 decreases-gather_variants-loop-starred g l = length l.self.source.bytes.now - l.place
 
-abbrev pub invariant-gather_pieces-loop-place : goal.invariant-gather_pieces-loop-place
-invariant-gather_pieces-loop-place g l =
+abbrev pub invariant-gather_pieces-loop-byte : goal.invariant-gather_pieces-loop-byte
+invariant-gather_pieces-loop-byte g l =
     let t = l.self.source.bytes.now in
     record {
       forward : l.ptr ≤ l.place;
@@ -107,11 +107,11 @@ invariant-gather_pieces-loop-place g l =
           l.place;
     }
 
-abbrev pub decreases-gather_pieces-loop-place : goal.decreases-gather_pieces-loop-place
-decreases-gather_pieces-loop-place g l = length l.self.source.bytes.now - l.place
+abbrev pub decreases-gather_pieces-loop-byte : goal.decreases-gather_pieces-loop-byte
+decreases-gather_pieces-loop-byte g l = length l.self.source.bytes.now - l.place
 
-abbrev pub invariant-gather_lines-loop-start : goal.invariant-gather_lines-loop-start
-invariant-gather_lines-loop-start g l =
+abbrev pub invariant-gather_lines-loop-byte : goal.invariant-gather_lines-loop-byte
+invariant-gather_lines-loop-byte g l =
     let t = l.self.source.bytes.now in
     record {
       forward : l.ptr ≤ l.start;
@@ -122,5 +122,5 @@ invariant-gather_lines-loop-start g l =
           l.start;
     }
 
-abbrev pub decreases-gather_lines-loop-start : goal.decreases-gather_lines-loop-start
-decreases-gather_lines-loop-start g l = length l.self.source.bytes.now - l.start
+abbrev pub decreases-gather_lines-loop-byte : goal.decreases-gather_lines-loop-byte
+decreases-gather_lines-loop-byte g l = length l.self.source.bytes.now - l.start
