@@ -1,13 +1,18 @@
 //! Patterns.
-ghost use Rattle.std.specs.Prelude.{◌≡◌, ◌≤◌, [], length, option_map, IfOk, IfSome, None, Some};
+ghost use Rattle.std.specs.Prelude.{◌≡◌, ◌≤◌, [], length, map, option_map, IfOk, IfSome, None, Some};
 ghost use Rattle.fluent_syntax_tree.specs.Tree.{pattern_map};
 ghost use Rattle.fluent_syntax_tree.specs.View.{pattern_view};
+ghost use Rattle.fluent_syntax_grammar.specs.Construct.{Read};
 ghost use Rattle.fluent_syntax_grammar.specs.Grammar.{within};
+ghost use Rattle.fluent_syntax_grammar.specs.Lines.{ending};
 ghost use Rattle.fluent_syntax_grammar.specs.Patterns.{pattern};
 ghost use Rattle.fluent_syntax_grammar.specs.Places.{InlineBlank};
+ghost use Rattle.fluent_syntax_parser.specs.Elements.{item_view};
+ghost use Rattle.fluent_syntax_parser.specs.Layouts.{with_ending};
+ghost use Rattle.fluent_syntax_parser.specs.Lines.{piece_view};
 ghost use Rattle.fluent_syntax_parser.specs.Made.{Makes};
 ghost use Rattle.fluent_syntax_parser.specs.OneLine.{EndsBlank, EndsLine, NoLines, OpensAs, text_pattern};
-ghost use Rattle.fluent_syntax_parser.specs.Opened.{Opens};
+ghost use Rattle.fluent_syntax_parser.specs.Opened.{LaysOut, Opens};
 
 pub(crate) mod elements;
 pub(crate) mod indents;
@@ -17,7 +22,7 @@ pub(crate) mod tails;
 
 use crate::fault::ReadFault;
 use crate::pattern::elements::end_opening;
-use crate::pattern::line::Piece;
+use crate::pattern::line::{Line, Piece};
 use crate::reader::Reader;
 use crate::source::Source;
 use crate::texts::MakeTexts;
@@ -132,6 +137,25 @@ impl<'s, 't, M: MakeTexts> Reader<'s, 't, M> {
         Ok(Pattern { elements })
     }
 
+    /// Ends the line on which a pattern opens, whose pieces end at a place: they are its items then. Gives where the next
+    /// line begins.
+    #[inline(never)]
+    fn end_first_line(
+        &self,
+        end: usize,
+        items: &mut Vec<Piece<M::Text>>,
+    ) -> Result<usize, AllocError>
+        requires { end ≤ length self.now.source.bytes.now }
+        ensures ends { let t = self.now.source.bytes.now in IfOk result (λ next. (found : _)
+            × (map (item_view M.made) items.new.items ≡ with_ending (map (piece_view M.made) items.old.items) found)
+            × ending t end (Read found next)) }
+        ensures within { IfOk result (λ next. (end ≤ next) × (next ≤ length self.now.source.bytes.now)) }
+    {
+        let (ending, next) = self.source.get_ending(end);
+        end_opening(ending, items)?;
+        Ok(next)
+    }
+
     /// Gathers the items of the line on which a pattern opens, after the inline blank there, in an empty list. Gives
     /// where its other lines begin.
     #[cycle(readers)]
@@ -152,11 +176,34 @@ impl<'s, 't, M: MakeTexts> Reader<'s, 't, M> {
             Some(next) => Ok(self.source.skip_blank_block(next)),
             None => {
                 let end = self.gather_pieces(nesting, ptr, items)?;
-                let (ending, next) = self.source.get_ending(end);
-                end_opening(ending, items)?;
+                let next = self.end_first_line(end, items)?;
                 Ok(next)
             }
         }
+    }
+
+    /// Gathers the items of the line on which a pattern opens, after the inline blank there, and its other lines, in
+    /// empty lists.
+    #[cycle(readers)]
+    #[inline(always)]
+    fn gather_layout(
+        &self,
+        nesting: usize,
+        ptr: usize,
+        items: &mut Vec<Piece<M::Text>>,
+        lines: &mut Vec<Line<M::Text>>,
+    ) -> Result<usize, ReadFault>
+        requires within { ptr ≤ length self.now.source.bytes.now }
+        requires no_items { items.old.items ≡ [] }
+        requires no_lines { lines.old.items ≡ [] }
+        ensures meets { let t = self.now.source.bytes.now in
+            LaysOut t (within self.now.edition t nesting) (M.source self.now.texts.now) M.made ptr items.new.items
+            lines.new.items result }
+        ensures within { IfOk result (λ end. (ptr ≤ end) × (end ≤ length self.now.source.bytes.now)) }
+    {
+        let next = self.gather_opening(nesting, ptr, items)?;
+        let end = self.gather_lines(nesting, next, lines)?;
+        Ok(end)
     }
 
     /// Reads a pattern that does not stand on one line, or that has a placeable. The inline blank that opens it ends at
@@ -179,8 +226,7 @@ impl<'s, 't, M: MakeTexts> Reader<'s, 't, M> {
     {
         let mut items = Vec::new(self.alloc);
         let mut lines = Vec::new(self.alloc);
-        let next = self.gather_opening(nesting, start, &mut items)?;
-        let end = self.gather_lines(nesting, next, &mut lines)?;
+        let end = self.gather_layout(nesting, start, &mut items, &mut lines)?;
         let pattern = self.pattern_of(items, lines)?;
         Ok((pattern, end))
     }

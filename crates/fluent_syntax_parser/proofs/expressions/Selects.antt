@@ -12,12 +12,13 @@ use Rattle.fluent_syntax_grammar.specs.Inline.{inline_expression}
 use Rattle.fluent_syntax_grammar.specs.Placeables.{expression, has_arrow, select_with, selector_fault}
 use Rattle.fluent_syntax_grammar.specs.Placeables.{variants_of_select}
 use Rattle.fluent_syntax_grammar.specs.Places.{Blank}
-use Rattle.fluent_syntax_grammar.specs.Variants.{more_variants}
+use Rattle.fluent_syntax_grammar.specs.Laws.{IsFunctional}
+use Rattle.fluent_syntax_grammar.proofs.Functional.{functional_bind, functional_fails}
 use Rattle.fluent_syntax_grammar.proofs.FunctionalRules.{IsFunctionalFamily, functional_inline}
 use Rattle.fluent_syntax_grammar.proofs.FunctionalWords.{functional_blank, functional_inline_blank}
 use Rattle.fluent_syntax_parser.specs.Made.{Makes, made}
-use Rattle.fluent_syntax_parser.specs.Meets.{Fails}
-use Rattle.fluent_syntax_parser.specs.Selects.{select_start}
+use Rattle.fluent_syntax_parser.specs.Meets.{Fails, no_memory, refused, too_deep}
+use Rattle.fluent_syntax_parser.specs.Selects.{arrow_variants, select_start}
 use Rattle.fluent_syntax_parser.specs.declared.fault.ReadFault.{ReadFault}
 use Rattle.fluent_syntax_parser.proofs.readers.Fails.{fails_first, fails_next, fails_yes}
 use Rattle.fluent_syntax_parser.proofs.readers.Fails.{functional_arrow_end, functional_look, functional_steps}
@@ -34,59 +35,63 @@ pub some_select_start : (t : List ℕ) {i : ℕ} (fault : Option Kind) (o : Outc
     select_start t None i o → select_start t fault i o
 some_select_start t {i = i} fault o is h = subst (λ x. select_start t x i o) (sym is) h
 
+pub functional_start : (t : List ℕ) (fault : Option Kind) → IsFunctional (select_start t fault)
+functional_start t (Some kind) = functional_fails
+functional_start t None =
+    functional_bind functional_steps (λ u.
+    functional_bind (functional_inline_blank t) (λ u.
+    functional_bind (functional_arrow_end t) (λ u. functional_blank t)))
+
 module _ (edition : Edition) (t : List ℕ) (R : Family) (e : InlineTree Span) (i : ℕ) where
-  refused_before : (fault : Option Kind) (k : Kind) (from to : ℕ) → select_start t fault i (Refused k from to) →
-      select_with edition t R e fault i (Refused k from to)
-  refused_before (Some fault) k from to (failed is) = failed is
-  refused_before None k from to (stops a) = stops (stops a)
-  refused_before None k from to (goes_on a (stops b)) = stops (goes_on a (stops b))
-  refused_before None k from to (goes_on a (goes_on b (stops c))) = stops (goes_on a (goes_on b (stops c)))
-  refused_before None k from to (goes_on a (goes_on b (goes_on c d))) =
-      stops (goes_on a (goes_on b (goes_on c (stops d))))
+  -- the same outcome, with the select that the variants make
+  abbrev selected : Outcome (VariantTrees Span) → Outcome (ExpressionTree Span)
+  selected (Read vs j) = Read (select e vs) j
+  selected (Refused kind from to) = Refused kind from to
 
-  -- the variants behind what stands before them
-  variants_behind : (j end : ℕ) (vs : VariantTrees Span) → select_start t None i (Read tt j) →
-      more_variants edition t R false j (Read vs end) → variants_of_select edition t R i (Read vs end)
-  variants_behind j end vs (goes_on a (goes_on b (goes_on c d))) read =
-      goes_on a (goes_on b (goes_on c (goes_on d read)))
+  from_arrow : (fault : Option Kind) (o : Outcome (VariantTrees Span)) → arrow_variants edition t R fault i o →
+      select_with edition t R e fault i (selected o)
+  from_arrow (Some fault) o (stops (failed is)) = failed is
+  from_arrow (Some fault) o (goes_on start x) = elim start [ ]
+  from_arrow None o (stops (stops a)) = stops (stops a)
+  from_arrow None o (stops (goes_on a (stops b))) = stops (goes_on a (stops b))
+  from_arrow None o (stops (goes_on a (goes_on b (stops c)))) = stops (goes_on a (goes_on b (stops c)))
+  from_arrow None o (stops (goes_on a (goes_on b (goes_on c d)))) = stops (goes_on a (goes_on b (goes_on c (stops d))))
+  from_arrow None (Read vs j) (goes_on (goes_on a (goes_on b (goes_on c d))) x) =
+      goes_on (goes_on a (goes_on b (goes_on c (goes_on d x)))) given
+  from_arrow None (Refused kind from to) (goes_on (goes_on a (goes_on b (goes_on c d))) x) =
+      stops (goes_on a (goes_on b (goes_on c (goes_on d x))))
 
-  variants_fail : (j : ℕ) (f : ReadFault) → select_start t None i (Read tt j) →
-      Fails t (more_variants edition t R false) j f → Fails t (variants_of_select edition t R) i f
-  variants_fail j f (goes_on a (goes_on b (goes_on c d))) h =
-      fails_next functional_steps a
-      (fails_next (functional_inline_blank t) b
-      (fails_next (functional_arrow_end t) c
-      (fails_next (functional_blank t) d h)))
+  regrouped : (o : Outcome (VariantTrees Span)) → variants_of_select edition t R i o →
+      arrow_variants edition t R None i o
+  regrouped o (stops a) = stops (stops a)
+  regrouped o (goes_on a (stops b)) = stops (goes_on a (stops b))
+  regrouped o (goes_on a (goes_on b (stops c))) = stops (goes_on a (goes_on b (stops c)))
+  regrouped o (goes_on a (goes_on b (goes_on c (stops d)))) = stops (goes_on a (goes_on b (goes_on c d)))
+  regrouped o (goes_on a (goes_on b (goes_on c (goes_on d x)))) = goes_on (goes_on a (goes_on b (goes_on c d))) x
 
-  read_behind : (fault : Option Kind) (j end : ℕ) (vs : VariantTrees Span) → select_start t fault i (Read tt j) →
-      more_variants edition t R false j (Read vs end) → select_with edition t R e fault i (Read (select e vs) end)
-  read_behind (Some fault) j end vs start read = elim start [ ]
-  read_behind None j end vs start read = goes_on (variants_behind j end vs start read) given
+  to_arrow : (fault : Option Kind) (o : Outcome (ExpressionTree Span)) → select_with edition t R e fault i o →
+      (p : Outcome (VariantTrees Span)) × arrow_variants edition t R fault i p
+  to_arrow (Some fault) o (failed is) = (_, stops (failed is))
+  to_arrow None o (stops x) = (_, regrouped _ x)
+  to_arrow None o (goes_on x given) = (_, regrouped _ x)
 
-  fails_behind : (fault : Option Kind) (j : ℕ) (f : ReadFault) → select_start t fault i (Read tt j) →
-      Fails t (more_variants edition t R false) j f → Fails t (select_with edition t R e fault) i f
-  fails_behind (Some fault) j f start h = elim start [ ]
-  fails_behind None j f start h = fails_first (variants_fail j f start h)
+  fails_from_arrow : (fault : Option Kind) {f : ReadFault} → Fails t (arrow_variants edition t R fault) i f →
+      Fails t (select_with edition t R e fault) i f
+  fails_from_arrow fault (refused h) = refused (λ k from to s. from_arrow fault _ (h k from to s))
+  fails_from_arrow fault (too_deep h) = too_deep (λ o x. let (p, y) = to_arrow fault o x in h p y)
+  fails_from_arrow fault no_memory = no_memory
 
   -- ---- the same by why the selector is none, if it is none
 
   module _ {fault : Option Kind} (is : fault ≡ selector_fault e) where
-    -- what is refused before the variants, the select is
-    pub select_refused : (k : Kind) (from to : ℕ) → select_start t fault i (Refused k from to) →
-        select_with edition t R e (selector_fault e) i (Refused k from to)
-    select_refused k from to h =
-        subst (λ x. select_with edition t R e x i (Refused k from to)) is (refused_before fault k from to h)
+    pub select_read : {j : ℕ} {vs : VariantTrees Span} → arrow_variants edition t R fault i (Read vs j) →
+        select_with edition t R e (selector_fault e) i (Read (select e vs) j)
+    select_read {j = j} {vs = vs} h =
+        subst (λ x. select_with edition t R e x i (Read (select e vs) j)) is (from_arrow fault _ h)
 
-    pub select_read : {j end : ℕ} {vs : VariantTrees Span} → select_start t fault i (Read tt j) →
-        more_variants edition t R false j (Read vs end) →
-        select_with edition t R e (selector_fault e) i (Read (select e vs) end)
-    select_read {j = j} {end = end} {vs = vs} start read =
-        subst (λ x. select_with edition t R e x i (Read (select e vs) end)) is (read_behind fault j end vs start read)
-
-    pub select_fails : {j : ℕ} {f : ReadFault} → select_start t fault i (Read tt j) →
-        Fails t (more_variants edition t R false) j f → Fails t (select_with edition t R e (selector_fault e)) i f
-    select_fails {j = j} {f = f} start h =
-        subst (λ x. Fails t (select_with edition t R e x) i f) is (fails_behind fault j f start h)
+    pub select_fails : {f : ReadFault} → Fails t (arrow_variants edition t R fault) i f →
+        Fails t (select_with edition t R e (selector_fault e)) i f
+    select_fails {f = f} h = subst (λ x. Fails t (select_with edition t R e x) i f) is (fails_from_arrow fault h)
 
 -- The rest of an expression behind which an arrow stands, by its select.
 pub behind_blank : {B X : Type 0} (edition : Edition) (t : List ℕ) (R : Family) (f : ExpressionTree Span → B)

@@ -1,15 +1,15 @@
 //! Selects, from the arrow on.
-ghost use Rattle.std.specs.Prelude.{◌≡◌, ◌<◌, ◌≤◌, length, true, IfOk};
-ghost use Rattle.fluent_syntax_tree.specs.Tree.{InlineTree, expression_map, inline, select};
+ghost use Rattle.std.specs.Prelude.{◌≡◌, ◌<◌, ◌≤◌, [], length, true, IfOk};
+ghost use Rattle.fluent_syntax_tree.specs.Tree.{InlineTree, expression_map, inline, select, variants_map};
 ghost use Rattle.fluent_syntax_tree.specs.View.{inline_view};
 ghost use Rattle.fluent_syntax_tree.specs.declared.spans.Span.{Span};
 ghost use Rattle.fluent_syntax_grammar.specs.Grammar.{within};
 ghost use Rattle.fluent_syntax_grammar.specs.Placeables.{has_arrow, select_with, selector_fault};
 ghost use Rattle.fluent_syntax_parser.specs.Boxed.{boxed_expression_view, mapped_inline, IsInline};
 ghost use Rattle.fluent_syntax_parser.specs.Gathered.{variants_view};
-ghost use Rattle.fluent_syntax_parser.specs.Made.{Makes};
+ghost use Rattle.fluent_syntax_parser.specs.Made.{Fills, Makes};
 ghost use Rattle.fluent_syntax_parser.specs.Meets.{MeetsEnd};
-ghost use Rattle.fluent_syntax_parser.specs.Selects.{select_start};
+ghost use Rattle.fluent_syntax_parser.specs.Selects.{arrow_variants, select_start};
 
 use crate::fault::{ReadFault, Refusal};
 use crate::reader::Reader;
@@ -61,6 +61,30 @@ impl<'s, 't, M: MakeTexts> Reader<'s, 't, M> {
         Ok(boxed)
     }
 
+    /// Gathers the variants of a select, whose arrow stands at the place, in an empty list.
+    #[cycle(readers)]
+    #[inline(always)]
+    fn gather_from_arrow(
+        &self,
+        nesting: usize,
+        selector: &InlineExpression<M::Text>,
+        ptr: usize,
+        variants: &mut Vec<Variant<M::Text>>,
+    ) -> Result<usize, ReadFault>
+        requires within { ptr ≤ length self.now.source.bytes.now }
+        requires arrow { has_arrow self.now.source.bytes.now ptr ≡ true }
+        requires empty { variants.old.items ≡ [] }
+        ensures meets { let t = self.now.source.bytes.now in let R = within self.now.edition t nesting in
+            Fills t (variants_map (M.source self.now.texts.now))
+            (arrow_variants self.now.edition t R (selector_fault (inline_view M.made selector.now)))
+            (variants_view M.made) variants.new.items ptr result }
+        ensures within { IfOk result (λ end. (ptr < end) × (end ≤ length self.now.source.bytes.now)) }
+    {
+        let start = self.variants_start(selector, ptr)?;
+        let end = self.gather_variants(nesting, start, variants)?;
+        Ok(end)
+    }
+
     /// Reads a select by what was read before its arrow, from the arrow on.
     #[cycle(readers)]
     #[inline(never)]
@@ -80,9 +104,8 @@ impl<'s, 't, M: MakeTexts> Reader<'s, 't, M> {
             (boxed_expression_view M.made) ptr result }
         ensures within { IfOk result (λ read. (ptr < read.1) × (read.1 ≤ length self.now.source.bytes.now)) }
     {
-        let start = self.variants_start(self.inline_in(&selector), ptr)?;
         let mut variants = Vec::new(self.alloc);
-        let end = self.gather_variants(nesting, start, &mut variants)?;
+        let end = self.gather_from_arrow(nesting, self.inline_in(&selector), ptr, &mut variants)?;
         let expression = self.boxed_select(selector, variants)?;
         Ok((expression, end))
     }

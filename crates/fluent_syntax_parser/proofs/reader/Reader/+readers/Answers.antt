@@ -38,7 +38,7 @@ use Rattle.fluent_syntax_grammar.proofs.FunctionalWords.{functional_inline_blank
 use Rattle.fluent_syntax_grammar.proofs.Nesting.{functional_within}
 use Rattle.fluent_syntax_parser.specs.Layouts.{placed}
 use Rattle.fluent_syntax_parser.specs.Layouts.{with_ending}
-use Rattle.fluent_syntax_parser.specs.Lines.{ending_view, line_view, piece_view}
+use Rattle.fluent_syntax_parser.specs.Lines.{line_view, piece_view}
 use Rattle.fluent_syntax_parser.specs.Made.{made}
 use Rattle.fluent_syntax_parser.specs.Meets.{no_memory, refused, too_deep}
 use Rattle.fluent_syntax_parser.specs.declared.fault.Fault.TheVariants as fault
@@ -64,10 +64,9 @@ use Rattle.fluent_syntax_parser.proofs.readers.Made.{no_value_read, on_made, on_
 use Rattle.fluent_syntax_parser.proofs.readers.Made.{same_term_attribute}
 use Rattle.fluent_syntax_parser.proofs.patterns.Pieces.{bare_brace, end_pieces, line_read, no_lines, no_pieces}
 use Rattle.fluent_syntax_parser.proofs.patterns.Pieces.{line_onward, own_line_fails}
-use Rattle.fluent_syntax_parser.proofs.patterns.Shapes.{opening_viewed}
 use Rattle.fluent_syntax_parser.proofs.patterns.Pieces.{further, placed_fails, placed_piece, run_piece, run_there}
-use Rattle.fluent_syntax_parser.proofs.expressions.Selects.{behind_blank, same_fault, select_fails, select_read}
-use Rattle.fluent_syntax_parser.proofs.expressions.Selects.{select_refused}
+use Rattle.fluent_syntax_parser.proofs.expressions.Selects.{behind_blank, functional_start, same_fault}
+use Rattle.fluent_syntax_parser.proofs.expressions.Selects.{select_fails, select_read}
 use Rattle.fluent_syntax_parser.proofs.reader.Reader.+readers.Goals as goal
 use Rattle.fluent_syntax_parser.proofs.reader.Reader.+readers.Goals.{
   get_arguments-in_default-via-in-Some+else-is_byte_at,
@@ -303,21 +302,28 @@ pub get_select-inline_in-requires : goal.get_select-inline_in-requires
 get_select-inline_in-requires g m c =
     (c.requires.selector.0, ap (expression_view g.M.MakeTexts.made) c.deref.ensures ∙ c.requires.selector.1)
 
-pub get_select-returns-in_err-start-clause-meets : goal.get_select-returns-in_err-start-clause-meets
-get_select-returns-in_err-start-clause-meets g m c = λ e same.
-    let t = c.args.self.now.source.bytes.now in
-    let is = same_fault _ _ e (inline_seen _ _ c.deref.ensures c.inline_in.ensures same) in
+pub gather_from_arrow-returns-in_err-start-clause-meets : goal.gather_from_arrow-returns-in_err-start-clause-meets
+gather_from_arrow-returns-in_err-start-clause-meets g m c =
     let p = err_from_is_err_and c.from_residual.result c.from_residual.ensures.1 in
-    rw (p.1, p.2) (refused (λ k from to h.
-    select_refused c.args.self.now.edition t _ e _ is k from to (c.in_err-start.ensures.meets k from to h)))
+    rw (p.1, p.2) (refused (λ k from to h. stops (c.in_err-start.ensures.meets k from to h)))
+
+pub gather_from_arrow-returns-in_err-end-clause-meets : goal.gather_from_arrow-returns-in_err-end-clause-meets
+gather_from_arrow-returns-in_err-end-clause-meets g m c =
+    let t = c.args.self.now.source.bytes.now in
+    let p = err_from_is_err_and c.from_residual-in_err-end.result c.from_residual-in_err-end.ensures.1 in
+    rw (p.1, p.2)
+    (fails_next (functional_start t _) c.in_ok-start.ensures.meets c.in_err-end.ensures.meets)
+
+pub gather_from_arrow-returns-clause-meets : goal.gather_from_arrow-returns-clause-meets
+gather_from_arrow-returns-clause-meets g m c =
+    on_made c.in_ok-end.ensures.meets (λ vs read same. made (goes_on c.in_ok-start.ensures.meets read) same)
 
 pub get_select-returns-in_err-end-clause-meets : goal.get_select-returns-in_err-end-clause-meets
 get_select-returns-in_err-end-clause-meets g m c = λ e same.
     let t = c.args.self.now.source.bytes.now in
     let is = same_fault _ _ e (inline_seen _ _ c.deref.ensures c.inline_in.ensures same) in
-    let p = err_from_is_err_and c.from_residual-in_err-end.result c.from_residual-in_err-end.ensures.1 in
-    rw (p.1, p.2)
-    (select_fails c.args.self.now.edition t _ e _ is c.in_ok-start.ensures.meets c.in_err-end.ensures.meets)
+    let p = err_from_is_err_and c.from_residual.result c.from_residual.ensures.1 in
+    rw (p.1, p.2) (select_fails c.args.self.now.edition t _ e _ is c.in_err-end.ensures.meets)
 
 pub get_select-returns-in_err-expression-clause-meets : goal.get_select-returns-in_err-expression-clause-meets
 get_select-returns-in_err-expression-clause-meets g m c = λ e same.
@@ -329,7 +335,7 @@ get_select-returns-clause-meets g m c = λ e same.
     let t = c.args.self.now.source.bytes.now in
     let is = same_fault _ _ e (inline_seen _ _ c.deref.ensures c.inline_in.ensures same) in
     on_made c.in_ok-end.ensures.meets (λ vs read same_variants. made
-    (select_read c.args.self.now.edition t _ e _ is c.in_ok-start.ensures.meets read)
+    (select_read c.args.self.now.edition t _ e _ is read)
     (c.in_ok-expression.ensures _ same ∙ rw same_variants refl))
 
 -- ---- the arguments of a reference
@@ -590,18 +596,14 @@ gather_opening-returns-in_err-end-in-None-clause-opens g m c =
     (fails_seen (layout_at t _) _ c.in-None.ensures.eol
     (fails_next functional_here at_place (fails_first c.in_err-end-in-None.ensures.meets)))
 
-pub gather_opening-returns-in_ok-end_opening-in-None-clause-opens : goal.gather_opening-returns-in_ok-end_opening-in-None-clause-opens
-gather_opening-returns-in_ok-end_opening-in-None-clause-opens g m c =
+pub gather_opening-returns-in_ok-next-in-None-clause-opens : goal.gather_opening-returns-in_ok-next-in-None-clause-opens
+gather_opening-returns-in_ok-next-in-None-clause-opens g m c =
     let t = c.args.self.now.source.bytes.now in
-    let v = g.M.MakeTexts.made in
     let R = within c.args.self.now.edition t c.args.nesting in
-    let ends = c.get_ending-ending.ensures.meets in
-    let end = ending_view c.get_ending-ending.result.0 in
+    let (end, opening, ends) = c.in_ok-next-in-None.ensures.ends in
     on_made c.in_ok-end-in-None.ensures.meets (λ ps there same. record {
       opening = Some (record { start = c.args.ptr; spaces = 0; pieces = ps; ending = end });
-      same =
-          opening_viewed v c.gather_pieces.new.pieces.items c.end_opening.new.pieces.items end
-          c.in_ok-end_opening-in-None.ensures ∙ ap (λ xs. with_ending xs end) same;
+      same = opening ∙ ap (λ xs. with_ending xs end) same;
       read = λ ls last h. by_eol t _ _ _ _ c.in-None.ensures.eol
           (goes_on at_place (goes_on there (goes_on ends (goes_on h given))));
       fails = λ e h.
@@ -611,28 +613,38 @@ gather_opening-returns-in_ok-end_opening-in-None-clause-opens g m c =
           (fails_next (functional_ending t) ends (fails_first h))));
     })
 
-pub get_long_pattern-returns-in_err-next-clause-meets : goal.get_long_pattern-returns-in_err-next-clause-meets
-get_long_pattern-returns-in_err-next-clause-meets g m c =
-    let t = c.args.self.now.source.bytes.now in
+pub gather_layout-returns-in_err-next-clause-meets : goal.gather_layout-returns-in_err-next-clause-meets
+gather_layout-returns-in_err-next-clause-meets g m c =
     let p = err_from_is_err_and c.from_residual.result c.from_residual.ensures.1 in
-    rw (p.1, p.2)
-    (fails_first (fails_next (functional_inline_blank t) (passed c.requires.blank) c.in_err-next.ensures.opens))
+    rw (p.1, p.2) c.in_err-next.ensures.opens
+
+pub gather_layout-returns-in_err-end-clause-meets : goal.gather_layout-returns-in_err-end-clause-meets
+gather_layout-returns-in_err-end-clause-meets g m c =
+    let p = err_from_is_err_and c.from_residual-in_err-end.result c.from_residual-in_err-end.ensures.1 in
+    rw (p.1, p.2) (c.in_ok-next.ensures.opens.fails _ c.in_err-end.ensures.meets)
+
+pub gather_layout-returns-clause-meets : goal.gather_layout-returns-clause-meets
+gather_layout-returns-clause-meets g m c =
+    let opened = c.in_ok-next.ensures.opens in
+    on_made c.in_ok-end.ensures.meets (λ ls there same. record {
+      layout = record { opening = opened.opening; lines = ls };
+      read = opened.read ls _ there;
+      same_opening = opened.same;
+      same_lines = same;
+    })
 
 pub get_long_pattern-returns-in_err-end-clause-meets : goal.get_long_pattern-returns-in_err-end-clause-meets
 get_long_pattern-returns-in_err-end-clause-meets g m c =
     let t = c.args.self.now.source.bytes.now in
-    let p = err_from_is_err_and c.from_residual-in_err-end.result c.from_residual-in_err-end.ensures.1 in
+    let p = err_from_is_err_and c.from_residual.result c.from_residual.ensures.1 in
     rw (p.1, p.2)
-    (fails_first
-    (fails_next (functional_inline_blank t) (passed c.requires.blank)
-    (c.in_ok-next.ensures.opens.fails _ c.in_err-end.ensures.meets)))
+    (fails_first (fails_next (functional_inline_blank t) (passed c.requires.blank) c.in_err-end.ensures.meets))
 
 pub get_long_pattern-returns-clause-meets : goal.get_long_pattern-returns-clause-meets
 get_long_pattern-returns-clause-meets g m c =
-    let opened = c.in_ok-next.ensures.opens in
-    on_made c.in_ok-end.ensures.meets (λ ls there same. made
-    (goes_on (goes_on (passed c.requires.blank) (opened.read ls _ there)) given)
-    (c.in_ok-pattern.ensures (record { opening = opened.opening; lines = ls }) opened.same same))
+    let laid = c.in_ok-end.ensures.meets in
+    made (goes_on (goes_on (passed c.requires.blank) laid.read) given)
+    (c.in_ok-pattern.ensures laid.layout laid.same_opening laid.same_lines)
 
 pub get_pattern-returns-in-Some-clause-meets : goal.get_pattern-returns-in-Some-clause-meets
 get_pattern-returns-in-Some-clause-meets g m c =
@@ -971,10 +983,11 @@ get_arguments-returns-in_err-note-in-Some-clause-meets g m c =
     rw (out_of_memory c.from_residual-in_err-note-in-Some.result
     c.from_residual-in_err-note-in-Some.ensures.1) no_memory
 
-pub gather_opening-returns-in_err-end_opening-in-None-clause-opens : goal.gather_opening-returns-in_err-end_opening-in-None-clause-opens
-gather_opening-returns-in_err-end_opening-in-None-clause-opens g m c =
-    rw (out_of_memory c.from_residual-in_err-end_opening-in-None.result
-    c.from_residual-in_err-end_opening-in-None.ensures.1) no_memory
+pub gather_opening-returns-in_err-next-in-None-clause-opens :
+    goal.gather_opening-returns-in_err-next-in-None-clause-opens
+gather_opening-returns-in_err-next-in-None-clause-opens g m c =
+    rw (out_of_memory c.from_residual-in_err-next-in-None.result
+    c.from_residual-in_err-next-in-None.ensures.1) no_memory
 
 -- ---- where a loop begins
 
