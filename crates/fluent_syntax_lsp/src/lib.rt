@@ -21,6 +21,7 @@ mod messages;
 mod methods;
 mod occurrences;
 mod offsets;
+mod others;
 mod outbox;
 mod own;
 mod phases;
