@@ -14,6 +14,7 @@ mod formatting;
 mod frames;
 mod held;
 mod highlights;
+mod ignored;
 mod inbox;
 mod known;
 mod limits;

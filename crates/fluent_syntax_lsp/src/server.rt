@@ -8,6 +8,7 @@ use crate::documents::Document;
 use crate::endings::Ending;
 use crate::formatting::formatted;
 use crate::highlights::{highlights_of, numbers_of};
+use crate::ignored::findings_told;
 use crate::known::{Known, Open, Wanted, known_documents};
 use crate::limits::FINDINGS_LIMIT;
 use crate::messages::{Message, message_of};
@@ -25,7 +26,7 @@ use crate::replies::{
 };
 use crate::symbols::{folds_in, symbols_in};
 use crate::workspace::Workspace;
-use fluent_syntax_names::Finding;
+use fluent_syntax_names::{Finding, Kind};
 use ftl_workspace::{Folders, path_of_uri};
 use serde_json::{Category, Value};
 use std::alloc::{AllocError, Global};
@@ -383,7 +384,21 @@ impl Server {
             return Ok(Vec::new(self.alloc));
         }
         let findings = self.findings(uri, document)?;
-        remarks_of(self.alloc, document.text(), &findings)
+        let told = findings_told(self.alloc, &findings, &self.ignored(uri)?)?;
+        remarks_of(self.alloc, document.text(), &told)
+    }
+
+    /// The kinds of findings that are not told of a document.
+    fn ignored(&self, uri: &str) -> Result<Vec<Kind>, AllocError> {
+        match self.documents.get(uri) {
+            Some(
+                Open {
+                    path: Some(path),
+                    ..
+                },
+            ) => self.workspace.ignored_at(self.alloc, path.as_str()),
+            _ => Ok(Vec::new(self.alloc)),
+        }
     }
 
     /// What is found in a document: by itself, or beside all others where these are known.

@@ -1,18 +1,27 @@
 //! The files of the workspace's folders, as they were read last.
 
 use crate::closed::Closed;
+use crate::ignored::ignored_in;
 use crate::known::Open;
-use fluent_syntax_names::DefinedNames;
+use fluent_syntax_names::{DefinedNames, Kind};
 use ftl_workspace::{Folders, SourceFile, SourceFiles, is_below, path_of_uri, read_files};
 use serde_json::Value;
 use std::alloc::{AllocError, Global};
 use std::collections::BTreeMap;
 
+/// A folder that an editor works in.
+#[derive(Drop)]
+struct Folder {
+    /// Its path, which doesn't end in a `/`.
+    path: String,
+    /// The kinds of findings that are not told of its files.
+    ignored: Vec<Kind>,
+}
+
 /// The folders that an editor works in, and the files below them.
 #[derive(Drop)]
 pub struct Workspace {
-    /// The paths of the folders, which don't end in a `/`.
-    folders: Vec<String>,
+    folders: Vec<Folder>,
     /// The files, by their paths.
     files: BTreeMap<String, Closed>,
     /// Whether these are all files below the folders.
@@ -40,8 +49,11 @@ impl Workspace {
         let mut folders = Vec::new(alloc);
         for uri in folder_uris(alloc, message)?.iter() {
             if let Some(path) = path_of_uri(alloc, *uri)? {
-                let folder = path.as_str().trim_end_matches('/');
-                folders.push(String::from_str(alloc, folder)?)?;
+                let path = path.as_str().trim_end_matches('/');
+                folders.push(Folder {
+                    path: String::from_str(alloc, path)?,
+                    ignored: Vec::new(alloc),
+                })?;
             }
         }
         Ok(Workspace {
@@ -69,10 +81,16 @@ impl Workspace {
     pub fn read<F: Folders>(&mut self, alloc: Global, files: &F) -> Result<(), AllocError> {
         let mut found = BTreeMap::new(alloc);
         let mut all = true;
-        for folder in &self.folders {
-            let SourceFiles { files, is_whole } = read_files(alloc, files, folder.as_str())?;
+        for folder in self.folders.iter_mut() {
+            let path = folder.path.as_str();
+            let ignored = ignored_in(alloc, files, path)?;
+            let SourceFiles {
+                files: sources,
+                is_whole,
+            } = read_files(alloc, files, path)?;
+            folder.ignored = ignored;
             all = all && is_whole;
-            for file in files {
+            for file in sources {
                 let SourceFile { path, text } = file;
                 let before = self.files.remove(path.as_str());
                 match Closed::read(alloc, before, path.as_str(), text)? {
@@ -87,14 +105,26 @@ impl Workspace {
         Ok(())
     }
 
-    /// Whether all files are known that may define what a file at the path refers to: it stands below one of the folders,
-    /// and no file of them was left out.
+    /// Whether all files are known that may define what a file at the path refers to: it stands below one of the
+    /// folders, and no file of them was left out.
     pub fn surrounds(&self, path: &str) -> bool {
         self.is_whole
             && self
                 .folders
                 .iter()
-                .any(|folder| is_searched(folder.as_str(), path))
+                .any(|folder| is_searched(folder.path.as_str(), path))
+    }
+
+    /// The kinds of findings that are not told of a file at the path: those that a folder leaves out below which it
+    /// stands. `AllocError` where a growth was refused.
+    pub fn ignored_at(&self, alloc: Global, path: &str) -> Result<Vec<Kind>, AllocError> {
+        let mut ignored = Vec::new(alloc);
+        for folder in &self.folders {
+            if is_below(folder.path.as_str(), path) {
+                ignored.extend_from_slice(&folder.ignored)?;
+            }
+        }
+        Ok(ignored)
     }
 
     /// The names that the closed files define. None where they were not looked up.

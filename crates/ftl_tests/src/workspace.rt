@@ -399,3 +399,40 @@ fn references_where_a_file_is_left_out(rt: HostRuntime) -> Result<(), Fail> {
     let told = told_last(alloc, &files, &[document])?;
     assert_told(alloc, "one left out", told.as_str(), &[])
 }
+
+/// The text of an `ftl.toml`, and whether the kind `undefined-message` is told then.
+const SETTINGS: [(&str, bool); 6] = [
+    ("", true),
+    ("ignore = [\"undefined-message\"]\n", false),
+    (
+        "ignore = [\"undefined-term\", \"undefined-message\"]\n",
+        false,
+    ),
+    ("ignore = [\"undefined-term\"]\n", true),
+    ("ignore = [\"undefined-message\"\n", true),
+    ("ignored = [\"undefined-message\"]\n", true),
+];
+
+#[test]
+fn kinds_that_are_left_out(rt: HostRuntime) -> Result<(), Fail> {
+    let alloc = rt.alloc();
+    let findings: [(&str, usize); 1] = [("undefined-message", 6)];
+    for row in &SETTINGS {
+        let (text, is_told) = *row;
+        let mut files = whole_files(alloc)?;
+        files.put(alloc, "/w/ftl.toml", text.as_bytes())?;
+        files.put(
+            alloc,
+            "/w/de/ftl.toml",
+            b"ignore = [\"undefined-message\"]\n",
+        )?;
+        let told = told_last(alloc, &files, &[("file:///w/c.ftl", "c = { menus }")])?;
+        let expected = if is_told {
+            &findings[..]
+        } else {
+            &findings[..0]
+        };
+        assert_told(alloc, text, told.as_str(), expected)?;
+    }
+    Ok(())
+}

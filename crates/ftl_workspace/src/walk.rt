@@ -8,9 +8,9 @@ use std::fs::{self, DirEntry};
 use std::io::{self, ErrorKind};
 use std::rt::Files;
 
-/// The files below the folder whose names end in `.ftl`. No symlink is followed, and no folder is looked into whose name
-/// begins with a `.`: all others are the whole. What can't be read is left out, and what comes behind `FOLDERS_LIMIT`
-/// folders or `FILES_LIMIT` files. `AllocError` where a growth was refused.
+/// The files below the folder whose names end in `.ftl`. No symlink is followed, and no folder is looked into whose
+/// name begins with a `.`: all others are the whole. What can't be read is left out, and what comes behind
+/// `FOLDERS_LIMIT` folders or `FILES_LIMIT` files. `AllocError` where a growth was refused.
 pub(crate) fn files_below<R: Files + AllocGlobal + Clone + Drop>(
     rt: &R,
     alloc: Global,
