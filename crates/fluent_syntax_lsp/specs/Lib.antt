@@ -12,6 +12,7 @@ pub mod Documents
 pub mod Held
 pub mod Highlights
 pub mod Occurrences
+pub mod Ignored
 pub mod Known
 pub mod Offsets
 pub mod Own

@@ -1,9 +1,12 @@
 //! A file of the workspace that is not open, with the names in it.
 ghost use Rattle.std.specs.Prelude.{◌≡◌, IfOk, IfSome, string_bytes};
 ghost use Rattle.fluent_syntax_lsp.specs.Occurrences.{Occurs};
+ghost use Rattle.fluent_syntax_lsp.specs.Own.{AreMentionsOf};
 
 use crate::documents::Document;
 use crate::occurrences::Occurrence;
+use fluent_syntax::spans::Span;
+use fluent_syntax_names::Mention;
 use ftl_workspace::uri_of_path;
 use std::alloc::{AllocError, Global};
 
@@ -14,6 +17,8 @@ pub struct Closed {
     pub text: String,
     /// The names in the text, in order.
     pub occurrences: Vec<Occurrence>,
+    /// What its entries say of names, in order.
+    pub mentions: Vec<Mention<Span>>,
 }
 
 impl Closed {
@@ -23,12 +28,15 @@ impl Closed {
         ensures text { IfOk result (λ found. IfSome found (λ file. string_bytes file.text ≡ string_bytes text)) }
         ensures names { IfOk result (λ found. IfSome found (λ file.
             Occurs (string_bytes text) file.occurrences.items)) }
+        ensures mentions { IfOk result (λ found. IfSome found (λ file.
+            AreMentionsOf (string_bytes text) file.mentions.items)) }
     {
         match Document::new(alloc, text.as_str())? {
             Document::Held(held) => Ok(Some(Closed {
                 uri: uri_of_path(alloc, path)?,
                 text,
                 occurrences: held.occurrences(alloc)?,
+                mentions: held.mentions(alloc)?,
             })),
             Document::TooDeep(_) => Ok(None),
         }

@@ -62,7 +62,7 @@ pub fn watch_request(alloc: Global) -> Result<Value, AllocError> {
         "params": {"registrations": [{
             "id": "ftl-files",
             "method": "workspace/didChangeWatchedFiles",
-            "registerOptions": {"watchers": [{"globPattern": "**/*.ftl"}]}
+            "registerOptions": {"watchers": [{"globPattern": "**/*.ftl"}, {"globPattern": "**/ftl.toml"}]}
         }]}
     })
 }

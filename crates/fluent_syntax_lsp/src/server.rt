@@ -8,12 +8,14 @@ use crate::documents::Document;
 use crate::endings::Ending;
 use crate::formatting::formatted;
 use crate::highlights::{highlights_of, numbers_of};
+use crate::ignored::findings_told;
 use crate::known::{Known, Open, Wanted, known_documents};
 use crate::limits::FINDINGS_LIMIT;
 use crate::messages::{Message, message_of};
 use crate::methods::Method;
 use crate::occurrences::bytes_of;
 use crate::offsets::byte_of;
+use crate::others::{look_up_others, others_of};
 use crate::phases::{ErrorCode, Phase};
 use crate::places::Places;
 use crate::remarks::{Remark, remarks_of};
@@ -24,6 +26,7 @@ use crate::replies::{
 };
 use crate::symbols::{folds_in, symbols_in};
 use crate::workspace::Workspace;
+use fluent_syntax_names::{Finding, Kind};
 use ftl_workspace::{Folders, path_of_uri};
 use serde_json::{Category, Value};
 use std::alloc::{AllocError, Global};
@@ -305,8 +308,10 @@ impl Server {
             path,
             version,
             document,
+            defined: None,
         };
         drop(self.documents.insert(name, open)?);
+        self.workspace.forget_defined();
         self.publish(uri)
     }
 
@@ -329,6 +334,7 @@ impl Server {
             made.push(change)?;
         }
         open.version = version;
+        open.defined = None;
         for change in &made {
             change.apply(self.alloc, &mut open.document)?;
         }
@@ -336,13 +342,30 @@ impl Server {
     }
 
     /// The diagnostics of a document; None where it is not open.
-    fn publish(&self, uri: &str) -> Result<Option<Value>, AllocError> {
+    fn publish(&mut self, uri: &str) -> Result<Option<Value>, AllocError> {
+        if self.is_surrounded(uri) {
+            look_up_others(self.alloc, uri, &mut self.documents, &mut self.workspace)?;
+        }
         let Some(open) = self.documents.get(uri) else {
             return Ok(None);
         };
         let errors = open.document.diagnostics(self.alloc)?;
-        let remarks = self.remarks(&open.document)?;
+        let remarks = self.remarks(uri, &open.document)?;
         Ok(Some(self.published(uri, &errors, &remarks)?))
+    }
+
+    /// Whether the document's findings are sought, and all files are known that may define what it refers to.
+    fn is_surrounded(&self, uri: &str) -> bool {
+        match self.documents.get(uri) {
+            Some(
+                Open {
+                    path: Some(path),
+                    document,
+                    ..
+                },
+            ) => is_short(document) && self.workspace.surrounds(path.as_str()),
+            _ => false,
+        }
     }
 
     /// The notification of these diagnostics.
@@ -356,12 +379,36 @@ impl Server {
     }
 
     /// What is told of a document's findings; nothing of a document that is too long.
-    fn remarks(&self, document: &Document) -> Result<Vec<Remark>, AllocError> {
-        if document.text().len() > FINDINGS_LIMIT {
+    fn remarks(&self, uri: &str, document: &Document) -> Result<Vec<Remark>, AllocError> {
+        if !is_short(document) {
             return Ok(Vec::new(self.alloc));
         }
-        let findings = document.findings(self.alloc)?;
-        remarks_of(self.alloc, document.text(), &findings)
+        let findings = self.findings(uri, document)?;
+        let told = findings_told(self.alloc, &findings, &self.ignored(uri)?)?;
+        remarks_of(self.alloc, document.text(), &told)
+    }
+
+    /// The kinds of findings that are not told of a document.
+    fn ignored(&self, uri: &str) -> Result<Vec<Kind>, AllocError> {
+        match self.documents.get(uri) {
+            Some(
+                Open {
+                    path: Some(path),
+                    ..
+                },
+            ) => self.workspace.ignored_at(self.alloc, path.as_str()),
+            _ => Ok(Vec::new(self.alloc)),
+        }
+    }
+
+    /// What is found in a document: by itself, or beside all others where these are known.
+    fn findings(&self, uri: &str, document: &Document) -> Result<Vec<Finding>, AllocError> {
+        if self.is_surrounded(uri) {
+            if let Some(others) = others_of(self.alloc, uri, &self.documents, &self.workspace)? {
+                return document.findings_beside(self.alloc, &others);
+            }
+        }
+        document.findings(self.alloc)
     }
 
     /// Closes a document, and takes its diagnostics back.
@@ -369,12 +416,18 @@ impl Server {
         match self.documents.remove(uri) {
             None => Ok(None),
             Some(_) => {
+                self.workspace.forget_defined();
                 let errors = Vec::new(self.alloc);
                 let remarks = Vec::new(self.alloc);
                 Ok(Some(self.published(uri, &errors, &remarks)?))
             }
         }
     }
+}
+
+/// Whether the findings of a document are sought, which takes the longer the longer it is.
+fn is_short(document: &Document) -> bool {
+    document.text().len() <= FINDINGS_LIMIT
 }
 
 /// Whether the files of the workspace may be others behind a notification.

@@ -133,11 +133,15 @@ fn files_of_a_folder(rt: HostRuntime) -> Result<(), Fail> {
     let alloc = rt.alloc();
     let files = some_files(alloc)?;
     let listed = files.files_below(alloc, "/w")?;
-    assert_same(alloc, "listed", &listed.len(), &5)?;
+    assert_same(alloc, "listed", &listed.paths.len(), &5)?;
+    assert_holds(alloc, "all listed", listed.is_whole)?;
     let found = read_files(alloc, &files, "/w")?;
-    assert_holds(alloc, "found", are_files(&found, &FOUND))?;
+    assert_holds(alloc, "found", are_files(&found.files, &FOUND))?;
+    assert_holds(alloc, "two left out", !found.is_whole)?;
+    let whole = read_files(alloc, &files, "/w/de")?;
+    assert_holds(alloc, "none left out", whole.is_whole)?;
     let none = read_files(alloc, &files, "/v")?;
-    assert_holds(alloc, "none there", none.is_empty())
+    assert_holds(alloc, "none there", none.files.is_empty() && none.is_whole)
 }
 
 /// Names of a text, by what they are and where they stand.
@@ -208,12 +212,10 @@ const RENAMED: [&str; 4] = [
     {\"character\":0,\"line\":0}}}],\"textDocument\":{\"uri\":\"file:///w/en/a.ftl\",\"version\":null}}",
 ];
 
-#[test]
-fn a_session_over_closed_files(rt: HostRuntime) -> Result<(), Fail> {
-    let alloc = rt.alloc();
-    let files = some_files(alloc)?;
+/// What a session over the files answers to the messages.
+fn answers(alloc: Global, files: &InMemory, bodies: &[&str]) -> Result<String, Fail> {
     let mut input = String::new(alloc);
-    for body in &[INITIALIZE, INITIALIZED, OPENED, DEFINITION, RENAME] {
+    for body in bodies {
         let header = format!(in alloc; "Content-Length: {}\r\n\r\n", body.len())?;
         input.push_str(header.as_str())?;
         input.push_str(*body)?;
@@ -223,12 +225,214 @@ fn a_session_over_closed_files(rt: HostRuntime) -> Result<(), Fail> {
         alloc,
         &mut Watched::new(input.as_bytes()),
         &mut writer,
-        &files,
+        files,
     );
-    let output = String::from_utf8_lossy(alloc, writer.as_slice())?;
+    Ok(String::from_utf8(writer).unwrap_or(String::new(alloc)))
+}
+
+#[test]
+fn a_session_over_closed_files(rt: HostRuntime) -> Result<(), Fail> {
+    let alloc = rt.alloc();
+    let files = some_files(alloc)?;
+    let bodies = [INITIALIZE, INITIALIZED, OPENED, DEFINITION, RENAME];
+    let output = answers(alloc, &files, &bodies)?;
     assert_holds(alloc, "the definition", output.contains(DEFINED))?;
     for edits in &RENAMED {
         assert_holds(alloc, *edits, output.contains(*edits))?;
     }
     assert_holds(alloc, "no other file", !output.contains("/x/a.ftl"))
+}
+
+/// The message that opens a document.
+fn opening(alloc: Global, uri: &str, text: &str) -> Result<String, Fail> {
+    let body = format!(in alloc;
+        "{{\"jsonrpc\":\"2.0\",\"method\":\"textDocument/didOpen\",\"params\":\
+        {{\"textDocument\":{{\"uri\":\"{uri}\",\"version\":1,\"text\":\"{text}\"}}}}}}"
+    )?;
+    Ok(body)
+}
+
+/// What is shown, a document that is opened behind others of the folder `/w`, its text, and the findings that are told
+/// of it: each by its kind and the column where it stands.
+type ReferenceRow = (
+    &'static str,
+    &'static str,
+    &'static str,
+    &'static [(&'static str, usize)],
+);
+
+const REFERENCES: [ReferenceRow; 10] = [
+    ("its own", "/w/c.ftl", "c = { d }\\nd = D", &[]),
+    (
+        "a closed file's",
+        "/w/c.ftl",
+        "c = { menu } { menu.title }",
+        &[],
+    ),
+    (
+        "an open document's",
+        "/w/c.ftl",
+        "c = { open } { -brand }",
+        &[],
+    ),
+    (
+        "no message",
+        "/w/c.ftl",
+        "c = { menus }",
+        &[("undefined-message", 6)],
+    ),
+    (
+        "no term",
+        "/w/c.ftl",
+        "c = { -menu }",
+        &[("undefined-term", 7)],
+    ),
+    (
+        "no attribute",
+        "/w/c.ftl",
+        "c = { menu.text }",
+        &[("undefined-attribute", 11)],
+    ),
+    (
+        "no value",
+        "/w/c.ftl",
+        "c = { bare }",
+        &[("undefined-value", 6)],
+    ),
+    (
+        "what is hidden by an open document",
+        "/w/c.ftl",
+        "c = { hidden }",
+        &[("undefined-message", 6)],
+    ),
+    ("outside of the folder", "/v/c.ftl", "c = { menus }", &[]),
+    (
+        "in a folder that is passed over",
+        "/w/.d/c.ftl",
+        "c = { menus }",
+        &[],
+    ),
+];
+
+/// Files of a folder of which none is left out.
+fn whole_files(alloc: Global) -> Result<InMemory, Fail> {
+    let mut files = InMemory::new(alloc);
+    files.put(
+        alloc,
+        "/w/de/a.ftl",
+        b"menu = Karte\n    .title = Titel\nbare =\n    .t = T\n",
+    )?;
+    files.put(alloc, "/w/open.ftl", b"hidden = Hidden\n")?;
+    Ok(files)
+}
+
+/// The document that is open beside.
+const BESIDE: (&str, &str) = ("file:///w/open.ftl", "open = Open\\n-brand = Brand");
+
+/// What is told last in a session over the files, in which the documents are opened.
+fn told_last(alloc: Global, files: &InMemory, documents: &[(&str, &str)]) -> Result<String, Fail> {
+    let mut opened = Vec::new(alloc);
+    for row in documents {
+        opened.push(opening(alloc, row.0, row.1)?)?;
+    }
+    let mut bodies = vec![in alloc; INITIALIZE, INITIALIZED]?;
+    for body in &opened {
+        bodies.push(body.as_str())?;
+    }
+    let output = answers(alloc, files, &bodies)?;
+    let last = output
+        .as_str()
+        .rsplit("Content-Length")
+        .next()
+        .unwrap_or("");
+    Ok(String::from_str(alloc, last)?)
+}
+
+/// That these findings are told, and no other ones.
+fn assert_told(
+    alloc: Global,
+    shows: &str,
+    told: &str,
+    findings: &[(&str, usize)],
+) -> Result<(), Fail> {
+    assert_same(
+        alloc,
+        shows,
+        &told.matches("\"code\"").count(),
+        &findings.len(),
+    )?;
+    for finding in findings {
+        let code = format!(in alloc; "\"code\":\"{}\"", finding.0)?;
+        let start = format!(in alloc; "\"start\":{{\"character\":{},\"line\":0}}", finding.1)?;
+        let is_told = told.contains(code.as_str()) && told.contains(start.as_str());
+        assert_holds(alloc, shows, is_told)?;
+    }
+    Ok(())
+}
+
+#[test]
+fn references_that_nothing_defines(rt: HostRuntime) -> Result<(), Fail> {
+    let alloc = rt.alloc();
+    let files = whole_files(alloc)?;
+    for row in &REFERENCES {
+        let (shows, path, text, findings) = *row;
+        let uri = uri_of_path(alloc, path)?;
+        let told = told_last(alloc, &files, &[BESIDE, (uri.as_str(), text)])?;
+        assert_told(alloc, shows, told.as_str(), findings)?;
+    }
+    Ok(())
+}
+
+#[test]
+fn references_where_a_file_is_left_out(rt: HostRuntime) -> Result<(), Fail> {
+    let alloc = rt.alloc();
+    let document = ("file:///w/c.ftl", "c = { menus }");
+    let mut files = whole_files(alloc)?;
+    let told = told_last(alloc, &files, &[document])?;
+    assert_told(
+        alloc,
+        "none left out",
+        told.as_str(),
+        &[("undefined-message", 6)],
+    )?;
+    files.put(alloc, "/w/no.ftl", b"\xff")?;
+    let told = told_last(alloc, &files, &[document])?;
+    assert_told(alloc, "one left out", told.as_str(), &[])
+}
+
+/// The text of an `ftl.toml`, and whether the kind `undefined-message` is told then.
+const SETTINGS: [(&str, bool); 6] = [
+    ("", true),
+    ("ignore = [\"undefined-message\"]\n", false),
+    (
+        "ignore = [\"undefined-term\", \"undefined-message\"]\n",
+        false,
+    ),
+    ("ignore = [\"undefined-term\"]\n", true),
+    ("ignore = [\"undefined-message\"\n", true),
+    ("ignored = [\"undefined-message\"]\n", true),
+];
+
+#[test]
+fn kinds_that_are_left_out(rt: HostRuntime) -> Result<(), Fail> {
+    let alloc = rt.alloc();
+    let findings: [(&str, usize); 1] = [("undefined-message", 6)];
+    for row in &SETTINGS {
+        let (text, is_told) = *row;
+        let mut files = whole_files(alloc)?;
+        files.put(alloc, "/w/ftl.toml", text.as_bytes())?;
+        files.put(
+            alloc,
+            "/w/de/ftl.toml",
+            b"ignore = [\"undefined-message\"]\n",
+        )?;
+        let told = told_last(alloc, &files, &[("file:///w/c.ftl", "c = { menus }")])?;
+        let expected = if is_told {
+            &findings[..]
+        } else {
+            &findings[..0]
+        };
+        assert_told(alloc, text, told.as_str(), expected)?;
+    }
+    Ok(())
 }

@@ -1,6 +1,6 @@
 //! The files of the system.
 
-use crate::folders::Folders;
+use crate::folders::{Folders, Listing};
 use crate::walk::files_below;
 use std::alloc::{AllocError, Global};
 use std::fs;
@@ -21,7 +21,7 @@ impl<'r, R> OnDisk<'r, R> {
 }
 
 impl<R: Files + AllocGlobal + Clone + Drop> Folders for OnDisk<'_, R> {
-    fn files_below(&self, alloc: Global, folder: &str) -> Result<Vec<String>, AllocError> {
+    fn files_below(&self, alloc: Global, folder: &str) -> Result<Listing, AllocError> {
         files_below(self.rt, alloc, folder)
     }
 

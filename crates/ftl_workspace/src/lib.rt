@@ -12,10 +12,10 @@ mod uris;
 mod walk;
 
 pub use disk::OnDisk;
-pub use folders::Folders;
+pub use folders::{Folders, Listing};
 pub use limits::{BYTES_LIMIT, FILE_LIMIT, FILES_LIMIT, FOLDERS_LIMIT};
 pub use memory::InMemory;
 pub use nearness::shared_folders;
 pub use paths::is_below;
-pub use reading::{SourceFile, read_files};
+pub use reading::{SourceFile, SourceFiles, read_files};
 pub use uris::{path_of_uri, uri_of_path};

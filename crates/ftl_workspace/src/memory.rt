@@ -2,7 +2,7 @@
 ghost use Rattle.std.specs.Prelude.{◌≡◌, [], None, Some, MatchOption, OnOk};
 ghost use Rattle.ftl_workspace.specs.Memory.{bytes_at};
 
-use crate::folders::Folders;
+use crate::folders::{Folders, Listing};
 use crate::paths::is_below;
 use std::alloc::{AllocError, Global};
 
@@ -57,7 +57,7 @@ impl InMemory {
 impl Folders for InMemory {
     ghost bytes_at = { λ memory. bytes_at memory.files.items };
 
-    fn files_below(&self, alloc: Global, folder: &str) -> Result<Vec<String>, AllocError> {
+    fn files_below(&self, alloc: Global, folder: &str) -> Result<Listing, AllocError> {
         let mut found = Vec::new(alloc);
         for file in &self.files {
             let path = file.path.as_str();
@@ -67,7 +67,10 @@ impl Folders for InMemory {
         }
         found.sort()?;
         found.dedup();
-        Ok(found)
+        Ok(Listing {
+            paths: found,
+            is_whole: true,
+        })
     }
 
     fn read(&self, alloc: Global, path: &str, limit: usize) -> Result<Option<Vec<u8>>, AllocError> {
