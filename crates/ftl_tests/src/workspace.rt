@@ -329,17 +329,9 @@ fn whole_files(alloc: Global) -> Result<InMemory, Fail> {
 /// The document that is open beside.
 const BESIDE: (&str, &str) = ("file:///w/open.ftl", "open = Open\\n-brand = Brand");
 
-/// What is told last in a session over the files, in which the documents are opened.
-fn told_last(alloc: Global, files: &InMemory, documents: &[(&str, &str)]) -> Result<String, Fail> {
-    let mut opened = Vec::new(alloc);
-    for row in documents {
-        opened.push(opening(alloc, row.0, row.1)?)?;
-    }
-    let mut bodies = vec![in alloc; INITIALIZE, INITIALIZED]?;
-    for body in &opened {
-        bodies.push(body.as_str())?;
-    }
-    let output = answers(alloc, files, &bodies)?;
+/// What is told last in a session over the files.
+fn told_last(alloc: Global, files: &InMemory, bodies: &[&str]) -> Result<String, Fail> {
+    let output = answers(alloc, files, bodies)?;
     let last = output
         .as_str()
         .rsplit("Content-Length")
@@ -374,10 +366,13 @@ fn assert_told(
 fn references_that_nothing_defines(rt: HostRuntime) -> Result<(), Fail> {
     let alloc = rt.alloc();
     let files = whole_files(alloc)?;
+    let beside = opening(alloc, BESIDE.0, BESIDE.1)?;
     for row in &REFERENCES {
         let (shows, path, text, findings) = *row;
         let uri = uri_of_path(alloc, path)?;
-        let told = told_last(alloc, &files, &[BESIDE, (uri.as_str(), text)])?;
+        let opened = opening(alloc, uri.as_str(), text)?;
+        let bodies = [INITIALIZE, INITIALIZED, beside.as_str(), opened.as_str()];
+        let told = told_last(alloc, &files, &bodies)?;
         assert_told(alloc, shows, told.as_str(), findings)?;
     }
     Ok(())
@@ -386,9 +381,9 @@ fn references_that_nothing_defines(rt: HostRuntime) -> Result<(), Fail> {
 #[test]
 fn references_where_a_file_is_left_out(rt: HostRuntime) -> Result<(), Fail> {
     let alloc = rt.alloc();
-    let document = ("file:///w/c.ftl", "c = { menus }");
+    let opened = opening(alloc, "file:///w/c.ftl", "c = { menus }")?;
     let mut files = whole_files(alloc)?;
-    let told = told_last(alloc, &files, &[document])?;
+    let told = told_last(alloc, &files, &[INITIALIZE, INITIALIZED, opened.as_str()])?;
     assert_told(
         alloc,
         "none left out",
@@ -396,7 +391,7 @@ fn references_where_a_file_is_left_out(rt: HostRuntime) -> Result<(), Fail> {
         &[("undefined-message", 6)],
     )?;
     files.put(alloc, "/w/no.ftl", b"\xff")?;
-    let told = told_last(alloc, &files, &[document])?;
+    let told = told_last(alloc, &files, &[INITIALIZE, INITIALIZED, opened.as_str()])?;
     assert_told(alloc, "one left out", told.as_str(), &[])
 }
 
@@ -416,7 +411,7 @@ const SETTINGS: [(&str, bool); 6] = [
 #[test]
 fn kinds_that_are_left_out(rt: HostRuntime) -> Result<(), Fail> {
     let alloc = rt.alloc();
-    let findings: [(&str, usize); 1] = [("undefined-message", 6)];
+    let opened = opening(alloc, "file:///w/c.ftl", "c = { menus }")?;
     for row in &SETTINGS {
         let (text, is_told) = *row;
         let mut files = whole_files(alloc)?;
@@ -426,13 +421,12 @@ fn kinds_that_are_left_out(rt: HostRuntime) -> Result<(), Fail> {
             "/w/de/ftl.toml",
             b"ignore = [\"undefined-message\"]\n",
         )?;
-        let told = told_last(alloc, &files, &[("file:///w/c.ftl", "c = { menus }")])?;
-        let expected = if is_told {
-            &findings[..]
+        let told = told_last(alloc, &files, &[INITIALIZE, INITIALIZED, opened.as_str()])?;
+        if is_told {
+            assert_told(alloc, text, told.as_str(), &[("undefined-message", 6)])?;
         } else {
-            &findings[..0]
-        };
-        assert_told(alloc, text, told.as_str(), expected)?;
+            assert_told(alloc, text, told.as_str(), &[])?;
+        }
     }
     Ok(())
 }
