@@ -1,5 +1,5 @@
 -- Tokens as the protocol counts them.
-use Rattle.std.specs.Prelude.{◌≡◌, ℕ, ◌-◌, ◌==◌, ◌&&◌, nat_lt, List, [], ◌∷◌, ◌++◌, Option, Some, None, Bool}
+use Rattle.std.specs.Prelude.{ℕ, ◌-◌, ◌==◌, ◌&&◌, nat_lt, List, [], ◌∷◌, ◌++◌, Option, Some, None, Bool}
 use Rattle.std.specs.Prelude.{if◌then◌else◌}
 use Rattle.fluent_syntax_lsp.specs.Remarks.{range_at}
 use Rattle.fluent_syntax_lsp.specs.Tokens.{defines, marked}

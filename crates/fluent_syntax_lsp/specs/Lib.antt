@@ -11,6 +11,9 @@ pub mod Formatting
 pub mod Documents
 pub mod Held
 pub mod Highlights
+pub mod Occurrences
+pub mod Ignored
+pub mod Known
 pub mod Offsets
 pub mod Own
 pub mod Remarks

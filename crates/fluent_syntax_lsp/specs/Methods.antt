@@ -6,7 +6,8 @@ use Rattle.fluent_syntax_lsp.specs.declared.methods.Method.TheVariants.{Formatti
 use Rattle.fluent_syntax_lsp.specs.declared.methods.Method.TheVariants.{DidClose, DidSave, Exit}
 use Rattle.fluent_syntax_lsp.specs.declared.methods.Method.TheVariants.{Definition, References, DocumentHighlight}
 use Rattle.fluent_syntax_lsp.specs.declared.methods.Method.TheVariants.{Hover, Rename, Completion, WorkspaceSymbol}
-use Rattle.fluent_syntax_lsp.specs.declared.methods.Method.TheVariants.{SemanticTokens}
+use Rattle.fluent_syntax_lsp.specs.declared.methods.Method.TheVariants.{SemanticTokens, Initialized}
+use Rattle.fluent_syntax_lsp.specs.declared.methods.Method.TheVariants.{DidChangeWatchedFiles}
 
 abbrev pub name_of : Method → List ℕ
 name_of Initialize = codes "initialize"
@@ -27,3 +28,5 @@ name_of DidChange = codes "textDocument/didChange"
 name_of DidClose = codes "textDocument/didClose"
 name_of DidSave = codes "textDocument/didSave"
 name_of Exit = codes "exit"
+name_of Initialized = codes "initialized"
+name_of DidChangeWatchedFiles = codes "workspace/didChangeWatchedFiles"

@@ -1,12 +1,14 @@
--- What is found in a document by itself.
-use Rattle.std.specs.Prelude.{◌≡◌, ℕ, List, [], ◌∷◌}
+-- What is found in a document, by itself and beside others.
+use Rattle.std.specs.Prelude.{◌≡◌, ℕ, Bool, false, List, [], ◌∷◌}
 use Rattle.fluent_syntax_tree.specs.Entry.{entry_map}
 use Rattle.fluent_syntax_tree.specs.declared.edition.Edition.TheVariants.{One}
 use Rattle.fluent_syntax_tree.specs.declared.spans.Span.{Span}
 use Rattle.fluent_syntax_grammar.specs.Body.{body}
 use Rattle.fluent_syntax_grammar.specs.Tiling.{Tile, Tiling}
-use Rattle.fluent_syntax_names.specs.Findings.{own_findings}
+use Rattle.fluent_syntax_names.specs.Findings.{findings_beside, is_defined, own_findings}
+use Rattle.fluent_syntax_names.specs.Knowing.{defines_name}
 use Rattle.fluent_syntax_names.specs.Mentions.{Mentions, body_mentions, entry_mentions, span_on}
+use Rattle.fluent_syntax_names.specs.declared.defined_names.DefinedNames.{DefinedNames}
 use Rattle.fluent_syntax_names.specs.declared.finding.Finding.{Finding}
 use Rattle.fluent_syntax_names.specs.declared.outline.Outline.{Outline}
 use Rattle.fluent_syntax_parser.specs.Rest.{tree_of}
@@ -37,3 +39,31 @@ pub record FindsOwn (t : List ℕ) (found : List Finding) : Type 0 where
 abbrev pub FindsInDocument : Document → List Finding → Type 0
 FindsInDocument (Held t) found = FindsOwn t found
 FindsInDocument (TooDeep text) found = found ≡ []
+
+-- It is what is found in the text where others define these names, in order: also each reference to what neither the
+-- text nor one of them defines.
+pub record FindsBeside (t : List ℕ) (others : List ℕ → Bool) (found : List Finding) : Type 0 where
+  pub outline : Outline
+  pub is_outline : IsOutlineOf t outline
+  pub found_there : found ≡ findings_beside (outline ∷ []) others
+
+abbrev pub FindsBesideInDocument : Document → (List ℕ → Bool) → List Finding → Type 0
+FindsBesideInDocument (Held t) others found = FindsBeside t others found
+FindsBesideInDocument (TooDeep text) others found = found ≡ []
+
+-- They are what the entries of the text's tiling say of names, in order.
+pub record AreMentionsOf (t : List ℕ) (mentions : Mentions Span) : Type 0 where
+  pub outline : Outline
+  pub is_outline : IsOutlineOf t outline
+  pub all : mentions ≡ outline.mentions.items
+
+-- They are the names that the text defines.
+pub record Defines (t : List ℕ) (names : DefinedNames) : Type 0 where
+  pub outline : Outline
+  pub is_outline : IsOutlineOf t outline
+  pub defined : (name : List ℕ) → defines_name names name ≡ is_defined (outline ∷ []) name
+
+-- The same of a document; one that nests too deeply defines none.
+abbrev pub DefinesInDocument : Document → DefinedNames → Type 0
+DefinesInDocument (Held t) names = Defines t names
+DefinesInDocument (TooDeep text) names = (name : List ℕ) → defines_name names name ≡ false

@@ -8,7 +8,8 @@ use Rattle.fluent_syntax_lsp.specs.declared.methods.Method.TheVariants.{Formatti
 use Rattle.fluent_syntax_lsp.specs.declared.methods.Method.TheVariants.{DidClose, DidSave, Exit}
 use Rattle.fluent_syntax_lsp.specs.declared.methods.Method.TheVariants.{Definition, References, DocumentHighlight}
 use Rattle.fluent_syntax_lsp.specs.declared.methods.Method.TheVariants.{Hover, Rename, Completion, WorkspaceSymbol}
-use Rattle.fluent_syntax_lsp.specs.declared.methods.Method.TheVariants.{SemanticTokens}
+use Rattle.fluent_syntax_lsp.specs.declared.methods.Method.TheVariants.{SemanticTokens, Initialized}
+use Rattle.fluent_syntax_lsp.specs.declared.methods.Method.TheVariants.{DidChangeWatchedFiles}
 use Rattle.fluent_syntax_lsp.specs.declared.phases.Phase.{Phase}
 use Rattle.fluent_syntax_lsp.specs.declared.phases.Phase.TheVariants.{Fresh, Running, ShutDown, Exited, Left}
 use Rattle.fluent_syntax_lsp.specs.declared.phases.ErrorCode.{ErrorCode}
@@ -48,6 +49,8 @@ refusal_behind (Some DidChange) = Some MethodNotFound
 refusal_behind (Some DidClose) = Some MethodNotFound
 refusal_behind (Some DidSave) = Some MethodNotFound
 refusal_behind (Some Exit) = Some MethodNotFound
+refusal_behind (Some Initialized) = Some MethodNotFound
+refusal_behind (Some DidChangeWatchedFiles) = Some MethodNotFound
 refusal_behind None = Some MethodNotFound
 
 -- behind `shutdown` every request is refused

@@ -4,10 +4,12 @@ use crate::known::{Known, Wanted};
 use crate::occurrences::{Name, name_of};
 use crate::places::Places;
 use crate::replies::{highlight_form, location_form};
+use fluent_syntax::spans::Span;
+use ftl_workspace::shared_folders;
 use serde_json::{Value, json};
 use std::alloc::{AllocError, Global};
 
-/// The open documents, the number of the one that is named, and a byte of it.
+/// The open documents and the closed files, the number of the document that is named, and a byte of it.
 #[derive(Drop)]
 pub struct Asked<'d> {
     pub documents: Vec<Known<'d>>,
@@ -24,22 +26,66 @@ impl Asked<'_> {
     /// The name at the place. None where there is none.
     pub fn name(&self) -> Option<Name<'_>> {
         let here = self.here()?;
-        Some(name_of(here.text(), here.occurrence_at(self.byte)?))
+        Some(name_of(here.text, here.occurrence_at(self.byte)?))
     }
 
-    /// Where the name at the place stands in the open documents; null where there is none.
+    /// Where the name at the place stands in the open documents and the closed files; null where there is no name.
     pub fn locations(&self, alloc: Global, wanted: Wanted) -> Result<Value, AllocError> {
         let Some(name) = self.name() else {
             return Ok(Value::Null);
         };
         let mut list = Vec::new(alloc);
         for known in &self.documents {
-            let mut places = Places::new(known.text());
-            for span in known.places_of(alloc, name, wanted)?.iter() {
-                list.push(location_form(alloc, known.uri, &mut places, *span)?)?;
+            add_locations(
+                alloc,
+                &mut list,
+                known,
+                &known.places_of(alloc, name, wanted)?,
+            )?;
+        }
+        Ok(Value::Array(list))
+    }
+
+    /// Where the name at the place is defined, in the documents and files that are nearest; null where there is no
+    /// name.
+    pub fn definitions(&self, alloc: Global) -> Result<Value, AllocError> {
+        let Some(name) = self.name() else {
+            return Ok(Value::Null);
+        };
+        let mut list = Vec::new(alloc);
+        for (number, places) in self.nearest(alloc, name)?.iter() {
+            if let Some(known) = self.documents.get(*number) {
+                add_locations(alloc, &mut list, known, places)?;
             }
         }
         Ok(Value::Array(list))
+    }
+
+    /// The documents and files that define the name and have the most folders in common with the document that is
+    /// named: the number of each, and where it does so.
+    fn nearest(
+        &self,
+        alloc: Global,
+        name: Name<'_>,
+    ) -> Result<Vec<(usize, Vec<Span>)>, AllocError> {
+        let mut found = Vec::new(alloc);
+        let mut most = 0;
+        let from = match self.here() {
+            Some(here) => here.path,
+            None => "",
+        };
+        for (number, known) in self.documents.iter().enumerate() {
+            let places = known.places_of(alloc, name, Wanted::Definitions)?;
+            let shared = shared_folders(from, known.path);
+            if !places.is_empty() && shared >= most {
+                if shared > most {
+                    found.clear();
+                }
+                most = shared;
+                found.push((number, places))?;
+            }
+        }
+        Ok(found)
     }
 
     /// Where the name at the place stands in its document; null where there is none.
@@ -48,28 +94,23 @@ impl Asked<'_> {
             return Ok(Value::Null);
         };
         let mut list = Vec::new(alloc);
-        let mut places = Places::new(here.text());
+        let mut places = Places::new(here.text);
         for span in here.places_of(alloc, name, Wanted::All)?.iter() {
             list.push(highlight_form(alloc, &mut places, *span)?)?;
         }
         Ok(Value::Array(list))
     }
 
-    /// The entries that define the name at the place, as they stand in their documents, with their comments; null where
-    /// none does.
+    /// The entries that define the name at the place, of the documents and files that are nearest, as they stand there,
+    /// with their comments; null where none does.
     pub fn hover(&self, alloc: Global) -> Result<Value, AllocError> {
         let Some(name) = self.name() else {
             return Ok(Value::Null);
         };
         let mut shown = String::new(alloc);
-        for known in &self.documents {
-            for span in known.places_of(alloc, name, Wanted::Definitions)?.iter() {
-                if let Some(entry) = known.open.document.entry_at(span.start) {
-                    if !shown.is_empty() {
-                        shown.push_str("\n")?;
-                    }
-                    shown.push_str(entry)?;
-                }
+        for (number, places) in self.nearest(alloc, name)?.iter() {
+            if let Some(known) = self.documents.get(*number) {
+                add_entries(alloc, &mut shown, known, places)?;
             }
         }
         if shown.is_empty() {
@@ -77,4 +118,36 @@ impl Asked<'_> {
         }
         json!(in alloc; {"contents": {"kind": "plaintext", "value": (shown.as_str())}})
     }
+}
+
+/// Adds the places of a document or file.
+fn add_locations(
+    alloc: Global,
+    list: &mut Vec<Value>,
+    known: &Known<'_>,
+    found: &[Span],
+) -> Result<(), AllocError> {
+    let mut places = Places::new(known.text);
+    for span in found {
+        list.push(location_form(alloc, known.uri, &mut places, *span)?)?;
+    }
+    Ok(())
+}
+
+/// Adds the entries at the places of a document or file, a line between each two.
+fn add_entries(
+    alloc: Global,
+    shown: &mut String,
+    known: &Known<'_>,
+    found: &[Span],
+) -> Result<(), AllocError> {
+    for span in found {
+        if let Some(entry) = known.entry_at(alloc, span.start)? {
+            if !shown.is_empty() {
+                shown.push_str("\n")?;
+            }
+            shown.push_str(entry.as_str())?;
+        }
+    }
+    Ok(())
 }

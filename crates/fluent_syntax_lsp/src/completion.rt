@@ -97,11 +97,11 @@ pub fn completion(alloc: Global, asked: &Asked<'_>) -> Result<Value, AllocError>
     let Some(here) = asked.here() else {
         return Ok(Value::Array(list));
     };
-    let expected = expected_at(here.text(), asked.byte);
+    let expected = expected_at(here.text, asked.byte);
     let mut labels = BTreeMap::new(alloc);
     for known in &asked.documents {
-        for occurrence in &known.occurrences {
-            if let Some(label) = label_of(alloc, known.text(), occurrence, expected)? {
+        for occurrence in known.occurrences() {
+            if let Some(label) = label_of(alloc, known.text, occurrence, expected)? {
                 drop(labels.insert(label, occurrence.kind)?);
             }
         }

@@ -1,19 +1,22 @@
 //! An open document: its text, changes of it, and its diagnostics.
 ghost use Rattle.std.specs.Prelude.{◌≡◌, IfOk, map, OnErr, OnOk};
+ghost use Rattle.fluent_syntax_names.specs.Knowing.{others_define};
 ghost use Rattle.fluent_syntax_reread.specs.Faults.{IsRange};
 ghost use Rattle.fluent_syntax_reread.specs.Reading.{changed};
 ghost use Rattle.fluent_syntax_lsp.specs.Diagnostics.{DiagnosesDocument, shown};
 ghost use Rattle.fluent_syntax_lsp.specs.Documents.{ChangesBetween, document_text, HasTiles, IsHeldIfShort};
-ghost use Rattle.fluent_syntax_lsp.specs.Own.{FindsInDocument};
+ghost use Rattle.fluent_syntax_lsp.specs.Occurrences.{OccursIn};
+ghost use Rattle.fluent_syntax_lsp.specs.Own.{DefinesInDocument, FindsBesideInDocument, FindsInDocument};
 ghost use Rattle.fluent_syntax_lsp.specs.Tokens.{HasTokens};
 
 use crate::diagnostics::{Diagnostic, diagnostics_in, diagnostics_of};
 use crate::held::Held;
+use crate::occurrences::Occurrence;
 use crate::offsets::byte_of;
 use crate::places::Place;
 use crate::stretches::Stretches;
 use crate::token::Token;
-use fluent_syntax_names::Finding;
+use fluent_syntax_names::{DefinedNames, Finding};
 use fluent_syntax_parser::options::Halt;
 use fluent_syntax_reread::placed::Placed;
 use fluent_syntax_reread::{ChangeFault, changed};
@@ -144,6 +147,42 @@ impl Document {
     {
         match self {
             Document::Held(held) => held.findings(alloc),
+            Document::TooDeep(_) => Ok(Vec::new(alloc)),
+        }
+    }
+
+    /// What is found in the text where others define these names, in the order of the text: what is found in it by
+    /// itself, and each reference to what neither it nor one of the others defines. Nothing is found in a text that
+    /// nests too deeply. `AllocError` where a growth was refused.
+    pub fn findings_beside(
+        &self,
+        alloc: Global,
+        others: &[&DefinedNames],
+    ) -> Result<Vec<Finding>, AllocError>
+        ensures { IfOk result (λ found. FindsBesideInDocument self.now (others_define others.now) found.items) }
+    {
+        match self {
+            Document::Held(held) => held.findings_beside(alloc, others),
+            Document::TooDeep(_) => Ok(Vec::new(alloc)),
+        }
+    }
+
+    /// The names that the text defines; none of a text that nests too deeply. `AllocError` where a growth was refused.
+    pub fn defined(&self, alloc: Global) -> Result<DefinedNames, AllocError>
+        ensures { IfOk result (DefinesInDocument self.now) }
+    {
+        match self {
+            Document::Held(held) => held.defined(alloc),
+            Document::TooDeep(_) => Ok(DefinedNames::new(alloc)),
+        }
+    }
+
+    /// The names in the text, in order; none in a text that nests too deeply. `AllocError` where a growth was refused.
+    pub fn occurrences(&self, alloc: Global) -> Result<Vec<Occurrence>, AllocError>
+        ensures { IfOk result (λ found. OccursIn self.now found.items) }
+    {
+        match self {
+            Document::Held(held) => held.occurrences(alloc),
             Document::TooDeep(_) => Ok(Vec::new(alloc)),
         }
     }

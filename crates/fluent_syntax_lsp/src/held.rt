@@ -1,26 +1,31 @@
 //! A text with what was read of it.
 ghost use Rattle.std.specs.Prelude.{◌≡◌, ◌≤◌, All, IfErr, IfOk, length, OnErr, OnOk};
+ghost use Rattle.fluent_syntax_names.specs.Knowing.{others_define};
 ghost use Rattle.fluent_syntax_parser.specs.Halts.{HaltsWithin};
 ghost use Rattle.fluent_syntax_reread.specs.Faults.{IsRange, Refuses};
 ghost use Rattle.fluent_syntax_reread.specs.Placed.{Reads};
 ghost use Rattle.fluent_syntax_reread.specs.Reading.{changed};
 ghost use Rattle.fluent_syntax_tree.specs.declared.edition.Edition.TheVariants.{One};
 ghost use Rattle.fluent_syntax_lsp.specs.Held.{TellsAll};
-ghost use Rattle.fluent_syntax_lsp.specs.Own.{FindsOwn};
+ghost use Rattle.fluent_syntax_lsp.specs.Occurrences.{Occurs};
+ghost use Rattle.fluent_syntax_lsp.specs.Own.{AreMentionsOf, Defines, FindsBeside, FindsOwn, IsOutlineOf};
 ghost use Rattle.fluent_syntax_lsp.specs.Tokens.{AreTokens};
 ghost use Rattle.fluent_syntax_lsp.specs.declared.limits.TheConstants.{NESTING_LIMIT};
 
 use crate::limits::NESTING_LIMIT;
+use crate::occurrences::{Occurrence, occurrences_of};
 use crate::own::outline_of_tiles;
 use crate::token::Token;
 use crate::tokens::tokens_of_tiles;
 use fluent_syntax::parser::{Edition, ParserError};
-use fluent_syntax_names::{Finding, own_findings};
+use fluent_syntax::spans::Span;
+use fluent_syntax_names::{DefinedNames, Finding, Mention, Outline, findings_beside, own_findings};
 use fluent_syntax_parser::options::Halt;
 use fluent_syntax_reread::placed::Placed;
 use fluent_syntax_reread::{ChangeFault, Reread};
 use std::alloc::{AllocError, Global};
 use std::marker::Model;
+use std::slice::from_ref;
 
 /// A text with its tiles. In a clause it is the bytes of the text.
 #[derive(Drop)]
@@ -99,8 +104,54 @@ impl Held {
     pub fn findings(&self, alloc: Global) -> Result<Vec<Finding>, AllocError>
         ensures { IfOk result (λ found. FindsOwn self.now found.items) }
     {
-        let outline = outline_of_tiles(alloc, self.text(), self.tiles())?;
+        let outline = self.outline(alloc)?;
         own_findings(alloc, &outline)
+    }
+
+    /// What is found in the text where others define these names, in order. `AllocError` where a growth was refused.
+    pub fn findings_beside(
+        &self,
+        alloc: Global,
+        others: &[&DefinedNames],
+    ) -> Result<Vec<Finding>, AllocError>
+        ensures { IfOk result (λ found. FindsBeside self.now (others_define others.now) found.items) }
+    {
+        let outline = self.outline(alloc)?;
+        findings_beside(alloc, from_ref(&outline), others)
+    }
+
+    /// The names that the text defines. `AllocError` where a growth was refused.
+    pub fn defined(&self, alloc: Global) -> Result<DefinedNames, AllocError>
+        ensures { IfOk result (Defines self.now) }
+    {
+        let outline = self.outline(alloc)?;
+        let mut names = DefinedNames::new(alloc);
+        names.add(alloc, outline.text, &outline.mentions)?;
+        Ok(names)
+    }
+
+    /// What the entries of the text say of names, in order. `AllocError` where a growth was refused.
+    pub fn mentions(&self, alloc: Global) -> Result<Vec<Mention<Span>>, AllocError>
+        ensures { IfOk result (λ mentions. AreMentionsOf self.now mentions.items) }
+    {
+        let Outline { mentions, .. } = self.outline(alloc)?;
+        Ok(mentions)
+    }
+
+    /// The text with what its entries say of names. `AllocError` where a growth was refused.
+    fn outline(&self, alloc: Global) -> Result<Outline<'_>, AllocError>
+        ensures { IfOk result (IsOutlineOf self.now) }
+    {
+        let outline = outline_of_tiles(alloc, self.text(), self.tiles())?;
+        Ok(outline)
+    }
+
+    /// The names in the text, in order. `AllocError` where a growth was refused.
+    pub fn occurrences(&self, alloc: Global) -> Result<Vec<Occurrence>, AllocError>
+        ensures { IfOk result (λ found. Occurs self.now found.items) }
+    {
+        let outline = self.outline(alloc)?;
+        occurrences_of(alloc, &outline.mentions)
     }
 
     /// The tokens of the text, in order. `AllocError` where a growth was refused.

@@ -1,41 +1,96 @@
-//! The open documents with their names.
+//! The open documents and the closed files, with their names.
+ghost use Rattle.std.specs.Prelude.{◌≡◌, IfOk, filter, map};
+ghost use Rattle.fluent_syntax_lsp.specs.Known.{is_wanted, places_of};
 
+use crate::closed::Closed;
 use crate::documents::Document;
-use crate::occurrences::{Name, Occurrence, name_of, occurrences_in};
+use crate::occurrences::{Name, Occurrence, is_named, name_of};
 use fluent_syntax::spans::Span;
+use fluent_syntax_names::DefinedNames;
 use std::alloc::{AllocError, Global};
 use std::collections::BTreeMap;
 
 /// A document as it is open.
 #[derive(Drop)]
 pub struct Open {
+    /// The path of its file, if its name is that of one.
+    pub path: Option<String>,
     /// The number that the editor gave it, if it gave one.
     pub version: Option<i64>,
     pub document: Document,
+    /// The names that it defines. None where they were not looked up since it changed.
+    pub defined: Option<DefinedNames>,
 }
 
-/// An open document with the names in it, in order.
+/// An open document or a closed file, with the names in it, in order.
 #[derive(Drop)]
 pub struct Known<'d> {
     pub uri: &'d str,
-    pub open: &'d Open,
-    pub occurrences: Vec<Occurrence>,
+    /// The path of its file, or its URI where it has none.
+    pub path: &'d str,
+    /// The number of an open document, if the editor gave it one.
+    pub version: Option<i64>,
+    pub text: &'d str,
+    pub names: Names<'d>,
 }
 
-/// All open documents with their names, in the order of their own names.
-pub fn known_documents(
+/// The names in a text, in order.
+#[derive(Drop)]
+pub enum Names<'d> {
+    /// Those of an open document.
+    Open {
+        document: &'d Document,
+        occurrences: Vec<Occurrence>,
+    },
+    /// Those of a closed file.
+    Closed(&'d [Occurrence]),
+}
+
+/// All open documents with their names, in the order of their URIs, and then all files of the workspace that are not
+/// open, in the order of their paths.
+pub fn known_documents<'d>(
     alloc: Global,
-    documents: &BTreeMap<String, Open>,
-) -> Result<Vec<Known<'_>>, AllocError> {
+    documents: &'d BTreeMap<String, Open>,
+    files: &'d BTreeMap<String, Closed>,
+) -> Result<Vec<Known<'d>>, AllocError> {
     let mut found = Vec::new(alloc);
     for (uri, open) in documents.iter() {
         found.push(Known {
             uri: uri.as_str(),
-            open,
-            occurrences: occurrences_in(alloc, &open.document)?,
+            path: match &open.path {
+                Some(path) => path.as_str(),
+                None => uri.as_str(),
+            },
+            version: open.version,
+            text: open.document.text(),
+            names: Names::Open {
+                document: &open.document,
+                occurrences: open.document.occurrences(alloc)?,
+            },
         })?;
     }
+    let opened = found.len();
+    for (path, file) in files.iter() {
+        let path = path.as_str();
+        if !is_among(&found, opened, path) {
+            found.push(Known {
+                uri: file.uri.as_str(),
+                path,
+                version: None,
+                text: file.text.as_str(),
+                names: Names::Closed(file.occurrences.as_slice()),
+            })?;
+        }
+    }
     Ok(found)
+}
+
+/// Whether one of the first documents is that of the path.
+fn is_among(documents: &[Known<'_>], opened: usize, path: &str) -> bool {
+    documents
+        .iter()
+        .take(opened)
+        .any(|known| known.path == path)
 }
 
 /// Which places of a name are looked for.
@@ -46,15 +101,32 @@ pub enum Wanted {
     All,
 }
 
+impl Wanted {
+    /// Whether the place is one of these.
+    fn has(&self, occurrence: &Occurrence) -> bool
+        ensures { result ≡ is_wanted self.now occurrence.now }
+    {
+        match self {
+            Wanted::Definitions => occurrence.defines,
+            Wanted::References => !occurrence.defines,
+            Wanted::All => true,
+        }
+    }
+}
+
 impl Known<'_> {
-    pub fn text(&self) -> &str {
-        self.open.document.text()
+    /// The names in it, in order.
+    pub fn occurrences(&self) -> &[Occurrence] {
+        match &self.names {
+            Names::Open { occurrences, .. } => occurrences.as_slice(),
+            Names::Closed(occurrences) => occurrences,
+        }
     }
 
     /// The name at the byte, or that ends there; of two the one that begins there.
     pub fn occurrence_at(&self, byte: usize) -> Option<Occurrence> {
         let mut found = None;
-        for occurrence in &self.occurrences {
+        for occurrence in self.occurrences() {
             if occurrence.is_at(byte) {
                 found = Some(*occurrence);
             }
@@ -69,17 +141,42 @@ impl Known<'_> {
         name: Name<'_>,
         wanted: Wanted,
     ) -> Result<Vec<Span>, AllocError> {
-        let mut found = Vec::new(alloc);
-        for occurrence in &self.occurrences {
-            let is_wanted = match wanted {
-                Wanted::Definitions => occurrence.defines,
-                Wanted::References => !occurrence.defines,
-                Wanted::All => true,
-            };
-            if is_wanted && name_of(self.text(), *occurrence) == name {
-                found.push(occurrence.place())?;
-            }
-        }
-        Ok(found)
+        places_in(alloc, self.text, self.occurrences(), name, wanted)
     }
+
+    /// The entry or junk at the byte, as it stands in the text, with the comment that hangs on it. None where there is
+    /// none.
+    pub fn entry_at(&self, alloc: Global, byte: usize) -> Result<Option<String>, AllocError> {
+        match &self.names {
+            Names::Open { document, .. } => entry_of(alloc, document, byte),
+            Names::Closed(_) => entry_of(alloc, &Document::new(alloc, self.text)?, byte),
+        }
+    }
+}
+
+/// The entry or junk at the byte of a document.
+fn entry_of(alloc: Global, document: &Document, byte: usize) -> Result<Option<String>, AllocError> {
+    match document.entry_at(byte) {
+        Some(entry) => Ok(Some(String::from_str(alloc, entry)?)),
+        None => Ok(None),
+    }
+}
+
+/// Where the name stands in a text with these names, in order.
+fn places_in(
+    alloc: Global,
+    text: &str,
+    occurrences: &[Occurrence],
+    name: Name<'_>,
+    wanted: Wanted,
+) -> Result<Vec<Span>, AllocError>
+    ensures { IfOk result (λ found. found.items ≡ places_of text.now occurrences.now name.entry wanted) }
+{
+    let mut found = Vec::new(alloc);
+    for occurrence in occurrences {
+        if wanted.has(occurrence) && is_named(text, occurrence, name) {
+            found.push(occurrence.place())?;
+        }
+    }
+    Ok(found)
 }

@@ -8,7 +8,7 @@ pub enum Message<'v> {
     Request { id: &'v Value, method: &'v str },
     /// It has a method alone.
     Notification { method: &'v str },
-    /// It answers a request, which this server never makes.
+    /// It answers a request of this server's.
     Response,
     /// It is none of these.
     Invalid,

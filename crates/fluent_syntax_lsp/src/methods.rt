@@ -23,6 +23,8 @@ pub enum Method {
     DidClose,
     DidSave,
     Exit,
+    Initialized,
+    DidChangeWatchedFiles,
 }
 
 impl Method {
@@ -50,6 +52,8 @@ impl Method {
             "textDocument/didClose" => Some(Method::DidClose),
             "textDocument/didSave" => Some(Method::DidSave),
             "exit" => Some(Method::Exit),
+            "initialized" => Some(Method::Initialized),
+            "workspace/didChangeWatchedFiles" => Some(Method::DidChangeWatchedFiles),
             _ => None,
         }
     }

@@ -1,10 +1,11 @@
 //! The names in a text, each where it stands.
+ghost use Rattle.std.specs.Prelude.{◌≡◌, ◌∷◌, false, IfOk, None, OnOk, Some};
+ghost use Rattle.fluent_syntax_lsp.specs.Occurrences.{AddsMention, AddsNames, attribute_of, named, occurrences};
+ghost use Rattle.fluent_syntax_lsp.specs.Occurrences.{cut, is_attribute, is_named, is_same_kind, place_of};
 ghost use Rattle.fluent_syntax_lsp.specs.Remarks.{IsCut};
 
-use crate::documents::Document;
-use crate::stretches::moved;
 use fluent_syntax::spans::Span;
-use fluent_syntax_names::{Mention, mentions};
+use fluent_syntax_names::Mention;
 use std::alloc::{AllocError, Global};
 
 /// What a name is one of.
@@ -29,8 +30,22 @@ pub struct Occurrence {
 }
 
 impl Occurrence {
+    /// A name without an attribute.
+    fn of(kind: NameKind, name: Span, defines: bool) -> Self
+        ensures { result ≡ named kind name defines }
+    {
+        Occurrence {
+            kind,
+            name,
+            attribute: None,
+            defines,
+        }
+    }
+
     /// Where it stands.
-    pub fn place(&self) -> Span {
+    pub fn place(&self) -> Span
+        ensures { result ≡ place_of self.now }
+    {
         match self.attribute {
             None => self.name,
             Some(attribute) => attribute,
@@ -64,6 +79,50 @@ pub fn bytes_of(text: &str, span: Span) -> &str
     text.get(span.start..span.end).unwrap_or("")
 }
 
+/// The bytes of a range of the text; none where it has no such range.
+fn cut(text: &[u8], span: Span) -> &[u8]
+    ensures { result.now ≡ cut text.now span }
+{
+    if span.start <= span.end && span.end <= text.len() {
+        &text[span.start..span.end]
+    } else {
+        &[]
+    }
+}
+
+/// Whether it is this name that occurs in the text.
+pub fn is_named(text: &str, occurrence: &Occurrence, name: Name<'_>) -> bool
+    ensures { result ≡ is_named text.now occurrence.now name.entry }
+{
+    let text = text.as_bytes();
+    is_same_kind(occurrence.kind, name.kind)
+        && cut(text, occurrence.name) == name.name.as_bytes()
+        && is_attribute(text, occurrence.attribute, name.attribute)
+}
+
+fn is_same_kind(a: NameKind, b: NameKind) -> bool
+    ensures { result ≡ is_same_kind a b }
+{
+    matches!(
+        (a, b),
+        (NameKind::Message, NameKind::Message)
+            | (NameKind::Term, NameKind::Term)
+            | (NameKind::Variable, NameKind::Variable)
+            | (NameKind::Function, NameKind::Function)
+    )
+}
+
+/// Whether the range has this attribute's name, or there are none.
+fn is_attribute(text: &[u8], span: Option<Span>, attribute: Option<&str>) -> bool
+    ensures { result ≡ is_attribute text.now span attribute.entry }
+{
+    match (span, attribute) {
+        (None, None) => true,
+        (Some(span), Some(attribute)) => cut(text, span) == attribute.as_bytes(),
+        _ => false,
+    }
+}
+
 /// The name that occurs in the text.
 pub fn name_of(text: &str, occurrence: Occurrence) -> Name<'_> {
     Name {
@@ -73,71 +132,78 @@ pub fn name_of(text: &str, occurrence: Occurrence) -> Name<'_> {
     }
 }
 
-/// The names in a document, in order. None of one that nests deeper than `NESTING_LIMIT`.
-pub fn occurrences_in(alloc: Global, document: &Document) -> Result<Vec<Occurrence>, AllocError> {
+/// The names of which these are the mentions, in order.
+pub fn occurrences_of(
+    alloc: Global,
+    mentions: &[Mention<Span>],
+) -> Result<Vec<Occurrence>, AllocError>
+    ensures { IfOk result (λ found. found.items ≡ occurrences None mentions.now) }
+{
     let mut found = Vec::new(alloc);
-    for tile in document.tiles() {
-        let mut owner = None;
-        for mention in mentions(alloc, &tile.found.entry)?.iter() {
-            owner = add_occurrences(&mut found, owner, tile.base, *mention)?;
-        }
+    let mut owner = None;
+    for mention in mentions {
+        owner = add_mention(&mut found, owner, *mention)?;
     }
     Ok(found)
 }
 
-/// Adds the names of a mention, whose places are counted from the base, behind the message or term whose attributes may
-/// follow; gives the one whose may follow then.
-fn add_occurrences(
+/// Adds the names of a mention behind the message or term whose attributes may follow; gives the one whose may follow
+/// then.
+fn add_mention(
     found: &mut Vec<Occurrence>,
     owner: Option<Occurrence>,
-    base: usize,
     mention: Mention<Span>,
-) -> Result<Option<Occurrence>, AllocError> {
-    let named = |kind, name, defines| Occurrence {
-        kind,
-        name: moved(base, name),
-        attribute: None,
-        defines,
-    };
-    let behind = |attribute: Option<Span>| attribute.map(|span| moved(base, span));
+) -> Result<Option<Occurrence>, AllocError>
+    ensures { IfOk result (λ next. AddsMention found.old.items found.new.items owner mention next) }
+{
     match mention {
-        Mention::Message { name, .. } => add_owner(found, named(NameKind::Message, name, true)),
-        Mention::Term { name } => add_owner(found, named(NameKind::Term, name, true)),
+        Mention::Message { name, .. } => {
+            let message = Occurrence::of(NameKind::Message, name, true);
+            found.push(message)?;
+            Ok(Some(message))
+        }
+        Mention::Term { name } => {
+            let term = Occurrence::of(NameKind::Term, name, true);
+            found.push(term)?;
+            Ok(Some(term))
+        }
         Mention::Attribute { name } => {
-            add_attribute(found, owner, behind(Some(name)))?;
+            add_attribute(found, owner, Some(name))?;
             Ok(owner)
         }
         Mention::Junk { .. } => Ok(owner),
         Mention::MessageReference { name, attribute } => {
-            let message = named(NameKind::Message, name, false);
-            found.push(message)?;
-            add_attribute(found, Some(message), behind(attribute))?;
+            add_reference(found, NameKind::Message, name, attribute)?;
             Ok(owner)
         }
         Mention::TermReference { name, attribute } => {
-            let term = named(NameKind::Term, name, false);
-            found.push(term)?;
-            add_attribute(found, Some(term), behind(attribute))?;
+            add_reference(found, NameKind::Term, name, attribute)?;
             Ok(owner)
         }
         Mention::Variable { name } => {
-            found.push(named(NameKind::Variable, name, false))?;
+            found.push(Occurrence::of(NameKind::Variable, name, false))?;
             Ok(owner)
         }
         Mention::Function { name } => {
-            found.push(named(NameKind::Function, name, false))?;
+            found.push(Occurrence::of(NameKind::Function, name, false))?;
             Ok(owner)
         }
     }
 }
 
-/// Adds a message or term, which it gives.
-fn add_owner(
+/// Adds a name that is referred to, and then its attribute, if there is one.
+fn add_reference(
     found: &mut Vec<Occurrence>,
-    owner: Occurrence,
-) -> Result<Option<Occurrence>, AllocError> {
-    found.push(owner)?;
-    Ok(Some(owner))
+    kind: NameKind,
+    name: Span,
+    attribute: Option<Span>,
+) -> Result<(), AllocError>
+    ensures { OnOk result (AddsNames found.old.items found.new.items
+        (λ rest. named kind name false ∷ attribute_of (Some (named kind name false)) attribute rest)) }
+{
+    let reference = Occurrence::of(kind, name, false);
+    found.push(reference)?;
+    add_attribute(found, Some(reference), attribute)
 }
 
 /// Adds an attribute of the message or term, if there are both.
@@ -145,7 +211,9 @@ fn add_attribute(
     found: &mut Vec<Occurrence>,
     owner: Option<Occurrence>,
     attribute: Option<Span>,
-) -> Result<(), AllocError> {
+) -> Result<(), AllocError>
+    ensures { OnOk result (AddsNames found.old.items found.new.items (attribute_of owner attribute)) }
+{
     if let (Some(owner), Some(_)) = (owner, attribute) {
         found.push(Occurrence { attribute, ..owner })?;
     }

@@ -1,4 +1,4 @@
-//! Another name for what a name stands for, in all open documents.
+//! Another name for what a name stands for, in all open documents and closed files.
 
 use crate::asked::Asked;
 use crate::known::{Known, Wanted};
@@ -45,8 +45,8 @@ fn renamed<'n>(name: Name<'n>, new_name: &'n str) -> Name<'n> {
     }
 }
 
-/// The edits by which the name at the place has the new name in all open documents. None where there is no message,
-/// term or attribute at the place, the new name is no identifier, or something has it already.
+/// The edits by which the name at the place has the new name in all open documents and closed files. None where there
+/// is no message, term or attribute at the place, the new name is no identifier, or something has it already.
 pub fn renaming(
     alloc: Global,
     asked: &Asked<'_>,
@@ -75,7 +75,7 @@ pub fn renaming(
     Ok(Some(json!(in alloc; {"documentChanges": changes})?))
 }
 
-/// The edits of one document. None where the name doesn't stand in it.
+/// The edits of one document or file. None where the name doesn't stand in it.
 fn edits_in(
     alloc: Global,
     known: &Known<'_>,
@@ -86,10 +86,10 @@ fn edits_in(
     if found.is_empty() {
         return Ok(None);
     }
-    let mut places = Places::new(known.text());
+    let mut places = Places::new(known.text);
     let mut edits = Vec::new(alloc);
     for span in &found {
         edits.push(edit_form(alloc, &mut places, *span, identifier)?)?;
     }
-    Ok(Some(edits_of_document(alloc, known.uri, known.open.version, Value::Array(edits))?))
+    Ok(Some(edits_of_document(alloc, known.uri, known.version, Value::Array(edits))?))
 }

@@ -53,6 +53,20 @@ pub fn capabilities(alloc: Global) -> Result<Value, AllocError> {
     })
 }
 
+/// The request by which an editor watches the files of its folders.
+pub fn watch_request(alloc: Global) -> Result<Value, AllocError> {
+    json!(in alloc; {
+        "jsonrpc": "2.0",
+        "id": "ftl-watch",
+        "method": "client/registerCapability",
+        "params": {"registrations": [{
+            "id": "ftl-files",
+            "method": "workspace/didChangeWatchedFiles",
+            "registerOptions": {"watchers": [{"globPattern": "**/*.ftl"}, {"globPattern": "**/ftl.toml"}]}
+        }]}
+    })
+}
+
 /// The notification of a document's diagnostics: its errors, and then its findings. `related` says whether the editor
 /// takes related information.
 pub fn diagnostics_notification(
@@ -301,7 +315,7 @@ pub fn known_symbol(
     places: &mut Places<'_>,
     occurrence: Occurrence,
 ) -> Result<Value, AllocError> {
-    let name = name_of(known.text(), occurrence);
+    let name = name_of(known.text, occurrence);
     let location = location_form(alloc, known.uri, places, occurrence.place())?;
     let (kind, shown) = match (name.attribute, name.kind) {
         (Some(attribute), _) => (SymbolKind::Attribute, attribute),

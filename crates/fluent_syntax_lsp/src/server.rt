@@ -1,4 +1,4 @@
-//! The open documents, and the answer to each message.
+//! The open documents and the files of the workspace, and the answer to each message.
 
 use crate::asked::Asked;
 use crate::changes::{change_of, place_of};
@@ -8,26 +8,31 @@ use crate::documents::Document;
 use crate::endings::Ending;
 use crate::formatting::formatted;
 use crate::highlights::{highlights_of, numbers_of};
-use crate::known::{Open, Wanted, known_documents};
+use crate::ignored::findings_told;
+use crate::known::{Known, Open, Wanted, known_documents};
 use crate::limits::FINDINGS_LIMIT;
 use crate::messages::{Message, message_of};
 use crate::methods::Method;
 use crate::occurrences::bytes_of;
 use crate::offsets::byte_of;
+use crate::others::{look_up_others, others_of};
 use crate::phases::{ErrorCode, Phase};
 use crate::places::Places;
 use crate::remarks::{Remark, remarks_of};
 use crate::renaming::renaming;
 use crate::replies::{
     answer, capabilities, diagnostics_notification, fold_list, known_symbol, refusal, symbol_list,
-    token_list, whole_edit,
+    token_list, watch_request, whole_edit,
 };
 use crate::symbols::{folds_in, symbols_in};
+use crate::workspace::Workspace;
+use fluent_syntax_names::{Finding, Kind};
+use ftl_workspace::{Folders, path_of_uri};
 use serde_json::{Category, Value};
 use std::alloc::{AllocError, Global};
 use std::collections::BTreeMap;
 
-/// The open documents and how far the session is.
+/// The open documents, the files of the workspace, and how far the session is.
 #[derive(Drop)]
 pub struct Server {
     alloc: Global,
@@ -36,6 +41,8 @@ pub struct Server {
     related: bool,
     /// The open documents, by their names.
     documents: BTreeMap<String, Open>,
+    /// The files that may be closed.
+    workspace: Workspace,
 }
 
 impl Server {
@@ -46,6 +53,7 @@ impl Server {
             phase: Phase::Fresh,
             related: false,
             documents: BTreeMap::new(alloc),
+            workspace: Workspace::new(alloc),
         }
     }
 
@@ -54,10 +62,15 @@ impl Server {
         self.phase.ending()
     }
 
-    /// Takes a message, and gives the one to send for it. None where there is none.
+    /// Takes a message, and gives the one to send for it. None where there is none. Closed files are read where it
+    /// tells that they may be others now, and before a renaming.
     ///
     /// `AllocError` where a growth was refused.
-    pub fn take(&mut self, body: &[u8]) -> Result<Option<Value>, AllocError> {
+    pub fn take<F: Folders>(
+        &mut self,
+        body: &[u8],
+        files: &F,
+    ) -> Result<Option<Value>, AllocError> {
         let value = match Value::from_slice(self.alloc, body) {
             Ok(value) => value,
             Err(error) => {
@@ -70,9 +83,12 @@ impl Server {
         match message_of(&value) {
             Message::Request { id, method } => {
                 let id = id.clone()?;
+                if Method::from_name(method) == Some(Method::Rename) {
+                    self.workspace.read(self.alloc, files)?;
+                }
                 self.request(id, method, &value)
             }
-            Message::Notification { method } => self.notification(method, &value),
+            Message::Notification { method } => self.notification(method, &value, files),
             Message::Response => Ok(None),
             Message::Invalid => self.refuse(Value::Null, ErrorCode::InvalidRequest),
         }
@@ -96,6 +112,7 @@ impl Server {
         let found = match method {
             Some(Method::Initialize) => {
                 self.related = takes_related(message);
+                self.workspace = Workspace::told(self.alloc, message)?;
                 Some(capabilities(self.alloc)?)
             }
             Some(Method::DocumentSymbol) => self.symbols(message)?,
@@ -166,6 +183,11 @@ impl Server {
         }
     }
 
+    /// The open documents and the closed files.
+    fn known(&self) -> Result<Vec<Known<'_>>, AllocError> {
+        known_documents(self.alloc, &self.documents, self.workspace.files())
+    }
+
     /// What a request asks of. None where it names no open document, or no place.
     fn asked(&self, message: &Value) -> Result<Option<Asked<'_>>, AllocError> {
         let (Some(uri), Some(place)) = (
@@ -174,11 +196,14 @@ impl Server {
         ) else {
             return Ok(None);
         };
-        let documents = known_documents(self.alloc, &self.documents)?;
+        let documents = self.known()?;
+        if !self.documents.contains_key(uri) {
+            return Ok(None);
+        }
         let Some(number) = documents.iter().position(|known| known.uri == uri) else {
             return Ok(None);
         };
-        let byte = byte_of(documents[number].text(), place);
+        let byte = byte_of(documents[number].text, place);
         Ok(Some(Asked {
             documents,
             number,
@@ -196,9 +221,7 @@ impl Server {
             return Ok(None);
         };
         match method {
-            Some(Method::Definition) => {
-                Ok(Some(asked.locations(self.alloc, Wanted::Definitions)?))
-            }
+            Some(Method::Definition) => Ok(Some(asked.definitions(self.alloc)?)),
             Some(Method::References) => {
                 Ok(Some(asked.locations(self.alloc, wanted_by(message))?))
             }
@@ -213,17 +236,17 @@ impl Server {
         }
     }
 
-    /// What the open documents define whose name has the text that is asked for in it.
+    /// What the open documents and the closed files define whose name has the text that is asked for in it.
     fn known_symbols(&self, message: &Value) -> Result<Value, AllocError> {
         let query = message
             .pointer("/params/query")
             .and_then(Value::as_str)
             .unwrap_or("");
         let mut list = Vec::new(self.alloc);
-        for known in known_documents(self.alloc, &self.documents)?.iter() {
-            let mut places = Places::new(known.text());
-            for occurrence in &known.occurrences {
-                let shown = bytes_of(known.text(), occurrence.place());
+        for known in self.known()?.iter() {
+            let mut places = Places::new(known.text);
+            for occurrence in known.occurrences() {
+                let shown = bytes_of(known.text, occurrence.place());
                 if occurrence.defines && shown.contains(query) {
                     list.push(known_symbol(self.alloc, known, &mut places, *occurrence)?)?;
                 }
@@ -233,11 +256,22 @@ impl Server {
     }
 
     /// Follows a notification.
-    fn notification(&mut self, name: &str, message: &Value) -> Result<Option<Value>, AllocError> {
+    fn notification<F: Folders>(
+        &mut self,
+        name: &str,
+        message: &Value,
+        files: &F,
+    ) -> Result<Option<Value>, AllocError> {
         let method = Method::from_name(name);
         if self.phase != Phase::Running {
             self.phase = self.phase.after_notification(method);
             return Ok(None);
+        }
+        if changes_files(method) {
+            self.workspace.read(self.alloc, files)?;
+        }
+        if method == Some(Method::Initialized) && self.workspace.wants_watch() {
+            return Ok(Some(watch_request(self.alloc)?));
         }
         let Some(uri) = uri_of(message) else {
             self.phase = self.phase.after_notification(method);
@@ -269,8 +303,15 @@ impl Server {
         };
         let name = String::from_str(self.alloc, uri)?;
         let document = Document::new(self.alloc, text)?;
-        let open = Open { version, document };
+        let path = path_of_uri(self.alloc, uri)?;
+        let open = Open {
+            path,
+            version,
+            document,
+            defined: None,
+        };
         drop(self.documents.insert(name, open)?);
+        self.workspace.forget_defined();
         self.publish(uri)
     }
 
@@ -293,6 +334,7 @@ impl Server {
             made.push(change)?;
         }
         open.version = version;
+        open.defined = None;
         for change in &made {
             change.apply(self.alloc, &mut open.document)?;
         }
@@ -300,13 +342,30 @@ impl Server {
     }
 
     /// The diagnostics of a document; None where it is not open.
-    fn publish(&self, uri: &str) -> Result<Option<Value>, AllocError> {
+    fn publish(&mut self, uri: &str) -> Result<Option<Value>, AllocError> {
+        if self.is_surrounded(uri) {
+            look_up_others(self.alloc, uri, &mut self.documents, &mut self.workspace)?;
+        }
         let Some(open) = self.documents.get(uri) else {
             return Ok(None);
         };
         let errors = open.document.diagnostics(self.alloc)?;
-        let remarks = self.remarks(&open.document)?;
+        let remarks = self.remarks(uri, &open.document)?;
         Ok(Some(self.published(uri, &errors, &remarks)?))
+    }
+
+    /// Whether the document's findings are sought, and all files are known that may define what it refers to.
+    fn is_surrounded(&self, uri: &str) -> bool {
+        match self.documents.get(uri) {
+            Some(
+                Open {
+                    path: Some(path),
+                    document,
+                    ..
+                },
+            ) => is_short(document) && self.workspace.surrounds(path.as_str()),
+            _ => false,
+        }
     }
 
     /// The notification of these diagnostics.
@@ -320,12 +379,36 @@ impl Server {
     }
 
     /// What is told of a document's findings; nothing of a document that is too long.
-    fn remarks(&self, document: &Document) -> Result<Vec<Remark>, AllocError> {
-        if document.text().len() > FINDINGS_LIMIT {
+    fn remarks(&self, uri: &str, document: &Document) -> Result<Vec<Remark>, AllocError> {
+        if !is_short(document) {
             return Ok(Vec::new(self.alloc));
         }
-        let findings = document.findings(self.alloc)?;
-        remarks_of(self.alloc, document.text(), &findings)
+        let findings = self.findings(uri, document)?;
+        let told = findings_told(self.alloc, &findings, &self.ignored(uri)?)?;
+        remarks_of(self.alloc, document.text(), &told)
+    }
+
+    /// The kinds of findings that are not told of a document.
+    fn ignored(&self, uri: &str) -> Result<Vec<Kind>, AllocError> {
+        match self.documents.get(uri) {
+            Some(
+                Open {
+                    path: Some(path),
+                    ..
+                },
+            ) => self.workspace.ignored_at(self.alloc, path.as_str()),
+            _ => Ok(Vec::new(self.alloc)),
+        }
+    }
+
+    /// What is found in a document: by itself, or beside all others where these are known.
+    fn findings(&self, uri: &str, document: &Document) -> Result<Vec<Finding>, AllocError> {
+        if self.is_surrounded(uri) {
+            if let Some(others) = others_of(self.alloc, uri, &self.documents, &self.workspace)? {
+                return document.findings_beside(self.alloc, &others);
+            }
+        }
+        document.findings(self.alloc)
     }
 
     /// Closes a document, and takes its diagnostics back.
@@ -333,12 +416,26 @@ impl Server {
         match self.documents.remove(uri) {
             None => Ok(None),
             Some(_) => {
+                self.workspace.forget_defined();
                 let errors = Vec::new(self.alloc);
                 let remarks = Vec::new(self.alloc);
                 Ok(Some(self.published(uri, &errors, &remarks)?))
             }
         }
     }
+}
+
+/// Whether the findings of a document are sought, which takes the longer the longer it is.
+fn is_short(document: &Document) -> bool {
+    document.text().len() <= FINDINGS_LIMIT
+}
+
+/// Whether the files of the workspace may be others behind a notification.
+fn changes_files(method: Option<Method>) -> bool {
+    matches!(
+        method,
+        Some(Method::Initialized | Method::DidClose | Method::DidChangeWatchedFiles)
+    )
 }
 
 /// Whether an editor that says this of itself takes related information of a diagnostic.

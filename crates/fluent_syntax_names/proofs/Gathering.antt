@@ -66,7 +66,7 @@ module _ (old now next : Lookup) (all : List Text → List Text)
 
 -- ---- The files
 
-or_false : (b : Bool) → b ≡ (b || false)
+pub or_false : (b : Bool) → b ≡ (b || false)
 or_false true = refl
 or_false false = refl
 

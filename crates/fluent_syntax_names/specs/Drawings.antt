@@ -6,7 +6,6 @@ use Rattle.fluent_syntax_names.specs.Circles.{Link, leads, comes_back}
 use Rattle.fluent_syntax_names.specs.Findings.{Set}
 use Rattle.fluent_syntax_names.specs.Places.{place_of}
 use Rattle.fluent_syntax_names.specs.Spelled.{Text}
-use Rattle.fluent_syntax_names.specs.Tables.{Lookup, has_name}
 use Rattle.fluent_syntax_names.specs.declared.circles.Circles.{Circles}
 use Rattle.fluent_syntax_names.specs.declared.drawing.Drawing.{Drawing}
 
@@ -62,5 +61,5 @@ abbrev pub KnowsCircles : List Link → Circles → Type 0
 KnowsCircles all circles = (from to : Text) → leads all from to ≡ true
     → same_part circles from to ≡ comes_back all from to
 
-abbrev pub set_by : Lookup → Circles → Set
-set_by defined circles = record { defines = has_name defined; comes_back = same_part circles }
+abbrev pub set_by : (Text → Bool) → Circles → Set
+set_by defines circles = record { defines = defines; comes_back = same_part circles }

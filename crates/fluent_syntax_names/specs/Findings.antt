@@ -1,5 +1,5 @@
 -- What is found in a set of files of one language.
-use Rattle.std.specs.Prelude.{ℕ, ◌+◌, Bool, true, false, List, [], ◌∷◌, Option, Some, None, filter, if◌then◌else◌}
+use Rattle.std.specs.Prelude.{ℕ, ◌+◌, Bool, true, false, ◌||◌, List, [], ◌∷◌, Option, Some, None, filter, if◌then◌else◌}
 use Rattle.std.specs.List.{list_any}
 use Rattle.std.specs.Str.{bytes_eq}
 use Rattle.fluent_syntax_tree.specs.declared.spans.Span.{Span}
@@ -185,6 +185,17 @@ set_of files = record { defines = is_defined files; comes_back = comes_back (lin
 
 abbrev pub all_findings : List Outline → List Finding
 all_findings files = found_from (set_of files) 0 files []
+
+-- what is known of files beside others, of which it is known whether they define a name
+abbrev pub set_beside : List Outline → (Text → Bool) → Set
+set_beside files others = record {
+  defines = λ name. is_defined files name || others name;
+  comes_back = comes_back (links files);
+}
+
+-- what is found in the files, where others may define what they refer to
+abbrev pub findings_beside : List Outline → (Text → Bool) → List Finding
+findings_beside files others = found_from (set_beside files others) 0 files []
 
 -- what is found in a file by itself that is found whatever stands in other files
 abbrev pub own_findings : Outline → List Finding

@@ -1,6 +1,7 @@
 pub mod Circles
 pub mod Drawings
 pub mod Findings
+pub mod Knowing
 pub mod Lacks
 pub mod Mentions
 pub mod Places

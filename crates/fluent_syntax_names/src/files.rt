@@ -3,14 +3,17 @@ ghost use Rattle.std.specs.Prelude.{◌≡◌, ◌↔◌, ℕ, List, [], None, O
 ghost use Rattle.fluent_syntax_names.specs.Circles.{Reaches, links, no_pattern, reaches};
 ghost use Rattle.fluent_syntax_names.specs.Drawings.{set_by};
 ghost use Rattle.fluent_syntax_names.specs.Findings.{nothing, found_in, found_from, all_findings, put};
-ghost use Rattle.fluent_syntax_names.specs.Findings.{is_defined, own_findings};
+ghost use Rattle.fluent_syntax_names.specs.Findings.{findings_beside, is_defined, own_findings};
+ghost use Rattle.fluent_syntax_names.specs.Knowing.{knows, others_define};
 ghost use Rattle.fluent_syntax_names.specs.Places.{place_of};
 ghost use Rattle.fluent_syntax_names.specs.Tables.{AddsFindings, has_name};
 
 use crate::circles::{Circles, circles_of};
+use crate::defined_names::DefinedNames;
 use crate::definitions::note_definitions;
 use crate::finding::Finding;
 use crate::found::Here;
+use crate::known_names::KnownNames;
 use crate::mention::Mention;
 use crate::noted::Noted;
 use crate::outline::Outline;
@@ -33,10 +36,26 @@ pub fn findings(alloc: Global, files: &[Outline<'_>]) -> Result<Vec<Finding>, Al
     ensures reached { (from to : List ℕ) →
         IsTrue (reaches (links files.now) from to) ↔ Reaches (links files.now) from to }
 {
-    let mut defined = Places::new(alloc);
-    note_files(alloc, &mut defined, files)?;
+    findings_beside(alloc, files, &[])
+}
+
+/// All that is found in the files of one language, where others define names too, which are no findings here: the
+/// references to these are none. References that come back are those that come back within the files.
+///
+/// Takes the memory of tables of all names and references, and of the list; `AllocError` where there is none. The time
+/// is that of looking each name up in a sorted table, and each reference that no file defines in each of the others.
+pub fn findings_beside(
+    alloc: Global,
+    files: &[Outline<'_>],
+    others: &[&DefinedNames],
+) -> Result<Vec<Finding>, AllocError>
+    ensures { IfOk result (λ list. list.items ≡ findings_beside files.now (others_define others.now)) }
+{
+    let mut own = Places::new(alloc);
+    note_files(alloc, &mut own, files)?;
     let circles = circles_of(alloc, files)?;
-    found_in_files(alloc, &defined, &circles, files)
+    let known = KnownNames { own: &own, others };
+    found_in_files(alloc, known, &circles, files)
 }
 
 /// What is found in a file by itself, whatever stands in other files, in the order of its text: a name or an attribute
@@ -50,7 +69,11 @@ pub fn own_findings(alloc: Global, file: &Outline<'_>) -> Result<Vec<Finding>, A
     let circles = circles_of(alloc, files)?;
     // Where no name is known, each reference is found missing, and none of these findings stands alone.
     let unknown = Places::new(alloc);
-    let all = found_in_files(alloc, &unknown, &circles, files)?;
+    let known = KnownNames {
+        own: &unknown,
+        others: &[],
+    };
+    let all = found_in_files(alloc, known, &circles, files)?;
     all.iter()
         .copied()
         .filter(|finding| finding.kind.stands_alone())
@@ -71,18 +94,18 @@ fn note_files(alloc: Global, table: &mut Places, files: &[Outline<'_>]) -> Resul
 /// What is found in each file, where all names that they define and all references that come back are known.
 fn found_in_files(
     alloc: Global,
-    defined: &Places,
+    known: KnownNames<'_>,
     circles: &Circles,
     files: &[Outline<'_>],
 ) -> Result<Vec<Finding>, AllocError>
     ensures { IfOk result (λ list.
-        list.items ≡ found_from (set_by (place_of defined.now.table) circles.now) 0 files.now []) }
+        list.items ≡ found_from (set_by (knows known.entry) circles.now) 0 files.now []) }
 {
     let mut list = Vec::new(alloc);
     for (number, file) in files.iter().enumerate() {
         let here = Here {
             alloc,
-            defined,
+            known,
             circles,
             file: number,
             text: file.text,
@@ -99,7 +122,7 @@ fn add_found(
     list: &mut Vec<Finding>,
 ) -> Result<(), AllocError>
     ensures { OnOk result (AddsFindings list.old.items list.new.items
-        (found_in (set_by (place_of here.now.defined.now.table) here.now.circles.now) here.now.file
+        (found_in (set_by (knows here.now.known) here.now.circles.now) here.now.file
         here.now.text.now nothing no_pattern mentions.now)) }
 {
     let mut noted = Noted::new(here.alloc);

@@ -4,16 +4,16 @@ ghost use Rattle.fluent_syntax_names.specs.Drawings.{same_part};
 ghost use Rattle.fluent_syntax_names.specs.Findings.{circle, circle_to, found, twice, undefined, undefined_attribute};
 ghost use Rattle.fluent_syntax_names.specs.Findings.{finding_at};
 ghost use Rattle.fluent_syntax_names.specs.Findings.{undefined_part, undefined_value};
+ghost use Rattle.fluent_syntax_names.specs.Knowing.{knows};
 ghost use Rattle.fluent_syntax_names.specs.Places.{place_of};
 ghost use Rattle.fluent_syntax_names.specs.Spelled.{spelled, spelled_attribute, spelled_value};
-ghost use Rattle.fluent_syntax_names.specs.Tables.{has_name};
 
 use crate::circles::Circles;
 use crate::definitions::{message_name, term_name};
 use crate::finding::{Finding, Kind, Place};
+use crate::known_names::KnownNames;
 use crate::mention::Mention;
 use crate::noted::Noted;
-use crate::places::Places;
 use crate::referring::referred;
 use crate::spelled::{
     EntryName, PatternName, name_at, spelled, spelled_attribute, spelled_pattern, spelled_value,
@@ -21,12 +21,12 @@ use crate::spelled::{
 use fluent_syntax_tree::spans::Span;
 use std::alloc::{AllocError, Global};
 
-/// A file as its findings are made: what all files define, which of their references come back, its number and its
+/// A file as its findings are made: which names are known to be defined, which references come back, its number and its
 /// text.
 #[derive(Clone, Copy)]
 pub(crate) struct Here<'a> {
     pub(crate) alloc: Global,
-    pub(crate) defined: &'a Places,
+    pub(crate) known: KnownNames<'a>,
     pub(crate) circles: &'a Circles,
     pub(crate) file: usize,
     pub(crate) text: &'a str,
@@ -40,7 +40,7 @@ impl Here<'_> {
         mention: &Mention<Span>,
     ) -> Result<Option<Finding>, AllocError>
         ensures { IfOk result (λ finding.
-            finding ≡ found (has_name (place_of self.now.defined.now.table)) self.now.file self.now.text.now
+            finding ≡ found (knows self.now.known) self.now.file self.now.text.now
             (record { names = place_of noted.now.names.table; attributes = place_of noted.now.attributes.table })
             mention.now) }
     {
@@ -122,11 +122,11 @@ impl Here<'_> {
         attribute: Option<Span>,
     ) -> Result<Option<Finding>, AllocError>
         ensures { IfOk result (λ finding.
-            finding ≡ undefined (has_name (place_of self.now.defined.now.table)) self.now.file self.now.text.now kind
+            finding ≡ undefined (knows self.now.known) self.now.file self.now.text.now kind
             entry attribute) }
     {
         let name = spelled(self.alloc, self.text, entry)?;
-        if self.defined.place_of(&name).is_none() {
+        if !self.known.has(&name) {
             return Ok(Some(self.finding_at(kind, entry.name, None)));
         }
         self.undefined_part(entry, attribute)
@@ -139,7 +139,7 @@ impl Here<'_> {
         attribute: Option<Span>,
     ) -> Result<Option<Finding>, AllocError>
         ensures { IfOk result (λ finding.
-            finding ≡ undefined_part (has_name (place_of self.now.defined.now.table)) self.now.file self.now.text.now
+            finding ≡ undefined_part (knows self.now.known) self.now.file self.now.text.now
             entry attribute) }
     {
         match attribute {
@@ -150,14 +150,14 @@ impl Here<'_> {
 
     fn undefined_value(&self, entry: EntryName) -> Result<Option<Finding>, AllocError>
         ensures { IfOk result (λ finding.
-            finding ≡ undefined_value (has_name (place_of self.now.defined.now.table)) self.now.file
+            finding ≡ undefined_value (knows self.now.known) self.now.file
             self.now.text.now entry) }
     {
         if entry.is_term {
             return Ok(None);
         }
         let name = spelled_value(self.alloc, self.text, entry)?;
-        if self.defined.place_of(&name).is_none() {
+        if !self.known.has(&name) {
             return Ok(Some(self.finding_at(Kind::UndefinedValue, entry.name, None)));
         }
         Ok(None)
@@ -169,11 +169,11 @@ impl Here<'_> {
         attribute: Span,
     ) -> Result<Option<Finding>, AllocError>
         ensures { IfOk result (λ finding.
-            finding ≡ undefined_attribute (has_name (place_of self.now.defined.now.table)) self.now.file
+            finding ≡ undefined_attribute (knows self.now.known) self.now.file
             self.now.text.now entry attribute) }
     {
         let name = spelled_attribute(self.alloc, self.text, entry, attribute)?;
-        if self.defined.place_of(&name).is_none() {
+        if !self.known.has(&name) {
             return Ok(Some(self.finding_at(Kind::UndefinedAttribute, attribute, None)));
         }
         Ok(None)

@@ -5,12 +5,14 @@
 mod beside;
 mod circles;
 mod comparing;
+mod defined_names;
 mod definitions;
 mod drawing;
 mod entries;
 mod files;
 mod finding;
 mod found;
+mod known_names;
 mod lack;
 mod mention;
 mod message;
@@ -25,8 +27,9 @@ mod spelled;
 mod uses;
 
 pub use comparing::lacks;
+pub use defined_names::DefinedNames;
 pub use entries::{defined, mentions, references, variables};
-pub use files::{findings, own_findings};
+pub use files::{findings, findings_beside, own_findings};
 pub use finding::{Finding, Kind, Place, Severity};
 pub use lack::{Lack, Part};
 pub use mention::Mention;

@@ -1,9 +1,9 @@
-//! What is found in a file by itself, and outlines that are made entry by entry.
+//! What is found in a file by itself or beside others, and outlines that are made entry by entry.
 
 use crate::findings::{outline, push_finding};
 use fluent_syntax::parser::recovered;
 use fluent_syntax::spans::parse_spans;
-use fluent_syntax_names::{Outline, own_findings};
+use fluent_syntax_names::{DefinedNames, Outline, findings_beside, own_findings};
 use fluent_syntax_tests::alike::{assert_holds, assert_same_text};
 use std::alloc::Global;
 use std::test::Fail;
@@ -71,6 +71,78 @@ fn files_by_themselves(rt: HostRuntime) -> Result<(), Fail> {
     let alloc = rt.alloc();
     for (shows, text, expected) in &ROWS {
         assert_own(alloc, *shows, outline(alloc, *text)?, *expected)?;
+    }
+    Ok(())
+}
+
+/// What is shown, a file, two others, and what is found in the file beside them.
+type BesideRow = (&'static str, &'static str, [&'static str; 2], &'static str);
+
+const BESIDE: [BesideRow; 8] = [
+    ("its own", "a = { b }\nb = B\n", ["", ""], ""),
+    (
+        "the first one's",
+        "a = { b } { b.t }\n",
+        ["b = B\n    .t = T\n", ""],
+        "",
+    ),
+    (
+        "the second one's",
+        "a = { -b }\n",
+        ["b = B\n", "-b = B\n"],
+        "",
+    ),
+    (
+        "nobody's",
+        "a = { b } { -c }\n",
+        ["c = C\n", "-b = B\n"],
+        "undefined-message 0 b 6\nundefined-term 0 c 13\n",
+    ),
+    (
+        "an attribute of nobody",
+        "a = { b.u }\n    .u = U\n",
+        ["b = B\n", "b =\n    .t = T\n"],
+        "undefined-attribute 0 u 8\n",
+    ),
+    (
+        "a value of nobody",
+        "a = { b }\n",
+        ["b =\n    .t = T\n", ""],
+        "undefined-value 0 b 6\n",
+    ),
+    (
+        "what others define twice",
+        "b = B\n",
+        ["b = B\n", "b = B\nb = B\n"],
+        "",
+    ),
+    (
+        "what the file has by itself",
+        "a = { a }\na = { b }\n",
+        ["b = { a }\n", ""],
+        "cyclic-reference 0 a 6\ndefined-twice 0 a 10 0\n",
+    ),
+];
+
+/// The names that a text defines.
+fn names_of(alloc: Global, text: &str) -> Result<DefinedNames, Fail> {
+    let file = outline(alloc, text)?;
+    let mut names = DefinedNames::new(alloc);
+    names.add(alloc, file.text, &file.mentions)?;
+    Ok(names)
+}
+
+#[test]
+fn files_beside_others(rt: HostRuntime) -> Result<(), Fail> {
+    let alloc = rt.alloc();
+    for (shows, text, others, expected) in &BESIDE {
+        let files = [outline(alloc, *text)?];
+        let (first, second) = (names_of(alloc, others[0])?, names_of(alloc, others[1])?);
+        let mut out = String::new(alloc);
+        for finding in &findings_beside(alloc, &files, &[&first, &second])? {
+            push_finding(&mut out, &files, finding)?;
+        }
+        assert_same_text(alloc, *shows, out.as_str(), *expected)?;
     }
     Ok(())
 }

@@ -5,6 +5,7 @@ pub mod GatheredVariants
 pub mod Given
 pub mod InlineForms
 pub mod InlineStarts
+pub mod Inlines
 pub mod Noted
 pub mod Selects
 pub mod Stars

@@ -1,5 +1,6 @@
 pub mod LaneRuns
 pub mod LineEnds
+pub mod NameTexts
 pub mod Names
 pub mod Ranges
 pub mod Scans

@@ -1,8 +1,9 @@
 -- What a layout spells, as a reader makes it.
-use Rattle.std.specs.Prelude.{◌≡◌, ℕ, ◌+◌, List, [], ◌∷◌, ◌++◌, map, Option, Some, None, option_map, min}
+use Rattle.std.specs.Prelude.{◌≡◌, Box, ℕ, ◌+◌, List, [], ◌∷◌, ◌++◌, map, Option, Some, None, option_map, min}
 use Rattle.std.specs.Prelude.{nat_lt, if◌then◌else◌}
+use Rattle.std.specs.Global.{Global}
 use Rattle.fluent_syntax_tree.specs.Tree.{ElementTree, ExpressionTree, text_element, pattern_map, placeable}
-use Rattle.fluent_syntax_tree.specs.View.{expression_view, pattern_view}
+use Rattle.fluent_syntax_tree.specs.View.{pattern_view}
 use Rattle.fluent_syntax_tree.specs.declared.ast.Expression.{Expression}
 use Rattle.fluent_syntax_tree.specs.declared.ast.Pattern.{Pattern}
 use Rattle.fluent_syntax_tree.specs.declared.edition.Edition.{Edition}
@@ -10,20 +11,18 @@ use Rattle.fluent_syntax_tree.specs.declared.edition.Edition.TheVariants.{One, T
 use Rattle.fluent_syntax_tree.specs.declared.spans.Span.{Span}
 use Rattle.fluent_syntax_grammar.specs.Elements.{pattern_of, trimmed_end}
 use Rattle.fluent_syntax_grammar.specs.Layout as grammar
+use Rattle.fluent_syntax_parser.specs.Boxed.{boxed_expression_view}
 use Rattle.fluent_syntax_parser.specs.Layouts as layouts
 use Rattle.fluent_syntax_parser.specs.Layouts.{cut}
-use Rattle.fluent_syntax_parser.specs.Lines.{line_shape, line_view}
-use Rattle.fluent_syntax_parser.specs.declared.pattern.elements.Layout.{Layout}
+use Rattle.fluent_syntax_parser.specs.Lines.{line_view}
+use Rattle.fluent_syntax_parser.specs.declared.pattern.line.Line.{Line}
 use Rattle.fluent_syntax_parser.specs.declared.pattern.line.Piece.{Piece}
 use Rattle.fluent_syntax_parser.specs.declared.pattern.line.Piece.TheVariants as piece
 
 module _ {S X : Type 0} (text : S → X) where
   abbrev pub item_view : Piece S → layouts.Item (ExpressionTree X)
   item_view (piece.Run from to) = layouts.text from to
-  item_view (piece.Placed e) = layouts.filled (expression_view text e)
-
-  abbrev pub layout_view : Layout S → layouts.Layout (ExpressionTree X)
-  layout_view y = record { opening = option_map (line_view text) y.opening; lines = map (line_view text) y.lines.items }
+  item_view (piece.Placed e) = layouts.filled (boxed_expression_view text e)
 
   -- The items are cut to those that are left and a last one; or none is left.
   abbrev pub CutsTo : List ℕ → (all left : List (Piece S)) → (last : Option (Piece S)) → Type 0
@@ -32,12 +31,9 @@ module _ {S X : Type 0} (text : S → X) where
 
 -- with each placeable as it is
 module _ {S : Type 0} where
-  abbrev pub item_shape : Piece S → layouts.Item (Expression S)
+  abbrev pub item_shape : Piece S → layouts.Item (Box (Expression S) Global)
   item_shape (piece.Run from to) = layouts.text from to
   item_shape (piece.Placed e) = layouts.filled e
-
-  abbrev pub layout_shape : Layout S → layouts.Layout (Expression S)
-  layout_shape y = record { opening = option_map line_shape y.opening; lines = map line_shape y.lines.items }
 
 module _ {E : Type 0} where
   -- a run that waits for what follows it, and what follows
@@ -91,9 +87,11 @@ module _ {X : Type 0} (f : Span → X) where
   last_of t (layouts.text from to) = text_element (f (record { start = from; end = trimmed_end t from to }))
   last_of t (layouts.filled e) = placeable e
 
--- The pattern is what the layout spells: that of any layout of the grammar of which it is made, with f of each text.
-abbrev pub MakesPattern : {S X : Type 0} → (Span → X) → (S → X) → Edition → List ℕ → Layout S → Option (Pattern S) →
-    Type 0
-MakesPattern f v edition t layout pattern =
-    (y : grammar.Layout) → layout_view v layout ≡ layouts.layout_of f y →
+-- The pattern is what a layout spells: that of any layout of the grammar of which the items of the opening line and the
+-- other lines are made, with f of each text.
+abbrev pub MakesPattern : {S X : Type 0} → (Span → X) → (S → X) → Edition → List ℕ → (items : List (Piece S)) →
+    (lines : List (Line S)) → Option (Pattern S) → Type 0
+MakesPattern f v edition t items lines pattern =
+    (y : grammar.Layout) → map (item_view v) items ≡ layouts.opening_items (option_map (layouts.line_of f) y.opening) →
+    map (line_view v) lines ≡ map (layouts.line_of f) y.lines →
     option_map (pattern_view v) pattern ≡ option_map (pattern_map f) (pattern_of edition t y)

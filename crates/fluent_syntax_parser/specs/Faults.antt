@@ -18,7 +18,7 @@ fault_of e = option_map (λ slice. record {
 -- the fault that a refusal is, whose junk is that stretch of the text
 abbrev pub refused_as : List ℕ → Refusal → Span → Fault
 refused_as t r junk = record {
-  kind = kind_at t r.fault r.place;
-  pos = record { start = from_of r.fault r.place; end = to_of r.fault r.place };
+  kind = kind_at t r.fault r.from r.place;
+  pos = record { start = from_of r.fault r.from r.place; end = to_of r.fault r.place };
   slice = junk;
 }

@@ -127,9 +127,6 @@ module _ {E F : Type 0} (h : E → F) where
   abbrev pub line_map : Line E → Line F
   line_map l = record { start = l.start; spaces = l.spaces; pieces = map piece_map l.pieces; ending = l.ending }
 
-  abbrev pub layout_map : Layout E → Layout F
-  layout_map y = record { opening = option_map line_map y.opening; lines = map line_map y.lines }
-
   abbrev pub item_map : Item E → Item F
   item_map (text from to) = text from to
   item_map (filled e) = filled (h e)

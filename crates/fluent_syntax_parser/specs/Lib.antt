@@ -1,5 +1,6 @@
 pub mod AnyDepth
 pub mod Answers
+pub mod Boxed
 pub mod CommentLines
 pub mod Elements
 pub mod Endings
@@ -15,8 +16,10 @@ pub mod Made
 pub mod MadeEntries
 pub mod Meets
 pub mod OneLine
+pub mod Opened
 pub mod Parts
 pub mod Rest
+pub mod Selects
 pub mod Starts
 pub mod Strings
 pub mod Noted

@@ -1,9 +1,10 @@
 -- The lines that a reader has found.
-use Rattle.std.specs.Prelude.{map}
+use Rattle.std.specs.Prelude.{Box, map}
+use Rattle.std.specs.Global.{Global}
 use Rattle.fluent_syntax_tree.specs.Tree.{ExpressionTree}
-use Rattle.fluent_syntax_tree.specs.View.{expression_view}
 use Rattle.fluent_syntax_tree.specs.declared.ast.Expression.{Expression}
 use Rattle.fluent_syntax_grammar.specs.Layout as grammar
+use Rattle.fluent_syntax_parser.specs.Boxed.{boxed_expression_view}
 use Rattle.fluent_syntax_parser.specs.Layouts as layout
 use Rattle.fluent_syntax_parser.specs.declared.pattern.line.Ending.{Ending}
 use Rattle.fluent_syntax_parser.specs.declared.pattern.line.Ending.TheVariants as ends
@@ -19,7 +20,7 @@ ending_view ends.TextEnd = grammar.text_end
 module _ {S X : Type 0} (text : S → X) where
   abbrev pub piece_view : Piece S → layout.Piece (ExpressionTree X)
   piece_view (piece.Run from to) = layout.run from to
-  piece_view (piece.Placed e) = layout.placed (expression_view text e)
+  piece_view (piece.Placed e) = layout.placed (boxed_expression_view text e)
 
   abbrev pub line_view : Line S → layout.Line (ExpressionTree X)
   line_view l = record {
@@ -32,11 +33,11 @@ module _ {S X : Type 0} (text : S → X) where
 -- ---- with each placeable as it is
 
 module _ {S : Type 0} where
-  abbrev pub piece_shape : Piece S → layout.Piece (Expression S)
+  abbrev pub piece_shape : Piece S → layout.Piece (Box (Expression S) Global)
   piece_shape (piece.Run from to) = layout.run from to
   piece_shape (piece.Placed e) = layout.placed e
 
-  abbrev pub line_shape : Line S → layout.Line (Expression S)
+  abbrev pub line_shape : Line S → layout.Line (Box (Expression S) Global)
   line_shape l = record {
     start = l.start;
     spaces = l.spaces;

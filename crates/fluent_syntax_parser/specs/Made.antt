@@ -20,3 +20,10 @@ abbrev pub Adds : {A B X : Type 0} → List ℕ → (A → B) → Construct A �
     Result ℕ ReadFault → Type 0
 Adds t f c view old new i (Ok j) = (x : _) × (new ≡ old ++ x ∷ []) × IsMade f c i (view x) j
 Adds t f c view old new i (Err e) = Fails t c i e × (new ≡ old)
+
+-- The same of a reader that fills an empty list with what it read, and answers where that ends. Where it fails, nothing
+-- is said of the list.
+abbrev pub Fills : {A B X : Type 0} → List ℕ → (A → B) → Construct A → (List X → B) → List X → ℕ → Result ℕ ReadFault →
+    Type 0
+Fills t f c view new i (Ok j) = IsMade f c i (view new) j
+Fills t f c view new i (Err e) = Fails t c i e

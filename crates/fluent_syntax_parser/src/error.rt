@@ -16,12 +16,12 @@ impl Refusal {
     /// The place of the error: one byte, but where a message or a term lacks its field.
     fn pos(&self) -> Range<usize>
         requires { self.now.place + 1 < 2 ^ 64 }
-        ensures start { result.start ≡ from_of self.now.fault self.now.place }
+        ensures start { result.start ≡ from_of self.now.fault self.now.from self.now.place }
         ensures end { result.end ≡ to_of self.now.fault self.now.place }
     {
         match self.fault {
-            Fault::MessageField(name) => name.start..self.place,
-            Fault::TermField { start, .. } => start..self.place,
+            Fault::MessageField => self.from..self.place,
+            Fault::TermField => self.from.saturating_sub(1)..self.place,
             _ => self.place..self.place + 1,
         }
     }
@@ -55,7 +55,8 @@ impl<'s> Source<'s> {
 
     /// What was wanted, or is wrong, where a reader gave up.
     fn error_kind(&self, alloc: Global, refusal: Refusal) -> Result<ErrorKind, AllocError>
-        ensures { IfOk result (λ kind. kind_of kind ≡ kind_at self.now.bytes.now refusal.fault refusal.place) }
+        ensures { IfOk result
+            (λ kind. kind_of kind ≡ kind_at self.now.bytes.now refusal.fault refusal.from refusal.place) }
     {
         Ok(match refusal.fault {
             Fault::Token(byte) => ErrorKind::ExpectedToken(byte as char),
@@ -68,11 +69,11 @@ impl<'s> Source<'s> {
             Fault::LineEnd => ErrorKind::ExpectedCharRange {
                 range: String::from_str(alloc, "\n | \r\n")?,
             },
-            Fault::MessageField(name) => ErrorKind::ExpectedMessageField {
-                entry_id: text_of(alloc, self.bytes_of(name))?,
+            Fault::MessageField => ErrorKind::ExpectedMessageField {
+                entry_id: text_of(alloc, self.name_text(refusal.from))?,
             },
-            Fault::TermField { name, .. } => ErrorKind::ExpectedTermField {
-                entry_id: text_of(alloc, self.bytes_of(name))?,
+            Fault::TermField => ErrorKind::ExpectedTermField {
+                entry_id: text_of(alloc, self.name_text(refusal.from))?,
             },
             Fault::Callee => ErrorKind::ForbiddenCallee,
             Fault::Value => ErrorKind::MissingValue,
@@ -85,11 +86,12 @@ impl<'s> Source<'s> {
             Fault::TermAttribute => ErrorKind::TermAttributeAsPlaceable,
             Fault::UnterminatedString => ErrorKind::UnterminatedStringLiteral,
             Fault::PositionalAfterNamed => ErrorKind::PositionalArgumentFollowsNamed,
-            Fault::Duplicated(name) => {
-                ErrorKind::DuplicatedNamedArgument(text_of(alloc, self.bytes_of(name))?)
+            Fault::Duplicated => {
+                ErrorKind::DuplicatedNamedArgument(text_of(alloc, self.name_text(refusal.from))?)
             }
             Fault::UnknownEscape(byte) => ErrorKind::UnknownEscapeSequence(byte.to_string(alloc)?),
-            Fault::UnicodeEscape(start) => {
+            Fault::UnicodeEscape => {
+                let start = refusal.from;
                 let end = self.character_end(refusal.place);
                 let digits = text_of(alloc, self.bytes_of(Span { start, end }))?;
                 ErrorKind::InvalidUnicodeEscapeSequence(digits)

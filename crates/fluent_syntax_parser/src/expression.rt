@@ -1,21 +1,23 @@
 //! Inline expressions, placeables and selects.
 ghost use Rattle.std.specs.Prelude.{◌≡◌, ◌-◌, ◌<◌, ◌≤◌, length, IfOk};
-ghost use Rattle.fluent_syntax_tree.specs.Tree.{expression_map, inline_map};
-ghost use Rattle.fluent_syntax_tree.specs.View.{expression_view, inline_view};
+ghost use Rattle.fluent_syntax_tree.specs.Tree.{expression_map, inline, inline_placeable};
 ghost use Rattle.fluent_syntax_grammar.specs.Construct.{at_each};
 ghost use Rattle.fluent_syntax_grammar.specs.Family.{placeable};
 ghost use Rattle.fluent_syntax_grammar.specs.Grammar.{within};
 ghost use Rattle.fluent_syntax_grammar.specs.Inline.{inline_expression};
 ghost use Rattle.fluent_syntax_grammar.specs.Placeables.{arrow_line_end, expression, has_arrow};
 ghost use Rattle.fluent_syntax_grammar.specs.Places.{after_eol};
-ghost use Rattle.fluent_syntax_grammar.specs.Starts.{letter, start, term};
+ghost use Rattle.fluent_syntax_grammar.specs.Starts.{brace, letter, start, term};
+ghost use Rattle.fluent_syntax_parser.specs.Boxed.{boxed_expression_view, mapped_inline};
 ghost use Rattle.fluent_syntax_parser.specs.Made.{Makes};
 ghost use Rattle.fluent_syntax_parser.specs.Meets.{MeetsEnd};
 
 pub(crate) mod argument_names;
 pub(crate) mod arguments;
 pub(crate) mod forms;
+pub(crate) mod literals;
 pub(crate) mod references;
+pub(crate) mod selects;
 pub(crate) mod starts;
 pub(crate) mod variants;
 
@@ -26,6 +28,7 @@ use crate::source::Source;
 use crate::texts::MakeTexts;
 use fluent_syntax_tree::ast::{Expression, InlineExpression};
 use fluent_syntax_tree::spans::Span;
+use std::alloc::AllocError;
 
 impl<'s> Source<'s> {
     /// Whether `->` stands at the place.
@@ -47,6 +50,7 @@ impl<'s> Source<'s> {
             Some(end) => Ok(end),
             None => Err(Refusal {
                 fault: Fault::LineEnd,
+                from: ptr,
                 place: ptr,
             }),
         }
@@ -61,28 +65,20 @@ impl<'s, 't, M: MakeTexts> Reader<'s, 't, M> {
         &self,
         nesting: usize,
         ptr: usize,
-    ) -> Result<(InlineExpression<M::Text>, usize), ReadFault>
+    ) -> Result<(Box<Expression<M::Text>>, usize), ReadFault>
         requires within { ptr ≤ length self.now.source.bytes.now }
         requires starts { term ≡ start self.now.source.bytes.now ptr }
         ensures meets { let t = self.now.source.bytes.now in
-            Makes t (inline_map (M.source self.now.texts.now)) (inline_expression t (within self.now.edition t nesting))
-            (inline_view M.made) ptr result }
+            Makes t (mapped_inline (M.source self.now.texts.now))
+            (inline_expression t (within self.now.edition t nesting)) (boxed_expression_view M.made) ptr result }
         ensures within { IfOk result (λ read. (ptr < read.1) × (read.1 ≤ length self.now.source.bytes.now)) }
     {
         let start = self.source.expect_byte(b'-', ptr)?;
         let end = self.source.identifier_end(start)?;
         let (attribute, ptr) = self.source.get_attribute_accessor(end)?;
         let (arguments, ptr) = self.get_call_arguments(nesting, ptr)?;
-        let id = self.identifier(Span { start, end })?;
-        let attribute = self.attribute(attribute)?;
-        Ok((
-            InlineExpression::TermReference {
-                id,
-                attribute,
-                arguments,
-            },
-            ptr,
-        ))
+        let expression = self.boxed_term(Span { start, end }, attribute, arguments)?;
+        Ok((expression, ptr))
     }
 
     /// Reads a reference to a function or to a message, by its name and what follows it.
@@ -92,12 +88,12 @@ impl<'s, 't, M: MakeTexts> Reader<'s, 't, M> {
         &self,
         nesting: usize,
         ptr: usize,
-    ) -> Result<(InlineExpression<M::Text>, usize), ReadFault>
+    ) -> Result<(Box<Expression<M::Text>>, usize), ReadFault>
         requires within { ptr ≤ length self.now.source.bytes.now }
         requires starts { letter ≡ start self.now.source.bytes.now ptr }
         ensures meets { let t = self.now.source.bytes.now in
-            Makes t (inline_map (M.source self.now.texts.now)) (inline_expression t (within self.now.edition t nesting))
-            (inline_view M.made) ptr result }
+            Makes t (mapped_inline (M.source self.now.texts.now))
+            (inline_expression t (within self.now.edition t nesting)) (boxed_expression_view M.made) ptr result }
         ensures within { IfOk result (λ read. (ptr < read.1) × (read.1 ≤ length self.now.source.bytes.now)) }
     {
         let end = self.source.identifier_end(ptr)?;
@@ -106,47 +102,66 @@ impl<'s, 't, M: MakeTexts> Reader<'s, 't, M> {
         self.get_named_reference(name, arguments, ptr)
     }
 
+    /// A box with the expression that a placeable is.
+    #[inline(never)]
+    fn boxed_placeable(
+        &self,
+        expression: Box<Expression<M::Text>>,
+    ) -> Result<Box<Expression<M::Text>>, AllocError>
+        ensures { IfOk result (λ boxed. boxed_expression_view M.made boxed
+            ≡ inline (inline_placeable (boxed_expression_view M.made expression))) }
+    {
+        let placeable = InlineExpression::Placeable { expression };
+        let boxed = Box::new(self.alloc, Expression::Inline(placeable))?;
+        Ok(boxed)
+    }
+
+    /// Reads a placeable that is an inline expression.
+    #[cycle(readers)]
+    #[inline(never)]
+    fn get_inner_placeable(
+        &self,
+        nesting: usize,
+        ptr: usize,
+    ) -> Result<(Box<Expression<M::Text>>, usize), ReadFault>
+        requires within { ptr ≤ length self.now.source.bytes.now }
+        requires starts { brace ≡ start self.now.source.bytes.now ptr }
+        ensures meets { let t = self.now.source.bytes.now in
+            Makes t (mapped_inline (M.source self.now.texts.now))
+            (inline_expression t (within self.now.edition t nesting)) (boxed_expression_view M.made) ptr result }
+        ensures within { IfOk result (λ read. (ptr < read.1) × (read.1 ≤ length self.now.source.bytes.now)) }
+    {
+        let (expression, end) = self.get_placeable(nesting, ptr)?;
+        let expression = self.boxed_placeable(expression)?;
+        Ok((expression, end))
+    }
+
     /// Reads an inline expression: what stands at the place decides its form.
     #[cycle(readers)]
+    #[inline(always)]
     pub(crate) fn get_inline_expression(
         &self,
         nesting: usize,
         ptr: usize,
-    ) -> Result<(InlineExpression<M::Text>, usize), ReadFault>
+    ) -> Result<(Box<Expression<M::Text>>, usize), ReadFault>
         requires { ptr ≤ length self.now.source.bytes.now }
         ensures meets { let t = self.now.source.bytes.now in
-            Makes t (inline_map (M.source self.now.texts.now)) (inline_expression t (within self.now.edition t nesting))
-            (inline_view M.made) ptr result }
+            Makes t (mapped_inline (M.source self.now.texts.now))
+            (inline_expression t (within self.now.edition t nesting)) (boxed_expression_view M.made) ptr result }
         ensures within { IfOk result (λ read. (ptr < read.1) × (read.1 ≤ length self.now.source.bytes.now)) }
     {
         match self.source.start(ptr) {
-            Start::Quote => {
-                let (value, ptr) = self.source.get_string_literal(ptr)?;
-                let value = self.text(value)?;
-                Ok((InlineExpression::StringLiteral { value }, ptr))
-            }
-            Start::Digit | Start::Minus => {
-                let end = self.source.number_end(ptr)?;
-                let value = self.text(Span { start: ptr, end })?;
-                Ok((InlineExpression::NumberLiteral { value }, end))
-            }
+            Start::Quote => self.get_string(ptr),
+            Start::Digit | Start::Minus => self.get_number(ptr),
             Start::Term => self.get_term_reference(nesting, ptr),
-            Start::Dollar => {
-                let start = self.source.expect_byte(b'$', ptr)?;
-                let end = self.source.identifier_end(start)?;
-                let id = self.identifier(Span { start, end })?;
-                Ok((InlineExpression::VariableReference { id }, end))
-            }
+            Start::Dollar => self.get_variable(ptr),
             Start::Letter => self.get_reference(nesting, ptr),
-            Start::Brace => {
-                let (expression, ptr) = self.get_placeable(nesting, ptr)?;
-                let expression = Box::new(self.alloc, expression)?;
-                Ok((InlineExpression::Placeable { expression }, ptr))
-            }
-            Start::Other => Err(ReadFault::Refused(Refusal {
+            Start::Brace => self.get_inner_placeable(nesting, ptr),
+            Start::Other => Err(ReadFault::Refused {
                 fault: Fault::InlineExpression,
+                from: ptr,
                 place: ptr,
-            })),
+            }),
         }
     }
 
@@ -156,35 +171,27 @@ impl<'s, 't, M: MakeTexts> Reader<'s, 't, M> {
         &self,
         nesting: usize,
         ptr: usize,
-    ) -> Result<(Expression<M::Text>, usize), ReadFault>
+    ) -> Result<(Box<Expression<M::Text>>, usize), ReadFault>
         requires { ptr ≤ length self.now.source.bytes.now }
         ensures meets { let t = self.now.source.bytes.now in
             Makes t (expression_map (M.source self.now.texts.now))
-            (expression self.now.edition t (within self.now.edition t nesting)) (expression_view M.made) ptr result }
+            (expression self.now.edition t (within self.now.edition t nesting)) (boxed_expression_view M.made) ptr
+            result }
         ensures within { IfOk result (λ read. (ptr < read.1) × (read.1 ≤ length self.now.source.bytes.now)) }
     {
         let (expression, ptr) = self.get_inline_expression(nesting, ptr)?;
         let ptr = self.source.skip_blank(ptr);
-        if !self.source.is_arrow(ptr) {
-            if self.is_term_attribute(&expression) {
-                return Err(ReadFault::Refused(Refusal {
-                    fault: Fault::TermAttribute,
-                    place: ptr,
-                }));
-            }
-            return Ok((Expression::Inline(expression), ptr));
+        if self.source.is_arrow(ptr) {
+            return self.get_select(nesting, expression, ptr);
         }
-        match self.selector_fault(&expression) {
-            Some(fault) => Err(ReadFault::Refused(Refusal { fault, place: ptr })),
-            None => {
-                let ptr = self.source.skip_blank_inline(ptr + 2);
-                let ptr = self.source.arrow_line_end(ptr)?;
-                let ptr = self.source.skip_blank(ptr);
-                let (variants, ptr) = self.get_variants(nesting, ptr)?;
-                let selector = expression;
-                Ok((Expression::Select { selector, variants }, ptr))
-            }
+        if self.is_term_attribute(self.inline_in(&expression)) {
+            return Err(ReadFault::Refused {
+                fault: Fault::TermAttribute,
+                from: ptr,
+                place: ptr,
+            });
         }
+        Ok((expression, ptr))
     }
 
     /// Reads an expression in braces.
@@ -193,11 +200,11 @@ impl<'s, 't, M: MakeTexts> Reader<'s, 't, M> {
         &self,
         nesting: usize,
         ptr: usize,
-    ) -> Result<(Expression<M::Text>, usize), ReadFault>
+    ) -> Result<(Box<Expression<M::Text>>, usize), ReadFault>
         requires { ptr ≤ length self.now.source.bytes.now }
         ensures meets { let t = self.now.source.bytes.now in
             Makes t (expression_map (M.source self.now.texts.now)) (placeable t (within self.now.edition t nesting))
-            (expression_view M.made) ptr result }
+            (boxed_expression_view M.made) ptr result }
         ensures within { IfOk result (λ read. (ptr < read.1) × (read.1 ≤ length self.now.source.bytes.now)) }
     {
         let start = self.source.expect_byte(b'{', ptr)?;

@@ -88,10 +88,11 @@ impl<'s, 't, M: MakeTexts> Reader<'s, 't, M> {
                 };
                 Ok((extents, value))
             }
-            None => Err(ReadFault::Refused(Refusal {
+            None => Err(ReadFault::Refused {
                 fault: Fault::Value,
+                from: end,
                 place: end,
-            })),
+            }),
         }
     }
 
@@ -114,7 +115,7 @@ impl<'s, 't, M: MakeTexts> Reader<'s, 't, M> {
                     attributes.push(extents)?;
                     place = extents.span.end;
                 }
-                Err(ReadFault::Refused(_)) => return Ok((attributes, place)),
+                Err(ReadFault::Refused { .. }) => return Ok((attributes, place)),
                 Err(ReadFault::TooDeep) => return Err(ReadFault::TooDeep),
                 Err(ReadFault::Memory) => return Err(ReadFault::Memory),
             }
@@ -149,10 +150,11 @@ impl<'s, 't, M: MakeTexts> Reader<'s, 't, M> {
         let name = Span { start, end };
         let (value, attributes, place) = self.field_parts(nesting, end)?;
         if value.is_none() && attributes.is_empty() {
-            return Err(ReadFault::Refused(Refusal {
-                fault: Fault::MessageField(name),
+            return Err(ReadFault::Refused {
+                fault: Fault::MessageField,
+                from: start,
                 place,
-            }));
+            });
         }
         Ok(EntryExtents {
             name,
@@ -172,10 +174,11 @@ impl<'s, 't, M: MakeTexts> Reader<'s, 't, M> {
         let name = Span { start: letter, end };
         let (value, attributes, place) = self.field_parts(nesting, end)?;
         if value.is_none() {
-            return Err(ReadFault::Refused(Refusal {
-                fault: Fault::TermField { start, name },
+            return Err(ReadFault::Refused {
+                fault: Fault::TermField,
+                from: letter,
                 place,
-            }));
+            });
         }
         Ok(EntryExtents {
             name,
@@ -231,7 +234,7 @@ pub fn entry_extents(
     };
     match reader.entry_parts(nesting, start) {
         Ok(found) => Ok(found),
-        Err(ReadFault::Refused(_)) => Ok(None),
+        Err(ReadFault::Refused { .. }) => Ok(None),
         Err(ReadFault::TooDeep) => Err(Halt::TooDeep),
         Err(ReadFault::Memory) => Err(Halt::Memory),
     }

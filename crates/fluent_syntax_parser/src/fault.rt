@@ -1,13 +1,12 @@
 //! Why a reader gives up.
 //!
-//! Each is a small value that copies: what an error tells of the text is kept as a place of it, and its texts are
-//! made once, where the error is reported.
+//! Each is a small value that copies, since what nests passes it on: what an error tells of the text is kept as a place
+//! of it, and its texts are made once, where the error is reported.
 ghost use Rattle.std.specs.Prelude.{◌≡◌, ◌≢◌, [], Ok, Err};
 ghost use Rattle.fluent_syntax_parser.specs.declared.fault.ParseFault.TheVariants.{Syntax};
 
 use fluent_syntax_tree::ast::{Entry, Resource};
 use fluent_syntax_tree::errors::ParserError;
-use fluent_syntax_tree::spans::Span;
 use std::alloc::{AllocError, AllocFailed};
 use thiserror::Error;
 
@@ -19,10 +18,10 @@ pub(crate) enum Fault {
     Digit,
     /// A line end after an arrow.
     LineEnd,
-    /// A pattern or an attribute of the message of that name.
-    MessageField(Span),
-    /// A pattern of the term of that name, which begins at the place.
-    TermField { start: usize, name: Span },
+    /// A pattern or an attribute of the message whose name begins at the first place.
+    MessageField,
+    /// A pattern of the term whose name begins at the first place, behind its `-`.
+    TermField,
     Callee,
     Value,
     NoDefault,
@@ -34,12 +33,12 @@ pub(crate) enum Fault {
     TermAttribute,
     UnterminatedString,
     PositionalAfterNamed,
-    /// A name that was used.
-    Duplicated(Span),
+    /// A name that was used, and begins at the first place.
+    Duplicated,
     /// A backslash before that byte.
     UnknownEscape(u8),
-    /// Too few digits, which begin at the place.
-    UnicodeEscape(usize),
+    /// Too few digits, which begin at the first place.
+    UnicodeEscape,
     UnbalancedBrace,
     InlineExpression,
     Literal,
@@ -49,13 +48,20 @@ pub(crate) enum Fault {
 #[derive(Clone, Copy, Debug)]
 pub(crate) struct Refusal {
     pub(crate) fault: Fault,
+    /// Where that begins which the fault tells of, or the place.
+    pub(crate) from: usize,
     pub(crate) place: usize,
 }
 
 /// Why a reader gives up that nests or takes memory.
 #[derive(Clone, Copy, Debug)]
 pub(crate) enum ReadFault {
-    Refused(Refusal),
+    /// As a refusal, whose fields take less room here.
+    Refused {
+        fault: Fault,
+        from: usize,
+        place: usize,
+    },
     /// It nests more deeply than was allowed.
     TooDeep,
     /// A growth was refused.
@@ -66,10 +72,11 @@ impl From<Refusal> for ReadFault {
     ghost use Rattle.fluent_syntax_parser.specs.declared.fault.ReadFault.TheVariants.{Refused};
     ghost use Rattle.std.specs.Prelude.{◌≡◌};
 
-    ghost from_gives = { λ refusal fault. fault ≡ Refused refusal };
+    ghost from_gives = { λ refusal fault. fault ≡ Refused refusal.fault refusal.from refusal.place };
 
     fn from(refusal: Refusal) -> Self {
-        ReadFault::Refused(refusal)
+        let Refusal { fault, from, place } = refusal;
+        ReadFault::Refused { fault, from, place }
     }
 }
 

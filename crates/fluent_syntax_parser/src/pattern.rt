@@ -1,15 +1,18 @@
 //! Patterns.
-ghost use Rattle.std.specs.Prelude.{◌≡◌, ◌≤◌, length, option_map, IfOk, IfSome, None, Some};
+ghost use Rattle.std.specs.Prelude.{◌≡◌, ◌≤◌, [], length, map, option_map, IfOk, IfSome, None, Some};
 ghost use Rattle.fluent_syntax_tree.specs.Tree.{pattern_map};
 ghost use Rattle.fluent_syntax_tree.specs.View.{pattern_view};
-ghost use Rattle.fluent_syntax_grammar.specs.Construct.{at_each};
+ghost use Rattle.fluent_syntax_grammar.specs.Construct.{Read};
 ghost use Rattle.fluent_syntax_grammar.specs.Grammar.{within};
-ghost use Rattle.fluent_syntax_grammar.specs.Patterns.{layout_at, pattern};
-ghost use Rattle.fluent_syntax_grammar.specs.Places.{InlineBlank, after_eol};
-ghost use Rattle.fluent_syntax_parser.specs.Elements.{layout_view};
-ghost use Rattle.fluent_syntax_parser.specs.Layouts.{layout_of};
+ghost use Rattle.fluent_syntax_grammar.specs.Lines.{ending};
+ghost use Rattle.fluent_syntax_grammar.specs.Patterns.{pattern};
+ghost use Rattle.fluent_syntax_grammar.specs.Places.{InlineBlank};
+ghost use Rattle.fluent_syntax_parser.specs.Elements.{item_view};
+ghost use Rattle.fluent_syntax_parser.specs.Layouts.{with_ending};
+ghost use Rattle.fluent_syntax_parser.specs.Lines.{piece_view};
 ghost use Rattle.fluent_syntax_parser.specs.Made.{Makes};
 ghost use Rattle.fluent_syntax_parser.specs.OneLine.{EndsBlank, EndsLine, NoLines, OpensAs, text_pattern};
+ghost use Rattle.fluent_syntax_parser.specs.Opened.{LaysOut, Opens};
 
 pub(crate) mod elements;
 pub(crate) mod indents;
@@ -18,8 +21,8 @@ pub(crate) mod lines;
 pub(crate) mod tails;
 
 use crate::fault::ReadFault;
-use crate::pattern::elements::Layout;
-use crate::pattern::line::Line;
+use crate::pattern::elements::end_opening;
+use crate::pattern::line::{Line, Piece};
 use crate::reader::Reader;
 use crate::source::Source;
 use crate::texts::MakeTexts;
@@ -134,40 +137,73 @@ impl<'s, 't, M: MakeTexts> Reader<'s, 't, M> {
         Ok(Pattern { elements })
     }
 
-    /// Reads the layout of a pattern, after the inline blank that opens it.
+    /// Ends the line on which a pattern opens, whose pieces end at a place: they are its items then. Gives where the next
+    /// line begins.
+    #[inline(never)]
+    fn end_first_line(
+        &self,
+        end: usize,
+        items: &mut Vec<Piece<M::Text>>,
+    ) -> Result<usize, AllocError>
+        requires { end ≤ length self.now.source.bytes.now }
+        ensures ends { let t = self.now.source.bytes.now in IfOk result (λ next. (found : _)
+            × (map (item_view M.made) items.new.items ≡ with_ending (map (piece_view M.made) items.old.items) found)
+            × ending t end (Read found next)) }
+        ensures within { IfOk result (λ next. (end ≤ next) × (next ≤ length self.now.source.bytes.now)) }
+    {
+        let (ending, next) = self.source.get_ending(end);
+        end_opening(ending, items)?;
+        Ok(next)
+    }
+
+    /// Gathers the items of the line on which a pattern opens, after the inline blank there, in an empty list. Gives
+    /// where its other lines begin.
     #[cycle(readers)]
-    fn get_layout(&self, nesting: usize, ptr: usize) -> Result<(Layout<M::Text>, usize), ReadFault>
-        requires { ptr ≤ length self.now.source.bytes.now }
-        ensures meets { let t = self.now.source.bytes.now in
-            Makes t (layout_of (M.source self.now.texts.now))
-            (at_each (after_eol t) (layout_at t (within self.now.edition t nesting))) (layout_view M.made) ptr result }
-        ensures within { IfOk result (λ read. (ptr ≤ read.1) × (read.1 ≤ length self.now.source.bytes.now)) }
+    #[inline(never)]
+    fn gather_opening(
+        &self,
+        nesting: usize,
+        ptr: usize,
+        items: &mut Vec<Piece<M::Text>>,
+    ) -> Result<usize, ReadFault>
+        requires within { ptr ≤ length self.now.source.bytes.now }
+        requires empty { items.old.items ≡ [] }
+        ensures opens { let t = self.now.source.bytes.now in
+            Opens t (within self.now.edition t nesting) (M.source self.now.texts.now) M.made ptr items.new.items result }
+        ensures within { IfOk result (λ next. (ptr ≤ next) × (next ≤ length self.now.source.bytes.now)) }
     {
         match self.source.eol_end(ptr) {
-            Some(next) => {
-                let first = self.source.skip_blank_block(next);
-                let (lines, end) = self.get_lines(nesting, first)?;
-                Ok((
-                    Layout {
-                        opening: None,
-                        lines,
-                    },
-                    end,
-                ))
-            }
+            Some(next) => Ok(self.source.skip_blank_block(next)),
             None => {
-                let (pieces, end) = self.get_pieces(nesting, ptr)?;
-                let (ending, next) = self.source.get_ending(end);
-                let (lines, end) = self.get_lines(nesting, next)?;
-                let opening = Some(Line {
-                    start: ptr,
-                    spaces: 0,
-                    pieces,
-                    ending,
-                });
-                Ok((Layout { opening, lines }, end))
+                let end = self.gather_pieces(nesting, ptr, items)?;
+                let next = self.end_first_line(end, items)?;
+                Ok(next)
             }
         }
+    }
+
+    /// Gathers the items of the line on which a pattern opens, after the inline blank there, and its other lines, in
+    /// empty lists.
+    #[cycle(readers)]
+    #[inline(always)]
+    fn gather_layout(
+        &self,
+        nesting: usize,
+        ptr: usize,
+        items: &mut Vec<Piece<M::Text>>,
+        lines: &mut Vec<Line<M::Text>>,
+    ) -> Result<usize, ReadFault>
+        requires within { ptr ≤ length self.now.source.bytes.now }
+        requires no_items { items.old.items ≡ [] }
+        requires no_lines { lines.old.items ≡ [] }
+        ensures meets { let t = self.now.source.bytes.now in
+            LaysOut t (within self.now.edition t nesting) (M.source self.now.texts.now) M.made ptr items.new.items
+            lines.new.items result }
+        ensures within { IfOk result (λ end. (ptr ≤ end) × (end ≤ length self.now.source.bytes.now)) }
+    {
+        let next = self.gather_opening(nesting, ptr, items)?;
+        let end = self.gather_lines(nesting, next, lines)?;
+        Ok(end)
     }
 
     /// Reads a pattern that does not stand on one line, or that has a placeable. The inline blank that opens it ends at
@@ -188,8 +224,10 @@ impl<'s, 't, M: MakeTexts> Reader<'s, 't, M> {
             result }
         ensures within { IfOk result (λ read. (ptr ≤ read.1) × (read.1 ≤ length self.now.source.bytes.now)) }
     {
-        let (layout, end) = self.get_layout(nesting, start)?;
-        let pattern = self.pattern_of(layout)?;
+        let mut items = Vec::new(self.alloc);
+        let mut lines = Vec::new(self.alloc);
+        let end = self.gather_layout(nesting, start, &mut items, &mut lines)?;
+        let pattern = self.pattern_of(items, lines)?;
         Ok((pattern, end))
     }
 

@@ -5,7 +5,7 @@ ghost use Rattle.fluent_syntax_grammar.specs.Bytes.{is_digit, is_name_byte};
 ghost use Rattle.fluent_syntax_grammar.specs.Construct.{Read};
 ghost use Rattle.fluent_syntax_grammar.specs.Places.{Word};
 ghost use Rattle.fluent_syntax_grammar.specs.Words.{digits, identifier, number, optional, token};
-ghost use Rattle.fluent_syntax_parser.specs.Meets.{MeetsEnd, MeetsText};
+ghost use Rattle.fluent_syntax_parser.specs.Meets.{MeetsEnd, MeetsText, name_text};
 
 pub(crate) mod blanks;
 pub(crate) mod lanes;
@@ -34,6 +34,7 @@ impl<'s> Source<'s> {
         } else {
             Err(Refusal {
                 fault: Fault::Token(byte),
+                from: ptr,
                 place: ptr,
             })
         }
@@ -83,10 +84,20 @@ impl<'s> Source<'s> {
         if !self.is_letter_at(ptr) {
             return Err(Refusal {
                 fault: Fault::Letter,
+                from: ptr,
                 place: ptr,
             });
         }
         Ok(self.name_end(ptr))
+    }
+
+    /// The name bytes from a place on.
+    pub(crate) fn name_text(&self, start: usize) -> &[u8]
+        ensures { result.now ≡ name_text self.now.bytes.now start }
+    {
+        let start = start.min(self.bytes.len());
+        let end = self.name_end(start);
+        &self.bytes[start..end]
     }
 
     /// The name that stands at a place, if one does.
@@ -124,6 +135,7 @@ impl<'s> Source<'s> {
         } else {
             Err(Refusal {
                 fault: Fault::Digit,
+                from: ptr,
                 place: ptr,
             })
         }

@@ -1,16 +1,17 @@
 //! Whether errors are told in colours.
 
 use ftl_project::Form;
-use ftl_words::Color;
+use ftl_settings::Color;
+use ftl_words::Options;
 use std::env;
 use std::io::IsTerminal;
 use std::rt::Env;
 
 /// The form in which errors are told over paths: the full one where none was asked for, in colours where these are
 /// wanted.
-pub(crate) fn form_over_paths(rt: &HostRuntime, asked: Option<Form>, color: Color) -> Form {
-    match asked.unwrap_or(Form::Full) {
-        Form::Full if is_colored(rt, color) => Form::Colored,
+pub(crate) fn form_over_paths(rt: &HostRuntime, options: Options) -> Form {
+    match options.form().unwrap_or(Form::Full) {
+        Form::Full if is_colored(rt, options.color()) => Form::Colored,
         form => form,
     }
 }

@@ -8,7 +8,7 @@ use ftl::RunFault;
 use ftl_files::Disk;
 use ftl_project::{Pair, Share, Streams, Tally, check_summary, compare_files, share_line};
 use ftl_settings::Settings;
-use ftl_words::Compare;
+use ftl_words::{Compare, Options};
 use std::alloc::{AllocError, Global};
 use std::io;
 
@@ -21,8 +21,9 @@ pub(crate) fn compare_paths(rt: &HostRuntime, compare: &Compare<'_>) -> u8 {
     let Some((reference, others)) = sides(&settings, &compare.paths) else {
         return refuse_compare(rt);
     };
+    let options = compare.options.or(&settings);
     let mut tally = Tally::new();
-    match compare_all(rt, compare, reference, others, &mut tally) {
+    match compare_all(rt, options, reference, others, &mut tally) {
         Ok(()) => (),
         Err(fault) => return refuse_run(rt, fault),
     }
@@ -49,7 +50,7 @@ fn sides<'a>(settings: &'a Settings, paths: &'a [&'a str]) -> Option<(&'a str, &
 
 fn compare_all(
     rt: &HostRuntime,
-    compare: &Compare<'_>,
+    options: Options,
     reference: &str,
     others: &[&str],
     tally: &mut Tally,
@@ -60,7 +61,7 @@ fn compare_all(
         let Ok(pairs) = pairs_of(rt.alloc(), reference, &reference_files, *other, &files) else {
             return Err(RunFault::Memory);
         };
-        compare_one(rt, compare, *other, &pairs, tally)?;
+        compare_one(rt, options, *other, &pairs, tally)?;
     }
     Ok(())
 }
@@ -68,7 +69,7 @@ fn compare_all(
 /// Compares the pairs of one language, and tells how much of it is there.
 fn compare_one(
     rt: &HostRuntime,
-    compare: &Compare<'_>,
+    options: Options,
     other: &str,
     pairs: &[Pair],
     tally: &mut Tally,
@@ -85,8 +86,8 @@ fn compare_one(
         rt.alloc(),
         &mut Disk::new(rt),
         pairs,
-        compare.reading,
-        form_over_paths(rt, Some(compare.form), compare.color),
+        options.reading(),
+        form_over_paths(rt, options),
         tally,
         &mut share,
         &mut streams,

@@ -3,13 +3,18 @@
 use crate::telling::refuse;
 use fluent_syntax_lsp as server;
 use ftl::Watched;
+use ftl_workspace::OnDisk;
 use std::io;
+use std::rt::Files;
 
 /// Serves an editor over standard input and output, and gives the exit status.
-pub(crate) fn serve_editor<R: Input + Print + Eprint + AllocGlobal>(rt: &R) -> u8 {
+pub(crate) fn serve_editor<R>(rt: &R) -> u8
+where
+    R: Input + Print + Eprint + Files + AllocGlobal + Clone + Drop,
+{
     let mut reader = Watched::new(rt.reader());
     let mut writer = io::writer(rt);
-    let ending = server::serve(rt.alloc(), &mut reader, &mut writer);
+    let ending = server::serve(rt.alloc(), &mut reader, &mut writer, &OnDisk::new(rt));
     if ending.line().is_empty() {
         ending.status()
     } else {

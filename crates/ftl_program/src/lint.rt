@@ -7,7 +7,7 @@ use fluent_syntax_names::Kind;
 use ftl::RunFault;
 use ftl_files::{Disk, list};
 use ftl_project::{Fault, Streams, Tally, Telling, check_summary, lint_files, tell};
-use ftl_words::Lint;
+use ftl_words::{Lint, Options};
 use std::alloc::AllocError;
 use std::io;
 
@@ -17,8 +17,9 @@ pub(crate) fn lint_paths(rt: &HostRuntime, lint: &Lint<'_>) -> u8 {
         Ok(settings) => settings,
         Err(status) => return status,
     };
+    let options = lint.options.or(&settings);
     let mut tally = Tally::new();
-    match lint_all(rt, lint, settings.ignored, &mut tally) {
+    match lint_all(rt, lint, options, settings.ignored, &mut tally) {
         Ok(()) => (),
         Err(fault) => return refuse_run(rt, fault),
     }
@@ -34,6 +35,7 @@ pub(crate) fn lint_paths(rt: &HostRuntime, lint: &Lint<'_>) -> u8 {
 fn lint_all(
     rt: &HostRuntime,
     lint: &Lint<'_>,
+    options: Options,
     mut ignored: Vec<Kind>,
     tally: &mut Tally,
 ) -> Result<(), RunFault> {
@@ -42,7 +44,7 @@ fn lint_all(
     }
     let files = files_of(rt, lint, tally)?;
     let telling = Telling {
-        form: form_over_paths(rt, Some(lint.form), lint.color),
+        form: form_over_paths(rt, options),
         ignored: &ignored,
     };
     let mut streams = Streams {
@@ -53,7 +55,7 @@ fn lint_all(
         rt.alloc(),
         &mut Disk::new(rt),
         &files,
-        lint.reading,
+        options.reading(),
         telling,
         tally,
         &mut streams,

@@ -18,10 +18,11 @@ use crate::editor::serve_editor;
 use crate::help::page_of;
 use crate::lint::lint_paths;
 use crate::paths::answer_paths;
+use crate::project::project_settings;
 use crate::standard::answer_input;
 use crate::telling::{print_page, refuse_words, refuse_writing};
 use crate::words::all_words;
-use ftl_project::Form;
+use ftl_settings::Output;
 use ftl_words::{Change, Request, Task, Work, request_of};
 use std::process::ExitCode;
 
@@ -39,21 +40,35 @@ fn answer_words(rt: &HostRuntime, words: &[String]) -> u8 {
     }
     match request_of(rt.alloc(), words) {
         Ok(Request::Serve) => serve_editor(rt),
-        Ok(Request::Answer(work)) => answer(rt, &work),
+        Ok(Request::Answer(work)) => answer(rt, work),
         Ok(Request::Lint(lint)) => lint_paths(rt, &lint),
         Ok(Request::Compare(compare)) => compare_paths(rt, &compare),
         Err(error) => refuse_words(rt, &error),
     }
 }
 
-/// Answers standard input, or the paths that are named.
-fn answer(rt: &HostRuntime, work: &Work<'_>) -> u8 {
+/// Answers standard input, or the paths that are named. The project speaks for paths, and not for a tree as JSON.
+fn answer(rt: &HostRuntime, mut work: Work<'_>) -> u8 {
     let on_input = work.paths.is_empty();
     match work.task {
-        Task::Format(Change::Write | Change::Name) if on_input => refuse_writing(rt),
-        Task::Format(Change::Write) if work.paths.contains(&"-") => refuse_writing(rt),
-        Task::Check(None | Some(Form::Lines)) | Task::Format(_) | Task::Runtime | Task::Json
-            if on_input => { answer_input(rt, work) }
-        _ => answer_paths(rt, work),
+        Task::Format(Change::Write | Change::Name) if on_input => return refuse_writing(rt),
+        Task::Format(Change::Write) if work.paths.contains(&"-") => return refuse_writing(rt),
+        _ if on_input => return answer_alone(rt, &work),
+        Task::FromJson => return answer_paths(rt, &work),
+        _ => (),
+    }
+    match project_settings(rt) {
+        Ok(settings) => work.options = work.options.or(&settings),
+        Err(status) => return status,
+    }
+    answer_paths(rt, &work)
+}
+
+/// Answers standard input; as a file of its name where a form of files is asked for.
+fn answer_alone(rt: &HostRuntime, work: &Work<'_>) -> u8 {
+    match (work.task, work.options.output) {
+        (Task::Check, Some(Output::Full | Output::Json | Output::Github)) => answer_paths(rt, work),
+        (Task::FromJson, _) => answer_paths(rt, work),
+        _ => answer_input(rt, work),
     }
 }

@@ -22,7 +22,7 @@ pub(crate) fn answer_paths(rt: &HostRuntime, work: &Work<'_>) -> u8 {
     }
     let summary = match work.task {
         _ if work.paths.is_empty() => return tally.status(),
-        Task::Check(_) => check_summary(rt.alloc(), &tally),
+        Task::Check => check_summary(rt.alloc(), &tally),
         Task::Format(Change::Write | Change::Name) => format_summary(rt.alloc(), &tally),
         _ => return tally.status(),
     };
@@ -124,14 +124,14 @@ fn answer_files<S: Store>(
     tally: &mut Tally,
 ) -> Result<(), RunFault> {
     let alloc = rt.alloc();
-    let reading = work.reading;
+    let reading = work.options.reading();
     let mut streams = Streams {
         out: &mut io::writer(rt),
         err: &mut rt.stderr(),
     };
     match (work.task, work.task.command(reading.edition)) {
-        (Task::Check(form), _) => {
-            let form = form_over_paths(rt, form, work.color);
+        (Task::Check, _) => {
+            let form = form_over_paths(rt, work.options);
             check_files(alloc, store, files, reading, form, tally, &mut streams)
         }
         (Task::Format(Change::Write), _) => {

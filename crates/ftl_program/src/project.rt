@@ -19,7 +19,7 @@ const WRONG_SETTINGS: u8 = 2;
 pub(crate) fn project_settings(rt: &HostRuntime) -> Result<Settings, u8> {
     let bytes = match Disk::new(rt).read(NAME) {
         Ok(bytes) => bytes,
-        Err(error) if error.kind() == ErrorKind::NotFound => return Ok(no_settings(rt)),
+        Err(error) if error.kind() == ErrorKind::NotFound => return Ok(Settings::new(rt.alloc())),
         Err(error) => return Err(refuse_file(rt, &Fault::Read(error))),
     };
     let text = match str::from_utf8(bytes.as_slice()) {
@@ -30,13 +30,6 @@ pub(crate) fn project_settings(rt: &HostRuntime) -> Result<Settings, u8> {
         Ok(settings) => Ok(settings),
         Err(SettingsFault::Memory) => Err(refuse_run(rt, RunFault::Memory)),
         Err(fault) => Err(refuse_settings(rt, &fault, WRONG_SETTINGS)),
-    }
-}
-
-fn no_settings(rt: &HostRuntime) -> Settings {
-    Settings {
-        reference: None,
-        ignored: Vec::new(rt.alloc()),
     }
 }
 

@@ -16,7 +16,7 @@ const NESTS_DEEPER: &str = "ftl: nests deeper than --nesting allows";
 /// Answers standard input on standard output, and gives the exit status.
 pub(crate) fn answer_input(rt: &HostRuntime, work: &Work<'_>) -> u8 {
     tell_of_terminal(rt);
-    let Some(command) = work.task.command(work.reading.edition) else {
+    let Some(command) = work.task.command(work.options.reading().edition) else {
         return refuse_run(rt, RunFault::Input);
     };
     match work.task {
@@ -44,7 +44,7 @@ fn answer_reader<R: Print + Eprint + AllocGlobal, I: Read + Drop>(
     let ended = run_within(
         rt.alloc(),
         command,
-        work.reading.nesting,
+        work.options.reading().nesting,
         &mut reader,
         &mut writer,
     );
@@ -64,7 +64,7 @@ fn format_input<R: Input + Print + Eprint + AllocGlobal>(rt: &R, work: &Work<'_>
     let Ok(text) = str::from_utf8(input.as_slice()) else {
         return refuse_run(rt, RunFault::Input);
     };
-    let Reading { edition, nesting } = work.reading;
+    let Reading { edition, nesting } = work.options.reading();
     match formatted_within(rt.alloc(), text, edition, nesting) {
         Ok(Ok(formatted)) => put_formatted(rt, &formatted, text, work),
         Ok(Err(fault)) => refuse_run(rt, fault),
@@ -100,7 +100,7 @@ pub(crate) fn all_input<R: Input + AllocGlobal>(rt: &R) -> Result<Vec<u8>, RunFa
 
 /// Tells by which entry the text would not read back, if it would not. Of memory it says nothing: the text was written.
 fn warn<R: Eprint + AllocGlobal>(rt: &R, text: &str, work: &Work<'_>) {
-    let Ok(Some(entry)) = unsafe_in(rt.alloc(), text, work.reading) else {
+    let Ok(Some(entry)) = unsafe_in(rt.alloc(), text, work.options.reading()) else {
         return;
     };
     let note = "what is written does not read back";

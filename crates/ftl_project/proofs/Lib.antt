@@ -1,9 +1,12 @@
+mod Compared
 mod Counting
 mod FormattingEach
+mod InOrder
 mod Known
 mod Normal
 mod Reaching
 mod ReadBack
+mod Remarked
 mod Said
 mod Statuses
 mod ToldInOrder

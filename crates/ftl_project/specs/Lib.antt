@@ -1,9 +1,12 @@
 pub mod Answered
 pub mod Comparing
+pub mod Differences
 pub mod Errors
 pub mod Faults
 pub mod Formatting
 pub mod Linting
+pub mod Outlines
+pub mod Remarks
 pub mod Reports
 pub mod Rewriting
 pub mod Runs

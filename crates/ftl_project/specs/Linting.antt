@@ -1,6 +1,32 @@
--- Which files a search counts.
-use Rattle.std.specs.Prelude.{◌≡◌, ◌≤◌, ◌⊎◌, ◌+◌, ◌-◌, ◌^◌, ℕ, min}
+-- How files are searched, and what is counted and told.
+use Rattle.std.specs.Io.KnownBytes.{Appends}
+use Rattle.std.specs.Prelude.{◌≡◌, ◌≤◌, ◌⊎◌, ◌+◌, ◌-◌, ◌^◌, ◌++◌, ◌&&◌, ℕ, min, Bool, not, List, [], ◌∷◌}
+use Rattle.std.specs.Prelude.{length, nat_eq}
+use Rattle.std.specs.Prelude.{Option, None, Some, IfSome, String, count_by, filter, if◌then◌else◌, slice_get}
+use Rattle.std.specs.Prelude.{string_bytes}
+use Rattle.std.specs.Global.{Global}
+use Rattle.std.specs.List.{list_any}
+use Rattle.std.specs.Option.{option_eq}
+use Rattle.std.specs.Str.{bytes_eq}
+use Rattle.fluent_syntax_names.specs.Findings.{all_findings}
+use Rattle.fluent_syntax_names.specs.Severities.{name_of, severity_of}
+use Rattle.fluent_syntax_names.specs.declared.finding.Finding.{Finding}
+use Rattle.fluent_syntax_names.specs.declared.finding.Kind.{Kind}
+use Rattle.fluent_syntax_names.specs.declared.outline.Outline.{Outline}
+use Rattle.fluent_syntax_tree.specs.declared.spans.Span.{Span}
+use Rattle.ftl_project.specs.Differences.{is_grave}
+use Rattle.ftl_project.specs.Faults.{Fails, HasStatus, IsTooDeep, IsUnread}
+use Rattle.ftl_project.specs.Outlines.{IsOutline, SaysNothing}
+use Rattle.ftl_project.specs.Remarks.{IsRemark, TellsEach, spot_at}
+use Rattle.ftl_project.specs.Tally.{counted, failed}
+use Rattle.ftl_project.specs.declared.fault.Fault.TheVariants.{TooDeep}
+use Rattle.ftl_project.specs.declared.findings.Source.{Source}
+use Rattle.ftl_project.specs.declared.form.Form.{Form}
+use Rattle.ftl_project.specs.declared.reading.Reading.{Reading}
+use Rattle.ftl_project.specs.declared.remarks.Spot.{Spot}
 use Rattle.ftl_project.specs.declared.tally.Tally.{Tally}
+
+-- ---- which files were counted
 
 -- One file more was read; or it was not, and the tally has a fault.
 pub record ReadsOne (before after : ℕ) (old new : Tally) : Type 0 where
@@ -22,3 +48,118 @@ pub record AddsFiles (files : ℕ) (old new : Tally) : Type 0 where
 abbrev pub CountsRead : (files : ℕ) (old new : Tally) → Type 0
 CountsRead files old new = (read : ℕ) × (read ≤ files) × (new.fault ≡ 0 → read ≡ files)
     × (new.files ≡ min (old.files + read) (2 ^ 64 - 1))
+
+-- ---- what was read
+
+module _ (at : List ℕ → Option (List ℕ)) where
+  -- The source is the path and the bytes of the file.
+  pub record IsSource (path : List ℕ) (source : Source) : Type 0 where
+    pub path_is : string_bytes source.path ≡ path
+    pub text_is : IfSome (at path) (λ bytes. string_bytes source.text ≡ bytes)
+
+  -- A file was read; or it was not, and its fault was counted.
+  abbrev pub ReadsSource : (path : List ℕ) → (before after : List Source) → (old new : Tally) → Type 0
+  ReadsSource path before after old new =
+      ((source : Source) × IsSource path source × (after ≡ before ++ (source ∷ [])) × (new ≡ old))
+      ⊎ ((status : ℕ) × Fails (IsUnread (at path)) status × (after ≡ before) × (new ≡ counted old (failed status)))
+
+  -- So were all of the files, in order.
+  pub data Reads : List (String Global) → List Source → (old new : Tally) → Type 0 where
+    no_files : {tally : Tally} → Reads [] [] tally tally
+    read_more : {files : List (String Global)} {sources all : List Source} {old now new : Tally} →
+        (file : String Global) → Reads files sources old now → ReadsSource (string_bytes file) sources all now new →
+        Reads (files ++ (file ∷ [])) all old new
+
+-- ---- what the files say
+
+-- What a text says of names; or it nests deeper than it may and says nothing, and that was counted as its fault.
+abbrev pub OutlinesSource : Reading → Source → Outline → (old new : Tally) → Type 0
+OutlinesSource reading source outline old new =
+    (IsOutline reading.edition (string_bytes source.text) outline × (new ≡ old))
+    ⊎ ((status : ℕ) × HasStatus TooDeep status × IsTooDeep reading (string_bytes source.text) × SaysNothing outline
+    × (new ≡ counted old (failed status)))
+
+-- So of all the texts, in order.
+pub data OutlinesEach (reading : Reading) : List Source → List Outline → (old new : Tally) → Type 0 where
+  no_sources : {tally : Tally} → OutlinesEach reading [] [] tally tally
+  outline_more : {sources : List Source} {outlines : List Outline} {old now new : Tally} → (source : Source)
+      (outline : Outline) → OutlinesEach reading sources outlines old now →
+      OutlinesSource reading source outline now new →
+      OutlinesEach reading (sources ++ (source ∷ [])) (outlines ++ (outline ∷ [])) old new
+
+-- ---- what is found
+
+abbrev pub same_kind : Kind → Kind → Bool
+same_kind one other = bytes_eq (name_of one) (name_of other)
+
+-- whether it is of none of the kinds
+abbrev pub is_told : List Kind → Finding → Bool
+is_told ignored finding = not (list_any (same_kind finding.kind) ignored)
+
+-- all that is found in what the files say, without the kinds that are left out
+abbrev pub told_findings : List Kind → List Outline → List Finding
+told_findings ignored outlines = filter (is_told ignored) (all_findings outlines)
+
+-- ---- what is counted
+
+abbrev pub is_error : Finding → Bool
+is_error finding = is_grave (severity_of finding.kind)
+
+-- how many files have an error, of findings in the order of their files, beside the last one that was counted
+abbrev pub concerned_beside : (last : Option ℕ) → List Finding → ℕ
+concerned_beside last [] = 0
+concerned_beside last (finding ∷ findings) =
+    if is_error finding && not (option_eq nat_eq last (Some finding.file))
+    then concerned_beside (Some finding.file) findings + 1
+    else concerned_beside last findings
+
+-- the tally once so many files and what was found in them are counted in it; a number that has come to the greatest
+-- `usize` stays there
+abbrev pub searched : Tally → (files : ℕ) → List Finding → Tally
+searched tally files findings = record {
+  files = min (tally.files + files) (2 ^ 64 - 1);
+  concerned = min (tally.concerned + concerned_beside None findings) (2 ^ 64 - 1);
+  errors = min (tally.errors + count_by is_error findings) (2 ^ 64 - 1);
+  fault = tally.fault;
+}
+
+-- ---- what is told
+
+abbrev pub path_of : Option Source → List ℕ
+path_of None = []
+path_of (Some source) = string_bytes source.path
+
+abbrev pub text_of : Option Outline → List ℕ
+text_of None = []
+text_of (Some outline) = outline.text.now
+
+abbrev pub spot_in : (text : List ℕ) → Option Span → Option Spot
+spot_in text None = None
+spot_in text (Some name) = Some (spot_at text name)
+
+-- This is told of the finding, in its file.
+abbrev pub IsFindingTold : Form → List Source → List Outline → Finding → (told : List ℕ) → Type 0
+IsFindingTold form sources outlines finding told =
+    let text = text_of (slice_get outlines finding.file) in
+    (message : List ℕ) × IsRemark form (path_of (slice_get sources finding.file)) text (spot_in text finding.place)
+    (name_of finding.kind) message told
+
+-- The texts were searched as one set: what is found in what they say was told, in order, behind what was written
+-- before, and counted.
+pub record Searches (reading : Reading) (form : Form) (ignored : List Kind) (sources : List Source) (old new : Tally)
+    (before after : Option (List ℕ)) : Type 0 where
+  pub outlines : List Outline
+  pub now : Tally
+  pub has_outlines : OutlinesEach reading sources outlines old now
+  pub told : List ℕ
+  pub tells : TellsEach (IsFindingTold form sources outlines) (told_findings ignored outlines) told
+  pub counts : new ≡ searched now (length sources) (told_findings ignored outlines)
+  pub appends : Appends before after told
+
+-- The files were read, and the texts of those that could be were searched.
+pub record SearchesFiles (reading : Reading) (form : Form) (ignored : List Kind) (at : List ℕ → Option (List ℕ))
+    (files : List (String Global)) (old new : Tally) (before after : Option (List ℕ)) : Type 0 where
+  pub sources : List Source
+  pub now : Tally
+  pub reads : Reads at files sources old now
+  pub searches : Searches reading form ignored sources now new before after

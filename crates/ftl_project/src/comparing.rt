@@ -1,21 +1,28 @@
 //! Files of a reference language are compared with those of another.
-ghost use Rattle.std.specs.Prelude.{◌≡◌, ◌≢◌, Err, IfOk, OnOk, string_bytes};
+ghost use Rattle.std.specs.Prelude.{◌≡◌, ◌≢◌, ◌⊎◌, ◌+◌, ◌<◌, ◌^◌, ◌++◌, [], None, Some, Err, IfErr, IfOk};
+ghost use Rattle.std.specs.Prelude.{OnOk, codes, length, string_bytes};
+ghost use Rattle.fluent_syntax_names.specs.declared.outline.Outline.{Outline};
 ghost use Rattle.ftl_files.specs.Store.{AllStand};
-ghost use Rattle.ftl_project.specs.Comparing.{IsCompared, IsMissing};
-ghost use Rattle.ftl_project.specs.Runs.{Counts, CountsEach};
+ghost use Rattle.ftl_project.specs.Comparing.{Compares, ComparesEach, IsAlone, IsBeside, IsComparison, IsMissingTold};
+ghost use Rattle.ftl_project.specs.Comparing.{IsMoreTold, IsPairFault, SaysMissing, SaysMore, errors_of};
+ghost use Rattle.ftl_project.specs.Comparing.{lacked_entries, missing_what, more_message, with_share};
+ghost use Rattle.ftl_project.specs.Faults.{IsTooDeep, IsUnparsed};
+ghost use Rattle.ftl_project.specs.Outlines.{IsOutline, IsShort};
+ghost use Rattle.ftl_project.specs.Remarks.{IsRemark, TellsEach, spot_at};
 ghost use Rattle.ftl_project.specs.Summaries.{share_line_of};
 
+use crate::differences::Side;
 use crate::fault::Fault;
-use crate::findings::{name_in, severity_name, spot_of};
+use crate::findings::severity_name;
 use crate::form::Form;
-use crate::line_starts::LineStarts;
-use crate::linting::outline;
+use crate::outlines::{entries_in, outline};
 use crate::reading::Reading;
-use crate::remarks::{Remark, push_remark};
+use crate::remarks::{Remark, Spot, name_in, remark_text, spot_of};
 use crate::rewriting::read_text;
 use crate::streams::{Streams, put, tell};
 use crate::tally::Tally;
-use fluent_syntax_names::{Lack, Mention, Outline, Part, Severity, lacks};
+use fluent_syntax::spans::Lines;
+use fluent_syntax_names::{Lack, Outline, Part, lacks};
 use ftl::RunFault;
 use ftl_files::Store;
 use std::alloc::{AllocError, Global};
@@ -37,6 +44,16 @@ pub struct Share {
     pub wanted: usize,
     /// Those that the other lacks.
     pub missing: usize,
+}
+
+impl Share {
+    /// The sum of both.
+    fn add(&mut self, part: Share)
+        ensures { self.new ≡ with_share self.old (Some part) }
+    {
+        self.wanted = self.wanted.saturating_add(part.wanted);
+        self.missing = self.missing.saturating_add(part.missing);
+    }
 }
 
 /// What is told of a pair, how many errors it has, and how much of it is there.
@@ -62,34 +79,36 @@ pub fn compare_files<S: Store, O: Write, E: Write>(
     streams: &mut Streams<'_, O, E>,
 ) -> Result<(), RunFault>
     ensures stand { AllStand (S.bytes_at store.old) (S.bytes_at store.new) }
-    ensures each { OnOk result (CountsEach IsCompared pairs.now tally.old tally.new) }
+    ensures each { OnOk result (ComparesEach reading form (S.bytes_at store.old) pairs.now tally.old tally.new
+        share.old share.new (O.contents streams.old.out.now) (O.contents streams.new.out.now)) }
     ensures err { result ≢ Err RunFault.Input }
 {
     for pair in pairs {
-        let compared = compare_pair(alloc, store, pair, reading, form);
-        tell_compared(alloc, pair, compared, tally, share, streams)?;
+        tell_pair(alloc, store, pair, reading, form, tally, share, streams)?;
     }
     Ok(())
 }
 
-/// Tells what came of a pair, and counts it.
-fn tell_compared<O: Write, E: Write>(
+/// Compares a pair, tells what came of it, and counts it.
+fn tell_pair<S: Store, O: Write, E: Write>(
     alloc: Global,
+    store: &mut S,
     pair: &Pair,
-    compared: Result<Compared, Fault>,
+    reading: Reading,
+    form: Form,
     tally: &mut Tally,
     share: &mut Share,
     streams: &mut Streams<'_, O, E>,
 ) -> Result<(), RunFault>
-    requires { IfOk compared (λ compared. IsMissing pair.now compared.errors) }
-    ensures counted { OnOk result (Counts (IsCompared pair.now) tally.old tally.new) }
+    ensures stand { AllStand (S.bytes_at store.old) (S.bytes_at store.new) }
+    ensures counted { OnOk result (Compares reading form (S.bytes_at store.old) pair.now tally.old tally.new
+        share.old share.new (O.contents streams.old.out.now) (O.contents streams.new.out.now)) }
     ensures err { result ≢ Err RunFault.Input }
 {
-    match compared {
+    match compare_pair(alloc, store, pair, reading, form) {
         Ok(compared) => {
             tally.count(compared.errors, compared.errors != 0);
-            share.wanted = share.wanted.saturating_add(compared.share.wanted);
-            share.missing = share.missing.saturating_add(compared.share.missing);
+            share.add(compared.share);
             put(streams.out, compared.told.as_str())
         }
         Err(fault) => tell(alloc, tally, pair.other.as_str(), &fault, streams),
@@ -104,197 +123,272 @@ fn compare_pair<S: Store>(
     form: Form,
 ) -> Result<Compared, Fault>
     ensures stand { AllStand (S.bytes_at store.old) (S.bytes_at store.new) }
-    ensures missing { IfOk result (λ compared. IsMissing pair.now compared.errors) }
+    ensures compared { IfOk result (λ compared. IsComparison reading form (S.bytes_at store.old) pair.now.is_there
+        pair.now compared.errors compared.share (string_bytes compared.told)) }
+    ensures fault { IfErr result (IsPairFault reading form (S.bytes_at store.old) pair.now) }
 {
     let reference = read_text(store, pair.reference.as_str())?;
-    let other = if pair.is_there {
-        read_text(store, pair.other.as_str())?
-    } else {
-        String::new(alloc)
+    if !pair.is_there {
+        return compared_alone(alloc, pair, reference.as_str(), reading, form);
+    }
+    let other = read_text(store, pair.other.as_str())?;
+    compared_texts(
+        alloc,
+        pair,
+        reference.as_str(),
+        other.as_str(),
+        reading,
+        form,
+    )
+}
+
+/// What comes of a pair whose other file is not there.
+fn compared_alone(
+    alloc: Global,
+    pair: &Pair,
+    reference: &str,
+    reading: Reading,
+    form: Form,
+) -> Result<Compared, Fault>
+    ensures compared { IfOk result (λ compared. (outline : Outline)
+        × IsOutline reading.edition reference.now outline
+        × IsAlone form pair.now outline compared.errors compared.share (string_bytes compared.told)) }
+    ensures fault { IfErr result (IsUnparsed (IsTooDeep reading reference.now)) }
+{
+    let reference = outline(alloc, reference, reading)?;
+    match no_file(alloc, pair, form) {
+        Ok(told) => {
+            let wanted = entries_in(&reference);
+            let missing = wanted;
+            Ok(Compared {
+                told,
+                errors: 1,
+                share: Share { wanted, missing },
+            })
+        }
+        Err(AllocError) => Err(Fault::Memory),
+    }
+}
+
+/// What is told of a pair whose other file is not there.
+fn no_file(alloc: Global, pair: &Pair, form: Form) -> Result<String, AllocError>
+    ensures { IfOk result (λ told. IsRemark form (string_bytes pair.now.other) [] None (codes "missing-file")
+        (codes "there is no such file; the reference has " ++ string_bytes pair.now.reference) (string_bytes told)) }
+{
+    let reference = pair.reference.as_str();
+    let remark = Remark {
+        path: pair.other.as_str(),
+        text: "",
+        place: None,
+        kind: "missing-file",
+        severity: "error",
+        message: format!(in alloc; "there is no such file; the reference has {reference}")?,
     };
-    let reference = outline(alloc, reference.as_str(), reading)?;
-    let other = outline(alloc, other.as_str(), reading)?;
-    match as_compared(alloc, pair, &reference, &other, form) {
+    remark_text(alloc, &remark, form)
+}
+
+/// What comes of a pair of these texts.
+fn compared_texts(
+    alloc: Global,
+    pair: &Pair,
+    reference: &str,
+    other: &str,
+    reading: Reading,
+    form: Form,
+) -> Result<Compared, Fault>
+    ensures compared { IfOk result (λ compared. (reference_outline : Outline)
+        × IsOutline reading.edition reference.now reference_outline × (other_outline : Outline)
+        × IsOutline reading.edition other.now other_outline
+        × IsBeside form pair.now reference_outline other_outline compared.errors compared.share
+        (string_bytes compared.told)) }
+    ensures fault { IfErr result (λ fault. IsUnparsed (IsTooDeep reading reference.now) fault
+        ⊎ IsUnparsed (IsTooDeep reading other.now) fault) }
+{
+    let reference = outline(alloc, reference, reading)?;
+    let other = outline(alloc, other, reading)?;
+    match compared_outlines(alloc, pair, &reference, &other, form) {
         Ok(compared) => Ok(compared),
         Err(AllocError) => Err(Fault::Memory),
     }
 }
 
-fn as_compared(
+/// What comes of a pair whose files say this.
+fn compared_outlines(
     alloc: Global,
     pair: &Pair,
     reference: &Outline<'_>,
     other: &Outline<'_>,
     form: Form,
 ) -> Result<Compared, AllocError>
-    ensures { IfOk result (λ compared. IsMissing pair.now compared.errors) }
+    requires reference { IsShort reference.now }
+    requires other { IsShort other.now }
+    ensures { IfOk result (λ compared. IsBeside form pair.now reference.now other.now compared.errors compared.share
+        (string_bytes compared.told)) }
 {
-    let mut told = String::new(alloc);
-    let wanted = entries(reference);
-    if !pair.is_there {
-        push_remark(&mut told, &no_file(alloc, pair)?, form)?;
-        let share = Share {
-            wanted,
-            missing: wanted,
-        };
-        return Ok(Compared {
-            told,
-            errors: 1,
-            share,
-        });
-    }
     let missing = lacks(alloc, reference, other)?;
-    push_missing(&mut told, pair, reference, &missing, form)?;
+    let mut told = missing_text(alloc, pair, reference.text, &missing, form)?;
     let more = lacks(alloc, other, reference)?;
-    push_more(&mut told, pair, other, &more, form)?;
-    let share = Share {
-        wanted,
-        missing: missing
-            .iter()
-            .filter(|lack| lack.part == Part::Entry)
-            .count(),
-    };
-    let missed = missing
-        .iter()
-        .filter(|lack| is_error(missing_kind(lack.part)));
-    let unknown = more.iter().filter(|lack| is_error(more_kind(lack.part)));
-    let errors = missed.count().saturating_add(unknown.count());
+    let behind = more_text(alloc, pair, other.text, &more, form)?;
+    told.push_str(behind.as_str())?;
+    let missed = errors_of(Side::Reference, &missing);
+    let unknown = errors_of(Side::Other, &more);
     Ok(Compared {
         told,
-        errors,
-        share,
+        errors: missed.saturating_add(unknown),
+        share: Share {
+            wanted: entries_in(reference),
+            missing: lacked_entries(&missing),
+        },
     })
 }
 
-/// What is told of a part that the other file lacks, and how grave it is. A variable may be left out.
-fn missing_kind(part: Part) -> Option<(&'static str, Severity)> {
-    match part {
-        Part::Entry => Some(("missing", Severity::Error)),
-        Part::Value => Some(("missing-value", Severity::Error)),
-        Part::Attribute => Some(("missing-attribute", Severity::Error)),
-        Part::Reference => Some(("missing-reference", Severity::Warning)),
-        Part::Variable => None,
-    }
+/// How many of the parts that this file has and the other one lacks are told as errors.
+fn errors_of(side: Side, lacks: &[Lack]) -> usize
+    ensures { result ≡ errors_of side lacks.now }
+{
+    lacks.iter().filter(|lack| side.is_error(lack.part)).count()
 }
 
-/// What is told of a part that the reference lacks. The other file may refer to more.
-fn more_kind(part: Part) -> Option<(&'static str, Severity)> {
-    match part {
-        Part::Entry => Some(("obsolete", Severity::Warning)),
-        Part::Value => Some(("obsolete-value", Severity::Warning)),
-        Part::Attribute => Some(("obsolete-attribute", Severity::Warning)),
-        Part::Reference => None,
-        Part::Variable => Some(("unknown-variable", Severity::Error)),
-    }
-}
-
-fn is_error(kind: Option<(&'static str, Severity)>) -> bool {
-    match kind {
-        Some((_, severity)) => severity == Severity::Error,
-        None => false,
-    }
-}
-
-/// How many messages and terms there are.
-fn entries(outline: &Outline<'_>) -> usize {
-    outline
-        .mentions
+/// How many messages and terms the other file lacks.
+fn lacked_entries(lacks: &[Lack]) -> usize
+    ensures { result ≡ lacked_entries lacks.now }
+{
+    lacks
         .iter()
-        .filter(|mention| matches!(mention, Mention::Message { .. } | Mention::Term { .. }))
+        .filter(|lack| matches!(lack.part, Part::Entry))
         .count()
 }
 
-fn no_file<'a>(alloc: Global, pair: &'a Pair) -> Result<Remark<'a>, AllocError> {
-    Ok(Remark {
+/// What is told of the parts that the reference has and the other file lacks.
+fn missing_text(
+    alloc: Global,
+    pair: &Pair,
+    text: &str,
+    missing: &[Lack],
+    form: Form,
+) -> Result<String, AllocError>
+    requires { length text.now + 1 < 2 ^ 64 }
+    ensures { IfOk result (λ told. TellsEach (IsMissingTold form pair.now text.now) missing.now (string_bytes told)) }
+{
+    let mut out = String::new(alloc);
+    let mut lines = Lines::new(text);
+    for lack in missing {
+        let told = missing_told(alloc, pair, text, &mut lines, lack, form)?;
+        out.push_str(told.as_str())?;
+    }
+    Ok(out)
+}
+
+fn missing_told<'t>(
+    alloc: Global,
+    pair: &Pair,
+    text: &str,
+    lines: &mut Lines<'t>,
+    lack: &Lack,
+    form: Form,
+) -> Result<String, AllocError>
+    requires { lines.old ≡ text.now }
+    ensures told { IfOk result (λ told. IsMissingTold form pair.now text.now lack.now (string_bytes told)) }
+    ensures lines { lines.new ≡ lines.old }
+{
+    let spot = spot_of(lines, text, lack.name);
+    let Some(difference) = Side::Reference.difference(lack.part) else {
+        return Ok(String::new(alloc));
+    };
+    let remark = Remark {
         path: pair.other.as_str(),
         text: "",
         place: None,
-        kind: "missing-file",
-        severity: "error",
-        message: format!(in alloc;
-            "there is no such file; the reference has {}",
-            pair.reference
-        )?,
-    })
-}
-
-fn push_missing(
-    out: &mut String,
-    pair: &Pair,
-    reference: &Outline<'_>,
-    missing: &[Lack],
-    form: Form,
-) -> Result<(), AllocError> {
-    let alloc = *out.allocator();
-    if missing.is_empty() {
-        return Ok(());
-    }
-    let lines = LineStarts::of(alloc, reference.text)?;
-    for lack in missing {
-        if let Some((kind, severity)) = missing_kind(lack.part) {
-            let remark = Remark {
-                path: pair.other.as_str(),
-                text: "",
-                place: None,
-                kind,
-                severity: severity_name(severity),
-                message: missing_message(alloc, pair, reference, &lines, lack)?,
-            };
-            push_remark(out, &remark, form)?;
-        }
-    }
-    Ok(())
+        kind: difference.name(),
+        severity: severity_name(difference.severity()),
+        message: missing_message(alloc, pair.reference.as_str(), text, spot, lack)?,
+    };
+    remark_text(alloc, &remark, form)
 }
 
 fn missing_message(
     alloc: Global,
-    pair: &Pair,
-    reference: &Outline<'_>,
-    lines: &LineStarts,
+    path: &str,
+    text: &str,
+    spot: Spot,
     lack: &Lack,
-) -> Result<String, AllocError> {
-    let what = match lack.part {
-        Part::Value => "the value of ",
-        Part::Reference => "the reference to ",
-        _ => "",
-    };
-    let name = name_in(reference.text, lack.name);
-    let path = pair.reference.as_str();
-    let (line, column) = lines.line_column(lack.name.start);
+) -> Result<String, AllocError>
+    requires { spot ≡ spot_at text.now lack.now.name }
+    ensures { IfOk result (λ message. SaysMissing path.now text.now lack.now (string_bytes message)) }
+{
+    let what = missing_what(lack.part);
+    let name = name_in(text, lack.name);
+    let (line, column) = (spot.line, spot.column);
     format!(in alloc; "{what}`{name}` of {path}:{line}:{column}")
 }
 
-fn push_more(
-    out: &mut String,
-    pair: &Pair,
-    other: &Outline<'_>,
-    more: &[Lack],
-    form: Form,
-) -> Result<(), AllocError> {
-    let alloc = *out.allocator();
-    if more.is_empty() {
-        return Ok(());
+fn missing_what(part: Part) -> &'static str
+    ensures { result.now ≡ missing_what part }
+{
+    match part {
+        Part::Value => "the value of ",
+        Part::Reference => "the reference to ",
+        Part::Entry | Part::Attribute | Part::Variable => "",
     }
-    let lines = LineStarts::of(alloc, other.text)?;
-    for lack in more {
-        if let Some((kind, severity)) = more_kind(lack.part) {
-            let remark = Remark {
-                path: pair.other.as_str(),
-                text: other.text,
-                place: Some(spot_of(&lines, lack.name)),
-                kind,
-                severity: severity_name(severity),
-                message: more_message(alloc, other, lack)?,
-            };
-            push_remark(out, &remark, form)?;
-        }
-    }
-    Ok(())
 }
 
-fn more_message(alloc: Global, other: &Outline<'_>, lack: &Lack) -> Result<String, AllocError> {
-    let name = name_in(other.text, lack.name);
-    match lack.part {
+/// What is told of the parts that the other file has and the reference lacks.
+fn more_text(
+    alloc: Global,
+    pair: &Pair,
+    text: &str,
+    more: &[Lack],
+    form: Form,
+) -> Result<String, AllocError>
+    requires { length text.now + 1 < 2 ^ 64 }
+    ensures { IfOk result (λ told. TellsEach (IsMoreTold form pair.now text.now) more.now (string_bytes told)) }
+{
+    let mut out = String::new(alloc);
+    let mut lines = Lines::new(text);
+    for lack in more {
+        let told = more_told(alloc, pair, text, &mut lines, lack, form)?;
+        out.push_str(told.as_str())?;
+    }
+    Ok(out)
+}
+
+fn more_told<'t>(
+    alloc: Global,
+    pair: &Pair,
+    text: &str,
+    lines: &mut Lines<'t>,
+    lack: &Lack,
+    form: Form,
+) -> Result<String, AllocError>
+    requires { lines.old ≡ text.now }
+    ensures told { IfOk result (λ told. IsMoreTold form pair.now text.now lack.now (string_bytes told)) }
+    ensures lines { lines.new ≡ lines.old }
+{
+    let spot = spot_of(lines, text, lack.name);
+    let Some(difference) = Side::Other.difference(lack.part) else {
+        return Ok(String::new(alloc));
+    };
+    let remark = Remark {
+        path: pair.other.as_str(),
+        text,
+        place: Some(spot),
+        kind: difference.name(),
+        severity: severity_name(difference.severity()),
+        message: more_message(alloc, text, lack)?,
+    };
+    remark_text(alloc, &remark, form)
+}
+
+fn more_message(alloc: Global, text: &str, lack: &Lack) -> Result<String, AllocError>
+    ensures { IfOk result (λ message. SaysMore text.now lack.now (string_bytes message)) }
+{
+    more_words(alloc, lack.part, name_in(text, lack.name))
+}
+
+fn more_words(alloc: Global, part: Part, name: &str) -> Result<String, AllocError>
+    ensures { IfOk result (λ message. string_bytes message ≡ more_message part name.now) }
+{
+    match part {
         Part::Variable => format!(in alloc; "the reference does not use `${name}`"),
         Part::Value => format!(in alloc; "the reference gives `{name}` no value"),
         _ => format!(in alloc; "the reference does not define `{name}`"),

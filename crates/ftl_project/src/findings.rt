@@ -1,10 +1,15 @@
 //! The findings of a set of files, told for people or for tools.
+ghost use Rattle.std.specs.Prelude.{◌≡◌, All, IfOk, List, length, string_bytes, ◌+◌, ◌<◌, ◌^◌, slice_get, ℕ};
+ghost use Rattle.ftl_project.specs.Linting.{IsFindingTold, path_of, text_of, spot_in};
+ghost use Rattle.ftl_project.specs.Outlines.{IsShort};
+ghost use Rattle.ftl_project.specs.Remarks.{IsRemark, TellsEach};
+ghost use Rattle.fluent_syntax_names.specs.Severities.{name_of};
 
 use crate::form::Form;
 use crate::line_starts::LineStarts;
-use crate::remarks::{Remark, Spot, push_remark};
-use fluent_syntax_names::{Finding, Severity};
-use fluent_syntax_tree::spans::Span;
+use crate::remarks::{Remark, Spot, name_in, remark_text, spot_of};
+use fluent_syntax::spans::{Lines, Span};
+use fluent_syntax_names::{Finding, Outline, Severity};
 use std::alloc::{AllocError, Global};
 
 /// A file that was read.
@@ -14,53 +19,127 @@ pub(crate) struct Source {
     pub(crate) text: String,
 }
 
-/// What is told of the findings in the files.
+/// What is told of the findings in the files, which say this of names.
 pub(crate) fn report_findings(
     alloc: Global,
     sources: &[Source],
+    outlines: &[Outline<'_>],
     findings: &[Finding],
     form: Form,
-) -> Result<String, AllocError> {
+) -> Result<String, AllocError>
+    requires { All IsShort outlines.now }
+    ensures { IfOk result (λ told.
+        TellsEach (IsFindingTold form sources.now outlines.now) findings.now (string_bytes told)) }
+{
     let mut out = String::new(alloc);
-    let mut file = None;
-    let mut lines = LineStarts::of(alloc, "")?;
+    let mut file = 0;
+    let mut lines = Lines::new(text_of(outlines, 0));
+    let mut starts = LineStarts::of(alloc, text_of(outlines, 0))?;
     for finding in findings {
-        let Some(source) = sources.get(finding.file) else {
-            continue;
-        };
-        if file != Some(finding.file) {
-            file = Some(finding.file);
-            lines = LineStarts::of(alloc, source.text.as_str())?;
-        }
-        let remark = remark_of(alloc, source, &lines, finding)?;
-        push_remark(&mut out, &remark, form)?;
+        lines = lines_in(outlines, file, lines, finding.file);
+        starts = starts_in(alloc, outlines, file, starts, finding.file)?;
+        file = finding.file;
+        let told = finding_told(
+            alloc,
+            path_of(sources, file),
+            text_of(outlines, file),
+            &mut lines,
+            &starts,
+            finding,
+            form,
+        )?;
+        out.push_str(told.as_str())?;
     }
     Ok(out)
 }
 
-fn remark_of<'a>(
-    alloc: Global,
-    source: &'a Source,
-    lines: &LineStarts,
-    finding: &Finding,
-) -> Result<Remark<'a>, AllocError> {
-    Ok(Remark {
-        path: source.path.as_str(),
-        text: source.text.as_str(),
-        place: finding.place.map(|span| spot_of(lines, span)),
-        kind: finding.kind.name(),
-        severity: severity_name(finding.kind.severity()),
-        message: message(alloc, source.text.as_str(), lines, finding)?,
-    })
+/// The path of the file of the number; none where there is no such file.
+fn path_of(sources: &[Source], number: usize) -> &str
+    ensures { result.now ≡ path_of (slice_get sources.now number) }
+{
+    match sources.get(number) {
+        Some(source) => source.path.as_str(),
+        None => "",
+    }
 }
 
-pub(crate) fn spot_of(lines: &LineStarts, span: Span) -> Spot {
-    let (line, column) = lines.line_column(span.start);
-    Spot {
-        line,
-        column,
-        start: span.start,
-        end: span.end,
+/// The text of the file of the number; none where there is no such file.
+fn text_of<'t>(outlines: &[Outline<'t>], number: usize) -> &'t str
+    requires { All IsShort outlines.now }
+    ensures text { result.now ≡ text_of (slice_get outlines.now number) }
+    ensures short { length result.now + 1 < 2 ^ 64 }
+{
+    match outlines.get(number) {
+        Some(outline) => outline.text,
+        None => "",
+    }
+}
+
+/// The lines of the file of the number; those of the last one where it is the same.
+fn lines_in<'t>(outlines: &[Outline<'t>], last: usize, lines: Lines<'t>, number: usize) -> Lines<'t>
+    requires last { lines ≡ text_of (slice_get outlines.now last) }
+    requires short { All IsShort outlines.now }
+    ensures { result ≡ text_of (slice_get outlines.now number) }
+{
+    if number == last {
+        lines
+    } else {
+        Lines::new(text_of(outlines, number))
+    }
+}
+
+/// Where the lines begin of the file of the number; those of the last one where it is the same.
+fn starts_in(
+    alloc: Global,
+    outlines: &[Outline<'_>],
+    last: usize,
+    starts: LineStarts,
+    number: usize,
+) -> Result<LineStarts, AllocError>
+    requires { All IsShort outlines.now }
+{
+    if number == last {
+        Ok(starts)
+    } else {
+        LineStarts::of(alloc, text_of(outlines, number))
+    }
+}
+
+/// What is told of a finding in the file of this path and text.
+fn finding_told<'t>(
+    alloc: Global,
+    path: &str,
+    text: &str,
+    lines: &mut Lines<'t>,
+    starts: &LineStarts,
+    finding: &Finding,
+    form: Form,
+) -> Result<String, AllocError>
+    requires { lines.old ≡ text.now }
+    ensures told { IfOk result (λ told. (message : List ℕ) × IsRemark form path.now text.now
+        (spot_in text.now finding.now.place) (name_of finding.now.kind) message (string_bytes told)) }
+    ensures lines { lines.new ≡ lines.old }
+{
+    let remark = Remark {
+        path,
+        text,
+        place: spot_in(lines, text, finding.place),
+        kind: finding.kind.name(),
+        severity: severity_name(finding.kind.severity()),
+        message: message(alloc, text, starts, finding)?,
+    };
+    remark_text(alloc, &remark, form)
+}
+
+/// Where the name is in the text, if there is one.
+fn spot_in<'t>(lines: &mut Lines<'t>, text: &str, name: Option<Span>) -> Option<Spot>
+    requires { lines.old ≡ text.now }
+    ensures spot { result ≡ spot_in text.now name }
+    ensures text { lines.new ≡ lines.old }
+{
+    match name {
+        Some(name) => Some(spot_of(lines, text, name)),
+        None => None,
     }
 }
 
@@ -71,21 +150,16 @@ pub(crate) fn severity_name(severity: Severity) -> &'static str {
     }
 }
 
-/// The name at a range of the text; none where it is no range of it.
-pub(crate) fn name_in(text: &str, span: Span) -> &str {
-    text.get(span.start..span.end).unwrap_or("")
-}
-
 /// A sentence on the finding.
 fn message(
     alloc: Global,
     text: &str,
-    lines: &LineStarts,
+    starts: &LineStarts,
     finding: &Finding,
 ) -> Result<String, AllocError> {
     let name = finding.place.map_or("", |span| name_in(text, span));
     let first = finding
         .other
-        .map(|first| lines.line_column(first.span.start).0);
+        .map(|first| starts.line_column(first.span.start).0);
     finding.kind.sentence(alloc, name, first)
 }

@@ -4,6 +4,7 @@
 mod checking;
 mod comparing;
 mod converting;
+mod differences;
 mod fault;
 mod findings;
 mod form;
@@ -12,6 +13,7 @@ mod github;
 mod json;
 mod line_starts;
 mod linting;
+mod outlines;
 mod paint;
 mod printing;
 mod reading;

@@ -1,18 +1,23 @@
 //! Files are searched for mistakes between names.
-ghost use Rattle.std.specs.Prelude.{◌≡◌, ◌≢◌, ◌+◌, Err, IfOk, OnOk, length, vec_len};
+ghost use Rattle.std.specs.Prelude.{◌≡◌, ◌≢◌, ◌+◌, ◌++◌, ◌∷◌, [], All, Err, IfOk, None, OnOk, count_by, length};
+ghost use Rattle.std.specs.Prelude.{string_bytes, vec_len};
 ghost use Rattle.ftl_files.specs.Store.{AllStand};
-ghost use Rattle.ftl_project.specs.Linting.{AddsFiles, CountsRead, HasRead, ReadsOne};
+ghost use Rattle.ftl_project.specs.Linting.{AddsFiles, CountsRead, HasRead, OutlinesEach, OutlinesSource, Reads};
+ghost use Rattle.ftl_project.specs.Linting.{ReadsOne, ReadsSource, Searches, SearchesFiles, concerned_beside};
+ghost use Rattle.ftl_project.specs.Linting.{is_error, is_told, searched, told_findings};
+ghost use Rattle.ftl_project.specs.Outlines.{IsShort};
+ghost use Rattle.ftl_project.specs.declared.findings.Source.{Source};
 
+use crate::differences::is_grave;
 use crate::fault::Fault;
 use crate::findings::{Source, report_findings};
 use crate::form::Form;
+use crate::outlines::outline;
 use crate::reading::Reading;
 use crate::rewriting::read_text;
 use crate::streams::{Streams, put, tell};
 use crate::tally::Tally;
-use fluent_syntax::parser::recovered;
-use fluent_syntax::spans::parse_spans_within;
-use fluent_syntax_names::{Finding, Kind, Outline, Severity, findings, outline_of};
+use fluent_syntax_names::{Finding, Kind, Outline, findings};
 use ftl::RunFault;
 use ftl_files::Store;
 use std::alloc::{AllocError, Global};
@@ -42,6 +47,9 @@ pub fn lint_files<S: Store, O: Write, E: Write>(
 ) -> Result<(), RunFault>
     ensures stand { AllStand (S.bytes_at store.old) (S.bytes_at store.new) }
     ensures counted { OnOk result (CountsRead (length files.now) tally.old tally.new) }
+    ensures searched { OnOk result (SearchesFiles reading telling.entry.form telling.entry.ignored.now
+        (S.bytes_at store.old) files.now tally.old tally.new (O.contents streams.old.out.now)
+        (O.contents streams.new.out.now)) }
     ensures err { result ≢ Err RunFault.Input }
 {
     let sources = read_sources(alloc, store, files, tally, streams)?;
@@ -58,6 +66,9 @@ fn read_sources<S: Store, O: Write, E: Write>(
 ) -> Result<Vec<Source>, RunFault>
     ensures stand { AllStand (S.bytes_at store.old) (S.bytes_at store.new) }
     ensures read { IfOk result (λ sources. HasRead (length files.now) (vec_len sources) tally.old tally.new) }
+    ensures sources { IfOk result (λ sources.
+        Reads (S.bytes_at store.old) files.now sources.items tally.old tally.new) }
+    ensures out { streams.new.out ≡ streams.old.out }
     ensures err { result ≢ Err RunFault.Input }
 {
     let mut sources = Vec::new(alloc);
@@ -78,6 +89,9 @@ fn read_source<S: Store, O: Write, E: Write>(
 ) -> Result<(), RunFault>
     ensures stand { AllStand (S.bytes_at store.old) (S.bytes_at store.new) }
     ensures read { OnOk result (ReadsOne (vec_len sources.old) (vec_len sources.new) tally.old tally.new) }
+    ensures source { OnOk result (ReadsSource (S.bytes_at store.old) path.now sources.old.items sources.new.items
+        tally.old tally.new) }
+    ensures out { streams.new.out ≡ streams.old.out }
     ensures err { result ≢ Err RunFault.Input }
 {
     match read_text(store, path) {
@@ -95,7 +109,9 @@ fn add_source(
     path: &str,
     text: String,
 ) -> Result<(), AllocError>
-    ensures { OnOk result (vec_len sources.new ≡ vec_len sources.old + 1) }
+    ensures more { OnOk result (vec_len sources.new ≡ vec_len sources.old + 1) }
+    ensures source { OnOk result ((source : Source) × (string_bytes source.path ≡ path.now)
+        × (string_bytes source.text ≡ string_bytes text) × (sources.new.items ≡ sources.old.items ++ source ∷ [])) }
 {
     let path = String::from_str(alloc, path)?;
     sources.push(Source { path, text })?;
@@ -111,6 +127,8 @@ fn lint_sources<O: Write, E: Write>(
     streams: &mut Streams<'_, O, E>,
 ) -> Result<(), RunFault>
     ensures counted { OnOk result (AddsFiles (length sources.now) tally.old tally.new) }
+    ensures searched { OnOk result (Searches reading telling.entry.form telling.entry.ignored.now
+        sources.now tally.old tally.new (O.contents streams.old.out.now) (O.contents streams.new.out.now)) }
     ensures err { result ≢ Err RunFault.Input }
 {
     let outlines = outlines(alloc, sources, reading, tally, streams)?;
@@ -118,7 +136,7 @@ fn lint_sources<O: Write, E: Write>(
         return Err(RunFault::Memory);
     };
     count(tally, sources.len(), &found);
-    match report_findings(alloc, sources, &found, telling.form) {
+    match report_findings(alloc, sources, &outlines, &found, telling.form) {
         Ok(told) => put(streams.out, told.as_str())?,
         Err(AllocError) => return Err(RunFault::Memory),
     }
@@ -138,46 +156,50 @@ fn outlines<'a, O: Write, E: Write>(
 ) -> Result<Vec<Outline<'a>>, RunFault>
     ensures files { tally.new.files ≡ tally.old.files }
     ensures fault { tally.new.fault ≡ 0 → tally.old.fault ≡ 0 }
+    ensures outlines { IfOk result (λ outlines. OutlinesEach reading sources.now outlines.items tally.old tally.new) }
+    ensures short { IfOk result (λ outlines. All IsShort outlines.items) }
+    ensures out { streams.new.out ≡ streams.old.out }
     ensures err { result ≢ Err RunFault.Input }
 {
     let mut outlines = Vec::new(alloc);
     for source in sources {
-        let outline = match outline(alloc, source.text.as_str(), reading) {
-            Ok(outline) => outline,
-            Err(Fault::Memory) => return Err(RunFault::Memory),
-            Err(fault) => {
-                tell(alloc, tally, source.path.as_str(), &fault, streams)?;
-                Outline {
-                    text: "",
-                    mentions: Vec::new(alloc),
-                }
-            }
-        };
-        if outlines.push(outline).is_err() {
+        let outline = source_outline(alloc, source, reading, tally, streams)?;
+        let Ok(()) = add_outline(&mut outlines, outline) else {
             return Err(RunFault::Memory);
-        }
+        };
     }
     Ok(outlines)
 }
 
-/// What the text says of names. What is junk in it says nothing.
-pub(crate) fn outline<'a>(
+fn add_outline<'a>(outlines: &mut Vec<Outline<'a>>, outline: Outline<'a>) -> Result<(), AllocError>
+    ensures { OnOk result (outlines.new.items ≡ outlines.old.items ++ outline.entry ∷ []) }
+{
+    outlines.push(outline)?;
+    Ok(())
+}
+
+/// What the file says of names; nothing where it nests too deep, which is told.
+fn source_outline<'a, O: Write, E: Write>(
     alloc: Global,
-    text: &'a str,
+    source: &'a Source,
     reading: Reading,
-) -> Result<Outline<'a>, Fault> {
-    if text.len() == usize::MAX {
-        return Err(Fault::Memory);
-    }
-    let Ok(answer) = parse_spans_within(alloc, text, reading.edition, reading.nesting) else {
-        return Err(Fault::TooDeep);
-    };
-    let Ok((tree, _)) = recovered(alloc, answer) else {
-        return Err(Fault::Memory);
-    };
-    match outline_of(alloc, text, &tree.body) {
+    tally: &mut Tally,
+    streams: &mut Streams<'_, O, E>,
+) -> Result<Outline<'a>, RunFault>
+    ensures files { tally.new.files ≡ tally.old.files }
+    ensures fault { tally.new.fault ≡ 0 → tally.old.fault ≡ 0 }
+    ensures outline { IfOk result (λ outline. OutlinesSource reading source.now outline tally.old tally.new) }
+    ensures short { IfOk result IsShort }
+    ensures out { streams.new.out ≡ streams.old.out }
+    ensures err { result ≢ Err RunFault.Input }
+{
+    match outline(alloc, source.text.as_str(), reading) {
         Ok(outline) => Ok(outline),
-        Err(AllocError) => Err(Fault::Memory),
+        Err(Fault::TooDeep) => {
+            tell(alloc, tally, source.path.as_str(), &Fault::TooDeep, streams)?;
+            Ok(Outline::new(alloc, ""))
+        }
+        Err(_) => Err(RunFault::Memory),
     }
 }
 
@@ -186,27 +208,57 @@ fn told_findings(
     alloc: Global,
     outlines: &[Outline<'_>],
     ignored: &[Kind],
-) -> Result<Vec<Finding>, AllocError> {
-    let mut found = findings(alloc, outlines)?;
-    found.retain(|finding| !ignored.contains(&finding.kind));
-    Ok(found)
+) -> Result<Vec<Finding>, AllocError>
+    ensures { IfOk result (λ found. found.items ≡ told_findings ignored.now outlines.now) }
+{
+    let all = findings(alloc, outlines)?;
+    all.iter()
+        .copied()
+        .filter(|finding| is_told(ignored, finding))
+        .collect(alloc)
+}
+
+/// Whether it is of none of the kinds that are ignored.
+fn is_told(ignored: &[Kind], finding: &Finding) -> bool
+    ensures { result ≡ is_told ignored.now finding.now }
+{
+    !ignored.contains(&finding.kind)
 }
 
 /// Counts the files, and those that have an error among the findings.
 fn count(tally: &mut Tally, files: usize, found: &[Finding])
-    ensures { AddsFiles files tally.old tally.new }
+    ensures { tally.new ≡ searched tally.old files found.now }
 {
     tally.files = tally.files.saturating_add(files);
+    tally.concerned = tally.concerned.saturating_add(concerned(found));
+    tally.errors = tally.errors.saturating_add(errors(found));
+}
+
+/// How many files have an error among the findings, which are in the order of the files.
+fn concerned(found: &[Finding]) -> usize
+    ensures { result ≡ concerned_beside None found.now }
+{
+    let mut number = 0;
     let mut last = None;
     for finding in found {
-        if finding.kind.severity() == Severity::Error {
-            tally.errors = tally.errors.saturating_add(1);
-            if last != Some(finding.file) {
-                tally.concerned = tally.concerned.saturating_add(1);
-                last = Some(finding.file);
-            }
+        if is_error(finding) && last != Some(finding.file) {
+            number += 1;
+            last = Some(finding.file);
         }
     }
+    number
+}
+
+fn errors(found: &[Finding]) -> usize
+    ensures { result ≡ count_by is_error found.now }
+{
+    found.iter().filter(|finding| is_error(finding)).count()
+}
+
+fn is_error(finding: &Finding) -> bool
+    ensures { result ≡ is_error finding.now }
+{
+    is_grave(finding.kind.severity())
 }
 
 const KINDS: [Kind; 7] = [

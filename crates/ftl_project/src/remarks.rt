@@ -1,11 +1,15 @@
 //! What is told of a place in a file, for people or for tools.
+ghost use Rattle.std.specs.Prelude.{◌≡◌, ◌++◌, IfOk, OnOk, codes, string_bytes};
+ghost use Rattle.ftl_project.specs.Remarks.{EndsInSpot, IsName, IsRemark, place_or_path, remark_line, spot_at};
+ghost use Rattle.ftl_project.specs.Reports.{EndsIn};
 
 use crate::form::Form;
 use crate::github::{push_data, push_property};
 use crate::json::push_json_text;
 use crate::paint::{COLORED, PLAIN, Paint};
+use fluent_syntax::spans::{Lines, Span};
 use ftl_excerpts::{push_excerpt, push_shown_text};
-use std::alloc::AllocError;
+use std::alloc::{AllocError, Global};
 use std::fmt::Write;
 
 /// What is told of a file, and of a place there if it has one.
@@ -28,23 +32,53 @@ pub(crate) struct Spot {
     pub(crate) end: usize,
 }
 
-/// Adds the remark in the form.
-pub(crate) fn push_remark(
-    out: &mut String,
-    remark: &Remark<'_>,
-    form: Form,
-) -> Result<(), AllocError> {
-    match form {
-        Form::Lines => push_line(out, remark),
-        Form::Full => push_in_full(out, remark, &PLAIN),
-        Form::Colored => push_in_full(out, remark, &COLORED),
-        Form::Json => push_json(out, remark),
-        Form::Github => push_github(out, remark),
+/// Where the name is in the text; its line and its column are those of the text's end where that comes first.
+pub(crate) fn spot_of<'t>(lines: &mut Lines<'t>, text: &str, name: Span) -> Spot
+    requires { lines.old ≡ text.now }
+    ensures spot { result ≡ spot_at text.now name }
+    ensures text { lines.new ≡ lines.old }
+{
+    let (line, column) = lines.line_column(name.start.min(text.len()));
+    Spot {
+        line,
+        column,
+        start: name.start,
+        end: name.end,
     }
 }
 
+/// The name at a range of the text; none where it is no range of it.
+pub(crate) fn name_in(text: &str, name: Span) -> &str
+    ensures { IsName text.now name result.now }
+{
+    text.get(name.start..name.end).unwrap_or("")
+}
+
+/// What is told of the remark in the form.
+pub(crate) fn remark_text(
+    alloc: Global,
+    remark: &Remark<'_>,
+    form: Form,
+) -> Result<String, AllocError>
+    ensures { IfOk result (λ told. IsRemark form remark.now.path.now remark.now.text.now remark.now.place
+        remark.now.kind.now (string_bytes remark.now.message) (string_bytes told)) }
+{
+    let mut out = String::new(alloc);
+    match form {
+        Form::Lines => push_line(&mut out, remark)?,
+        Form::Full => push_in_full(&mut out, remark, &PLAIN)?,
+        Form::Colored => push_in_full(&mut out, remark, &COLORED)?,
+        Form::Json => push_json(&mut out, remark)?,
+        Form::Github => push_github(&mut out, remark)?,
+    }
+    Ok(out)
+}
+
 /// `PATH:LINE:COLUMN`, or `PATH` where there is no place.
-fn push_place(out: &mut String, remark: &Remark<'_>) -> Result<(), AllocError> {
+fn push_place(out: &mut String, remark: &Remark<'_>) -> Result<(), AllocError>
+    ensures { OnOk result
+        (string_bytes out.new ≡ string_bytes out.old ++ place_or_path remark.now.path.now remark.now.place) }
+{
     push_shown_text(out, remark.path)?;
     match remark.place {
         Some(spot) => write!(out, ":{}:{}", spot.line, spot.column),
@@ -53,7 +87,10 @@ fn push_place(out: &mut String, remark: &Remark<'_>) -> Result<(), AllocError> {
 }
 
 /// `PLACE: KIND`, and the message where there is no place.
-fn push_line(out: &mut String, remark: &Remark<'_>) -> Result<(), AllocError> {
+fn push_line(out: &mut String, remark: &Remark<'_>) -> Result<(), AllocError>
+    ensures { OnOk result (string_bytes out.new ≡ string_bytes out.old
+        ++ remark_line remark.now.path.now remark.now.place remark.now.kind.now (string_bytes remark.now.message)) }
+{
     push_place(out, remark)?;
     write!(out, ": {}", remark.kind)?;
     if remark.place.is_none() {
@@ -64,7 +101,10 @@ fn push_line(out: &mut String, remark: &Remark<'_>) -> Result<(), AllocError> {
 }
 
 /// The place with the message, the line of the source, and a caret below.
-fn push_in_full(out: &mut String, remark: &Remark<'_>, paint: &Paint) -> Result<(), AllocError> {
+fn push_in_full(out: &mut String, remark: &Remark<'_>, paint: &Paint) -> Result<(), AllocError>
+    ensures { OnOk result (EndsInSpot paint.now.caret.now remark.now.text.now remark.now.place
+        (string_bytes remark.now.message) (string_bytes out.new)) }
+{
     let Paint {
         before_place,
         before_kind,
@@ -83,7 +123,9 @@ fn push_in_full(out: &mut String, remark: &Remark<'_>, paint: &Paint) -> Result<
     }
 }
 
-fn push_json(out: &mut String, remark: &Remark<'_>) -> Result<(), AllocError> {
+fn push_json(out: &mut String, remark: &Remark<'_>) -> Result<(), AllocError>
+    ensures { OnOk result (EndsIn (codes "}\n") (string_bytes out.new)) }
+{
     out.push_str("{\"path\":")?;
     push_json_text(out, remark.path)?;
     if let Some(spot) = remark.place {
@@ -98,7 +140,9 @@ fn push_json(out: &mut String, remark: &Remark<'_>) -> Result<(), AllocError> {
     out.push_str("}\n")
 }
 
-fn push_github(out: &mut String, remark: &Remark<'_>) -> Result<(), AllocError> {
+fn push_github(out: &mut String, remark: &Remark<'_>) -> Result<(), AllocError>
+    ensures { OnOk result (EndsIn (codes "\n") (string_bytes out.new)) }
+{
     write!(out, "::{} file=", remark.severity)?;
     push_property(out, remark.path)?;
     if let Some(spot) = remark.place {

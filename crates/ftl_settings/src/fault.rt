@@ -15,6 +15,14 @@ pub enum SettingsFault {
     Reference,
     /// The value of `ignore` is no list of names of kinds.
     Ignore,
+    /// The value of `edition` is not the number of one.
+    Edition,
+    /// The value of `output` is not the name of a form.
+    Output,
+    /// The value of `nesting` is no number of 32 bits.
+    Nesting,
+    /// The value of `color` is not one of its names.
+    Color,
 }
 
 impl From<AllocError> for SettingsFault {
@@ -36,6 +44,14 @@ impl fmt::Display for SettingsFault {
             SettingsFault::Key(key) => write!(f, "no setting is called `{key}`"),
             SettingsFault::Reference => f.write_str("`reference` wants a path in quotes"),
             SettingsFault::Ignore => f.write_str("`ignore` wants a list of names of kinds"),
+            SettingsFault::Edition => f.write_str("`edition` wants 1 or 2"),
+            SettingsFault::Output => {
+                f.write_str("`output` wants \"lines\", \"full\", \"json\" or \"github\"")
+            }
+            SettingsFault::Nesting => f.write_str("`nesting` wants a number from 0 to 4294967295"),
+            SettingsFault::Color => {
+                f.write_str("`color` wants \"auto\", \"always\" or \"never\"")
+            }
         }
     }
 }

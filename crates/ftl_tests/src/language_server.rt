@@ -7,6 +7,7 @@ use fluent_syntax_lsp::{
 };
 use fluent_syntax_tests::alike::{assert_holds, assert_same, assert_same_text};
 use ftl::Watched;
+use ftl_workspace::InMemory;
 use std::alloc::Global;
 use std::io::Read;
 use std::test::Fail;
@@ -221,7 +222,7 @@ fn endings(rt: HostRuntime) -> Result<(), Fail> {
 /// A name, and its method.
 type MethodRow = (&'static str, Option<Method>);
 
-const METHODS: [MethodRow; 14] = [
+const METHODS: [MethodRow; 16] = [
     ("initialize", Some(Method::Initialize)),
     ("shutdown", Some(Method::Shutdown)),
     ("textDocument/documentSymbol", Some(Method::DocumentSymbol)),
@@ -236,7 +237,12 @@ const METHODS: [MethodRow; 14] = [
     ("textDocument/didClose", Some(Method::DidClose)),
     ("textDocument/didSave", Some(Method::DidSave)),
     ("exit", Some(Method::Exit)),
-    ("initialized", None),
+    ("initialized", Some(Method::Initialized)),
+    (
+        "workspace/didChangeWatchedFiles",
+        Some(Method::DidChangeWatchedFiles),
+    ),
+    ("initialised", None),
     ("Initialize", None),
     ("", None),
 ];
@@ -281,7 +287,7 @@ fn error_codes(rt: HostRuntime) -> Result<(), Fail> {
 /// A phase, a method, why a request for it is refused, and the phases behind a request and behind a notification.
 type PhaseRow = (Phase, Option<Method>, Option<ErrorCode>, Phase, Phase);
 
-const PHASES: [PhaseRow; 12] = [
+const PHASES: [PhaseRow; 13] = [
     (
         Phase::Fresh,
         Some(Method::Initialize),
@@ -327,6 +333,13 @@ const PHASES: [PhaseRow; 12] = [
     (
         Phase::Running,
         Some(Method::DidOpen),
+        Some(ErrorCode::MethodNotFound),
+        Phase::Running,
+        Phase::Running,
+    ),
+    (
+        Phase::Running,
+        Some(Method::DidChangeWatchedFiles),
         Some(ErrorCode::MethodNotFound),
         Phase::Running,
         Phase::Running,
@@ -606,7 +619,8 @@ fn frames_of(alloc: Global, bodies: &[&str]) -> Result<String, Fail> {
 /// Whether a session over the reader ends so, with these bytes written.
 fn serves<R: Read + Drop>(alloc: Global, reader: R, ending: Ending, output: &[u8]) -> bool {
     let mut writer = Vec::new(alloc);
-    let ended = serve(alloc, &mut Watched::new(reader), &mut writer);
+    let files = InMemory::new(alloc);
+    let ended = serve(alloc, &mut Watched::new(reader), &mut writer, &files);
     ended == ending && writer.as_slice() == output
 }
 
@@ -647,6 +661,7 @@ fn a_writer_that_fails(rt: HostRuntime) -> Result<(), Fail> {
     let input = frames_of(rt.alloc(), &[SHUTDOWN])?;
     let mut reader = Watched::new(input.as_bytes());
     let mut writer = Narrow::closed(rt.alloc());
-    let ended = serve(rt.alloc(), &mut reader, &mut writer);
+    let files = InMemory::new(rt.alloc());
+    let ended = serve(rt.alloc(), &mut reader, &mut writer, &files);
     assert_same(rt.alloc(), "a closed writer", &ended, &Ending::Output)
 }

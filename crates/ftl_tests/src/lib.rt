@@ -15,3 +15,5 @@ mod language_server;
 mod runs;
 #[cfg(test)]
 mod words;
+#[cfg(test)]
+mod workspace;

@@ -9,8 +9,8 @@ use Rattle.ftl_words.specs.declared.request.Task.TheVariants.{Check, Format, Fro
 
 -- by the edition, where the edition matters; JSON is no Fluent text
 abbrev pub command_of : Task → Edition → Option Command
-command_of (Check form) One = Some commands.Check
-command_of (Check form) Two = Some commands.CheckTwo
+command_of Check One = Some commands.Check
+command_of Check Two = Some commands.CheckTwo
 command_of (Format change) One = Some commands.Format
 command_of (Format change) Two = Some commands.FormatTwo
 command_of Runtime edition = Some commands.Runtime

@@ -1,8 +1,8 @@
 //! The command line, as `clap` reads it.
 
 use crate::compare_words::compare_command;
-use crate::lint_words::lint_command;
-use clap::{Arg, ArgAction, Command, value_parser};
+use crate::lint_words::{lint_command, nesting};
+use clap::{Arg, ArgAction, Command};
 use std::alloc::{AllocError, Global};
 
 static EDITIONS: [&str; 2] = ["1", "2"];
@@ -10,9 +10,6 @@ static EDITIONS: [&str; 2] = ["1", "2"];
 static FORMS: [&str; 4] = ["lines", "full", "json", "github"];
 
 static COLORS: [&str; 3] = ["auto", "always", "never"];
-
-/// A nesting that a stack of 8 MB bears with room to spare, as a word.
-const NESTING: &str = "2000";
 
 /// What standard input is called.
 const STDIN_NAME: &str = "<stdin>";
@@ -76,10 +73,9 @@ pub(crate) fn color<'a>(alloc: Global) -> Arg<'a> {
     Arg::new(alloc, "color")
         .long("color")
         .value_name("WHEN")
-        .help("Colours of the full form; auto: on a terminal, where NO_COLOR is not set")
+        .help("Colours of the full form, by default auto: on a terminal, where NO_COLOR is not set")
         .action(ArgAction::Set)
         .value_parser(COLORS.as_slice())
-        .default_value("auto")
 }
 
 fn format<'a>(alloc: Global, name: &'a str) -> Result<Command<'a>, AllocError> {
@@ -120,19 +116,10 @@ fn word<'a>(
     about: &'a str,
     examples: &'a str,
 ) -> Result<Command<'a>, AllocError> {
-    let nesting = Arg::new(alloc, "nesting")
-        .long("nesting")
-        .value_name("N")
-        .help(
-            "How many placeables and argument lists may be open at once; a deeper text has status 6",
-        )
-        .action(ArgAction::Set)
-        .value_parser(value_parser!(u32))
-        .default_value(NESTING);
     Command::new(alloc, name)
         .about(about)
         .after_help(examples)
-        .arg(nesting)?
+        .arg(nesting(alloc))?
         .arg(paths(
             alloc,
             "Files, folders for every .ftl file below, or `-`; none for standard input",
@@ -143,10 +130,9 @@ fn edition<'a>(alloc: Global) -> Arg<'a> {
     Arg::new(alloc, "edition")
         .long("edition")
         .value_name("EDITION")
-        .help("The edition of the grammar")
+        .help("The edition of the grammar, by default 1")
         .action(ArgAction::Set)
         .value_parser(EDITIONS.as_slice())
-        .default_value("1")
 }
 
 fn paths<'a>(alloc: Global, help: &'a str) -> Arg<'a> {

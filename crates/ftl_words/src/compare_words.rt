@@ -1,22 +1,16 @@
 //! The word `compare`.
 
 use crate::clap_words::color;
-use crate::lint_words::{form, form_of, nesting};
-use crate::request::Color;
-use crate::requested::color_of;
+use crate::lint_words::{form, nesting};
+use crate::options::Options;
 use clap::{Arg, ArgAction, ArgMatches, Command};
-use ftl_project::{Form, Reading};
 use std::alloc::{AllocError, Global};
 
 /// Files of a reference language, and of others to compare with it.
 #[derive(Debug, Drop)]
 pub struct Compare<'a> {
-    /// How a text is read.
-    pub reading: Reading,
-    /// How a difference is told.
-    pub form: Form,
-    /// Whether it is told in colours.
-    pub color: Color,
+    /// How a text is read, and how a difference is told.
+    pub options: Options,
     /// Files, or folders for every file below: the reference, where the project names none, and the others.
     pub paths: Vec<&'a str>,
 }
@@ -49,7 +43,7 @@ pub(crate) fn compare_command<'a>(alloc: Global) -> Result<Command<'a>, AllocErr
 /// What the options ask for.
 pub(crate) fn compare_of<'a>(
     alloc: Global,
-    reading: Reading,
+    said: Options,
     options: &ArgMatches<'a>,
 ) -> Result<Compare<'a>, AllocError> {
     let paths = match options.get_strs("paths") {
@@ -57,9 +51,7 @@ pub(crate) fn compare_of<'a>(
         None => Vec::new(alloc),
     };
     Ok(Compare {
-        reading,
-        form: form_of(options),
-        color: color_of(options),
+        options: said,
         paths,
     })
 }

@@ -5,6 +5,7 @@ mod clap_words;
 mod compare_words;
 mod lint_words;
 mod mistakes;
+mod options;
 mod request;
 mod requested;
 
@@ -12,5 +13,6 @@ pub use clap_words::command_line;
 pub use compare_words::Compare;
 pub use lint_words::Lint;
 pub use mistakes::{mistake, status_of};
-pub use request::{Change, Color, Request, Task, Work};
+pub use options::Options;
+pub use request::{Change, Request, Task, Work};
 pub use requested::request_of;

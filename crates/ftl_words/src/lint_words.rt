@@ -1,23 +1,17 @@
 //! The word `lint`.
 
 use crate::clap_words::color;
-use crate::request::Color;
-use crate::requested::color_of;
+use crate::options::Options;
 use clap::{Arg, ArgAction, ArgMatches, Command, value_parser};
 use fluent_syntax_names::Kind;
-use ftl_project::{Form, Reading};
 use ftl_settings::kind_named;
 use std::alloc::{AllocError, Global};
 
 /// Files to search for mistakes between names.
 #[derive(Debug, Drop)]
 pub struct Lint<'a> {
-    /// How a text is read.
-    pub reading: Reading,
-    /// How a finding is told.
-    pub form: Form,
-    /// Whether it is told in colours.
-    pub color: Color,
+    /// How a text is read, and how a finding is told.
+    pub options: Options,
     /// Kinds that are not told.
     pub ignored: Vec<Kind>,
     /// Files and folders, which are one set.
@@ -63,10 +57,9 @@ pub(crate) fn form<'a>(alloc: Global) -> Arg<'a> {
     Arg::new(alloc, "output")
         .long("output")
         .value_name("FORM")
-        .help("How what is found is told")
+        .help("How what is found is told, by default full")
         .action(ArgAction::Set)
         .value_parser(FORMS.as_slice())
-        .default_value("full")
 }
 
 /// The option for the nesting.
@@ -75,11 +68,10 @@ pub(crate) fn nesting<'a>(alloc: Global) -> Arg<'a> {
         .long("nesting")
         .value_name("N")
         .help(
-            "How many placeables and argument lists may be open at once; a deeper text has status 6",
+            "How many placeables and argument lists may be open at once, by default 2000; a deeper text has status 6",
         )
         .action(ArgAction::Set)
         .value_parser(value_parser!(u32))
-        .default_value("2000")
 }
 
 fn paths<'a>(alloc: Global) -> Arg<'a> {
@@ -94,7 +86,7 @@ fn paths<'a>(alloc: Global) -> Arg<'a> {
 /// What the options ask for.
 pub(crate) fn lint_of<'a>(
     alloc: Global,
-    reading: Reading,
+    said: Options,
     options: &ArgMatches<'a>,
 ) -> Result<Lint<'a>, AllocError> {
     let paths = match options.get_strs("paths") {
@@ -108,20 +100,8 @@ pub(crate) fn lint_of<'a>(
         }
     }
     Ok(Lint {
-        reading,
-        form: form_of(options),
-        color: color_of(options),
+        options: said,
         ignored,
         paths,
     })
-}
-
-/// The form that the options name.
-pub(crate) fn form_of(options: &ArgMatches<'_>) -> Form {
-    match options.get_str("output") {
-        Some("lines") => Form::Lines,
-        Some("json") => Form::Json,
-        Some("github") => Form::Github,
-        _ => Form::Full,
-    }
 }

@@ -4,9 +4,9 @@ ghost use Rattle.ftl_words.specs.Request.{command_of};
 
 use crate::compare_words::Compare;
 use crate::lint_words::Lint;
+use crate::options::Options;
 use fluent_syntax::parser::Edition;
 use ftl::Command;
-use ftl_project::{Form, Reading};
 
 /// What a command line asks for.
 #[derive(Debug, Drop)]
@@ -26,10 +26,8 @@ pub enum Request<'a> {
 pub struct Work<'a> {
     /// What to do with each text.
     pub task: Task,
-    /// How a text is read.
-    pub reading: Reading,
-    /// Whether errors are told in colours.
-    pub color: Color,
+    /// How a text is read, and how its errors are told.
+    pub options: Options,
     /// What standard input is called.
     pub stdin_name: &'a str,
     /// Files and folders, and `-` for standard input; none for standard input alone.
@@ -39,8 +37,8 @@ pub struct Work<'a> {
 /// What to do with a text.
 #[derive(Clone, Copy, Debug, PartialEq, Eq)]
 pub enum Task {
-    /// Tell its syntax errors; `None` where the form is left open.
-    Check(Option<Form>),
+    /// Tell its syntax errors.
+    Check,
     /// Write it in its normal form.
     Format(Change),
     /// Write it in its normal form without comments.
@@ -49,15 +47,6 @@ pub enum Task {
     Json,
     /// Read a tree as JSON, and write its text.
     FromJson,
-}
-
-/// When errors are told in colours.
-#[derive(Clone, Copy, Debug, PartialEq, Eq)]
-pub enum Color {
-    /// On a terminal, where nobody asked for none.
-    Auto,
-    Always,
-    Never,
 }
 
 /// What becomes of a formatted text.
@@ -77,8 +66,8 @@ impl Task {
         ensures { result ≡ command_of self edition }
     {
         Some(match (self, edition) {
-            (Task::Check(_), Edition::One) => Command::Check,
-            (Task::Check(_), Edition::Two) => Command::CheckTwo,
+            (Task::Check, Edition::One) => Command::Check,
+            (Task::Check, Edition::Two) => Command::CheckTwo,
             (Task::Format(_), Edition::One) => Command::Format,
             (Task::Format(_), Edition::Two) => Command::FormatTwo,
             (Task::Runtime, _) => Command::Runtime,

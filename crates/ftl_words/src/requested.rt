@@ -3,14 +3,12 @@
 use crate::clap_words::command_line;
 use crate::compare_words::compare_of;
 use crate::lint_words::lint_of;
-use crate::request::{Change, Color, Request, Task, Work};
+use crate::options::Options;
+use crate::request::{Change, Request, Task, Work};
 use clap::{ArgMatches, Error};
 use fluent_syntax::parser::Edition;
-use ftl_project::{Form, Reading};
+use ftl_settings::{Color, Output, color_named, output_named};
 use std::alloc::{AllocError, Global};
-
-/// A nesting that a stack of 8 MB bears with room to spare.
-const NESTING: usize = 2000;
 
 /// What the words ask for, the program's own name first; a mistake in them, or a wish for help, as `Err`.
 pub fn request_of<'a>(alloc: Global, words: &'a [String]) -> Result<Request<'a>, Error> {
@@ -23,17 +21,16 @@ pub fn request_of<'a>(alloc: Global, words: &'a [String]) -> Result<Request<'a>,
         return Ok(Request::Serve);
     }
     if word == "lint" {
-        let reading = reading_of(word, options);
-        return Ok(Request::Lint(lint_of(alloc, reading, options)?));
+        let said = options_of(word, options);
+        return Ok(Request::Lint(lint_of(alloc, said, options)?));
     }
     if word == "compare" {
-        let reading = reading_of(word, options);
-        return Ok(Request::Compare(compare_of(alloc, reading, options)?));
+        let said = options_of(word, options);
+        return Ok(Request::Compare(compare_of(alloc, said, options)?));
     }
     Ok(Request::Answer(Work {
         task: task_of(word, options),
-        reading: reading_of(word, options),
-        color: color_of(options),
+        options: options_of(word, options),
         stdin_name: options.get_str("stdin-name").unwrap_or("<stdin>"),
         paths: paths_of(alloc, options)?,
     }))
@@ -41,29 +38,11 @@ pub fn request_of<'a>(alloc: Global, words: &'a [String]) -> Result<Request<'a>,
 
 fn task_of(word: &str, options: &ArgMatches<'_>) -> Task {
     match word {
-        "check" | "check-two" => Task::Check(form_of(options)),
+        "check" | "check-two" => Task::Check,
         "format" | "format-two" => Task::Format(change_of(options)),
         "runtime" => Task::Runtime,
         "json" => Task::Json,
         _ => Task::FromJson,
-    }
-}
-
-fn form_of(options: &ArgMatches<'_>) -> Option<Form> {
-    match options.get_str("output")? {
-        "lines" => Some(Form::Lines),
-        "full" => Some(Form::Full),
-        "json" => Some(Form::Json),
-        _ => Some(Form::Github),
-    }
-}
-
-/// When errors are told in colours.
-pub(crate) fn color_of(options: &ArgMatches<'_>) -> Color {
-    match options.get_str("color") {
-        Some("always") => Color::Always,
-        Some("never") => Color::Never,
-        _ => Color::Auto,
     }
 }
 
@@ -77,15 +56,32 @@ fn change_of(options: &ArgMatches<'_>) -> Change {
     }
 }
 
-/// How a text is read. A word that ends in `-two` reads by edition two.
-fn reading_of(word: &str, options: &ArgMatches<'_>) -> Reading {
-    let edition = if word.ends_with("-two") || options.get_str("edition") == Some("2") {
-        Edition::Two
-    } else {
-        Edition::One
-    };
-    let nesting = options.get_one::<usize>("nesting").unwrap_or(NESTING);
-    Reading { edition, nesting }
+/// What the options say. A word that ends in `-two` reads by edition two.
+fn options_of(word: &str, options: &ArgMatches<'_>) -> Options {
+    Options {
+        edition: edition_of(word, options),
+        output: output_of(options),
+        nesting: options.get_one::<usize>("nesting"),
+        color: color_of(options),
+    }
+}
+
+fn edition_of(word: &str, options: &ArgMatches<'_>) -> Option<Edition> {
+    if word.ends_with("-two") {
+        return Some(Edition::Two);
+    }
+    match options.get_str("edition")? {
+        "2" => Some(Edition::Two),
+        _ => Some(Edition::One),
+    }
+}
+
+fn output_of(options: &ArgMatches<'_>) -> Option<Output> {
+    output_named(options.get_str("output")?)
+}
+
+fn color_of(options: &ArgMatches<'_>) -> Option<Color> {
+    color_named(options.get_str("color")?)
 }
 
 fn paths_of<'a>(alloc: Global, options: &ArgMatches<'a>) -> Result<Vec<&'a str>, AllocError> {

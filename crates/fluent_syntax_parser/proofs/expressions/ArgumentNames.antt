@@ -5,6 +5,7 @@ use Rattle.fluent_syntax_tree.specs.Kind.{Kind}
 use Rattle.fluent_syntax_tree.specs.Tree.{InlineTree, inline_map, string_literal, number_literal, function_reference}
 use Rattle.fluent_syntax_tree.specs.Tree.{message_reference, term_reference, variable_reference, inline_placeable}
 use Rattle.fluent_syntax_tree.specs.Tree.{MaybeArguments, no_arguments, some_arguments}
+use Rattle.fluent_syntax_tree.specs.Spans.{bytes_at}
 use Rattle.fluent_syntax_tree.specs.declared.spans.Span.{Span}
 use Rattle.fluent_syntax_grammar.specs.Arguments.{argument_name}
 use Rattle.fluent_syntax_grammar.specs.Construct.{Outcome, Read, Refused, gives, given, goes_on, chosen, first}
@@ -14,6 +15,8 @@ use Rattle.fluent_syntax_grammar.specs.Inline.{inline_expression, inline_of, nam
 use Rattle.fluent_syntax_grammar.specs.Starts.{Start, brace, digit, dollar, letter, minus, other, quote, start, term}
 use Rattle.fluent_syntax_grammar.specs.Words.{identifier}
 use Rattle.fluent_syntax_grammar.proofs.FunctionalWords.{functional_identifier}
+use Rattle.fluent_syntax_parser.specs.Meets.{name_text}
+use Rattle.fluent_syntax_parser.proofs.scanning.NameTexts.{identifier_text}
 
 -- a message reference without attribute
 abbrev pub is_name : {X : Type 0} → InlineTree X → Bool
@@ -89,6 +92,18 @@ module _ (t : List ℕ) (i : ℕ) where
 
     pub name_read : (e : InlineTree Span) (j : ℕ) → inline_expression t R i (Read e j) → Named e
     name_read e j (chosen h) = by_start (start t i) e j h
+
+    -- the text of a name, by where the argument begins
+    pub argument_text : (e : InlineTree Span) (j : ℕ) → inline_expression t R i (Read e j) → (name : Span) →
+        argument_name e ≡ Some name → bytes_at t name ≡ name_text t i
+    argument_text e j read name is = by (is_name e) refl
+      where
+        by : (b : Bool) → is_name e ≡ b → bytes_at t name ≡ name_text t i
+        by true named =
+            let found = name_read e j read named in
+            let same : name ≡ found.0 = let both : Some name ≡ Some found.0 = sym is ∙ found.3 in cc in
+            rw same (identifier_text t found.2)
+        by false unnamed = let none : Some name ≡ None = sym is ∙ no_argument_name e unnamed in cc
 
 -- ---- a name that was looked for
 

@@ -22,17 +22,22 @@ use Rattle.fluent_syntax_parser.proofs.readers.Made.{on_made}
 use Rattle.fluent_syntax_parser.specs.declared.expression.starts.Start as found
 use Rattle.fluent_syntax_parser.specs.declared.expression.starts.Start.TheVariants as starts
 
+-- what a digit or `-` is seen as
+pub number_starts : (t : List ℕ) (i : ℕ) (s : found.Start) → (s ≡ starts.Digit) ⊎ (s ≡ starts.Minus) →
+    start_view s ≡ start t i → (digit ≡ start t i) ⊎ (minus ≡ start t i)
+number_starts t i s (left is) e = left (rw is at e)
+number_starts t i s (inr is) e = inr (rw is at e)
+
 module _ (t : List ℕ) (R : Family) (i : ℕ) where
   pub by_start : (s : Start) (o : Outcome (InlineTree Span)) → s ≡ start t i → inline_of t R s i o →
       inline_expression t R i o
   by_start s o e h =
       chosen (subst (λ x. inline_of t R x i o) e h)
 
-  pub by_number : (s : found.Start) (o : Outcome (InlineTree Span)) → (s ≡ starts.Digit) ⊎ (s ≡ starts.Minus) →
-      start_view s ≡ start t i → (number t >>= λ v. gives (number_literal v)) i o →
-      inline_expression t R i o
-  by_number s o (left is) e h = let e' : digit ≡ start t i = rw is at e in by_start digit o e' h
-  by_number s o (inr is) e h = let e' : minus ≡ start t i = rw is at e in by_start minus o e' h
+  pub by_number : (o : Outcome (InlineTree Span)) → (digit ≡ start t i) ⊎ (minus ≡ start t i) →
+      (number t >>= λ v. gives (number_literal v)) i o → inline_expression t R i o
+  by_number o (left e) h = by_start digit o e h
+  by_number o (inr e) h = by_start minus o e h
 
   pub by_value : (s : found.Start) (o : Outcome (InlineTree Span)) →
       (s ≡ starts.Quote) ⊎ ((s ≡ starts.Digit) ⊎ (s ≡ starts.Letter)) → start_view s ≡ start t i →

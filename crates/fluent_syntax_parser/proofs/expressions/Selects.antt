@@ -1,26 +1,112 @@
--- What follows an expression before `->`.
-use Rattle.std.proofs.Common.{◌≡◌, ℕ, ◌+◌, List, Some, None, refl, sym, subst}
+-- A select from its arrow on, by what stands before its variants.
+use Rattle.std.proofs.Common.{◌≡◌, ◌∙◌, ℕ, ◌+◌, List, Option, Some, None, false, true, ap, refl, subst, sym}
+use Rattle.std.specs.Prelude.{Result, Ok, Err}
 use Rattle.fluent_syntax_tree.specs.Kind.{Kind}
-use Rattle.fluent_syntax_tree.specs.Tree.{ExpressionTree, InlineTree, select}
+use Rattle.fluent_syntax_tree.specs.Tree.{ExpressionTree, InlineTree, VariantTrees, inline_map, select}
 use Rattle.fluent_syntax_tree.specs.declared.edition.Edition.{Edition}
 use Rattle.fluent_syntax_tree.specs.declared.spans.Span.{Span}
-use Rattle.fluent_syntax_grammar.specs.Construct.{Outcome, Refused, ◌>>=◌, gives, failed}
+use Rattle.fluent_syntax_grammar.specs.Construct.{Outcome, Read, Refused, stops, goes_on, given, failed, passed}
+use Rattle.fluent_syntax_grammar.specs.Construct.{chosen, first}
 use Rattle.fluent_syntax_grammar.specs.Family.{Family}
+use Rattle.fluent_syntax_grammar.specs.Inline.{inline_expression}
+use Rattle.fluent_syntax_grammar.specs.Placeables.{expression, has_arrow, select_with, selector_fault}
+use Rattle.fluent_syntax_grammar.specs.Placeables.{variants_of_select}
+use Rattle.fluent_syntax_grammar.specs.Places.{Blank}
+use Rattle.fluent_syntax_grammar.specs.Laws.{IsFunctional}
+use Rattle.fluent_syntax_grammar.proofs.Functional.{functional_bind, functional_fails}
+use Rattle.fluent_syntax_grammar.proofs.FunctionalRules.{IsFunctionalFamily, functional_inline}
+use Rattle.fluent_syntax_grammar.proofs.FunctionalWords.{functional_blank, functional_inline_blank}
+use Rattle.fluent_syntax_parser.specs.Made.{Makes, made}
+use Rattle.fluent_syntax_parser.specs.Meets.{Fails, no_memory, refused, too_deep}
+use Rattle.fluent_syntax_parser.specs.Selects.{arrow_variants, select_start}
 use Rattle.fluent_syntax_parser.specs.declared.fault.ReadFault.{ReadFault}
-use Rattle.fluent_syntax_parser.specs.Meets.{Fails}
-use Rattle.fluent_syntax_grammar.specs.Placeables.{select_with, selector_fault, variants_of_select}
+use Rattle.fluent_syntax_parser.proofs.readers.Fails.{fails_first, fails_next, fails_yes}
+use Rattle.fluent_syntax_parser.proofs.readers.Fails.{functional_arrow_end, functional_look, functional_steps}
+use Rattle.fluent_syntax_parser.proofs.readers.Made.{on_made, same_selector_fault}
+
+-- what is no selector
+pub no_select_start : (t : List ℕ) (i : ℕ) (fault : Option Kind) (kind : Kind) → fault ≡ Some kind →
+    select_start t fault i (Refused kind i (i + 1))
+no_select_start t i fault kind is =
+    subst (λ x. select_start t x i (Refused kind i (i + 1))) (sym is) (failed refl)
+
+-- what is one
+pub some_select_start : (t : List ℕ) {i : ℕ} (fault : Option Kind) (o : Outcome Unit) → fault ≡ None →
+    select_start t None i o → select_start t fault i o
+some_select_start t {i = i} fault o is h = subst (λ x. select_start t x i o) (sym is) h
+
+pub functional_start : (t : List ℕ) (fault : Option Kind) → IsFunctional (select_start t fault)
+functional_start t (Some kind) = functional_fails
+functional_start t None =
+    functional_bind functional_steps (λ u.
+    functional_bind (functional_inline_blank t) (λ u.
+    functional_bind (functional_arrow_end t) (λ u. functional_blank t)))
 
 module _ (edition : Edition) (t : List ℕ) (R : Family) (e : InlineTree Span) (i : ℕ) where
-  pub is_selector : (o : Outcome (ExpressionTree Span)) → selector_fault e ≡ None →
-      (variants_of_select edition t R >>= λ vs. gives (select e vs)) i o →
-      select_with edition t R e (selector_fault e) i o
-  is_selector o is h = subst (λ x. select_with edition t R e x i o) (sym is) h
+  -- the same outcome, with the select that the variants make
+  abbrev selected : Outcome (VariantTrees Span) → Outcome (ExpressionTree Span)
+  selected (Read vs j) = Read (select e vs) j
+  selected (Refused kind from to) = Refused kind from to
 
-  pub no_selector : (kind : Kind) → selector_fault e ≡ Some kind →
-      select_with edition t R e (selector_fault e) i (Refused kind i (i + 1))
-  no_selector kind is = subst (λ x. select_with edition t R e x i (Refused kind i (i + 1))) (sym is) (failed refl)
+  from_arrow : (fault : Option Kind) (o : Outcome (VariantTrees Span)) → arrow_variants edition t R fault i o →
+      select_with edition t R e fault i (selected o)
+  from_arrow (Some fault) o (stops (failed is)) = failed is
+  from_arrow (Some fault) o (goes_on start x) = elim start [ ]
+  from_arrow None o (stops (stops a)) = stops (stops a)
+  from_arrow None o (stops (goes_on a (stops b))) = stops (goes_on a (stops b))
+  from_arrow None o (stops (goes_on a (goes_on b (stops c)))) = stops (goes_on a (goes_on b (stops c)))
+  from_arrow None o (stops (goes_on a (goes_on b (goes_on c d)))) = stops (goes_on a (goes_on b (goes_on c (stops d))))
+  from_arrow None (Read vs j) (goes_on (goes_on a (goes_on b (goes_on c d))) x) =
+      goes_on (goes_on a (goes_on b (goes_on c (goes_on d x)))) given
+  from_arrow None (Refused kind from to) (goes_on (goes_on a (goes_on b (goes_on c d))) x) =
+      stops (goes_on a (goes_on b (goes_on c (goes_on d x))))
 
-  pub selector_fails : {f : ReadFault} → selector_fault e ≡ None →
-      Fails t (variants_of_select edition t R >>= λ vs. gives (select e vs)) i f →
-      Fails t (select_with edition t R e (selector_fault e)) i f
-  selector_fails {f = f} is h = subst (λ x. Fails t (select_with edition t R e x) i f) (sym is) h
+  regrouped : (o : Outcome (VariantTrees Span)) → variants_of_select edition t R i o →
+      arrow_variants edition t R None i o
+  regrouped o (stops a) = stops (stops a)
+  regrouped o (goes_on a (stops b)) = stops (goes_on a (stops b))
+  regrouped o (goes_on a (goes_on b (stops c))) = stops (goes_on a (goes_on b (stops c)))
+  regrouped o (goes_on a (goes_on b (goes_on c (stops d)))) = stops (goes_on a (goes_on b (goes_on c d)))
+  regrouped o (goes_on a (goes_on b (goes_on c (goes_on d x)))) = goes_on (goes_on a (goes_on b (goes_on c d))) x
+
+  to_arrow : (fault : Option Kind) (o : Outcome (ExpressionTree Span)) → select_with edition t R e fault i o →
+      (p : Outcome (VariantTrees Span)) × arrow_variants edition t R fault i p
+  to_arrow (Some fault) o (failed is) = (_, stops (failed is))
+  to_arrow None o (stops x) = (_, regrouped _ x)
+  to_arrow None o (goes_on x given) = (_, regrouped _ x)
+
+  fails_from_arrow : (fault : Option Kind) {f : ReadFault} → Fails t (arrow_variants edition t R fault) i f →
+      Fails t (select_with edition t R e fault) i f
+  fails_from_arrow fault (refused h) = refused (λ k from to s. from_arrow fault _ (h k from to s))
+  fails_from_arrow fault (too_deep h) = too_deep (λ o x. let (p, y) = to_arrow fault o x in h p y)
+  fails_from_arrow fault no_memory = no_memory
+
+  -- ---- the same by why the selector is none, if it is none
+
+  module _ {fault : Option Kind} (is : fault ≡ selector_fault e) where
+    pub select_read : {j : ℕ} {vs : VariantTrees Span} → arrow_variants edition t R fault i (Read vs j) →
+        select_with edition t R e (selector_fault e) i (Read (select e vs) j)
+    select_read {j = j} {vs = vs} h =
+        subst (λ x. select_with edition t R e x i (Read (select e vs) j)) is (from_arrow fault _ h)
+
+    pub select_fails : {f : ReadFault} → Fails t (arrow_variants edition t R fault) i f →
+        Fails t (select_with edition t R e (selector_fault e)) i f
+    select_fails {f = f} h = subst (λ x. Fails t (select_with edition t R e x) i f) is (fails_from_arrow fault h)
+
+-- The rest of an expression behind which an arrow stands, by its select.
+pub behind_blank : {B X : Type 0} (edition : Edition) (t : List ℕ) (R : Family) (f : ExpressionTree Span → B)
+    (view : X → B) {i j k : ℕ} {e : InlineTree Span} (r : Result (X × ℕ) ReadFault) →
+    inline_expression t R i (Read e j) → Blank t j k → has_arrow t k ≡ true → IsFunctionalFamily R →
+    Makes t f (select_with edition t R e (selector_fault e)) view k r → Makes t f (expression edition t R) view i r
+behind_blank edition t R f view (Ok x) read blank arrow g h = on_made h (λ b there same. made
+    (goes_on read (goes_on (passed blank) (goes_on (chosen given) (first arrow there)))) same)
+behind_blank edition t R f view (Err _) read blank arrow g h =
+    fails_next (functional_inline t R g) read
+    (fails_next (functional_blank t) (passed blank)
+    (fails_next (functional_look (has_arrow t)) (chosen given)
+    (fails_yes arrow h)))
+
+-- Why an expression is no selector, is told alike of what stands for it.
+pub same_fault : {X : Type 0} (f : Span → X) (b : InlineTree X) (e : InlineTree Span) → b ≡ inline_map f e →
+    selector_fault b ≡ selector_fault e
+same_fault f b e same = ap selector_fault same ∙ same_selector_fault f e

@@ -1,8 +1,9 @@
 -- The next piece of a line, by its first byte; and the lines of a pattern.
-use Rattle.std.proofs.Common.{◌≡◌, ℕ, ◌+◌, ◌-◌, ◌<◌, List, Option, Some, None, Bool, true, false, not, refl}
+use Rattle.std.proofs.Common.{◌≡◌, ℕ, ◌+◌, ◌-◌, ◌<◌, ◌≤◌, List, length, Option, Some, None, Bool, true, false, not, refl}
 use Rattle.std.proofs.Common.{sym, ap, ◌∙◌, subst, arith, true≢false}
 use Rattle.std.specs.Prelude.{slice_get, ◌==◌, ◌||◌, ◌&&◌, nat_lt}
 use Rattle.std.proofs.lemmas.Bool.Decides.{nat_tests}
+use Rattle.std.proofs.lemmas.Option.{slice_get-get_or}
 use Rattle.fluent_syntax_tree.specs.Kind.{UnbalancedClosingBrace}
 use Rattle.fluent_syntax_grammar.specs.Bytes.{lf, left_brace, right_brace}
 use Rattle.fluent_syntax_grammar.specs.Construct.{Outcome, Read, Refused, ◌>>=◌, gives, goes_on}
@@ -69,6 +70,17 @@ pub further : (test : ℕ → Bool) (i j : ℕ) → Stretch test i j → test i 
 further test i j w here =
     let apart : i ≡ j → ⊥ = λ same. true≢false (sym here ∙ ap test same ∙ w.longest) in
     omega (arith, w.forward, apart)
+
+-- a line is not empty where a byte stands in it
+pub line_onward : (t : List ℕ) (from end next : ℕ) → from < length t → from ≤ end → end ≤ next →
+    (has_eol t end ≡ false → slice_get t end ≡ None) → (has_eol t end ≡ true → end < next) → from < next
+line_onward t from end next inside forward on stops further = by (has_eol t end) refl
+  where
+    by : (b : Bool) → has_eol t end ≡ b → from < next
+    by true e = omega (arith, further e)
+    by false e =
+        let past : end < length t → ⊥ = λ l. let some = slice_get-get_or t end 0 l in let none = stops e in cc in
+        omega (arith, past)
 
 module _ (t : List ℕ) (R : Family) where
   pub no_pieces : (i : ℕ) (o : Option ℕ) → slice_get t i ≡ o → (o ≡ None → ⊥) → has_eol t i ≡ true →

@@ -1,20 +1,18 @@
 -- What a layout spells with h of each placeable, it spells before, with h of each placeable of that.
-use Rattle.std.proofs.Common.{◌≡◌, ℕ, ◌+◌, List, [], ◌∷◌, map, Option, Some, None, option_map, Bool, true, false}
+use Rattle.std.proofs.Common.{◌≡◌, ℕ, ◌+◌, List, [], ◌∷◌, ◌++◌, map, Option, Some, None, Bool, true, false}
 use Rattle.std.proofs.Common.{refl, sym, ap, ◌∙◌}
 use Rattle.std.specs.Prelude.{nat_lt, if◌then◌else◌}
 use Rattle.std.specs.List.{flat_map}
 use Rattle.std.proofs.lemmas.List.{map-append}
-use Rattle.fluent_syntax_tree.specs.View.{expression_view}
 use Rattle.fluent_syntax_tree.specs.declared.edition.Edition.{Edition}
 use Rattle.fluent_syntax_tree.specs.declared.edition.Edition.TheVariants.{One, Two}
 use Rattle.fluent_syntax_grammar.specs.Layout.{Ending, lf_at, crlf_at, text_end}
-use Rattle.fluent_syntax_parser.specs.Elements.{item_shape, item_view, layout_shape, layout_view}
-use Rattle.fluent_syntax_parser.specs.Layouts as layouts
+use Rattle.fluent_syntax_parser.specs.Boxed.{boxed_expression_view}
+use Rattle.fluent_syntax_parser.specs.Elements.{item_shape, item_view}
 use Rattle.fluent_syntax_parser.specs.Layouts.{Piece, Line, Item, run, placed, text, filled, with_ending, kept_from}
-use Rattle.fluent_syntax_parser.specs.Layouts.{indented, items_from, line_items, opening_items, items_with, piece_map}
-use Rattle.fluent_syntax_parser.specs.Layouts.{line_map, layout_map, item_map}
+use Rattle.fluent_syntax_parser.specs.Layouts.{indented, items_from, line_items, piece_map}
+use Rattle.fluent_syntax_parser.specs.Layouts.{line_map, item_map}
 use Rattle.fluent_syntax_parser.specs.Lines.{line_shape, line_view, piece_shape, piece_view}
-use Rattle.fluent_syntax_parser.specs.declared.pattern.elements.Layout.{Layout}
 use Rattle.fluent_syntax_parser.proofs.patterns.Waiting.{as_item}
 use Rattle.fluent_syntax_parser.specs.declared.pattern.line.Line as rows
 use Rattle.fluent_syntax_parser.specs.declared.pattern.line.Piece as parts
@@ -73,17 +71,6 @@ module _ {E F : Type 0} (h : E → F) where
       rw (line_mapped edition common l, lines_mapped edition common ls)
       (sym (map-append (item_map h) (line_items edition common l) (flat_map (line_items edition common) ls)))
 
-  opening_mapped : (o : Option (Line E)) →
-      opening_items (option_map (line_map h) o) ≡ map (item_map h) (opening_items o)
-  opening_mapped None = refl
-  opening_mapped (Some l) = ending_mapped l.pieces l.ending
-
-  items_mapped : (edition : Edition) (common : Option ℕ) (y : layouts.Layout E) →
-      items_with edition common (layout_map h y) ≡ map (item_map h) (items_with edition common y)
-  items_mapped edition common y =
-      rw (opening_mapped y.opening, lines_mapped edition common y.lines)
-      (sym (map-append (item_map h) (opening_items y.opening) (flat_map (line_items edition common) y.lines)))
-
 -- ---- a piece as an item
 
 item_is : {S : Type 0} (p : parts.Piece S) → item_shape p ≡ as_item (piece_shape p)
@@ -97,46 +84,50 @@ items_are (p ∷ ps) = rw (item_is p, items_are ps) refl
 -- ---- what a reader has made, as its expressions are seen
 
 module _ {S X : Type 0} (v : S → X) where
-  item_seen : (x : parts.Piece S) → item_view v x ≡ item_map (expression_view v) (item_shape x)
+  item_seen : (x : parts.Piece S) → item_view v x ≡ item_map (boxed_expression_view v) (item_shape x)
   item_seen (part.Run from to) = refl
   item_seen (part.Placed e) = refl
 
   items_seen : (xs : List (parts.Piece S)) →
-      map (item_view v) xs ≡ map (item_map (expression_view v)) (map item_shape xs)
+      map (item_view v) xs ≡ map (item_map (boxed_expression_view v)) (map item_shape xs)
   items_seen [] = refl
   items_seen (x ∷ xs) = rw (item_seen x, items_seen xs) refl
 
-  piece_seen : (p : parts.Piece S) → piece_view v p ≡ piece_map (expression_view v) (piece_shape p)
+  piece_seen : (p : parts.Piece S) → piece_view v p ≡ piece_map (boxed_expression_view v) (piece_shape p)
   piece_seen (part.Run from to) = refl
   piece_seen (part.Placed e) = refl
 
   pieces_seen : (ps : List (parts.Piece S)) →
-      map (piece_view v) ps ≡ map (piece_map (expression_view v)) (map piece_shape ps)
+      map (piece_view v) ps ≡ map (piece_map (boxed_expression_view v)) (map piece_shape ps)
   pieces_seen [] = refl
   pieces_seen (p ∷ ps) = rw (piece_seen p, pieces_seen ps) refl
 
-  line_seen : (l : rows.Line S) → line_view v l ≡ line_map (expression_view v) (line_shape l)
+  line_seen : (l : rows.Line S) → line_view v l ≡ line_map (boxed_expression_view v) (line_shape l)
   line_seen l = rw (pieces_seen l.pieces.items) refl
 
   lines_seen : (ls : List (rows.Line S)) →
-      map (line_view v) ls ≡ map (line_map (expression_view v)) (map line_shape ls)
+      map (line_view v) ls ≡ map (line_map (boxed_expression_view v)) (map line_shape ls)
   lines_seen [] = refl
   lines_seen (l ∷ ls) = rw (line_seen l, lines_seen ls) refl
 
-  opening_seen : (o : Option (rows.Line S)) →
-      option_map (line_view v) o ≡ option_map (line_map (expression_view v)) (option_map line_shape o)
-  opening_seen None = refl
-  opening_seen (Some l) = ap Some (line_seen l)
-
-  layout_seen : (y : Layout S) → layout_view v y ≡ layout_map (expression_view v) (layout_shape y)
-  layout_seen y = rw (opening_seen y.opening, lines_seen y.lines.items) refl
-
-  -- the items of a layout
-  pub items_viewed : (edition : Edition) (common : Option ℕ) (y : Layout S) (all : List (parts.Piece S)) →
-      map item_shape all ≡ items_with edition common (layout_shape y) →
-      map (item_view v) all ≡ items_with edition common (layout_view v y)
-  items_viewed edition common y all same =
+  -- the items of the line on which a pattern opens
+  pub opening_viewed : (pieces all : List (parts.Piece S)) (end : Ending) →
+      map item_shape all ≡ with_ending (map piece_shape pieces) end →
+      map (item_view v) all ≡ with_ending (map (piece_view v) pieces) end
+  opening_viewed pieces all end same =
       items_seen all
-      ∙ ap (map (item_map (expression_view v))) same
-      ∙ sym (items_mapped (expression_view v) edition common (layout_shape y))
-      ∙ ap (items_with edition common) (sym (layout_seen y))
+      ∙ ap (map (item_map (boxed_expression_view v))) same
+      ∙ sym (ending_mapped (boxed_expression_view v) (map piece_shape pieces) end)
+      ∙ ap (λ ps. with_ending ps end) (sym (pieces_seen pieces))
+
+  -- the items of the other lines behind these
+  pub items_viewed : (edition : Edition) (common : Option ℕ) (opening all : List (parts.Piece S))
+      (lines : List (rows.Line S)) →
+      map item_shape all ≡ map item_shape opening ++ flat_map (line_items edition common) (map line_shape lines) →
+      map (item_view v) all ≡ map (item_view v) opening ++ flat_map (line_items edition common) (map (line_view v) lines)
+  items_viewed edition common opening all lines same =
+      let h = boxed_expression_view v in
+      items_seen all
+      ∙ ap (map (item_map h)) same
+      ∙ map-append (item_map h) (map item_shape opening) (flat_map (line_items edition common) (map line_shape lines))
+      ∙ rw (items_seen opening, lines_seen lines, lines_mapped h edition common (map line_shape lines)) refl

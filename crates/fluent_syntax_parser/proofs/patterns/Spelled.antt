@@ -12,11 +12,12 @@ use Rattle.fluent_syntax_grammar.specs.Elements as grammar
 use Rattle.fluent_syntax_grammar.specs.Elements.{if_any, pattern_of, trimmed_end}
 use Rattle.fluent_syntax_grammar.specs.Layout as layout
 use Rattle.fluent_syntax_grammar.specs.Layout.{least}
-use Rattle.fluent_syntax_parser.specs.Elements.{element_of, item_view, last_of, layout_view}
+use Rattle.fluent_syntax_parser.specs.Elements.{element_of, item_view, last_of}
 use Rattle.fluent_syntax_parser.specs.Layouts as layouts
-use Rattle.fluent_syntax_parser.specs.Layouts.{text, filled, counted, cut, items_with, item_of, layout_of}
+use Rattle.fluent_syntax_parser.specs.Layouts.{text, filled, counted, cut, item_of, line_items, line_of, opening_items}
+use Rattle.fluent_syntax_parser.specs.Lines.{line_view}
+use Rattle.fluent_syntax_parser.specs.declared.pattern.line.Line.{Line}
 use Rattle.fluent_syntax_parser.specs.declared.pattern.line.Piece.{Piece}
-use Rattle.fluent_syntax_parser.specs.declared.pattern.elements.Layout.{Layout}
 use Rattle.fluent_syntax_parser.proofs.patterns.Layouts.{any_of, common_of, cut_of, items_of}
 
 if_some : {X : Type 0} (xs : List (ElementTree X)) (x : ElementTree X) →
@@ -64,16 +65,19 @@ module _ {X : Type 0} (f : Span → X) (t : List ℕ) where
       any_of f (grammar.spelled t (grammar.cut t (grammar.items edition y)))
       ∙ ap if_any (spelled_of (grammar.cut t (grammar.items edition y)))
 
-  module _ {S : Type 0} (v : S → X) (edition : Edition) (laid : Layout S) (common : Option ℕ) (all : List (Piece S))
-      (indent : common ≡ least (flat_map (counted edition) (layout_view v laid).lines))
-      (made : map (item_view v) all ≡ items_with edition common (layout_view v laid))
-      (y : layout.Layout) (same : layout_view v laid ≡ layout_of f y) where
+  module _ {S : Type 0} (v : S → X) (edition : Edition) (opening : List (Piece S)) (lines : List (Line S))
+      (common : Option ℕ) (all : List (Piece S))
+      (indent : common ≡ least (flat_map (counted edition) (map (line_view v) lines)))
+      (made : map (item_view v) all
+      ≡ map (item_view v) opening ++ flat_map (line_items edition common) (map (line_view v) lines))
+      (y : layout.Layout) (same_opening : map (item_view v) opening ≡ opening_items (option_map (line_of f) y.opening))
+      (same_lines : map (line_view v) lines ≡ map (line_of f) y.lines) where
     all_items : map (item_view v) all ≡ map (item_of f) (grammar.items edition y)
     all_items =
         made
-        ∙ ap (λ c. items_with edition c (layout_view v laid))
-        (indent ∙ ap (λ l. least (flat_map (counted edition) l.lines)) same ∙ common_of f edition y)
-        ∙ ap (items_with edition (layout.common_indent edition y)) same
+        ∙ ap (λ c. map (item_view v) opening ++ flat_map (line_items edition c) (map (line_view v) lines))
+        (indent ∙ ap (λ ls. least (flat_map (counted edition) ls)) same_lines ∙ common_of f edition y)
+        ∙ rw (same_opening, same_lines) refl
         ∙ items_of f edition y
 
     all_cut : cut t (map (item_view v) all) ≡ map (item_of f) (grammar.cut t (grammar.items edition y))

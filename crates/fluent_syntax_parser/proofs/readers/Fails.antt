@@ -26,7 +26,7 @@ use Rattle.fluent_syntax_grammar.proofs.FunctionalRules.{functional_arrow}
 use Rattle.fluent_syntax_grammar.proofs.FunctionalWords.{functional_blank, functional_optional, functional_token}
 use Rattle.fluent_syntax_parser.specs.declared.fault.ReadFault.{ReadFault}
 use Rattle.fluent_syntax_parser.specs.declared.fault.ReadFault.TheVariants as faults
-use Rattle.fluent_syntax_parser.specs.declared.fault.Refusal.{Refusal}
+use Rattle.fluent_syntax_parser.specs.declared.fault.Fault.{Fault}
 use Rattle.fluent_syntax_parser.specs.Meets.{Fails, Meets, Refuses, from_of, kind_at, refused, to_of, too_deep}
 use Rattle.fluent_syntax_parser.specs.Meets.{no_memory}
 
@@ -43,12 +43,13 @@ module _ {A B : Type 0} {t : List ℕ} {c : Construct A} {d : A → Construct B}
   fails_next x r no_memory = no_memory
 
 -- what a refusal shows
-pub shown : {A : Type 0} {t : List ℕ} {c : Construct A} {i : ℕ} {r : Refusal} → Fails t c i (faults.Refused r) →
-    c i (Refused (kind_at t r.fault r.place) (from_of r.fault r.place) (to_of r.fault r.place))
+pub shown : {A : Type 0} {t : List ℕ} {c : Construct A} {i : ℕ} {f : Fault} {from place : ℕ} →
+    Fails t c i (faults.Refused f from place) →
+    c i (Refused (kind_at t f from place) (from_of f from place) (to_of f place))
 shown (refused h) = h _ _ _ (refl, refl, refl)
 
-pub refuses_there : {A : Type 0} {t : List ℕ} {c : Construct A} {i : ℕ} {r : Refusal} → Fails t c i (faults.Refused r) →
-    Refuses t c i r
+pub refuses_there : {A : Type 0} {t : List ℕ} {c : Construct A} {i : ℕ} {f : Fault} {from place : ℕ} →
+    Fails t c i (faults.Refused f from place) → Refuses t c i (record { fault = f; from = from; place = place })
 refuses_there (refused h) = h
 
 pub too_deep_there : {A : Type 0} {t : List ℕ} {c : Construct A} {i : ℕ} → Fails t c i faults.TooDeep → TooDeep c i

@@ -51,7 +51,7 @@ impl<'s, 't, M: MakeTexts> Reader<'s, 't, M> {
         loop {
             match self.add_attribute(&mut attributes, nesting, place) {
                 Ok(next) => place = next,
-                Err(ReadFault::Refused(_)) => return Ok((attributes, place)),
+                Err(ReadFault::Refused { .. }) => return Ok((attributes, place)),
                 Err(ReadFault::TooDeep) => return Err(ReadFault::TooDeep),
                 Err(ReadFault::Memory) => return Err(ReadFault::Memory),
             }

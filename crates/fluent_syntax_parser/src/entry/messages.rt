@@ -58,10 +58,11 @@ impl<'s, 't, M: MakeTexts> Reader<'s, 't, M> {
         let (fields, place) = self.get_fields(nesting, end)?;
         let Fields { value, attributes } = fields;
         if value.is_none() && attributes.is_empty() {
-            return Err(ReadFault::Refused(Refusal {
-                fault: Fault::MessageField(name),
+            return Err(ReadFault::Refused {
+                fault: Fault::MessageField,
+                from: start,
                 place,
-            }));
+            });
         }
         let id = self.identifier(name)?;
         body.push(Entry::Message(Message {
@@ -104,10 +105,11 @@ impl<'s, 't, M: MakeTexts> Reader<'s, 't, M> {
                 }))?;
                 Ok(place)
             }
-            None => Err(ReadFault::Refused(Refusal {
-                fault: Fault::TermField { start, name },
+            None => Err(ReadFault::Refused {
+                fault: Fault::TermField,
+                from: letter,
                 place,
-            })),
+            }),
         }
     }
 }

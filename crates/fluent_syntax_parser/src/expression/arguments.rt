@@ -1,13 +1,16 @@
 //! Argument lists.
-ghost use Rattle.std.specs.Prelude.{◌≡◌, ◌-◌, ◌<◌, ◌≤◌, [], length, IfOk};
+ghost use Rattle.std.specs.Prelude.{◌≡◌, ◌-◌, ◌<◌, ◌≤◌, ◌++◌, ◌∷◌, [], length, IfOk, OnOk};
 ghost use Rattle.fluent_syntax_tree.specs.Spans.{bytes_at};
-ghost use Rattle.fluent_syntax_tree.specs.Tree.{arguments_map, inline_map, maybe_map};
+ghost use Rattle.fluent_syntax_tree.specs.Tree.{arguments_map, inline, maybe_map};
 ghost use Rattle.fluent_syntax_tree.specs.View.{arguments_view, inline_view};
+ghost use Rattle.fluent_syntax_tree.specs.declared.ast.InlineExpression.{InlineExpression};
+ghost use Rattle.fluent_syntax_tree.specs.declared.ast.NamedArgument.{NamedArgument};
 ghost use Rattle.fluent_syntax_grammar.specs.Arguments.{argument_value, is_used, more_arguments, separator};
 ghost use Rattle.fluent_syntax_grammar.specs.Construct.{Read, at_each};
 ghost use Rattle.fluent_syntax_grammar.specs.Family.{call_arguments};
 ghost use Rattle.fluent_syntax_grammar.specs.Grammar.{within};
 ghost use Rattle.fluent_syntax_grammar.specs.Starts.{start};
+ghost use Rattle.fluent_syntax_parser.specs.Boxed.{boxed_expression_view, mapped_inline, IsInline};
 ghost use Rattle.fluent_syntax_parser.specs.Gathered.{maybe_view, names_in_order};
 ghost use Rattle.fluent_syntax_parser.specs.Made.{Makes};
 
@@ -17,8 +20,9 @@ use crate::fault::{Fault, ReadFault, Refusal};
 use crate::reader::Reader;
 use crate::source::Source;
 use crate::texts::MakeTexts;
-use fluent_syntax_tree::ast::{CallArguments, InlineExpression, NamedArgument};
+use fluent_syntax_tree::ast::{CallArguments, Expression, InlineExpression, NamedArgument};
 use fluent_syntax_tree::spans::Span;
+use std::alloc::AllocError;
 
 impl<'s> Source<'s> {
     /// Whether a name is one of the names, by its bytes.
@@ -47,17 +51,53 @@ impl<'s> Source<'s> {
 }
 
 impl<'s, 't, M: MakeTexts> Reader<'s, 't, M> {
+    /// Adds a positional argument.
+    #[inline(never)]
+    fn add_positional(
+        &self,
+        expression: Box<Expression<M::Text>>,
+        positional: &mut Vec<InlineExpression<M::Text>>,
+    ) -> Result<(), AllocError>
+        requires { IsInline M.made expression.value }
+        ensures { OnOk result ((argument : InlineExpression M.Text)
+            × (positional.new.items ≡ positional.old.items ++ argument ∷ [])
+            × (boxed_expression_view M.made expression ≡ inline (inline_view M.made argument))) }
+    {
+        positional.push(self.inline_of(expression))?;
+        Ok(())
+    }
+
+    /// Adds a named argument.
+    #[inline(never)]
+    fn add_named(
+        &self,
+        name: Span,
+        value: Box<Expression<M::Text>>,
+        named: &mut Vec<NamedArgument<M::Text>>,
+    ) -> Result<(), AllocError>
+        requires { IsInline M.made value.value }
+        ensures { let f = M.source self.now.texts.now in OnOk result ((argument : NamedArgument M.Text)
+            × (named.new.items ≡ named.old.items ++ argument ∷ []) × (M.made argument.name.name ≡ f name)
+            × (boxed_expression_view M.made value ≡ inline (inline_view M.made argument.value))) }
+    {
+        let name = self.identifier(name)?;
+        let value = self.inline_of(value);
+        named.push(NamedArgument { name, value })?;
+        Ok(())
+    }
+
     /// Reads the value of a named argument: a string, a number without `-`, a function or a message reference.
     #[cycle(readers)]
     fn get_argument_value(
         &self,
         nesting: usize,
         ptr: usize,
-    ) -> Result<(InlineExpression<M::Text>, usize), ReadFault>
+    ) -> Result<(Box<Expression<M::Text>>, usize), ReadFault>
         requires { ptr ≤ length self.now.source.bytes.now }
         ensures meets { let t = self.now.source.bytes.now in
-            Makes t (inline_map (M.source self.now.texts.now))
-            (at_each (start t) (argument_value t (within self.now.edition t nesting))) (inline_view M.made) ptr result }
+            Makes t (mapped_inline (M.source self.now.texts.now))
+            (at_each (start t) (argument_value t (within self.now.edition t nesting))) (boxed_expression_view M.made)
+            ptr result }
         ensures within { IfOk result (λ read. (ptr < read.1) × (read.1 ≤ length self.now.source.bytes.now)) }
     {
         match self.source.start(ptr) {
@@ -65,10 +105,11 @@ impl<'s, 't, M: MakeTexts> Reader<'s, 't, M> {
                 let (value, end) = self.get_inline_expression(nesting, ptr)?;
                 Ok((value, end))
             }
-            _ => Err(ReadFault::Refused(Refusal {
+            _ => Err(ReadFault::Refused {
                 fault: Fault::Literal,
+                from: ptr,
                 place: ptr,
-            })),
+            }),
         }
     }
 
@@ -92,31 +133,37 @@ impl<'s, 't, M: MakeTexts> Reader<'s, 't, M> {
         let mut place = ptr;
         while !self.source.is_byte_at(b')', place) {
             if place == self.source.bytes.len() {
-                return Err(ReadFault::Refused(Refusal {
+                return Err(ReadFault::Refused {
                     fault: Fault::Token(b')'),
+                    from: place,
                     place,
-                }));
+                });
             }
             let (expression, next) = self.get_inline_expression(nesting, place)?;
-            match self.argument_name(&expression, place) {
+            match self.argument_name(self.inline_in(&expression), place) {
                 Some(name) if self.source.is_byte_at(b':', next) => {
                     if noted.has(&self.source, name) {
-                        let fault = Fault::Duplicated(name);
-                        return Err(ReadFault::Refused(Refusal { fault, place: next }));
+                        return Err(ReadFault::Refused {
+                            fault: Fault::Duplicated,
+                            from: place,
+                            place: next,
+                        });
                     }
                     let start = self.source.skip_blank(next + 1);
                     let (value, end) = self.get_argument_value(nesting, start)?;
                     noted.note(&self.source, name)?;
-                    let name = self.identifier(name)?;
-                    named.push(NamedArgument { name, value })?;
+                    self.add_named(name, value, &mut named)?;
                     place = self.source.skip_separator(end);
                 }
                 _ => {
                     if !noted.is_empty() {
-                        let fault = Fault::PositionalAfterNamed;
-                        return Err(ReadFault::Refused(Refusal { fault, place: next }));
+                        return Err(ReadFault::Refused {
+                            fault: Fault::PositionalAfterNamed,
+                            from: next,
+                            place: next,
+                        });
                     }
-                    positional.push(expression)?;
+                    self.add_positional(expression, &mut positional)?;
                     place = self.source.skip_separator(next);
                 }
             }

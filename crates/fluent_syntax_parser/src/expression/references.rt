@@ -2,11 +2,12 @@
 ghost use Rattle.std.specs.Prelude.{◌≡◌, ◌≤◌, length, option_map, IfOk};
 ghost use Rattle.std.specs.List.{list_all};
 ghost use Rattle.fluent_syntax_tree.specs.Spans.{bytes_at};
-ghost use Rattle.fluent_syntax_tree.specs.Tree.{MaybeArguments, inline_map, maybe_map};
-ghost use Rattle.fluent_syntax_tree.specs.View.{identifier_view, inline_view};
+ghost use Rattle.fluent_syntax_tree.specs.Tree.{MaybeArguments, inline, maybe_map, option_texts, term_reference};
+ghost use Rattle.fluent_syntax_tree.specs.View.{identifier_view};
 ghost use Rattle.fluent_syntax_tree.specs.declared.spans.Span.{Span};
 ghost use Rattle.fluent_syntax_grammar.specs.Arguments.{accessor};
 ghost use Rattle.fluent_syntax_grammar.specs.Inline.{is_callee_byte, named_reference};
+ghost use Rattle.fluent_syntax_parser.specs.Boxed.{boxed_expression_view, mapped_inline};
 ghost use Rattle.fluent_syntax_parser.specs.Gathered.{maybe_view};
 ghost use Rattle.fluent_syntax_parser.specs.Made.{Makes};
 ghost use Rattle.fluent_syntax_parser.specs.Meets.{Answers};
@@ -15,8 +16,9 @@ use crate::fault::{Fault, ReadFault, Refusal};
 use crate::reader::Reader;
 use crate::source::Source;
 use crate::texts::MakeTexts;
-use fluent_syntax_tree::ast::{CallArguments, Identifier, InlineExpression};
+use fluent_syntax_tree::ast::{CallArguments, Expression, Identifier, InlineExpression};
 use fluent_syntax_tree::spans::Span;
+use std::alloc::AllocError;
 
 impl<'s> Source<'s> {
     /// Whether a name holds only `A` to `Z`, digits, `_` and `-`.
@@ -53,35 +55,64 @@ impl<'s> Source<'s> {
 impl<'s, 't, M: MakeTexts> Reader<'s, 't, M> {
     /// The reference that a name with its arguments is: of a function with arguments, and without of a message, perhaps
     /// with an attribute.
+    #[inline(never)]
     pub(crate) fn get_named_reference(
         &self,
         name: Span,
         arguments: Option<CallArguments<M::Text>>,
         ptr: usize,
-    ) -> Result<(InlineExpression<M::Text>, usize), ReadFault>
+    ) -> Result<(Box<Expression<M::Text>>, usize), ReadFault>
         requires { ptr ≤ length self.now.source.bytes.now }
         ensures meets { let t = self.now.source.bytes.now in let f = M.source self.now.texts.now in
             (given : MaybeArguments Span) → maybe_view M.made arguments ≡ maybe_map f given →
-            Makes t (inline_map f) (named_reference t name given) (inline_view M.made) ptr result }
+            Makes t (mapped_inline f) (named_reference t name given) (boxed_expression_view M.made) ptr result }
         ensures within { IfOk result (λ read. (ptr ≤ read.1) × (read.1 ≤ length self.now.source.bytes.now)) }
     {
         match arguments {
             Some(arguments) => {
                 if !self.source.is_callee(name) {
-                    return Err(ReadFault::Refused(Refusal {
+                    return Err(ReadFault::Refused {
                         fault: Fault::Callee,
+                        from: ptr,
                         place: ptr,
-                    }));
+                    });
                 }
                 let id = self.identifier(name)?;
-                Ok((InlineExpression::FunctionReference { id, arguments }, ptr))
+                let reference = InlineExpression::FunctionReference { id, arguments };
+                let expression = Box::new(self.alloc, Expression::Inline(reference))?;
+                Ok((expression, ptr))
             }
             None => {
                 let (attribute, ptr) = self.source.get_attribute_accessor(ptr)?;
                 let id = self.identifier(name)?;
                 let attribute = self.attribute(attribute)?;
-                Ok((InlineExpression::MessageReference { id, attribute }, ptr))
+                let reference = InlineExpression::MessageReference { id, attribute };
+                let expression = Box::new(self.alloc, Expression::Inline(reference))?;
+                Ok((expression, ptr))
             }
         }
+    }
+
+    /// A box with the reference to a term of that name.
+    #[inline(never)]
+    pub(crate) fn boxed_term(
+        &self,
+        name: Span,
+        attribute: Option<Identifier<Span>>,
+        arguments: Option<CallArguments<M::Text>>,
+    ) -> Result<Box<Expression<M::Text>>, AllocError>
+        ensures { let f = M.source self.now.texts.now in IfOk result (λ boxed. boxed_expression_view M.made boxed
+            ≡ inline (term_reference (f name) (option_texts f (option_map (identifier_view (λ s. s)) attribute))
+            (maybe_view M.made arguments))) }
+    {
+        let id = self.identifier(name)?;
+        let attribute = self.attribute(attribute)?;
+        let reference = InlineExpression::TermReference {
+            id,
+            attribute,
+            arguments,
+        };
+        let boxed = Box::new(self.alloc, Expression::Inline(reference))?;
+        Ok(boxed)
     }
 }

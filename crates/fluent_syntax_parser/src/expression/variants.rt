@@ -1,21 +1,23 @@
 //! The variants of a select.
-ghost use Rattle.std.specs.Prelude.{◌≡◌, ◌-◌, ◌<◌, ◌≤◌, false, length, IfOk};
-ghost use Rattle.fluent_syntax_tree.specs.Tree.{variants_map};
-ghost use Rattle.fluent_syntax_tree.specs.View.{key_view};
+ghost use Rattle.std.specs.Prelude.{◌≡◌, ◌-◌, ◌<◌, ◌≤◌, ◌++◌, ◌∷◌, [], false, length, IfOk, OnOk};
+ghost use Rattle.fluent_syntax_tree.specs.Tree.{key_map, variant, variants_map};
+ghost use Rattle.fluent_syntax_tree.specs.View.{key_view, pattern_view, variant_view};
+ghost use Rattle.fluent_syntax_tree.specs.declared.ast.Variant.{Variant};
 ghost use Rattle.fluent_syntax_grammar.specs.Grammar.{within};
 ghost use Rattle.fluent_syntax_grammar.specs.Places.{has};
 ghost use Rattle.fluent_syntax_grammar.specs.Variants.{has_default, is_number_start, more_variants, variant_key};
 ghost use Rattle.fluent_syntax_parser.specs.Gathered.{variants_view};
-ghost use Rattle.fluent_syntax_parser.specs.Made.{Makes};
+ghost use Rattle.fluent_syntax_parser.specs.Made.{Fills};
 ghost use Rattle.fluent_syntax_parser.specs.Meets.{Answers};
 
 use crate::fault::{Fault, ReadFault, Refusal};
 use crate::reader::Reader;
 use crate::source::Source;
 use crate::texts::MakeTexts;
-use fluent_syntax_tree::ast::{Variant, VariantKey};
+use fluent_syntax_tree::ast::{Pattern, Variant, VariantKey};
 use fluent_syntax_tree::edition::Edition;
 use fluent_syntax_tree::spans::Span;
+use std::alloc::AllocError;
 
 /// Whether a list of variants may end, where a star may stand before its end.
 fn has_default(edition: Edition, starred: bool, star: bool) -> bool
@@ -53,41 +55,67 @@ impl<'s> Source<'s> {
 }
 
 impl<'s, 't, M: MakeTexts> Reader<'s, 't, M> {
-    /// Reads variants up to the place where neither `[` nor `*[` stands.
+    /// Adds a variant.
+    #[inline(never)]
+    fn add_variant(
+        &self,
+        key: VariantKey<Span>,
+        value: Pattern<M::Text>,
+        default: bool,
+        variants: &mut Vec<Variant<M::Text>>,
+    ) -> Result<(), AllocError>
+        ensures { let f = M.source self.now.texts.now in OnOk result ((added : Variant M.Text)
+            × (variants.new.items ≡ variants.old.items ++ added ∷ [])
+            × (variant_view M.made added ≡ variant (key_map f (key_view (λ s. s) key)) (pattern_view M.made value)
+            default)) }
+    {
+        let key = self.key(key)?;
+        variants.push(Variant {
+            key,
+            value,
+            default,
+        })?;
+        Ok(())
+    }
+
+    /// Gathers variants up to the place where neither `[` nor `*[` stands, in an empty list.
     #[cycle(readers)]
     #[inline(never)]
-    pub(crate) fn get_variants(
+    pub(crate) fn gather_variants(
         &self,
         nesting: usize,
         ptr: usize,
-    ) -> Result<(Vec<Variant<M::Text>>, usize), ReadFault>
-        requires { ptr ≤ length self.now.source.bytes.now }
+        variants: &mut Vec<Variant<M::Text>>,
+    ) -> Result<usize, ReadFault>
+        requires within { ptr ≤ length self.now.source.bytes.now }
+        requires empty { variants.old.items ≡ [] }
         ensures meets { let t = self.now.source.bytes.now in
-            Makes t (variants_map (M.source self.now.texts.now))
-            (more_variants self.now.edition t (within self.now.edition t nesting) false)
-            (λ variants. variants_view M.made variants.items) ptr result }
-        ensures within { IfOk result (λ read. (ptr ≤ read.1) × (read.1 ≤ length self.now.source.bytes.now)) }
+            Fills t (variants_map (M.source self.now.texts.now))
+            (more_variants self.now.edition t (within self.now.edition t nesting) false) (variants_view M.made)
+            variants.new.items ptr result }
+        ensures within { IfOk result (λ end. (ptr ≤ end) × (end ≤ length self.now.source.bytes.now)) }
     {
-        let mut variants = Vec::new(self.alloc);
         let mut starred = false;
         let mut place = ptr;
         loop {
             let (star, next) = self.source.take_byte_if(b'*', place);
             if starred && star {
-                return Err(ReadFault::Refused(Refusal {
+                return Err(ReadFault::Refused {
                     fault: Fault::SecondDefault,
+                    from: next,
                     place: next,
-                }));
+                });
             }
             let (bracket, next) = self.source.take_byte_if(b'[', next);
             if !bracket {
                 if has_default(self.edition, starred, star) {
-                    return Ok((variants, next));
+                    return Ok(next);
                 }
-                return Err(ReadFault::Refused(Refusal {
+                return Err(ReadFault::Refused {
                     fault: Fault::NoDefault,
+                    from: next,
                     place: next,
-                }));
+                });
             }
             let start = self.source.skip_blank(next);
             let (key, next) = self.source.get_variant_key(start)?;
@@ -95,17 +123,13 @@ impl<'s, 't, M: MakeTexts> Reader<'s, 't, M> {
             let next = self.source.expect_byte(b']', next)?;
             let (value, next) = self.get_pattern(nesting, next)?;
             let Some(value) = value else {
-                return Err(ReadFault::Refused(Refusal {
+                return Err(ReadFault::Refused {
                     fault: Fault::Value,
+                    from: next,
                     place: next,
-                }));
+                });
             };
-            let key = self.key(key)?;
-            variants.push(Variant {
-                key,
-                value,
-                default: star,
-            })?;
+            self.add_variant(key, value, star, variants)?;
             starred |= star;
             place = self.source.skip_blank(next);
         }

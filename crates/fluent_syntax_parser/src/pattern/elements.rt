@@ -1,22 +1,15 @@
 //! The items that the lines of a pattern spell.
-ghost use Rattle.std.specs.Prelude.{◌≡◌, ◌+◌, ◌<◌, ◌^◌, ◌++◌, [], map, option_map, IfOk, OnOk};
+ghost use Rattle.std.specs.Prelude.{◌≡◌, ◌+◌, ◌<◌, ◌^◌, ◌++◌, [], map, OnOk};
 ghost use Rattle.std.specs.List.{flat_map};
 ghost use Rattle.fluent_syntax_parser.specs.Elements.{bare_items, flushed, indent_of, item_shape, kept_place};
-ghost use Rattle.fluent_syntax_parser.specs.Elements.{layout_shape, leading, waiting};
-ghost use Rattle.fluent_syntax_parser.specs.Layouts.{items_with, line_items, opening_items, with_ending};
+ghost use Rattle.fluent_syntax_parser.specs.Elements.{leading, waiting};
+ghost use Rattle.fluent_syntax_parser.specs.Layouts.{line_items, with_ending};
 ghost use Rattle.fluent_syntax_parser.specs.Endings.{EndsWithin};
 ghost use Rattle.fluent_syntax_parser.specs.Lines.{ending_view, line_shape, piece_shape};
 
 use crate::pattern::line::{Ending, Line, Piece};
 use fluent_syntax_tree::edition::Edition;
-use std::alloc::{AllocError, Global};
-
-/// The source of a pattern: the line on which it opens, if something stands there, and the later lines.
-#[derive(Drop)]
-pub(crate) struct Layout<T> {
-    pub(crate) opening: Option<Line<T>>,
-    pub(crate) lines: Vec<Line<T>>,
-}
+use std::alloc::AllocError;
 
 /// Adds the run that waits, if one does.
 fn add_waiting<T: Drop>(
@@ -184,7 +177,10 @@ fn add_line<T: Drop>(
 }
 
 /// Ends the line on which a pattern opens: its pieces are items then. An LF belongs to the text before it.
-fn end_opening<T: Drop>(ending: Ending, pieces: &mut Vec<Piece<T>>) -> Result<(), AllocError>
+pub(crate) fn end_opening<T: Drop>(
+    ending: Ending,
+    pieces: &mut Vec<Piece<T>>,
+) -> Result<(), AllocError>
     requires { EndsWithin ending }
     ensures { OnOk result (map item_shape pieces.new.items
         ≡ with_ending (map piece_shape pieces.old.items) (ending_view ending)) }
@@ -199,26 +195,9 @@ fn end_opening<T: Drop>(ending: Ending, pieces: &mut Vec<Piece<T>>) -> Result<()
     }
 }
 
-/// The items of the line on which a pattern opens, if something stands there.
-fn opening_items<T: Drop>(
-    alloc: Global,
-    opening: Option<Line<T>>,
-) -> Result<Vec<Piece<T>>, AllocError>
-    ensures { IfOk result (λ items. map item_shape items.items ≡ opening_items (option_map line_shape opening)) }
-{
-    match opening {
-        None => Ok(Vec::new(alloc)),
-        Some(line) => {
-            let mut items = line.pieces;
-            end_opening(line.ending, &mut items)?;
-            Ok(items)
-        }
-    }
-}
-
 /// Adds the items of the other lines, under a common indent.
 #[inline(never)]
-fn add_lines<T: Drop>(
+pub(crate) fn add_lines<T: Drop>(
     edition: Edition,
     common: Option<usize>,
     lines: Vec<Line<T>>,
@@ -231,22 +210,4 @@ fn add_lines<T: Drop>(
         add_line(edition, common, line, items)?;
     }
     Ok(())
-}
-
-/// The items of all lines, under a common indent.
-pub(crate) fn items_of<T: Drop>(
-    alloc: Global,
-    edition: Edition,
-    common: Option<usize>,
-    layout: Layout<T>,
-) -> Result<Vec<Piece<T>>, AllocError>
-    ensures { IfOk result (λ items. map item_shape items.items ≡ items_with edition common (layout_shape layout)) }
-{
-    let Layout { opening, lines } = layout;
-    let mut items = opening_items(alloc, opening)?;
-    if lines.is_empty() {
-        return Ok(items);
-    }
-    add_lines(edition, common, lines, &mut items)?;
-    Ok(items)
 }

@@ -8,7 +8,7 @@ use fluent_syntax_tree::ast::Expression;
 #[derive(Drop)]
 pub(crate) enum Piece<T> {
     Run { from: usize, to: usize },
-    Placed { expression: Expression<T> },
+    Placed { expression: Box<Expression<T>> },
 }
 
 /// How a line ends: LF or CRLF, which begins at the place, or the text's end.

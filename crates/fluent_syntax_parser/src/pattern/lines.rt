@@ -1,16 +1,18 @@
 //! The lines of a pattern.
 ghost use Rattle.std.specs.Prelude.{◌≡◌, ◌+◌, ◌-◌, ◌<◌, ◌≤◌, length, map, slice_get, IfOk, None, Some, false};
-ghost use Rattle.std.specs.Prelude.{◌==◌, if◌then◌else◌};
+ghost use Rattle.std.specs.Prelude.{◌==◌, ◌++◌, ◌∷◌, ◌^◌, [], true, if◌then◌else◌, IfErr, OnOk};
 ghost use Rattle.fluent_syntax_grammar.specs.Construct.{Read};
 ghost use Rattle.fluent_syntax_grammar.specs.Grammar.{within};
 ghost use Rattle.fluent_syntax_grammar.specs.Layout.{crlf_at, lf_at};
-ghost use Rattle.fluent_syntax_grammar.specs.Lines.{belongs, ending, is_run_place, more_lines, more_pieces};
-ghost use Rattle.fluent_syntax_grammar.specs.Places.{has_eol, Stretch, Word};
-ghost use Rattle.fluent_syntax_parser.specs.Made.{Makes};
+ghost use Rattle.fluent_syntax_grammar.specs.Lines.{belongs, ending, is_run_place, line, more_lines, more_pieces};
+ghost use Rattle.fluent_syntax_grammar.specs.Places.{has_eol, InlineBlank, Stretch, Word};
+ghost use Rattle.fluent_syntax_parser.specs.Made.{Adds, Fills};
 ghost use Rattle.fluent_syntax_parser.specs.Endings.{EndsWithin};
 ghost use Rattle.fluent_syntax_parser.specs.Lanes.{is_passed};
 ghost use Rattle.fluent_syntax_parser.specs.Layouts.{line_of, piece_of};
 ghost use Rattle.fluent_syntax_parser.specs.Lines.{ending_view, line_view, piece_view};
+ghost use Rattle.fluent_syntax_parser.specs.declared.pattern.line.Line.{Line};
+ghost use Rattle.fluent_syntax_parser.specs.declared.pattern.line.Piece.TheVariants.{Placed, Run};
 
 use crate::fault::{Fault, ReadFault, Refusal};
 use crate::pattern::line::{Ending, Line, Piece};
@@ -18,7 +20,9 @@ use crate::reader::Reader;
 use crate::source::Source;
 use crate::texts::MakeTexts;
 use crate::words::lanes::{LANES, text_run};
+use fluent_syntax_tree::ast::Expression;
 use memchr::memchr3;
+use std::alloc::AllocError;
 
 /// The ending at a place, by where it ends.
 fn ending_at(place: usize, next: usize) -> Ending
@@ -92,6 +96,7 @@ impl<'s> Source<'s> {
         requires { ptr ≤ length self.now.bytes.now }
         ensures meets { ending self.now.bytes.now ptr (Read (ending_view result.0) result.1) }
         ensures within { (ptr ≤ result.1) × (result.1 ≤ length self.now.bytes.now) }
+        ensures further { has_eol self.now.bytes.now ptr ≡ true → ptr < result.1 }
         ensures ends { EndsWithin result.0 }
     {
         match self.eol_end(ptr) {
@@ -101,44 +106,68 @@ impl<'s> Source<'s> {
     }
 }
 
+/// Adds a run of text to the pieces of a line.
+#[inline(never)]
+fn add_run<T: Drop>(from: usize, to: usize, pieces: &mut Vec<Piece<T>>) -> Result<(), AllocError>
+    ensures { OnOk result (pieces.new.items ≡ pieces.old.items ++ Run from to ∷ []) }
+{
+    pieces.push(Piece::Run { from, to })?;
+    Ok(())
+}
+
+/// Adds the placeable of an expression to the pieces of a line.
+#[inline(never)]
+fn add_placed<T: Drop>(
+    expression: Box<Expression<T>>,
+    pieces: &mut Vec<Piece<T>>,
+) -> Result<(), AllocError>
+    ensures { OnOk result (pieces.new.items ≡ pieces.old.items ++ Placed expression ∷ []) }
+{
+    pieces.push(Piece::Placed { expression })?;
+    Ok(())
+}
+
 impl<'s, 't, M: MakeTexts> Reader<'s, 't, M> {
-    /// Reads the rest of a line, up to its ending.
+    /// Gathers the pieces of the rest of a line, up to its ending, in an empty list.
     #[cycle(readers)]
-    pub(crate) fn get_pieces(
+    #[inline(always)]
+    pub(crate) fn gather_pieces(
         &self,
         nesting: usize,
         ptr: usize,
-    ) -> Result<(Vec<Piece<M::Text>>, usize), ReadFault>
-        requires { ptr ≤ length self.now.source.bytes.now }
+        pieces: &mut Vec<Piece<M::Text>>,
+    ) -> Result<usize, ReadFault>
+        requires within { ptr ≤ length self.now.source.bytes.now }
+        requires empty { pieces.old.items ≡ [] }
         ensures meets { let t = self.now.source.bytes.now in
-            Makes t (map (piece_of (M.source self.now.texts.now))) (more_pieces t (within self.now.edition t nesting))
-            (λ pieces. map (piece_view M.made) pieces.items) ptr result }
-        ensures within { IfOk result (λ read. (ptr ≤ read.1) × (read.1 ≤ length self.now.source.bytes.now)) }
+            Fills t (map (piece_of (M.source self.now.texts.now))) (more_pieces t (within self.now.edition t nesting))
+            (map (piece_view M.made)) pieces.new.items ptr result }
+        ensures within { IfOk result (λ end. (ptr ≤ end) × (end ≤ length self.now.source.bytes.now)) }
         ensures stops { let t = self.now.source.bytes.now in
-            IfOk result (λ read. has_eol t read.1 ≡ false → slice_get t read.1 ≡ None) }
+            IfOk result (λ end. has_eol t end ≡ false → slice_get t end ≡ None) }
     {
-        let mut pieces = Vec::new(self.alloc);
         let mut place = ptr;
         loop {
             match self.source.byte_at(place) {
-                None => return Ok((pieces, place)),
+                None => return Ok(place),
                 Some(byte) => {
                     if self.source.is_eol_at(place) {
-                        return Ok((pieces, place));
+                        return Ok(place);
                     }
                     if byte == b'}' {
-                        return Err(ReadFault::Refused(Refusal {
+                        return Err(ReadFault::Refused {
                             fault: Fault::UnbalancedBrace,
+                            from: place,
                             place,
-                        }));
+                        });
                     }
                     if byte == b'{' {
                         let (expression, next) = self.get_placeable(nesting, place)?;
-                        pieces.push(Piece::Placed { expression })?;
+                        add_placed(expression, pieces)?;
                         place = next;
                     } else {
                         let to = self.source.run_end(place);
-                        pieces.push(Piece::Run { from: place, to })?;
+                        add_run(place, to, pieces)?;
                         place = to;
                     }
                 }
@@ -146,53 +175,86 @@ impl<'s, 't, M: MakeTexts> Reader<'s, 't, M> {
         }
     }
 
-    /// Reads the lines that belong to a pattern, from a line's start on.
+    /// Adds the line whose pieces end at a place, and gives where the next line begins.
+    #[inline(never)]
+    fn end_line(
+        &self,
+        start: usize,
+        spaces: usize,
+        pieces: Vec<Piece<M::Text>>,
+        end: usize,
+        lines: &mut Vec<Line<M::Text>>,
+    ) -> Result<usize, AllocError>
+        requires fits { start + spaces < 2 ^ 64 }
+        requires within { end ≤ length self.now.source.bytes.now }
+        ensures adds { let t = self.now.source.bytes.now in let seen = map (piece_view M.made) pieces.items in
+            IfOk result (λ next. (added : Line M.Text) × (found : _)
+            × (lines.new.items ≡ lines.old.items ++ added ∷ [])
+            × (line_view M.made added ≡ record { start = start; spaces = spaces; pieces = seen; ending = found })
+            × ending t end (Read found next)) }
+        ensures within { IfOk result (λ next. (end ≤ next) × (next ≤ length self.now.source.bytes.now)) }
+        ensures further { let t = self.now.source.bytes.now in
+            IfOk result (λ next. has_eol t end ≡ true → end < next) }
+        ensures stays { IfErr result (λ _. lines.new.items ≡ lines.old.items) }
+    {
+        let (ending, next) = self.source.get_ending(end);
+        lines.push(Line {
+            start,
+            spaces,
+            pieces,
+            ending,
+        })?;
+        Ok(next)
+    }
+
+    /// Reads the line that begins at `start`, whose leading spaces end at `first`, and adds it. A byte stands there.
     #[cycle(readers)]
-    pub(crate) fn get_lines(
+    #[inline(never)]
+    fn gather_line(
+        &self,
+        nesting: usize,
+        start: usize,
+        first: usize,
+        lines: &mut Vec<Line<M::Text>>,
+    ) -> Result<usize, ReadFault>
+        requires within { first < length self.now.source.bytes.now }
+        requires blank { InlineBlank self.now.source.bytes.now start first }
+        ensures adds { let t = self.now.source.bytes.now in
+            Adds t (line_of (M.source self.now.texts.now)) (line t (within self.now.edition t nesting))
+            (line_view M.made) lines.old.items lines.new.items start result }
+        ensures within { IfOk result (λ next. (start < next) × (next ≤ length self.now.source.bytes.now)) }
+    {
+        let mut pieces = Vec::new(self.alloc);
+        let end = self.gather_pieces(nesting, first, &mut pieces)?;
+        let next = self.end_line(start, first - start, pieces, end, lines)?;
+        Ok(next)
+    }
+
+    /// Gathers the lines that belong to a pattern, from a line's start on, in an empty list.
+    #[cycle(readers)]
+    pub(crate) fn gather_lines(
         &self,
         nesting: usize,
         ptr: usize,
-    ) -> Result<(Vec<Line<M::Text>>, usize), ReadFault>
-        requires { ptr ≤ length self.now.source.bytes.now }
+        lines: &mut Vec<Line<M::Text>>,
+    ) -> Result<usize, ReadFault>
+        requires within { ptr ≤ length self.now.source.bytes.now }
+        requires empty { lines.old.items ≡ [] }
         ensures meets { let t = self.now.source.bytes.now in
-            Makes t (map (line_of (M.source self.now.texts.now))) (more_lines t (within self.now.edition t nesting))
-            (λ lines. map (line_view M.made) lines.items) ptr result }
-        ensures within { IfOk result (λ read. (ptr ≤ read.1) × (read.1 ≤ length self.now.source.bytes.now)) }
+            Fills t (map (line_of (M.source self.now.texts.now))) (more_lines t (within self.now.edition t nesting))
+            (map (line_view M.made)) lines.new.items ptr result }
+        ensures within { IfOk result (λ end. (ptr ≤ end) × (end ≤ length self.now.source.bytes.now)) }
     {
-        let mut lines = Vec::new(self.alloc);
         let mut start = ptr;
         loop {
             let first = self.source.skip_blank_inline(start);
             match self.source.byte_at(first) {
-                None => return Ok((lines, first)),
+                None => return Ok(first),
                 Some(byte) => {
                     if !self.source.belongs(byte, first > start, first) {
-                        return Ok((lines, start));
+                        return Ok(start);
                     }
-                    let spaces = first - start;
-                    let (pieces, end) = self.get_pieces(nesting, first)?;
-                    match self.source.eol_end(end) {
-                        None => {
-                            let ending = Ending::TextEnd;
-                            lines.push(Line {
-                                start,
-                                spaces,
-                                pieces,
-                                ending,
-                            })?;
-                            return Ok((lines, end));
-                        }
-                        Some(next) => {
-                            let ending = ending_at(end, next);
-                            lines.push(Line {
-                                start,
-                                spaces,
-                                pieces,
-                                ending,
-                            })?;
-                            start = next;
-                        }
-                    }
+                    start = self.gather_line(nesting, start, first, lines)?;
                 }
             }
         }

@@ -6,9 +6,9 @@ ghost use Rattle.fluent_syntax_grammar.specs.Elements.{is_nonblank, trimmed_end}
 ghost use Rattle.fluent_syntax_parser.specs.Elements.{CutsTo, MakesPattern, element_of, item_view, last_of};
 ghost use Rattle.fluent_syntax_parser.specs.Layouts.{stays};
 
-use crate::pattern::elements::{Layout, items_of};
+use crate::pattern::elements::add_lines;
 use crate::pattern::indents::common_indent;
-use crate::pattern::line::Piece;
+use crate::pattern::line::{Line, Piece};
 use crate::reader::Reader;
 use crate::source::Source;
 use crate::texts::MakeTexts;
@@ -82,6 +82,7 @@ impl<'s, 't, M: MakeTexts> Reader<'s, 't, M> {
                 Ok(())
             }
             Piece::Placed { expression } => {
+                let expression = Box::into_inner(expression);
                 elements.push(PatternElement::Placeable { expression })?;
                 Ok(())
             }
@@ -121,23 +122,26 @@ impl<'s, 't, M: MakeTexts> Reader<'s, 't, M> {
                 Ok(())
             }
             Piece::Placed { expression } => {
+                let expression = Box::into_inner(expression);
                 elements.push(PatternElement::Placeable { expression })?;
                 Ok(())
             }
         }
     }
 
-    /// The pattern that a layout spells, if it spells one.
+    /// The pattern that the items of the line on which it opens, and its other lines spell, if they spell one.
     #[inline(never)]
     pub(crate) fn pattern_of(
         &self,
-        layout: Layout<M::Text>,
+        opening: Vec<Piece<M::Text>>,
+        lines: Vec<Line<M::Text>>,
     ) -> Result<Option<Pattern<M::Text>>, AllocError>
-        ensures { let t = self.now.source.bytes.now in
-            IfOk result (MakesPattern (M.source self.now.texts.now) M.made self.now.edition t layout) }
+        ensures { let t = self.now.source.bytes.now in IfOk result
+            (MakesPattern (M.source self.now.texts.now) M.made self.now.edition t opening.items lines.items) }
     {
-        let common = common_indent::<M>(self.edition, &layout.lines);
-        let mut items = items_of(self.alloc, self.edition, common, layout)?;
+        let common = common_indent::<M>(self.edition, &lines);
+        let mut items = opening;
+        add_lines(self.edition, common, lines, &mut items)?;
         match self.pop_last(&mut items) {
             None => Ok(None),
             Some(last) => {

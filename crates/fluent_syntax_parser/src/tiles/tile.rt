@@ -154,7 +154,8 @@ impl<'s, 't, M: MakeTexts> Reader<'s, 't, M> {
     {
         match self.add_entry(body, nesting, start) {
             Ok(end) => Ok(end),
-            Err(ReadFault::Refused(refusal)) => {
+            Err(ReadFault::Refused { fault, from, place }) => {
+                let refusal = Refusal { fault, from, place };
                 let end = self.add_junk(body, errors, refusal, start)?;
                 Ok(end)
             }
@@ -194,7 +195,7 @@ impl<'s, 't, M: MakeTexts> Reader<'s, 't, M> {
                 let hangs = hang_last(body)?;
                 if hangs { Ok(end) } else { Ok(ptr) }
             }
-            Err(ReadFault::Refused(_)) => Ok(ptr),
+            Err(ReadFault::Refused { .. }) => Ok(ptr),
             Err(ReadFault::TooDeep) => Err(Halt::TooDeep),
             Err(ReadFault::Memory) => Err(Halt::Memory),
         }

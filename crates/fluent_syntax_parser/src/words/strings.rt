@@ -32,7 +32,8 @@ impl<'s> Source<'s> {
         let end = self.hex_end(ptr, most);
         if end - ptr < most {
             Err(Refusal {
-                fault: Fault::UnicodeEscape(ptr),
+                fault: Fault::UnicodeEscape,
+                from: ptr,
                 place: end,
             })
         } else {
@@ -49,6 +50,7 @@ impl<'s> Source<'s> {
         match self.byte_at(ptr + 1) {
             None => Err(Refusal {
                 fault: Fault::UnknownEscape(b' '),
+                from: ptr,
                 place: ptr,
             }),
             Some(b'\\' | b'"' | b'{') => Ok(ptr + 2),
@@ -56,6 +58,7 @@ impl<'s> Source<'s> {
             Some(b'U') => self.skip_hex(ptr + 2, 6),
             Some(byte) => Err(Refusal {
                 fault: Fault::UnknownEscape(byte),
+                from: ptr,
                 place: ptr,
             }),
         }
@@ -83,12 +86,14 @@ impl<'s> Source<'s> {
             match self.byte_at(end) {
                 None => return Err(Refusal {
                     fault: Fault::Token(b'"'),
+                    from: end,
                     place: end,
                 }),
                 Some(b'"') => return Ok(end),
                 Some(b'\\') => unit = self.skip_escape(end)?,
                 Some(_) => return Err(Refusal {
                     fault: Fault::UnterminatedString,
+                    from: end,
                     place: end,
                 }),
             }

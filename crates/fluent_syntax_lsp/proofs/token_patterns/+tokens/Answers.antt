@@ -1,4 +1,4 @@
-use Rattle.std.proofs.Common.{List, ◌∷◌, map, refl}
+use Rattle.std.proofs.Common.{List, map, refl}
 use Rattle.fluent_syntax_tree.specs.Tree.{elements_of, variants_of, inlines_of, nameds_of}
 use Rattle.fluent_syntax_tree.specs.View.{element_view, variant_view, inline_view, named_view}
 use Rattle.fluent_syntax_tree.specs.declared.ast.PatternElement.{PatternElement}

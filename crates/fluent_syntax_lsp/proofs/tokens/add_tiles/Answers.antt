@@ -1,6 +1,5 @@
 use Rattle.std.proofs.Common.{refl, subst}
 use Rattle.fluent_syntax_tree.specs.Entry.{entry_map}
-use Rattle.fluent_syntax_tree.specs.View.{entry_view}
 use Rattle.fluent_syntax_tree.proofs.Natural.{natural-Entry}
 use Rattle.fluent_syntax_names.specs.Mentions.{span_on}
 use Rattle.fluent_syntax_parser.specs.Rest.{tree_of}

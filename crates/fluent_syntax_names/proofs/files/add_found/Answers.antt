@@ -5,8 +5,8 @@ use Rattle.fluent_syntax_names.specs.declared.mention.Mention.TheVariants as say
 use Rattle.fluent_syntax_names.specs.Circles.{no_pattern}
 use Rattle.fluent_syntax_names.specs.Drawings.{set_by}
 use Rattle.fluent_syntax_names.specs.Findings.{found_in, nothing, after}
+use Rattle.fluent_syntax_names.specs.Knowing.{knows}
 use Rattle.fluent_syntax_names.specs.Places.{place_of}
-use Rattle.fluent_syntax_names.specs.Tables.{has_name}
 use Rattle.fluent_syntax_names.proofs.Growing.{found_known, found_next, found_none}
 use Rattle.fluent_syntax_names.proofs.files.add_found.Goals as goal
 
@@ -16,8 +16,8 @@ loop-mention-init c = (nothing, c.new-noted.ensures, λ rest. refl)
 pub loop-mention-preserved : goal.loop-mention-preserved
 loop-mention-preserved c =
     let here = c.args.here.now in
-    let D = has_name (place_of here.defined.now.table) in
-    let A = set_by (place_of here.defined.now.table) here.circles.now in
+    let D = knows here.known in
+    let A = set_by D here.circles.now in
     let names = place_of c.loop-mention.noted.names.table in
     let attributes = place_of c.loop-mention.noted.attributes.table in
     let none : Mention Span = says.Message (record { start = 0; end = 0 }) false in
@@ -35,7 +35,7 @@ loop-mention-preserved c =
 
 pub returns : goal.returns
 returns c =
-    let A = set_by (place_of c.args.here.now.defined.now.table) c.args.here.now.circles.now in
+    let A = set_by (knows c.args.here.now.known) c.args.here.now.circles.now in
     let here = c.args.here.now in
     found_none A here.file here.text.now c.args.list.now.items c.loop-mention.list.items
     (found_in A here.file here.text.now nothing no_pattern c.args.mentions.now) c.args.mentions.now

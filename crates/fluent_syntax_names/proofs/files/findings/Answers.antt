@@ -1,8 +1,11 @@
-use Rattle.std.proofs.Common.{[]}
+use Rattle.std.proofs.Common.{◌≡◌, ◌∙◌, [], refl, sym}
+use Rattle.std.proofs.lemmas.Result.{IfOk-weaker}
 use Rattle.fluent_syntax_names.specs.Circles.{links}
-use Rattle.fluent_syntax_names.specs.Drawings.{set_by}
-use Rattle.fluent_syntax_names.specs.Findings.{set_of}
-use Rattle.fluent_syntax_names.specs.Places.{place_of}
+use Rattle.fluent_syntax_names.specs.Findings.{all_findings}
+use Rattle.fluent_syntax_names.specs.Knowing.{others_define}
+use Rattle.fluent_syntax_names.specs.Findings.{findings_beside, is_defined, set_beside, set_of}
+use Rattle.fluent_syntax_names.specs.Spelled.{Text}
+use Rattle.fluent_syntax_names.proofs.Gathering.{or_false}
 use Rattle.fluent_syntax_names.proofs.Growing.{found_from_same, same_on}
 use Rattle.fluent_syntax_names.proofs.Ways.{reaches_decides}
 use Rattle.fluent_syntax_names.proofs.files.findings.Goals as goal
@@ -10,17 +13,12 @@ use Rattle.fluent_syntax_names.proofs.files.findings.Goals as goal
 pub returns-clause-findings : goal.returns-clause-findings
 returns-clause-findings c =
     let files = c.args.files.now in
-    let A = set_by (place_of c.note_files.new.table.table) c.in_ok-circles.circles in
+    let A = set_beside files (others_define []) in
     let B = set_of files in
-    let defines = c.in_ok-note_files.ensures in
-    let same = found_from_same A B defines 0 files (same_on A B (links files) c.in_ok-circles.ensures) [] in
-    rw (← same) c.found_in_files.ensures
+    let defines = λ (name : Text). sym (or_false (is_defined files name)) in
+    let same = found_from_same A B defines 0 files (same_on A B (links files) (λ from to leads. refl)) [] in
+    IfOk-weaker c.findings_beside.result (λ list. list.items ≡ findings_beside files (others_define []))
+    (λ list. list.items ≡ all_findings files) (λ list is. is ∙ same) c.findings_beside.ensures
 
 pub returns-clause-reached : goal.returns-clause-reached
 returns-clause-reached c = reaches_decides (links c.args.files.now)
-
-pub returns-in_err-note_files-clause-reached : goal.returns-in_err-note_files-clause-reached
-returns-in_err-note_files-clause-reached c = reaches_decides (links c.args.files.now)
-
-pub returns-in_err-circles-clause-reached : goal.returns-in_err-circles-clause-reached
-returns-in_err-circles-clause-reached c = reaches_decides (links c.args.files.now)

@@ -1,10 +1,12 @@
-use Rattle.std.proofs.Common.{◌≡◌, List, [], ◌∷◌, ap, subst, ◌∙◌, rules}
+use Rattle.std.proofs.Common.{◌≡◌, ◌||◌, List, [], ◌∷◌, ap, subst, ◌∙◌, rules}
 use Rattle.std.specs.Prelude.{IfOk}
 use Rattle.fluent_syntax_names.specs.declared.outline.Outline.{Outline}
 use Rattle.fluent_syntax_names.specs.Circles.{links}
 use Rattle.fluent_syntax_names.specs.Drawings.{KnowsCircles, set_by}
 use Rattle.fluent_syntax_names.specs.Findings.{found_from, set_of}
+use Rattle.fluent_syntax_names.specs.Knowing.{others_define}
 use Rattle.fluent_syntax_names.specs.Places.{place_of}
+use Rattle.fluent_syntax_names.specs.Tables.{has_name}
 use Rattle.fluent_syntax_names.proofs.Alone.{own, found_alone}
 use Rattle.fluent_syntax_names.proofs.Growing.{same_on}
 use Rattle.fluent_syntax_names.proofs.files.own_findings.Goals as goal
@@ -13,7 +15,8 @@ pub returns : goal.returns
 returns c =
     let file = c.args.file.now in
     let circles = c.in_ok-circles.circles in
-    let A = set_by (place_of c.new-unknown.result.table) circles in
+    let unknown = has_name (place_of c.new-unknown.result.table) in
+    let A = set_by (λ name. unknown name || others_define [] name) circles in
     let B = set_of (file ∷ []) in
     let alone = c.from_ref-files.ensures.value in
     let known = subst (λ (files : List Outline). KnowsCircles (links files) circles) alone c.in_ok-circles.ensures in

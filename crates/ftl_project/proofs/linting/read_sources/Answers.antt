@@ -1,9 +1,36 @@
-use Rattle.std.proofs.Common.{◌∙◌}
+use Rattle.std.proofs.Common.{◌∙◌, arith, refl, subst}
+use Rattle.ftl_project.proofs.Compared.{same_files}
+use Rattle.ftl_project.proofs.InOrder.{Reads-more}
 use Rattle.ftl_project.proofs.Statuses.{HasRead-more}
+use Rattle.ftl_project.specs.Linting.{ReadsSource, no_files}
 use Rattle.ftl_project.proofs.linting.read_sources.Goals as goal
 
-pub loop-file-preserved : goal.loop-file-preserved
-loop-file-preserved g c = record {
-  stand = λ path. c.read_source.ensures.stand path ∙ c.loop-file.invariant.stand path;
-  read = HasRead-more c.loop-file.invariant.read c.in_ok-read_source.ensures.read;
+pub loop-file-init : goal.loop-file-init
+loop-file-init g c = record {
+  stand = λ path. refl;
+  read = record {
+    some = omega (arith, c.new-sources.ensures.len);
+    all = λ clean. omega (arith, c.new-sources.ensures.len);
+    files_same = refl;
+  };
+  sources = rw c.new-sources.ensures.items no_files;
+  out = refl;
 }
+
+pub loop-file-preserved : goal.loop-file-preserved
+loop-file-preserved g c =
+    let at = g.S.Store.bytes_at in
+    let start = at c.args.store.now in
+    let path = c.as_str.result.now in
+    let sources = c.loop-file.sources.items in
+    let all = c.read_source.new.sources.items in
+    let one = subst (λ files. ReadsSource files path sources all c.loop-file.tally c.read_source.new.tally)
+    (same_files start (at c.loop-file.store) c.loop-file.invariant.stand) c.in_ok-read_source.ensures.source in
+    record {
+      stand = λ other. c.read_source.ensures.stand other ∙ c.loop-file.invariant.stand other;
+      read = HasRead-more c.loop-file.invariant.read c.in_ok-read_source.ensures.read;
+      sources = Reads-more start c.args.files.now c.loop-file.file-index c.file-item.result path sources all
+          c.args.tally.now c.loop-file.tally c.read_source.new.tally (omega arith) c.file-item.is c.as_str.ensures.value
+          c.loop-file.invariant.sources one;
+      out = c.read_source.ensures.out ∙ c.loop-file.invariant.out;
+    }

@@ -1,7 +1,8 @@
-use Rattle.std.proofs.Common.{◌≡◌, ◌+◌, ◌∙◌, refl, sym, ap, arith, false, None, Some, inl, inr}
+use Rattle.std.proofs.Common.{◌≡◌, ◌+◌, ◌∙◌, refl, sym, ap, arith, false, None, Some, inl, inr, rules}
 use Rattle.std.specs.Prelude.{◌==◌, ◌⊎◌}
 use Rattle.std.proofs.lemmas.Option.{gets}
 use Rattle.std.proofs.lemmas.Result.{err_from_is_err_and}
+use Rattle.fluent_syntax_tree.specs.Kind.{DuplicatedNamedArgument}
 use Rattle.fluent_syntax_tree.specs.Spans.{bytes_at}
 use Rattle.fluent_syntax_tree.specs.Tree.{inline, inline_placeable, number_literal, some_arguments, string_literal}
 use Rattle.fluent_syntax_tree.specs.Tree.{pattern_map, variable_reference, variant}
@@ -36,9 +37,12 @@ use Rattle.fluent_syntax_grammar.proofs.FunctionalWords.{functional_identifier}
 use Rattle.fluent_syntax_grammar.proofs.FunctionalWords.{functional_inline_blank, functional_optional, functional_token}
 use Rattle.fluent_syntax_grammar.proofs.Nesting.{functional_within}
 use Rattle.fluent_syntax_parser.specs.Layouts.{placed}
+use Rattle.fluent_syntax_parser.specs.Layouts.{with_ending}
 use Rattle.fluent_syntax_parser.specs.Lines.{line_view, piece_view}
 use Rattle.fluent_syntax_parser.specs.Made.{made}
 use Rattle.fluent_syntax_parser.specs.Meets.{no_memory, refused, too_deep}
+use Rattle.fluent_syntax_parser.specs.declared.fault.Fault.TheVariants as fault
+use Rattle.fluent_syntax_parser.proofs.expressions.ArgumentNames.{argument_text}
 use Rattle.fluent_syntax_parser.proofs.expressions.ArgumentLists.{all_arguments, argument_with, inline_fails, late}
 use Rattle.fluent_syntax_parser.proofs.expressions.ArgumentLists.{list_closed}
 use Rattle.fluent_syntax_parser.proofs.expressions.ArgumentLists.{list_open, named, no_arguments_yet}
@@ -53,14 +57,16 @@ use Rattle.fluent_syntax_parser.proofs.readers.Fails.{functional_steps}
 use Rattle.fluent_syntax_parser.proofs.readers.Fails.{list, no_call, no_placeable, out_of_memory}
 use Rattle.fluent_syntax_parser.proofs.expressions.GatheredVariants.{all_variants, no_variant, variant_made}
 use Rattle.fluent_syntax_parser.proofs.expressions.GatheredVariants.{variant_with}
-use Rattle.fluent_syntax_parser.proofs.expressions.InlineStarts.{by_number, by_start, by_value, no_value, referred}
+use Rattle.fluent_syntax_parser.proofs.expressions.Inlines.{inline_seen}
+use Rattle.fluent_syntax_parser.proofs.expressions.InlineStarts.{by_start, by_value, no_value, number_starts, referred}
 use Rattle.fluent_syntax_parser.proofs.expressions.InlineStarts.{value_fails}
 use Rattle.fluent_syntax_parser.proofs.readers.Made.{no_value_read, on_made, on_value, same_selector_fault}
 use Rattle.fluent_syntax_parser.proofs.readers.Made.{same_term_attribute}
 use Rattle.fluent_syntax_parser.proofs.patterns.Pieces.{bare_brace, end_pieces, line_read, no_lines, no_pieces}
-use Rattle.fluent_syntax_parser.proofs.patterns.Pieces.{own_line_fails}
+use Rattle.fluent_syntax_parser.proofs.patterns.Pieces.{line_onward, own_line_fails}
 use Rattle.fluent_syntax_parser.proofs.patterns.Pieces.{further, placed_fails, placed_piece, run_piece, run_there}
-use Rattle.fluent_syntax_parser.proofs.expressions.Selects.{is_selector, no_selector, selector_fails}
+use Rattle.fluent_syntax_parser.proofs.expressions.Selects.{behind_blank, functional_start, same_fault}
+use Rattle.fluent_syntax_parser.proofs.expressions.Selects.{select_fails, select_read}
 use Rattle.fluent_syntax_parser.proofs.reader.Reader.+readers.Goals as goal
 use Rattle.fluent_syntax_parser.proofs.reader.Reader.+readers.Goals.{
   get_arguments-in_default-via-in-Some+else-is_byte_at,
@@ -68,23 +74,6 @@ use Rattle.fluent_syntax_parser.proofs.reader.Reader.+readers.Goals.{
 use Rattle.fluent_syntax_parser.proofs.reader.Reader.+readers.Goals.{get_arguments-in_default-via-in_default}
 
 -- ---- inline expressions
-
-pub get_inline_expression-returns-in_err-value-in-Quote-clause-meets :
-    goal.get_inline_expression-returns-in_err-value-in-Quote-clause-meets
-get_inline_expression-returns-in_err-value-in-Quote-clause-meets g m c =
-    let p = err_from_is_err_and c.from_residual.result c.from_residual.ensures.1 in
-    rw (p.1, p.2) (refused (λ k from to h.
-    by_start c.args.self.now.source.bytes.now _ _ starts.quote _ c.in-Quote.ensures
-    (stops (c.in_err-value-in-Quote.ensures.meets k from to h))))
-
-pub get_inline_expression-returns-in_err-end-in-Digit-clause-meets :
-    goal.get_inline_expression-returns-in_err-end-in-Digit-clause-meets
-get_inline_expression-returns-in_err-end-in-Digit-clause-meets g m c =
-    let p = err_from_is_err_and c.from_residual-in_err-end-in-Digit.result c.from_residual-in_err-end-in-Digit.ensures.1
-    in
-    rw (p.1, p.2) (refused (λ k from to h.
-    by_number c.args.self.now.source.bytes.now _ _ c.start.result _ c.in-Digit.is c.start.ensures
-    (stops (c.in_err-end-in-Digit.ensures.meets k from to h))))
 
 pub get_term_reference-returns-in_err-start-clause-meets :
     goal.get_term_reference-returns-in_err-start-clause-meets
@@ -128,25 +117,6 @@ get_term_reference-returns-in_err-arguments-clause-meets g m c =
     (fails_next (functional_accessor t) c.in_ok-attribute.ensures.meets
     (fails_first c.in_err-arguments.ensures.meets)))))
 
-pub get_inline_expression-returns-in_err-start-in-Dollar-clause-meets :
-    goal.get_inline_expression-returns-in_err-start-in-Dollar-clause-meets
-get_inline_expression-returns-in_err-start-in-Dollar-clause-meets g m c =
-    let p = err_from_is_err_and c.from_residual-in_err-start-in-Dollar.result
-    c.from_residual-in_err-start-in-Dollar.ensures.1 in
-    rw (p.1, p.2) (refused (λ k from to h.
-    by_start c.args.self.now.source.bytes.now _ _ starts.dollar _ c.in-Dollar.ensures
-    (stops (c.in_err-start-in-Dollar.ensures.meets k from to h))))
-
-pub get_inline_expression-returns-in_err-end-in-Dollar-clause-meets :
-    goal.get_inline_expression-returns-in_err-end-in-Dollar-clause-meets
-get_inline_expression-returns-in_err-end-in-Dollar-clause-meets g m c =
-    let p = err_from_is_err_and c.from_residual-in_err-end-in-Dollar.result
-    c.from_residual-in_err-end-in-Dollar.ensures.1 in
-    rw (p.1, p.2) (refused (λ k from to h.
-    by_start c.args.self.now.source.bytes.now _ _ starts.dollar _ c.in-Dollar.ensures
-    (goes_on c.in_ok-start-in-Dollar.ensures.meets
-    (stops (c.in_err-end-in-Dollar.ensures.meets k from to h)))))
-
 pub get_reference-returns-in_err-end-clause-meets :
     goal.get_reference-returns-in_err-end-clause-meets
 get_reference-returns-in_err-end-clause-meets g m c =
@@ -166,36 +136,6 @@ get_reference-returns-in_err-arguments-clause-meets g m c =
     (fails_next (functional_identifier t) c.in_ok-end.ensures.meets
     (fails_first c.in_err-arguments.ensures.meets)))
 
-pub get_inline_expression-returns-in_err-expression-in-Brace-clause-meets :
-    goal.get_inline_expression-returns-in_err-expression-in-Brace-clause-meets
-get_inline_expression-returns-in_err-expression-in-Brace-clause-meets g m c =
-    let t = c.args.self.now.source.bytes.now in
-    let p = err_from_is_err_and c.from_residual-in_err-expression-in-Brace.result
-    c.from_residual-in_err-expression-in-Brace.ensures.1 in
-    rw (p.1, p.2)
-    (fails_seen (inline_of t _) starts.brace c.in-Brace.ensures
-    (fails_first c.in_err-expression-in-Brace.ensures.meets))
-
-pub get_inline_expression-returns-in_ok-value-in-Quote-2-clause-meets :
-    goal.get_inline_expression-returns-in_ok-value-in-Quote-2-clause-meets
-get_inline_expression-returns-in_ok-value-in-Quote-2-clause-meets g m c =
-    made
-    (by_start c.args.self.now.source.bytes.now _ _ starts.quote _ c.in-Quote.ensures
-    (goes_on c.in_ok-value-in-Quote.ensures.meets
-    given))
-    (view-StringLiteral g.M.MakeTexts.made c.in_ok-value-in-Quote-2.value ∙ ap string_literal
-    c.in_ok-value-in-Quote-2.ensures)
-
-pub get_inline_expression-returns-in_ok-value-in-Digit-clause-meets :
-    goal.get_inline_expression-returns-in_ok-value-in-Digit-clause-meets
-get_inline_expression-returns-in_ok-value-in-Digit-clause-meets g m c =
-    made
-    (by_number c.args.self.now.source.bytes.now _ _ c.start.result _ c.in-Digit.is c.start.ensures
-    (goes_on c.in_ok-end-in-Digit.ensures.meets
-    given))
-    (view-NumberLiteral g.M.MakeTexts.made c.in_ok-value-in-Digit.value ∙ ap number_literal
-    c.in_ok-value-in-Digit.ensures)
-
 pub get_term_reference-returns-clause-meets : goal.get_term_reference-returns-clause-meets
 get_term_reference-returns-clause-meets g m c =
     on_made c.in_ok-arguments.ensures.meets (λ a read same. made
@@ -205,19 +145,13 @@ get_term_reference-returns-clause-meets g m c =
     (goes_on c.in_ok-attribute.ensures.meets
     (goes_on read
     given)))))
-    (view-TermReference g.M.MakeTexts.made c.in_ok-id.id c.in_ok-attribute-2.attribute c.in_ok-arguments.arguments
-    ∙ rw (c.in_ok-id.ensures, c.in_ok-attribute-2.ensures, same) refl))
+    (c.in_ok-expression.ensures ∙ rw same refl))
 
-pub get_inline_expression-returns-in_ok-id-in-Dollar-clause-meets :
-    goal.get_inline_expression-returns-in_ok-id-in-Dollar-clause-meets
-get_inline_expression-returns-in_ok-id-in-Dollar-clause-meets g m c =
-    made
-    (by_start c.args.self.now.source.bytes.now _ _ starts.dollar _ c.in-Dollar.ensures
-    (goes_on c.in_ok-start-in-Dollar.ensures.meets
-    (goes_on c.in_ok-end-in-Dollar.ensures.meets
-    given)))
-    (view-VariableReference g.M.MakeTexts.made c.in_ok-id-in-Dollar.id ∙ ap variable_reference
-    c.in_ok-id-in-Dollar.ensures)
+pub get_term_reference-returns-in_err-expression-clause-meets :
+    goal.get_term_reference-returns-in_err-expression-clause-meets
+get_term_reference-returns-in_err-expression-clause-meets g m c =
+    rw (out_of_memory c.from_residual-in_err-expression.result
+    c.from_residual-in_err-expression.ensures.1) no_memory
 
 pub get_reference-returns-clause-meets : goal.get_reference-returns-clause-meets
 get_reference-returns-clause-meets g m c =
@@ -225,15 +159,42 @@ get_reference-returns-clause-meets g m c =
     referred c.args.self.now.source.bytes.now _ _ _ _ _ (c.get_named_reference.ensures.meets a same) c.requires.starts
     c.in_ok-end.ensures.meets read (functional_within c.args.self.now.edition c.args.self.now.source.bytes.now _))
 
-pub get_inline_expression-returns-in_ok-expression-in-Brace-2-clause-meets :
-    goal.get_inline_expression-returns-in_ok-expression-in-Brace-2-clause-meets
-get_inline_expression-returns-in_ok-expression-in-Brace-2-clause-meets g m c =
-    on_made c.in_ok-expression-in-Brace.ensures.meets (λ a read same. made
-    (by_start c.args.self.now.source.bytes.now _ _ starts.brace _ c.in-Brace.ensures
+pub get_inner_placeable-returns-in_err-expression-clause-meets :
+    goal.get_inner_placeable-returns-in_err-expression-clause-meets
+get_inner_placeable-returns-in_err-expression-clause-meets g m c =
+    let t = c.args.self.now.source.bytes.now in
+    let p = err_from_is_err_and c.from_residual.result c.from_residual.ensures.1 in
+    rw (p.1, p.2)
+    (fails_seen (inline_of t _) starts.brace c.requires.starts
+    (fails_first c.in_err-expression.ensures.meets))
+
+pub get_inner_placeable-returns-in_err-expression-2-clause-meets :
+    goal.get_inner_placeable-returns-in_err-expression-2-clause-meets
+get_inner_placeable-returns-in_err-expression-2-clause-meets g m c =
+    rw (out_of_memory c.from_residual-in_err-expression-2.result
+    c.from_residual-in_err-expression-2.ensures.1) no_memory
+
+pub get_inner_placeable-returns-clause-meets : goal.get_inner_placeable-returns-clause-meets
+get_inner_placeable-returns-clause-meets g m c =
+    on_made c.in_ok-expression.ensures.meets (λ a read same. made
+    (by_start c.args.self.now.source.bytes.now _ _ starts.brace _ c.requires.starts
     (goes_on read
     given))
-    (view-InlinePlaceable g.M.MakeTexts.made c.in_ok-expression-in-Brace-2.expression
-    ∙ ap inline_placeable (ap (expression_view g.M.MakeTexts.made) c.in_ok-expression-in-Brace-2.ensures.ok ∙ same)))
+    (c.in_ok-expression-2.ensures ∙ ap (λ e. inline (inline_placeable e)) same))
+
+pub get_inline_expression-get_number-requires-clause-starts :
+    goal.get_inline_expression-get_number-requires-clause-starts
+get_inline_expression-get_number-requires-clause-starts g m c =
+    number_starts c.args.self.now.source.bytes.now _ c.start.result c.in-Digit.is c.start.ensures
+
+pub get_inline_expression-returns-in-Quote-clause-meets : goal.get_inline_expression-returns-in-Quote-clause-meets
+get_inline_expression-returns-in-Quote-clause-meets g m c = c.get_string.ensures.meets _
+
+pub get_inline_expression-returns-in-Digit-clause-meets : goal.get_inline_expression-returns-in-Digit-clause-meets
+get_inline_expression-returns-in-Digit-clause-meets g m c = c.get_number.ensures.meets _
+
+pub get_inline_expression-returns-in-Dollar-clause-meets : goal.get_inline_expression-returns-in-Dollar-clause-meets
+get_inline_expression-returns-in-Dollar-clause-meets g m c = c.get_variable.ensures.meets _
 
 pub get_inline_expression-returns-in-Other-clause-meets : goal.get_inline_expression-returns-in-Other-clause-meets
 get_inline_expression-returns-in-Other-clause-meets g m c =
@@ -292,100 +253,90 @@ get_expression-returns-in_err-expression-clause-meets g m c =
     let p = err_from_is_err_and c.from_residual.result c.from_residual.ensures.1 in
     rw (p.1, p.2) (fails_first c.in_err-expression.ensures.meets)
 
+pub get_expression-returns-then-is_arrow-clause-meets : goal.get_expression-returns-then-is_arrow-clause-meets
+get_expression-returns-then-is_arrow-clause-meets g m c =
+    let t = c.args.self.now.source.bytes.now in
+    on_made c.in_ok-expression.ensures.meets (λ e read same.
+    behind_blank c.args.self.now.edition t _ _ _ _ read c.skip_blank-ptr.ensures.blank (sym c.if-is_arrow.ensures)
+    (functional_within c.args.self.now.edition t _) (c.get_select.ensures.meets e same))
+
 pub get_expression-returns-then-is_term_attribute-clause-meets :
     goal.get_expression-returns-then-is_term_attribute-clause-meets
 get_expression-returns-then-is_term_attribute-clause-meets g m c =
-    on_made c.in_ok-expression.ensures.meets (λ e read same. refused (λ k from to (a, b, d). rw (a, b, d)
+    on_made c.in_ok-expression.ensures.meets (λ e read same.
+    let there = inline_seen _ _ c.deref.ensures c.inline_in.ensures same in
+    refused (λ k from to (a, b, d). rw (a, b, d)
     (goes_on read
     (goes_on (passed c.skip_blank-ptr.ensures.blank)
     (goes_on (chosen given)
-    (second (sym c.if-not-is_arrow.ensures)
-    (first (sym (same_term_attribute _ e) ∙ ap is_term_attribute (sym same) ∙ sym c.if-is_term_attribute.ensures)
+    (second (sym c.if-is_arrow.ensures)
+    (first (sym (same_term_attribute _ e) ∙ ap is_term_attribute (sym there) ∙ sym c.if-is_term_attribute.ensures)
     (failed refl))))))))
 
-pub get_expression-returns-then-not-is_arrow-clause-meets : goal.get_expression-returns-then-not-is_arrow-clause-meets
-get_expression-returns-then-not-is_arrow-clause-meets g m c =
-    on_made c.in_ok-expression.ensures.meets (λ e read same. made
+pub get_expression-returns-clause-meets : goal.get_expression-returns-clause-meets
+get_expression-returns-clause-meets g m c =
+    on_made c.in_ok-expression.ensures.meets (λ e read same.
+    let there = inline_seen _ _ c.deref.ensures c.inline_in.ensures same in
+    made
     (goes_on read
     (goes_on (passed c.skip_blank-ptr.ensures.blank)
     (goes_on (chosen given)
-    (second (sym c.if-not-is_arrow.ensures)
-    (second (sym (same_term_attribute _ e) ∙ ap is_term_attribute (sym same) ∙ sym c.if-is_term_attribute.ensures)
+    (second (sym c.if-is_arrow.ensures)
+    (second (sym (same_term_attribute _ e) ∙ ap is_term_attribute (sym there) ∙ sym c.if-is_term_attribute.ensures)
     given)))))
-    (view-Inline g.M.MakeTexts.made c.in_ok-expression.expression ∙ ap inline same))
+    same)
 
-pub get_expression-returns-in-Some-clause-meets : goal.get_expression-returns-in-Some-clause-meets
-get_expression-returns-in-Some-clause-meets g m c =
-    let is = c.in-Some.ensures c.args.self.now.source.bytes.now c.skip_blank-ptr.result in
+pub get_expression-inline_in-requires : goal.get_expression-inline_in-requires
+get_expression-inline_in-requires g m c =
     on_made c.in_ok-expression.ensures.meets (λ e read same.
-    refused {r = record { fault = c.in-Some.fault; place = c.skip_blank-ptr.result }} (λ k from to (a, b, d).
-    rw (a, b ∙ is.1, d ∙ is.2)
-    (goes_on read
-    (goes_on (passed c.skip_blank-ptr.ensures.blank)
-    (goes_on (chosen given)
-    (first (sym c.if-not-is_arrow.ensures)
-    (no_selector c.args.self.now.edition c.args.self.now.source.bytes.now _ _ _ _
-    (sym (same_selector_fault _ e) ∙ ap selector_fault (sym same) ∙ is.0))))))))
+    (_, ap (expression_view g.M.MakeTexts.made) c.deref.ensures ∙ same))
 
-pub get_expression-returns-in_err-ptr-in-None-clause-meets : goal.get_expression-returns-in_err-ptr-in-None-clause-meets
-get_expression-returns-in_err-ptr-in-None-clause-meets g m c =
-    let is = c.in-None.ensures c.args.self.now.source.bytes.now c.skip_blank-ptr.result in
-    let p = err_from_is_err_and c.from_residual-in_err-ptr-in-None.result c.from_residual-in_err-ptr-in-None.ensures.1
-    in
-    rw (p.1, p.2) (on_made c.in_ok-expression.ensures.meets (λ e read same. refused (λ k from to h.
-    goes_on read
-    (goes_on (passed c.skip_blank-ptr.ensures.blank)
-    (goes_on (chosen given)
-    (first (sym c.if-not-is_arrow.ensures)
-    (is_selector c.args.self.now.edition c.args.self.now.source.bytes.now _ _ _ _
-    (sym (same_selector_fault _ e) ∙ ap selector_fault (sym same) ∙ is)
-    (stops
-    (goes_on (passed (record { by = refl }))
-    (goes_on (passed c.skip_blank_inline-ptr.ensures.blank)
-    (stops (c.in_err-ptr-in-None.ensures.meets k from to h))))))))))))
+pub get_expression-get_select-requires : goal.get_expression-get_select-requires
+get_expression-get_select-requires g m c = λ κs le.
+    on_made c.in_ok-expression.ensures.meets (λ e read same.
+    (search rules, (le.0, (le.1, (c.skip_blank-ptr.ensures.within, (sym c.if-is_arrow.ensures, (_, same)))))))
 
-pub get_expression-returns-in_err-variants-in-None-clause-meets :
-    goal.get_expression-returns-in_err-variants-in-None-clause-meets
-get_expression-returns-in_err-variants-in-None-clause-meets g m c =
+-- ---- selects
+
+pub get_select-inline_in-requires : goal.get_select-inline_in-requires
+get_select-inline_in-requires g m c =
+    (c.requires.selector.0, ap (expression_view g.M.MakeTexts.made) c.deref.ensures ∙ c.requires.selector.1)
+
+pub gather_from_arrow-returns-in_err-start-clause-meets : goal.gather_from_arrow-returns-in_err-start-clause-meets
+gather_from_arrow-returns-in_err-start-clause-meets g m c =
+    let p = err_from_is_err_and c.from_residual.result c.from_residual.ensures.1 in
+    rw (p.1, p.2) (refused (λ k from to h. stops (c.in_err-start.ensures.meets k from to h)))
+
+pub gather_from_arrow-returns-in_err-end-clause-meets : goal.gather_from_arrow-returns-in_err-end-clause-meets
+gather_from_arrow-returns-in_err-end-clause-meets g m c =
     let t = c.args.self.now.source.bytes.now in
-    let is = c.in-None.ensures t c.skip_blank-ptr.result in
-    let p = err_from_is_err_and c.from_residual-in_err-variants-in-None.result
-    c.from_residual-in_err-variants-in-None.ensures.1 in
+    let p = err_from_is_err_and c.from_residual-in_err-end.result c.from_residual-in_err-end.ensures.1 in
     rw (p.1, p.2)
-    (on_made c.in_ok-expression.ensures.meets (λ e read same.
-    fails_next (functional_inline t _ (functional_within c.args.self.now.edition t _)) read
-    (fails_next (functional_blank t) (passed c.skip_blank-ptr.ensures.blank)
-    (fails_next (functional_look (has_arrow t)) (chosen given)
-    (fails_yes (sym c.if-not-is_arrow.ensures)
-    (selector_fails c.args.self.now.edition t _ _ _
-    (sym (same_selector_fault _ e) ∙ ap selector_fault (sym same) ∙ is)
-    (fails_first
-    (fails_next functional_steps (passed (record { by = refl }))
-    (fails_next (functional_inline_blank t) (passed c.skip_blank_inline-ptr.ensures.blank)
-    (fails_next (functional_arrow_end t) c.in_ok-ptr-in-None.ensures.meets
-    (fails_next (functional_blank t) (passed c.skip_blank-ptr-in-None.ensures.blank)
-    c.in_err-variants-in-None.ensures.meets)))))))))))
+    (fails_next (functional_start t _) c.in_ok-start.ensures.meets c.in_err-end.ensures.meets)
 
-pub get_expression-returns-in_ok-variants-in-None-clause-meets :
-    goal.get_expression-returns-in_ok-variants-in-None-clause-meets
-get_expression-returns-in_ok-variants-in-None-clause-meets g m c =
-    let is = c.in-None.ensures c.args.self.now.source.bytes.now c.skip_blank-ptr.result in
-    on_made c.in_ok-expression.ensures.meets (λ e read same.
-    on_made c.in_ok-variants-in-None.ensures.meets (λ vs read_variants same_variants. made
-    (goes_on read
-    (goes_on (passed c.skip_blank-ptr.ensures.blank)
-    (goes_on (chosen given)
-    (first (sym c.if-not-is_arrow.ensures)
-    (is_selector c.args.self.now.edition c.args.self.now.source.bytes.now _ _ _ _
-    (sym (same_selector_fault _ e) ∙ ap selector_fault (sym same) ∙ is)
-    (goes_on
-    (goes_on (passed (record { by = refl }))
-    (goes_on (passed c.skip_blank_inline-ptr.ensures.blank)
-    (goes_on c.in_ok-ptr-in-None.ensures.meets
-    (goes_on (passed c.skip_blank-ptr-in-None.ensures.blank)
-    read_variants)))) given))))))
-    (view-Select g.M.MakeTexts.made c.in_ok-expression.expression c.in_ok-variants-in-None.variants
-    ∙ rw (same, same_variants) refl)))
+pub gather_from_arrow-returns-clause-meets : goal.gather_from_arrow-returns-clause-meets
+gather_from_arrow-returns-clause-meets g m c =
+    on_made c.in_ok-end.ensures.meets (λ vs read same. made (goes_on c.in_ok-start.ensures.meets read) same)
+
+pub get_select-returns-in_err-end-clause-meets : goal.get_select-returns-in_err-end-clause-meets
+get_select-returns-in_err-end-clause-meets g m c = λ e same.
+    let t = c.args.self.now.source.bytes.now in
+    let is = same_fault _ _ e (inline_seen _ _ c.deref.ensures c.inline_in.ensures same) in
+    let p = err_from_is_err_and c.from_residual.result c.from_residual.ensures.1 in
+    rw (p.1, p.2) (select_fails c.args.self.now.edition t _ e _ is c.in_err-end.ensures.meets)
+
+pub get_select-returns-in_err-expression-clause-meets : goal.get_select-returns-in_err-expression-clause-meets
+get_select-returns-in_err-expression-clause-meets g m c = λ e same.
+    rw (out_of_memory c.from_residual-in_err-expression.result
+    c.from_residual-in_err-expression.ensures.1) no_memory
+
+pub get_select-returns-clause-meets : goal.get_select-returns-clause-meets
+get_select-returns-clause-meets g m c = λ e same.
+    let t = c.args.self.now.source.bytes.now in
+    let is = same_fault _ _ e (inline_seen _ _ c.deref.ensures c.inline_in.ensures same) in
+    on_made c.in_ok-end.ensures.meets (λ vs read same_variants. made
+    (select_read c.args.self.now.edition t _ e _ is read)
+    (c.in_ok-expression.ensures _ same ∙ rw same_variants refl))
 
 -- ---- the arguments of a reference
 
@@ -457,6 +408,19 @@ get_argument_value-returns-in_default g m c = record {
 
 -- ---- argument lists
 
+pub get_arguments-inline_in-requires : goal.get_arguments-inline_in-requires
+get_arguments-inline_in-requires g m c =
+    on_made c.in_ok-expression.ensures.meets (λ e read same.
+    (_, ap (expression_view g.M.MakeTexts.made) c.deref.ensures ∙ same))
+
+pub get_arguments-add_named-requires : goal.get_arguments-add_named-requires
+get_arguments-add_named-requires g m c =
+    on_made c.in_ok-value-in-Some.ensures.meets (λ e read same. (_, same))
+
+pub get_arguments-add_positional-requires : goal.get_arguments-add_positional-requires
+get_arguments-add_positional-requires g m c =
+    on_made c.in_ok-expression.ensures.meets (λ e read same. (_, same))
+
 pub get_arguments-returns-then-place-self-clause-meets : goal.get_arguments-returns-then-place-self-clause-meets
 get_arguments-returns-then-place-self-clause-meets g m c =
     item_fails c.loop-noted.invariant.gathered.behind (refused (λ k from to (a, b, d). rw (a, b, d)
@@ -478,10 +442,15 @@ get_arguments-returns-then-has-clause-meets g m c =
     let names = c.loop-noted.noted.names.items in
     let used = used_in_order t (bytes_at t c.in-Some.name) names ∙ sym c.if-has.ensures in
     on_made c.in_ok-expression.ensures.meets (λ e read same.
-    item_fails c.loop-noted.invariant.gathered.behind (refused (λ k from to (a, b, d). rw (a, b, d)
+    let there = inline_seen _ _ c.deref.ensures c.inline_in.ensures same in
+    let is = sym (c.in-Some.ensures c.args.nesting _ e read there) in
+    let text = sym (argument_text t _ _ e _ read c.in-Some.name is) in
+    item_fails c.loop-noted.invariant.gathered.behind
+    (refused {f = fault.Duplicated} {from = c.loop-noted.place} {place = c.in_ok-expression.next} (λ k from to (a, b, d).
+    rw (a ∙ ap DuplicatedNamedArgument text, b, d)
     (named t _ (names_in t names) _
     (omega (arith, c.if-place-self.false, c.loop-noted.invariant.within)) (sym c.loop-noted-test.ensures) e _
-    read c.in-Some.name (sym (c.in-Some.ensures c.args.nesting _ e read same)) (sym c.if-is_byte_at.ensures) _
+    read c.in-Some.name is (sym c.if-is_byte_at.ensures) _
     (first used (failed refl))))))
 
 pub get_arguments-skip_blank-start-requires : goal.get_arguments-skip_blank-start-requires
@@ -498,11 +467,12 @@ get_arguments-returns-in_err-value-in-Some-clause-meets g m c =
     c.from_residual-in_err-value-in-Some.ensures.1 in
     rw (p.1, p.2)
     (on_made c.in_ok-expression.ensures.meets (λ e read same.
+    let there = inline_seen _ _ c.deref.ensures c.inline_in.ensures same in
     item_fails c.loop-noted.invariant.gathered.behind
     (named_fails t _ (names_in t names) _
     (omega (arith, c.if-place-self.false, c.loop-noted.invariant.within)) (sym c.loop-noted-test.ensures) e _
     read (functional_within c.args.self.now.edition t _) c.in-Some.name
-    (sym (c.in-Some.ensures c.args.nesting _ e read same)) mark
+    (sym (c.in-Some.ensures c.args.nesting _ e read there)) mark
     (fails_no new
     (fails_next (functional_token t colon) (token_there t colon _ mark)
     (fails_next (functional_blank t) (passed c.skip_blank-start.ensures.blank)
@@ -523,8 +493,9 @@ get_arguments-loop-noted-preserved-then-is_byte_at g m c =
     let t = c.args.self.now.source.bytes.now in
     let old = c.loop-noted in
     let new = used_in_order t (bytes_at t c.in-Some.name) old.noted.names.items ∙ sym c.if-has.ensures in
-    let added = argument_with c.in_ok-name-in-Some.name c.in_ok-value-in-Some.value in
+    let named = c.in_ok-add_named-in-Some.ensures in
     on_made c.in_ok-expression.ensures.meets (λ e read same.
+    let there = inline_seen _ _ c.deref.ensures c.inline_in.ensures same in
     on_made c.in_ok-value-in-Some.ensures.meets (λ value read_value same_value. record {
       forward =
           omega (
@@ -540,10 +511,11 @@ get_arguments-loop-noted-preserved-then-is_byte_at g m c =
           one_named t _ _ g.M.MakeTexts.made _ (functional_within c.args.self.now.edition t _) _ _ _
           old.noted.names.items
           old.invariant.gathered (omega (arith, c.if-place-self.false, old.invariant.within))
-          (sym c.loop-noted-test.ensures) e _ read added c.in-Some.name
-          (sym (c.in-Some.ensures c.args.nesting _ e read same)) (sym c.if-is_byte_at.ensures) new
-          c.in_ok-name-in-Some.ensures _ c.in_ok-push-in-Some.ensures.items _ c.in_ok-note-in-Some.ensures.names _ _ _
-          c.skip_blank-start.ensures.blank value read_value same_value c.skip_separator-place.ensures.meets;
+          (sym c.loop-noted-test.ensures) e _ read named.0 c.in-Some.name
+          (sym (c.in-Some.ensures c.args.nesting _ e read there)) (sym c.if-is_byte_at.ensures) new
+          named.2 _ named.1 _ c.in_ok-note-in-Some.ensures.names _ _ _
+          c.skip_blank-start.ensures.blank value read_value (inline_seen _ _ refl named.3 same_value)
+          c.skip_separator-place.ensures.meets;
       noted = c.in_ok-note-in-Some.ensures.noted;
     }))
 
@@ -553,10 +525,11 @@ get_arguments-returns-then-not-is_empty-clause-meets g m c =
     let old = c.loop-noted in
     let some = some_named old.noted.names.items c.if-not-is_empty.ensures in
     on_made c.in_ok-expression.ensures.meets (λ e read same.
+    let there = inline_seen _ _ c.deref.ensures c.inline_in.ensures same in
     let is : (argument_name e ≡ None) ⊎ (has_byte t colon c.in_ok-expression.next ≡ false) =
     elim c.in_default.branch [
       | get_arguments-in_default-via-in-Some+else-is_byte_at w ↦ inr (sym w.if-is_byte_at.ensures)
-      | get_arguments-in_default-via-in_default w ↦ inl (sym (w.in_default.ensures c.args.nesting _ e read same))
+      | get_arguments-in_default-via-in_default w ↦ inl (sym (w.in_default.ensures c.args.nesting _ e read there))
     ] in
     item_fails old.invariant.gathered.behind (refused (λ k from to (a, b, d). rw (a, b, d)
     (positional t _ (names_in t old.noted.names.items) old.place
@@ -570,11 +543,13 @@ get_arguments-loop-noted-preserved g m c =
     let t = c.args.self.now.source.bytes.now in
     let old = c.loop-noted in
     let none = none_named old.noted.names.items c.if-not-is_empty.ensures in
+    let added = c.in_ok-add_positional-in_default.ensures in
     on_made c.in_ok-expression.ensures.meets (λ e read same.
+    let there = inline_seen _ _ c.deref.ensures c.inline_in.ensures same in
     let is : (argument_name e ≡ None) ⊎ (has_byte t colon c.in_ok-expression.next ≡ false) =
     elim c.in_default.branch [
       | get_arguments-in_default-via-in-Some+else-is_byte_at w ↦ inr (sym w.if-is_byte_at.ensures)
-      | get_arguments-in_default-via-in_default w ↦ inl (sym (w.in_default.ensures c.args.nesting _ e read same))
+      | get_arguments-in_default-via-in_default w ↦ inl (sym (w.in_default.ensures c.args.nesting _ e read there))
     ] in
     record {
       forward =
@@ -589,8 +564,8 @@ get_arguments-loop-noted-preserved g m c =
           one_positional t _ _ g.M.MakeTexts.made _ (functional_within c.args.self.now.edition t _) _ _ _
           old.noted.names.items
           old.invariant.gathered (omega (arith, c.if-place-self.false, old.invariant.within))
-          (sym c.loop-noted-test.ensures) e _ read is none c.in_ok-expression.expression same _
-          c.in_ok-push-in_default.ensures.items _ c.skip_separator-place-in_default.ensures.meets;
+          (sym c.loop-noted-test.ensures) e _ read is none added.0 (inline_seen _ _ refl added.2 same) _ added.1 _
+          c.skip_separator-place-in_default.ensures.meets;
       noted = old.invariant.noted;
     })
 
@@ -599,77 +574,77 @@ get_arguments-returns-clause-within g m c = grind (arith, gets)
 
 -- ---- patterns
 
-pub get_layout-returns-in_err-lines-in-Some-clause-meets :
-    goal.get_layout-returns-in_err-lines-in-Some-clause-meets
-get_layout-returns-in_err-lines-in-Some-clause-meets g m c =
+pub gather_opening-returns-in-Some-clause-opens : goal.gather_opening-returns-in-Some-clause-opens
+gather_opening-returns-in-Some-clause-opens g m c =
+    let t = c.args.self.now.source.bytes.now in
+    let blank = c.skip_blank_block.ensures.blank in record {
+      opening = None;
+      same = rw c.requires.empty refl;
+      read = λ ls end h. by_eol t _ _ _ _ c.in-Some.ensures.eol
+          (goes_on (passed (record { there = refl })) (goes_on (passed blank) (goes_on h given)));
+      fails = λ e h.
+          fails_seen (layout_at t _) _ c.in-Some.ensures.eol
+          (fails_next functional_reaches (passed (record { there = refl }))
+          (fails_next (functional_blank_block t) (passed blank) (fails_first h)));
+    }
+
+pub gather_opening-returns-in_err-end-in-None-clause-opens : goal.gather_opening-returns-in_err-end-in-None-clause-opens
+gather_opening-returns-in_err-end-in-None-clause-opens g m c =
     let t = c.args.self.now.source.bytes.now in
     let p = err_from_is_err_and c.from_residual.result c.from_residual.ensures.1 in
-    rw (p.1, p.2)
-    (fails_seen (layout_at t _) _ c.in-Some.ensures.eol
-    (fails_next functional_reaches (passed (record { there = refl }))
-    (fails_next (functional_blank_block t) (passed c.skip_blank_block-first.ensures.blank)
-    (fails_first c.in_err-lines-in-Some.ensures.meets))))
-
-pub get_layout-returns-in_ok-lines-in-Some-clause-meets : goal.get_layout-returns-in_ok-lines-in-Some-clause-meets
-get_layout-returns-in_ok-lines-in-Some-clause-meets g m c =
-    on_made c.in_ok-lines-in-Some.ensures.meets (λ ls read same. made
-    (by_eol c.args.self.now.source.bytes.now _ _ _ _ c.in-Some.ensures.eol
-    (goes_on (passed (record { there = refl }))
-    (goes_on (passed c.skip_blank_block-first.ensures.blank)
-    (goes_on read
-    given))))
-    (rw same refl))
-
-pub get_layout-returns-in_err-pieces-in-None-clause-meets :
-    goal.get_layout-returns-in_err-pieces-in-None-clause-meets
-get_layout-returns-in_err-pieces-in-None-clause-meets g m c =
-    let t = c.args.self.now.source.bytes.now in
-    let p = err_from_is_err_and c.from_residual-in_err-pieces-in-None.result
-    c.from_residual-in_err-pieces-in-None.ensures.1 in
     rw (p.1, p.2)
     (fails_seen (layout_at t _) _ c.in-None.ensures.eol
-    (fails_next functional_here at_place
-    (fails_first c.in_err-pieces-in-None.ensures.meets)))
+    (fails_next functional_here at_place (fails_first c.in_err-end-in-None.ensures.meets)))
 
-pub get_layout-returns-in_err-lines-in-None-clause-meets : goal.get_layout-returns-in_err-lines-in-None-clause-meets
-get_layout-returns-in_err-lines-in-None-clause-meets g m c =
+pub gather_opening-returns-in_ok-next-in-None-clause-opens : goal.gather_opening-returns-in_ok-next-in-None-clause-opens
+gather_opening-returns-in_ok-next-in-None-clause-opens g m c =
     let t = c.args.self.now.source.bytes.now in
-    let p = err_from_is_err_and c.from_residual-in_err-lines-in-None.result
-    c.from_residual-in_err-lines-in-None.ensures.1 in
-    rw (p.1, p.2)
-    (on_made c.in_ok-pieces-in-None.ensures.meets (λ ps read same.
-    fails_seen (layout_at t _) _ c.in-None.ensures.eol
-    (fails_next functional_here at_place
-    (fails_next (functional_pieces t _ (functional_within c.args.self.now.edition t _)) read
-    (fails_next (functional_ending t) c.get_ending-ending.ensures.meets
-    (fails_first c.in_err-lines-in-None.ensures.meets))))))
+    let R = within c.args.self.now.edition t c.args.nesting in
+    let (end, opening, ends) = c.in_ok-next-in-None.ensures.ends in
+    on_made c.in_ok-end-in-None.ensures.meets (λ ps there same. record {
+      opening = Some (record { start = c.args.ptr; spaces = 0; pieces = ps; ending = end });
+      same = opening ∙ ap (λ xs. with_ending xs end) same;
+      read = λ ls last h. by_eol t _ _ _ _ c.in-None.ensures.eol
+          (goes_on at_place (goes_on there (goes_on ends (goes_on h given))));
+      fails = λ e h.
+          fails_seen (layout_at t _) _ c.in-None.ensures.eol
+          (fails_next functional_here at_place
+          (fails_next (functional_pieces t R (functional_within c.args.self.now.edition t _)) there
+          (fails_next (functional_ending t) ends (fails_first h))));
+    })
 
-pub get_layout-returns-in_ok-lines-in-None-clause-meets : goal.get_layout-returns-in_ok-lines-in-None-clause-meets
-get_layout-returns-in_ok-lines-in-None-clause-meets g m c =
-    on_made c.in_ok-pieces-in-None.ensures.meets (λ ps read same.
-    on_made c.in_ok-lines-in-None.ensures.meets (λ ls read_lines same_lines. made
-    (by_eol c.args.self.now.source.bytes.now _ _ _ _ c.in-None.ensures.eol
-    (goes_on at_place
-    (goes_on read
-    (goes_on c.get_ending-ending.ensures.meets
-    (goes_on read_lines
-    given)))))
-    (rw (same, same_lines) refl)))
+pub gather_layout-returns-in_err-next-clause-meets : goal.gather_layout-returns-in_err-next-clause-meets
+gather_layout-returns-in_err-next-clause-meets g m c =
+    let p = err_from_is_err_and c.from_residual.result c.from_residual.ensures.1 in
+    rw (p.1, p.2) c.in_err-next.ensures.opens
 
-pub get_long_pattern-returns-in_err-layout-clause-meets : goal.get_long_pattern-returns-in_err-layout-clause-meets
-get_long_pattern-returns-in_err-layout-clause-meets g m c =
+pub gather_layout-returns-in_err-end-clause-meets : goal.gather_layout-returns-in_err-end-clause-meets
+gather_layout-returns-in_err-end-clause-meets g m c =
+    let p = err_from_is_err_and c.from_residual-in_err-end.result c.from_residual-in_err-end.ensures.1 in
+    rw (p.1, p.2) (c.in_ok-next.ensures.opens.fails _ c.in_err-end.ensures.meets)
+
+pub gather_layout-returns-clause-meets : goal.gather_layout-returns-clause-meets
+gather_layout-returns-clause-meets g m c =
+    let opened = c.in_ok-next.ensures.opens in
+    on_made c.in_ok-end.ensures.meets (λ ls there same. record {
+      layout = record { opening = opened.opening; lines = ls };
+      read = opened.read ls _ there;
+      same_opening = opened.same;
+      same_lines = same;
+    })
+
+pub get_long_pattern-returns-in_err-end-clause-meets : goal.get_long_pattern-returns-in_err-end-clause-meets
+get_long_pattern-returns-in_err-end-clause-meets g m c =
     let t = c.args.self.now.source.bytes.now in
     let p = err_from_is_err_and c.from_residual.result c.from_residual.ensures.1 in
     rw (p.1, p.2)
-    (fails_first
-    (fails_next (functional_inline_blank t) (passed c.requires.blank)
-    c.in_err-layout.ensures.meets))
+    (fails_first (fails_next (functional_inline_blank t) (passed c.requires.blank) c.in_err-end.ensures.meets))
 
 pub get_long_pattern-returns-clause-meets : goal.get_long_pattern-returns-clause-meets
 get_long_pattern-returns-clause-meets g m c =
-    on_made c.in_ok-layout.ensures.meets (λ y read same. made
-    (goes_on (goes_on (passed c.requires.blank) read) given)
-    (c.in_ok-pattern.ensures y same))
+    let laid = c.in_ok-end.ensures.meets in
+    made (goes_on (goes_on (passed c.requires.blank) laid.read) given)
+    (c.in_ok-pattern.ensures laid.layout laid.same_opening laid.same_lines)
 
 pub get_pattern-returns-in-Some-clause-meets : goal.get_pattern-returns-in-Some-clause-meets
 get_pattern-returns-in-Some-clause-meets g m c =
@@ -686,16 +661,16 @@ get_pattern-returns-in-None-clause-meets g m c = c.get_long_pattern.ensures.meet
 
 -- ---- variants
 
-pub get_variants-returns-then-star-clause-meets : goal.get_variants-returns-then-star-clause-meets
-get_variants-returns-then-star-clause-meets g m c =
+pub gather_variants-returns-then-star-clause-meets : goal.gather_variants-returns-then-star-clause-meets
+gather_variants-returns-then-star-clause-meets g m c =
     item_fails c.loop-starred.invariant.gathered.behind (refused (λ k from to (a, b, d). rw (a, b, d)
     (goes_on c.take_byte_if-star.ensures.meets
     (stops
     (first (both c.if-starred.true c.if-star.true)
     (failed refl))))))
 
-pub get_variants-returns-then-has_default-clause-meets : goal.get_variants-returns-then-has_default-clause-meets
-get_variants-returns-then-has_default-clause-meets g m c =
+pub gather_variants-returns-then-has_default-clause-meets : goal.gather_variants-returns-then-has_default-clause-meets
+gather_variants-returns-then-has_default-clause-meets g m c =
     all_variants g.M.MakeTexts.made _ c.loop-starred.invariant.gathered
     (goes_on c.take_byte_if-star.ensures.meets
     (goes_on (second (one_false _ _ c.else-starred.either) given)
@@ -704,8 +679,8 @@ get_variants-returns-then-has_default-clause-meets g m c =
     (first (sym c.if-has_default.ensures)
     given)))))
 
-pub get_variants-returns-then-not-bracket-clause-meets : goal.get_variants-returns-then-not-bracket-clause-meets
-get_variants-returns-then-not-bracket-clause-meets g m c =
+pub gather_variants-returns-then-not-bracket-clause-meets : goal.gather_variants-returns-then-not-bracket-clause-meets
+gather_variants-returns-then-not-bracket-clause-meets g m c =
     item_fails c.loop-starred.invariant.gathered.behind (refused (λ k from to (a, b, d). rw (a, b, d)
     (goes_on c.take_byte_if-star.ensures.meets
     (goes_on (second (one_false _ _ c.else-starred.either) given)
@@ -714,8 +689,8 @@ get_variants-returns-then-not-bracket-clause-meets g m c =
     (second (sym c.if-has_default.ensures)
     (failed refl))))))))
 
-pub get_variants-returns-in_err-key-clause-meets : goal.get_variants-returns-in_err-key-clause-meets
-get_variants-returns-in_err-key-clause-meets g m c =
+pub gather_variants-returns-in_err-key-clause-meets : goal.gather_variants-returns-in_err-key-clause-meets
+gather_variants-returns-in_err-key-clause-meets g m c =
     let p = err_from_is_err_and c.from_residual.result c.from_residual.ensures.1 in
     rw (p.1, p.2) (item_fails c.loop-starred.invariant.gathered.behind (refused (λ k from to h.
     (goes_on c.take_byte_if-star.ensures.meets
@@ -725,8 +700,8 @@ get_variants-returns-in_err-key-clause-meets g m c =
     (goes_on (passed c.skip_blank-start.ensures.blank)
     (stops (c.in_err-key.ensures.meets k from to h))))))))))
 
-pub get_variants-returns-in_err-next-clause-meets : goal.get_variants-returns-in_err-next-clause-meets
-get_variants-returns-in_err-next-clause-meets g m c =
+pub gather_variants-returns-in_err-next-clause-meets : goal.gather_variants-returns-in_err-next-clause-meets
+gather_variants-returns-in_err-next-clause-meets g m c =
     let p = err_from_is_err_and c.from_residual-in_err-next.result c.from_residual-in_err-next.ensures.1 in
     rw (p.1, p.2) (item_fails c.loop-starred.invariant.gathered.behind (refused (λ k from to h.
     (goes_on c.take_byte_if-star.ensures.meets
@@ -738,9 +713,9 @@ get_variants-returns-in_err-next-clause-meets g m c =
     (goes_on (passed c.skip_blank-next.ensures.blank)
     (stops (c.in_err-next.ensures.meets k from to h))))))))))))
 
-pub get_variants-returns-in_err-value-clause-meets :
-    goal.get_variants-returns-in_err-value-clause-meets
-get_variants-returns-in_err-value-clause-meets g m c =
+pub gather_variants-returns-in_err-value-clause-meets :
+    goal.gather_variants-returns-in_err-value-clause-meets
+gather_variants-returns-in_err-value-clause-meets g m c =
     let t = c.args.self.now.source.bytes.now in
     let p = err_from_is_err_and c.from_residual-in_err-value.result c.from_residual-in_err-value.ensures.1 in
     rw (p.1, p.2)
@@ -756,8 +731,8 @@ get_variants-returns-in_err-value-clause-meets g m c =
     (fails_next (functional_token t right_bracket) c.in_ok-next.ensures.meets
     (fails_first c.in_err-value.ensures.meets))))))))))
 
-pub get_variants-returns-in_default-clause-meets : goal.get_variants-returns-in_default-clause-meets
-get_variants-returns-in_default-clause-meets g m c =
+pub gather_variants-returns-in_default-clause-meets : goal.gather_variants-returns-in_default-clause-meets
+gather_variants-returns-in_default-clause-meets g m c =
     let t = c.args.self.now.source.bytes.now in
     let found = rw c.in_default.is at c.in_ok-value.ensures.meets in
     let value_read = pattern c.args.self.now.edition t (within c.args.self.now.edition t c.args.nesting) in
@@ -775,12 +750,12 @@ get_variants-returns-in_default-clause-meets g m c =
     (goes_on none
     (failed refl)))))))))))))
 
-pub get_variants-loop-starred-preserved : goal.get_variants-loop-starred-preserved
-get_variants-loop-starred-preserved g m c =
+pub gather_variants-loop-starred-preserved : goal.gather_variants-loop-starred-preserved
+gather_variants-loop-starred-preserved g m c =
     let t = c.args.self.now.source.bytes.now in
     let found = rw c.in-Some.is at c.in_ok-value.ensures.meets in
     let old = c.loop-starred in
-    let new = variant_with c.in_ok-key-2.key c.in-Some.value c.take_byte_if-star.result.0 in
+    let added = c.in_ok-add_variant.ensures in
     let value_read = pattern c.args.self.now.edition t (within c.args.self.now.edition t c.args.nesting) in
     on_made found (λ o read same.
     on_value (pattern_map (g.M.MakeTexts.source c.args.self.now.texts.now)) value_read o read same
@@ -800,7 +775,7 @@ get_variants-loop-starred-preserved g m c =
           );
       within = c.skip_blank-place.ensures.within;
       gathered =
-          variant_made g.M.MakeTexts.made _ _ new c.in_ok-push.ensures.items old.invariant.gathered
+          variant_made g.M.MakeTexts.made _ _ added.0 added.1 old.invariant.gathered
           (functional_next_variant c.args.self.now.edition t _ (functional_within c.args.self.now.edition t _)
           old.starred)
           (variant (key_view (λ s. s) c.in_ok-key.key) value c.take_byte_if-star.result.0) _
@@ -815,53 +790,53 @@ get_variants-loop-starred-preserved g m c =
           (goes_on there
           (goes_on (passed c.skip_blank-place.ensures.blank)
           given))))))))))
-          (view-Variant g.M.MakeTexts.made new ∙ rw (c.in_ok-key-2.ensures, same_value) refl);
+          (added.2 ∙ rw same_value refl);
     }))
 
 -- ---- pieces
 
-pub get_pieces-returns-in-None-clause-meets : goal.get_pieces-returns-in-None-clause-meets
-get_pieces-returns-in-None-clause-meets g m c =
-    all_made (piece_view g.M.MakeTexts.made) _ c.loop-pieces.invariant.gathered (end_pieces
+pub gather_pieces-returns-in-None-clause-meets : goal.gather_pieces-returns-in-None-clause-meets
+gather_pieces-returns-in-None-clause-meets g m c =
+    all_made (piece_view g.M.MakeTexts.made) _ c.loop-byte.invariant.gathered (end_pieces
     c.args.self.now.source.bytes.now
     (within c.args.self.now.edition c.args.self.now.source.bytes.now c.args.nesting) _ (sym c.in-None.ensures))
 
-pub get_pieces-returns-then-is_eol_at-clause-meets : goal.get_pieces-returns-then-is_eol_at-clause-meets
-get_pieces-returns-then-is_eol_at-clause-meets g m c =
-    all_made (piece_view g.M.MakeTexts.made) _ c.loop-pieces.invariant.gathered
+pub gather_pieces-returns-then-is_eol_at-clause-meets : goal.gather_pieces-returns-then-is_eol_at-clause-meets
+gather_pieces-returns-then-is_eol_at-clause-meets g m c =
+    all_made (piece_view g.M.MakeTexts.made) _ c.loop-byte.invariant.gathered
     (no_pieces c.args.self.now.source.bytes.now (within c.args.self.now.edition c.args.self.now.source.bytes.now
     c.args.nesting) _ _
     (sym c.in-Some.ensures) (λ e. cc) (sym c.if-is_eol_at.ensures))
 
-pub get_pieces-returns-then-byte-eq125-clause-meets : goal.get_pieces-returns-then-byte-eq125-clause-meets
-get_pieces-returns-then-byte-eq125-clause-meets g m c =
-    item_fails c.loop-pieces.invariant.gathered.behind (refused (λ k from to (a, b, d). rw (a, b, d)
+pub gather_pieces-returns-then-byte-eq125-clause-meets : goal.gather_pieces-returns-then-byte-eq125-clause-meets
+gather_pieces-returns-then-byte-eq125-clause-meets g m c =
+    item_fails c.loop-byte.invariant.gathered.behind (refused (λ k from to (a, b, d). rw (a, b, d)
     (bare_brace c.args.self.now.source.bytes.now (within c.args.self.now.edition c.args.self.now.source.bytes.now
     c.args.nesting) _ _
     (sym c.in-Some.ensures) (sym c.if-is_eol_at.ensures)
     c.if-byte-eq125.true)))
 
-pub get_pieces-returns-in_err-expression-in-Some-clause-meets :
-    goal.get_pieces-returns-in_err-expression-in-Some-clause-meets
-get_pieces-returns-in_err-expression-in-Some-clause-meets g m c =
+pub gather_pieces-returns-in_err-expression-in-Some-clause-meets :
+    goal.gather_pieces-returns-in_err-expression-in-Some-clause-meets
+gather_pieces-returns-in_err-expression-in-Some-clause-meets g m c =
     let p = err_from_is_err_and c.from_residual.result c.from_residual.ensures.1 in
     rw (p.1, p.2)
-    (item_fails c.loop-pieces.invariant.gathered.behind
+    (item_fails c.loop-byte.invariant.gathered.behind
     (placed_fails c.args.self.now.source.bytes.now (within c.args.self.now.edition c.args.self.now.source.bytes.now
     c.args.nesting) _ _
     (sym c.in-Some.ensures) (sym c.if-is_eol_at.ensures)
     c.if-byte-eq123.true (fails_first c.in_err-expression-in-Some.ensures.meets)))
 
-pub get_pieces-loop-pieces-preserved-then-byte-eq123 : goal.get_pieces-loop-pieces-preserved-then-byte-eq123
-get_pieces-loop-pieces-preserved-then-byte-eq123 g m c =
+pub gather_pieces-loop-byte-preserved-then-byte-eq123 : goal.gather_pieces-loop-byte-preserved-then-byte-eq123
+gather_pieces-loop-byte-preserved-then-byte-eq123 g m c =
     let t = c.args.self.now.source.bytes.now in
     let read = c.in_ok-expression-in-Some.ensures in
     on_made read.meets (λ e there same. record {
-      forward = omega (arith, c.loop-pieces.invariant.forward, read.within.0);
+      forward = omega (arith, c.loop-byte.invariant.forward, read.within.0);
       within = read.within.1;
       gathered =
-          item_made (piece_view g.M.MakeTexts.made) _ _ _ c.in_ok-push-in-Some.ensures.items
-          c.loop-pieces.invariant.gathered
+          item_made (piece_view g.M.MakeTexts.made) _ _ _ c.in_ok-add_placed-in-Some.ensures
+          c.loop-byte.invariant.gathered
           (functional_next_piece t (within c.args.self.now.edition t c.args.nesting)
           (functional_within c.args.self.now.edition t _)) _
           (placed_piece t (within c.args.self.now.edition t c.args.nesting) _ _ (sym c.in-Some.ensures)
@@ -869,16 +844,16 @@ get_pieces-loop-pieces-preserved-then-byte-eq123 g m c =
           (goes_on there given)) (ap placed same);
     })
 
-pub get_pieces-loop-pieces-preserved : goal.get_pieces-loop-pieces-preserved
-get_pieces-loop-pieces-preserved g m c =
+pub gather_pieces-loop-byte-preserved : goal.gather_pieces-loop-byte-preserved
+gather_pieces-loop-byte-preserved g m c =
     let t = c.args.self.now.source.bytes.now in
     let run = c.run_end-to.ensures.run in
     record {
-      forward = omega (arith, c.loop-pieces.invariant.forward, run.forward);
+      forward = omega (arith, c.loop-byte.invariant.forward, run.forward);
       within = c.run_end-to.ensures.within;
       gathered =
-          item_made (piece_view g.M.MakeTexts.made) _ _ _ c.in_ok-push-in-Some-2.ensures.items
-          c.loop-pieces.invariant.gathered
+          item_made (piece_view g.M.MakeTexts.made) _ _ _ c.in_ok-add_run-in-Some.ensures
+          c.loop-byte.invariant.gathered
           (functional_next_piece t (within c.args.self.now.edition t c.args.nesting)
           (functional_within c.args.self.now.edition t _)) _
           (run_piece t (within c.args.self.now.edition t c.args.nesting) _ _ (sym c.in-Some.ensures)
@@ -888,109 +863,91 @@ get_pieces-loop-pieces-preserved g m c =
 
 -- ---- lines
 
-pub get_lines-returns-in-None-clause-meets : goal.get_lines-returns-in-None-clause-meets
-get_lines-returns-in-None-clause-meets g m c =
-    all_made (line_view g.M.MakeTexts.made) _ c.loop-lines.invariant.gathered
-    (no_byte c.skip_blank_inline-first.ensures.blank (sym c.in-None.ensures))
-
-pub get_lines-returns-then-not-belongs-clause-meets : goal.get_lines-returns-then-not-belongs-clause-meets
-get_lines-returns-then-not-belongs-clause-meets g m c =
-    all_made (line_view g.M.MakeTexts.made) _ c.loop-lines.invariant.gathered
-    (other_line c.skip_blank_inline-first.ensures.blank (sym c.in-Some.ensures) (sym c.if-not-belongs.ensures))
-
-pub get_lines-returns-in_err-pieces-in-Some-clause-meets :
-    goal.get_lines-returns-in_err-pieces-in-Some-clause-meets
-get_lines-returns-in_err-pieces-in-Some-clause-meets g m c =
+pub gather_line-returns-in_err-end-clause-adds : goal.gather_line-returns-in_err-end-clause-adds
+gather_line-returns-in_err-end-clause-adds g m c =
     let t = c.args.self.now.source.bytes.now in
     let p = err_from_is_err_and c.from_residual.result c.from_residual.ensures.1 in
-    let blank = c.skip_blank_inline-first.ensures.blank in
+    rw (p.1, p.2) (
+      fails_next functional_here at_place
+          (fails_next (functional_inline_blank t) (passed c.requires.blank)
+          (fails_next functional_here at_place
+          (fails_first c.in_err-end.ensures.meets))),
+      refl,
+    )
+
+pub gather_line-returns-in_err-next-clause-adds : goal.gather_line-returns-in_err-next-clause-adds
+gather_line-returns-in_err-next-clause-adds g m c =
+    rw (out_of_memory c.from_residual-in_err-next.result c.from_residual-in_err-next.ensures.1)
+    (no_memory, c.in_err-next.ensures.stays)
+
+pub gather_line-returns-clause-adds : goal.gather_line-returns-clause-adds
+gather_line-returns-clause-adds g m c =
+    let t = c.args.self.now.source.bytes.now in
+    let (added, found, pushed, is, ends) = c.in_ok-next.ensures.adds in
+    on_made c.in_ok-end.ensures.meets (λ ps there same. (
+      added,
+      pushed,
+      made (line_read t (within c.args.self.now.edition t c.args.nesting) _ _ c.requires.blank _ _ _ _ there ends)
+          (is ∙ rw same refl),
+    ))
+
+pub gather_line-returns-clause-within : goal.gather_line-returns-clause-within
+gather_line-returns-clause-within g m c =
+    let pieces = c.in_ok-end.ensures in
+    let next = c.in_ok-next.ensures in
+    let onward =
+    line_onward c.args.self.now.source.bytes.now _ _ _ c.requires.within pieces.within.0 next.within.0 pieces.stops
+    next.further in
+    (omega (arith, onward, c.requires.blank.forward), next.within.1)
+
+pub gather_lines-returns-in-None-clause-meets : goal.gather_lines-returns-in-None-clause-meets
+gather_lines-returns-in-None-clause-meets g m c =
+    all_made (line_view g.M.MakeTexts.made) _ c.loop-byte.invariant.gathered
+    (no_byte c.skip_blank_inline-first.ensures.blank (sym c.in-None.ensures))
+
+pub gather_lines-returns-then-not-belongs-clause-meets : goal.gather_lines-returns-then-not-belongs-clause-meets
+gather_lines-returns-then-not-belongs-clause-meets g m c =
+    all_made (line_view g.M.MakeTexts.made) _ c.loop-byte.invariant.gathered
+    (other_line c.skip_blank_inline-first.ensures.blank (sym c.in-Some.ensures) (sym c.if-not-belongs.ensures))
+
+pub gather_lines-returns-in_err-start-in-Some-clause-meets :
+    goal.gather_lines-returns-in_err-start-in-Some-clause-meets
+gather_lines-returns-in_err-start-in-Some-clause-meets g m c =
+    let t = c.args.self.now.source.bytes.now in
+    let p = err_from_is_err_and c.from_residual.result c.from_residual.ensures.1 in
     rw (p.1, p.2)
-    (item_fails c.loop-lines.invariant.gathered.behind
-    (own_line_fails t (within c.args.self.now.edition t c.args.nesting) blank (sym c.in-Some.ensures)
-    (sym c.if-not-belongs.ensures)
-    (fails_first
-    (fails_next functional_here at_place
-    (fails_next (functional_inline_blank t) (passed blank)
-    (fails_next functional_here at_place
-    (fails_first c.in_err-pieces-in-Some.ensures.meets)))))))
+    (item_fails c.loop-byte.invariant.gathered.behind
+    (own_line_fails t (within c.args.self.now.edition t c.args.nesting) c.skip_blank_inline-first.ensures.blank
+    (sym c.in-Some.ensures) (sym c.if-not-belongs.ensures) (fails_first c.in_err-start-in-Some.ensures.adds.0)))
 
-pub get_lines-returns-in-None-eol_end-clause-meets : goal.get_lines-returns-in-None-eol_end-clause-meets
-get_lines-returns-in-None-eol_end-clause-meets g m c =
+pub gather_lines-loop-byte-preserved : goal.gather_lines-loop-byte-preserved
+gather_lines-loop-byte-preserved g m c =
     let t = c.args.self.now.source.bytes.now in
-    let blank = c.skip_blank_inline-first.ensures.blank in
-    let pieces = c.in_ok-pieces-in-Some.ensures in
-    let none = sym c.in-None-eol_end.ensures.eol in
-    on_made pieces.meets (λ ps there same.
-    let read = line_read t (within c.args.self.now.edition t c.args.nesting) _ _ blank _ _ _ _ there
-    (ends_text t _ none) in
-    all_made (line_view g.M.MakeTexts.made) _
-    (item_made (line_view g.M.MakeTexts.made) _ _ _ c.in_ok-push-in-None-eol_end.ensures.items
-    c.loop-lines.invariant.gathered
-    (functional_next_line t (within c.args.self.now.edition t c.args.nesting)
-    (functional_within c.args.self.now.edition t _)) _
-    (own_line blank (sym c.in-Some.ensures) (sym c.if-not-belongs.ensures) (goes_on read given)) (rw same refl))
-    (no_lines t (within c.args.self.now.edition t c.args.nesting) _ (pieces.stops (after_none t _ none))))
-
-pub get_lines-loop-lines-preserved : goal.get_lines-loop-lines-preserved
-get_lines-loop-lines-preserved g m c =
-    let t = c.args.self.now.source.bytes.now in
-    let blank = c.skip_blank_inline-first.ensures.blank in
-    let pieces = c.in_ok-pieces-in-Some.ensures in
-    let eol = c.in-Some-eol_end.ensures in
-    on_made pieces.meets (λ ps there same.
-    let read = line_read t (within c.args.self.now.edition t c.args.nesting) _ _ blank _ _ _ _ there
-    (ends_line t _ _ (sym eol.eol)) in
-    record {
-      forward = omega (arith, c.loop-lines.invariant.forward, blank.forward, pieces.within.0, eol.within.0);
-      within = eol.within.1;
+    let read = c.in_ok-start-in-Some.ensures in
+    on_made read.adds.2 (λ l there same. record {
+      forward = omega (arith, c.loop-byte.invariant.forward, read.within.0);
+      within = read.within.1;
       gathered =
-          item_made (line_view g.M.MakeTexts.made) _ _ _ c.in_ok-push-in-Some-eol_end.ensures.items
-          c.loop-lines.invariant.gathered
+          item_made (line_view g.M.MakeTexts.made) _ _ _ read.adds.1 c.loop-byte.invariant.gathered
           (functional_next_line t (within c.args.self.now.edition t c.args.nesting)
           (functional_within c.args.self.now.edition t _)) _
-          (own_line blank (sym c.in-Some.ensures) (sym c.if-not-belongs.ensures) (goes_on read given))
-          (rw (c.ending_at-ending.ensures.seen, same) refl);
+          (own_line c.skip_blank_inline-first.ensures.blank (sym c.in-Some.ensures) (sym c.if-not-belongs.ensures)
+          (goes_on there given)) same;
     })
-
-pub get_expression-skip_blank_inline-ptr-requires : goal.get_expression-skip_blank_inline-ptr-requires
-get_expression-skip_blank_inline-ptr-requires g m c =
-    let t = c.args.self.now.source.bytes.now in
-    let i = c.skip_blank-ptr.result in
-    let mark = right_true _ _ (sym c.if-not-is_arrow.ensures) in
-    let inside = has_inside (λ b. b == greater_than) t (i + 1) mark in
-    omega (arith, inside)
 
 -- ---- out of memory
 
-pub get_arguments-returns-in_err-push-in-Some-clause-meets :
-    goal.get_arguments-returns-in_err-push-in-Some-clause-meets
-get_arguments-returns-in_err-push-in-Some-clause-meets g m c =
-    rw (out_of_memory c.from_residual-in_err-push-in-Some.result
-    c.from_residual-in_err-push-in-Some.ensures.1) no_memory
+pub get_arguments-returns-in_err-add_named-in-Some-clause-meets :
+    goal.get_arguments-returns-in_err-add_named-in-Some-clause-meets
+get_arguments-returns-in_err-add_named-in-Some-clause-meets g m c =
+    rw (out_of_memory c.from_residual-in_err-add_named-in-Some.result
+    c.from_residual-in_err-add_named-in-Some.ensures.1) no_memory
 
-pub get_arguments-returns-in_err-push-in_default-clause-meets :
-    goal.get_arguments-returns-in_err-push-in_default-clause-meets
-get_arguments-returns-in_err-push-in_default-clause-meets g m c =
-    rw (out_of_memory c.from_residual-in_err-push-in_default.result
-    c.from_residual-in_err-push-in_default.ensures.1) no_memory
-
-pub get_inline_expression-returns-in_err-expression-in-Brace-2-clause-meets :
-    goal.get_inline_expression-returns-in_err-expression-in-Brace-2-clause-meets
-get_inline_expression-returns-in_err-expression-in-Brace-2-clause-meets g m c =
-    rw (out_of_memory c.from_residual-in_err-expression-in-Brace-2.result
-    c.from_residual-in_err-expression-in-Brace-2.ensures.1) no_memory
-
-pub get_lines-returns-in_err-push-in-None-eol_end-clause-meets :
-    goal.get_lines-returns-in_err-push-in-None-eol_end-clause-meets
-get_lines-returns-in_err-push-in-None-eol_end-clause-meets g m c =
-    rw (out_of_memory c.from_residual-in_err-push-in-None-eol_end.result
-    c.from_residual-in_err-push-in-None-eol_end.ensures.1) no_memory
-
-pub get_lines-returns-in_err-push-in-Some-eol_end-clause-meets :
-    goal.get_lines-returns-in_err-push-in-Some-eol_end-clause-meets
-get_lines-returns-in_err-push-in-Some-eol_end-clause-meets g m c =
-    rw (out_of_memory c.from_residual-in_err-push-in-Some-eol_end.result
-    c.from_residual-in_err-push-in-Some-eol_end.ensures.1) no_memory
+pub get_arguments-returns-in_err-add_positional-in_default-clause-meets :
+    goal.get_arguments-returns-in_err-add_positional-in_default-clause-meets
+get_arguments-returns-in_err-add_positional-in_default-clause-meets g m c =
+    rw (out_of_memory c.from_residual-in_err-add_positional-in_default.result
+    c.from_residual-in_err-add_positional-in_default.ensures.1) no_memory
 
 pub get_pattern-returns-in_err-pattern-clause-meets :
     goal.get_pattern-returns-in_err-pattern-clause-meets
@@ -1003,22 +960,22 @@ get_long_pattern-returns-in_err-pattern-clause-meets g m c =
     rw (out_of_memory c.from_residual-in_err-pattern.result
     c.from_residual-in_err-pattern.ensures.1) no_memory
 
-pub get_pieces-returns-in_err-push-in-Some-clause-meets :
-    goal.get_pieces-returns-in_err-push-in-Some-clause-meets
-get_pieces-returns-in_err-push-in-Some-clause-meets g m c =
-    rw (out_of_memory c.from_residual-in_err-push-in-Some.result
-    c.from_residual-in_err-push-in-Some.ensures.1) no_memory
+pub gather_pieces-returns-in_err-add_placed-in-Some-clause-meets :
+    goal.gather_pieces-returns-in_err-add_placed-in-Some-clause-meets
+gather_pieces-returns-in_err-add_placed-in-Some-clause-meets g m c =
+    rw (out_of_memory c.from_residual-in_err-add_placed-in-Some.result
+    c.from_residual-in_err-add_placed-in-Some.ensures.1) no_memory
 
-pub get_pieces-returns-in_err-push-in-Some-2-clause-meets :
-    goal.get_pieces-returns-in_err-push-in-Some-2-clause-meets
-get_pieces-returns-in_err-push-in-Some-2-clause-meets g m c =
-    rw (out_of_memory c.from_residual-in_err-push-in-Some-2.result
-    c.from_residual-in_err-push-in-Some-2.ensures.1) no_memory
+pub gather_pieces-returns-in_err-add_run-in-Some-clause-meets :
+    goal.gather_pieces-returns-in_err-add_run-in-Some-clause-meets
+gather_pieces-returns-in_err-add_run-in-Some-clause-meets g m c =
+    rw (out_of_memory c.from_residual-in_err-add_run-in-Some.result
+    c.from_residual-in_err-add_run-in-Some.ensures.1) no_memory
 
-pub get_variants-returns-in_err-push-clause-meets :
-    goal.get_variants-returns-in_err-push-clause-meets
-get_variants-returns-in_err-push-clause-meets g m c =
-    rw (out_of_memory c.from_residual-in_err-push.result c.from_residual-in_err-push.ensures.1) no_memory
+pub gather_variants-returns-in_err-add_variant-clause-meets :
+    goal.gather_variants-returns-in_err-add_variant-clause-meets
+gather_variants-returns-in_err-add_variant-clause-meets g m c =
+    rw (out_of_memory c.from_residual-in_err-add_variant.result c.from_residual-in_err-add_variant.ensures.1) no_memory
 
 pub get_arguments-returns-in_err-note-in-Some-clause-meets :
     goal.get_arguments-returns-in_err-note-in-Some-clause-meets
@@ -1026,47 +983,11 @@ get_arguments-returns-in_err-note-in-Some-clause-meets g m c =
     rw (out_of_memory c.from_residual-in_err-note-in-Some.result
     c.from_residual-in_err-note-in-Some.ensures.1) no_memory
 
-pub get_inline_expression-returns-in_err-value-in-Quote-2-clause-meets :
-    goal.get_inline_expression-returns-in_err-value-in-Quote-2-clause-meets
-get_inline_expression-returns-in_err-value-in-Quote-2-clause-meets g m c =
-    rw (out_of_memory c.from_residual-in_err-value-in-Quote-2.result
-    c.from_residual-in_err-value-in-Quote-2.ensures.1) no_memory
-
-pub get_inline_expression-returns-in_err-value-in-Digit-clause-meets :
-    goal.get_inline_expression-returns-in_err-value-in-Digit-clause-meets
-get_inline_expression-returns-in_err-value-in-Digit-clause-meets g m c =
-    rw (out_of_memory c.from_residual-in_err-value-in-Digit.result
-    c.from_residual-in_err-value-in-Digit.ensures.1) no_memory
-
-pub get_inline_expression-returns-in_err-id-in-Dollar-clause-meets :
-    goal.get_inline_expression-returns-in_err-id-in-Dollar-clause-meets
-get_inline_expression-returns-in_err-id-in-Dollar-clause-meets g m c =
-    rw (out_of_memory c.from_residual-in_err-id-in-Dollar.result
-    c.from_residual-in_err-id-in-Dollar.ensures.1) no_memory
-
-pub get_term_reference-returns-in_err-id-clause-meets :
-    goal.get_term_reference-returns-in_err-id-clause-meets
-get_term_reference-returns-in_err-id-clause-meets g m c =
-    rw (out_of_memory c.from_residual-in_err-id.result
-    c.from_residual-in_err-id.ensures.1) no_memory
-
-pub get_term_reference-returns-in_err-attribute-2-clause-meets :
-    goal.get_term_reference-returns-in_err-attribute-2-clause-meets
-get_term_reference-returns-in_err-attribute-2-clause-meets g m c =
-    rw (out_of_memory c.from_residual-in_err-attribute-2.result
-    c.from_residual-in_err-attribute-2.ensures.1) no_memory
-
-pub get_arguments-returns-in_err-name-in-Some-clause-meets :
-    goal.get_arguments-returns-in_err-name-in-Some-clause-meets
-get_arguments-returns-in_err-name-in-Some-clause-meets g m c =
-    rw (out_of_memory c.from_residual-in_err-name-in-Some.result
-    c.from_residual-in_err-name-in-Some.ensures.1) no_memory
-
-pub get_variants-returns-in_err-key-2-clause-meets :
-    goal.get_variants-returns-in_err-key-2-clause-meets
-get_variants-returns-in_err-key-2-clause-meets g m c =
-    rw (out_of_memory c.from_residual-in_err-key-2.result
-    c.from_residual-in_err-key-2.ensures.1) no_memory
+pub gather_opening-returns-in_err-next-in-None-clause-opens :
+    goal.gather_opening-returns-in_err-next-in-None-clause-opens
+gather_opening-returns-in_err-next-in-None-clause-opens g m c =
+    rw (out_of_memory c.from_residual-in_err-next-in-None.result
+    c.from_residual-in_err-next-in-None.ensures.1) no_memory
 
 -- ---- where a loop begins
 
@@ -1080,41 +1001,34 @@ get_arguments-loop-noted-init g m c = record {
   noted = rw c.new-noted.ensures.names c.new-noted.ensures.noted;
 }
 
-pub get_variants-loop-starred-init : goal.get_variants-loop-starred-init
-get_variants-loop-starred-init g m c = record {
+pub gather_variants-loop-starred-init : goal.gather_variants-loop-starred-init
+gather_variants-loop-starred-init g m c = record {
   forward = omega arith;
-  within = c.requires;
-  gathered = rw c.new-variants.ensures.items (no_variant g.M.MakeTexts.made);
+  within = c.requires.within;
+  gathered = rw c.requires.empty (no_variant g.M.MakeTexts.made);
 }
 
-pub get_pieces-loop-pieces-init : goal.get_pieces-loop-pieces-init
-get_pieces-loop-pieces-init g m c = record {
+pub gather_pieces-loop-byte-init : goal.gather_pieces-loop-byte-init
+gather_pieces-loop-byte-init g m c = record {
   forward = omega arith;
-  within = c.requires;
-  gathered = rw c.new-pieces.ensures.items (no_items (piece_view g.M.MakeTexts.made));
+  within = c.requires.within;
+  gathered = rw c.requires.empty (no_items (piece_view g.M.MakeTexts.made));
 }
 
-pub get_lines-loop-lines-init : goal.get_lines-loop-lines-init
-get_lines-loop-lines-init g m c = record {
+pub gather_lines-loop-byte-init : goal.gather_lines-loop-byte-init
+gather_lines-loop-byte-init g m c = record {
   forward = omega arith;
-  within = c.requires;
-  gathered = rw c.new-lines.ensures.items (no_items (line_view g.M.MakeTexts.made));
+  within = c.requires.within;
+  gathered = rw c.requires.empty (no_items (line_view g.M.MakeTexts.made));
 }
 
 -- ---- numbers
 
-pub get_pieces-loop-pieces-smaller : goal.get_pieces-loop-pieces-smaller
-get_pieces-loop-pieces-smaller g m c =
+pub gather_pieces-loop-byte-smaller : goal.gather_pieces-loop-byte-smaller
+gather_pieces-loop-byte-smaller g m c =
     let t = c.args.self.now.source.bytes.now in
     let run = c.run_end-to.ensures.run in
     let there = run_there t (within c.args.self.now.edition t c.args.nesting) _ _ (sym c.in-Some.ensures)
     (sym c.if-is_eol_at.ensures) c.if-byte-eq125.false c.if-byte-eq123.false in
-    let longer = further (is_run_place t) c.loop-pieces.place c.run_end-to.result run there in
+    let longer = further (is_run_place t) c.loop-byte.place c.run_end-to.result run there in
     omega (arith, longer, c.run_end-to.ensures.within)
-
-pub get_lines-invariant_of-push-in-Some-eol_end-clause-ends :
-    goal.get_lines-invariant_of-push-in-Some-eol_end-clause-ends
-get_lines-invariant_of-push-in-Some-eol_end-clause-ends g m c = c.ending_at-ending.ensures.ends
-
-pub get_expression-overflow_add-ptr : goal.get_expression-overflow_add-ptr
-get_expression-overflow_add-ptr g m c = omega (arith, c.skip_blank-ptr.ensures.within, c.args.self.now.small)

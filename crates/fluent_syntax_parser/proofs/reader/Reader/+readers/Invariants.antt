@@ -14,46 +14,61 @@ use Rattle.fluent_syntax_parser.proofs.reader.Reader.+readers.Given as goal
 -- how much deeper it may nest, times the number of ranks, and the reader's rank
 
 abbrev pub decreases-get_placeable : goal.decreases-get_placeable
-decreases-get_placeable g l = 10 * l.nesting
+decreases-get_placeable g l = 12 * l.nesting
 
 abbrev pub decreases-get_call_arguments : goal.decreases-get_call_arguments
-decreases-get_call_arguments g l = 10 * l.nesting
+decreases-get_call_arguments g l = 12 * l.nesting
 
 abbrev pub decreases-get_inline_expression : goal.decreases-get_inline_expression
-decreases-get_inline_expression g l = 10 * l.nesting + 2
+decreases-get_inline_expression g l = 12 * l.nesting + 2
 
 abbrev pub decreases-get_term_reference : goal.decreases-get_term_reference
-decreases-get_term_reference g l = 10 * l.nesting + 1
+decreases-get_term_reference g l = 12 * l.nesting + 1
 
 abbrev pub decreases-get_reference : goal.decreases-get_reference
-decreases-get_reference g l = 10 * l.nesting + 1
+decreases-get_reference g l = 12 * l.nesting + 1
 
 abbrev pub decreases-get_argument_value : goal.decreases-get_argument_value
-decreases-get_argument_value g l = 10 * l.nesting + 3
+decreases-get_argument_value g l = 12 * l.nesting + 3
 
 abbrev pub decreases-get_arguments : goal.decreases-get_arguments
-decreases-get_arguments g l = 10 * l.nesting + 4
+decreases-get_arguments g l = 12 * l.nesting + 4
 
-abbrev pub decreases-get_pieces : goal.decreases-get_pieces
-decreases-get_pieces g l = 10 * l.nesting + 1
+abbrev pub decreases-gather_pieces : goal.decreases-gather_pieces
+decreases-gather_pieces g l = 12 * l.nesting + 1
 
-abbrev pub decreases-get_lines : goal.decreases-get_lines
-decreases-get_lines g l = 10 * l.nesting + 2
+abbrev pub decreases-gather_lines : goal.decreases-gather_lines
+decreases-gather_lines g l = 12 * l.nesting + 3
 
-abbrev pub decreases-get_layout : goal.decreases-get_layout
-decreases-get_layout g l = 10 * l.nesting + 3
+abbrev pub decreases-gather_line : goal.decreases-gather_line
+decreases-gather_line g l = 12 * l.nesting + 2
+
+abbrev pub decreases-gather_opening : goal.decreases-gather_opening
+decreases-gather_opening g l = 12 * l.nesting + 2
 
 abbrev pub decreases-get_pattern : goal.decreases-get_pattern
-decreases-get_pattern g l = 10 * l.nesting + 5
+decreases-get_pattern g l = 12 * l.nesting + 6
+
+abbrev pub decreases-gather_layout : goal.decreases-gather_layout
+decreases-gather_layout g l = 12 * l.nesting + 4
+
+abbrev pub decreases-gather_from_arrow : goal.decreases-gather_from_arrow
+decreases-gather_from_arrow g l = 12 * l.nesting + 8
 
 abbrev pub decreases-get_long_pattern : goal.decreases-get_long_pattern
-decreases-get_long_pattern g l = 10 * l.nesting + 4
+decreases-get_long_pattern g l = 12 * l.nesting + 5
 
-abbrev pub decreases-get_variants : goal.decreases-get_variants
-decreases-get_variants g l = 10 * l.nesting + 6
+abbrev pub decreases-gather_variants : goal.decreases-gather_variants
+decreases-gather_variants g l = 12 * l.nesting + 7
 
 abbrev pub decreases-get_expression : goal.decreases-get_expression
-decreases-get_expression g l = 10 * l.nesting + 7
+decreases-get_expression g l = 12 * l.nesting + 10
+
+abbrev pub decreases-get_select : goal.decreases-get_select
+decreases-get_select g l = 12 * l.nesting + 9
+
+abbrev pub decreases-get_inner_placeable : goal.decreases-get_inner_placeable
+decreases-get_inner_placeable g l = 12 * l.nesting + 1
 
 -- ---- loops
 
@@ -72,8 +87,8 @@ invariant-get_arguments-loop-noted g l =
 abbrev pub decreases-get_arguments-loop-noted : goal.decreases-get_arguments-loop-noted
 decreases-get_arguments-loop-noted g l = length l.self.source.bytes.now - l.place
 
-abbrev pub invariant-get_variants-loop-starred : goal.invariant-get_variants-loop-starred
-invariant-get_variants-loop-starred g l =
+abbrev pub invariant-gather_variants-loop-starred : goal.invariant-gather_variants-loop-starred
+invariant-gather_variants-loop-starred g l =
     let t = l.self.source.bytes.now in
     record {
       forward : l.ptr ≤ l.place;
@@ -83,11 +98,11 @@ invariant-get_variants-loop-starred g l =
           (g.M.MakeTexts.source l.self.texts.now) g.M.MakeTexts.made l.ptr l.variants.items l.starred l.place;
     }
 
-abbrev pub decreases-get_variants-loop-starred : goal.decreases-get_variants-loop-starred
-decreases-get_variants-loop-starred g l = length l.self.source.bytes.now - l.place
+abbrev pub decreases-gather_variants-loop-starred : goal.decreases-gather_variants-loop-starred
+decreases-gather_variants-loop-starred g l = length l.self.source.bytes.now - l.place
 
-abbrev pub invariant-get_pieces-loop-pieces : goal.invariant-get_pieces-loop-pieces
-invariant-get_pieces-loop-pieces g l =
+abbrev pub invariant-gather_pieces-loop-byte : goal.invariant-gather_pieces-loop-byte
+invariant-gather_pieces-loop-byte g l =
     let t = l.self.source.bytes.now in
     record {
       forward : l.ptr ≤ l.place;
@@ -98,11 +113,11 @@ invariant-get_pieces-loop-pieces g l =
           l.place;
     }
 
-abbrev pub decreases-get_pieces-loop-pieces : goal.decreases-get_pieces-loop-pieces
-decreases-get_pieces-loop-pieces g l = length l.self.source.bytes.now - l.place
+abbrev pub decreases-gather_pieces-loop-byte : goal.decreases-gather_pieces-loop-byte
+decreases-gather_pieces-loop-byte g l = length l.self.source.bytes.now - l.place
 
-abbrev pub invariant-get_lines-loop-lines : goal.invariant-get_lines-loop-lines
-invariant-get_lines-loop-lines g l =
+abbrev pub invariant-gather_lines-loop-byte : goal.invariant-gather_lines-loop-byte
+invariant-gather_lines-loop-byte g l =
     let t = l.self.source.bytes.now in
     record {
       forward : l.ptr ≤ l.start;
@@ -113,5 +128,5 @@ invariant-get_lines-loop-lines g l =
           l.start;
     }
 
-abbrev pub decreases-get_lines-loop-lines : goal.decreases-get_lines-loop-lines
-decreases-get_lines-loop-lines g l = length l.self.source.bytes.now - l.start
+abbrev pub decreases-gather_lines-loop-byte : goal.decreases-gather_lines-loop-byte
+decreases-gather_lines-loop-byte g l = length l.self.source.bytes.now - l.start

@@ -14,4 +14,4 @@ pub returns-in_ok-push-in-Placed : goal.returns-in_ok-push-in-Placed
 returns-in_ok-push-in-Placed g c =
     let v = g.M.MakeTexts.made in
     map_added (element_view v) _ _ _ _ c.in_ok-push-in-Placed.ensures.items
-    (rw (view-Placeable v c.in-Placed.expression, c.in-Placed.is) refl)
+    (rw (view-Placeable v c.into_inner-expression.result, c.into_inner-expression.ensures, c.in-Placed.is) refl)

@@ -1,6 +1,7 @@
 use Rattle.std.proofs.Common.{◌≡◌, ◌∙◌, ap, length, arith, refl, sym}
 use Rattle.std.specs.Vec.{vec_len}
 use Rattle.std.proofs.lemmas.Result.{err_from_is_err_and}
+use Rattle.fluent_syntax_tree.specs.Kind.{ExpectedMessageField}
 use Rattle.fluent_syntax_tree.specs.declared.spans.Span.{Span}
 use Rattle.fluent_syntax_grammar.specs.Construct.{stops, goes_on, at_place}
 use Rattle.fluent_syntax_grammar.specs.Entries.{message_with}
@@ -12,9 +13,11 @@ use Rattle.fluent_syntax_parser.proofs.reader.Reader.add_message.Goals.{else-is_
 use Rattle.fluent_syntax_parser.proofs.reader.Reader.add_message.Goals.{else-is_none-via-else-is_none}
 use Rattle.fluent_syntax_grammar.proofs.FunctionalWords.{functional_identifier}
 use Rattle.fluent_syntax_parser.specs.Meets.{no_memory, refused}
+use Rattle.fluent_syntax_parser.specs.declared.fault.Fault.TheVariants as fault
 use Rattle.fluent_syntax_parser.specs.Made.{made}
 use Rattle.fluent_syntax_parser.proofs.readers.Made.{on_made}
 use Rattle.fluent_syntax_parser.proofs.readers.Fails.{fails_next, functional_here, out_of_memory}
+use Rattle.fluent_syntax_parser.proofs.scanning.NameTexts.{identifier_text}
 use Rattle.fluent_syntax_parser.proofs.reader.Reader.add_message.Goals as goal
 
 pub returns-in_err-end-clause-adds : goal.returns-in_err-end-clause-adds
@@ -41,8 +44,10 @@ returns-then-is_empty-clause-adds g c =
     let found = c.in_ok-fields.fields in
     let size : length found.attributes.items ≡ vec_len found.attributes = omega (arith, found.attributes.ok.0) in
     let none = no_items found.attributes.items _ size c.if-is_empty.ensures in
+    let text = sym (identifier_text t c.in_ok-end.ensures.meets) in
     on_made c.in_ok-fields.ensures.meets (λ x read same. (
-      refused (λ k from to (a, b, d). rw (a, b, d)
+      refused {f = fault.MessageField} {from = c.args.start} {place = c.in_ok-fields.place} (λ k from to (a, b, d).
+          rw (a ∙ ap ExpectedMessageField text, b, d)
           (goes_on at_place
           (goes_on c.in_ok-end.ensures.meets
           (fields_then c.args.self.now.edition t _ (message_with t c.args.start name) _ _ x _ read

@@ -1,5 +1,6 @@
-use Rattle.std.proofs.Common.{None, Some, ap, refl}
+use Rattle.std.proofs.Common.{None, Some, ap, refl, sym, ◌∙◌}
 use Rattle.std.proofs.lemmas.Result.{err_from_is_err_and}
+use Rattle.fluent_syntax_tree.specs.Kind.{ExpectedTermField}
 use Rattle.fluent_syntax_tree.specs.declared.spans.Span.{Span}
 use Rattle.fluent_syntax_grammar.specs.Construct.{stops, goes_on, at_place, given, failed_from}
 use Rattle.fluent_syntax_tree.specs.Tree.{pattern_map}
@@ -10,9 +11,11 @@ use Rattle.fluent_syntax_parser.proofs.entry_forms.FieldForms.{fields_fail, fiel
 use Rattle.fluent_syntax_grammar.specs.Bytes.{hyphen}
 use Rattle.fluent_syntax_grammar.proofs.FunctionalWords.{functional_identifier, functional_token}
 use Rattle.fluent_syntax_parser.specs.Meets.{no_memory, refused}
+use Rattle.fluent_syntax_parser.specs.declared.fault.Fault.TheVariants as fault
 use Rattle.fluent_syntax_parser.specs.Made.{made}
 use Rattle.fluent_syntax_parser.proofs.readers.Made.{on_made}
 use Rattle.fluent_syntax_parser.proofs.readers.Fails.{fails_next, functional_here, out_of_memory}
+use Rattle.fluent_syntax_parser.proofs.scanning.NameTexts.{identifier_text, mark_before}
 use Rattle.fluent_syntax_parser.proofs.reader.Reader.add_term.Goals as goal
 
 pub returns-in_err-letter-clause-adds : goal.returns-in_err-letter-clause-adds
@@ -79,8 +82,11 @@ returns-in-None-clause-adds g c =
     let name : Span = record { start = c.in_ok-letter.letter; end = c.in_ok-end.end } in
     let edition = c.args.self.now.edition in
     let found = rw c.in-None.is at c.in_ok-fields.ensures.meets in
+    let text = sym (identifier_text t c.in_ok-end.ensures.meets) in
+    let before = mark_before t c.in_ok-letter.ensures.meets in
     on_made found (λ x read same. (
-      refused (λ k from to (a, b, d). rw (a, b, d)
+      refused {f = fault.TermField} {from = c.in_ok-letter.letter} {place = c.in_ok-fields.place} (λ k from to (a, b, d).
+          rw (a ∙ ap ExpectedTermField text, b ∙ before, d)
           (goes_on at_place
           (goes_on c.in_ok-letter.ensures.meets
           (goes_on c.in_ok-end.ensures.meets

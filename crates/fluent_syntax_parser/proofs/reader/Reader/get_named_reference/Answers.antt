@@ -1,8 +1,8 @@
 use Rattle.std.proofs.Common.{◌∙◌, ap, refl, sym}
 use Rattle.std.proofs.lemmas.Result.{err_from_is_err_and}
-use Rattle.fluent_syntax_tree.specs.Tree.{function_reference}
-use Rattle.fluent_syntax_tree.specs.View.{arguments_view}
-use Rattle.fluent_syntax_tree.proofs.Views.{view-FunctionReference, view-MessageReference}
+use Rattle.fluent_syntax_tree.specs.Tree.{function_reference, inline}
+use Rattle.fluent_syntax_tree.specs.View.{arguments_view, expression_view}
+use Rattle.fluent_syntax_tree.proofs.Views.{view-FunctionReference, view-Inline, view-MessageReference}
 use Rattle.fluent_syntax_grammar.specs.Construct.{stops, goes_on, given, failed, first, second}
 use Rattle.fluent_syntax_parser.specs.Gathered.{maybe_view}
 use Rattle.fluent_syntax_parser.specs.Made.{made}
@@ -15,21 +15,28 @@ use Rattle.fluent_syntax_parser.proofs.reader.Reader.get_named_reference.Goals a
 pub returns-then-not-is_callee-clause-meets : goal.returns-then-not-is_callee-clause-meets
 returns-then-not-is_callee-clause-meets g c = λ a same.
     let found = some_given _ a (ap (maybe_view g.M.MakeTexts.made) (sym c.in-Some.is) ∙ same) in
-    rw found.1 (refused {r = record { fault = fault.Callee; place = c.args.ptr }} (λ k from to (a, b, d). rw (a, b, d)
+    rw found.1 (refused {f = fault.Callee} {from = c.args.ptr} {place = c.args.ptr} (λ k from to (a, b, d).
+    rw (a, b, d)
     (second (sym c.if-not-is_callee.ensures) (failed refl))))
 
 pub returns-in_err-id-in-Some-clause-meets : goal.returns-in_err-id-in-Some-clause-meets
 returns-in_err-id-in-Some-clause-meets g c = λ a same.
     rw (out_of_memory c.from_residual.result c.from_residual.ensures.1) no_memory
 
-pub returns-in_ok-id-in-Some-clause-meets : goal.returns-in_ok-id-in-Some-clause-meets
-returns-in_ok-id-in-Some-clause-meets g c = λ a same.
+pub returns-in_err-expression-in-Some-clause-meets : goal.returns-in_err-expression-in-Some-clause-meets
+returns-in_err-expression-in-Some-clause-meets g c = λ a same.
+    rw (out_of_memory c.from_residual-in_err-expression-in-Some.result
+    c.from_residual-in_err-expression-in-Some.ensures.1) no_memory
+
+pub returns-in_ok-expression-in-Some-clause-meets : goal.returns-in_ok-expression-in-Some-clause-meets
+returns-in_ok-expression-in-Some-clause-meets g c = λ a same.
     let found = some_given _ a (ap (maybe_view g.M.MakeTexts.made) (sym c.in-Some.is) ∙ same) in
     rw found.1 (made
     (first (sym c.if-not-is_callee.ensures) given)
-    (view-FunctionReference g.M.MakeTexts.made c.in_ok-id-in-Some.id c.in-Some.arguments
+    (ap (expression_view g.M.MakeTexts.made) c.in_ok-expression-in-Some.ensures.ok ∙ view-Inline g.M.MakeTexts.made _
+    ∙ ap inline (view-FunctionReference g.M.MakeTexts.made c.in_ok-id-in-Some.id c.in-Some.arguments
     ∙ ap (λ x. function_reference x (arguments_view g.M.MakeTexts.made c.in-Some.arguments)) c.in_ok-id-in-Some.ensures
-    ∙ ap (function_reference (g.M.MakeTexts.source c.args.self.now.texts.now c.args.name)) found.2))
+    ∙ ap (function_reference (g.M.MakeTexts.source c.args.self.now.texts.now c.args.name)) found.2)))
 
 pub returns-in_err-attribute-in-None-clause-meets : goal.returns-in_err-attribute-in-None-clause-meets
 returns-in_err-attribute-in-None-clause-meets g c = λ a same.
@@ -47,10 +54,16 @@ returns-in_err-attribute-in-None-2-clause-meets g c = λ a same.
     rw (out_of_memory c.from_residual-in_err-attribute-in-None-2.result
     c.from_residual-in_err-attribute-in-None-2.ensures.1) no_memory
 
-pub returns-in_ok-attribute-in-None-2-clause-meets : goal.returns-in_ok-attribute-in-None-2-clause-meets
-returns-in_ok-attribute-in-None-2-clause-meets g c = λ a same.
+pub returns-in_err-expression-in-None-clause-meets : goal.returns-in_err-expression-in-None-clause-meets
+returns-in_err-expression-in-None-clause-meets g c = λ a same.
+    rw (out_of_memory c.from_residual-in_err-expression-in-None.result
+    c.from_residual-in_err-expression-in-None.ensures.1) no_memory
+
+pub returns-in_ok-expression-in-None-clause-meets : goal.returns-in_ok-expression-in-None-clause-meets
+returns-in_ok-expression-in-None-clause-meets g c = λ a same.
     let none = none_given _ a (ap (maybe_view g.M.MakeTexts.made) (sym c.in-None.is) ∙ same) in
     rw none (made
     (goes_on c.in_ok-attribute-in-None.ensures.meets given)
-    (view-MessageReference g.M.MakeTexts.made c.in_ok-id-in-None.id c.in_ok-attribute-in-None-2.attribute
-    ∙ rw (c.in_ok-id-in-None.ensures, c.in_ok-attribute-in-None-2.ensures) refl))
+    (ap (expression_view g.M.MakeTexts.made) c.in_ok-expression-in-None.ensures.ok ∙ view-Inline g.M.MakeTexts.made _
+    ∙ ap inline (view-MessageReference g.M.MakeTexts.made c.in_ok-id-in-None.id c.in_ok-attribute-in-None-2.attribute
+    ∙ rw (c.in_ok-id-in-None.ensures, c.in_ok-attribute-in-None-2.ensures) refl)))

@@ -1,6 +1,7 @@
-use Rattle.std.proofs.Common.{◌≡◌, ◌∙◌, length, arith, refl}
+use Rattle.std.proofs.Common.{◌≡◌, ◌∙◌, ap, length, arith, refl, sym}
 use Rattle.std.specs.Vec.{vec_len}
 use Rattle.std.proofs.lemmas.Result.{err_from_is_err_and}
+use Rattle.fluent_syntax_tree.specs.Kind.{ExpectedMessageField}
 use Rattle.fluent_syntax_tree.specs.declared.spans.Span.{Span}
 use Rattle.fluent_syntax_grammar.specs.Construct.{stops, goes_on, at_place}
 use Rattle.fluent_syntax_grammar.specs.Entries.{message_with}
@@ -8,6 +9,7 @@ use Rattle.fluent_syntax_grammar.specs.Grammar.{within}
 use Rattle.fluent_syntax_grammar.proofs.FunctionalWords.{functional_identifier}
 use Rattle.fluent_syntax_parser.specs.Extents.{message_stands}
 use Rattle.fluent_syntax_parser.specs.Meets.{refused}
+use Rattle.fluent_syntax_parser.specs.declared.fault.Fault.TheVariants as fault
 use Rattle.fluent_syntax_parser.proofs.entry_forms.ExtentForms.{fields_there, no_attribute_extents, no_attributes}
 use Rattle.fluent_syntax_parser.proofs.entry_forms.ExtentForms.{same_value}
 use Rattle.fluent_syntax_parser.proofs.readers.Fails.{fails_next, functional_here}
@@ -16,6 +18,7 @@ use Rattle.fluent_syntax_parser.proofs.entry_forms.FieldForms.{message_of_value}
 use Rattle.fluent_syntax_parser.proofs.entry_forms.FieldForms.{message_without, no_items, some_items}
 use Rattle.fluent_syntax_parser.proofs.reader.Reader.message_parts.Goals.{else-is_none-via-else-is_none}
 use Rattle.fluent_syntax_parser.proofs.reader.Reader.message_parts.Goals.{else-is_none-via-then-is_none+else-is_empty}
+use Rattle.fluent_syntax_parser.proofs.scanning.NameTexts.{identifier_text}
 use Rattle.fluent_syntax_parser.proofs.reader.Reader.message_parts.Goals as goal
 
 pub returns-in_err-end : goal.returns-in_err-end
@@ -42,8 +45,10 @@ returns-then-is_empty g c =
     let found = c.in_ok-value in
     let size : length found.attributes.items ≡ vec_len found.attributes = omega (arith, found.attributes.ok.0) in
     let none = no_items found.attributes.items _ size c.if-is_empty.ensures in
+    let text = sym (identifier_text t c.in_ok-end.ensures.meets) in
     let (f, stand) = found.ensures in
-    refused (λ k from to (a, b, d). rw (a, b, d)
+    refused {f = fault.MessageField} {from = c.args.start} {place = found.place} (λ k from to (a, b, d).
+    rw (a ∙ ap ExpectedMessageField text, b, d)
     (goes_on at_place
     (goes_on c.in_ok-end.ensures.meets
     (fields_then edition t R (message_with t c.args.start name) _ _ f _

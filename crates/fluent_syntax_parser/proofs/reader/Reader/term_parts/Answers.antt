@@ -1,5 +1,6 @@
-use Rattle.std.proofs.Common.{None, Some}
+use Rattle.std.proofs.Common.{None, Some, ap, sym, ◌∙◌}
 use Rattle.std.proofs.lemmas.Result.{err_from_is_err_and}
+use Rattle.fluent_syntax_tree.specs.Kind.{ExpectedTermField}
 use Rattle.fluent_syntax_tree.specs.declared.spans.Span.{Span}
 use Rattle.fluent_syntax_grammar.specs.Bytes.{hyphen}
 use Rattle.fluent_syntax_grammar.specs.Construct.{stops, goes_on, at_place, given, failed_from}
@@ -8,9 +9,11 @@ use Rattle.fluent_syntax_grammar.specs.Grammar.{within}
 use Rattle.fluent_syntax_grammar.proofs.FunctionalWords.{functional_identifier, functional_token}
 use Rattle.fluent_syntax_parser.specs.Extents.{term_stands}
 use Rattle.fluent_syntax_parser.specs.Meets.{refused}
+use Rattle.fluent_syntax_parser.specs.declared.fault.Fault.TheVariants as fault
 use Rattle.fluent_syntax_parser.proofs.entry_forms.ExtentForms.{fields_there, with_value, without_value}
 use Rattle.fluent_syntax_parser.proofs.readers.Fails.{fails_next, functional_here}
 use Rattle.fluent_syntax_parser.proofs.entry_forms.FieldForms.{fields_fail, fields_then}
+use Rattle.fluent_syntax_parser.proofs.scanning.NameTexts.{identifier_text, mark_before}
 use Rattle.fluent_syntax_parser.proofs.reader.Reader.term_parts.Goals as goal
 
 pub returns-in_err-letter : goal.returns-in_err-letter
@@ -45,7 +48,10 @@ returns-then-is_none g c =
     let name : Span = record { start = c.in_ok-letter.letter; end = c.in_ok-end.end } in
     let found = c.in_ok-value in
     let (f, stand) = found.ensures in
-    refused (λ k from to (a, b, d). rw (a, b, d)
+    let text = sym (identifier_text t c.in_ok-end.ensures.meets) in
+    let before = mark_before t c.in_ok-letter.ensures.meets in
+    refused {f = fault.TermField} {from = c.in_ok-letter.letter} {place = found.place} (λ k from to (a, b, d).
+    rw (a ∙ ap ExpectedTermField text, b ∙ before, d)
     (goes_on at_place
     (goes_on c.in_ok-letter.ensures.meets
     (goes_on c.in_ok-end.ensures.meets

@@ -1,4 +1,5 @@
-use Rattle.std.proofs.Common.{sym}
+use Rattle.std.proofs.Common.{sym, true≢false, ◌∙◌}
+use Rattle.fluent_syntax_grammar.proofs.LineEnds.{after_none}
 use Rattle.fluent_syntax_parser.proofs.patterns.LineEndings.{ends_line, ends_text}
 use Rattle.fluent_syntax_parser.proofs.source.Source.get_ending.Goals as goal
 
@@ -8,3 +9,7 @@ returns-in-Some-clause-meets c =
 
 pub returns-in-None-clause-meets : goal.returns-in-None-clause-meets
 returns-in-None-clause-meets c = ends_text c.args.self.now.bytes.now _ (sym c.in-None.ensures.eol)
+
+pub returns-in-None-clause-further : goal.returns-in-None-clause-further
+returns-in-None-clause-further c = λ eol.
+    absurd (true≢false (sym eol ∙ after_none c.args.self.now.bytes.now _ (sym c.in-None.ensures.eol)))

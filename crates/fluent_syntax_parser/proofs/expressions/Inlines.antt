@@ -1,0 +1,28 @@
+-- The inline expression that an expression is.
+use Rattle.std.proofs.Common.{◌≡◌, ◌∙◌, ap, sym}
+use Rattle.std.specs.Prelude.{Vec}
+use Rattle.std.specs.Global.{Global}
+use Rattle.fluent_syntax_tree.specs.Tree.{ExpressionTree, InlineTree, VariantTrees, inline, select}
+use Rattle.fluent_syntax_tree.specs.View.{expression_view, inline_view}
+use Rattle.fluent_syntax_tree.proofs.Views.{view-Select}
+use Rattle.fluent_syntax_tree.specs.declared.ast.Expression.{Expression, Select}
+use Rattle.fluent_syntax_tree.specs.declared.ast.InlineExpression.{InlineExpression}
+use Rattle.fluent_syntax_tree.specs.declared.ast.Variant.{Variant}
+
+abbrev or : {X : Type 0} → InlineTree X → ExpressionTree X → InlineTree X
+or b (inline e) = e
+or b (select e vs) = b
+
+no_select : {X : Type 0} {e b : InlineTree X} {vs : VariantTrees X} → select e vs ≡ inline b → ⊥
+no_select h = cc
+
+module _ {S X : Type 0} (v : S → X) where
+  -- what was read as that expression
+  pub inline_seen : {d e : Expression S} (x : InlineExpression S) {b : InlineTree X} → d ≡ e →
+      expression_view v d ≡ inline (inline_view v x) → expression_view v e ≡ inline b → inline_view v x ≡ b
+  inline_seen x {b = b} is seen read = ap (or b) (sym seen ∙ ap (expression_view v) is ∙ read)
+
+  -- it is no select
+  pub select_not_inline : {d : Expression S} {b : InlineTree X} (e : InlineExpression S)
+      (vs : Vec (Variant S) Global) → d ≡ Select e vs → expression_view v d ≡ inline b → ⊥
+  select_not_inline e vs is read = no_select (sym (view-Select v e vs) ∙ ap (expression_view v) (sym is) ∙ read)

@@ -1,0 +1,58 @@
+-- The text of a name, by where it begins.
+use Rattle.std.proofs.Common.{◌≡◌, ℕ, zero, suc, ◌+◌, ◌-◌, ◌<◌, ◌≤◌, Bool, true, false, List, length, get_or, take, drop, arith}
+use Rattle.std.proofs.Common.{refl, sym, ap, ◌∙◌}
+use Rattle.std.specs.List.{prefix_len, take_while}
+use Rattle.std.specs.Prelude.{slice_get, slice_range}
+use Rattle.std.proofs.lemmas.List.{get_or-drop, length-drop}
+use Rattle.std.proofs.lemmas.List.Sums.{prefix_len_is}
+use Rattle.std.proofs.lemmas.Option.{slice_get-get_or}
+use Rattle.fluent_syntax_tree.specs.Spans.{bytes_at}
+use Rattle.fluent_syntax_tree.specs.declared.spans.Span.{Span}
+use Rattle.fluent_syntax_grammar.specs.Bytes.{is_letter, is_name_byte}
+use Rattle.fluent_syntax_grammar.specs.Construct.{Read, at_place, chosen, first, given, goes_on, passed, second}
+use Rattle.fluent_syntax_grammar.specs.Places.{Word, has}
+use Rattle.fluent_syntax_grammar.specs.Words.{identifier, token}
+use Rattle.fluent_syntax_grammar.proofs.Facts.{has_inside}
+use Rattle.fluent_syntax_parser.specs.Meets.{name_text}
+
+module _ (t : List ℕ) (p : ℕ → Bool) where
+  at_place_of : (b : Bool) (k : ℕ) → k < length t → has t p k ≡ b → p (get_or t k 0) ≡ b
+  at_place_of b k inside e = rw (slice_get-get_or t k 0 inside) at e
+
+  behind : (b : Bool) (i k n : ℕ) → i + k ≡ n → n < length t → has t p n ≡ b → p (get_or (drop i t) k 0) ≡ b
+  behind b i k n is inside e =
+      ap p (get_or-drop i t k 0 ∙ ap (λ m. get_or t m 0) is) ∙ at_place_of b n inside e
+
+  -- the longest run of bytes that pass a test
+  pub word_text : (i j : ℕ) → i ≤ length t → j ≤ length t → Word t p i j → slice_range t i j ≡ take_while p (drop i t)
+  word_text i j from within w =
+      let size = length-drop i t in
+      let long : prefix_len p (drop i t) ≡ j - i =
+      prefix_len_is p (drop i t) (j - i) 0 (omega (arith, size, w.forward, within))
+      (λ k l. behind true i k (i + k) refl (omega (arith, within)) (w.each (i + k) (omega arith) (omega arith)))
+      (λ l. behind false i (j - i) j (omega (arith, w.forward)) (omega (arith, size)) w.longest) in
+      ap (λ n. take n (drop i t)) (sym long)
+
+  -- it ends within the text
+  word_within : (i j : ℕ) → i < length t → Word t p i j → j ≤ length t
+  word_within i zero inside w = omega arith
+  word_within i (suc m) inside w =
+      let last : i ≤ m → m < length t = λ l. has_inside p t m (w.each m l (omega arith)) in
+      grind (arith, last)
+
+-- an identifier
+pub identifier_text : (t : List ℕ) {i j : ℕ} {name : Span} → identifier t i (Read name j) →
+    bytes_at t name ≡ name_text t i
+identifier_text t {i = i} {j = j}
+    (goes_on at_place (goes_on (chosen given) (first letter (goes_on (passed w) (goes_on at_place given))))) =
+    let inside = has_inside is_letter t i letter in
+    word_text t is_name_byte i j (omega (arith, inside)) (word_within t is_name_byte i j inside w) w
+identifier_text t
+    (goes_on at_place (goes_on (chosen given) (second other h))) = elim h [ ]
+
+-- the place before that behind a mark
+pub mark_before : (t : List ℕ) {b i j : ℕ} → token t b i (Read tt j) → j - 1 ≡ i
+mark_before t (goes_on (chosen (first e (goes_on (passed w) given))) (first f given)) = omega (arith, w.by)
+mark_before t (goes_on (chosen (first e (goes_on (passed w) given))) (second f x)) = elim x [ ]
+mark_before t (goes_on (chosen (second e given)) (first f given)) = cc
+mark_before t (goes_on (chosen (second e given)) (second f x)) = elim x [ ]

@@ -1,0 +1,26 @@
+use Rattle.std.proofs.Common.{◌∙◌, arith, refl, subst}
+use Rattle.ftl_project.specs.Comparing.{Compares, no_pairs}
+use Rattle.ftl_project.proofs.Compared.{same_files}
+use Rattle.ftl_project.proofs.InOrder.{ComparesEach-more}
+use Rattle.ftl_project.proofs.comparing.compare_files.Goals as goal
+
+pub loop-pair-init : goal.loop-pair-init
+loop-pair-init g c = record { stand = λ path. refl; each = no_pairs }
+
+pub loop-pair-preserved : goal.loop-pair-preserved
+loop-pair-preserved g c =
+    let at = g.S.Store.bytes_at in
+    let written = g.O.Write.contents in
+    let start = at c.args.store.now in
+    let compares = subst (λ files. Compares c.args.reading c.args.form files c.pair-item.result c.loop-pair.tally
+    c.tell_pair.new.tally c.loop-pair.share c.tell_pair.new.share (written c.loop-pair.streams.out.now)
+    (written c.tell_pair.new.streams.out.now)) (same_files start (at c.loop-pair.store) c.loop-pair.invariant.stand)
+    c.in_ok-tell_pair.ensures.counted in
+    record {
+      stand = λ path. c.tell_pair.ensures.stand path ∙ c.loop-pair.invariant.stand path;
+      each = ComparesEach-more c.args.reading c.args.form start c.args.pairs.now c.loop-pair.pair-index
+          c.pair-item.result c.args.tally.now c.loop-pair.tally c.tell_pair.new.tally c.args.share.now
+          c.loop-pair.share c.tell_pair.new.share (written c.args.streams.now.out.now)
+          (written c.loop-pair.streams.out.now) (written c.tell_pair.new.streams.out.now) (omega arith) c.pair-item.is
+          c.loop-pair.invariant.each compares;
+    }

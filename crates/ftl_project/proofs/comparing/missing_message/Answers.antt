@@ -1,0 +1,12 @@
+use Rattle.std.proofs.Common.{append_assoc}
+use Rattle.std.proofs.lemmas.Result.{IfOk-weaker}
+use Rattle.ftl_project.specs.Comparing.{missing_message}
+use Rattle.ftl_project.proofs.Said.{said_as}
+use Rattle.ftl_project.proofs.comparing.missing_message.Goals as goal
+
+pub returns : goal.returns
+returns c =
+    let name = c.name_in-name.result.now in
+    let said = said_as c.format.result _ (missing_message c.args.path.now c.args.text.now c.args.lack.now name)
+    (simp (append_assoc, c.missing_what-what.ensures, c.requires)) c.format.ensures.ok in
+    IfOk-weaker c.format.result _ _ (λ message says. (name, c.name_in-name.ensures, says)) said

@@ -1,0 +1,30 @@
+use Rattle.std.proofs.Common.{◌==◌, ap, not, refl, string_bytes}
+use Rattle.ftl_project.specs.Tally.{answered}
+use Rattle.std.specs.Prelude.{Some}
+use Rattle.ftl_project.proofs.Compared.{Compares-told}
+use Rattle.ftl_project.proofs.Counting.{appends_as, on_ok_then}
+use Rattle.ftl_project.proofs.comparing.tell_pair.Goals as goal
+
+pub returns-in-Ok-clause-counted : goal.returns-in-Ok-clause-counted
+returns-in-Ok-clause-counted g c =
+    let written = g.O.Write.contents in
+    let compared = c.in-Ok.compared in
+    let after = written c.put.new.writer in
+    on_ok_then c.put.result (λ appends. (
+      answered compared.errors (not (compared.errors == 0)),
+      Some compared.share,
+      string_bytes compared.told,
+      (compared.share, refl, c.in-Ok.ensures.compared, refl),
+      c.count.ensures,
+      c.add.ensures,
+      appends_as (written c.args.streams.now.out.now) after after c.as_str.result.now (string_bytes compared.told)
+          appends c.as_str.ensures.value refl,
+    )) c.put.ensures.written
+
+pub returns-in-Err-clause-counted : goal.returns-in-Err-clause-counted
+returns-in-Err-clause-counted g c =
+    let at = g.S.Store.bytes_at c.args.store.now in
+    let written = g.O.Write.contents in
+    Compares-told c.args.reading c.args.form at c.args.pair.now c.tell.result c.in-Err.fault c.args.tally.now
+    c.tell.new.tally c.args.share.now (written c.args.streams.now.out.now) (written c.tell.new.streams.out.now)
+    c.in-Err.ensures.fault c.tell.ensures.counted (ap (λ out. written out.now) c.tell.ensures.out)

@@ -1,0 +1,60 @@
+-- What is told of what is found in a file.
+use Rattle.std.specs.Prelude.{◌≡◌, ◌⊎◌, ◌+◌, ◌≤◌, ◌++◌, ℕ, List, [], ◌∷◌, Option, None, Some, codes}
+use Rattle.std.specs.Prelude.{length, min, slice_range}
+use Rattle.std.specs.Str.{IsCharBoundary}
+use Rattle.fluent_syntax.specs.Lines.{column_at, line_at}
+use Rattle.fluent_syntax_tree.specs.declared.spans.Span.{Span}
+use Rattle.ftl_excerpts.specs.Excerpt.{shown_text}
+use Rattle.ftl_project.specs.Reports.{EndsIn, EndsInExcerpt, place_of}
+use Rattle.ftl_project.specs.declared.form.Form.{Form}
+use Rattle.ftl_project.specs.declared.form.Form.TheVariants.{Colored, Full, Github, Json, Lines}
+use Rattle.ftl_project.specs.declared.remarks.Spot.{Spot}
+
+-- where a name is in a text: with its line and its column, or those of the text's end where that comes first
+abbrev pub spot_at : (text : List ℕ) → Span → Spot
+spot_at text name = record {
+  line = line_at text (min name.start (length text));
+  column = column_at text (min name.start (length text));
+  start = name.start;
+  end = name.end;
+}
+
+-- The bytes are those of the name, or none where it is no range of the text's characters.
+abbrev pub IsName : (text : List ℕ) → Span → List ℕ → Type 0
+IsName text name bytes =
+    ((bytes ≡ slice_range text name.start name.end) × (length bytes + name.start ≡ name.end))
+    ⊎ ((name.start ≤ name.end → IsCharBoundary text name.start → ¬ (IsCharBoundary text name.end)) × (bytes ≡ []))
+
+-- the path as it is shown, with the line and the column where there is a place
+abbrev pub place_or_path : (path : List ℕ) → Option Spot → List ℕ
+place_or_path path None = shown_text path
+place_or_path path (Some spot) = place_of path spot.line spot.column
+
+-- the message, where there is no place
+abbrev pub message_behind : Option Spot → (message : List ℕ) → List ℕ
+message_behind None message = codes ": " ++ shown_text message
+message_behind (Some spot) message = []
+
+-- the line of a remark
+abbrev pub remark_line : (path : List ℕ) → Option Spot → (kind message : List ℕ) → List ℕ
+remark_line path place kind message =
+    place_or_path path place ++ (codes ": " ++ (kind ++ (message_behind place message ++ codes "\n")))
+
+-- in full: the excerpt of the place, or the message where there is none, behind what is told before it
+abbrev pub EndsInSpot : (caret text : List ℕ) → Option Spot → (message told : List ℕ) → Type 0
+EndsInSpot caret text None message told = EndsIn (shown_text message ++ codes "\n") told
+EndsInSpot caret text (Some spot) message told = EndsInExcerpt caret text spot.start told
+
+-- This is told of what was found in a file, in the form.
+abbrev pub IsRemark : Form → (path text : List ℕ) → Option Spot → (kind message told : List ℕ) → Type 0
+IsRemark Lines path text place kind message told = told ≡ remark_line path place kind message
+IsRemark Full path text place kind message told = EndsInSpot (codes "^") text place message told
+IsRemark Colored path text place kind message told = (caret : List ℕ) × EndsInSpot caret text place message told
+IsRemark Json path text place kind message told = EndsIn (codes "}\n") told
+IsRemark Github path text place kind message told = EndsIn (codes "\n") told
+
+-- Of each this is told, one behind another.
+pub data TellsEach {A : Type 0} (Is : A → List ℕ → Type 0) : List A → (told : List ℕ) → Type 0 where
+  nothing : TellsEach Is [] []
+  behind : {items : List A} {told : List ℕ} → (item : A) (text : List ℕ) → TellsEach Is items told → Is item text →
+      TellsEach Is (items ++ (item ∷ [])) (told ++ text)

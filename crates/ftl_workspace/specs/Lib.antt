@@ -1,0 +1,5 @@
+pub mod Memory
+pub mod Nearness
+pub mod Paths
+pub mod Reading
+pub mod Uris
