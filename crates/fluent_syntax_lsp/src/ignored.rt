@@ -7,8 +7,8 @@ use ftl_settings::{Settings, SettingsFault, settings_of};
 use ftl_workspace::{FILE_LIMIT, Folders};
 use std::alloc::{AllocError, Global};
 
-/// The kinds that the `ftl.toml` at the top of a folder leaves out. None where there is no such file, or it says nothing
-/// that can be gone by.
+/// The kinds that the `ftl.toml` at the top of a folder leaves out. None where there is no such file, or it says
+/// nothing that can be gone by.
 ///
 /// `AllocError` where a growth was refused.
 pub fn ignored_in<F: Folders>(

@@ -1,5 +1,6 @@
 -- What a reader answers is an outcome of its construct.
-use Rattle.std.specs.Prelude.{◌≡◌, ℕ, ◌+◌, ◌-◌, drop, slice_range, List, [], ◌∷◌, Option, Some, None, codes, Result, Ok, Err}
+use Rattle.std.specs.Prelude.{◌≡◌, ℕ, ◌+◌, ◌-◌, drop, slice_range, List, [], ◌∷◌, Option, Some, None, codes, Result, Ok}
+use Rattle.std.specs.Prelude.{Err}
 use Rattle.std.specs.Fmt.{decimal}
 use Rattle.std.specs.List.{take_while}
 use Rattle.fluent_syntax_tree.specs.Kind as kinds

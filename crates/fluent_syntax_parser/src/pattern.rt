@@ -137,8 +137,8 @@ impl<'s, 't, M: MakeTexts> Reader<'s, 't, M> {
         Ok(Pattern { elements })
     }
 
-    /// Ends the line on which a pattern opens, whose pieces end at a place: they are its items then. Gives where the next
-    /// line begins.
+    /// Ends the line on which a pattern opens, whose pieces end at a place: they are its items then. Gives where the
+    /// next line begins.
     #[inline(never)]
     fn end_first_line(
         &self,
@@ -168,8 +168,8 @@ impl<'s, 't, M: MakeTexts> Reader<'s, 't, M> {
     ) -> Result<usize, ReadFault>
         requires within { ptr ≤ length self.now.source.bytes.now }
         requires empty { items.old.items ≡ [] }
-        ensures opens { let t = self.now.source.bytes.now in
-            Opens t (within self.now.edition t nesting) (M.source self.now.texts.now) M.made ptr items.new.items result }
+        ensures opens { let t = self.now.source.bytes.now in let R = within self.now.edition t nesting in
+            Opens t R (M.source self.now.texts.now) M.made ptr items.new.items result }
         ensures within { IfOk result (λ next. (ptr ≤ next) × (next ≤ length self.now.source.bytes.now)) }
     {
         match self.source.eol_end(ptr) {

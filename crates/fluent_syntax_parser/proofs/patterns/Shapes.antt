@@ -124,7 +124,8 @@ module _ {S X : Type 0} (v : S → X) where
   pub items_viewed : (edition : Edition) (common : Option ℕ) (opening all : List (parts.Piece S))
       (lines : List (rows.Line S)) →
       map item_shape all ≡ map item_shape opening ++ flat_map (line_items edition common) (map line_shape lines) →
-      map (item_view v) all ≡ map (item_view v) opening ++ flat_map (line_items edition common) (map (line_view v) lines)
+      map (item_view v) all
+      ≡ map (item_view v) opening ++ flat_map (line_items edition common) (map (line_view v) lines)
   items_viewed edition common opening all lines same =
       let h = boxed_expression_view v in
       items_seen all

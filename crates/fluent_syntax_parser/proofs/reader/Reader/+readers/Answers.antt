@@ -445,8 +445,9 @@ get_arguments-returns-then-has-clause-meets g m c =
     let there = inline_seen _ _ c.deref.ensures c.inline_in.ensures same in
     let is = sym (c.in-Some.ensures c.args.nesting _ e read there) in
     let text = sym (argument_text t _ _ e _ read c.in-Some.name is) in
+    let next = c.in_ok-expression.next in
     item_fails c.loop-noted.invariant.gathered.behind
-    (refused {f = fault.Duplicated} {from = c.loop-noted.place} {place = c.in_ok-expression.next} (λ k from to (a, b, d).
+    (refused {f = fault.Duplicated} {from = c.loop-noted.place} {place = next} (λ k from to (a, b, d).
     rw (a ∙ ap DuplicatedNamedArgument text, b, d)
     (named t _ (names_in t names) _
     (omega (arith, c.if-place-self.false, c.loop-noted.invariant.within)) (sym c.loop-noted-test.ensures) e _

@@ -84,8 +84,9 @@ returns-in-None-clause-adds g c =
     let found = rw c.in-None.is at c.in_ok-fields.ensures.meets in
     let text = sym (identifier_text t c.in_ok-end.ensures.meets) in
     let before = mark_before t c.in_ok-letter.ensures.meets in
+    let letter = c.in_ok-letter.letter in
     on_made found (λ x read same. (
-      refused {f = fault.TermField} {from = c.in_ok-letter.letter} {place = c.in_ok-fields.place} (λ k from to (a, b, d).
+      refused {f = fault.TermField} {from = letter} {place = c.in_ok-fields.place} (λ k from to (a, b, d).
           rw (a ∙ ap ExpectedTermField text, b ∙ before, d)
           (goes_on at_place
           (goes_on c.in_ok-letter.ensures.meets
