@@ -1,39 +1,23 @@
 -- What one of two texts has and the other lacks, as rows.
 use Rattle.std.specs.Prelude.{◌≡◌, ◌++◌, ℕ, List, [], ◌∷◌, Option, Some, None}
 use Rattle.std.specs.List.{flat_map}
+use Rattle.fluent_syntax_names.specs.Differences.{side_difference}
 use Rattle.fluent_syntax_names.specs.Lacks.{all_lacks}
 use Rattle.fluent_syntax_names.specs.declared.lack.Lack.{Lack}
-use Rattle.fluent_syntax_names.specs.declared.lack.Part.{Part}
-use Rattle.fluent_syntax_names.specs.declared.lack.Part.TheVariants as part
 use Rattle.fluent_syntax_names.specs.declared.outline.Outline.{Outline}
 use Rattle.ftl.specs.declared.outcome.Outcome.{Outcome}
 use Rattle.fluent_syntax_c.specs.Findings.{found_row}
 use Rattle.fluent_syntax_c.specs.Outlines.{IsEditionOutline, either_outcome}
-use Rattle.fluent_syntax_c.specs.declared.comparison.Side.{Side}
-use Rattle.fluent_syntax_c.specs.declared.comparison.Side.TheVariants.{Reference, Other}
+use Rattle.fluent_syntax_names.specs.declared.differences.Side.{Side}
+use Rattle.fluent_syntax_names.specs.declared.differences.Side.TheVariants.{Reference, Other}
 use Rattle.fluent_syntax_c.specs.declared.findings.FtlFinding.{FtlFinding}
-use Rattle.fluent_syntax_c.specs.declared.found_kinds.Difference.{Difference}
-use Rattle.fluent_syntax_c.specs.declared.found_kinds.Difference.TheVariants as differs
+use Rattle.fluent_syntax_names.specs.declared.differences.Difference.{Difference}
 use Rattle.fluent_syntax_c.specs.declared.found_kinds.FoundKind.TheVariants.{Between}
 
 -- the number of the text
 abbrev pub side_number : Side → ℕ
 side_number Reference = 0
 side_number Other = 1
-
--- what is told of a part that this text has and the other one lacks: a variable may be left out, and a translation may
--- refer to more
-abbrev pub side_difference : Side → Part → Option Difference
-side_difference Reference part.Entry = Some differs.Missing
-side_difference Reference part.Value = Some differs.MissingValue
-side_difference Reference part.Attribute = Some differs.MissingAttribute
-side_difference Reference part.Reference = Some differs.MissingReference
-side_difference Reference part.Variable = None
-side_difference Other part.Entry = Some differs.Obsolete
-side_difference Other part.Value = Some differs.ObsoleteValue
-side_difference Other part.Attribute = Some differs.ObsoleteAttribute
-side_difference Other part.Reference = None
-side_difference Other part.Variable = Some differs.UnknownVariable
 
 module _ (side : Side) (text : List ℕ) where
   -- the row of a difference at the name, where there is one

@@ -1,5 +1,6 @@
 -- Kinds of findings: their numbers, how grave they are, and their names.
-use Rattle.std.specs.Prelude.{◌≡◌, ◌≢◌, ℕ, List, codes}
+use Rattle.std.specs.Prelude.{◌≡◌, ◌≢◌, ℕ, List}
+use Rattle.fluent_syntax_names.specs.Differences.{difference_name, difference_severity}
 use Rattle.fluent_syntax_names.specs.Severities.{name_of, severity_of}
 use Rattle.fluent_syntax_names.specs.declared.finding.Kind.{Kind}
 use Rattle.fluent_syntax_names.specs.declared.finding.Kind.TheVariants as kind
@@ -7,8 +8,8 @@ use Rattle.fluent_syntax_names.specs.declared.finding.Severity.{Severity}
 use Rattle.fluent_syntax_names.specs.declared.finding.Severity.TheVariants.{Error, Warning}
 use Rattle.ftl.specs.declared.outcome.Outcome.{Outcome}
 use Rattle.ftl.specs.declared.outcome.Outcome.TheVariants.{Clean}
-use Rattle.fluent_syntax_c.specs.declared.found_kinds.Difference.{Difference}
-use Rattle.fluent_syntax_c.specs.declared.found_kinds.Difference.TheVariants as differs
+use Rattle.fluent_syntax_names.specs.declared.differences.Difference.{Difference}
+use Rattle.fluent_syntax_names.specs.declared.differences.Difference.TheVariants as differs
 use Rattle.fluent_syntax_c.specs.declared.found_kinds.FoundKind.{FoundKind}
 use Rattle.fluent_syntax_c.specs.declared.found_kinds.FoundKind.TheVariants.{Within, Between}
 
@@ -35,39 +36,19 @@ abbrev pub found_number : FoundKind → ℕ
 found_number (Within k) = within_number k
 found_number (Between d) = between_number d
 
-abbrev pub between_severity : Difference → Severity
-between_severity differs.Missing = Error
-between_severity differs.MissingValue = Error
-between_severity differs.MissingAttribute = Error
-between_severity differs.MissingReference = Warning
-between_severity differs.Obsolete = Warning
-between_severity differs.ObsoleteValue = Warning
-between_severity differs.ObsoleteAttribute = Warning
-between_severity differs.UnknownVariable = Error
-
 -- how grave a finding of the kind is
 abbrev pub found_severity : FoundKind → Severity
 found_severity (Within k) = severity_of k
-found_severity (Between d) = between_severity d
+found_severity (Between d) = difference_severity d
 
 abbrev pub severity_number : Severity → ℕ
 severity_number Error = 1
 severity_number Warning = 2
 
-abbrev pub between_name : Difference → List ℕ
-between_name differs.Missing = codes "missing"
-between_name differs.MissingValue = codes "missing-value"
-between_name differs.MissingAttribute = codes "missing-attribute"
-between_name differs.MissingReference = codes "missing-reference"
-between_name differs.Obsolete = codes "obsolete"
-between_name differs.ObsoleteValue = codes "obsolete-value"
-between_name differs.ObsoleteAttribute = codes "obsolete-attribute"
-between_name differs.UnknownVariable = codes "unknown-variable"
-
 -- as a command line has it
 abbrev pub found_name : FoundKind → List ℕ
 found_name (Within k) = name_of k
-found_name (Between d) = between_name d
+found_name (Between d) = difference_name d
 
 -- No kind of findings has the number.
 abbrev pub IsNoFoundKind : ℕ → Type 0

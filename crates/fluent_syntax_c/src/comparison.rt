@@ -3,8 +3,7 @@ ghost use Rattle.std.specs.Prelude.{◌≡◌, ◌≢◌, ◌↔◌, ◌⊎◌, 
 ghost use Rattle.std.specs.List.{flat_map};
 ghost use Rattle.std.specs.Str.{IsUtf8};
 ghost use Rattle.fluent_syntax_c.specs.Arguments.{IsNoEdition};
-ghost use Rattle.fluent_syntax_c.specs.Comparison.{AreDifferences, compared_rows, lack_rows, side_difference};
-ghost use Rattle.fluent_syntax_c.specs.Comparison.{side_number};
+ghost use Rattle.fluent_syntax_c.specs.Comparison.{AreDifferences, compared_rows, lack_rows, side_number};
 ghost use Rattle.fluent_syntax_c.specs.Depth.{EditionReadsDeeper};
 ghost use Rattle.fluent_syntax_c.specs.Output.{Leaves};
 ghost use Rattle.fluent_syntax_c.specs.Outlines.{IsShort};
@@ -13,49 +12,21 @@ ghost use Rattle.fluent_syntax_c.specs.Status.{EndsAs};
 use crate::arguments::edition_of;
 use crate::columns::Places;
 use crate::findings::{FtlFinding, found_row};
-use crate::found_kinds::{Difference, FoundKind};
+use crate::found_kinds::FoundKind;
 use crate::outlines::{either_outcome, outline};
 use crate::outputs::give;
 use crate::status::Refusal;
-use fluent_syntax_names::{Lack, Outline, Part, lacks};
+use fluent_syntax_names::{Lack, Outline, Side, lacks};
 use ftl::Outcome;
 use std::alloc::{AllocError, Global};
 
-/// One of the two texts.
-#[derive(Clone, Copy)]
-pub(crate) enum Side {
-    Reference,
-    Other,
-}
-
-impl Side {
-    /// The number of the text.
-    fn number(self) -> usize
-        ensures { result ≡ side_number self }
-    {
-        match self {
-            Side::Reference => 0,
-            Side::Other => 1,
-        }
-    }
-
-    /// What is told of a part that this text has and the other one lacks. A variable may be left out, and the other
-    /// text may refer to more.
-    fn difference(self, part: Part) -> Option<Difference>
-        ensures { result ≡ side_difference self part }
-    {
-        match (self, part) {
-            (Side::Reference, Part::Entry) => Some(Difference::Missing),
-            (Side::Reference, Part::Value) => Some(Difference::MissingValue),
-            (Side::Reference, Part::Attribute) => Some(Difference::MissingAttribute),
-            (Side::Reference, Part::Reference) => Some(Difference::MissingReference),
-            (Side::Reference, Part::Variable) => None,
-            (Side::Other, Part::Entry) => Some(Difference::Obsolete),
-            (Side::Other, Part::Value) => Some(Difference::ObsoleteValue),
-            (Side::Other, Part::Attribute) => Some(Difference::ObsoleteAttribute),
-            (Side::Other, Part::Reference) => None,
-            (Side::Other, Part::Variable) => Some(Difference::UnknownVariable),
-        }
+/// The number of the text of a side.
+fn side_number(side: Side) -> usize
+    ensures { result ≡ side_number side }
+{
+    match side {
+        Side::Reference => 0,
+        Side::Other => 1,
     }
 }
 
@@ -177,6 +148,6 @@ fn add_lack<'t>(
         return Ok(());
     };
     let kind = FoundKind::Between(difference);
-    rows.push(found_row(places, kind, side.number(), lack.name, None))?;
+    rows.push(found_row(places, kind, side_number(side), lack.name, None))?;
     Ok(())
 }

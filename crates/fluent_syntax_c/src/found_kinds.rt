@@ -1,10 +1,9 @@
 //! Kinds of findings: their numbers, how grave they are, and their names.
 ghost use Rattle.std.specs.Prelude.{◌≡◌, IfNone, IfSome};
-ghost use Rattle.fluent_syntax_c.specs.FoundKinds.{IsNoFoundKind, between_name, between_number, between_severity};
-ghost use Rattle.fluent_syntax_c.specs.FoundKinds.{found_name, found_number, found_severity, severity_number};
-ghost use Rattle.fluent_syntax_c.specs.FoundKinds.{within_number};
+ghost use Rattle.fluent_syntax_c.specs.FoundKinds.{IsNoFoundKind, between_number, found_name, found_number};
+ghost use Rattle.fluent_syntax_c.specs.FoundKinds.{found_severity, severity_number, within_number};
 
-use fluent_syntax_names::{Kind, Severity};
+use fluent_syntax_names::{Difference, Kind, Severity};
 
 /// What is found: `enum ftl_finding_kind` of `include/fluent.h`.
 #[derive(Clone, Copy)]
@@ -15,26 +14,13 @@ pub enum FoundKind {
     Between(Difference),
 }
 
-/// What one of two texts has and the other lacks.
-#[derive(Clone, Copy)]
-pub enum Difference {
-    Missing,
-    MissingValue,
-    MissingAttribute,
-    MissingReference,
-    Obsolete,
-    ObsoleteValue,
-    ObsoleteAttribute,
-    UnknownVariable,
-}
-
 impl FoundKind {
     pub(crate) fn number(self) -> u32
         ensures { result ≡ found_number self }
     {
         match self {
             FoundKind::Within(kind) => within_number(kind),
-            FoundKind::Between(difference) => difference.number(),
+            FoundKind::Between(difference) => between_number(difference),
         }
     }
 
@@ -60,46 +46,18 @@ impl FoundKind {
     }
 }
 
-impl Difference {
-    fn number(self) -> u32
-        ensures { result ≡ between_number self }
-    {
-        match self {
-            Difference::Missing => 101,
-            Difference::MissingValue => 102,
-            Difference::MissingAttribute => 103,
-            Difference::MissingReference => 104,
-            Difference::Obsolete => 105,
-            Difference::ObsoleteValue => 106,
-            Difference::ObsoleteAttribute => 107,
-            Difference::UnknownVariable => 108,
-        }
-    }
-
-    fn severity(self) -> Severity
-        ensures { result ≡ between_severity self }
-    {
-        match self {
-            Difference::Missing | Difference::MissingValue => Severity::Error,
-            Difference::MissingAttribute | Difference::UnknownVariable => Severity::Error,
-            Difference::MissingReference | Difference::Obsolete => Severity::Warning,
-            Difference::ObsoleteValue | Difference::ObsoleteAttribute => Severity::Warning,
-        }
-    }
-
-    fn name(self) -> &'static str
-        ensures { result.now ≡ between_name self }
-    {
-        match self {
-            Difference::Missing => "missing",
-            Difference::MissingValue => "missing-value",
-            Difference::MissingAttribute => "missing-attribute",
-            Difference::MissingReference => "missing-reference",
-            Difference::Obsolete => "obsolete",
-            Difference::ObsoleteValue => "obsolete-value",
-            Difference::ObsoleteAttribute => "obsolete-attribute",
-            Difference::UnknownVariable => "unknown-variable",
-        }
+fn between_number(difference: Difference) -> u32
+    ensures { result ≡ between_number difference }
+{
+    match difference {
+        Difference::Missing => 101,
+        Difference::MissingValue => 102,
+        Difference::MissingAttribute => 103,
+        Difference::MissingReference => 104,
+        Difference::Obsolete => 105,
+        Difference::ObsoleteValue => 106,
+        Difference::ObsoleteAttribute => 107,
+        Difference::UnknownVariable => 108,
     }
 }
 

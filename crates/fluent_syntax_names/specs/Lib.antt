@@ -1,4 +1,5 @@
 pub mod Circles
+pub mod Differences
 pub mod Drawings
 pub mod Findings
 pub mod Knowing

@@ -7,6 +7,7 @@ mod circles;
 mod comparing;
 mod defined_names;
 mod definitions;
+mod differences;
 mod drawing;
 mod entries;
 mod files;
@@ -28,6 +29,7 @@ mod uses;
 
 pub use comparing::lacks;
 pub use defined_names::DefinedNames;
+pub use differences::{Difference, Side};
 pub use entries::{defined, mentions, references, variables};
 pub use files::{findings, findings_beside, own_findings};
 pub use finding::{Finding, Kind, Place, Severity};

@@ -1,7 +1,7 @@
 //! What one file says and another lacks.
 
 use crate::findings::outline;
-use fluent_syntax_names::{Part, lacks};
+use fluent_syntax_names::{Difference, Part, Severity, Side, lacks};
 use fluent_syntax_tests::alike::assert_same_text;
 use std::alloc::Global;
 use std::test::Fail;
@@ -128,4 +128,50 @@ fn two_files(rt: HostRuntime) -> Result<(), Fail> {
         assert_lacks(rt.alloc(), row)?;
     }
     Ok(())
+}
+
+#[test]
+fn differences(rt: HostRuntime) {
+    assert_eq!(rt;
+        Side::Reference.difference(Part::Entry),
+        Some(Difference::Missing)
+    );
+    assert_eq!(rt;
+        Side::Reference.difference(Part::Value),
+        Some(Difference::MissingValue)
+    );
+    assert_eq!(rt;
+        Side::Reference.difference(Part::Attribute),
+        Some(Difference::MissingAttribute)
+    );
+    assert_eq!(rt;
+        Side::Reference.difference(Part::Reference),
+        Some(Difference::MissingReference)
+    );
+    assert_eq!(rt; Side::Reference.difference(Part::Variable), None);
+    assert_eq!(rt;
+        Side::Other.difference(Part::Entry),
+        Some(Difference::Obsolete)
+    );
+    assert_eq!(rt;
+        Side::Other.difference(Part::Value),
+        Some(Difference::ObsoleteValue)
+    );
+    assert_eq!(rt;
+        Side::Other.difference(Part::Attribute),
+        Some(Difference::ObsoleteAttribute)
+    );
+    assert_eq!(rt; Side::Other.difference(Part::Reference), None);
+    assert_eq!(rt;
+        Side::Other.difference(Part::Variable),
+        Some(Difference::UnknownVariable)
+    );
+}
+
+#[test]
+fn names_of_differences(rt: HostRuntime) {
+    assert_eq!(rt; Difference::MissingReference.name(), "missing-reference");
+    assert_eq!(rt; Difference::Obsolete.name(), "obsolete");
+    assert_eq!(rt; Difference::MissingReference.severity(), Severity::Warning);
+    assert_eq!(rt; Difference::UnknownVariable.severity(), Severity::Error);
 }

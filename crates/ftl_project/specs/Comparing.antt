@@ -8,16 +8,17 @@ use Rattle.fluent_syntax_names.specs.declared.lack.Lack.{Lack}
 use Rattle.fluent_syntax_names.specs.declared.lack.Part.{Part}
 use Rattle.fluent_syntax_names.specs.declared.lack.Part.TheVariants as part
 use Rattle.fluent_syntax_names.specs.declared.outline.Outline.{Outline}
-use Rattle.ftl_project.specs.Differences.{difference_name, is_told_as_error, side_difference}
+use Rattle.fluent_syntax_names.specs.Differences.{difference_name, side_difference}
+use Rattle.ftl_project.specs.Differences.{is_told_as_error}
 use Rattle.ftl_project.specs.Faults.{Fails, IsFault, IsTooDeep}
 use Rattle.ftl_project.specs.Outlines.{IsOutline, entries_in}
 use Rattle.ftl_project.specs.Remarks.{IsName, IsRemark, TellsEach, spot_at}
 use Rattle.ftl_project.specs.Tally.{Met, answered, counted, failed}
 use Rattle.ftl_project.specs.declared.comparing.Pair.{Pair}
 use Rattle.ftl_project.specs.declared.comparing.Share.{Share}
-use Rattle.ftl_project.specs.declared.differences.Difference.{Difference}
-use Rattle.ftl_project.specs.declared.differences.Side.{Side}
-use Rattle.ftl_project.specs.declared.differences.Side.TheVariants.{Reference, Other}
+use Rattle.fluent_syntax_names.specs.declared.differences.Difference.{Difference}
+use Rattle.fluent_syntax_names.specs.declared.differences.Side.{Side}
+use Rattle.fluent_syntax_names.specs.declared.differences.Side.TheVariants.{Reference, Other}
 use Rattle.ftl_project.specs.declared.fault.Fault.{Fault}
 use Rattle.ftl_project.specs.declared.form.Form.{Form}
 use Rattle.ftl_project.specs.declared.reading.Reading.{Reading}
@@ -76,6 +77,11 @@ abbrev pub IsMoreTold : Form → Pair → (text : List ℕ) → Lack → (told :
 IsMoreTold form pair text lack told =
     IsDifferenceTold form (string_bytes pair.other) text (Some (spot_at text lack.name))
     (side_difference Other lack.part) (SaysMore text lack) told
+
+-- This is told of what the text of a side has and the other one lacks.
+abbrev pub IsLackTold : Side → Form → Pair → (text : List ℕ) → Lack → (told : List ℕ) → Type 0
+IsLackTold Reference = IsMissingTold
+IsLackTold Other = IsMoreTold
 
 -- ---- how many
 

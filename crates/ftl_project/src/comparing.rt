@@ -3,15 +3,15 @@ ghost use Rattle.std.specs.Prelude.{◌≡◌, ◌≢◌, ◌⊎◌, ◌+◌, �
 ghost use Rattle.std.specs.Prelude.{OnOk, codes, length, string_bytes};
 ghost use Rattle.fluent_syntax_names.specs.declared.outline.Outline.{Outline};
 ghost use Rattle.ftl_files.specs.Store.{AllStand};
-ghost use Rattle.ftl_project.specs.Comparing.{Compares, ComparesEach, IsAlone, IsBeside, IsComparison, IsMissingTold};
-ghost use Rattle.ftl_project.specs.Comparing.{IsMoreTold, IsPairFault, SaysMissing, SaysMore, errors_of};
+ghost use Rattle.ftl_project.specs.Comparing.{Compares, ComparesEach, IsAlone, IsBeside, IsComparison, IsLackTold};
+ghost use Rattle.ftl_project.specs.Comparing.{IsMissingTold, IsMoreTold, IsPairFault, SaysMissing, SaysMore, errors_of};
 ghost use Rattle.ftl_project.specs.Comparing.{lacked_entries, missing_what, more_message, with_share};
 ghost use Rattle.ftl_project.specs.Faults.{IsTooDeep, IsUnparsed};
 ghost use Rattle.ftl_project.specs.Outlines.{IsOutline, IsShort};
 ghost use Rattle.ftl_project.specs.Remarks.{IsRemark, TellsEach, spot_at};
 ghost use Rattle.ftl_project.specs.Summaries.{share_line_of};
 
-use crate::differences::Side;
+use crate::differences::is_told_as_error;
 use crate::fault::Fault;
 use crate::findings::severity_name;
 use crate::form::Form;
@@ -22,7 +22,7 @@ use crate::rewriting::read_text;
 use crate::streams::{Streams, put, tell};
 use crate::tally::Tally;
 use fluent_syntax::spans::Lines;
-use fluent_syntax_names::{Lack, Outline, Part, lacks};
+use fluent_syntax_names::{Lack, Outline, Part, Side, lacks};
 use ftl::RunFault;
 use ftl_files::Store;
 use std::alloc::{AllocError, Global};
@@ -226,9 +226,9 @@ fn compared_outlines(
         (string_bytes compared.told)) }
 {
     let missing = lacks(alloc, reference, other)?;
-    let mut told = missing_text(alloc, pair, reference.text, &missing, form)?;
+    let mut told = lacks_text(alloc, pair, Side::Reference, reference.text, &missing, form)?;
     let more = lacks(alloc, other, reference)?;
-    let behind = more_text(alloc, pair, other.text, &more, form)?;
+    let behind = lacks_text(alloc, pair, Side::Other, other.text, &more, form)?;
     told.push_str(behind.as_str())?;
     let missed = errors_of(Side::Reference, &missing);
     let unknown = errors_of(Side::Other, &more);
@@ -246,7 +246,10 @@ fn compared_outlines(
 fn errors_of(side: Side, lacks: &[Lack]) -> usize
     ensures { result ≡ errors_of side lacks.now }
 {
-    lacks.iter().filter(|lack| side.is_error(lack.part)).count()
+    lacks
+        .iter()
+        .filter(|lack| is_told_as_error(side, lack.part))
+        .count()
 }
 
 /// How many messages and terms the other file lacks.
@@ -259,24 +262,44 @@ fn lacked_entries(lacks: &[Lack]) -> usize
         .count()
 }
 
-/// What is told of the parts that the reference has and the other file lacks.
-fn missing_text(
+/// What is told of the parts that the file of this side has and the other one lacks.
+fn lacks_text(
     alloc: Global,
     pair: &Pair,
+    side: Side,
     text: &str,
-    missing: &[Lack],
+    lacks: &[Lack],
     form: Form,
 ) -> Result<String, AllocError>
     requires { length text.now + 1 < 2 ^ 64 }
-    ensures { IfOk result (λ told. TellsEach (IsMissingTold form pair.now text.now) missing.now (string_bytes told)) }
+    ensures { IfOk result (λ told. TellsEach (IsLackTold side form pair.now text.now) lacks.now (string_bytes told)) }
 {
     let mut out = String::new(alloc);
     let mut lines = Lines::new(text);
-    for lack in missing {
-        let told = missing_told(alloc, pair, text, &mut lines, lack, form)?;
+    for lack in lacks {
+        let told = lack_told(alloc, pair, side, text, &mut lines, lack, form)?;
         out.push_str(told.as_str())?;
     }
     Ok(out)
+}
+
+fn lack_told<'t>(
+    alloc: Global,
+    pair: &Pair,
+    side: Side,
+    text: &str,
+    lines: &mut Lines<'t>,
+    lack: &Lack,
+    form: Form,
+) -> Result<String, AllocError>
+    requires { lines.old ≡ text.now }
+    ensures told { IfOk result (λ told. IsLackTold side form pair.now text.now lack.now (string_bytes told)) }
+    ensures lines { lines.new ≡ lines.old }
+{
+    match side {
+        Side::Reference => missing_told(alloc, pair, text, lines, lack, form),
+        Side::Other => more_told(alloc, pair, text, lines, lack, form),
+    }
 }
 
 fn missing_told<'t>(
@@ -330,26 +353,6 @@ fn missing_what(part: Part) -> &'static str
         Part::Reference => "the reference to ",
         Part::Entry | Part::Attribute | Part::Variable => "",
     }
-}
-
-/// What is told of the parts that the other file has and the reference lacks.
-fn more_text(
-    alloc: Global,
-    pair: &Pair,
-    text: &str,
-    more: &[Lack],
-    form: Form,
-) -> Result<String, AllocError>
-    requires { length text.now + 1 < 2 ^ 64 }
-    ensures { IfOk result (λ told. TellsEach (IsMoreTold form pair.now text.now) more.now (string_bytes told)) }
-{
-    let mut out = String::new(alloc);
-    let mut lines = Lines::new(text);
-    for lack in more {
-        let told = more_told(alloc, pair, text, &mut lines, lack, form)?;
-        out.push_str(told.as_str())?;
-    }
-    Ok(out)
 }
 
 fn more_told<'t>(

@@ -1,90 +1,16 @@
-//! What is told where one of two files lacks what the other has.
+//! Whether what is told is an error.
 ghost use Rattle.std.specs.Prelude.{◌≡◌};
-ghost use Rattle.ftl_project.specs.Differences.{difference_name, difference_severity, is_grave, side_difference};
-ghost use Rattle.ftl_project.specs.Differences.{is_told_as_error};
+ghost use Rattle.ftl_project.specs.Differences.{is_grave, is_told_as_error};
 
-use fluent_syntax_names::{Part, Severity};
+use fluent_syntax_names::{Part, Severity, Side};
 
-/// One of two files that are compared.
-#[derive(Clone, Copy)]
-pub(crate) enum Side {
-    /// That of the reference language.
-    Reference,
-    /// The one that is to be its translation.
-    Other,
-}
-
-/// What is told of a part that one of the files lacks.
-#[derive(Clone, Copy)]
-pub(crate) enum Difference {
-    Missing,
-    MissingValue,
-    MissingAttribute,
-    MissingReference,
-    Obsolete,
-    ObsoleteValue,
-    ObsoleteAttribute,
-    UnknownVariable,
-}
-
-impl Side {
-    /// What is told of a part that this file has and the other one lacks. A translation may leave a variable out, and
-    /// may refer to more.
-    pub(crate) fn difference(self, part: Part) -> Option<Difference>
-        ensures { result ≡ side_difference self part }
-    {
-        match (self, part) {
-            (Side::Reference, Part::Entry) => Some(Difference::Missing),
-            (Side::Reference, Part::Value) => Some(Difference::MissingValue),
-            (Side::Reference, Part::Attribute) => Some(Difference::MissingAttribute),
-            (Side::Reference, Part::Reference) => Some(Difference::MissingReference),
-            (Side::Reference, Part::Variable) => None,
-            (Side::Other, Part::Entry) => Some(Difference::Obsolete),
-            (Side::Other, Part::Value) => Some(Difference::ObsoleteValue),
-            (Side::Other, Part::Attribute) => Some(Difference::ObsoleteAttribute),
-            (Side::Other, Part::Reference) => None,
-            (Side::Other, Part::Variable) => Some(Difference::UnknownVariable),
-        }
-    }
-
-    /// Whether a part that this file has and the other one lacks is told as an error.
-    pub(crate) fn is_error(self, part: Part) -> bool
-        ensures { result ≡ is_told_as_error self part }
-    {
-        match self.difference(part) {
-            Some(difference) => is_grave(difference.severity()),
-            None => false,
-        }
-    }
-}
-
-impl Difference {
-    /// Its name, as a command line has it.
-    pub(crate) fn name(self) -> &'static str
-        ensures { result.now ≡ difference_name self }
-    {
-        match self {
-            Difference::Missing => "missing",
-            Difference::MissingValue => "missing-value",
-            Difference::MissingAttribute => "missing-attribute",
-            Difference::MissingReference => "missing-reference",
-            Difference::Obsolete => "obsolete",
-            Difference::ObsoleteValue => "obsolete-value",
-            Difference::ObsoleteAttribute => "obsolete-attribute",
-            Difference::UnknownVariable => "unknown-variable",
-        }
-    }
-
-    /// How grave it is.
-    pub(crate) fn severity(self) -> Severity
-        ensures { result ≡ difference_severity self }
-    {
-        match self {
-            Difference::Missing | Difference::MissingValue => Severity::Error,
-            Difference::MissingAttribute | Difference::UnknownVariable => Severity::Error,
-            Difference::MissingReference | Difference::Obsolete => Severity::Warning,
-            Difference::ObsoleteValue | Difference::ObsoleteAttribute => Severity::Warning,
-        }
+/// Whether a part that the file of this side has and the other one lacks is told as an error.
+pub(crate) fn is_told_as_error(side: Side, part: Part) -> bool
+    ensures { result ≡ is_told_as_error side part }
+{
+    match side.difference(part) {
+        Some(difference) => is_grave(difference.severity()),
+        None => false,
     }
 }
 

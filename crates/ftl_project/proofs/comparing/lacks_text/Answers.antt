@@ -1,10 +1,10 @@
 use Rattle.std.proofs.Common.{◌∙◌, ◌++◌, ap, arith, string_bytes}
 use Rattle.fluent_syntax_names.specs.declared.lack.Lack.{Lack}
 use Rattle.fluent_syntax_names.specs.declared.lack.Part.TheVariants.{Entry}
-use Rattle.ftl_project.specs.Comparing.{IsMoreTold}
+use Rattle.ftl_project.specs.Comparing.{IsLackTold}
 use Rattle.ftl_project.specs.Remarks.{nothing}
 use Rattle.ftl_project.proofs.InOrder.{TellsEach-more}
-use Rattle.ftl_project.proofs.comparing.more_text.Goals as goal
+use Rattle.ftl_project.proofs.comparing.lacks_text.Goals as goal
 
 pub loop-lack-init : goal.loop-lack-init
 loop-lack-init c = record { lines = c.new-lines.ensures; tells = rw c.new-out.ensures.bytes nothing }
@@ -14,8 +14,8 @@ loop-lack-preserved c =
     let before = string_bytes c.loop-lack.out in
     let d : Lack = record { part = Entry; name = record { start = 0; end = 0 } } in
     record {
-      lines = c.more_told.ensures.lines ∙ c.loop-lack.invariant.lines;
-      tells = TellsEach-more (IsMoreTold c.args.form c.args.pair.now c.args.text.now) c.args.more.now
+      lines = c.lack_told.ensures.lines ∙ c.loop-lack.invariant.lines;
+      tells = TellsEach-more (IsLackTold c.args.side c.args.form c.args.pair.now c.args.text.now) c.args.lacks.now
           c.loop-lack.lack-index d before (string_bytes c.in_ok-told.told) (string_bytes c.push_str.new.self)
           (omega arith) c.loop-lack.invariant.tells c.in_ok-told.ensures.told
           (c.in_ok-push_str.ensures.bytes ∙ ap (λ text. before ++ text) c.as_str.ensures.value);
