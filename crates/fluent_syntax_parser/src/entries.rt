@@ -1,5 +1,9 @@
 //! Entries one by one.
 ghost use Rattle.std.specs.Prelude.{◌≡◌, ◌-◌, ◌^◌, ◌<◌, ◌≤◌, length, IfErr, IfOk, IfSome, None, Ok, OnErr};
+ghost use Rattle.std.specs.Str.{IsUtf8};
+ghost use Rattle.fluent_syntax_tree.specs.Every.{entry_every};
+ghost use Rattle.fluent_syntax_tree.specs.Spans.{IsPart};
+ghost use Rattle.fluent_syntax_tree.specs.View.{entry_view};
 ghost use Rattle.fluent_syntax_grammar.specs.Nesting.{TextDeeper};
 ghost use Rattle.fluent_syntax_grammar.specs.Places.{BlankBlock};
 ghost use Rattle.fluent_syntax_parser.specs.Halts.{ComesTo, HaltsWithin, OnHalt};
@@ -26,6 +30,7 @@ pub struct Entries<'s> {
     ptr: usize,
     ghost within: { ptr ≤ length source.bytes.now },
     ghost small: { length source.bytes.now < 2 ^ 63 },
+    ghost utf8: { IsUtf8 source.bytes.now },
     ghost reached: { ∥ Reached options.comments options.edition source.bytes.now ptr ∥₁ },
 }
 
@@ -63,7 +68,7 @@ impl<'s> Entries<'s> {
 
     /// Reads the next entry, with its error where it is junk. `None` where none is left.
     ///
-    /// After a `Halt` it stands where it stood.
+    /// Each span is an ordered range of the text, at character boundaries. After a `Halt` it stands where it stood.
     pub fn next_entry(
         &mut self,
         alloc: Global,
@@ -72,6 +77,8 @@ impl<'s> Entries<'s> {
         ensures options { self.new.options ≡ self.old.options }
         ensures next { let t = self.old.source.bytes.now in let options = self.old.options in
             IfOk result (NextTo options.comments options.edition t self.old.ptr self.new.start self.new.ptr) }
+        ensures parts { let t = self.old.source.bytes.now in
+            IfOk result (λ found. IfSome found (λ read. entry_every (IsPart t) (entry_view (λ s. s) read.0))) }
         ensures places { let t = self.old.source.bytes.now in
             IfOk result (λ found. IfSome found (λ read. IfSome read.1 (λ error. error.pos.start ≤ length t))) }
         ensures forward { self.old.ptr ≤ self.new.ptr }

@@ -1,0 +1,299 @@
+-- The answers of the readers of patterns: their pieces, lines and layout.
+use Rattle.std.proofs.Common.{◌∙◌, refl, sym, ap, arith, false, None, Some}
+use Rattle.std.proofs.lemmas.Result.{err_from_is_err_and}
+use Rattle.fluent_syntax_parser.proofs.patterns.LineEndings.{by_eol}
+use Rattle.fluent_syntax_grammar.specs.Construct.{stops, goes_on, given, passed, at_place}
+use Rattle.fluent_syntax_grammar.specs.Grammar.{within}
+use Rattle.fluent_syntax_grammar.specs.Lines.{is_run_place, no_byte, other_line, own_line}
+use Rattle.fluent_syntax_grammar.specs.Patterns.{layout_at}
+use Rattle.fluent_syntax_grammar.proofs.FunctionalRules.{functional_ending, functional_next_line, functional_next_piece}
+use Rattle.fluent_syntax_grammar.proofs.FunctionalRules.{functional_pieces}
+use Rattle.fluent_syntax_grammar.proofs.FunctionalWords.{functional_blank_block, functional_inline_blank}
+use Rattle.fluent_syntax_grammar.proofs.Nesting.{functional_within}
+use Rattle.fluent_syntax_parser.specs.Layouts.{placed, with_ending}
+use Rattle.fluent_syntax_parser.specs.Lines.{line_view, piece_view}
+use Rattle.fluent_syntax_parser.specs.Made.{made}
+use Rattle.fluent_syntax_parser.specs.Meets.{no_memory, refused}
+use Rattle.fluent_syntax_parser.proofs.readers.Behind.{all_made, item_fails, item_made, no_items}
+use Rattle.fluent_syntax_parser.proofs.readers.Fails.{fails_first, fails_next, fails_seen, functional_here}
+use Rattle.fluent_syntax_parser.proofs.readers.Fails.{functional_reaches, out_of_memory}
+use Rattle.fluent_syntax_parser.proofs.readers.Made.{on_made}
+use Rattle.fluent_syntax_parser.proofs.patterns.Pieces.{bare_brace, end_pieces, line_read, no_pieces, line_onward}
+use Rattle.fluent_syntax_parser.proofs.patterns.Pieces.{own_line_fails, further, placed_fails, placed_piece, run_piece}
+use Rattle.fluent_syntax_parser.proofs.patterns.Pieces.{run_there}
+use Rattle.fluent_syntax_parser.proofs.reader.Reader.+readers.Goals as goal
+
+pub gather_opening-returns-in-Some-clause-opens : goal.gather_opening-returns-in-Some-clause-opens
+gather_opening-returns-in-Some-clause-opens g m c =
+    let t = c.args.self.now.source.bytes.now in
+    let blank = c.skip_blank_block.ensures.blank in record {
+      opening = None;
+      same = rw c.requires.empty refl;
+      read = λ ls end h. by_eol t _ _ _ _ c.in-Some.ensures.eol
+          (goes_on (passed (record { there = refl })) (goes_on (passed blank) (goes_on h given)));
+      fails = λ e h.
+          fails_seen (layout_at t _) _ c.in-Some.ensures.eol
+          (fails_next functional_reaches (passed (record { there = refl }))
+          (fails_next (functional_blank_block t) (passed blank) (fails_first h)));
+    }
+
+pub gather_opening-returns-in_err-end-in-None-clause-opens : goal.gather_opening-returns-in_err-end-in-None-clause-opens
+gather_opening-returns-in_err-end-in-None-clause-opens g m c =
+    let t = c.args.self.now.source.bytes.now in
+    let p = err_from_is_err_and c.from_residual.result c.from_residual.ensures.1 in
+    rw (p.1, p.2)
+    (fails_seen (layout_at t _) _ c.in-None.ensures.eol
+    (fails_next functional_here at_place (fails_first c.in_err-end-in-None.ensures.meets)))
+
+pub gather_opening-returns-in_ok-next-in-None-clause-opens : goal.gather_opening-returns-in_ok-next-in-None-clause-opens
+gather_opening-returns-in_ok-next-in-None-clause-opens g m c =
+    let t = c.args.self.now.source.bytes.now in
+    let R = within c.args.self.now.edition t c.args.nesting in
+    let (end, opening, ends) = c.in_ok-next-in-None.ensures.ends in
+    on_made c.in_ok-end-in-None.ensures.meets (λ ps there same. record {
+      opening = Some (record { start = c.args.ptr; spaces = 0; pieces = ps; ending = end });
+      same = opening ∙ ap (λ xs. with_ending xs end) same;
+      read = λ ls last h. by_eol t _ _ _ _ c.in-None.ensures.eol
+          (goes_on at_place (goes_on there (goes_on ends (goes_on h given))));
+      fails = λ e h.
+          fails_seen (layout_at t _) _ c.in-None.ensures.eol
+          (fails_next functional_here at_place
+          (fails_next (functional_pieces t R (functional_within c.args.self.now.edition t _)) there
+          (fails_next (functional_ending t) ends (fails_first h))));
+    })
+
+pub gather_opening-returns-in_err-next-in-None-clause-opens :
+    goal.gather_opening-returns-in_err-next-in-None-clause-opens
+gather_opening-returns-in_err-next-in-None-clause-opens g m c =
+    rw (out_of_memory c.from_residual-in_err-next-in-None.result
+    c.from_residual-in_err-next-in-None.ensures.1) no_memory
+
+pub gather_layout-returns-in_err-next-clause-meets : goal.gather_layout-returns-in_err-next-clause-meets
+gather_layout-returns-in_err-next-clause-meets g m c =
+    let p = err_from_is_err_and c.from_residual.result c.from_residual.ensures.1 in
+    rw (p.1, p.2) c.in_err-next.ensures.opens
+
+pub gather_layout-returns-in_err-end-clause-meets : goal.gather_layout-returns-in_err-end-clause-meets
+gather_layout-returns-in_err-end-clause-meets g m c =
+    let p = err_from_is_err_and c.from_residual-in_err-end.result c.from_residual-in_err-end.ensures.1 in
+    rw (p.1, p.2) (c.in_ok-next.ensures.opens.fails _ c.in_err-end.ensures.meets)
+
+pub gather_layout-returns-clause-meets : goal.gather_layout-returns-clause-meets
+gather_layout-returns-clause-meets g m c =
+    let opened = c.in_ok-next.ensures.opens in
+    on_made c.in_ok-end.ensures.meets (λ ls there same. record {
+      layout = record { opening = opened.opening; lines = ls };
+      read = opened.read ls _ there;
+      same_opening = opened.same;
+      same_lines = same;
+    })
+
+pub get_long_pattern-returns-in_err-end-clause-meets : goal.get_long_pattern-returns-in_err-end-clause-meets
+get_long_pattern-returns-in_err-end-clause-meets g m c =
+    let t = c.args.self.now.source.bytes.now in
+    let p = err_from_is_err_and c.from_residual.result c.from_residual.ensures.1 in
+    rw (p.1, p.2)
+    (fails_first (fails_next (functional_inline_blank t) (passed c.requires.blank) c.in_err-end.ensures.meets))
+
+pub get_long_pattern-returns-clause-meets : goal.get_long_pattern-returns-clause-meets
+get_long_pattern-returns-clause-meets g m c =
+    let laid = c.in_ok-end.ensures.meets in
+    made (goes_on (goes_on (passed c.requires.blank) laid.read) given)
+    (c.in_ok-pattern.ensures laid.layout laid.same_opening laid.same_lines)
+
+pub get_long_pattern-returns-in_err-pattern-clause-meets :
+    goal.get_long_pattern-returns-in_err-pattern-clause-meets
+get_long_pattern-returns-in_err-pattern-clause-meets g m c =
+    rw (out_of_memory c.from_residual-in_err-pattern.result
+    c.from_residual-in_err-pattern.ensures.1) no_memory
+
+pub get_pattern-returns-in-Some-clause-meets : goal.get_pattern-returns-in-Some-clause-meets
+get_pattern-returns-in-Some-clause-meets g m c =
+    made (c.in-Some.ensures.opens _ c.args.ptr c.skip_blank_inline-start.ensures.blank)
+    (ap Some c.in_ok-pattern.ensures)
+
+pub get_pattern-returns-in-Some-end_without_text-clause-meets :
+    goal.get_pattern-returns-in-Some-end_without_text-clause-meets
+get_pattern-returns-in-Some-end_without_text-clause-meets g m c =
+    made (c.in-Some-end_without_text.ensures.opens _ c.args.ptr c.skip_blank_inline-start.ensures.blank) refl
+
+pub get_pattern-returns-in-None-clause-meets : goal.get_pattern-returns-in-None-clause-meets
+get_pattern-returns-in-None-clause-meets g m c = c.get_long_pattern.ensures.meets
+
+pub get_pattern-returns-in_err-pattern-clause-meets :
+    goal.get_pattern-returns-in_err-pattern-clause-meets
+get_pattern-returns-in_err-pattern-clause-meets g m c =
+    rw (out_of_memory c.from_residual.result c.from_residual.ensures.1) no_memory
+
+pub gather_pieces-returns-in-None-clause-meets : goal.gather_pieces-returns-in-None-clause-meets
+gather_pieces-returns-in-None-clause-meets g m c =
+    all_made (piece_view g.M.MakeTexts.made) _ c.loop-byte.invariant.gathered (end_pieces
+    c.args.self.now.source.bytes.now
+    (within c.args.self.now.edition c.args.self.now.source.bytes.now c.args.nesting) _ (sym c.in-None.ensures))
+
+pub gather_pieces-returns-then-is_eol_at-clause-meets : goal.gather_pieces-returns-then-is_eol_at-clause-meets
+gather_pieces-returns-then-is_eol_at-clause-meets g m c =
+    all_made (piece_view g.M.MakeTexts.made) _ c.loop-byte.invariant.gathered
+    (no_pieces c.args.self.now.source.bytes.now (within c.args.self.now.edition c.args.self.now.source.bytes.now
+    c.args.nesting) _ _
+    (sym c.in-Some.ensures) (λ e. cc) (sym c.if-is_eol_at.ensures))
+
+pub gather_pieces-returns-then-byte-eq125-clause-meets : goal.gather_pieces-returns-then-byte-eq125-clause-meets
+gather_pieces-returns-then-byte-eq125-clause-meets g m c =
+    item_fails c.loop-byte.invariant.gathered.behind (refused (λ k from to (a, b, d). rw (a, b, d)
+    (bare_brace c.args.self.now.source.bytes.now (within c.args.self.now.edition c.args.self.now.source.bytes.now
+    c.args.nesting) _ _
+    (sym c.in-Some.ensures) (sym c.if-is_eol_at.ensures)
+    c.if-byte-eq125.true)))
+
+pub gather_pieces-returns-in_err-expression-in-Some-clause-meets :
+    goal.gather_pieces-returns-in_err-expression-in-Some-clause-meets
+gather_pieces-returns-in_err-expression-in-Some-clause-meets g m c =
+    let p = err_from_is_err_and c.from_residual.result c.from_residual.ensures.1 in
+    rw (p.1, p.2)
+    (item_fails c.loop-byte.invariant.gathered.behind
+    (placed_fails c.args.self.now.source.bytes.now (within c.args.self.now.edition c.args.self.now.source.bytes.now
+    c.args.nesting) _ _
+    (sym c.in-Some.ensures) (sym c.if-is_eol_at.ensures)
+    c.if-byte-eq123.true (fails_first c.in_err-expression-in-Some.ensures.meets)))
+
+pub gather_pieces-loop-byte-preserved-then-byte-eq123 : goal.gather_pieces-loop-byte-preserved-then-byte-eq123
+gather_pieces-loop-byte-preserved-then-byte-eq123 g m c =
+    let t = c.args.self.now.source.bytes.now in
+    let read = c.in_ok-expression-in-Some.ensures in
+    on_made read.meets (λ e there same. record {
+      forward = omega (arith, c.loop-byte.invariant.forward, read.within.0);
+      within = read.within.1;
+      gathered =
+          item_made (piece_view g.M.MakeTexts.made) _ _ _ c.in_ok-add_placed-in-Some.ensures
+          c.loop-byte.invariant.gathered
+          (functional_next_piece t (within c.args.self.now.edition t c.args.nesting)
+          (functional_within c.args.self.now.edition t _)) _
+          (placed_piece t (within c.args.self.now.edition t c.args.nesting) _ _ (sym c.in-Some.ensures)
+          (sym c.if-is_eol_at.ensures) c.if-byte-eq123.true _
+          (goes_on there given)) (ap placed same);
+    })
+
+pub gather_pieces-loop-byte-preserved : goal.gather_pieces-loop-byte-preserved
+gather_pieces-loop-byte-preserved g m c =
+    let t = c.args.self.now.source.bytes.now in
+    let run = c.run_end-to.ensures.run in
+    record {
+      forward = omega (arith, c.loop-byte.invariant.forward, run.forward);
+      within = c.run_end-to.ensures.within;
+      gathered =
+          item_made (piece_view g.M.MakeTexts.made) _ _ _ c.in_ok-add_run-in-Some.ensures
+          c.loop-byte.invariant.gathered
+          (functional_next_piece t (within c.args.self.now.edition t c.args.nesting)
+          (functional_within c.args.self.now.edition t _)) _
+          (run_piece t (within c.args.self.now.edition t c.args.nesting) _ _ (sym c.in-Some.ensures)
+          (sym c.if-is_eol_at.ensures) c.if-byte-eq125.false
+          c.if-byte-eq123.false _ run) refl;
+    }
+
+pub gather_pieces-returns-in_err-add_placed-in-Some-clause-meets :
+    goal.gather_pieces-returns-in_err-add_placed-in-Some-clause-meets
+gather_pieces-returns-in_err-add_placed-in-Some-clause-meets g m c =
+    rw (out_of_memory c.from_residual-in_err-add_placed-in-Some.result
+    c.from_residual-in_err-add_placed-in-Some.ensures.1) no_memory
+
+pub gather_pieces-returns-in_err-add_run-in-Some-clause-meets :
+    goal.gather_pieces-returns-in_err-add_run-in-Some-clause-meets
+gather_pieces-returns-in_err-add_run-in-Some-clause-meets g m c =
+    rw (out_of_memory c.from_residual-in_err-add_run-in-Some.result
+    c.from_residual-in_err-add_run-in-Some.ensures.1) no_memory
+
+pub gather_pieces-loop-byte-init : goal.gather_pieces-loop-byte-init
+gather_pieces-loop-byte-init g m c = record {
+  forward = omega arith;
+  within = c.requires.within;
+  gathered = rw c.requires.empty (no_items (piece_view g.M.MakeTexts.made));
+}
+
+pub gather_pieces-loop-byte-smaller : goal.gather_pieces-loop-byte-smaller
+gather_pieces-loop-byte-smaller g m c =
+    let t = c.args.self.now.source.bytes.now in
+    let run = c.run_end-to.ensures.run in
+    let there = run_there t (within c.args.self.now.edition t c.args.nesting) _ _ (sym c.in-Some.ensures)
+    (sym c.if-is_eol_at.ensures) c.if-byte-eq125.false c.if-byte-eq123.false in
+    let longer = further (is_run_place t) c.loop-byte.place c.run_end-to.result run there in
+    omega (arith, longer, c.run_end-to.ensures.within)
+
+pub gather_line-returns-in_err-end-clause-adds : goal.gather_line-returns-in_err-end-clause-adds
+gather_line-returns-in_err-end-clause-adds g m c =
+    let t = c.args.self.now.source.bytes.now in
+    let p = err_from_is_err_and c.from_residual.result c.from_residual.ensures.1 in
+    rw (p.1, p.2) (
+      fails_next functional_here at_place
+          (fails_next (functional_inline_blank t) (passed c.requires.blank)
+          (fails_next functional_here at_place
+          (fails_first c.in_err-end.ensures.meets))),
+      refl,
+    )
+
+pub gather_line-returns-in_err-next-clause-adds : goal.gather_line-returns-in_err-next-clause-adds
+gather_line-returns-in_err-next-clause-adds g m c =
+    rw (out_of_memory c.from_residual-in_err-next.result c.from_residual-in_err-next.ensures.1)
+    (no_memory, c.in_err-next.ensures.stays)
+
+pub gather_line-returns-clause-adds : goal.gather_line-returns-clause-adds
+gather_line-returns-clause-adds g m c =
+    let t = c.args.self.now.source.bytes.now in
+    let (added, found, pushed, is, ends) = c.in_ok-next.ensures.adds in
+    on_made c.in_ok-end.ensures.meets (λ ps there same. (
+      added,
+      pushed,
+      made (line_read t (within c.args.self.now.edition t c.args.nesting) _ _ c.requires.blank _ _ _ _ there ends)
+          (is ∙ rw same refl),
+    ))
+
+pub gather_line-returns-clause-within : goal.gather_line-returns-clause-within
+gather_line-returns-clause-within g m c =
+    let pieces = c.in_ok-end.ensures in
+    let next = c.in_ok-next.ensures in
+    let onward =
+    line_onward c.args.self.now.source.bytes.now _ _ _ c.requires.within pieces.within.0 next.within.0 pieces.stops
+    next.further in
+    (omega (arith, onward, c.requires.blank.forward), next.within.1)
+
+pub gather_lines-returns-in-None-clause-meets : goal.gather_lines-returns-in-None-clause-meets
+gather_lines-returns-in-None-clause-meets g m c =
+    all_made (line_view g.M.MakeTexts.made) _ c.loop-byte.invariant.gathered
+    (no_byte c.skip_blank_inline-first.ensures.blank (sym c.in-None.ensures))
+
+pub gather_lines-returns-then-not-belongs-clause-meets : goal.gather_lines-returns-then-not-belongs-clause-meets
+gather_lines-returns-then-not-belongs-clause-meets g m c =
+    all_made (line_view g.M.MakeTexts.made) _ c.loop-byte.invariant.gathered
+    (other_line c.skip_blank_inline-first.ensures.blank (sym c.in-Some.ensures) (sym c.if-not-belongs.ensures))
+
+pub gather_lines-returns-in_err-start-in-Some-clause-meets :
+    goal.gather_lines-returns-in_err-start-in-Some-clause-meets
+gather_lines-returns-in_err-start-in-Some-clause-meets g m c =
+    let t = c.args.self.now.source.bytes.now in
+    let p = err_from_is_err_and c.from_residual.result c.from_residual.ensures.1 in
+    rw (p.1, p.2)
+    (item_fails c.loop-byte.invariant.gathered.behind
+    (own_line_fails t (within c.args.self.now.edition t c.args.nesting) c.skip_blank_inline-first.ensures.blank
+    (sym c.in-Some.ensures) (sym c.if-not-belongs.ensures) (fails_first c.in_err-start-in-Some.ensures.adds.0)))
+
+pub gather_lines-loop-byte-preserved : goal.gather_lines-loop-byte-preserved
+gather_lines-loop-byte-preserved g m c =
+    let t = c.args.self.now.source.bytes.now in
+    let read = c.in_ok-start-in-Some.ensures in
+    on_made read.adds.2 (λ l there same. record {
+      forward = omega (arith, c.loop-byte.invariant.forward, read.within.0);
+      within = read.within.1;
+      gathered =
+          item_made (line_view g.M.MakeTexts.made) _ _ _ read.adds.1 c.loop-byte.invariant.gathered
+          (functional_next_line t (within c.args.self.now.edition t c.args.nesting)
+          (functional_within c.args.self.now.edition t _)) _
+          (own_line c.skip_blank_inline-first.ensures.blank (sym c.in-Some.ensures) (sym c.if-not-belongs.ensures)
+          (goes_on there given)) same;
+    })
+
+pub gather_lines-loop-byte-init : goal.gather_lines-loop-byte-init
+gather_lines-loop-byte-init g m c = record {
+  forward = omega arith;
+  within = c.requires.within;
+  gathered = rw c.requires.empty (no_items (line_view g.M.MakeTexts.made));
+}
