@@ -1,5 +1,6 @@
 //! Entries one by one.
 ghost use Rattle.std.specs.Prelude.{◌≡◌, ◌-◌, ◌^◌, ◌<◌, ◌≤◌, length, IfErr, IfOk, IfSome, None, Ok, OnErr};
+ghost use Rattle.std.proofs.Props.{props};
 ghost use Rattle.std.specs.Str.{IsUtf8};
 ghost use Rattle.fluent_syntax_tree.specs.Every.{entry_every};
 ghost use Rattle.fluent_syntax_tree.specs.Spans.{IsPart};
@@ -30,7 +31,7 @@ pub struct Entries<'s> {
     ptr: usize,
     ghost within: { ptr ≤ length source.bytes.now },
     ghost small: { length source.bytes.now < 2 ^ 63 },
-    ghost utf8: { IsUtf8 source.bytes.now },
+    ghost utf8: { IsUtf8 source.bytes.now } by { Prim.hlevel props },
     ghost reached: { ∥ Reached options.comments options.edition source.bytes.now ptr ∥₁ },
 }
 

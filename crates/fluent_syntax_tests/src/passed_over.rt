@@ -4,7 +4,7 @@ use crate::alike::{assert_holds, assert_same_text};
 use crate::outline::{Row, assert_outline, outline_of};
 use fluent_syntax::ast::Resource;
 use fluent_syntax::parser::{TooDeep, parse, parse_within};
-use fluent_syntax::spans::{Slices, parse_spans, resolve};
+use fluent_syntax::spans::{Slices, parse_spans, resolve, resolve_entry};
 use fluent_syntax_parser::entries::Entries;
 use fluent_syntax_parser::options::{Comments, Halt, Options};
 use fluent_syntax_tree::edition::Edition;
@@ -305,6 +305,20 @@ fn put_back(alloc: Global, text: &'static str) -> Result<Resource<&'static str>,
     Ok(resolve(alloc, &text, &spans)?)
 }
 
+/// The tree of the entries that are read one by one, each with its texts put in.
+fn put_back_one_by_one(alloc: Global, text: &'static str) -> Result<Resource<&'static str>, Fail> {
+    let mut entries = Entries::new(text, options_within(2));
+    let mut body = Vec::new(alloc);
+    for _ in 0..=text.len() {
+        match entries.next_entry(alloc) {
+            Ok(Some((entry, _error))) => body.push(resolve_entry(alloc, &text, &entry)?)?,
+            Ok(None) => return Ok(Resource { body }),
+            Err(_) => return Err("an entry was not read".into()),
+        }
+    }
+    Err("no end of the entries".into())
+}
+
 /// The tree of the entries that are read one by one with their texts.
 fn gathered(alloc: Global, text: &'static str) -> Result<Resource<&'static str>, Fail> {
     let slices: Slices<'_, '_, &'static str> = Slices::new(&text);
@@ -325,6 +339,7 @@ fn assert_tree(alloc: Global, text: &'static str, outline: &str) -> Result<(), F
     let owned = String::from_str(alloc, text)?;
     assert_outline(alloc, text, &parse(alloc, owned), outline)?;
     assert_outline(alloc, text, &Ok(put_back(alloc, text)?), outline)?;
+    assert_outline(alloc, text, &Ok(put_back_one_by_one(alloc, text)?), outline)?;
     assert_outline(alloc, text, &Ok(gathered(alloc, text)?), outline)
 }
 

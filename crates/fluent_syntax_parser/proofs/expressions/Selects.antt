@@ -1,5 +1,5 @@
 -- A select from its arrow on, by what stands before its variants.
-use Rattle.std.proofs.Common.{◌≡◌, ◌∙◌, ℕ, ◌+◌, List, Option, Some, None, false, true, ap, refl, subst, sym}
+use Rattle.std.proofs.Common.{◌≡◌, ◌∙◌, ℕ, ◌+◌, List, Option, Some, None, true, ap, refl, subst, sym}
 use Rattle.std.specs.Prelude.{Result, Ok, Err}
 use Rattle.fluent_syntax_tree.specs.Kind.{Kind}
 use Rattle.fluent_syntax_tree.specs.Tree.{ExpressionTree, InlineTree, VariantTrees, inline_map, select}
@@ -20,7 +20,7 @@ use Rattle.fluent_syntax_parser.specs.Made.{Makes, made}
 use Rattle.fluent_syntax_parser.specs.Meets.{Fails, no_memory, refused, too_deep}
 use Rattle.fluent_syntax_parser.specs.Selects.{arrow_variants, select_start}
 use Rattle.fluent_syntax_parser.specs.declared.fault.ReadFault.{ReadFault}
-use Rattle.fluent_syntax_parser.proofs.readers.Fails.{fails_first, fails_next, fails_yes}
+use Rattle.fluent_syntax_parser.proofs.readers.Fails.{fails_next, fails_yes}
 use Rattle.fluent_syntax_parser.proofs.readers.Fails.{functional_arrow_end, functional_look, functional_steps}
 use Rattle.fluent_syntax_parser.proofs.readers.Made.{on_made, same_selector_fault}
 

@@ -9,7 +9,7 @@ use Rattle.fluent_syntax_tree.specs.declared.edition.Edition.TheVariants.{One, T
 use Rattle.fluent_syntax_grammar.specs.Layout.{Ending, lf_at, crlf_at, text_end}
 use Rattle.fluent_syntax_parser.specs.Boxed.{boxed_expression_view}
 use Rattle.fluent_syntax_parser.specs.Elements.{item_shape, item_view}
-use Rattle.fluent_syntax_parser.specs.Layouts.{Piece, Line, Item, run, placed, text, filled, with_ending, kept_from}
+use Rattle.fluent_syntax_parser.specs.Layouts.{Piece, Line, run, placed, text, filled, with_ending, kept_from}
 use Rattle.fluent_syntax_parser.specs.Layouts.{indented, items_from, line_items, piece_map}
 use Rattle.fluent_syntax_parser.specs.Layouts.{line_map, item_map}
 use Rattle.fluent_syntax_parser.specs.Lines.{line_shape, line_view, piece_shape, piece_view}

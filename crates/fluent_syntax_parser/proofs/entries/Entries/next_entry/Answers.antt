@@ -1,3 +1,4 @@
+use Rattle.std.proofs.Common.{ap, arith, length}
 use Rattle.fluent_syntax_parser.proofs.entry_forms.MadeEntries.{answer_of_spans}
 use Rattle.fluent_syntax_parser.proofs.tilings.PartsOfNext.{parts_of_next}
 use Rattle.fluent_syntax_parser.proofs.entries.Entries.next_entry.Goals as goal
@@ -12,5 +13,8 @@ pub returns-clause-parts : goal.returns-clause-parts
 returns-clause-parts c =
     let options = c.args.self.now.options in
     let t = c.args.self.now.source.bytes.now in
-    parts_of_next t options.comments options.edition c.args.self.now.utf8 _ _ _ _ _ c.args.self.now.reached
+    let same = ap (λ source. length source.bytes.now) c.next_entry_with.ensures.text in
+    let inside = c.next_entry_with.new.self.within in
+    parts_of_next t options.comments options.edition c.args.self.now.utf8 _ _ _ _ (omega (arith, same, inside))
+    c.args.self.now.reached
     (answer_of_spans options.comments options.edition t _ _ _ _ c.next_entry_with.ensures.next)

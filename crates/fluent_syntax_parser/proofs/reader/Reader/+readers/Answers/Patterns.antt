@@ -1,8 +1,8 @@
 -- The answers of the readers of patterns: their pieces, lines and layout.
-use Rattle.std.proofs.Common.{◌∙◌, refl, sym, ap, arith, false, None, Some}
+use Rattle.std.proofs.Common.{◌∙◌, refl, sym, ap, arith, None, Some}
 use Rattle.std.proofs.lemmas.Result.{err_from_is_err_and}
 use Rattle.fluent_syntax_parser.proofs.patterns.LineEndings.{by_eol}
-use Rattle.fluent_syntax_grammar.specs.Construct.{stops, goes_on, given, passed, at_place}
+use Rattle.fluent_syntax_grammar.specs.Construct.{goes_on, given, passed, at_place}
 use Rattle.fluent_syntax_grammar.specs.Grammar.{within}
 use Rattle.fluent_syntax_grammar.specs.Lines.{is_run_place, no_byte, other_line, own_line}
 use Rattle.fluent_syntax_grammar.specs.Patterns.{layout_at}

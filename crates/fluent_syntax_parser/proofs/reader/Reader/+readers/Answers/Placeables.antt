@@ -1,10 +1,9 @@
 -- The answers of the readers of placeables and what stands in them.
-use Rattle.std.proofs.Common.{◌∙◌, refl, sym, ap, false, rules}
+use Rattle.std.proofs.Common.{◌∙◌, refl, sym, ap, rules}
 use Rattle.std.proofs.lemmas.Result.{err_from_is_err_and}
 use Rattle.fluent_syntax_tree.specs.View.{expression_view}
 use Rattle.fluent_syntax_grammar.specs.Bytes.{left_brace}
 use Rattle.fluent_syntax_grammar.specs.Construct.{stops, goes_on, given, failed, passed, chosen, first, second}
-use Rattle.fluent_syntax_grammar.specs.Grammar.{within}
 use Rattle.fluent_syntax_grammar.specs.Placeables.{is_term_attribute}
 use Rattle.fluent_syntax_grammar.proofs.FunctionalWords.{functional_blank, functional_token}
 use Rattle.fluent_syntax_grammar.proofs.Nesting.{functional_within}

@@ -1,5 +1,5 @@
 -- The answers of the readers of selects and their variants.
-use Rattle.std.proofs.Common.{◌∙◌, refl, sym, ap, arith, false}
+use Rattle.std.proofs.Common.{◌∙◌, refl, sym, ap, arith}
 use Rattle.std.proofs.lemmas.Result.{err_from_is_err_and}
 use Rattle.fluent_syntax_tree.specs.Tree.{pattern_map, variant}
 use Rattle.fluent_syntax_tree.specs.View.{expression_view, key_view}
