@@ -1,4 +1,4 @@
-use Rattle.std.proofs.Common.{◌≡◌, ◌∙◌, ◌∷◌, Some, append_assoc, arith}
+use Rattle.std.proofs.Common.{◌∙◌, ◌∷◌, Some, append_assoc, arith}
 use Rattle.std.proofs.lemmas.Str.Pattern.{split_parts, strip_prefix_char}
 use Rattle.ftl_workspace.proofs.OriginalLemmas.{below_folder, other_name}
 use Rattle.ftl_workspace.proofs.originals.original_of.Goals as goal
