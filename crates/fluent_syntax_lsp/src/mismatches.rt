@@ -1,7 +1,10 @@
 //! What of a document and its original one has and the other lacks.
+ghost use Rattle.std.specs.Prelude.{◌≡◌, IfOk, filter_map, map};
+ghost use Rattle.fluent_syntax_names.specs.declared.differences.Side.TheVariants.{Other, Reference};
+ghost use Rattle.fluent_syntax_lsp.specs.Mismatches.{difference_of, differences, part_difference};
 
 use crate::occurrences::bytes_of;
-use crate::places::{Places, START};
+use crate::places::{Place, Places, START};
 use crate::remarks::{PlaceRange, range_of};
 use fluent_syntax::spans::Span;
 use fluent_syntax_names::{Difference, Lack, Mention, Outline, Side, lacks};
@@ -29,13 +32,14 @@ pub fn mismatches_of(
     document: &Outline<'_>,
     original: &Outline<'_>,
     shown: &str,
-) -> Result<Vec<Mismatch>, AllocError> {
+) -> Result<Vec<Mismatch>, AllocError>
+    ensures { IfOk result (λ found.
+        map difference_of found.items ≡ differences document.now original.now) }
+{
     let missing = lacks(alloc, original, document)?;
     let mut found = missing_of(alloc, document, original, shown, &missing)?;
     let more = lacks(alloc, document, original)?;
-    for mismatch in more_of(alloc, document.text, &more)? {
-        found.push(mismatch)?;
-    }
+    found.append(&mut more_of(alloc, document.text, &more)?)?;
     Ok(found)
 }
 
@@ -46,7 +50,10 @@ fn missing_of(
     original: &Outline<'_>,
     shown: &str,
     lacks: &[Lack],
-) -> Result<Vec<Mismatch>, AllocError> {
+) -> Result<Vec<Mismatch>, AllocError>
+    ensures { IfOk result (λ found.
+        map difference_of found.items ≡ filter_map (part_difference Reference) lacks.now) }
+{
     let entries = Entries::new(alloc, document, original)?;
     let mut own = Places::new(document.text);
     let mut theirs = Places::new(original.text);
@@ -55,14 +62,10 @@ fn missing_of(
         if let Some(difference) = Side::Reference.difference(lack.part) {
             let there = range_of(&mut theirs, lack.name);
             let said = difference.sentence(alloc, bytes_of(original.text, lack.name))?;
-            let (line, column) = (
-                there.start.line.saturating_add(1),
-                there.start.character.saturating_add(1),
-            );
             found.push(Mismatch {
                 difference,
                 range: entries.range_in_document(&mut own, lack.name),
-                message: format!(in alloc; "{said} of {shown}:{line}:{column}")?,
+                message: message_of(alloc, said.as_str(), shown, there.start)?,
                 original: Some(there),
             })?;
         }
@@ -70,8 +73,18 @@ fn missing_of(
     Ok(found)
 }
 
+/// What is said of a part, with its place in the original.
+fn message_of(alloc: Global, said: &str, shown: &str, place: Place) -> Result<String, AllocError> {
+    let line = place.line.saturating_add(1);
+    let column = place.character.saturating_add(1);
+    format!(in alloc; "{said} of {shown}:{line}:{column}")
+}
+
 /// What is told of that which the original lacks.
-fn more_of(alloc: Global, text: &str, lacks: &[Lack]) -> Result<Vec<Mismatch>, AllocError> {
+fn more_of(alloc: Global, text: &str, lacks: &[Lack]) -> Result<Vec<Mismatch>, AllocError>
+    ensures { IfOk result (λ found.
+        map difference_of found.items ≡ filter_map (part_difference Other) lacks.now) }
+{
     let mut places = Places::new(text);
     let mut found = Vec::new(alloc);
     for lack in lacks {
