@@ -139,7 +139,7 @@ impl Held {
     }
 
     /// The text with what its entries say of names. `AllocError` where a growth was refused.
-    fn outline(&self, alloc: Global) -> Result<Outline<'_>, AllocError>
+    pub(crate) fn outline(&self, alloc: Global) -> Result<Outline<'_>, AllocError>
         ensures { IfOk result (IsOutlineOf self.now) }
     {
         let outline = outline_of_tiles(alloc, self.text(), self.tiles())?;

@@ -2,6 +2,7 @@
 
 use crate::diagnostics::Diagnostic;
 use crate::known::Known;
+use crate::mismatches::Mismatch;
 use crate::occurrences::{NameKind, Occurrence, bytes_of, name_of};
 use crate::phases::ErrorCode;
 use crate::places::{Place, Places};
@@ -67,31 +68,81 @@ pub fn watch_request(alloc: Global) -> Result<Value, AllocError> {
     })
 }
 
-/// The notification of a document's diagnostics: its errors, and then its findings. `related` says whether the editor
-/// takes related information.
-pub fn diagnostics_notification(
+/// What is told of a document.
+#[derive(Drop)]
+pub struct Told<'u> {
     alloc: Global,
-    uri: &str,
-    diagnostics: &Vec<Diagnostic>,
-    remarks: &Vec<Remark>,
+    uri: &'u str,
+    /// Whether the editor takes related information.
     related: bool,
-) -> Result<Value, AllocError> {
-    let mut list = Vec::new(alloc);
-    for diagnostic in diagnostics {
-        list.push(diagnostic_form(alloc, diagnostic)?)?;
+    diagnostics: Vec<Value>,
+}
+
+impl<'u> Told<'u> {
+    /// Nothing yet.
+    pub fn new(alloc: Global, uri: &'u str, related: bool) -> Self {
+        Told {
+            alloc,
+            uri,
+            related,
+            diagnostics: Vec::new(alloc),
+        }
     }
-    for remark in remarks {
-        list.push(match remark.first {
-            Some(first) if related => related_form(alloc, uri, remark, first)?,
-            _ => remark_form(alloc, remark)?,
-        })?;
+
+    /// Adds errors of the document.
+    pub fn add_errors(&mut self, errors: &[Diagnostic]) -> Result<(), AllocError> {
+        for diagnostic in errors {
+            self.diagnostics
+                .push(diagnostic_form(self.alloc, diagnostic)?)?;
+        }
+        Ok(())
     }
-    let list = Value::Array(list);
-    json!(in alloc; {
-        "jsonrpc": "2.0",
-        "method": "textDocument/publishDiagnostics",
-        "params": {"uri": uri, "diagnostics": list}
-    })
+
+    /// Adds findings in it.
+    pub fn add_remarks(&mut self, remarks: &[Remark]) -> Result<(), AllocError> {
+        for remark in remarks {
+            self.diagnostics.push(match remark.first {
+                Some(first) if self.related => {
+                    related_form(self.alloc, self.uri, remark, first)?
+                }
+                _ => remark_form(self.alloc, remark)?,
+            })?;
+        }
+        Ok(())
+    }
+
+    /// Adds what it and its original, which has this name, don't have alike.
+    pub fn add_mismatches(
+        &mut self,
+        original: &str,
+        mismatches: &[Mismatch],
+    ) -> Result<(), AllocError> {
+        for mismatch in mismatches {
+            self.diagnostics.push(match mismatch.original {
+                Some(place) if self.related => {
+                    other_form(self.alloc, original, mismatch, place)?
+                }
+                _ => mismatch_form(self.alloc, mismatch)?,
+            })?;
+        }
+        Ok(())
+    }
+
+    /// The notification of all that.
+    pub fn notification(self) -> Result<Value, AllocError> {
+        let Told {
+            alloc,
+            uri,
+            diagnostics,
+            ..
+        } = self;
+        let list = Value::Array(diagnostics);
+        json!(in alloc; {
+            "jsonrpc": "2.0",
+            "method": "textDocument/publishDiagnostics",
+            "params": {"uri": uri, "diagnostics": list}
+        })
+    }
 }
 
 /// A diagnostic: an error.
@@ -136,6 +187,40 @@ fn related_form(
         "relatedInformation": [{
             "location": {"uri": uri, "range": first},
             "message": "first given here"
+        }]
+    })
+}
+
+/// A diagnostic: a difference.
+fn mismatch_form(alloc: Global, mismatch: &Mismatch) -> Result<Value, AllocError> {
+    let range = range_form(alloc, mismatch.range.start, mismatch.range.end)?;
+    json!(in alloc; {
+        "range": range,
+        "severity": (severity_number(mismatch.difference.severity())),
+        "source": "ftl",
+        "code": (mismatch.difference.name()),
+        "message": (&mismatch.message)
+    })
+}
+
+/// A diagnostic: a difference, with where the original has what the document lacks.
+fn other_form(
+    alloc: Global,
+    original: &str,
+    mismatch: &Mismatch,
+    place: PlaceRange,
+) -> Result<Value, AllocError> {
+    let range = range_form(alloc, mismatch.range.start, mismatch.range.end)?;
+    let place = range_form(alloc, place.start, place.end)?;
+    json!(in alloc; {
+        "range": range,
+        "severity": (severity_number(mismatch.difference.severity())),
+        "source": "ftl",
+        "code": (mismatch.difference.name()),
+        "message": (&mismatch.message),
+        "relatedInformation": [{
+            "location": {"uri": original, "range": place},
+            "message": "what the reference has"
         }]
     })
 }

@@ -3,7 +3,6 @@
 use crate::asked::Asked;
 use crate::changes::{change_of, place_of};
 use crate::completion::completion;
-use crate::diagnostics::Diagnostic;
 use crate::documents::Document;
 use crate::endings::Ending;
 use crate::formatting::formatted;
@@ -13,16 +12,18 @@ use crate::known::{Known, Open, Wanted, known_documents};
 use crate::limits::FINDINGS_LIMIT;
 use crate::messages::{Message, message_of};
 use crate::methods::Method;
+use crate::mismatches::mismatches_of;
 use crate::occurrences::bytes_of;
 use crate::offsets::byte_of;
+use crate::originals::{Original, original_at};
 use crate::others::{look_up_others, others_of};
 use crate::phases::{ErrorCode, Phase};
 use crate::places::Places;
 use crate::remarks::{Remark, remarks_of};
 use crate::renaming::renaming;
 use crate::replies::{
-    answer, capabilities, diagnostics_notification, fold_list, known_symbol, refusal, symbol_list,
-    token_list, watch_request, whole_edit,
+    Told, answer, capabilities, fold_list, known_symbol, refusal, symbol_list, token_list,
+    watch_request, whole_edit,
 };
 use crate::symbols::{folds_in, symbols_in};
 use crate::workspace::Workspace;
@@ -204,10 +205,17 @@ impl Server {
             return Ok(None);
         };
         let byte = byte_of(documents[number].text, place);
+        let original = self
+            .workspace
+            .original_of(self.alloc, documents[number].path)?;
+        let original = documents
+            .iter()
+            .position(|known| original.as_deref() == Some(known.path));
         Ok(Some(Asked {
             documents,
             number,
             byte,
+            original,
         }))
     }
 
@@ -351,7 +359,38 @@ impl Server {
         };
         let errors = open.document.diagnostics(self.alloc)?;
         let remarks = self.remarks(uri, &open.document)?;
-        Ok(Some(self.published(uri, &errors, &remarks)?))
+        let mut told = Told::new(self.alloc, uri, self.related);
+        told.add_errors(&errors)?;
+        told.add_remarks(&remarks)?;
+        self.tell_mismatches(open, &mut told)?;
+        Ok(Some(told.notification()?))
+    }
+
+    /// Tells what a document and its original don't have alike; nothing of one that has none, or where one of them is
+    /// too long.
+    fn tell_mismatches(&self, open: &Open, told: &mut Told<'_>) -> Result<(), AllocError> {
+        let (Some(path), Document::Held(held)) = (&open.path, &open.document) else {
+            return Ok(());
+        };
+        let Some(there) = self.workspace.original_of(self.alloc, path.as_str())? else {
+            return Ok(());
+        };
+        let found = original_at(
+            self.alloc,
+            there.as_str(),
+            &self.documents,
+            self.workspace.files(),
+        )?;
+        let Some(Original { uri, outline }) = found else {
+            return Ok(());
+        };
+        if !is_short(&open.document) || outline.text.len() > FINDINGS_LIMIT {
+            return Ok(());
+        }
+        let document = held.outline(self.alloc)?;
+        let shown = self.workspace.shown(there.as_str());
+        let mismatches = mismatches_of(self.alloc, &document, &outline, shown)?;
+        told.add_mismatches(uri, &mismatches)
     }
 
     /// Whether the document's findings are sought, and all files are known that may define what it refers to.
@@ -366,16 +405,6 @@ impl Server {
             ) => is_short(document) && self.workspace.surrounds(path.as_str()),
             _ => false,
         }
-    }
-
-    /// The notification of these diagnostics.
-    fn published(
-        &self,
-        uri: &str,
-        errors: &Vec<Diagnostic>,
-        remarks: &Vec<Remark>,
-    ) -> Result<Value, AllocError> {
-        diagnostics_notification(self.alloc, uri, errors, remarks, self.related)
     }
 
     /// What is told of a document's findings; nothing of a document that is too long.
@@ -417,9 +446,8 @@ impl Server {
             None => Ok(None),
             Some(_) => {
                 self.workspace.forget_defined();
-                let errors = Vec::new(self.alloc);
-                let remarks = Vec::new(self.alloc);
-                Ok(Some(self.published(uri, &errors, &remarks)?))
+                let none = Told::new(self.alloc, uri, self.related);
+                Ok(Some(none.notification()?))
             }
         }
     }
