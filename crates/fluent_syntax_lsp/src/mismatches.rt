@@ -54,7 +54,7 @@ fn missing_of(
     ensures { IfOk result (λ found.
         map difference_of found.items ≡ filter_map (part_difference Reference) lacks.now) }
 {
-    let entries = Entries::new(alloc, document, original)?;
+    let entries = EntryPlaces::new(alloc, document, original)?;
     let mut own = Places::new(document.text);
     let mut theirs = Places::new(original.text);
     let mut found = Vec::new(alloc);
@@ -102,19 +102,19 @@ fn more_of(alloc: Global, text: &str, lacks: &[Lack]) -> Result<Vec<Mismatch>, A
 
 /// The entries of an original, and where a document defines those of the same names.
 #[derive(Drop)]
-struct Entries<'d> {
+struct EntryPlaces<'d> {
     /// Those of the original, in order: where its name begins, and the name, a term's with its `-`.
     original: Vec<(usize, &'d str)>,
     /// Where the document has each name first.
     document: BTreeMap<&'d str, Span>,
 }
 
-impl<'d> Entries<'d> {
+impl<'d> EntryPlaces<'d> {
     fn new(
         alloc: Global,
         document: &Outline<'d>,
         original: &Outline<'d>,
-    ) -> Result<Entries<'d>, AllocError> {
+    ) -> Result<EntryPlaces<'d>, AllocError> {
         let mut theirs = Vec::new(alloc);
         for mention in &original.mentions {
             if let Some(name) = entry_name(mention) {
@@ -127,7 +127,7 @@ impl<'d> Entries<'d> {
                 drop(own.insert(bytes_of(document.text, name), name)?);
             }
         }
-        Ok(Entries {
+        Ok(EntryPlaces {
             original: theirs,
             document: own,
         })

@@ -372,6 +372,9 @@ impl Server {
         let (Some(path), Document::Held(held)) = (&open.path, &open.document) else {
             return Ok(());
         };
+        if !is_short(&open.document) {
+            return Ok(());
+        }
         let Some(there) = self.workspace.original_of(self.alloc, path.as_str())? else {
             return Ok(());
         };
@@ -384,7 +387,7 @@ impl Server {
         let Some(Original { uri, outline }) = found else {
             return Ok(());
         };
-        if !is_short(&open.document) || outline.text.len() > FINDINGS_LIMIT {
+        if outline.text.len() > FINDINGS_LIMIT {
             return Ok(());
         }
         let document = held.outline(self.alloc)?;
