@@ -67,10 +67,7 @@ pub fn original_at<'d>(
     match files.get(path) {
         Some(file) => Ok(Some(Original {
             uri: file.uri.as_str(),
-            outline: Outline {
-                text: file.text.as_str(),
-                mentions: file.mentions.iter().copied().collect(alloc)?,
-            },
+            outline: file.outline(alloc)?,
         })),
         None => Ok(None),
     }

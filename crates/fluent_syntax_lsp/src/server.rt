@@ -16,7 +16,7 @@ use crate::mismatches::mismatches_of;
 use crate::occurrences::bytes_of;
 use crate::offsets::byte_of;
 use crate::originals::{Original, original_at};
-use crate::others::{look_up_others, others_of};
+use crate::others::{look_up_others, others_of, outlines_of};
 use crate::phases::{ErrorCode, Phase};
 use crate::places::Places;
 use crate::remarks::{Remark, remarks_of};
@@ -433,14 +433,19 @@ impl Server {
         }
     }
 
-    /// What is found in a document: by itself, or beside all others where these are known.
+    /// What is found in a document: by itself; where all others are known, among them, or beside them where they are
+    /// long.
     fn findings(&self, uri: &str, document: &Document) -> Result<Vec<Finding>, AllocError> {
+        let (alloc, documents, workspace) = (self.alloc, &self.documents, &self.workspace);
         if self.is_surrounded(uri) {
-            if let Some(others) = others_of(self.alloc, uri, &self.documents, &self.workspace)? {
-                return document.findings_beside(self.alloc, &others);
+            if let Some(others) = outlines_of(alloc, uri, documents, workspace)? {
+                return document.findings_among(alloc, others);
+            }
+            if let Some(others) = others_of(alloc, uri, documents, workspace)? {
+                return document.findings_beside(alloc, &others);
             }
         }
-        document.findings(self.alloc)
+        document.findings(alloc)
     }
 
     /// Closes a document, and takes its diagnostics back.

@@ -228,7 +228,7 @@ fn is_searched(folder: &str, path: &str) -> bool {
 }
 
 /// Whether one of the documents is that of the path.
-fn is_open(documents: &BTreeMap<String, Open>, path: &str) -> bool {
+pub fn is_open(documents: &BTreeMap<String, Open>, path: &str) -> bool {
     documents
         .values()
         .any(|open| open.path.as_deref() == Some(path))

@@ -496,3 +496,19 @@ fn documents_beside_their_original(rt: HostRuntime) -> Result<(), Fail> {
     }
     Ok(())
 }
+
+#[test]
+fn references_that_come_back_through_files(rt: HostRuntime) -> Result<(), Fail> {
+    let alloc = rt.alloc();
+    let mut files = InMemory::new(alloc);
+    files.put(alloc, "/w/a.ftl", b"a = { b }\n")?;
+    files.put(alloc, "/w/b.ftl", b"b = { c }\n")?;
+    let opened = opening(alloc, "file:///w/c.ftl", "c = { a }")?;
+    let told = told_last(alloc, &files, &[INITIALIZE, INITIALIZED, opened.as_str()])?;
+    assert_told(
+        alloc,
+        "through two",
+        told.as_str(),
+        &[("cyclic-reference", 6)],
+    )
+}
