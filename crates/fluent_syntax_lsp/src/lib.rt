@@ -40,6 +40,7 @@ mod symbols;
 mod token;
 mod token_patterns;
 mod tokens;
+mod told;
 mod workspace;
 
 pub use closed::Closed;

@@ -1,15 +1,11 @@
 //! The messages that a server sends, as JSON values.
 
-use crate::diagnostics::Diagnostic;
 use crate::known::Known;
-use crate::mismatches::Mismatch;
 use crate::occurrences::{NameKind, Occurrence, bytes_of, name_of};
 use crate::phases::ErrorCode;
 use crate::places::{Place, Places};
-use crate::remarks::{PlaceRange, Remark};
 use crate::symbols::{Fold, Symbol, SymbolKind};
 use fluent_syntax::spans::Span;
-use fluent_syntax_names::Severity;
 use serde_json::{Value, json};
 use std::alloc::{AllocError, Global};
 
@@ -66,171 +62,6 @@ pub fn watch_request(alloc: Global) -> Result<Value, AllocError> {
             "registerOptions": {"watchers": [{"globPattern": "**/*.ftl"}, {"globPattern": "**/ftl.toml"}]}
         }]}
     })
-}
-
-/// What is told of a document.
-#[derive(Drop)]
-pub struct Told<'u> {
-    alloc: Global,
-    uri: &'u str,
-    /// Whether the editor takes related information.
-    related: bool,
-    diagnostics: Vec<Value>,
-}
-
-impl<'u> Told<'u> {
-    /// Nothing yet.
-    pub fn new(alloc: Global, uri: &'u str, related: bool) -> Self {
-        Told {
-            alloc,
-            uri,
-            related,
-            diagnostics: Vec::new(alloc),
-        }
-    }
-
-    /// Adds errors of the document.
-    pub fn add_errors(&mut self, errors: &[Diagnostic]) -> Result<(), AllocError> {
-        for diagnostic in errors {
-            self.diagnostics
-                .push(diagnostic_form(self.alloc, diagnostic)?)?;
-        }
-        Ok(())
-    }
-
-    /// Adds findings in it.
-    pub fn add_remarks(&mut self, remarks: &[Remark]) -> Result<(), AllocError> {
-        for remark in remarks {
-            self.diagnostics.push(match remark.first {
-                Some(first) if self.related => {
-                    related_form(self.alloc, self.uri, remark, first)?
-                }
-                _ => remark_form(self.alloc, remark)?,
-            })?;
-        }
-        Ok(())
-    }
-
-    /// Adds what it and its original, which has this name, don't have alike.
-    pub fn add_mismatches(
-        &mut self,
-        original: &str,
-        mismatches: &[Mismatch],
-    ) -> Result<(), AllocError> {
-        for mismatch in mismatches {
-            self.diagnostics.push(match mismatch.original {
-                Some(place) if self.related => {
-                    other_form(self.alloc, original, mismatch, place)?
-                }
-                _ => mismatch_form(self.alloc, mismatch)?,
-            })?;
-        }
-        Ok(())
-    }
-
-    /// The notification of all that.
-    pub fn notification(self) -> Result<Value, AllocError> {
-        let Told {
-            alloc,
-            uri,
-            diagnostics,
-            ..
-        } = self;
-        let list = Value::Array(diagnostics);
-        json!(in alloc; {
-            "jsonrpc": "2.0",
-            "method": "textDocument/publishDiagnostics",
-            "params": {"uri": uri, "diagnostics": list}
-        })
-    }
-}
-
-/// A diagnostic: an error.
-fn diagnostic_form(alloc: Global, diagnostic: &Diagnostic) -> Result<Value, AllocError> {
-    let range = range_form(alloc, diagnostic.start, diagnostic.end)?;
-    json!(in alloc; {
-        "range": range,
-        "severity": 1,
-        "source": "ftl",
-        "code": (diagnostic.code),
-        "message": (&diagnostic.message)
-    })
-}
-
-/// A diagnostic: a finding.
-fn remark_form(alloc: Global, remark: &Remark) -> Result<Value, AllocError> {
-    let range = range_form(alloc, remark.range.start, remark.range.end)?;
-    json!(in alloc; {
-        "range": range,
-        "severity": (severity_number(remark.kind.severity())),
-        "source": "ftl",
-        "code": (remark.kind.name()),
-        "message": (&remark.message)
-    })
-}
-
-/// A diagnostic: a finding, with where the name was given first.
-fn related_form(
-    alloc: Global,
-    uri: &str,
-    remark: &Remark,
-    first: PlaceRange,
-) -> Result<Value, AllocError> {
-    let range = range_form(alloc, remark.range.start, remark.range.end)?;
-    let first = range_form(alloc, first.start, first.end)?;
-    json!(in alloc; {
-        "range": range,
-        "severity": (severity_number(remark.kind.severity())),
-        "source": "ftl",
-        "code": (remark.kind.name()),
-        "message": (&remark.message),
-        "relatedInformation": [{
-            "location": {"uri": uri, "range": first},
-            "message": "first given here"
-        }]
-    })
-}
-
-/// A diagnostic: a difference.
-fn mismatch_form(alloc: Global, mismatch: &Mismatch) -> Result<Value, AllocError> {
-    let range = range_form(alloc, mismatch.range.start, mismatch.range.end)?;
-    json!(in alloc; {
-        "range": range,
-        "severity": (severity_number(mismatch.difference.severity())),
-        "source": "ftl",
-        "code": (mismatch.difference.name()),
-        "message": (&mismatch.message)
-    })
-}
-
-/// A diagnostic: a difference, with where the original has what the document lacks.
-fn other_form(
-    alloc: Global,
-    original: &str,
-    mismatch: &Mismatch,
-    place: PlaceRange,
-) -> Result<Value, AllocError> {
-    let range = range_form(alloc, mismatch.range.start, mismatch.range.end)?;
-    let place = range_form(alloc, place.start, place.end)?;
-    json!(in alloc; {
-        "range": range,
-        "severity": (severity_number(mismatch.difference.severity())),
-        "source": "ftl",
-        "code": (mismatch.difference.name()),
-        "message": (&mismatch.message),
-        "relatedInformation": [{
-            "location": {"uri": original, "range": place},
-            "message": "what the reference has"
-        }]
-    })
-}
-
-/// The number of a severity in the protocol.
-fn severity_number(severity: Severity) -> u64 {
-    match severity {
-        Severity::Error => 1,
-        Severity::Warning => 2,
-    }
 }
 
 /// The edit that sets the whole text.
@@ -417,7 +248,7 @@ pub fn known_symbol(
 }
 
 /// A range, by its two places.
-fn range_form(alloc: Global, start: Place, end: Place) -> Result<Value, AllocError> {
+pub(crate) fn range_form(alloc: Global, start: Place, end: Place) -> Result<Value, AllocError> {
     let start = place_form(alloc, start)?;
     let end = place_form(alloc, end)?;
     json!(in alloc; {"start": start, "end": end})

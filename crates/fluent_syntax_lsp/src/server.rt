@@ -22,10 +22,11 @@ use crate::places::Places;
 use crate::remarks::{Remark, remarks_of};
 use crate::renaming::renaming;
 use crate::replies::{
-    Told, answer, capabilities, fold_list, known_symbol, refusal, symbol_list, token_list,
-    watch_request, whole_edit,
+    answer, capabilities, fold_list, known_symbol, refusal, symbol_list, token_list, watch_request,
+    whole_edit,
 };
 use crate::symbols::{folds_in, symbols_in};
+use crate::told::Told;
 use crate::workspace::Workspace;
 use fluent_syntax_names::{Finding, Kind};
 use ftl_workspace::{Folders, path_of_uri};
