@@ -54,7 +54,8 @@ FindsBesideInDocument (TooDeep text) others found = found ≡ []
 abbrev pub is_of_first : Finding → Bool
 is_of_first finding = finding.file == 0
 
--- It is what is found in the text among these others, in order: all that the files have together, as far as it is in it.
+-- It is what is found in the text among these others, in order: all that is found in one set of them, as far as it is
+-- in the text.
 pub record FindsAmong (t : List ℕ) (others : List Outline) (found : List Finding) : Type 0 where
   pub outline : Outline
   pub is_outline : IsOutlineOf t outline

@@ -3,7 +3,10 @@ use Rattle.std.proofs.lemmas.List.{map-append}
 use Rattle.fluent_syntax_names.specs.declared.differences.Side.TheVariants.{Reference}
 use Rattle.fluent_syntax_lsp.specs.Mismatches.{difference_of, part_difference}
 use Rattle.fluent_syntax_lsp.proofs.FilteredMore.{filtered_none, filtered_one, unless_some}
-use Rattle.fluent_syntax_lsp.proofs.mismatches.missing_of.Goals.{in-Some+in_ok-said+in_ok-message_of+in_ok-push, in_default}
+use Rattle.fluent_syntax_lsp.proofs.mismatches.missing_of.Goals.{in_default}
+use Rattle.fluent_syntax_lsp.proofs.mismatches.missing_of.Goals.{
+  in-Some+in_ok-said+in_ok-message_of+in_ok-push,
+}
 use Rattle.fluent_syntax_lsp.proofs.mismatches.missing_of.Goals as goal
 
 pub loop-lack-preserved : goal.loop-lack-preserved
