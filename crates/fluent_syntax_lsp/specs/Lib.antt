@@ -18,3 +18,7 @@ pub mod Offsets
 pub mod Own
 pub mod Remarks
 pub mod Tokens
+pub mod Messages
+pub mod Params
+pub mod Edits
+pub mod Opened
