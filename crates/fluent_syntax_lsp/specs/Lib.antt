@@ -22,3 +22,4 @@ pub mod Messages
 pub mod Params
 pub mod Edits
 pub mod Opened
+pub mod Replies
