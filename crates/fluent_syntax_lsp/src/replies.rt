@@ -1,4 +1,8 @@
 //! The messages that a server sends, as JSON values.
+ghost use Rattle.std.specs.Prelude.{◌≡◌, IfOk};
+ghost use Rattle.serde_json.specs.Data.{Data};
+ghost use Rattle.serde_json.specs.View.{view};
+ghost use Rattle.fluent_syntax_lsp.specs.Replies.{answer_form, diagnostics_form, refusal_form, watch_form};
 
 use crate::known::Known;
 use crate::occurrences::{NameKind, Occurrence, bytes_of, name_of};
@@ -10,12 +14,16 @@ use serde_json::{Value, json};
 use std::alloc::{AllocError, Global};
 
 /// The answer to the request with the identifier.
-pub fn answer(alloc: Global, id: Value, answer: Value) -> Result<Value, AllocError> {
+pub fn answer(alloc: Global, id: Value, answer: Value) -> Result<Value, AllocError>
+    ensures { IfOk result (λ value. view value ≡ answer_form (view id) (view answer)) }
+{
     json!(in alloc; {"jsonrpc": "2.0", "id": id, "result": answer})
 }
 
 /// The answer that refuses the request with the identifier, or null where it has none.
-pub fn refusal(alloc: Global, id: Value, code: ErrorCode) -> Result<Value, AllocError> {
+pub fn refusal(alloc: Global, id: Value, code: ErrorCode) -> Result<Value, AllocError>
+    ensures { IfOk result (λ value. view value ≡ refusal_form (view id) code) }
+{
     json!(in alloc; {"jsonrpc": "2.0", "id": id, "error": {"code": (code.number()), "message": (code.text())}})
 }
 
@@ -51,7 +59,9 @@ pub fn capabilities(alloc: Global) -> Result<Value, AllocError> {
 }
 
 /// The request by which an editor watches the files of its folders.
-pub fn watch_request(alloc: Global) -> Result<Value, AllocError> {
+pub fn watch_request(alloc: Global) -> Result<Value, AllocError>
+    ensures { IfOk result (λ value. view value ≡ watch_form) }
+{
     json!(in alloc; {
         "jsonrpc": "2.0",
         "id": "ftl-watch",
@@ -61,6 +71,28 @@ pub fn watch_request(alloc: Global) -> Result<Value, AllocError> {
             "method": "workspace/didChangeWatchedFiles",
             "registerOptions": {"watchers": [{"globPattern": "**/*.ftl"}, {"globPattern": "**/ftl.toml"}]}
         }]}
+    })
+}
+
+/// The notification of a document's diagnostics.
+pub fn diagnostics_notification(
+    alloc: Global,
+    uri: &str,
+    diagnostics: Vec<Value>,
+) -> Result<Value, AllocError>
+    ensures { IfOk result (λ value. (list : Data) × (view value ≡ diagnostics_form uri.now list)) }
+{
+    told_form(alloc, uri, Value::Array(diagnostics))
+}
+
+/// The notification of a list of diagnostics.
+fn told_form(alloc: Global, uri: &str, diagnostics: Value) -> Result<Value, AllocError>
+    ensures { IfOk result (λ value. view value ≡ diagnostics_form uri.now (view diagnostics)) }
+{
+    json!(in alloc; {
+        "jsonrpc": "2.0",
+        "method": "textDocument/publishDiagnostics",
+        "params": {"uri": uri, "diagnostics": diagnostics}
     })
 }
 

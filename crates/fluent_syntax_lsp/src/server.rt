@@ -1,35 +1,39 @@
 //! The open documents and the files of the workspace, and the answer to each message.
 
 use crate::asked::Asked;
-use crate::changes::{change_of, place_of};
+use crate::changes::changes_of;
 use crate::completion::completion;
 use crate::documents::Document;
 use crate::endings::Ending;
 use crate::formatting::formatted;
 use crate::highlights::{highlights_of, numbers_of};
 use crate::ignored::findings_told;
-use crate::known::{Known, Open, Wanted, known_documents};
+use crate::known::{Known, Open, known_documents};
 use crate::limits::FINDINGS_LIMIT;
 use crate::messages::{Message, message_of};
 use crate::methods::Method;
 use crate::mismatches::mismatches_of;
 use crate::occurrences::bytes_of;
 use crate::offsets::byte_of;
+use crate::opened::Documents;
 use crate::originals::{Original, original_at};
 use crate::others::{look_up_others, others_of, outlines_of};
+use crate::params::{
+    asked_place, changes_in, new_name, opened_text, takes_related, uri_of, version_of, wanted_by,
+};
 use crate::phases::{ErrorCode, Phase};
 use crate::places::Places;
 use crate::remarks::{Remark, remarks_of};
 use crate::renaming::renaming;
 use crate::replies::{
-    answer, capabilities, fold_list, known_symbol, refusal, symbol_list, token_list, watch_request,
-    whole_edit,
+    answer, capabilities, diagnostics_notification, fold_list, known_symbol, refusal, symbol_list,
+    token_list, watch_request, whole_edit,
 };
 use crate::symbols::{folds_in, symbols_in};
 use crate::told::Told;
 use crate::workspace::Workspace;
-use fluent_syntax_names::{Finding, Kind};
-use ftl_workspace::{Folders, path_of_uri};
+use fluent_syntax_names::{DefinedNames, Finding, Kind};
+use ftl_workspace::Folders;
 use serde_json::{Category, Value};
 use std::alloc::{AllocError, Global};
 use std::collections::BTreeMap;
@@ -41,8 +45,10 @@ pub struct Server {
     phase: Phase,
     /// Whether the editor takes related information of a diagnostic.
     related: bool,
-    /// The open documents, by their names.
-    documents: BTreeMap<String, Open>,
+    documents: Documents,
+    /// The names that the open documents define, by the documents' names, as far as they were looked up since the
+    /// documents changed.
+    defined: BTreeMap<String, DefinedNames>,
     /// The files that may be closed.
     workspace: Workspace,
 }
@@ -54,7 +60,8 @@ impl Server {
             alloc,
             phase: Phase::Fresh,
             related: false,
-            documents: BTreeMap::new(alloc),
+            documents: Documents::new(alloc),
+            defined: BTreeMap::new(alloc),
             workspace: Workspace::new(alloc),
         }
     }
@@ -187,19 +194,16 @@ impl Server {
 
     /// The open documents and the closed files.
     fn known(&self) -> Result<Vec<Known<'_>>, AllocError> {
-        known_documents(self.alloc, &self.documents, self.workspace.files())
+        known_documents(self.alloc, self.documents.by_name(), self.workspace.files())
     }
 
     /// What a request asks of. None where it names no open document, or no place.
     fn asked(&self, message: &Value) -> Result<Option<Asked<'_>>, AllocError> {
-        let (Some(uri), Some(place)) = (
-            uri_of(message),
-            message.pointer("/params/position").and_then(place_of),
-        ) else {
+        let (Some(uri), Some(place)) = (uri_of(message), asked_place(message)) else {
             return Ok(None);
         };
         let documents = self.known()?;
-        if !self.documents.contains_key(uri) {
+        if !self.documents.contains(uri) {
             return Ok(None);
         }
         let Some(number) = documents.iter().position(|known| known.uri == uri) else {
@@ -310,16 +314,8 @@ impl Server {
         let Some(text) = text else {
             return Ok(None);
         };
-        let name = String::from_str(self.alloc, uri)?;
-        let document = Document::new(self.alloc, text)?;
-        let path = path_of_uri(self.alloc, uri)?;
-        let open = Open {
-            path,
-            version,
-            document,
-            defined: None,
-        };
-        drop(self.documents.insert(name, open)?);
+        self.documents.open(self.alloc, uri, version, text)?;
+        drop(self.defined.remove(uri));
         self.workspace.forget_defined();
         self.publish(uri)
     }
@@ -332,28 +328,31 @@ impl Server {
         changes: Option<&Vec<Value>>,
         version: Option<i64>,
     ) -> Result<Option<Value>, AllocError> {
-        let (Some(changes), Some(open)) = (changes, self.documents.get_mut(uri)) else {
+        let Some(values) = changes else {
             return Ok(None);
         };
-        let mut made = Vec::new(self.alloc);
-        for value in changes {
-            let Some(change) = change_of(value) else {
-                return Ok(None);
-            };
-            made.push(change)?;
+        if !self.documents.contains(uri) {
+            return Ok(None);
         }
-        open.version = version;
-        open.defined = None;
-        for change in &made {
-            change.apply(self.alloc, &mut open.document)?;
-        }
+        let Some(changes) = changes_of(self.alloc, values)? else {
+            return Ok(None);
+        };
+        drop(self.defined.remove(uri));
+        self.documents.change(self.alloc, uri, version, &changes)?;
         self.publish(uri)
     }
 
     /// The diagnostics of a document; None where it is not open.
     fn publish(&mut self, uri: &str) -> Result<Option<Value>, AllocError> {
         if self.is_surrounded(uri) {
-            look_up_others(self.alloc, uri, &mut self.documents, &mut self.workspace)?;
+            let documents = self.documents.by_name();
+            look_up_others(
+                self.alloc,
+                uri,
+                documents,
+                &mut self.defined,
+                &mut self.workspace,
+            )?;
         }
         let Some(open) = self.documents.get(uri) else {
             return Ok(None);
@@ -364,7 +363,7 @@ impl Server {
         told.add_errors(&errors)?;
         told.add_remarks(&remarks)?;
         self.tell_mismatches(open, &mut told)?;
-        Ok(Some(told.notification()?))
+        Ok(Some(self.published(uri, told)?))
     }
 
     /// Tells what a document and its original don't have alike; nothing of one that has none, or where one of them is
@@ -382,7 +381,7 @@ impl Server {
         let found = original_at(
             self.alloc,
             there.as_str(),
-            &self.documents,
+            self.documents.by_name(),
             self.workspace.files(),
         )?;
         let Some(Original { uri, outline }) = found else {
@@ -411,6 +410,12 @@ impl Server {
         }
     }
 
+    /// The notification of what is told of a document.
+    fn published(&self, uri: &str, told: Told<'_>) -> Result<Value, AllocError> {
+        let Told { diagnostics, .. } = told;
+        diagnostics_notification(self.alloc, uri, diagnostics)
+    }
+
     /// What is told of a document's findings; nothing of a document that is too long.
     fn remarks(&self, uri: &str, document: &Document) -> Result<Vec<Remark>, AllocError> {
         if !is_short(document) {
@@ -437,12 +442,13 @@ impl Server {
     /// What is found in a document: by itself; where all others are known, among them, or beside them where they are
     /// long.
     fn findings(&self, uri: &str, document: &Document) -> Result<Vec<Finding>, AllocError> {
-        let (alloc, documents, workspace) = (self.alloc, &self.documents, &self.workspace);
+        let (alloc, workspace) = (self.alloc, &self.workspace);
+        let documents = self.documents.by_name();
         if self.is_surrounded(uri) {
             if let Some(others) = outlines_of(alloc, uri, documents, workspace)? {
                 return document.findings_among(alloc, others);
             }
-            if let Some(others) = others_of(alloc, uri, documents, workspace)? {
+            if let Some(others) = others_of(alloc, uri, documents, &self.defined, workspace)? {
                 return document.findings_beside(alloc, &others);
             }
         }
@@ -451,14 +457,13 @@ impl Server {
 
     /// Closes a document, and takes its diagnostics back.
     fn close(&mut self, uri: &str) -> Result<Option<Value>, AllocError> {
-        match self.documents.remove(uri) {
-            None => Ok(None),
-            Some(_) => {
-                self.workspace.forget_defined();
-                let none = Told::new(self.alloc, uri, self.related);
-                Ok(Some(none.notification()?))
-            }
+        if !self.documents.close(uri) {
+            return Ok(None);
         }
+        drop(self.defined.remove(uri));
+        self.workspace.forget_defined();
+        let none = Told::new(self.alloc, uri, self.related);
+        Ok(Some(self.published(uri, none)?))
     }
 }
 
@@ -473,56 +478,4 @@ fn changes_files(method: Option<Method>) -> bool {
         method,
         Some(Method::Initialized | Method::DidClose | Method::DidChangeWatchedFiles)
     )
-}
-
-/// Whether an editor that says this of itself takes related information of a diagnostic.
-fn takes_related(message: &Value) -> bool {
-    message
-        .pointer("/params/capabilities/textDocument/publishDiagnostics/relatedInformation")
-        .and_then(Value::as_bool)
-        .unwrap_or(false)
-}
-
-/// The name of the document that a message speaks of.
-fn uri_of(message: &Value) -> Option<&str> {
-    message
-        .pointer("/params/textDocument/uri")
-        .and_then(Value::as_str)
-}
-
-/// The text of a document that is opened.
-fn opened_text(message: &Value) -> Option<&str> {
-    message
-        .pointer("/params/textDocument/text")
-        .and_then(Value::as_str)
-}
-
-/// The changes that a message tells of.
-fn changes_in(message: &Value) -> Option<&Vec<Value>> {
-    message
-        .pointer("/params/contentChanges")
-        .and_then(Value::as_array)
-}
-
-/// The number of the document's version.
-fn version_of(message: &Value) -> Option<i64> {
-    message
-        .pointer("/params/textDocument/version")
-        .and_then(Value::as_i64)
-}
-
-/// Which places of a name are asked for.
-fn wanted_by(message: &Value) -> Wanted {
-    let declared = message
-        .pointer("/params/context/includeDeclaration")
-        .and_then(Value::as_bool);
-    match declared {
-        Some(false) => Wanted::References,
-        _ => Wanted::All,
-    }
-}
-
-/// The name that is wanted.
-fn new_name(message: &Value) -> Option<&str> {
-    message.pointer("/params/newName").and_then(Value::as_str)
 }

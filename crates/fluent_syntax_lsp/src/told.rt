@@ -15,7 +15,7 @@ pub struct Told<'u> {
     uri: &'u str,
     /// Whether the editor takes related information.
     related: bool,
-    diagnostics: Vec<Value>,
+    pub diagnostics: Vec<Value>,
 }
 
 impl<'u> Told<'u> {
@@ -97,22 +97,6 @@ impl<'u> Told<'u> {
         };
         self.diagnostics.push(value)?;
         Ok(())
-    }
-
-    /// The notification of all that.
-    pub fn notification(self) -> Result<Value, AllocError> {
-        let Told {
-            alloc,
-            uri,
-            diagnostics,
-            ..
-        } = self;
-        let list = Value::Array(diagnostics);
-        json!(in alloc; {
-            "jsonrpc": "2.0",
-            "method": "textDocument/publishDiagnostics",
-            "params": {"uri": uri, "diagnostics": list}
-        })
     }
 }
 
