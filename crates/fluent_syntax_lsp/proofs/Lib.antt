@@ -8,3 +8,4 @@ pub mod PlaceLemmas
 pub mod RemarkLemmas
 pub mod TokenTiles
 pub mod OpenedLemmas
+pub mod SessionLemmas

@@ -23,3 +23,5 @@ pub mod Params
 pub mod Edits
 pub mod Opened
 pub mod Replies
+pub mod Sessions
+pub mod Served
