@@ -7,3 +7,5 @@ pub mod OwnLemmas
 pub mod PlaceLemmas
 pub mod RemarkLemmas
 pub mod TokenTiles
+pub mod OpenedLemmas
+pub mod SessionLemmas

@@ -18,3 +18,9 @@ pub mod Offsets
 pub mod Own
 pub mod Remarks
 pub mod Tokens
+pub mod Messages
+pub mod Params
+pub mod Edits
+pub mod Opened
+pub mod Replies
+pub mod Sessions

@@ -1,5 +1,5 @@
 -- How far a session is, and what it refuses there.
-use Rattle.std.specs.Prelude.{ℤ, negsuc, Option, Some, None}
+use Rattle.std.specs.Prelude.{ℕ, ℤ, negsuc, List, codes, Option, Some, None}
 use Rattle.fluent_syntax_lsp.specs.declared.endings.Ending.{Ending}
 use Rattle.fluent_syntax_lsp.specs.declared.endings.Ending.TheVariants as endings
 use Rattle.fluent_syntax_lsp.specs.declared.methods.Method.{Method}
@@ -23,6 +23,13 @@ number_of InvalidRequest = negsuc 32599
 number_of MethodNotFound = negsuc 32600
 number_of InvalidParams = negsuc 32601
 number_of NotInitialized = negsuc 32001
+
+abbrev pub text_of : ErrorCode → List ℕ
+text_of ParseError = codes "the message is no JSON text"
+text_of InvalidRequest = codes "the request has no place here"
+text_of MethodNotFound = codes "the method is not known"
+text_of InvalidParams = codes "the parameters name no open document"
+text_of NotInitialized = codes "the server is not initialized"
 
 -- what is refused of requests before `initialize`: all but that
 abbrev pub refusal_before : Option Method → Option ErrorCode

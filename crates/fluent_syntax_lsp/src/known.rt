@@ -6,7 +6,6 @@ use crate::closed::Closed;
 use crate::documents::Document;
 use crate::occurrences::{Name, Occurrence, is_named, name_of};
 use fluent_syntax::spans::Span;
-use fluent_syntax_names::DefinedNames;
 use std::alloc::{AllocError, Global};
 use std::collections::BTreeMap;
 
@@ -18,8 +17,6 @@ pub struct Open {
     /// The number that the editor gave it, if it gave one.
     pub version: Option<i64>,
     pub document: Document,
-    /// The names that it defines. None where they were not looked up since it changed.
-    pub defined: Option<DefinedNames>,
 }
 
 /// An open document or a closed file, with the names in it, in order.

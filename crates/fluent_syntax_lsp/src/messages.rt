@@ -1,4 +1,7 @@
 //! What kind of message a JSON value is.
+ghost use Rattle.std.specs.Prelude.{◌≡◌};
+ghost use Rattle.serde_json.specs.View.{view};
+ghost use Rattle.fluent_syntax_lsp.specs.Messages.{is_identifier, message_in, message_kind};
 
 use serde_json::Value;
 
@@ -15,7 +18,9 @@ pub enum Message<'v> {
 }
 
 /// The kind of message that the value is.
-pub fn message_of(value: &Value) -> Message<'_> {
+pub fn message_of(value: &Value) -> Message<'_>
+    ensures { message_kind result ≡ message_in (view value.now) }
+{
     if value.get("jsonrpc").and_then(Value::as_str) != Some("2.0") {
         return Message::Invalid;
     }
@@ -29,6 +34,8 @@ pub fn message_of(value: &Value) -> Message<'_> {
 }
 
 /// Whether the value may identify a request: a text or a whole number.
-fn is_identifier(value: &Value) -> bool {
+fn is_identifier(value: &Value) -> bool
+    ensures { result ≡ is_identifier (view value.now) }
+{
     value.is_string() || value.is_i64() || value.is_u64()
 }

@@ -7,19 +7,22 @@ use fluent_syntax_names::DefinedNames;
 use std::alloc::{AllocError, Global};
 use std::collections::BTreeMap;
 
-/// Looks up what the documents and the closed files define, as far as that was not done since they changed. That of the
-/// document itself isn't needed.
+/// Looks up what the documents and the closed files define, as far as that was not done since they changed: `defined`
+/// is what was looked up of the documents, by their names. That of the document itself isn't needed.
 ///
 /// `AllocError` where a growth was refused.
 pub fn look_up_others(
     alloc: Global,
     uri: &str,
-    documents: &mut BTreeMap<String, Open>,
+    documents: &BTreeMap<String, Open>,
+    defined: &mut BTreeMap<String, DefinedNames>,
     workspace: &mut Workspace,
 ) -> Result<(), AllocError> {
-    for (other, open) in documents.iter_mut() {
-        if other.as_str() != uri && open.defined.is_none() {
-            open.defined = Some(open.document.defined(alloc)?);
+    for (other, open) in documents.iter() {
+        let name = other.as_str();
+        if name != uri && !defined.contains_key(name) {
+            let names = open.document.defined(alloc)?;
+            drop(defined.insert(String::from_str(alloc, name)?, names)?);
         }
     }
     workspace.look_up_defined(alloc, documents)
@@ -33,6 +36,7 @@ pub fn others_of<'d>(
     alloc: Global,
     uri: &str,
     documents: &'d BTreeMap<String, Open>,
+    defined: &'d BTreeMap<String, DefinedNames>,
     workspace: &'d Workspace,
 ) -> Result<Option<Vec<&'d DefinedNames>>, AllocError> {
     let Some(closed) = workspace.defined() else {
@@ -42,7 +46,7 @@ pub fn others_of<'d>(
     others.push(closed)?;
     for (other, open) in documents.iter() {
         if other.as_str() != uri {
-            match (&open.document, &open.defined) {
+            match (&open.document, defined.get(other.as_str())) {
                 (Document::Held(_), Some(names)) => others.push(names)?,
                 _ => return Ok(None),
             }

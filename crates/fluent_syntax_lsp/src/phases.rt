@@ -1,6 +1,7 @@
 //! How far a session is, and what it refuses there.
 ghost use Rattle.std.specs.Prelude.{◌≡◌};
 ghost use Rattle.fluent_syntax_lsp.specs.Phases.{after_notification, after_request, ending_of, number_of, refusal_of};
+ghost use Rattle.fluent_syntax_lsp.specs.Phases.{text_of};
 
 use crate::endings::Ending;
 use crate::methods::Method;
@@ -49,7 +50,9 @@ impl ErrorCode {
     }
 
     /// Its text.
-    pub fn text(&self) -> &'static str {
+    pub fn text(&self) -> &'static str
+        ensures { result.now ≡ text_of self.now }
+    {
         match self {
             ErrorCode::ParseError => "the message is no JSON text",
             ErrorCode::InvalidRequest => "the request has no place here",

@@ -1,4 +1,8 @@
 //! The messages that a server sends, as JSON values.
+ghost use Rattle.std.specs.Prelude.{◌≡◌, IfOk};
+ghost use Rattle.serde_json.specs.Data.{Data};
+ghost use Rattle.serde_json.specs.View.{view};
+ghost use Rattle.fluent_syntax_lsp.specs.Replies.{answer_form, diagnostics_form, refusal_form, watch_form};
 
 use crate::diagnostics::Diagnostic;
 use crate::known::Known;
@@ -13,12 +17,16 @@ use serde_json::{Value, json};
 use std::alloc::{AllocError, Global};
 
 /// The answer to the request with the identifier.
-pub fn answer(alloc: Global, id: Value, answer: Value) -> Result<Value, AllocError> {
+pub fn answer(alloc: Global, id: Value, answer: Value) -> Result<Value, AllocError>
+    ensures { IfOk result (λ value. view value ≡ answer_form (view id) (view answer)) }
+{
     json!(in alloc; {"jsonrpc": "2.0", "id": id, "result": answer})
 }
 
 /// The answer that refuses the request with the identifier, or null where it has none.
-pub fn refusal(alloc: Global, id: Value, code: ErrorCode) -> Result<Value, AllocError> {
+pub fn refusal(alloc: Global, id: Value, code: ErrorCode) -> Result<Value, AllocError>
+    ensures { IfOk result (λ value. view value ≡ refusal_form (view id) code) }
+{
     json!(in alloc; {"jsonrpc": "2.0", "id": id, "error": {"code": (code.number()), "message": (code.text())}})
 }
 
@@ -54,7 +62,9 @@ pub fn capabilities(alloc: Global) -> Result<Value, AllocError> {
 }
 
 /// The request by which an editor watches the files of its folders.
-pub fn watch_request(alloc: Global) -> Result<Value, AllocError> {
+pub fn watch_request(alloc: Global) -> Result<Value, AllocError>
+    ensures { IfOk result (λ value. view value ≡ watch_form) }
+{
     json!(in alloc; {
         "jsonrpc": "2.0",
         "id": "ftl-watch",
@@ -75,7 +85,9 @@ pub fn diagnostics_notification(
     diagnostics: &Vec<Diagnostic>,
     remarks: &Vec<Remark>,
     related: bool,
-) -> Result<Value, AllocError> {
+) -> Result<Value, AllocError>
+    ensures { IfOk result (λ value. (list : Data) × (view value ≡ diagnostics_form uri.now list)) }
+{
     let mut list = Vec::new(alloc);
     for diagnostic in diagnostics {
         list.push(diagnostic_form(alloc, diagnostic)?)?;
@@ -86,11 +98,17 @@ pub fn diagnostics_notification(
             _ => remark_form(alloc, remark)?,
         })?;
     }
-    let list = Value::Array(list);
+    told_form(alloc, uri, Value::Array(list))
+}
+
+/// The notification of a list of diagnostics.
+fn told_form(alloc: Global, uri: &str, diagnostics: Value) -> Result<Value, AllocError>
+    ensures { IfOk result (λ value. view value ≡ diagnostics_form uri.now (view diagnostics)) }
+{
     json!(in alloc; {
         "jsonrpc": "2.0",
         "method": "textDocument/publishDiagnostics",
-        "params": {"uri": uri, "diagnostics": list}
+        "params": {"uri": uri, "diagnostics": diagnostics}
     })
 }
 

@@ -1,7 +1,15 @@
 //! The open documents and the files of the workspace, and the answer to each message.
+ghost use Rattle.std.specs.Prelude.{◌≡◌, ℕ, List, ◌&&◌, is_some, option_map, IfOk, OnOk};
+ghost use Rattle.serde_json.specs.View.{view};
+ghost use Rattle.fluent_syntax_lsp.specs.Opened.{texts};
+ghost use Rattle.fluent_syntax_lsp.specs.Phases.{ending_of};
+ghost use Rattle.fluent_syntax_lsp.specs.Replies.{IsSent, diagnosed, refused};
+ghost use Rattle.fluent_syntax_lsp.specs.Sessions.{Answers, AnswersNotification, AnswersRequest, AnswersRunning};
+ghost use Rattle.fluent_syntax_lsp.specs.Sessions.{IsFound, IsFoundAtPlace, fits, names_open, names_place, published};
+ghost use Rattle.fluent_syntax_lsp.specs.Sessions.{session_of};
 
 use crate::asked::Asked;
-use crate::changes::{change_of, place_of};
+use crate::changes::changes_of;
 use crate::completion::completion;
 use crate::diagnostics::Diagnostic;
 use crate::documents::Document;
@@ -9,13 +17,17 @@ use crate::endings::Ending;
 use crate::formatting::formatted;
 use crate::highlights::{highlights_of, numbers_of};
 use crate::ignored::findings_told;
-use crate::known::{Known, Open, Wanted, known_documents};
+use crate::known::{Known, Open, known_documents};
 use crate::limits::FINDINGS_LIMIT;
 use crate::messages::{Message, message_of};
 use crate::methods::Method;
 use crate::occurrences::bytes_of;
 use crate::offsets::byte_of;
+use crate::opened::Documents;
 use crate::others::{look_up_others, others_of};
+use crate::params::{
+    asked_place, changes_in, new_name, opened_text, takes_related, uri_of, version_of, wanted_by,
+};
 use crate::phases::{ErrorCode, Phase};
 use crate::places::Places;
 use crate::remarks::{Remark, remarks_of};
@@ -26,8 +38,8 @@ use crate::replies::{
 };
 use crate::symbols::{folds_in, symbols_in};
 use crate::workspace::Workspace;
-use fluent_syntax_names::{Finding, Kind};
-use ftl_workspace::{Folders, path_of_uri};
+use fluent_syntax_names::{DefinedNames, Finding, Kind};
+use ftl_workspace::Folders;
 use serde_json::{Category, Value};
 use std::alloc::{AllocError, Global};
 use std::collections::BTreeMap;
@@ -39,26 +51,34 @@ pub struct Server {
     phase: Phase,
     /// Whether the editor takes related information of a diagnostic.
     related: bool,
-    /// The open documents, by their names.
-    documents: BTreeMap<String, Open>,
+    documents: Documents,
+    /// The names that the open documents define, by the documents' names, as far as they were looked up since the
+    /// documents changed.
+    defined: BTreeMap<String, DefinedNames>,
     /// The files that may be closed.
     workspace: Workspace,
 }
 
 impl Server {
     /// One that waits for `initialize`.
-    pub fn new(alloc: Global) -> Self {
+    pub fn new(alloc: Global) -> Self
+        ensures phase { result.phase ≡ Phase.Fresh }
+        ensures none { (name : List ℕ) → texts result.documents name ≡ None }
+    {
         Server {
             alloc,
             phase: Phase::Fresh,
             related: false,
-            documents: BTreeMap::new(alloc),
+            documents: Documents::new(alloc),
+            defined: BTreeMap::new(alloc),
             workspace: Workspace::new(alloc),
         }
     }
 
     /// How the session ends. None where it goes on.
-    pub fn ending(&self) -> Option<Ending> {
+    pub fn ending(&self) -> Option<Ending>
+        ensures { result ≡ ending_of self.now.phase }
+    {
         self.phase.ending()
     }
 
@@ -66,11 +86,10 @@ impl Server {
     /// tells that they may be others now, and before a renaming.
     ///
     /// `AllocError` where a growth was refused.
-    pub fn take<F: Folders>(
-        &mut self,
-        body: &[u8],
-        files: &F,
-    ) -> Result<Option<Value>, AllocError> {
+    pub fn take<F: Folders>(&mut self, body: &[u8], files: &F) -> Result<Option<Value>, AllocError>
+        ensures { IfOk result (λ sent.
+            Answers (session_of self.old) body.now (option_map view sent) (session_of self.new)) }
+    {
         let value = match Value::from_slice(self.alloc, body) {
             Ok(value) => value,
             Err(error) => {
@@ -83,54 +102,48 @@ impl Server {
         match message_of(&value) {
             Message::Request { id, method } => {
                 let id = id.clone()?;
-                if Method::from_name(method) == Some(Method::Rename) {
-                    self.workspace.read(self.alloc, files)?;
-                }
+                let method = Method::from_name(method);
+                self.read_files(method == Some(Method::Rename), files)?;
                 self.request(id, method, &value)
             }
-            Message::Notification { method } => self.notification(method, &value, files),
+            Message::Notification { method } => {
+                self.notification(Method::from_name(method), &value, files)
+            }
             Message::Response => Ok(None),
             Message::Invalid => self.refuse(Value::Null, ErrorCode::InvalidRequest),
         }
     }
 
-    fn refuse(&self, id: Value, code: ErrorCode) -> Result<Option<Value>, AllocError> {
+    /// Reads the files of the workspace, if they may be others now.
+    fn read_files<F: Folders>(&mut self, anew: bool, files: &F) -> Result<(), AllocError>
+        ensures { OnOk result (session_of self.new ≡ session_of self.old) }
+    {
+        if anew {
+            self.workspace.read(self.alloc, files)?;
+        }
+        Ok(())
+    }
+
+    fn refuse(&self, id: Value, code: ErrorCode) -> Result<Option<Value>, AllocError>
+        ensures { IfOk result (λ sent. IsSent (refused (view id) code) (option_map view sent)) }
+    {
         Ok(Some(refusal(self.alloc, id, code)?))
     }
 
-    /// Answers a request.
+    /// Answers a request of the method; one that is not known is None.
     fn request(
         &mut self,
         id: Value,
-        name: &str,
+        method: Option<Method>,
         message: &Value,
-    ) -> Result<Option<Value>, AllocError> {
-        let method = Method::from_name(name);
+    ) -> Result<Option<Value>, AllocError>
+        ensures { IfOk result (λ sent. AnswersRequest
+            (session_of self.old) (view id) (view message.now) method (option_map view sent) (session_of self.new)) }
+    {
         if let Some(code) = self.phase.refusal(method) {
             return self.refuse(id, code);
         }
-        let found = match method {
-            Some(Method::Initialize) => {
-                self.related = takes_related(message);
-                self.workspace = Workspace::told(self.alloc, message)?;
-                Some(capabilities(self.alloc)?)
-            }
-            Some(Method::DocumentSymbol) => self.symbols(message)?,
-            Some(Method::Formatting) => self.formatting(message)?,
-            Some(Method::FoldingRange) => self.folds(message)?,
-            Some(Method::SemanticTokens) => self.tokens(message)?,
-            Some(Method::WorkspaceSymbol) => Some(self.known_symbols(message)?),
-            Some(
-                Method::Definition
-                | Method::References
-                | Method::DocumentHighlight
-                | Method::Hover
-                | Method::Rename
-                | Method::Completion,
-            ) => self.told_of_place(method, message)?,
-            _ => Some(Value::Null),
-        };
-        let Some(found) = found else {
+        let Some(found) = self.found(method, message)? else {
             return self.refuse(id, ErrorCode::InvalidParams);
         };
         let reply = answer(self.alloc, id, found)?;
@@ -138,12 +151,50 @@ impl Server {
         Ok(Some(reply))
     }
 
+    /// What a request of the method asks for. None where its parameters name no open document, or not what the method
+    /// wants beside it.
+    fn found(
+        &mut self,
+        method: Option<Method>,
+        message: &Value,
+    ) -> Result<Option<Value>, AllocError>
+        ensures same { OnOk result (session_of self.new ≡ session_of self.old) }
+        ensures found { IfOk result (λ found.
+            IsFound method (fits (texts self.old.documents) (view message.now) method) (is_some found)) }
+    {
+        match method {
+            Some(Method::Initialize) => {
+                self.related = takes_related(message);
+                self.workspace = Workspace::told(self.alloc, message)?;
+                Ok(Some(capabilities(self.alloc)?))
+            }
+            Some(Method::DocumentSymbol) => self.symbols(message),
+            Some(Method::Formatting) => self.formatting(message),
+            Some(Method::FoldingRange) => self.folds(message),
+            Some(Method::SemanticTokens) => self.tokens(message),
+            Some(Method::WorkspaceSymbol) => Ok(Some(self.known_symbols(message)?)),
+            Some(
+                Method::Definition
+                | Method::References
+                | Method::DocumentHighlight
+                | Method::Hover
+                | Method::Rename
+                | Method::Completion,
+            ) => self.told_of_place(method, message),
+            _ => Ok(Some(Value::Null)),
+        }
+    }
+
     /// The open document that the message names.
-    fn document_of(&self, message: &Value) -> Option<&Document> {
+    fn document_of(&self, message: &Value) -> Option<&Document>
+        ensures { is_some result ≡ names_open (texts self.now.documents) (view message.now) }
+    {
         Some(&self.documents.get(uri_of(message)?)?.document)
     }
 
-    fn symbols(&self, message: &Value) -> Result<Option<Value>, AllocError> {
+    fn symbols(&self, message: &Value) -> Result<Option<Value>, AllocError>
+        ensures { IfOk result (λ found. is_some found ≡ names_open (texts self.now.documents) (view message.now)) }
+    {
         let Some(document) = self.document_of(message) else {
             return Ok(None);
         };
@@ -151,7 +202,9 @@ impl Server {
         Ok(Some(symbol_list(self.alloc, document.text(), &symbols)?))
     }
 
-    fn folds(&self, message: &Value) -> Result<Option<Value>, AllocError> {
+    fn folds(&self, message: &Value) -> Result<Option<Value>, AllocError>
+        ensures { IfOk result (λ found. is_some found ≡ names_open (texts self.now.documents) (view message.now)) }
+    {
         let Some(document) = self.document_of(message) else {
             return Ok(None);
         };
@@ -159,7 +212,9 @@ impl Server {
         Ok(Some(fold_list(self.alloc, &folds)?))
     }
 
-    fn tokens(&self, message: &Value) -> Result<Option<Value>, AllocError> {
+    fn tokens(&self, message: &Value) -> Result<Option<Value>, AllocError>
+        ensures { IfOk result (λ found. is_some found ≡ names_open (texts self.now.documents) (view message.now)) }
+    {
         let Some(document) = self.document_of(message) else {
             return Ok(None);
         };
@@ -170,7 +225,9 @@ impl Server {
     }
 
     /// The edit that formats the document; null where it stays as it is.
-    fn formatting(&self, message: &Value) -> Result<Option<Value>, AllocError> {
+    fn formatting(&self, message: &Value) -> Result<Option<Value>, AllocError>
+        ensures { IfOk result (λ found. is_some found ≡ names_open (texts self.now.documents) (view message.now)) }
+    {
         let Some(document) = self.document_of(message) else {
             return Ok(None);
         };
@@ -185,19 +242,18 @@ impl Server {
 
     /// The open documents and the closed files.
     fn known(&self) -> Result<Vec<Known<'_>>, AllocError> {
-        known_documents(self.alloc, &self.documents, self.workspace.files())
+        known_documents(self.alloc, self.documents.by_name(), self.workspace.files())
     }
 
     /// What a request asks of. None where it names no open document, or no place.
-    fn asked(&self, message: &Value) -> Result<Option<Asked<'_>>, AllocError> {
-        let (Some(uri), Some(place)) = (
-            uri_of(message),
-            message.pointer("/params/position").and_then(place_of),
-        ) else {
+    fn asked(&self, message: &Value) -> Result<Option<Asked<'_>>, AllocError>
+        ensures { IfOk result (λ found. is_some found ≡ names_place (texts self.now.documents) (view message.now)) }
+    {
+        let (Some(uri), Some(place)) = (uri_of(message), asked_place(message)) else {
             return Ok(None);
         };
         let documents = self.known()?;
-        if !self.documents.contains_key(uri) {
+        if !self.documents.contains(uri) {
             return Ok(None);
         }
         let Some(number) = documents.iter().position(|known| known.uri == uri) else {
@@ -216,7 +272,10 @@ impl Server {
         &self,
         method: Option<Method>,
         message: &Value,
-    ) -> Result<Option<Value>, AllocError> {
+    ) -> Result<Option<Value>, AllocError>
+        ensures { IfOk result (λ found.
+            IsFoundAtPlace method (fits (texts self.now.documents) (view message.now) method) (is_some found)) }
+    {
         let Some(asked) = self.asked(message)? else {
             return Ok(None);
         };
@@ -255,103 +314,159 @@ impl Server {
         Ok(Value::Array(list))
     }
 
-    /// Follows a notification.
+    /// Follows a notification of the method; one that is not known is None.
     fn notification<F: Folders>(
         &mut self,
-        name: &str,
+        method: Option<Method>,
         message: &Value,
         files: &F,
-    ) -> Result<Option<Value>, AllocError> {
-        let method = Method::from_name(name);
-        if self.phase != Phase::Running {
-            self.phase = self.phase.after_notification(method);
-            return Ok(None);
-        }
-        if changes_files(method) {
-            self.workspace.read(self.alloc, files)?;
-        }
-        if method == Some(Method::Initialized) && self.workspace.wants_watch() {
-            return Ok(Some(watch_request(self.alloc)?));
-        }
-        let Some(uri) = uri_of(message) else {
+    ) -> Result<Option<Value>, AllocError>
+        ensures { IfOk result (λ sent. AnswersNotification
+            (session_of self.old) (view message.now) method (option_map view sent) (session_of self.new)) }
+    {
+        let Phase::Running = self.phase else {
             self.phase = self.phase.after_notification(method);
             return Ok(None);
         };
+        self.read_files(changes_files(method), files)?;
+        let sent = self.follow(method, message)?;
+        self.phase = self.phase.after_notification(method);
+        Ok(sent)
+    }
+
+    /// Follows a notification while the session runs.
+    fn follow(
+        &mut self,
+        method: Option<Method>,
+        message: &Value,
+    ) -> Result<Option<Value>, AllocError>
+        ensures phase { OnOk result (self.new.phase ≡ self.old.phase) }
+        ensures follows { let old = texts self.old.documents in
+            IfOk result (λ sent. AnswersRunning
+            old (view message.now) method (option_map view sent) (texts self.new.documents)) }
+    {
         match method {
-            Some(Method::DidOpen) => self.open(uri, opened_text(message), version_of(message)),
-            Some(Method::DidChange) => {
-                self.change(uri, changes_in(message), version_of(message))
+            Some(Method::Initialized) if self.workspace.wants_watch() => {
+                Ok(Some(watch_request(self.alloc)?))
             }
-            Some(Method::DidSave) => self.publish(uri),
-            Some(Method::DidClose) => self.close(uri),
-            _ => {
-                self.phase = self.phase.after_notification(method);
-                Ok(None)
-            }
+            Some(Method::DidOpen) => self.open(message),
+            Some(Method::DidChange) => self.change(message),
+            Some(Method::DidSave) => self.save(message),
+            Some(Method::DidClose) => self.close(message),
+            _ => Ok(None),
         }
     }
 
     /// Opens a document, and tells of its diagnostics.
-    fn open(
-        &mut self,
-        uri: &str,
-        text: Option<&str>,
-        version: Option<i64>,
-    ) -> Result<Option<Value>, AllocError> {
-        let Some(text) = text else {
+    fn open(&mut self, message: &Value) -> Result<Option<Value>, AllocError>
+        ensures phase { OnOk result (self.new.phase ≡ self.old.phase) }
+        ensures follows { let old = texts self.old.documents in
+            IfOk result (λ sent. AnswersRunning
+            old (view message.now) (Some Method.DidOpen) (option_map view sent) (texts self.new.documents)) }
+    {
+        let Some(uri) = uri_of(message) else {
             return Ok(None);
         };
-        let name = String::from_str(self.alloc, uri)?;
-        let document = Document::new(self.alloc, text)?;
-        let path = path_of_uri(self.alloc, uri)?;
-        let open = Open {
-            path,
-            version,
-            document,
-            defined: None,
+        let Some(text) = opened_text(message) else {
+            return Ok(None);
         };
-        drop(self.documents.insert(name, open)?);
+        self.documents
+            .open(self.alloc, uri, version_of(message), text)?;
+        drop(self.defined.remove(uri));
         self.workspace.forget_defined();
         self.publish(uri)
     }
 
     /// Makes the changes of an open document, in order, and tells of its diagnostics. Nothing is changed where one of
     /// them is none.
-    fn change(
-        &mut self,
-        uri: &str,
-        changes: Option<&Vec<Value>>,
-        version: Option<i64>,
-    ) -> Result<Option<Value>, AllocError> {
-        let (Some(changes), Some(open)) = (changes, self.documents.get_mut(uri)) else {
+    fn change(&mut self, message: &Value) -> Result<Option<Value>, AllocError>
+        ensures phase { OnOk result (self.new.phase ≡ self.old.phase) }
+        ensures follows { let old = texts self.old.documents in
+            IfOk result (λ sent. AnswersRunning
+            old (view message.now) (Some Method.DidChange) (option_map view sent) (texts self.new.documents)) }
+    {
+        let Some(uri) = uri_of(message) else {
             return Ok(None);
         };
-        let mut made = Vec::new(self.alloc);
-        for value in changes {
-            let Some(change) = change_of(value) else {
-                return Ok(None);
-            };
-            made.push(change)?;
+        let Some(values) = changes_in(message) else {
+            return Ok(None);
+        };
+        if !self.documents.contains(uri) {
+            return Ok(None);
         }
-        open.version = version;
-        open.defined = None;
-        for change in &made {
-            change.apply(self.alloc, &mut open.document)?;
-        }
+        let Some(changes) = changes_of(self.alloc, values)? else {
+            return Ok(None);
+        };
+        drop(self.defined.remove(uri));
+        self.documents
+            .change(self.alloc, uri, version_of(message), &changes)?;
         self.publish(uri)
     }
 
-    /// The diagnostics of a document; None where it is not open.
-    fn publish(&mut self, uri: &str) -> Result<Option<Value>, AllocError> {
-        if self.is_surrounded(uri) {
-            look_up_others(self.alloc, uri, &mut self.documents, &mut self.workspace)?;
+    /// Tells of the diagnostics of an open document.
+    fn save(&mut self, message: &Value) -> Result<Option<Value>, AllocError>
+        ensures phase { OnOk result (self.new.phase ≡ self.old.phase) }
+        ensures follows { let old = texts self.old.documents in
+            IfOk result (λ sent. AnswersRunning
+            old (view message.now) (Some Method.DidSave) (option_map view sent) (texts self.new.documents)) }
+    {
+        match uri_of(message) {
+            Some(uri) => self.publish(uri),
+            None => Ok(None),
         }
+    }
+
+    /// Closes a document, and takes its diagnostics back.
+    fn close(&mut self, message: &Value) -> Result<Option<Value>, AllocError>
+        ensures phase { OnOk result (self.new.phase ≡ self.old.phase) }
+        ensures follows { let old = texts self.old.documents in
+            IfOk result (λ sent. AnswersRunning
+            old (view message.now) (Some Method.DidClose) (option_map view sent) (texts self.new.documents)) }
+    {
+        let Some(uri) = uri_of(message) else {
+            return Ok(None);
+        };
+        if !self.documents.contains(uri) {
+            return Ok(None);
+        }
+        self.documents.close(uri);
+        drop(self.defined.remove(uri));
+        self.workspace.forget_defined();
+        let errors = Vec::new(self.alloc);
+        let remarks = Vec::new(self.alloc);
+        Ok(Some(self.published(uri, &errors, &remarks)?))
+    }
+
+    /// The diagnostics of a document; None where it is not open.
+    fn publish(&mut self, uri: &str) -> Result<Option<Value>, AllocError>
+        ensures same { OnOk result (session_of self.new ≡ session_of self.old) }
+        ensures sent { let is_open = is_some (texts self.old.documents uri.now) in
+            IfOk result (λ sent. IsSent (published uri.now is_open) (option_map view sent)) }
+    {
+        self.look_up_beside(uri)?;
         let Some(open) = self.documents.get(uri) else {
             return Ok(None);
         };
         let errors = open.document.diagnostics(self.alloc)?;
         let remarks = self.remarks(uri, &open.document)?;
         Ok(Some(self.published(uri, &errors, &remarks)?))
+    }
+
+    /// Looks up what is defined beside a document, if its findings are sought there.
+    fn look_up_beside(&mut self, uri: &str) -> Result<(), AllocError>
+        ensures same { OnOk result (session_of self.new ≡ session_of self.old) }
+    {
+        if self.is_surrounded(uri) {
+            let documents = self.documents.by_name();
+            look_up_others(
+                self.alloc,
+                uri,
+                documents,
+                &mut self.defined,
+                &mut self.workspace,
+            )?;
+        }
+        Ok(())
     }
 
     /// Whether the document's findings are sought, and all files are known that may define what it refers to.
@@ -374,7 +489,9 @@ impl Server {
         uri: &str,
         errors: &Vec<Diagnostic>,
         remarks: &Vec<Remark>,
-    ) -> Result<Value, AllocError> {
+    ) -> Result<Value, AllocError>
+        ensures { IfOk result (λ value. IsSent (diagnosed uri.now) (Some (view value))) }
+    {
         diagnostics_notification(self.alloc, uri, errors, remarks, self.related)
     }
 
@@ -404,24 +521,13 @@ impl Server {
     /// What is found in a document: by itself, or beside all others where these are known.
     fn findings(&self, uri: &str, document: &Document) -> Result<Vec<Finding>, AllocError> {
         if self.is_surrounded(uri) {
-            if let Some(others) = others_of(self.alloc, uri, &self.documents, &self.workspace)? {
+            let documents = self.documents.by_name();
+            let others = others_of(self.alloc, uri, documents, &self.defined, &self.workspace)?;
+            if let Some(others) = others {
                 return document.findings_beside(self.alloc, &others);
             }
         }
         document.findings(self.alloc)
-    }
-
-    /// Closes a document, and takes its diagnostics back.
-    fn close(&mut self, uri: &str) -> Result<Option<Value>, AllocError> {
-        match self.documents.remove(uri) {
-            None => Ok(None),
-            Some(_) => {
-                self.workspace.forget_defined();
-                let errors = Vec::new(self.alloc);
-                let remarks = Vec::new(self.alloc);
-                Ok(Some(self.published(uri, &errors, &remarks)?))
-            }
-        }
     }
 }
 
@@ -436,56 +542,4 @@ fn changes_files(method: Option<Method>) -> bool {
         method,
         Some(Method::Initialized | Method::DidClose | Method::DidChangeWatchedFiles)
     )
-}
-
-/// Whether an editor that says this of itself takes related information of a diagnostic.
-fn takes_related(message: &Value) -> bool {
-    message
-        .pointer("/params/capabilities/textDocument/publishDiagnostics/relatedInformation")
-        .and_then(Value::as_bool)
-        .unwrap_or(false)
-}
-
-/// The name of the document that a message speaks of.
-fn uri_of(message: &Value) -> Option<&str> {
-    message
-        .pointer("/params/textDocument/uri")
-        .and_then(Value::as_str)
-}
-
-/// The text of a document that is opened.
-fn opened_text(message: &Value) -> Option<&str> {
-    message
-        .pointer("/params/textDocument/text")
-        .and_then(Value::as_str)
-}
-
-/// The changes that a message tells of.
-fn changes_in(message: &Value) -> Option<&Vec<Value>> {
-    message
-        .pointer("/params/contentChanges")
-        .and_then(Value::as_array)
-}
-
-/// The number of the document's version.
-fn version_of(message: &Value) -> Option<i64> {
-    message
-        .pointer("/params/textDocument/version")
-        .and_then(Value::as_i64)
-}
-
-/// Which places of a name are asked for.
-fn wanted_by(message: &Value) -> Wanted {
-    let declared = message
-        .pointer("/params/context/includeDeclaration")
-        .and_then(Value::as_bool);
-    match declared {
-        Some(false) => Wanted::References,
-        _ => Wanted::All,
-    }
-}
-
-/// The name that is wanted.
-fn new_name(message: &Value) -> Option<&str> {
-    message.pointer("/params/newName").and_then(Value::as_str)
 }
