@@ -1,5 +1,6 @@
 pub mod Adding
 pub mod ByteLemmas
+pub mod FilteredMore
 pub mod FrameLemmas
 pub mod FramesMore
 pub mod InboxLemmas

@@ -112,9 +112,12 @@ pub tells : {Y : Type 0} (r : Result (Option Value) Y) (old : List ℕ → Optio
     IfOk r (λ sent. AnswersRunning old d method (option_map view sent) new.texts)
 tells r old d method uri mid new open' follows same sent =
     ok_with r _ _ _
-      (λ e x h. (diagnosed uri, subst (λ b. IsSent (published uri b) (option_map view x)) open' h,
-        follows new.texts (ap (λ s. s.texts) e)))
-      same sent
+    (λ e x h. (
+      diagnosed uri,
+      subst (λ b. IsSent (published uri b) (option_map view x)) open' h,
+      follows new.texts (ap (λ s. s.texts) e),
+    ))
+    same sent
 
 -- a document that was opened
 pub tells_opened : {Y : Type 0} (r : Result (Option Value) Y) (d : Data) (uri text : List ℕ) (version : Option ℤ)
@@ -124,12 +127,12 @@ pub tells_opened : {Y : Type 0} (r : Result (Option Value) Y) (d : Data) (uri te
     IfOk r (λ sent. AnswersRunning old.texts d (Some DidOpen) (option_map view sent) new.texts)
 tells_opened r d uri text version old mid new named told numbered sets same sent =
     let made = subst
-          (λ (n : Option ℤ). Sets old.texts uri (Some (record { text = text; version = n })) mid.texts) numbered sets in
+    (λ (n : Option ℤ). Sets old.texts uri (Some (record { text = text; version = n })) mid.texts) numbered sets in
     tells r old.texts d (Some DidOpen) uri mid new (is_open old.texts mid.texts uri _ sets)
-      (λ now e. opens uri text now named told
-        (subst (λ (t : List ℕ → Option OpenText). Sets old.texts uri (Some (record { text = text; version = version_in d })) t)
-          (sym e) made))
-      same sent
+    (λ now e. opens uri text now named told
+    (subst (λ (t : List ℕ → Option OpenText). Sets old.texts uri (Some (record { text = text; version = version_in d })) t)
+    (sym e) made))
+    same sent
 
 -- a document that was changed
 pub tells_changed : {Y : Type 0} (r : Result (Option Value) Y) (d : Data) (uri : List ℕ) (items : Items)
@@ -141,10 +144,10 @@ pub tells_changed : {Y : Type 0} (r : Result (Option Value) Y) (d : Data) (uri :
 tells_changed r d uri items edits version true old mid new named told is_read numbered open'
     (before, after, was, makes, sets) same sent =
     tells r old.texts d (Some DidChange) uri mid new (is_open old.texts mid.texts uri after sets)
-      (λ now e. changes uri items edits before after now named told is_read was
-        (subst (λ (n : Option ℤ). MakesOpen before n edits after) numbered makes)
-        (subst (λ (t : List ℕ → Option OpenText). Sets old.texts uri (Some after) t) (sym e) sets))
-      same sent
+    (λ now e. changes uri items edits before after now named told is_read was
+    (subst (λ (n : Option ℤ). MakesOpen before n edits after) numbered makes)
+    (subst (λ (t : List ℕ → Option OpenText). Sets old.texts uri (Some after) t) (sym e) sets))
+    same sent
 tells_changed r d uri items edits version false old mid new named told is_read numbered open' h same sent =
     absurd (true≢false (sym open' ∙ ap is_some h.0))
 
@@ -170,9 +173,12 @@ pub takes_request : {Y : Type 0} (r : Result (Option Value) Y) (old mid new : Se
     IfOk r (λ sent. AnswersRequest mid same_id d method (option_map view sent) new) →
     IfOk r (λ sent. Answers old body (option_map view sent) new)
 takes_request (Ok sent) old mid new body d id same_id name method is_read asked same named before (reply, is, takes) =
-    let by_id = subst (λ (i : Data). TakesRequest mid i d method reply new) same takes in
-    (reply, is, requested d id name method reply new is_read asked named
-      (subst (λ (s : Session). TakesRequest s id d method reply new) before by_id))
+    let by_id = subst (λ (i : Data). TakesRequest mid i d method reply new) same takes in (
+      reply,
+      is,
+      requested d id name method reply new is_read asked named
+          (subst (λ (s : Session). TakesRequest s id d method reply new) before by_id),
+    )
 takes_request (Err e) old mid new body d id same_id name method is_read asked same named before h = h
 
 pub takes_notification : {Y : Type 0} (r : Result (Option Value) Y) (old new : Session) (body : List ℕ) (d : Data)

@@ -5,6 +5,7 @@ pub mod Endings
 pub mod Inbox
 pub mod Places
 pub mod Methods
+pub mod Mismatches
 pub mod Phases
 pub mod Diagnostics
 pub mod Formatting

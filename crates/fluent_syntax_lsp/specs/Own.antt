@@ -1,11 +1,11 @@
 -- What is found in a document, by itself and beside others.
-use Rattle.std.specs.Prelude.{◌≡◌, ℕ, Bool, false, List, [], ◌∷◌}
+use Rattle.std.specs.Prelude.{◌≡◌, ◌==◌, ℕ, Bool, false, List, [], ◌∷◌, filter}
 use Rattle.fluent_syntax_tree.specs.Entry.{entry_map}
 use Rattle.fluent_syntax_tree.specs.declared.edition.Edition.TheVariants.{One}
 use Rattle.fluent_syntax_tree.specs.declared.spans.Span.{Span}
 use Rattle.fluent_syntax_grammar.specs.Body.{body}
 use Rattle.fluent_syntax_grammar.specs.Tiling.{Tile, Tiling}
-use Rattle.fluent_syntax_names.specs.Findings.{findings_beside, is_defined, own_findings}
+use Rattle.fluent_syntax_names.specs.Findings.{all_findings, findings_beside, is_defined, own_findings}
 use Rattle.fluent_syntax_names.specs.Knowing.{defines_name}
 use Rattle.fluent_syntax_names.specs.Mentions.{Mentions, body_mentions, entry_mentions, span_on}
 use Rattle.fluent_syntax_names.specs.declared.defined_names.DefinedNames.{DefinedNames}
@@ -50,6 +50,20 @@ pub record FindsBeside (t : List ℕ) (others : List ℕ → Bool) (found : List
 abbrev pub FindsBesideInDocument : Document → (List ℕ → Bool) → List Finding → Type 0
 FindsBesideInDocument (Held t) others found = FindsBeside t others found
 FindsBesideInDocument (TooDeep text) others found = found ≡ []
+
+abbrev pub is_of_first : Finding → Bool
+is_of_first finding = finding.file == 0
+
+-- It is what is found in the text among these others, in order: all that is found in one set of them, as far as it is
+-- in the text.
+pub record FindsAmong (t : List ℕ) (others : List Outline) (found : List Finding) : Type 0 where
+  pub outline : Outline
+  pub is_outline : IsOutlineOf t outline
+  pub found_there : found ≡ filter is_of_first (all_findings (outline ∷ others))
+
+abbrev pub FindsAmongInDocument : Document → List Outline → List Finding → Type 0
+FindsAmongInDocument (Held t) others found = FindsAmong t others found
+FindsAmongInDocument (TooDeep text) others found = found ≡ []
 
 -- They are what the entries of the text's tiling say of names, in order.
 pub record AreMentionsOf (t : List ℕ) (mentions : Mentions Span) : Type 0 where

@@ -15,6 +15,8 @@ pub struct Asked<'d> {
     pub documents: Vec<Known<'d>>,
     pub number: usize,
     pub byte: usize,
+    /// The number of the document's original, if it has one that is known.
+    pub original: Option<usize>,
 }
 
 impl Asked<'_> {
@@ -101,16 +103,24 @@ impl Asked<'_> {
         Ok(Value::Array(list))
     }
 
-    /// The entries that define the name at the place, of the documents and files that are nearest, as they stand there,
-    /// with their comments; null where none does.
+    /// The entries that define the name at the place, of the documents and files that are nearest and of the original,
+    /// as they stand there, with their comments; null where none does.
     pub fn hover(&self, alloc: Global) -> Result<Value, AllocError> {
         let Some(name) = self.name() else {
             return Ok(Value::Null);
         };
         let mut shown = String::new(alloc);
-        for (number, places) in self.nearest(alloc, name)?.iter() {
+        let nearest = self.nearest(alloc, name)?;
+        for (number, places) in nearest.iter() {
             if let Some(known) = self.documents.get(*number) {
                 add_entries(alloc, &mut shown, known, places)?;
+            }
+        }
+        if let Some(original) = self.original {
+            let is_shown = nearest.iter().any(|(number, _)| *number == original);
+            if let Some(known) = self.documents.get(original).filter(|_| !is_shown) {
+                let places = known.places_of(alloc, name, Wanted::Definitions)?;
+                add_entries(alloc, &mut shown, known, &places)?;
             }
         }
         if shown.is_empty() {

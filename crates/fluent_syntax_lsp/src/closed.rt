@@ -6,7 +6,7 @@ ghost use Rattle.fluent_syntax_lsp.specs.Own.{AreMentionsOf};
 use crate::documents::Document;
 use crate::occurrences::Occurrence;
 use fluent_syntax::spans::Span;
-use fluent_syntax_names::Mention;
+use fluent_syntax_names::{Mention, Outline};
 use ftl_workspace::uri_of_path;
 use std::alloc::{AllocError, Global};
 
@@ -40,6 +40,17 @@ impl Closed {
             })),
             Document::TooDeep(_) => Ok(None),
         }
+    }
+
+    /// Its text with what its entries say of names. `AllocError` where a growth was refused.
+    pub fn outline(&self, alloc: Global) -> Result<Outline<'_>, AllocError>
+        ensures text { IfOk result (λ outline. outline.text.now ≡ string_bytes self.now.text) }
+        ensures mentions { IfOk result (λ outline. outline.mentions.items ≡ self.now.mentions.items) }
+    {
+        Ok(Outline {
+            text: self.text.as_str(),
+            mentions: self.mentions.iter().copied().collect(alloc)?,
+        })
     }
 
     /// The same, where the file was read before: what was made of it then is kept if its text is the same.

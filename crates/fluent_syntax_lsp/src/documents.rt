@@ -6,7 +6,8 @@ ghost use Rattle.fluent_syntax_reread.specs.Reading.{changed};
 ghost use Rattle.fluent_syntax_lsp.specs.Diagnostics.{DiagnosesDocument, shown};
 ghost use Rattle.fluent_syntax_lsp.specs.Documents.{ChangesBetween, document_text, HasTiles, IsHeldIfShort};
 ghost use Rattle.fluent_syntax_lsp.specs.Occurrences.{OccursIn};
-ghost use Rattle.fluent_syntax_lsp.specs.Own.{DefinesInDocument, FindsBesideInDocument, FindsInDocument};
+ghost use Rattle.fluent_syntax_lsp.specs.Own.{DefinesInDocument, FindsAmongInDocument, FindsBesideInDocument};
+ghost use Rattle.fluent_syntax_lsp.specs.Own.{FindsInDocument};
 ghost use Rattle.fluent_syntax_lsp.specs.Tokens.{HasTokens};
 
 use crate::diagnostics::{Diagnostic, diagnostics_in, diagnostics_of};
@@ -16,7 +17,7 @@ use crate::offsets::byte_of;
 use crate::places::Place;
 use crate::stretches::Stretches;
 use crate::token::Token;
-use fluent_syntax_names::{DefinedNames, Finding};
+use fluent_syntax_names::{DefinedNames, Finding, Outline};
 use fluent_syntax_parser::options::Halt;
 use fluent_syntax_reread::placed::Placed;
 use fluent_syntax_reread::{ChangeFault, changed};
@@ -163,6 +164,22 @@ impl Document {
     {
         match self {
             Document::Held(held) => held.findings_beside(alloc, others),
+            Document::TooDeep(_) => Ok(Vec::new(alloc)),
+        }
+    }
+
+    /// What is found in the text among these others, in the order of the text: all that is found in one set of them and
+    /// it, as far as it is in the text. Nothing is found in a text that nests too deeply. `AllocError` where a growth
+    /// was refused.
+    pub fn findings_among<'o>(
+        &'o self,
+        alloc: Global,
+        others: Vec<Outline<'o>>,
+    ) -> Result<Vec<Finding>, AllocError>
+        ensures { IfOk result (λ found. FindsAmongInDocument self.now others.entry.items found.items) }
+    {
+        match self {
+            Document::Held(held) => held.findings_among(alloc, others),
             Document::TooDeep(_) => Ok(Vec::new(alloc)),
         }
     }

@@ -8,13 +8,13 @@ ghost use Rattle.fluent_syntax_reread.specs.Reading.{changed};
 ghost use Rattle.fluent_syntax_tree.specs.declared.edition.Edition.TheVariants.{One};
 ghost use Rattle.fluent_syntax_lsp.specs.Held.{TellsAll};
 ghost use Rattle.fluent_syntax_lsp.specs.Occurrences.{Occurs};
-ghost use Rattle.fluent_syntax_lsp.specs.Own.{AreMentionsOf, Defines, FindsBeside, FindsOwn, IsOutlineOf};
+ghost use Rattle.fluent_syntax_lsp.specs.Own.{AreMentionsOf, Defines, FindsAmong, FindsBeside, FindsOwn, IsOutlineOf};
 ghost use Rattle.fluent_syntax_lsp.specs.Tokens.{AreTokens};
 ghost use Rattle.fluent_syntax_lsp.specs.declared.limits.TheConstants.{NESTING_LIMIT};
 
 use crate::limits::NESTING_LIMIT;
 use crate::occurrences::{Occurrence, occurrences_of};
-use crate::own::outline_of_tiles;
+use crate::own::{findings_of_first, outline_of_tiles};
 use crate::token::Token;
 use crate::tokens::tokens_of_tiles;
 use fluent_syntax::parser::{Edition, ParserError};
@@ -120,6 +120,20 @@ impl Held {
         findings_beside(alloc, from_ref(&outline), others)
     }
 
+    /// What is found in the text among these others, in order. `AllocError` where a growth was refused.
+    pub fn findings_among<'o>(
+        &'o self,
+        alloc: Global,
+        mut others: Vec<Outline<'o>>,
+    ) -> Result<Vec<Finding>, AllocError>
+        ensures { IfOk result (λ found. FindsAmong self.now others.entry.items found.items) }
+    {
+        let mut files = Vec::new(alloc);
+        files.push(self.outline(alloc)?)?;
+        files.append(&mut others)?;
+        findings_of_first(alloc, &files)
+    }
+
     /// The names that the text defines. `AllocError` where a growth was refused.
     pub fn defined(&self, alloc: Global) -> Result<DefinedNames, AllocError>
         ensures { IfOk result (Defines self.now) }
@@ -139,7 +153,7 @@ impl Held {
     }
 
     /// The text with what its entries say of names. `AllocError` where a growth was refused.
-    fn outline(&self, alloc: Global) -> Result<Outline<'_>, AllocError>
+    pub(crate) fn outline(&self, alloc: Global) -> Result<Outline<'_>, AllocError>
         ensures { IfOk result (IsOutlineOf self.now) }
     {
         let outline = outline_of_tiles(alloc, self.text(), self.tiles())?;

@@ -1,9 +1,10 @@
-//! What is defined beside a document.
+//! What is defined and said beside a document.
 
 use crate::documents::Document;
 use crate::known::Open;
-use crate::workspace::Workspace;
-use fluent_syntax_names::DefinedNames;
+use crate::limits::FINDINGS_LIMIT;
+use crate::workspace::{Workspace, is_open};
+use fluent_syntax_names::{DefinedNames, Outline};
 use std::alloc::{AllocError, Global};
 use std::collections::BTreeMap;
 
@@ -53,4 +54,45 @@ pub fn others_of<'d>(
         }
     }
     Ok(Some(others))
+}
+
+/// What the other documents and the closed files say of names. None where they and the document together have more than
+/// `FINDINGS_LIMIT` bytes, or one of them nests too deeply.
+///
+/// `AllocError` where a growth was refused.
+pub fn outlines_of<'d>(
+    alloc: Global,
+    uri: &str,
+    documents: &'d BTreeMap<String, Open>,
+    workspace: &'d Workspace,
+) -> Result<Option<Vec<Outline<'d>>>, AllocError> {
+    if bytes_of_all(documents, workspace) > FINDINGS_LIMIT {
+        return Ok(None);
+    }
+    let mut outlines = Vec::new(alloc);
+    for (other, open) in documents.iter() {
+        match &open.document {
+            Document::Held(_) if other.as_str() == uri => {}
+            Document::Held(held) => outlines.push(held.outline(alloc)?)?,
+            Document::TooDeep(_) => return Ok(None),
+        }
+    }
+    for (path, file) in workspace.files().iter() {
+        if !is_open(documents, path.as_str()) {
+            outlines.push(file.outline(alloc)?)?;
+        }
+    }
+    Ok(Some(outlines))
+}
+
+/// How many bytes the documents and the closed files have together.
+fn bytes_of_all(documents: &BTreeMap<String, Open>, workspace: &Workspace) -> usize {
+    let mut sum = 0usize;
+    for open in documents.values() {
+        sum = sum.saturating_add(open.document.text().len());
+    }
+    for file in workspace.files().values() {
+        sum = sum.saturating_add(file.text.len());
+    }
+    sum
 }

@@ -1,11 +1,26 @@
-//! What is found in a document by itself.
-ghost use Rattle.std.specs.Prelude.{◌≡◌, [], IfOk, OnOk};
+//! What is found in a document, and what it says of names.
+ghost use Rattle.std.specs.Prelude.{◌≡◌, [], IfOk, OnOk, filter};
+ghost use Rattle.fluent_syntax_names.specs.Findings.{all_findings};
 ghost use Rattle.fluent_syntax_names.specs.Mentions.{Adds};
-ghost use Rattle.fluent_syntax_lsp.specs.Own.{placed_mentions};
+ghost use Rattle.fluent_syntax_lsp.specs.Own.{is_of_first, placed_mentions};
 
-use fluent_syntax_names::Outline;
+use fluent_syntax_names::{Finding, Outline, findings};
 use fluent_syntax_reread::placed::Placed;
 use std::alloc::{AllocError, Global};
+
+/// What is found in the first of the files, in order, where all of them are one set.
+pub(crate) fn findings_of_first(
+    alloc: Global,
+    files: &[Outline<'_>],
+) -> Result<Vec<Finding>, AllocError>
+    ensures { IfOk result (λ found. found.items ≡ filter is_of_first (all_findings files.now)) }
+{
+    let all = findings(alloc, files)?;
+    all.iter()
+        .copied()
+        .filter(|finding| finding.file == 0)
+        .collect(alloc)
+}
 
 /// All that the tiles of a text say of names.
 pub(crate) fn outline_of_tiles<'t>(

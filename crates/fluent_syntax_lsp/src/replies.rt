@@ -4,15 +4,12 @@ ghost use Rattle.serde_json.specs.Data.{Data};
 ghost use Rattle.serde_json.specs.View.{view};
 ghost use Rattle.fluent_syntax_lsp.specs.Replies.{answer_form, diagnostics_form, refusal_form, watch_form};
 
-use crate::diagnostics::Diagnostic;
 use crate::known::Known;
 use crate::occurrences::{NameKind, Occurrence, bytes_of, name_of};
 use crate::phases::ErrorCode;
 use crate::places::{Place, Places};
-use crate::remarks::{PlaceRange, Remark};
 use crate::symbols::{Fold, Symbol, SymbolKind};
 use fluent_syntax::spans::Span;
-use fluent_syntax_names::Severity;
 use serde_json::{Value, json};
 use std::alloc::{AllocError, Global};
 
@@ -77,28 +74,15 @@ pub fn watch_request(alloc: Global) -> Result<Value, AllocError>
     })
 }
 
-/// The notification of a document's diagnostics: its errors, and then its findings. `related` says whether the editor
-/// takes related information.
+/// The notification of a document's diagnostics.
 pub fn diagnostics_notification(
     alloc: Global,
     uri: &str,
-    diagnostics: &Vec<Diagnostic>,
-    remarks: &Vec<Remark>,
-    related: bool,
+    diagnostics: Vec<Value>,
 ) -> Result<Value, AllocError>
     ensures { IfOk result (λ value. (list : Data) × (view value ≡ diagnostics_form uri.now list)) }
 {
-    let mut list = Vec::new(alloc);
-    for diagnostic in diagnostics {
-        list.push(diagnostic_form(alloc, diagnostic)?)?;
-    }
-    for remark in remarks {
-        list.push(match remark.first {
-            Some(first) if related => related_form(alloc, uri, remark, first)?,
-            _ => remark_form(alloc, remark)?,
-        })?;
-    }
-    told_form(alloc, uri, Value::Array(list))
+    told_form(alloc, uri, Value::Array(diagnostics))
 }
 
 /// The notification of a list of diagnostics.
@@ -110,60 +94,6 @@ fn told_form(alloc: Global, uri: &str, diagnostics: Value) -> Result<Value, Allo
         "method": "textDocument/publishDiagnostics",
         "params": {"uri": uri, "diagnostics": diagnostics}
     })
-}
-
-/// A diagnostic: an error.
-fn diagnostic_form(alloc: Global, diagnostic: &Diagnostic) -> Result<Value, AllocError> {
-    let range = range_form(alloc, diagnostic.start, diagnostic.end)?;
-    json!(in alloc; {
-        "range": range,
-        "severity": 1,
-        "source": "ftl",
-        "code": (diagnostic.code),
-        "message": (&diagnostic.message)
-    })
-}
-
-/// A diagnostic: a finding.
-fn remark_form(alloc: Global, remark: &Remark) -> Result<Value, AllocError> {
-    let range = range_form(alloc, remark.range.start, remark.range.end)?;
-    json!(in alloc; {
-        "range": range,
-        "severity": (severity_number(remark.kind.severity())),
-        "source": "ftl",
-        "code": (remark.kind.name()),
-        "message": (&remark.message)
-    })
-}
-
-/// A diagnostic: a finding, with where the name was given first.
-fn related_form(
-    alloc: Global,
-    uri: &str,
-    remark: &Remark,
-    first: PlaceRange,
-) -> Result<Value, AllocError> {
-    let range = range_form(alloc, remark.range.start, remark.range.end)?;
-    let first = range_form(alloc, first.start, first.end)?;
-    json!(in alloc; {
-        "range": range,
-        "severity": (severity_number(remark.kind.severity())),
-        "source": "ftl",
-        "code": (remark.kind.name()),
-        "message": (&remark.message),
-        "relatedInformation": [{
-            "location": {"uri": uri, "range": first},
-            "message": "first given here"
-        }]
-    })
-}
-
-/// The number of a severity in the protocol.
-fn severity_number(severity: Severity) -> u64 {
-    match severity {
-        Severity::Error => 1,
-        Severity::Warning => 2,
-    }
 }
 
 /// The edit that sets the whole text.
@@ -350,7 +280,7 @@ pub fn known_symbol(
 }
 
 /// A range, by its two places.
-fn range_form(alloc: Global, start: Place, end: Place) -> Result<Value, AllocError> {
+pub(crate) fn range_form(alloc: Global, start: Place, end: Place) -> Result<Value, AllocError> {
     let start = place_form(alloc, start)?;
     let end = place_form(alloc, end)?;
     json!(in alloc; {"start": start, "end": end})

@@ -11,7 +11,6 @@ ghost use Rattle.fluent_syntax_lsp.specs.Sessions.{session_of};
 use crate::asked::Asked;
 use crate::changes::changes_of;
 use crate::completion::completion;
-use crate::diagnostics::Diagnostic;
 use crate::documents::Document;
 use crate::endings::Ending;
 use crate::formatting::formatted;
@@ -21,10 +20,12 @@ use crate::known::{Known, Open, known_documents};
 use crate::limits::FINDINGS_LIMIT;
 use crate::messages::{Message, message_of};
 use crate::methods::Method;
+use crate::mismatches::mismatches_of;
 use crate::occurrences::bytes_of;
 use crate::offsets::byte_of;
 use crate::opened::Documents;
-use crate::others::{look_up_others, others_of};
+use crate::originals::{Original, original_at};
+use crate::others::{look_up_others, others_of, outlines_of};
 use crate::params::{
     asked_place, changes_in, new_name, opened_text, takes_related, uri_of, version_of, wanted_by,
 };
@@ -37,6 +38,7 @@ use crate::replies::{
     token_list, watch_request, whole_edit,
 };
 use crate::symbols::{folds_in, symbols_in};
+use crate::told::Told;
 use crate::workspace::Workspace;
 use fluent_syntax_names::{DefinedNames, Finding, Kind};
 use ftl_workspace::Folders;
@@ -260,10 +262,17 @@ impl Server {
             return Ok(None);
         };
         let byte = byte_of(documents[number].text, place);
+        let original = self
+            .workspace
+            .original_of(self.alloc, documents[number].path)?;
+        let original = documents
+            .iter()
+            .position(|known| original.as_deref() == Some(known.path));
         Ok(Some(Asked {
             documents,
             number,
             byte,
+            original,
         }))
     }
 
@@ -432,9 +441,8 @@ impl Server {
         self.documents.close(uri);
         drop(self.defined.remove(uri));
         self.workspace.forget_defined();
-        let errors = Vec::new(self.alloc);
-        let remarks = Vec::new(self.alloc);
-        Ok(Some(self.published(uri, &errors, &remarks)?))
+        let none = Told::new(self.alloc, uri, self.related);
+        Ok(Some(self.published(uri, none)?))
     }
 
     /// The diagnostics of a document; None where it is not open.
@@ -449,7 +457,41 @@ impl Server {
         };
         let errors = open.document.diagnostics(self.alloc)?;
         let remarks = self.remarks(uri, &open.document)?;
-        Ok(Some(self.published(uri, &errors, &remarks)?))
+        let mut told = Told::new(self.alloc, uri, self.related);
+        told.add_errors(&errors)?;
+        told.add_remarks(&remarks)?;
+        self.tell_mismatches(open, &mut told)?;
+        Ok(Some(self.published(uri, told)?))
+    }
+
+    /// Tells what a document and its original don't have alike; nothing of one that has none, or where one of them is
+    /// too long.
+    fn tell_mismatches(&self, open: &Open, told: &mut Told<'_>) -> Result<(), AllocError> {
+        let (Some(path), Document::Held(held)) = (&open.path, &open.document) else {
+            return Ok(());
+        };
+        if !is_short(&open.document) {
+            return Ok(());
+        }
+        let Some(there) = self.workspace.original_of(self.alloc, path.as_str())? else {
+            return Ok(());
+        };
+        let found = original_at(
+            self.alloc,
+            there.as_str(),
+            self.documents.by_name(),
+            self.workspace.files(),
+        )?;
+        let Some(Original { uri, outline }) = found else {
+            return Ok(());
+        };
+        if outline.text.len() > FINDINGS_LIMIT {
+            return Ok(());
+        }
+        let document = held.outline(self.alloc)?;
+        let shown = self.workspace.shown(there.as_str());
+        let mismatches = mismatches_of(self.alloc, &document, &outline, shown)?;
+        told.add_mismatches(uri, &mismatches)
     }
 
     /// Looks up what is defined beside a document, if its findings are sought there.
@@ -483,16 +525,12 @@ impl Server {
         }
     }
 
-    /// The notification of these diagnostics.
-    fn published(
-        &self,
-        uri: &str,
-        errors: &Vec<Diagnostic>,
-        remarks: &Vec<Remark>,
-    ) -> Result<Value, AllocError>
+    /// The notification of what is told of a document.
+    fn published(&self, uri: &str, told: Told<'_>) -> Result<Value, AllocError>
         ensures { IfOk result (λ value. IsSent (diagnosed uri.now) (Some (view value))) }
     {
-        diagnostics_notification(self.alloc, uri, errors, remarks, self.related)
+        let Told { diagnostics, .. } = told;
+        diagnostics_notification(self.alloc, uri, diagnostics)
     }
 
     /// What is told of a document's findings; nothing of a document that is too long.
@@ -518,16 +556,20 @@ impl Server {
         }
     }
 
-    /// What is found in a document: by itself, or beside all others where these are known.
+    /// What is found in a document: by itself; where all others are known, among them, or beside them where they are
+    /// long.
     fn findings(&self, uri: &str, document: &Document) -> Result<Vec<Finding>, AllocError> {
+        let (alloc, workspace) = (self.alloc, &self.workspace);
+        let documents = self.documents.by_name();
         if self.is_surrounded(uri) {
-            let documents = self.documents.by_name();
-            let others = others_of(self.alloc, uri, documents, &self.defined, &self.workspace)?;
-            if let Some(others) = others {
-                return document.findings_beside(self.alloc, &others);
+            if let Some(others) = outlines_of(alloc, uri, documents, workspace)? {
+                return document.findings_among(alloc, others);
+            }
+            if let Some(others) = others_of(alloc, uri, documents, &self.defined, workspace)? {
+                return document.findings_beside(alloc, &others);
             }
         }
-        document.findings(self.alloc)
+        document.findings(alloc)
     }
 }
 

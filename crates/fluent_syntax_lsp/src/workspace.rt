@@ -1,9 +1,11 @@
 //! The files of the workspace's folders, as they were read last.
 
 use crate::closed::Closed;
-use crate::ignored::ignored_in;
 use crate::known::Open;
+use crate::originals::Reference;
+use crate::settings::settings_in;
 use fluent_syntax_names::{DefinedNames, Kind};
+use ftl_settings::Settings;
 use ftl_workspace::{Folders, SourceFile, SourceFiles, is_below, path_of_uri, read_files};
 use serde_json::Value;
 use std::alloc::{AllocError, Global};
@@ -16,6 +18,45 @@ struct Folder {
     path: String,
     /// The kinds of findings that are not told of its files.
     ignored: Vec<Kind>,
+    /// Where the reference language has its files, if that is said.
+    reference: Option<Reference>,
+}
+
+impl Folder {
+    /// One that says nothing of itself.
+    fn new(alloc: Global, path: &str) -> Result<Folder, AllocError> {
+        Ok(Folder {
+            path: String::from_str(alloc, path)?,
+            ignored: Vec::new(alloc),
+            reference: None,
+        })
+    }
+
+    /// Reads anew what it says of itself.
+    ///
+    /// `AllocError` where a growth was refused.
+    fn read_settings<F: Folders>(&mut self, alloc: Global, files: &F) -> Result<(), AllocError> {
+        match settings_in(alloc, files, self.path.as_str())? {
+            Some(
+                Settings {
+                    reference,
+                    ignored,
+                    ..
+                },
+            ) => {
+                self.reference = match reference {
+                    Some(name) => Reference::named(alloc, self.path.as_str(), name.as_str())?,
+                    None => None,
+                };
+                self.ignored = ignored;
+            }
+            None => {
+                self.reference = None;
+                self.ignored = Vec::new(alloc);
+            }
+        }
+        Ok(())
+    }
 }
 
 /// The folders that an editor works in, and the files below them.
@@ -49,11 +90,7 @@ impl Workspace {
         let mut folders = Vec::new(alloc);
         for uri in folder_uris(alloc, message)?.iter() {
             if let Some(path) = path_of_uri(alloc, *uri)? {
-                let path = path.as_str().trim_end_matches('/');
-                folders.push(Folder {
-                    path: String::from_str(alloc, path)?,
-                    ignored: Vec::new(alloc),
-                })?;
+                folders.push(Folder::new(alloc, path.as_str().trim_end_matches('/'))?)?;
             }
         }
         Ok(Workspace {
@@ -82,13 +119,11 @@ impl Workspace {
         let mut found = BTreeMap::new(alloc);
         let mut all = true;
         for folder in self.folders.iter_mut() {
-            let path = folder.path.as_str();
-            let ignored = ignored_in(alloc, files, path)?;
+            folder.read_settings(alloc, files)?;
             let SourceFiles {
                 files: sources,
                 is_whole,
-            } = read_files(alloc, files, path)?;
-            folder.ignored = ignored;
+            } = read_files(alloc, files, folder.path.as_str())?;
             all = all && is_whole;
             for file in sources {
                 let SourceFile { path, text } = file;
@@ -125,6 +160,32 @@ impl Workspace {
             }
         }
         Ok(ignored)
+    }
+
+    /// The path of the file of the reference language that the one at the path is to be a translation of. None where
+    /// it is to be none of any. `AllocError` where a growth was refused.
+    pub fn original_of(&self, alloc: Global, path: &str) -> Result<Option<String>, AllocError> {
+        for folder in &self.folders {
+            if let Some(reference) = &folder.reference {
+                let original = reference.original_of(alloc, path)?;
+                if original.is_some() {
+                    return Ok(original);
+                }
+            }
+        }
+        Ok(None)
+    }
+
+    /// The path as it is shown: without the folder below which it stands.
+    pub fn shown<'p>(&self, path: &'p str) -> &'p str {
+        for folder in &self.folders {
+            if is_below(folder.path.as_str(), path) {
+                if let Some(below) = path.strip_prefix(folder.path.as_str()) {
+                    return below.trim_start_matches('/');
+                }
+            }
+        }
+        path
     }
 
     /// The names that the closed files define. None where they were not looked up.
@@ -167,7 +228,7 @@ fn is_searched(folder: &str, path: &str) -> bool {
 }
 
 /// Whether one of the documents is that of the path.
-fn is_open(documents: &BTreeMap<String, Open>, path: &str) -> bool {
+pub fn is_open(documents: &BTreeMap<String, Open>, path: &str) -> bool {
     documents
         .values()
         .any(|open| open.path.as_deref() == Some(path))

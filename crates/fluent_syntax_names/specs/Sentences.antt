@@ -1,6 +1,8 @@
--- What is said of a finding of each kind.
+-- What is said of a finding of each kind, and of each difference.
 use Rattle.std.specs.Prelude.{ℕ, List, ◌++◌, codes, Option, Some, None}
 use Rattle.std.specs.Fmt.{decimal}
+use Rattle.fluent_syntax_names.specs.declared.differences.Difference.{Difference}
+use Rattle.fluent_syntax_names.specs.declared.differences.Difference.TheVariants as differs
 use Rattle.fluent_syntax_names.specs.declared.finding.Kind.{Kind}
 use Rattle.fluent_syntax_names.specs.declared.finding.Kind.TheVariants as kind
 
@@ -18,3 +20,14 @@ sentence_of kind.CyclicReference name = codes "`" ++ name ++ codes "` leads back
 abbrev pub behind_first : Option ℕ → List ℕ
 behind_first None = codes ""
 behind_first (Some line) = codes ", first on line " ++ decimal line
+
+-- of the name at the place of the part that is lacked
+abbrev pub difference_sentence : Difference → List ℕ → List ℕ
+difference_sentence differs.Missing name = codes "`" ++ name ++ codes "`"
+difference_sentence differs.MissingValue name = codes "the value of `" ++ name ++ codes "`"
+difference_sentence differs.MissingAttribute name = codes "`" ++ name ++ codes "`"
+difference_sentence differs.MissingReference name = codes "the reference to `" ++ name ++ codes "`"
+difference_sentence differs.Obsolete name = codes "the reference does not define `" ++ name ++ codes "`"
+difference_sentence differs.ObsoleteValue name = codes "the reference gives `" ++ name ++ codes "` no value"
+difference_sentence differs.ObsoleteAttribute name = codes "the reference does not define `" ++ name ++ codes "`"
+difference_sentence differs.UnknownVariable name = codes "the reference does not use `$" ++ name ++ codes "`"

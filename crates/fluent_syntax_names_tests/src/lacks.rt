@@ -175,3 +175,33 @@ fn names_of_differences(rt: HostRuntime) {
     assert_eq!(rt; Difference::MissingReference.severity(), Severity::Warning);
     assert_eq!(rt; Difference::UnknownVariable.severity(), Severity::Error);
 }
+
+/// A difference, and what is said of it where the name is `a`.
+const SAID: [(Difference, &str); 8] = [
+    (Difference::Missing, "`a`"),
+    (Difference::MissingValue, "the value of `a`"),
+    (Difference::MissingAttribute, "`a`"),
+    (Difference::MissingReference, "the reference to `a`"),
+    (Difference::Obsolete, "the reference does not define `a`"),
+    (
+        Difference::ObsoleteValue,
+        "the reference gives `a` no value",
+    ),
+    (
+        Difference::ObsoleteAttribute,
+        "the reference does not define `a`",
+    ),
+    (
+        Difference::UnknownVariable,
+        "the reference does not use `$a`",
+    ),
+];
+
+#[test]
+fn sentences_of_differences(rt: HostRuntime) -> Result<(), Fail> {
+    for (difference, expected) in &SAID {
+        let said = difference.sentence(rt.alloc(), "a")?;
+        assert_same_text(rt.alloc(), "a difference", said.as_str(), *expected)?;
+    }
+    Ok(())
+}

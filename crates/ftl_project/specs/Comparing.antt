@@ -9,6 +9,7 @@ use Rattle.fluent_syntax_names.specs.declared.lack.Part.{Part}
 use Rattle.fluent_syntax_names.specs.declared.lack.Part.TheVariants as part
 use Rattle.fluent_syntax_names.specs.declared.outline.Outline.{Outline}
 use Rattle.fluent_syntax_names.specs.Differences.{difference_name, side_difference}
+use Rattle.fluent_syntax_names.specs.Sentences.{difference_sentence}
 use Rattle.ftl_project.specs.Differences.{is_told_as_error}
 use Rattle.ftl_project.specs.Faults.{Fails, IsFault, IsTooDeep}
 use Rattle.ftl_project.specs.Outlines.{IsOutline, entries_in}
@@ -27,44 +28,31 @@ use Rattle.ftl_project.specs.declared.tally.Tally.{Tally}
 
 -- ---- what is said of a part that one file has and the other one lacks
 
-abbrev pub missing_what : Part → List ℕ
-missing_what part.Entry = codes ""
-missing_what part.Value = codes "the value of "
-missing_what part.Attribute = codes ""
-missing_what part.Reference = codes "the reference to "
-missing_what part.Variable = codes ""
-
 -- where the reference has what the other file lacks
 abbrev pub missing_at : (path : List ℕ) → Spot → List ℕ
 missing_at path spot = path ++ codes ":" ++ decimal spot.line ++ codes ":" ++ decimal spot.column
 
 -- of the part that has the name in the reference's text
-abbrev pub missing_message : (path text : List ℕ) → Lack → (name : List ℕ) → List ℕ
-missing_message path text lack name =
-    missing_what lack.part ++ codes "`" ++ name ++ codes "` of " ++ missing_at path (spot_at text lack.name)
-
-abbrev pub more_message : Part → (name : List ℕ) → List ℕ
-more_message part.Entry name = codes "the reference does not define `" ++ name ++ codes "`"
-more_message part.Value name = codes "the reference gives `" ++ name ++ codes "` no value"
-more_message part.Attribute name = codes "the reference does not define `" ++ name ++ codes "`"
-more_message part.Reference name = codes "the reference does not define `" ++ name ++ codes "`"
-more_message part.Variable name = codes "the reference does not use `$" ++ name ++ codes "`"
+abbrev pub missing_message : (path text : List ℕ) → Lack → Difference → (name : List ℕ) → List ℕ
+missing_message path text lack difference name =
+    difference_sentence difference name ++ codes " of " ++ missing_at path (spot_at text lack.name)
 
 -- This is told of a difference in the file, with a message that says so; of no difference nothing is told.
 abbrev pub IsDifferenceTold : Form → (path text : List ℕ) → Option Spot → Option Difference →
-    (Says : List ℕ → Type 0) → (told : List ℕ) → Type 0
+    (Says : Difference → List ℕ → Type 0) → (told : List ℕ) → Type 0
 IsDifferenceTold form path text place None Says told = told ≡ []
 IsDifferenceTold form path text place (Some difference) Says told =
-    (message : List ℕ) × Says message × IsRemark form path text place (difference_name difference) message told
+    (message : List ℕ) × Says difference message
+    × IsRemark form path text place (difference_name difference) message told
 
--- The message is that of the part, by its name in the text.
-abbrev pub SaysMissing : (path text : List ℕ) → Lack → (message : List ℕ) → Type 0
-SaysMissing path text lack message =
-    (name : List ℕ) × IsName text lack.name name × (message ≡ missing_message path text lack name)
+-- The message is that of the difference, by the name of the part in the text.
+abbrev pub SaysMissing : (path text : List ℕ) → Lack → Difference → (message : List ℕ) → Type 0
+SaysMissing path text lack difference message =
+    (name : List ℕ) × IsName text lack.name name × (message ≡ missing_message path text lack difference name)
 
-abbrev pub SaysMore : (text : List ℕ) → Lack → (message : List ℕ) → Type 0
-SaysMore text lack message =
-    (name : List ℕ) × IsName text lack.name name × (message ≡ more_message lack.part name)
+abbrev pub SaysMore : (text : List ℕ) → Lack → Difference → (message : List ℕ) → Type 0
+SaysMore text lack difference message =
+    (name : List ℕ) × IsName text lack.name name × (message ≡ difference_sentence difference name)
 
 -- This is told of what the reference's text has and the other file lacks.
 abbrev pub IsMissingTold : Form → Pair → (text : List ℕ) → Lack → (told : List ℕ) → Type 0

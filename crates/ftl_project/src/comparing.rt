@@ -5,7 +5,7 @@ ghost use Rattle.fluent_syntax_names.specs.declared.outline.Outline.{Outline};
 ghost use Rattle.ftl_files.specs.Store.{AllStand};
 ghost use Rattle.ftl_project.specs.Comparing.{Compares, ComparesEach, IsAlone, IsBeside, IsComparison, IsLackTold};
 ghost use Rattle.ftl_project.specs.Comparing.{IsMissingTold, IsMoreTold, IsPairFault, SaysMissing, SaysMore, errors_of};
-ghost use Rattle.ftl_project.specs.Comparing.{lacked_entries, missing_what, more_message, with_share};
+ghost use Rattle.ftl_project.specs.Comparing.{lacked_entries, with_share};
 ghost use Rattle.ftl_project.specs.Faults.{IsTooDeep, IsUnparsed};
 ghost use Rattle.ftl_project.specs.Outlines.{IsOutline, IsShort};
 ghost use Rattle.ftl_project.specs.Remarks.{IsRemark, TellsEach, spot_at};
@@ -22,7 +22,7 @@ use crate::rewriting::read_text;
 use crate::streams::{Streams, put, tell};
 use crate::tally::Tally;
 use fluent_syntax::spans::Lines;
-use fluent_syntax_names::{Lack, Outline, Part, Side, lacks};
+use fluent_syntax_names::{Difference, Lack, Outline, Part, Side, lacks};
 use ftl::RunFault;
 use ftl_files::Store;
 use std::alloc::{AllocError, Global};
@@ -324,7 +324,7 @@ fn missing_told<'t>(
         place: None,
         kind: difference.name(),
         severity: severity_name(difference.severity()),
-        message: missing_message(alloc, pair.reference.as_str(), text, spot, lack)?,
+        message: missing_message(alloc, pair.reference.as_str(), text, spot, lack, difference)?,
     };
     remark_text(alloc, &remark, form)
 }
@@ -335,24 +335,15 @@ fn missing_message(
     text: &str,
     spot: Spot,
     lack: &Lack,
+    difference: Difference,
 ) -> Result<String, AllocError>
     requires { spot ≡ spot_at text.now lack.now.name }
-    ensures { IfOk result (λ message. SaysMissing path.now text.now lack.now (string_bytes message)) }
+    ensures { IfOk result (λ message.
+        SaysMissing path.now text.now lack.now difference (string_bytes message)) }
 {
-    let what = missing_what(lack.part);
-    let name = name_in(text, lack.name);
+    let said = difference.sentence(alloc, name_in(text, lack.name))?;
     let (line, column) = (spot.line, spot.column);
-    format!(in alloc; "{what}`{name}` of {path}:{line}:{column}")
-}
-
-fn missing_what(part: Part) -> &'static str
-    ensures { result.now ≡ missing_what part }
-{
-    match part {
-        Part::Value => "the value of ",
-        Part::Reference => "the reference to ",
-        Part::Entry | Part::Attribute | Part::Variable => "",
-    }
+    format!(in alloc; "{said} of {path}:{line}:{column}")
 }
 
 fn more_told<'t>(
@@ -377,25 +368,20 @@ fn more_told<'t>(
         place: Some(spot),
         kind: difference.name(),
         severity: severity_name(difference.severity()),
-        message: more_message(alloc, text, lack)?,
+        message: more_message(alloc, text, lack, difference)?,
     };
     remark_text(alloc, &remark, form)
 }
 
-fn more_message(alloc: Global, text: &str, lack: &Lack) -> Result<String, AllocError>
-    ensures { IfOk result (λ message. SaysMore text.now lack.now (string_bytes message)) }
+fn more_message(
+    alloc: Global,
+    text: &str,
+    lack: &Lack,
+    difference: Difference,
+) -> Result<String, AllocError>
+    ensures { IfOk result (λ message. SaysMore text.now lack.now difference (string_bytes message)) }
 {
-    more_words(alloc, lack.part, name_in(text, lack.name))
-}
-
-fn more_words(alloc: Global, part: Part, name: &str) -> Result<String, AllocError>
-    ensures { IfOk result (λ message. string_bytes message ≡ more_message part name.now) }
-{
-    match part {
-        Part::Variable => format!(in alloc; "the reference does not use `${name}`"),
-        Part::Value => format!(in alloc; "the reference gives `{name}` no value"),
-        _ => format!(in alloc; "the reference does not define `{name}`"),
-    }
+    difference.sentence(alloc, name_in(text, lack.name))
 }
 
 /// How much of the reference is there, on a line: `95 of 100 messages and terms are there`.

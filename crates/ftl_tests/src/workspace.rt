@@ -4,8 +4,8 @@ use fluent_syntax_lsp::{Closed, Document, NameKind, Occurrence, serve};
 use fluent_syntax_tests::alike::{assert_holds, assert_same, assert_same_text};
 use ftl::Watched;
 use ftl_workspace::{
-    FILE_LIMIT, Folders, InMemory, SourceFile, is_below, path_of_uri, read_files, shared_folders,
-    uri_of_path,
+    FILE_LIMIT, Folders, InMemory, SourceFile, is_below, original_of, path_of_uri, read_files,
+    shared_folders, uri_of_path,
 };
 use std::alloc::Global;
 use std::test::Fail;
@@ -429,4 +429,86 @@ fn kinds_that_are_left_out(rt: HostRuntime) -> Result<(), Fail> {
         }
     }
     Ok(())
+}
+
+/// The folder of the reference and its name there, a path, and that of its original.
+const ORIGINALS: [(&str, &str, &str, Option<&str>); 8] = [
+    ("/app", "en", "/app/de/menu.ftl", Some("/app/en/menu.ftl")),
+    ("/app", "en", "/app/de/a/b.ftl", Some("/app/en/a/b.ftl")),
+    ("/app", "en.ftl", "/app/de.ftl", Some("/app/en.ftl")),
+    ("/app", "en", "/app/en/menu.ftl", None),
+    ("/app", "en.ftl", "/app/en.ftl", None),
+    ("/app", "en", "/other/de/menu.ftl", None),
+    ("/app", "en", "/apple/menu.ftl", None),
+    ("", "en", "/de/menu.ftl", Some("/en/menu.ftl")),
+];
+
+#[test]
+fn originals_of_paths(rt: HostRuntime) -> Result<(), Fail> {
+    for row in &ORIGINALS {
+        let (above, own, path, original) = *row;
+        let found = original_of(rt.alloc(), above, own, path)?;
+        assert_same(rt.alloc(), path, &found.as_deref(), &original)?;
+    }
+    Ok(())
+}
+
+/// What is shown, the text of a document, and what it and its original don't have alike: kinds, with columns.
+type TranslationRow = (&'static str, &'static str, &'static [(&'static str, usize)]);
+
+/// Documents whose original is `hello = Hello { $user }`, with an attribute `title`.
+const TRANSLATIONS: [TranslationRow; 6] = [
+    ("all of it", "hello = Hallo { $user }\\n    .title = T", &[]),
+    ("none of it", "# none", &[("missing", 0)]),
+    ("no attribute", "hello = Hallo", &[("missing-attribute", 0)]),
+    (
+        "no value",
+        "hello =\\n    .title = T",
+        &[("missing-value", 0)],
+    ),
+    (
+        "another variable",
+        "hello = Hallo { $usr }\\n    .title = T",
+        &[("unknown-variable", 17)],
+    ),
+    (
+        "a term more",
+        "-old = Alt\\nhello = Hallo\\n    .title = T",
+        &[("obsolete", 1)],
+    ),
+];
+
+#[test]
+fn documents_beside_their_original(rt: HostRuntime) -> Result<(), Fail> {
+    let alloc = rt.alloc();
+    let mut files = InMemory::new(alloc);
+    files.put(alloc, "/w/ftl.toml", b"reference = \"l10n/en\"\n")?;
+    files.put(
+        alloc,
+        "/w/l10n/en/menu.ftl",
+        b"hello = Hello { $user }\n    .title = Hi\n",
+    )?;
+    for row in &TRANSLATIONS {
+        let (shows, text, differences) = *row;
+        let opened = opening(alloc, "file:///w/l10n/de/menu.ftl", text)?;
+        let told = told_last(alloc, &files, &[INITIALIZE, INITIALIZED, opened.as_str()])?;
+        assert_told(alloc, shows, told.as_str(), differences)?;
+    }
+    Ok(())
+}
+
+#[test]
+fn references_that_come_back_through_files(rt: HostRuntime) -> Result<(), Fail> {
+    let alloc = rt.alloc();
+    let mut files = InMemory::new(alloc);
+    files.put(alloc, "/w/a.ftl", b"a = { b }\n")?;
+    files.put(alloc, "/w/b.ftl", b"b = { c }\n")?;
+    let opened = opening(alloc, "file:///w/c.ftl", "c = { a }")?;
+    let told = told_last(alloc, &files, &[INITIALIZE, INITIALIZED, opened.as_str()])?;
+    assert_told(
+        alloc,
+        "through two",
+        told.as_str(),
+        &[("cyclic-reference", 6)],
+    )
 }

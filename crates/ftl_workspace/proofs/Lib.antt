@@ -1,2 +1,3 @@
+pub mod OriginalLemmas
 pub mod ReadingLemmas
 pub mod UriLemmas

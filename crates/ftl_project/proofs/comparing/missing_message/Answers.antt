@@ -6,7 +6,8 @@ use Rattle.ftl_project.proofs.comparing.missing_message.Goals as goal
 
 pub returns : goal.returns
 returns c =
-    let name = c.name_in-name.result.now in
-    let said = said_as c.format.result _ (missing_message c.args.path.now c.args.text.now c.args.lack.now name)
-    (simp (append_assoc, c.missing_what-what.ensures, c.requires)) c.format.ensures.ok in
-    IfOk-weaker c.format.result _ _ (λ message says. (name, c.name_in-name.ensures, says)) said
+    let name = c.name_in.result.now in
+    let told = missing_message c.args.path.now c.args.text.now c.args.lack.now c.args.difference name in
+    let said = said_as c.format.result _ told (simp (append_assoc, c.in_ok-said.ensures, c.requires))
+    c.format.ensures.ok in
+    IfOk-weaker c.format.result _ _ (λ message says. (name, c.name_in.ensures, says)) said

@@ -16,25 +16,31 @@ use Rattle.fluent_syntax_lsp.proofs.server.Server.change.Goals as goal
 pub returns-in_default-clause-follows : goal.returns-in_default-clause-follows
 returns-in_default-clause-follows c =
     let old = texts c.args.self.now.documents in
-    let d = view c.args.message.now in
-    (silence, sends_none,
-    passes (Some DidChange) old (unless_open old d (not_named old d (sym c.in_default.ensures))) refl)
+    let d = view c.args.message.now in (
+      silence,
+      sends_none,
+      passes (Some DidChange) old (unless_open old d (not_named old d (sym c.in_default.ensures))) refl,
+    )
 
 pub returns-in_default-changes_in-clause-follows : goal.returns-in_default-changes_in-clause-follows
 returns-in_default-changes_in-clause-follows c =
     let old = texts c.args.self.now.documents in
-    let d = view c.args.message.now in
-    (silence, sends_none,
-    passes (Some DidChange) old
-      (unreadable old d (ap (option_and_then edits_in) (sym c.in_default-changes_in.ensures))) refl)
+    let d = view c.args.message.now in (
+      silence,
+      sends_none,
+      passes (Some DidChange) old
+          (unreadable old d (ap (option_and_then edits_in) (sym c.in_default-changes_in.ensures))) refl,
+    )
 
 pub returns-then-not-contains-clause-follows : goal.returns-then-not-contains-clause-follows
 returns-then-not-contains-clause-follows c =
     let old = texts c.args.self.now.documents in
     let d = view c.args.message.now in
-    let named = named_open old d c.in-Some.uri.now (sym c.in-Some.ensures) in
-    (silence, sends_none,
-    passes (Some DidChange) old (unless_open old d (named ∙ sym c.if-not-contains.ensures)) refl)
+    let named = named_open old d c.in-Some.uri.now (sym c.in-Some.ensures) in (
+      silence,
+      sends_none,
+      passes (Some DidChange) old (unless_open old d (named ∙ sym c.if-not-contains.ensures)) refl,
+    )
 
 pub returns-in_default-2-clause-follows : goal.returns-in_default-2-clause-follows
 returns-in_default-2-clause-follows c =
@@ -42,12 +48,14 @@ returns-in_default-2-clause-follows c =
     let d = view c.args.message.now in
     let values = c.in-Some-changes_in.values.now.items in
     let none = sym (ap (option_map (λ changes. map edit_of changes.items)) c.in_default-2.is)
-          ∙ c.in_ok-changes.ensures in
-    (silence, sends_none,
-    passes (Some DidChange) old
-      (unreadable old d
-        (edits_of_changes d c.deref.result.now values _ (sym c.in-Some-changes_in.ensures) c.deref.ensures.value none))
-      refl)
+    ∙ c.in_ok-changes.ensures in (
+      silence,
+      sends_none,
+      passes (Some DidChange) old
+          (unreadable old d
+          (edits_of_changes d c.deref.result.now values _ (sym c.in-Some-changes_in.ensures) c.deref.ensures.value none))
+          refl,
+    )
 
 pub returns-clause-phase : goal.returns-clause-phase
 returns-clause-phase c = IfOk-weaker c.publish.result _ _ (λ sent e. ap (λ s. s.phase) e) c.publish.ensures.same
@@ -56,10 +64,10 @@ pub returns-clause-follows : goal.returns-clause-follows
 returns-clause-follows c =
     let values = c.in-Some-changes_in.values.now.items in
     let is_read = ap (λ (vs : List Value). edits_in (items_view vs)) (sym c.deref.ensures.value)
-          ∙ sym c.in_ok-changes.ensures ∙ ap (option_map (λ changes. map edit_of changes.items)) c.in-Some-2.is
-          ∙ ap (λ (cs : List Change). Some (map edit_of cs)) (sym c.deref-2.ensures.value) in
+    ∙ sym c.in_ok-changes.ensures ∙ ap (option_map (λ changes. map edit_of changes.items)) c.in-Some-2.is
+    ∙ ap (λ (cs : List Change). Some (map edit_of cs)) (sym c.deref-2.ensures.value) in
     tells_changed c.publish.result (view c.args.message.now) c.in-Some.uri.now (items_view values)
-      (map edit_of c.deref-2.result.now) c.version_of.result c.in_ok-change.field-0 (session_of c.args.self.now)
-      (record { phase = c.args.self.now.phase; texts = texts c.change.new.self }) (session_of c.publish.new.self)
-      (sym c.in-Some.ensures) (sym c.in-Some-changes_in.ensures) is_read c.version_of.ensures
-      (sym c.if-not-contains.ensures) c.in_ok-change.ensures c.publish.ensures.same c.publish.ensures.sent
+    (map edit_of c.deref-2.result.now) c.version_of.result c.in_ok-change.field-0 (session_of c.args.self.now)
+    (record { phase = c.args.self.now.phase; texts = texts c.change.new.self }) (session_of c.publish.new.self)
+    (sym c.in-Some.ensures) (sym c.in-Some-changes_in.ensures) is_read c.version_of.ensures
+    (sym c.if-not-contains.ensures) c.in_ok-change.ensures c.publish.ensures.same c.publish.ensures.sent

@@ -20,6 +20,8 @@ returns-then-not-contains-clause-follows c =
     (silence, sends_none, passes (Some DidClose) _ (named ∙ sym c.if-not-contains.ensures) refl)
 
 pub returns-clause-follows : goal.returns-clause-follows
-returns-clause-follows c =
-    (diagnosed c.in-Some.uri.now, c.in_ok-published.ensures,
-    closes c.in-Some.uri.now _ (sym c.in-Some.ensures) (sym c.if-not-contains.ensures) c.close.ensures)
+returns-clause-follows c = (
+  diagnosed c.in-Some.uri.now,
+  c.in_ok-published.ensures,
+  closes c.in-Some.uri.now _ (sym c.in-Some.ensures) (sym c.if-not-contains.ensures) c.close.ensures,
+)

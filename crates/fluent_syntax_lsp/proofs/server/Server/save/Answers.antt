@@ -16,7 +16,7 @@ returns-in-Some-clause-phase c = IfOk-weaker c.publish.result _ _ (λ sent e. ap
 pub returns-in-Some-clause-follows : goal.returns-in-Some-clause-follows
 returns-in-Some-clause-follows c =
     tells_saved c.publish.result (view c.args.message.now) c.in-Some.uri.now (session_of c.args.self.now)
-      (session_of c.publish.new.self) (sym c.in-Some.ensures) c.publish.ensures.same c.publish.ensures.sent
+    (session_of c.publish.new.self) (sym c.in-Some.ensures) c.publish.ensures.same c.publish.ensures.sent
 
 pub returns-in-None-clause-follows : goal.returns-in-None-clause-follows
 returns-in-None-clause-follows c =
