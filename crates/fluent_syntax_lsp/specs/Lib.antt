@@ -24,3 +24,6 @@ pub mod Params
 pub mod Edits
 pub mod Opened
 pub mod Replies
+pub mod Outbox
+pub mod Sessions
+pub mod Served

@@ -1,9 +1,20 @@
--- What a server sends, as JSON values.
-use Rattle.std.specs.Prelude.{ℕ, List, codes}
+-- What a server sends: the kinds of replies, and their JSON values.
+use Rattle.std.specs.Prelude.{◌≡◌, ℕ, List, codes, Option, Some, None}
 use Rattle.serde_json.specs.Data.{Data, number, string, array, object, item, no_items, member, no_members}
 use Rattle.serde_json.specs.Find.{of_integer}
 use Rattle.fluent_syntax_lsp.specs.Phases.{number_of, text_of}
 use Rattle.fluent_syntax_lsp.specs.declared.phases.ErrorCode.{ErrorCode}
+
+-- What is sent for a message.
+pub data Reply : Type 0 where
+  silence : Reply
+  -- the answer to the request with the identifier, or its refusal
+  answered : (id : Data) → Reply
+  refused : (id : Data) → ErrorCode → Reply
+  -- the diagnostics of the document with the name
+  diagnosed : (uri : List ℕ) → Reply
+  -- the request to watch files
+  watch : Reply
 
 abbrev pub answer_form : (id result : Data) → Data
 answer_form id result =
@@ -49,3 +60,11 @@ watch_form =
     (member (codes "params")
     (object (member (codes "registrations") (array (item registration_form no_items)) no_members))
     no_members))))
+
+-- The value is what is sent for the reply, if anything is.
+pub data IsSent : Reply → Option Data → Type 0 where
+  sends_none : IsSent silence None
+  sends_answer : (id result : Data) → IsSent (answered id) (Some (answer_form id result))
+  sends_refusal : (id : Data) (code : ErrorCode) → IsSent (refused id code) (Some (refusal_form id code))
+  sends_diagnostics : (uri : List ℕ) (list : Data) → IsSent (diagnosed uri) (Some (diagnostics_form uri list))
+  sends_watch : IsSent watch (Some watch_form)

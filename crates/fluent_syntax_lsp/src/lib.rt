@@ -1,6 +1,7 @@
 //! A language server for Fluent Translation Lists: the protocol's frames, places and answers.
 #![tactic(auto)]
 
+mod answering;
 mod asked;
 mod breaks;
 mod changes;
@@ -10,6 +11,7 @@ mod diagnostics;
 mod documents;
 mod endings;
 mod fields;
+mod following;
 mod formatting;
 mod frames;
 mod held;
@@ -31,6 +33,7 @@ mod own;
 mod params;
 mod phases;
 mod places;
+mod publishing;
 mod remarks;
 mod renaming;
 mod replies;

@@ -91,12 +91,11 @@ impl Documents {
         }
     }
 
-    /// Closes the document that is open under the name, and says whether there was one.
-    pub fn close(&mut self, name: &str) -> bool
-        ensures was { result ≡ is_some (texts self.old name.now) }
-        ensures closed { Sets (texts self.old) name.now None (texts self.new) }
+    /// Closes the document that is open under the name, if there is one.
+    pub fn close(&mut self, name: &str)
+        ensures { Sets (texts self.old) name.now None (texts self.new) }
     {
-        self.by_name.remove(name).is_some()
+        drop(self.by_name.remove(name));
     }
 }
 

@@ -1,4 +1,10 @@
 //! A whole session: reads messages, answers them, and ends.
+ghost use Rattle.std.specs.Prelude.{◌≡◌, ◌<◌, length, IfOk, IfErr};
+ghost use Rattle.std.specs.Io.KnownBytes.{prepend_known};
+ghost use Rattle.ftl.specs.Watched.{inner_of};
+ghost use Rattle.fluent_syntax_lsp.specs.Phases.{ending_of};
+ghost use Rattle.fluent_syntax_lsp.specs.Served.{Ends, Stops, TakesStep};
+ghost use Rattle.fluent_syntax_lsp.specs.Sessions.{session_of};
 
 use crate::endings::Ending;
 use crate::inbox::next_body;
@@ -19,7 +25,9 @@ pub fn serve<R: Read, W: Write, F: Folders>(
     reader: &mut Watched<R>,
     writer: &mut W,
     files: &F,
-) -> Ending {
+) -> Ending
+    ensures { Ends (R.remaining (inner_of reader.old)) (W.contents writer.old) result (W.contents writer.new) }
+{
     match converse(alloc, reader, writer, files) {
         Ok(ending) | Err(ending) => ending,
     }
@@ -31,21 +39,62 @@ fn converse<R: Read, W: Write, F: Folders>(
     reader: &mut Watched<R>,
     writer: &mut W,
     files: &F,
-) -> Result<Ending, Ending> {
+) -> Result<Ending, Ending>
+    ensures ok { let input = R.remaining (inner_of reader.old) in
+        IfOk result (λ ending. Ends input (W.contents writer.old) ending (W.contents writer.new)) }
+    ensures err { let input = R.remaining (inner_of reader.old) in
+        IfErr result (λ ending. Ends input (W.contents writer.old) ending (W.contents writer.new)) }
+{
     let mut block = vec![in alloc; 0u8; BLOCK].map_err(|_| Ending::Memory)?;
     let mut pending = Vec::new(alloc);
     let mut server = Server::new(alloc);
     for _ in 0..u64::MAX {
-        let body = next_body(alloc, reader, &mut pending, block.as_mut_slice())?;
-        let reply = server
-            .take(body.as_slice(), files)
-            .map_err(|_| Ending::Memory)?;
-        if let Some(reply) = reply {
-            send(alloc, writer, &reply)?;
-        }
+        let block = block.as_mut_slice();
+        answer_next(
+            alloc,
+            &mut server,
+            reader,
+            &mut pending,
+            block,
+            writer,
+            files,
+        )?;
         if let Some(ending) = server.ending() {
             return Ok(ending);
         }
     }
-    Err(Ending::Closed)
+    // no more messages than these can be counted
+    Err(Ending::Input)
+}
+
+/// Takes the next message, and sends what is to be sent for it.
+///
+/// `Memory`: a growth was refused, and nothing was sent for the message. `Output`: it could not be written. The others
+/// are those of `next_body`.
+fn answer_next<R: Read, W: Write, F: Folders>(
+    alloc: Global,
+    server: &mut Server,
+    reader: &mut Watched<R>,
+    pending: &mut Vec<u8>,
+    block: &mut [u8],
+    writer: &mut W,
+    files: &F,
+) -> Result<(), Ending>
+    requires { 0 < length block.old }
+    ensures step { let left = prepend_known pending.old.items (R.remaining (inner_of reader.old)) in
+        let after = prepend_known pending.new.items (R.remaining (inner_of reader.new)) in
+        IfOk result (λ _. TakesStep (session_of server.old) (session_of server.new) left after
+        (W.contents writer.old) (W.contents writer.new)) }
+    ensures stops { let left = prepend_known pending.old.items (R.remaining (inner_of reader.old)) in
+        IfErr result (λ ending. Stops (session_of server.old) left
+        (W.contents writer.old) ending (W.contents writer.new)) }
+{
+    let body = next_body(alloc, reader, pending, block)?;
+    let reply = server
+        .take(body.as_slice(), files)
+        .map_err(|_| Ending::Memory)?;
+    match reply {
+        Some(reply) => send(alloc, writer, &reply),
+        None => Ok(()),
+    }
 }

@@ -1,0 +1,232 @@
+-- What a session sends for a message, and what it knows then.
+use Rattle.std.proofs.Common.{◌≡◌, ℕ, List, Bool, true, false, Option, Some, None, Result, Ok, Err, refl, sym, ap, ◌∙◌}
+use Rattle.std.specs.Prelude.{ℤ, ◌&&◌, ◌≢◌, ◌⊎◌}
+use Rattle.std.proofs.Common.{inl, inr, subst, true≢false}
+use Rattle.std.specs.Prelude.{IfOk, OnOk, is_some, option_and_then, option_map}
+use Rattle.std.specs.Str.{IsUtf8, bytes_eq}
+use Rattle.std.proofs.lemmas.Map.{update_same}
+use Rattle.std.proofs.lemmas.Slice.Eq.{bytes_eq-Decides}
+use Rattle.serde_json.specs.Data.{Data, Items}
+use Rattle.serde_json.specs.Read.{read}
+use Rattle.serde_json.specs.View.{items_view, view}
+use Rattle.serde_json.specs.declared.value.Value.{Value}
+use Rattle.fluent_syntax_lsp.specs.Edits.{Edit, edits_in}
+use Rattle.fluent_syntax_lsp.specs.Messages.{message_in, request, notification}
+use Rattle.fluent_syntax_lsp.specs.Opened.{MakesOpen, OpenText, Sets, SetsMade}
+use Rattle.fluent_syntax_lsp.specs.Params.{changes_in, opened_text_in, uri_in, version_in}
+use Rattle.fluent_syntax_lsp.specs.Phases.{after_notification, after_request, refusal_of}
+use Rattle.fluent_syntax_lsp.specs.Replies.{Reply, IsSent, diagnosed, silence, sends_none, answered, refused}
+use Rattle.fluent_syntax_lsp.specs.Replies.{watch}
+use Rattle.fluent_syntax_lsp.specs.Sessions.{Answers, AnswersNotification, AnswersRequest, AnswersRunning, Follows}
+use Rattle.fluent_syntax_lsp.specs.Sessions.{IsMethod, Session, Steps, TakesRequest, TakesNotification, concerns}
+use Rattle.fluent_syntax_lsp.specs.Sessions.{changes, names_open, published, requested, notified, opens, passes, runs, saves}
+use Rattle.fluent_syntax_lsp.specs.Sessions.{finds, finds_none, fits, IsFound, watches}
+use Rattle.fluent_syntax_lsp.specs.declared.methods.Method.{Method}
+use Rattle.fluent_syntax_lsp.specs.declared.methods.Method.TheVariants.{DidChange, DidClose, DidOpen, DidSave}
+use Rattle.fluent_syntax_lsp.specs.declared.methods.Method.TheVariants.{Initialized}
+use Rattle.fluent_syntax_lsp.specs.declared.phases.Phase.{Phase}
+use Rattle.fluent_syntax_lsp.specs.declared.phases.Phase.TheVariants.{Running}
+
+-- what holds of a result's value, with what holds where there is one
+pub ok_with : {X Y : Type 0} (r : Result X Y) (P : Type 0) (Q R : X → Type 0) → (P → (x : X) → Q x → R x) →
+    OnOk r P → IfOk r Q → IfOk r R
+ok_with (Ok x) P Q R both p q = both p x q
+ok_with (Err e) P Q R both p q = q
+
+-- a value that is as one that is sent
+pub sent_as : (reply : Reply) (value sent : Data) → value ≡ sent → IsSent reply (Some sent) → IsSent reply (Some value)
+sent_as reply value sent same is = subst (λ (d : Data). IsSent reply (Some d)) (sym same) is
+
+-- a session in another phase
+abbrev pub in_phase : Phase → Session → Session
+in_phase phase session = record { phase = phase; texts = session.texts }
+
+-- the session behind a request that was answered
+pub answered_in : (phase : Phase) (before old : Session) (method : Option Method) →
+    phase ≡ after_request before.phase method → before ≡ old →
+    in_phase phase before ≡ in_phase (after_request old.phase method) old
+answered_in phase before old method after same =
+    ap (λ (p : Phase). in_phase p before) after
+    ∙ ap (λ (s : Session). in_phase (after_request s.phase method) s) same
+
+-- a document that was opened is open
+pub is_open : (old new : List ℕ → Option OpenText) (uri : List ℕ) (found : OpenText) →
+    Sets old uri (Some found) new → is_some (new uri) ≡ true
+is_open old new uri found sets =
+    ap is_some (sets uri ∙ update_same bytes_eq old uri (Some found) uri ((bytes_eq-Decides uri uri).1 refl))
+
+pub named_open : (texts : List ℕ → Option OpenText) (d : Data) (uri : List ℕ) → uri_in d ≡ Some uri →
+    names_open texts d ≡ is_some (texts uri)
+named_open texts d uri named = ap (λ o. is_some (option_and_then texts o)) named
+
+pub not_named : (texts : List ℕ → Option OpenText) (d : Data) → uri_in d ≡ None → names_open texts d ≡ false
+not_named texts d none = ap (λ o. is_some (option_and_then texts o)) none
+
+-- nothing is opened without a name, or without a text
+pub no_name : (texts : List ℕ → Option OpenText) (d : Data) → uri_in d ≡ None →
+    concerns texts d (Some DidOpen) ≡ false
+no_name texts d none = ap (λ o. is_some o && is_some (opened_text_in d)) none
+
+pub no_text : (texts : List ℕ → Option OpenText) (d : Data) (uri : List ℕ) → uri_in d ≡ Some uri →
+    opened_text_in d ≡ None → concerns texts d (Some DidOpen) ≡ false
+no_text texts d uri named none =
+    ap (λ o. is_some o && is_some (opened_text_in d)) named ∙ ap is_some none
+
+and_false : (b : Bool) → (b && false) ≡ false
+and_false true = refl
+and_false false = refl
+
+-- nothing is changed that is not open, or by what can't be read
+pub unless_open : (texts : List ℕ → Option OpenText) (d : Data) → names_open texts d ≡ false →
+    concerns texts d (Some DidChange) ≡ false
+unless_open texts d closed = ap (λ b. b && is_some (option_and_then edits_in (changes_in d))) closed
+
+pub unreadable : (texts : List ℕ → Option OpenText) (d : Data) → option_and_then edits_in (changes_in d) ≡ None →
+    concerns texts d (Some DidChange) ≡ false
+unreadable texts d none = ap (λ o. names_open texts d && is_some o) none ∙ and_false (names_open texts d)
+
+pub edits_of_changes : (d : Data) (slice values : List Value) (edits : Option (List Edit)) →
+    changes_in d ≡ Some (items_view values) → slice ≡ values → edits ≡ edits_in (items_view slice) →
+    option_and_then edits_in (changes_in d) ≡ edits
+edits_of_changes d slice values edits told same is_read =
+    ap (option_and_then edits_in) told
+    ∙ ap (λ (vs : List Value). edits_in (items_view vs)) (sym same) ∙ sym is_read
+
+-- what is told of a document that is not open, and of one that is
+pub unpublished : (old mid : Session) (uri : List ℕ) → mid ≡ old → None ≡ mid.texts uri →
+    IsSent (published uri (is_some (old.texts uri))) None
+unpublished old mid uri same none =
+    let at : Session → Type 0 = λ s. IsSent (published uri (is_some (s.texts uri))) None in
+    subst at same (subst (λ (o : Option OpenText). IsSent (published uri (is_some o)) None) none sends_none)
+
+pub is_published : (old mid : Session) (uri : List ℕ) (found : OpenText) (sent : Option Data) → mid ≡ old →
+    Some found ≡ mid.texts uri → IsSent (diagnosed uri) sent → IsSent (published uri (is_some (old.texts uri))) sent
+is_published old mid uri found sent same open' is =
+    let at : Session → Type 0 = λ s. IsSent (published uri (is_some (s.texts uri))) sent in
+    subst at same (subst (λ (o : Option OpenText). IsSent (published uri (is_some o)) sent) open' is)
+
+-- the diagnostics of a document that is open are told, behind what was done before
+pub tells : {Y : Type 0} (r : Result (Option Value) Y) (old : List ℕ → Option OpenText) (d : Data)
+    (method : Option Method) (uri : List ℕ) (mid new : Session) → is_some (mid.texts uri) ≡ true →
+    ((texts : List ℕ → Option OpenText) → texts ≡ mid.texts → Follows old d method (diagnosed uri) texts) →
+    OnOk r (new ≡ mid) →
+    IfOk r (λ sent. IsSent (published uri (is_some (mid.texts uri))) (option_map view sent)) →
+    IfOk r (λ sent. AnswersRunning old d method (option_map view sent) new.texts)
+tells r old d method uri mid new open' follows same sent =
+    ok_with r _ _ _
+    (λ e x h. (
+      diagnosed uri,
+      subst (λ b. IsSent (published uri b) (option_map view x)) open' h,
+      follows new.texts (ap (λ s. s.texts) e),
+    ))
+    same sent
+
+-- a document that was opened
+pub tells_opened : {Y : Type 0} (r : Result (Option Value) Y) (d : Data) (uri text : List ℕ) (version : Option ℤ)
+    (old mid new : Session) → uri_in d ≡ Some uri → opened_text_in d ≡ Some text → version ≡ version_in d →
+    Sets old.texts uri (Some (record { text = text; version = version })) mid.texts → OnOk r (new ≡ mid) →
+    IfOk r (λ sent. IsSent (published uri (is_some (mid.texts uri))) (option_map view sent)) →
+    IfOk r (λ sent. AnswersRunning old.texts d (Some DidOpen) (option_map view sent) new.texts)
+tells_opened r d uri text version old mid new named told numbered sets same sent =
+    let made = subst
+    (λ (n : Option ℤ). Sets old.texts uri (Some (record { text = text; version = n })) mid.texts) numbered sets in
+    tells r old.texts d (Some DidOpen) uri mid new (is_open old.texts mid.texts uri _ sets)
+    (λ now e. opens uri text now named told
+    (subst (λ (t : List ℕ → Option OpenText). Sets old.texts uri (Some (record { text = text; version = version_in d })) t)
+    (sym e) made))
+    same sent
+
+-- a document that was changed
+pub tells_changed : {Y : Type 0} (r : Result (Option Value) Y) (d : Data) (uri : List ℕ) (items : Items)
+    (edits : List Edit) (version : Option ℤ) (found : Bool) (old mid new : Session) → uri_in d ≡ Some uri →
+    changes_in d ≡ Some items → edits_in items ≡ Some edits → version ≡ version_in d →
+    is_some (old.texts uri) ≡ true → SetsMade old.texts uri version edits found mid.texts → OnOk r (new ≡ mid) →
+    IfOk r (λ sent. IsSent (published uri (is_some (mid.texts uri))) (option_map view sent)) →
+    IfOk r (λ sent. AnswersRunning old.texts d (Some DidChange) (option_map view sent) new.texts)
+tells_changed r d uri items edits version true old mid new named told is_read numbered open'
+    (before, after, was, makes, sets) same sent =
+    tells r old.texts d (Some DidChange) uri mid new (is_open old.texts mid.texts uri after sets)
+    (λ now e. changes uri items edits before after now named told is_read was
+    (subst (λ (n : Option ℤ). MakesOpen before n edits after) numbered makes)
+    (subst (λ (t : List ℕ → Option OpenText). Sets old.texts uri (Some after) t) (sym e) sets))
+    same sent
+tells_changed r d uri items edits version false old mid new named told is_read numbered open' h same sent =
+    absurd (true≢false (sym open' ∙ ap is_some h.0))
+
+-- a document that is saved
+saved : (old new : List ℕ → Option OpenText) (d : Data) (uri : List ℕ) (sent : Option Data) (b : Bool) →
+    is_some (old uri) ≡ b → uri_in d ≡ Some uri → new ≡ old → IsSent (published uri b) sent →
+    AnswersRunning old d (Some DidSave) sent new
+saved old new d uri sent true open' named same is = (diagnosed uri, is, saves uri new named open' same)
+saved old new d uri sent false open' named same is =
+    (silence, is, passes (Some DidSave) new (named_open old d uri named ∙ open') same)
+
+pub tells_saved : {Y : Type 0} (r : Result (Option Value) Y) (d : Data) (uri : List ℕ) (old new : Session) →
+    uri_in d ≡ Some uri → OnOk r (new ≡ old) →
+    IfOk r (λ sent. IsSent (published uri (is_some (old.texts uri))) (option_map view sent)) →
+    IfOk r (λ sent. AnswersRunning old.texts d (Some DidSave) (option_map view sent) new.texts)
+tells_saved r d uri old new named same sent =
+    ok_with r _ _ _ (λ e x h. saved old.texts new.texts d uri _ _ refl named (ap (λ s. s.texts) e) h) same sent
+
+-- a request that was taken behind something that changes nothing of the session
+pub takes_request : {Y : Type 0} (r : Result (Option Value) Y) (old mid new : Session) (body : List ℕ)
+    (d id same_id : Data) (name : List ℕ) (method : Option Method) → read body ≡ Some d →
+    message_in d ≡ request id name → same_id ≡ id → IsMethod name method → mid ≡ old →
+    IfOk r (λ sent. AnswersRequest mid same_id d method (option_map view sent) new) →
+    IfOk r (λ sent. Answers old body (option_map view sent) new)
+takes_request (Ok sent) old mid new body d id same_id name method is_read asked same named before (reply, is, takes) =
+    let by_id = subst (λ (i : Data). TakesRequest mid i d method reply new) same takes in (
+      reply,
+      is,
+      requested d id name method reply new is_read asked named
+          (subst (λ (s : Session). TakesRequest s id d method reply new) before by_id),
+    )
+takes_request (Err e) old mid new body d id same_id name method is_read asked same named before h = h
+
+pub takes_notification : {Y : Type 0} (r : Result (Option Value) Y) (old new : Session) (body : List ℕ) (d : Data)
+    (name : List ℕ) (method : Option Method) → read body ≡ Some d → message_in d ≡ notification name →
+    IsMethod name method → IfOk r (λ sent. AnswersNotification old d method (option_map view sent) new) →
+    IfOk r (λ sent. Answers old body (option_map view sent) new)
+takes_notification (Ok sent) old new body d name method is_read asked named (reply, is, takes) =
+    (reply, is, notified d name method reply new is_read asked named takes)
+takes_notification (Err e) old new body d name method is_read asked named h = h
+
+-- nothing is done for a method that concerns no document
+unconcerned : (texts : List ℕ → Option OpenText) (d : Data) (method : Method) → method ≢ DidOpen → method ≢ DidChange →
+    method ≢ DidClose → method ≢ DidSave → concerns texts d (Some method) ≡ false
+unconcerned texts d DidOpen a b c e = absurd (a refl)
+unconcerned texts d DidChange a b c e = absurd (b refl)
+unconcerned texts d DidClose a b c e = absurd (c refl)
+unconcerned texts d DidSave a b c e = absurd (e refl)
+unconcerned texts d _ a b c e = refl
+
+pub passed : (old : List ℕ → Option OpenText) (d : Data) (method : Option Method) → concerns old d method ≡ false →
+    AnswersRunning old d method None old
+passed old d method none = (silence, sends_none, passes method old none refl)
+
+pub passed_over : (old : List ℕ → Option OpenText) (d : Data) (method : Option Method) (known : Method) →
+    method ≡ Some known → known ≢ DidOpen → known ≢ DidChange → known ≢ DidClose → known ≢ DidSave →
+    AnswersRunning old d method None old
+passed_over old d method known is a b c e =
+    passed old d method (ap (concerns old d) is ∙ unconcerned old d known a b c e)
+
+-- files are watched, or nothing is sent
+pub watched : (old : List ℕ → Option OpenText) (d : Data) (method : Option Method) (known : Method)
+    (sent : Option Data) → method ≡ Some known → known ≡ Initialized → IsSent watch sent ⊎ IsSent silence sent →
+    AnswersRunning old d method sent old
+watched old d method known sent is named (inl watches') =
+    (watch, watches', subst (λ (m : Option Method). Follows old d m watch old) (sym (is ∙ ap Some named)) (watches old refl))
+watched old d method known sent is named (inr none) =
+    (silence, none, passes method old (ap (concerns old d) (is ∙ ap Some named)) refl)
+
+-- a notification that was followed while the session runs
+pub notified_running : (old mid : Session) (d : Data) (method : Option Method) (sent : Option Data)
+    (phase last : Phase) (new : List ℕ → Option OpenText) → old.phase ≡ Running → mid ≡ old → phase ≡ mid.phase →
+    last ≡ after_notification phase method → AnswersRunning mid.texts d method sent new →
+    AnswersNotification old d method sent (record { phase = last; texts = new })
+notified_running old mid d method sent phase last new is_running same kept after (reply, is, follows) = (
+  reply,
+  is,
+  runs reply _ is_running (subst (λ (s : Session). Follows s.texts d method reply new) same follows)
+      (after ∙ ap (λ (p : Phase). after_notification p method) (kept ∙ ap (λ (s : Session). s.phase) same)),
+)

@@ -1,0 +1,24 @@
+use Rattle.std.proofs.Common.{refl, sym}
+use Rattle.fluent_syntax_lsp.specs.Opened.{texts}
+use Rattle.fluent_syntax_lsp.specs.Replies.{diagnosed, silence, sends_none}
+use Rattle.fluent_syntax_lsp.specs.Sessions.{closes, passes}
+use Rattle.fluent_syntax_lsp.specs.declared.methods.Method.TheVariants.{DidClose}
+use Rattle.fluent_syntax_lsp.proofs.SessionLemmas.{not_named, named_open}
+use Rattle.std.proofs.Common.{Some, ◌∙◌}
+use Rattle.fluent_syntax_lsp.proofs.following.Server.close.Goals as goal
+
+pub returns-in_default-clause-follows : goal.returns-in_default-clause-follows
+returns-in_default-clause-follows c =
+    (silence, sends_none, passes (Some DidClose) _ (not_named _ _ (sym c.in_default.ensures)) refl)
+
+pub returns-then-not-contains-clause-follows : goal.returns-then-not-contains-clause-follows
+returns-then-not-contains-clause-follows c =
+    let named = named_open (texts c.args.self.now.documents) _ c.in-Some.uri.now (sym c.in-Some.ensures) in
+    (silence, sends_none, passes (Some DidClose) _ (named ∙ sym c.if-not-contains.ensures) refl)
+
+pub returns-clause-follows : goal.returns-clause-follows
+returns-clause-follows c = (
+  diagnosed c.in-Some.uri.now,
+  c.in_ok-published.ensures,
+  closes c.in-Some.uri.now _ (sym c.in-Some.ensures) (sym c.if-not-contains.ensures) c.close.ensures,
+)

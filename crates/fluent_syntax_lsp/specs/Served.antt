@@ -1,0 +1,46 @@
+-- A whole session: the frames that it takes, what it sends for them, and how it ends.
+use Rattle.std.specs.Prelude.{◌≡◌, ℕ, List, Option, None, Some}
+use Rattle.serde_json.specs.Data.{Data}
+use Rattle.fluent_syntax_lsp.specs.Inbox.{EndsAs, TakesFrame}
+use Rattle.fluent_syntax_lsp.specs.Outbox.{Sends}
+use Rattle.fluent_syntax_lsp.specs.Phases.{ending_of}
+use Rattle.fluent_syntax_lsp.specs.Sessions.{Answers, Session}
+use Rattle.fluent_syntax_lsp.specs.declared.endings.Ending.{Ending}
+use Rattle.fluent_syntax_lsp.specs.declared.endings.Ending.TheVariants.{Memory, Output}
+use Rattle.fluent_syntax_lsp.specs.declared.phases.Phase.TheVariants.{Fresh}
+
+-- Nothing has come yet, and nothing is open.
+pub record IsFresh (session : Session) : Type 0 where
+  pub phase : session.phase ≡ Fresh
+  pub none : (name : List ℕ) → session.texts name ≡ None
+
+-- A frame is taken off the input, the session takes the step of its body, and what is sent for it is put on the output.
+pub record TakesStep (before now : Session) (left after written sent_on : Option (List ℕ)) : Type 0 where
+  pub body : List ℕ
+  pub sent : Option Data
+  pub taken : TakesFrame left after body
+  pub answered : Answers before body sent now
+  pub sends : Sends written sent_on sent
+
+-- What is left of the input and what stands on the output, behind a session's steps from the first on.
+pub data Serves (input output : Option (List ℕ)) : (now : Session) → (left written : Option (List ℕ)) → Type 0 where
+  begins : (session : Session) → IsFresh session → Serves input output session input output
+  goes_on : (before now : Session) (left after written sent_on : Option (List ℕ)) →
+      Serves input output before left written → ending_of before.phase ≡ None →
+      TakesStep before now left after written sent_on → Serves input output now after sent_on
+
+-- Why a session takes no further step, and what stands on the output then: no frame is left; memory was refused; or what
+-- was to be sent could not be written.
+pub data Stops (before : Session) (left written : Option (List ℕ)) : Ending → (now : Option (List ℕ)) → Type 0 where
+  has_no_frame : (ending : Ending) → EndsAs left ending → Stops before left written ending written
+  has_no_memory : Stops before left written Memory written
+  is_not_written : (after sent_on : Option (List ℕ)) (body : List ℕ) (value : Data) (next : Session) →
+      TakesFrame left after body → Answers before body (Some value) next → Stops before left written Output sent_on
+
+-- How a session ends: by `exit`, or where it stops.
+pub data Ends (input output : Option (List ℕ)) : Ending → (now : Option (List ℕ)) → Type 0 where
+  exits : (last : Session) (left written : Option (List ℕ)) (ending : Ending) →
+      Serves input output last left written → ending_of last.phase ≡ Some ending → Ends input output ending written
+  stops : (last : Session) (left written now : Option (List ℕ)) (ending : Ending) →
+      Serves input output last left written → ending_of last.phase ≡ None → Stops last left written ending now →
+      Ends input output ending now

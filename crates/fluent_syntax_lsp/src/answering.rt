@@ -1,0 +1,197 @@
+//! What a request asks for.
+ghost use Rattle.std.specs.Prelude.{◌≡◌, is_some, IfOk, OnOk};
+ghost use Rattle.serde_json.specs.View.{view};
+ghost use Rattle.fluent_syntax_lsp.specs.Opened.{texts};
+ghost use Rattle.fluent_syntax_lsp.specs.Sessions.{IsFound, IsFoundAtPlace, fits, names_open, names_place};
+ghost use Rattle.fluent_syntax_lsp.specs.Sessions.{session_of};
+
+use crate::asked::Asked;
+use crate::completion::completion;
+use crate::documents::Document;
+use crate::formatting::formatted;
+use crate::highlights::{highlights_of, numbers_of};
+use crate::known::{Known, known_documents};
+use crate::methods::Method;
+use crate::occurrences::bytes_of;
+use crate::offsets::byte_of;
+use crate::params::{asked_place, new_name, takes_related, uri_of, wanted_by};
+use crate::places::Places;
+use crate::renaming::renaming;
+use crate::replies::{capabilities, fold_list, known_symbol, symbol_list, token_list, whole_edit};
+use crate::server::Server;
+use crate::symbols::{folds_in, symbols_in};
+use crate::workspace::Workspace;
+use serde_json::Value;
+use std::alloc::AllocError;
+
+impl Server {
+    /// What a request of the method asks for. None where its parameters name no open document, or not what the method
+    /// wants beside it.
+    pub(crate) fn found(
+        &mut self,
+        method: Option<Method>,
+        message: &Value,
+    ) -> Result<Option<Value>, AllocError>
+        ensures same { OnOk result (session_of self.new ≡ session_of self.old) }
+        ensures found { IfOk result (λ found.
+            IsFound method (fits (texts self.old.documents) (view message.now) method) (is_some found)) }
+    {
+        match method {
+            Some(Method::Initialize) => {
+                self.related = takes_related(message);
+                self.workspace = Workspace::told(self.alloc, message)?;
+                Ok(Some(capabilities(self.alloc)?))
+            }
+            Some(Method::DocumentSymbol) => self.symbols(message),
+            Some(Method::Formatting) => self.formatting(message),
+            Some(Method::FoldingRange) => self.folds(message),
+            Some(Method::SemanticTokens) => self.tokens(message),
+            Some(Method::WorkspaceSymbol) => Ok(Some(self.known_symbols(message)?)),
+            Some(
+                Method::Definition
+                | Method::References
+                | Method::DocumentHighlight
+                | Method::Hover
+                | Method::Rename
+                | Method::Completion,
+            ) => self.told_of_place(method, message),
+            _ => Ok(Some(Value::Null)),
+        }
+    }
+
+    /// The open document that the message names.
+    fn document_of(&self, message: &Value) -> Option<&Document>
+        ensures { is_some result ≡ names_open (texts self.now.documents) (view message.now) }
+    {
+        Some(&self.documents.get(uri_of(message)?)?.document)
+    }
+
+    fn symbols(&self, message: &Value) -> Result<Option<Value>, AllocError>
+        ensures { IfOk result (λ found. is_some found ≡ names_open (texts self.now.documents) (view message.now)) }
+    {
+        let Some(document) = self.document_of(message) else {
+            return Ok(None);
+        };
+        let symbols = symbols_in(self.alloc, document)?;
+        Ok(Some(symbol_list(self.alloc, document.text(), &symbols)?))
+    }
+
+    fn folds(&self, message: &Value) -> Result<Option<Value>, AllocError>
+        ensures { IfOk result (λ found. is_some found ≡ names_open (texts self.now.documents) (view message.now)) }
+    {
+        let Some(document) = self.document_of(message) else {
+            return Ok(None);
+        };
+        let folds = folds_in(self.alloc, document)?;
+        Ok(Some(fold_list(self.alloc, &folds)?))
+    }
+
+    fn tokens(&self, message: &Value) -> Result<Option<Value>, AllocError>
+        ensures { IfOk result (λ found. is_some found ≡ names_open (texts self.now.documents) (view message.now)) }
+    {
+        let Some(document) = self.document_of(message) else {
+            return Ok(None);
+        };
+        let tokens = document.tokens(self.alloc)?;
+        let highlights = highlights_of(self.alloc, document.text(), &tokens)?;
+        let numbers = numbers_of(self.alloc, &highlights)?;
+        Ok(Some(token_list(self.alloc, &numbers)?))
+    }
+
+    /// The edit that formats the document; null where it stays as it is.
+    fn formatting(&self, message: &Value) -> Result<Option<Value>, AllocError>
+        ensures { IfOk result (λ found. is_some found ≡ names_open (texts self.now.documents) (view message.now)) }
+    {
+        let Some(document) = self.document_of(message) else {
+            return Ok(None);
+        };
+        let text = document.text();
+        match formatted(self.alloc, text)? {
+            Some(written) if written.as_str() != text => {
+                Ok(Some(whole_edit(self.alloc, text, written.as_str())?))
+            }
+            _ => Ok(Some(Value::Null)),
+        }
+    }
+
+    /// The open documents and the closed files.
+    fn known(&self) -> Result<Vec<Known<'_>>, AllocError> {
+        known_documents(self.alloc, self.documents.by_name(), self.workspace.files())
+    }
+
+    /// What a request asks of. None where it names no open document, or no place.
+    fn asked(&self, message: &Value) -> Result<Option<Asked<'_>>, AllocError>
+        ensures { IfOk result (λ found. is_some found ≡ names_place (texts self.now.documents) (view message.now)) }
+    {
+        let (Some(uri), Some(place)) = (uri_of(message), asked_place(message)) else {
+            return Ok(None);
+        };
+        let documents = self.known()?;
+        if !self.documents.contains(uri) {
+            return Ok(None);
+        }
+        let Some(number) = documents.iter().position(|known| known.uri == uri) else {
+            return Ok(None);
+        };
+        let byte = byte_of(documents[number].text, place);
+        let original = self
+            .workspace
+            .original_of(self.alloc, documents[number].path)?;
+        let original = documents
+            .iter()
+            .position(|known| original.as_deref() == Some(known.path));
+        Ok(Some(Asked {
+            documents,
+            number,
+            byte,
+            original,
+        }))
+    }
+
+    /// What is told of a place.
+    fn told_of_place(
+        &self,
+        method: Option<Method>,
+        message: &Value,
+    ) -> Result<Option<Value>, AllocError>
+        ensures { IfOk result (λ found.
+            IsFoundAtPlace method (fits (texts self.now.documents) (view message.now) method) (is_some found)) }
+    {
+        let Some(asked) = self.asked(message)? else {
+            return Ok(None);
+        };
+        match method {
+            Some(Method::Definition) => Ok(Some(asked.definitions(self.alloc)?)),
+            Some(Method::References) => {
+                Ok(Some(asked.locations(self.alloc, wanted_by(message))?))
+            }
+            Some(Method::DocumentHighlight) => Ok(Some(asked.highlights(self.alloc)?)),
+            Some(Method::Hover) => Ok(Some(asked.hover(self.alloc)?)),
+            Some(Method::Completion) => Ok(Some(completion(self.alloc, &asked)?)),
+            Some(Method::Rename) => match new_name(message) {
+                Some(name) => renaming(self.alloc, &asked, name),
+                None => Ok(None),
+            },
+            _ => Ok(None),
+        }
+    }
+
+    /// What the open documents and the closed files define whose name has the text that is asked for in it.
+    fn known_symbols(&self, message: &Value) -> Result<Value, AllocError> {
+        let query = message
+            .pointer("/params/query")
+            .and_then(Value::as_str)
+            .unwrap_or("");
+        let mut list = Vec::new(self.alloc);
+        for known in self.known()?.iter() {
+            let mut places = Places::new(known.text);
+            for occurrence in known.occurrences() {
+                let shown = bytes_of(known.text, occurrence.place());
+                if occurrence.defines && shown.contains(query) {
+                    list.push(known_symbol(self.alloc, known, &mut places, *occurrence)?)?;
+                }
+            }
+        }
+        Ok(Value::Array(list))
+    }
+}
