@@ -9,3 +9,4 @@ pub mod PlaceLemmas
 pub mod RemarkLemmas
 pub mod TokenTiles
 pub mod OpenedLemmas
+pub mod KnownLemmas

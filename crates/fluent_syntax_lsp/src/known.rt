@@ -1,5 +1,7 @@
 //! The open documents and the closed files, with their names.
 ghost use Rattle.std.specs.Prelude.{◌≡◌, IfOk, filter, map};
+ghost use Rattle.fluent_syntax_lsp.specs.Known.{AreKnown, AreKnownClosed, AreKnownOpen, files_beside, has_path};
+ghost use Rattle.fluent_syntax_lsp.specs.Known.{IsKnownClosed, IsKnownOpen};
 ghost use Rattle.fluent_syntax_lsp.specs.Known.{is_wanted, places_of};
 
 use crate::closed::Closed;
@@ -44,50 +46,93 @@ pub enum Names<'d> {
 }
 
 /// All open documents with their names, in the order of their URIs, and then all files of the workspace that are not
-/// open, in the order of their paths.
+/// open, in the order of their paths. `AllocError` where a growth was refused.
 pub fn known_documents<'d>(
     alloc: Global,
     documents: &'d BTreeMap<String, Open>,
     files: &'d BTreeMap<String, Closed>,
-) -> Result<Vec<Known<'d>>, AllocError> {
+) -> Result<Vec<Known<'d>>, AllocError>
+    ensures { IfOk result (λ found. AreKnown documents.now files.now found.items) }
+{
+    let mut found = open_documents(alloc, documents)?;
+    let mut closed = files_beside(alloc, &found, files)?;
+    found.append(&mut closed)?;
+    Ok(found)
+}
+
+/// The open documents with their names, in the order of their URIs.
+fn open_documents<'d>(
+    alloc: Global,
+    documents: &'d BTreeMap<String, Open>,
+) -> Result<Vec<Known<'d>>, AllocError>
+    ensures { IfOk result (λ found. AreKnownOpen documents.now.entries found.items) }
+{
     let mut found = Vec::new(alloc);
     for (uri, open) in documents.iter() {
-        found.push(Known {
-            uri: uri.as_str(),
-            path: match &open.path {
-                Some(path) => path.as_str(),
-                None => uri.as_str(),
-            },
-            version: open.version,
-            text: open.document.text(),
-            names: Names::Open {
-                document: &open.document,
-                occurrences: open.document.occurrences(alloc)?,
-            },
-        })?;
+        found.push(open.known(alloc, uri)?)?;
     }
-    let opened = found.len();
+    Ok(found)
+}
+
+/// The files whose path none of the documents has, in the order of their paths.
+fn files_beside<'d>(
+    alloc: Global,
+    documents: &[Known<'_>],
+    files: &'d BTreeMap<String, Closed>,
+) -> Result<Vec<Known<'d>>, AllocError>
+    ensures { IfOk result
+        (λ found. AreKnownClosed (files_beside documents.now files.now.entries) found.items) }
+{
+    let mut found = Vec::new(alloc);
     for (path, file) in files.iter() {
         let path = path.as_str();
-        if !is_among(&found, opened, path) {
-            found.push(Known {
-                uri: file.uri.as_str(),
-                path,
-                version: None,
-                text: file.text.as_str(),
-                names: Names::Closed(file.occurrences.as_slice()),
-            })?;
+        if !has_path(documents, path) {
+            found.push(known_file(path, file))?;
         }
     }
     Ok(found)
 }
 
-/// Whether one of the first documents is that of the path.
-fn is_among(documents: &[Known<'_>], opened: usize, path: &str) -> bool {
-    documents
-        .iter()
-        .take(opened)
-        .any(|known| known.path == path)
+impl Open {
+    /// What is known of the document that is open under the URI.
+    fn known<'d>(&'d self, alloc: Global, uri: &'d str) -> Result<Known<'d>, AllocError>
+        ensures { IfOk result (IsKnownOpen uri.now self.now) }
+    {
+        let occurrences = self.document.occurrences(alloc)?;
+        Ok(Known {
+            uri,
+            path: match &self.path {
+                Some(path) => path.as_str(),
+                None => uri,
+            },
+            version: self.version,
+            text: self.document.text(),
+            names: Names::Open {
+                document: &self.document,
+                occurrences,
+            },
+        })
+    }
+}
+
+/// What is known of the closed file at the path.
+fn known_file<'d>(path: &'d str, file: &'d Closed) -> Known<'d>
+    ensures { IsKnownClosed path.now file.now result }
+{
+    Known {
+        uri: file.uri.as_str(),
+        path,
+        version: None,
+        text: file.text.as_str(),
+        names: Names::Closed(file.occurrences.as_slice()),
+    }
+}
+
+/// Whether one of the documents has the path.
+fn has_path(documents: &[Known<'_>], path: &str) -> bool
+    ensures { result ≡ has_path documents.now path.now }
+{
+    documents.iter().any(|known| known.path == path)
 }
 
 /// Which places of a name are looked for.
