@@ -1,5 +1,5 @@
 -- The open documents and the closed files, and where a name stands in them.
-use Rattle.std.specs.Prelude.{◌≡◌, ℕ, Bool, true, ◌&&◌, List, ◌++◌, filter, map, not, Option, None, Some}
+use Rattle.std.specs.Prelude.{◌≡◌, ℕ, Bool, true, ◌&&◌, List, ◌++◌, filter, map, not, Option, None, Some, option_map}
 use Rattle.std.specs.Prelude.{String, string_bytes}
 use Rattle.std.specs.BTreeMap.{BTreeMap}
 use Rattle.std.specs.List.{AllZip, list_any}
@@ -7,7 +7,8 @@ use Rattle.std.specs.Str.{bytes_eq}
 use Rattle.std.specs.declared.alloc.Global.{Global}
 use Rattle.fluent_syntax_tree.specs.declared.spans.Span.{Span}
 use Rattle.fluent_syntax_lsp.specs.Documents.{document_text}
-use Rattle.fluent_syntax_lsp.specs.Occurrences.{is_named, OccursIn, place_of}
+use Rattle.fluent_syntax_lsp.specs.Occurrences.{is_named, name_of, NameText, occurrence_at, OccursIn}
+use Rattle.fluent_syntax_lsp.specs.Occurrences.{place_of}
 use Rattle.fluent_syntax_lsp.specs.declared.closed.Closed.{Closed}
 use Rattle.fluent_syntax_lsp.specs.declared.documents.Document.{Document}
 use Rattle.fluent_syntax_lsp.specs.declared.known.Known.{Known}
@@ -16,7 +17,6 @@ use Rattle.fluent_syntax_lsp.specs.declared.known.Names.TheVariants as names
 use Rattle.fluent_syntax_lsp.specs.declared.known.Open.{Open}
 use Rattle.fluent_syntax_lsp.specs.declared.known.Wanted.{Wanted}
 use Rattle.fluent_syntax_lsp.specs.declared.known.Wanted.TheVariants as wants
-use Rattle.fluent_syntax_lsp.specs.declared.occurrences.Name.{Name}
 use Rattle.fluent_syntax_lsp.specs.declared.occurrences.Occurrence.{Occurrence}
 
 -- which places of a name are looked for
@@ -26,8 +26,25 @@ is_wanted wants.References o = not o.defines
 is_wanted wants.All o = true
 
 -- where this name stands in the text, of the names in it, in their order
-abbrev pub places_of : List ℕ → List Occurrence → Name → Wanted → List Span
+abbrev pub places_of : List ℕ → List Occurrence → NameText → Wanted → List Span
 places_of t occurrences name wanted = map place_of (filter (λ o. is_wanted wanted o && is_named t o name) occurrences)
+
+-- the names in a document or file, in order
+abbrev pub names_in : Names → List Occurrence
+names_in (names.Open document occurrences) = occurrences.items
+names_in (names.Closed occurrences) = occurrences.now
+
+-- where this name stands in a document or file
+abbrev pub places_in : NameText → Wanted → Known → List Span
+places_in name wanted known = places_of known.text.now (names_in known.names) name wanted
+
+-- the name at the byte of a document or file, or that ends there
+abbrev pub name_in : ℕ → Known → Option NameText
+name_in byte known = option_map (name_of known.text.now) (occurrence_at byte (names_in known.names))
+
+-- it defines this name
+abbrev pub defines : NameText → Known → Bool
+defines name known = list_any (λ o. o.defines && is_named known.text.now o name) (names_in known.names)
 
 -- ---- The open documents and the closed files
 

@@ -2,7 +2,8 @@
 ghost use Rattle.std.specs.Prelude.{◌≡◌, IfOk, filter, map};
 ghost use Rattle.fluent_syntax_lsp.specs.Known.{AreKnown, AreKnownClosed, AreKnownOpen, files_beside, has_path};
 ghost use Rattle.fluent_syntax_lsp.specs.Known.{IsKnownClosed, IsKnownOpen};
-ghost use Rattle.fluent_syntax_lsp.specs.Known.{is_wanted, places_of};
+ghost use Rattle.fluent_syntax_lsp.specs.Known.{defines, is_wanted, names_in, places_in, places_of};
+ghost use Rattle.fluent_syntax_lsp.specs.Occurrences.{name_text, occurrence_at};
 
 use crate::closed::Closed;
 use crate::documents::Document;
@@ -158,7 +159,9 @@ impl Wanted {
 
 impl Known<'_> {
     /// The names in it, in order.
-    pub fn occurrences(&self) -> &[Occurrence] {
+    pub fn occurrences(&self) -> &[Occurrence]
+        ensures { result.now ≡ names_in self.now.names }
+    {
         match &self.names {
             Names::Open { occurrences, .. } => occurrences.as_slice(),
             Names::Closed(occurrences) => occurrences,
@@ -166,14 +169,10 @@ impl Known<'_> {
     }
 
     /// The name at the byte, or that ends there; of two the one that begins there.
-    pub fn occurrence_at(&self, byte: usize) -> Option<Occurrence> {
-        let mut found = None;
-        for occurrence in self.occurrences() {
-            if occurrence.is_at(byte) {
-                found = Some(*occurrence);
-            }
-        }
-        found
+    pub fn occurrence_at(&self, byte: usize) -> Option<Occurrence>
+        ensures { result ≡ occurrence_at byte (names_in self.now.names) }
+    {
+        occurrence_in(self.occurrences(), byte)
     }
 
     /// Where the name stands, in order.
@@ -182,8 +181,19 @@ impl Known<'_> {
         alloc: Global,
         name: Name<'_>,
         wanted: Wanted,
-    ) -> Result<Vec<Span>, AllocError> {
+    ) -> Result<Vec<Span>, AllocError>
+        ensures { IfOk result (λ found. found.items ≡ places_in (name_text name.entry) wanted self.now) }
+    {
         places_in(alloc, self.text, self.occurrences(), name, wanted)
+    }
+
+    /// Whether it defines the name.
+    pub fn defines(&self, name: Name<'_>) -> bool
+        ensures { result ≡ defines (name_text name.entry) self.now }
+    {
+        self.occurrences()
+            .iter()
+            .any(|found| found.defines && is_named(self.text, found, name))
     }
 
     /// The entry or junk at the byte, as it stands in the text, with the comment that hangs on it. None where there is
@@ -204,6 +214,19 @@ fn entry_of(alloc: Global, document: &Document, byte: usize) -> Result<Option<St
     }
 }
 
+/// The last of these names that stands at the byte or ends there.
+fn occurrence_in(occurrences: &[Occurrence], byte: usize) -> Option<Occurrence>
+    ensures { result ≡ occurrence_at byte occurrences.now }
+{
+    let mut found = None;
+    for occurrence in occurrences {
+        if occurrence.is_at(byte) {
+            found = Some(*occurrence);
+        }
+    }
+    found
+}
+
 /// Where the name stands in a text with these names, in order.
 fn places_in(
     alloc: Global,
@@ -212,7 +235,7 @@ fn places_in(
     name: Name<'_>,
     wanted: Wanted,
 ) -> Result<Vec<Span>, AllocError>
-    ensures { IfOk result (λ found. found.items ≡ places_of text.now occurrences.now name.entry wanted) }
+    ensures { IfOk result (λ found. found.items ≡ places_of text.now occurrences.now (name_text name.entry) wanted) }
 {
     let mut found = Vec::new(alloc);
     for occurrence in occurrences {
