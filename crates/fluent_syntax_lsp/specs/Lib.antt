@@ -15,6 +15,7 @@ pub mod Highlights
 pub mod Occurrences
 pub mod Ignored
 pub mod Known
+pub mod Locations
 pub mod Offsets
 pub mod Own
 pub mod Remarks

@@ -1,7 +1,8 @@
 -- The names in a text, each where it stands.
 use Rattle.std.specs.Prelude.{◌≡◌, ℕ, Bool, true, false, ◌&&◌, nat_le, List, [], ◌∷◌, ◌++◌, Option, None, Some, length}
-use Rattle.std.specs.Prelude.{if◌then◌else◌, slice_range}
+use Rattle.std.specs.Prelude.{◌||◌, nat_lt, if◌then◌else◌, slice_index, slice_range, filter, option_map}
 use Rattle.std.specs.Borrow.{Bor}
+use Rattle.std.specs.List.{last_or}
 use Rattle.std.specs.Str.{bytes_eq}
 use Rattle.fluent_syntax_tree.specs.declared.spans.Span.{Span}
 use Rattle.fluent_syntax_names.specs.declared.mention.Mention.{Mention}
@@ -87,13 +88,49 @@ cut t span =
     if nat_le span.start span.end && nat_le span.end (length t) then slice_range t span.start span.end else []
 
 -- the range has this attribute's name, or there are none
-abbrev pub is_attribute : List ℕ → Option Span → Option (Bor (List ℕ)) → Bool
+abbrev pub is_attribute : List ℕ → Option Span → Option (List ℕ) → Bool
 is_attribute t None None = true
 is_attribute t None (Some attribute) = false
 is_attribute t (Some span) None = false
-is_attribute t (Some span) (Some attribute) = bytes_eq (cut t span) attribute.now
+is_attribute t (Some span) (Some attribute) = bytes_eq (cut t span) attribute
+
+-- What a name is one of, its bytes, and those of its attribute, where it is that of one.
+pub record NameText : Type 0 where
+  pub kind : NameKind
+  pub name : List ℕ
+  pub attribute : Option (List ℕ)
+
+abbrev pub now_of : Option (Bor (List ℕ)) → Option (List ℕ)
+now_of None = None
+now_of (Some text) = Some text.now
+
+abbrev pub name_text : Name → NameText
+name_text name = record { kind = name.kind; name = name.name.now; attribute = now_of name.attribute }
 
 -- it is this name that occurs in the text
-abbrev pub is_named : List ℕ → Occurrence → Name → Bool
+abbrev pub is_named : List ℕ → Occurrence → NameText → Bool
 is_named t o name =
-    is_same_kind o.kind name.kind && bytes_eq (cut t o.name) name.name.now && is_attribute t o.attribute name.attribute
+    is_same_kind o.kind name.kind && bytes_eq (cut t o.name) name.name && is_attribute t o.attribute name.attribute
+
+-- a character begins at the byte, or the text ends there
+abbrev pub is_boundary : List ℕ → ℕ → Bool
+is_boundary t at = nat_le at (length t) && (nat_lt (slice_index t at) 128 || nat_le 192 (slice_index t at))
+
+-- the text of a range of whole characters; none where there is no such range
+abbrev pub text_in : List ℕ → Span → List ℕ
+text_in t span =
+    if nat_le span.start span.end && is_boundary t span.start && is_boundary t span.end
+    then slice_range t span.start span.end else []
+
+-- the name that occurs in the text
+abbrev pub name_of : List ℕ → Occurrence → NameText
+name_of t o =
+    record { kind = o.kind; name = text_in t o.name; attribute = option_map (text_in t) o.attribute }
+
+-- it stands at the byte, or ends there
+abbrev pub is_at : ℕ → Occurrence → Bool
+is_at byte o = nat_le (place_of o).start byte && nat_le byte (place_of o).end
+
+-- the last of these names that stands at the byte or ends there: of two the one that begins there
+abbrev pub occurrence_at : ℕ → List Occurrence → Option Occurrence
+occurrence_at byte occurrences = last_or None (filter (is_at byte) occurrences)

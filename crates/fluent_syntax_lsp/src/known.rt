@@ -1,6 +1,9 @@
 //! The open documents and the closed files, with their names.
 ghost use Rattle.std.specs.Prelude.{◌≡◌, IfOk, filter, map};
-ghost use Rattle.fluent_syntax_lsp.specs.Known.{is_wanted, places_of};
+ghost use Rattle.fluent_syntax_lsp.specs.Known.{AreKnown, AreKnownClosed, AreKnownOpen, files_beside, has_path};
+ghost use Rattle.fluent_syntax_lsp.specs.Known.{IsKnownClosed, IsKnownOpen};
+ghost use Rattle.fluent_syntax_lsp.specs.Known.{defines, is_wanted, names_in, places_in, places_of};
+ghost use Rattle.fluent_syntax_lsp.specs.Occurrences.{name_text, occurrence_at};
 
 use crate::closed::Closed;
 use crate::documents::Document;
@@ -44,50 +47,93 @@ pub enum Names<'d> {
 }
 
 /// All open documents with their names, in the order of their URIs, and then all files of the workspace that are not
-/// open, in the order of their paths.
+/// open, in the order of their paths. `AllocError` where a growth was refused.
 pub fn known_documents<'d>(
     alloc: Global,
     documents: &'d BTreeMap<String, Open>,
     files: &'d BTreeMap<String, Closed>,
-) -> Result<Vec<Known<'d>>, AllocError> {
+) -> Result<Vec<Known<'d>>, AllocError>
+    ensures { IfOk result (λ found. AreKnown documents.now files.now found.items) }
+{
+    let mut found = open_documents(alloc, documents)?;
+    let mut closed = files_beside(alloc, &found, files)?;
+    found.append(&mut closed)?;
+    Ok(found)
+}
+
+/// The open documents with their names, in the order of their URIs.
+fn open_documents<'d>(
+    alloc: Global,
+    documents: &'d BTreeMap<String, Open>,
+) -> Result<Vec<Known<'d>>, AllocError>
+    ensures { IfOk result (λ found. AreKnownOpen documents.now.entries found.items) }
+{
     let mut found = Vec::new(alloc);
     for (uri, open) in documents.iter() {
-        found.push(Known {
-            uri: uri.as_str(),
-            path: match &open.path {
-                Some(path) => path.as_str(),
-                None => uri.as_str(),
-            },
-            version: open.version,
-            text: open.document.text(),
-            names: Names::Open {
-                document: &open.document,
-                occurrences: open.document.occurrences(alloc)?,
-            },
-        })?;
+        found.push(open.known(alloc, uri)?)?;
     }
-    let opened = found.len();
+    Ok(found)
+}
+
+/// The files whose path none of the documents has, in the order of their paths.
+fn files_beside<'d>(
+    alloc: Global,
+    documents: &[Known<'_>],
+    files: &'d BTreeMap<String, Closed>,
+) -> Result<Vec<Known<'d>>, AllocError>
+    ensures { IfOk result
+        (λ found. AreKnownClosed (files_beside documents.now files.now.entries) found.items) }
+{
+    let mut found = Vec::new(alloc);
     for (path, file) in files.iter() {
         let path = path.as_str();
-        if !is_among(&found, opened, path) {
-            found.push(Known {
-                uri: file.uri.as_str(),
-                path,
-                version: None,
-                text: file.text.as_str(),
-                names: Names::Closed(file.occurrences.as_slice()),
-            })?;
+        if !has_path(documents, path) {
+            found.push(known_file(path, file))?;
         }
     }
     Ok(found)
 }
 
-/// Whether one of the first documents is that of the path.
-fn is_among(documents: &[Known<'_>], opened: usize, path: &str) -> bool {
-    documents
-        .iter()
-        .take(opened)
-        .any(|known| known.path == path)
+impl Open {
+    /// What is known of the document that is open under the URI.
+    fn known<'d>(&'d self, alloc: Global, uri: &'d str) -> Result<Known<'d>, AllocError>
+        ensures { IfOk result (IsKnownOpen uri.now self.now) }
+    {
+        let occurrences = self.document.occurrences(alloc)?;
+        Ok(Known {
+            uri,
+            path: match &self.path {
+                Some(path) => path.as_str(),
+                None => uri,
+            },
+            version: self.version,
+            text: self.document.text(),
+            names: Names::Open {
+                document: &self.document,
+                occurrences,
+            },
+        })
+    }
+}
+
+/// What is known of the closed file at the path.
+fn known_file<'d>(path: &'d str, file: &'d Closed) -> Known<'d>
+    ensures { IsKnownClosed path.now file.now result }
+{
+    Known {
+        uri: file.uri.as_str(),
+        path,
+        version: None,
+        text: file.text.as_str(),
+        names: Names::Closed(file.occurrences.as_slice()),
+    }
+}
+
+/// Whether one of the documents has the path.
+fn has_path(documents: &[Known<'_>], path: &str) -> bool
+    ensures { result ≡ has_path documents.now path.now }
+{
+    documents.iter().any(|known| known.path == path)
 }
 
 /// Which places of a name are looked for.
@@ -113,7 +159,9 @@ impl Wanted {
 
 impl Known<'_> {
     /// The names in it, in order.
-    pub fn occurrences(&self) -> &[Occurrence] {
+    pub fn occurrences(&self) -> &[Occurrence]
+        ensures { result.now ≡ names_in self.now.names }
+    {
         match &self.names {
             Names::Open { occurrences, .. } => occurrences.as_slice(),
             Names::Closed(occurrences) => occurrences,
@@ -121,14 +169,10 @@ impl Known<'_> {
     }
 
     /// The name at the byte, or that ends there; of two the one that begins there.
-    pub fn occurrence_at(&self, byte: usize) -> Option<Occurrence> {
-        let mut found = None;
-        for occurrence in self.occurrences() {
-            if occurrence.is_at(byte) {
-                found = Some(*occurrence);
-            }
-        }
-        found
+    pub fn occurrence_at(&self, byte: usize) -> Option<Occurrence>
+        ensures { result ≡ occurrence_at byte (names_in self.now.names) }
+    {
+        occurrence_in(self.occurrences(), byte)
     }
 
     /// Where the name stands, in order.
@@ -137,8 +181,19 @@ impl Known<'_> {
         alloc: Global,
         name: Name<'_>,
         wanted: Wanted,
-    ) -> Result<Vec<Span>, AllocError> {
+    ) -> Result<Vec<Span>, AllocError>
+        ensures { IfOk result (λ found. found.items ≡ places_in (name_text name.entry) wanted self.now) }
+    {
         places_in(alloc, self.text, self.occurrences(), name, wanted)
+    }
+
+    /// Whether it defines the name.
+    pub fn defines(&self, name: Name<'_>) -> bool
+        ensures { result ≡ defines (name_text name.entry) self.now }
+    {
+        self.occurrences()
+            .iter()
+            .any(|found| found.defines && is_named(self.text, found, name))
     }
 
     /// The entry or junk at the byte, as it stands in the text, with the comment that hangs on it. None where there is
@@ -159,6 +214,19 @@ fn entry_of(alloc: Global, document: &Document, byte: usize) -> Result<Option<St
     }
 }
 
+/// The last of these names that stands at the byte or ends there.
+fn occurrence_in(occurrences: &[Occurrence], byte: usize) -> Option<Occurrence>
+    ensures { result ≡ occurrence_at byte occurrences.now }
+{
+    let mut found = None;
+    for occurrence in occurrences {
+        if occurrence.is_at(byte) {
+            found = Some(*occurrence);
+        }
+    }
+    found
+}
+
 /// Where the name stands in a text with these names, in order.
 fn places_in(
     alloc: Global,
@@ -167,7 +235,7 @@ fn places_in(
     name: Name<'_>,
     wanted: Wanted,
 ) -> Result<Vec<Span>, AllocError>
-    ensures { IfOk result (λ found. found.items ≡ places_of text.now occurrences.now name.entry wanted) }
+    ensures { IfOk result (λ found. found.items ≡ places_of text.now occurrences.now (name_text name.entry) wanted) }
 {
     let mut found = Vec::new(alloc);
     for occurrence in occurrences {

@@ -1,7 +1,8 @@
 //! The names in a text, each where it stands.
 ghost use Rattle.std.specs.Prelude.{◌≡◌, ◌∷◌, false, IfOk, None, OnOk, Some};
 ghost use Rattle.fluent_syntax_lsp.specs.Occurrences.{AddsMention, AddsNames, attribute_of, named, occurrences};
-ghost use Rattle.fluent_syntax_lsp.specs.Occurrences.{cut, is_attribute, is_named, is_same_kind, place_of};
+ghost use Rattle.fluent_syntax_lsp.specs.Occurrences.{cut, is_at, is_attribute, is_named, is_same_kind, name_of};
+ghost use Rattle.fluent_syntax_lsp.specs.Occurrences.{name_text, now_of, place_of, text_in};
 ghost use Rattle.fluent_syntax_lsp.specs.Remarks.{IsCut};
 
 use fluent_syntax::spans::Span;
@@ -53,7 +54,9 @@ impl Occurrence {
     }
 
     /// Whether it stands at the byte or ends there.
-    pub fn is_at(&self, byte: usize) -> bool {
+    pub fn is_at(&self, byte: usize) -> bool
+        ensures { result ≡ is_at byte self.now }
+    {
         let place = self.place();
         place.start <= byte && byte <= place.end
     }
@@ -74,9 +77,15 @@ pub struct Name<'t> {
 
 /// The bytes of a range of the text; none where it has no such range.
 pub fn bytes_of(text: &str, span: Span) -> &str
-    ensures { IsCut text.now span result.now }
+    ensures cut { IsCut text.now span result.now }
+    ensures text { result.now ≡ text_in text.now span }
 {
-    text.get(span.start..span.end).unwrap_or("")
+    let (start, end) = (span.start, span.end);
+    if start <= end && text.is_char_boundary(start) && text.is_char_boundary(end) {
+        &text[start..end]
+    } else {
+        ""
+    }
 }
 
 /// The bytes of a range of the text; none where it has no such range.
@@ -92,7 +101,7 @@ fn cut(text: &[u8], span: Span) -> &[u8]
 
 /// Whether it is this name that occurs in the text.
 pub fn is_named(text: &str, occurrence: &Occurrence, name: Name<'_>) -> bool
-    ensures { result ≡ is_named text.now occurrence.now name.entry }
+    ensures { result ≡ is_named text.now occurrence.now (name_text name.entry) }
 {
     let text = text.as_bytes();
     is_same_kind(occurrence.kind, name.kind)
@@ -114,7 +123,7 @@ fn is_same_kind(a: NameKind, b: NameKind) -> bool
 
 /// Whether the range has this attribute's name, or there are none.
 fn is_attribute(text: &[u8], span: Option<Span>, attribute: Option<&str>) -> bool
-    ensures { result ≡ is_attribute text.now span attribute.entry }
+    ensures { result ≡ is_attribute text.now span (now_of attribute.entry) }
 {
     match (span, attribute) {
         (None, None) => true,
@@ -124,11 +133,16 @@ fn is_attribute(text: &[u8], span: Option<Span>, attribute: Option<&str>) -> boo
 }
 
 /// The name that occurs in the text.
-pub fn name_of(text: &str, occurrence: Occurrence) -> Name<'_> {
+pub fn name_of(text: &str, occurrence: Occurrence) -> Name<'_>
+    ensures { name_text result ≡ name_of text.now occurrence }
+{
     Name {
         kind: occurrence.kind,
         name: bytes_of(text, occurrence.name),
-        attribute: occurrence.attribute.map(|span| bytes_of(text, span)),
+        attribute: match occurrence.attribute {
+            None => None,
+            Some(span) => Some(bytes_of(text, span)),
+        },
     }
 }
 

@@ -2,6 +2,8 @@
 ghost use Rattle.std.specs.Prelude.{◌≡◌, IfOk};
 ghost use Rattle.serde_json.specs.Data.{Data};
 ghost use Rattle.serde_json.specs.View.{view};
+ghost use Rattle.fluent_syntax_lsp.specs.Locations.{document_edits_form, edit_form, highlight_form, location_form};
+ghost use Rattle.fluent_syntax_lsp.specs.Locations.{place_form, range_form, span_form};
 ghost use Rattle.fluent_syntax_lsp.specs.Replies.{answer_form, diagnostics_form, refusal_form, watch_form};
 
 use crate::known::Known;
@@ -194,7 +196,10 @@ pub fn token_list(alloc: Global, numbers: &[usize]) -> Result<Value, AllocError>
 }
 
 /// The range of a stretch of the text whose places these are.
-fn span_form(alloc: Global, places: &mut Places<'_>, span: Span) -> Result<Value, AllocError> {
+fn span_form(alloc: Global, places: &mut Places<'_>, span: Span) -> Result<Value, AllocError>
+    ensures text { places.new ≡ places.old }
+    ensures form { IfOk result (λ value. view value ≡ span_form places.old span) }
+{
     let start = places.place_or_end(span.start);
     let end = places.place_or_end(span.end);
     range_form(alloc, start, end)
@@ -206,7 +211,10 @@ pub fn location_form(
     uri: &str,
     places: &mut Places<'_>,
     span: Span,
-) -> Result<Value, AllocError> {
+) -> Result<Value, AllocError>
+    ensures text { places.new ≡ places.old }
+    ensures form { IfOk result (λ value. view value ≡ location_form uri.now places.old span) }
+{
     let range = span_form(alloc, places, span)?;
     json!(in alloc; {"uri": uri, "range": range})
 }
@@ -216,7 +224,10 @@ pub fn highlight_form(
     alloc: Global,
     places: &mut Places<'_>,
     span: Span,
-) -> Result<Value, AllocError> {
+) -> Result<Value, AllocError>
+    ensures text { places.new ≡ places.old }
+    ensures form { IfOk result (λ value. view value ≡ highlight_form places.old span) }
+{
     let range = span_form(alloc, places, span)?;
     json!(in alloc; {"range": range})
 }
@@ -227,7 +238,10 @@ pub fn edit_form(
     places: &mut Places<'_>,
     span: Span,
     text: &str,
-) -> Result<Value, AllocError> {
+) -> Result<Value, AllocError>
+    ensures text { places.new ≡ places.old }
+    ensures form { IfOk result (λ value. view value ≡ edit_form places.old text.now span) }
+{
     let range = span_form(alloc, places, span)?;
     json!(in alloc; {"range": range, "newText": text})
 }
@@ -238,7 +252,9 @@ pub fn edits_of_document(
     uri: &str,
     version: Option<i64>,
     edits: Value,
-) -> Result<Value, AllocError> {
+) -> Result<Value, AllocError>
+    ensures { IfOk result (λ value. view value ≡ document_edits_form uri.now version (view edits)) }
+{
     match version {
         Some(version) =>
             json!(in alloc; {"textDocument": {"uri": uri, "version": version}, "edits": edits}),
@@ -280,14 +296,18 @@ pub fn known_symbol(
 }
 
 /// A range, by its two places.
-pub(crate) fn range_form(alloc: Global, start: Place, end: Place) -> Result<Value, AllocError> {
+pub(crate) fn range_form(alloc: Global, start: Place, end: Place) -> Result<Value, AllocError>
+    ensures { IfOk result (λ value. view value ≡ range_form start end) }
+{
     let start = place_form(alloc, start)?;
     let end = place_form(alloc, end)?;
     json!(in alloc; {"start": start, "end": end})
 }
 
 /// A place.
-fn place_form(alloc: Global, place: Place) -> Result<Value, AllocError> {
+fn place_form(alloc: Global, place: Place) -> Result<Value, AllocError>
+    ensures { IfOk result (λ value. view value ≡ place_form place) }
+{
     let (line, character) = (place.line as u64, place.character as u64);
     json!(in alloc; {"line": line, "character": character})
 }

@@ -31,7 +31,7 @@ loop-finding-preserved c = elim c.match-finding.branch [
               span = span;
               range = ap (λ told. told.range) w.in_ok-remark_on.ensures.told ∙ range;
               name = _;
-              named = w.bytes_of.ensures;
+              named = w.bytes_of.ensures.cut;
               said = w.in_ok-remark_on.ensures.message;
             }));
       }
