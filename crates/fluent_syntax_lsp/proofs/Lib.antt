@@ -11,3 +11,4 @@ pub mod TokenTiles
 pub mod OpenedLemmas
 pub mod SessionLemmas
 pub mod KnownLemmas
+pub mod UriLemmas

@@ -104,3 +104,7 @@ pub record AreKnown (documents : BTreeMap (String Global) Open) (files : BTreeMa
   pub all : found ≡ opened ++ closed
   pub of_opened : AreKnownOpen documents.entries opened
   pub of_closed : AreKnownClosed (files_beside opened files.entries) closed
+
+-- one of these has the URI
+abbrev pub has_uri : List Known → (uri : List ℕ) → Bool
+has_uri documents uri = list_any (λ known. bytes_eq known.uri.now uri) documents

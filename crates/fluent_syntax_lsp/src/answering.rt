@@ -1,6 +1,7 @@
 //! What a request asks for.
 ghost use Rattle.std.specs.Prelude.{◌≡◌, is_some, IfOk, OnOk};
 ghost use Rattle.serde_json.specs.View.{view};
+ghost use Rattle.fluent_syntax_lsp.specs.Known.{AreKnown};
 ghost use Rattle.fluent_syntax_lsp.specs.Opened.{texts};
 ghost use Rattle.fluent_syntax_lsp.specs.Sessions.{IsFound, IsFoundAtPlace, fits, names_open, names_place};
 ghost use Rattle.fluent_syntax_lsp.specs.Sessions.{session_of};
@@ -10,7 +11,7 @@ use crate::completion::completion;
 use crate::documents::Document;
 use crate::formatting::formatted;
 use crate::highlights::{highlights_of, numbers_of};
-use crate::known::{Known, known_documents};
+use crate::known::{Known, known_documents, number_of};
 use crate::methods::Method;
 use crate::occurrences::bytes_of;
 use crate::offsets::byte_of;
@@ -115,7 +116,10 @@ impl Server {
     }
 
     /// The open documents and the closed files.
-    fn known(&self) -> Result<Vec<Known<'_>>, AllocError> {
+    fn known(&self) -> Result<Vec<Known<'_>>, AllocError>
+        ensures { IfOk result
+            (λ found. AreKnown self.now.documents.by_name self.now.workspace.files found.items) }
+    {
         known_documents(self.alloc, self.documents.by_name(), self.workspace.files())
     }
 
@@ -126,11 +130,11 @@ impl Server {
         let (Some(uri), Some(place)) = (uri_of(message), asked_place(message)) else {
             return Ok(None);
         };
-        let documents = self.known()?;
         if !self.documents.contains(uri) {
             return Ok(None);
         }
-        let Some(number) = documents.iter().position(|known| known.uri == uri) else {
+        let documents = self.known()?;
+        let Some(number) = number_of(&documents, uri) else {
             return Ok(None);
         };
         let byte = byte_of(documents[number].text, place);

@@ -1,6 +1,7 @@
 //! The open documents and the closed files, with their names.
-ghost use Rattle.std.specs.Prelude.{◌≡◌, IfOk, filter, map};
+ghost use Rattle.std.specs.Prelude.{◌≡◌, ◌<◌, IfOk, IfSome, filter, is_some, length, map};
 ghost use Rattle.fluent_syntax_lsp.specs.Known.{AreKnown, AreKnownClosed, AreKnownOpen, files_beside, has_path};
+ghost use Rattle.fluent_syntax_lsp.specs.Known.{has_uri};
 ghost use Rattle.fluent_syntax_lsp.specs.Known.{IsKnownClosed, IsKnownOpen};
 ghost use Rattle.fluent_syntax_lsp.specs.Known.{defines, is_wanted, names_in, places_in, places_of};
 ghost use Rattle.fluent_syntax_lsp.specs.Occurrences.{name_text, occurrence_at};
@@ -92,6 +93,19 @@ fn files_beside<'d>(
         }
     }
     Ok(found)
+}
+
+/// The number of the first of the documents that has the URI. None where none has it.
+pub fn number_of(documents: &[Known<'_>], uri: &str) -> Option<usize>
+    ensures found { is_some result ≡ has_uri documents.now uri.now }
+    ensures within { IfSome result (λ number. number < length documents.now) }
+{
+    for (number, known) in documents.iter().enumerate() {
+        if known.uri == uri {
+            return Some(number);
+        }
+    }
+    None
 }
 
 impl Open {

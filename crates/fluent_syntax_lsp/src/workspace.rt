@@ -1,4 +1,5 @@
 //! The files of the workspace's folders, as they were read last.
+ghost use Rattle.std.specs.Prelude.{◌≡◌};
 
 use crate::closed::Closed;
 use crate::known::Open;
@@ -103,7 +104,9 @@ impl Workspace {
     }
 
     /// The files, by their paths.
-    pub fn files(&self) -> &BTreeMap<String, Closed> {
+    pub fn files(&self) -> &BTreeMap<String, Closed>
+        ensures { result.now ≡ self.now.files }
+    {
         &self.files
     }
 

@@ -10,4 +10,4 @@ pub returns : goal.returns
 returns c =
     let seen : view Null ≡ null = search rules in
     subst (λ (id : Data). IfOk c.refuse.result (λ sent. IsSent (refused id c.args.code) (option_map view sent))) seen
-      c.refuse.ensures
+    c.refuse.ensures

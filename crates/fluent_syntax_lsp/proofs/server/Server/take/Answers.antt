@@ -40,6 +40,9 @@ returns-in-Response g c =
 pub returns-in-Invalid : goal.returns-in-Invalid
 returns-in-Invalid g c =
     IfOk-weaker c.refuse_unnamed-in-Invalid.result _ _
-      (λ sent is. (refused null InvalidRequest, is,
-        unasked (view c.in-Ok.value) c.in-Ok.ensures.ok.1 (sym c.in-Invalid.ensures)))
-      c.refuse_unnamed-in-Invalid.ensures
+    (λ sent is. (
+      refused null InvalidRequest,
+      is,
+      unasked (view c.in-Ok.value) c.in-Ok.ensures.ok.1 (sym c.in-Invalid.ensures),
+    ))
+    c.refuse_unnamed-in-Invalid.ensures

@@ -4,7 +4,7 @@ use Rattle.serde_json.specs.View.{view}
 use Rattle.fluent_syntax_lsp.specs.Opened.{texts}
 use Rattle.fluent_syntax_lsp.specs.Sessions.{concerns}
 use Rattle.fluent_syntax_lsp.proofs.SessionLemmas.{passed, passed_over, watched}
-use Rattle.fluent_syntax_lsp.proofs.following.Server.follow.Goals as goal
+use Rattle.fluent_syntax_lsp.proofs.server.Server.follow.Goals as goal
 
 pub returns-in_default-clause-follows : goal.returns-in_default-clause-follows
 returns-in_default-clause-follows c =

@@ -6,7 +6,7 @@ use Rattle.fluent_syntax_lsp.specs.Sessions.{passes, session_of}
 use Rattle.fluent_syntax_lsp.specs.declared.methods.Method.TheVariants.{DidSave}
 use Rattle.fluent_syntax_lsp.proofs.SessionLemmas.{not_named, tells_saved}
 use Rattle.std.proofs.Common.{Some}
-use Rattle.fluent_syntax_lsp.proofs.following.Server.save.Goals as goal
+use Rattle.fluent_syntax_lsp.proofs.server.Server.save.Goals as goal
 
 pub returns-in-Some-clause-phase : goal.returns-in-Some-clause-phase
 returns-in-Some-clause-phase c = IfOk-weaker c.publish.result _ _ (λ sent e. ap (λ s. s.phase) e) c.publish.ensures.same

@@ -5,7 +5,7 @@ use Rattle.fluent_syntax_lsp.specs.Sessions.{closes, passes}
 use Rattle.fluent_syntax_lsp.specs.declared.methods.Method.TheVariants.{DidClose}
 use Rattle.fluent_syntax_lsp.proofs.SessionLemmas.{not_named, named_open}
 use Rattle.std.proofs.Common.{Some, ◌∙◌}
-use Rattle.fluent_syntax_lsp.proofs.following.Server.close.Goals as goal
+use Rattle.fluent_syntax_lsp.proofs.server.Server.close.Goals as goal
 
 pub returns-in_default-clause-follows : goal.returns-in_default-clause-follows
 returns-in_default-clause-follows c =

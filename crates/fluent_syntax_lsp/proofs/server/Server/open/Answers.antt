@@ -7,7 +7,7 @@ use Rattle.fluent_syntax_lsp.specs.Replies.{silence, sends_none}
 use Rattle.fluent_syntax_lsp.specs.Sessions.{passes, session_of}
 use Rattle.fluent_syntax_lsp.specs.declared.methods.Method.TheVariants.{DidOpen}
 use Rattle.fluent_syntax_lsp.proofs.SessionLemmas.{no_name, no_text, tells_opened}
-use Rattle.fluent_syntax_lsp.proofs.following.Server.open.Goals as goal
+use Rattle.fluent_syntax_lsp.proofs.server.Server.open.Goals as goal
 
 pub returns-in_default-clause-follows : goal.returns-in_default-clause-follows
 returns-in_default-clause-follows c =

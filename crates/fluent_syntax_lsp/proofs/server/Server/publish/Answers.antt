@@ -1,7 +1,7 @@
 use Rattle.fluent_syntax_lsp.specs.Sessions.{session_of}
 use Rattle.fluent_syntax_lsp.proofs.SessionLemmas.{is_published}
 use Rattle.fluent_syntax_lsp.proofs.SessionLemmas.{unpublished}
-use Rattle.fluent_syntax_lsp.proofs.publishing.Server.publish.Goals as goal
+use Rattle.fluent_syntax_lsp.proofs.server.Server.publish.Goals as goal
 
 pub returns-in_default-clause-sent : goal.returns-in_default-clause-sent
 returns-in_default-clause-sent c =

@@ -1,7 +1,7 @@
 use Rattle.std.proofs.lemmas.Result.{IfOk-weaker}
 use Rattle.fluent_syntax_lsp.proofs.SessionLemmas.{sent_as}
 use Rattle.fluent_syntax_lsp.specs.Replies.{sends_diagnostics}
-use Rattle.fluent_syntax_lsp.proofs.publishing.Server.published.Goals as goal
+use Rattle.fluent_syntax_lsp.proofs.server.Server.published.Goals as goal
 
 pub returns : goal.returns
 returns c =

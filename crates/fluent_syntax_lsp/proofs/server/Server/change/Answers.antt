@@ -11,7 +11,7 @@ use Rattle.fluent_syntax_lsp.specs.declared.changes.Change.{Change}
 use Rattle.fluent_syntax_lsp.specs.declared.methods.Method.TheVariants.{DidChange}
 use Rattle.fluent_syntax_lsp.proofs.SessionLemmas.{edits_of_changes, named_open, not_named, tells_changed}
 use Rattle.fluent_syntax_lsp.proofs.SessionLemmas.{unless_open, unreadable}
-use Rattle.fluent_syntax_lsp.proofs.following.Server.change.Goals as goal
+use Rattle.fluent_syntax_lsp.proofs.server.Server.change.Goals as goal
 
 pub returns-in_default-clause-follows : goal.returns-in_default-clause-follows
 returns-in_default-clause-follows c =
