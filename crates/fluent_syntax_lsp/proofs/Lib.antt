@@ -10,3 +10,4 @@ pub mod RemarkLemmas
 pub mod TokenTiles
 pub mod OpenedLemmas
 pub mod KnownLemmas
+pub mod Gathering

@@ -14,6 +14,7 @@ pub mod Held
 pub mod Highlights
 pub mod Occurrences
 pub mod Ignored
+pub mod Asked
 pub mod Known
 pub mod Locations
 pub mod Offsets

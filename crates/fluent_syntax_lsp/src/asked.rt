@@ -1,7 +1,13 @@
 //! What a request asks of: a place in one of the open documents.
+ghost use Rattle.std.specs.Prelude.{◌≡◌, ◌++◌, IfOk, map, OnOk, option_map, Some};
+ghost use Rattle.serde_json.specs.View.{view};
+ghost use Rattle.fluent_syntax_lsp.specs.Asked.{here, highlights_form, list_form, locations, locations_form};
+ghost use Rattle.fluent_syntax_lsp.specs.Asked.{name_asked};
+ghost use Rattle.fluent_syntax_lsp.specs.Locations.{highlight_form, location_form};
+ghost use Rattle.fluent_syntax_lsp.specs.Occurrences.{name_text};
 
 use crate::known::{Known, Wanted};
-use crate::occurrences::{Name, name_of};
+use crate::occurrences::Name;
 use crate::places::Places;
 use crate::replies::{highlight_form, location_form};
 use fluent_syntax::spans::Span;
@@ -21,31 +27,27 @@ pub struct Asked<'d> {
 
 impl Asked<'_> {
     /// The document that is named.
-    pub fn here(&self) -> Option<&Known<'_>> {
+    pub fn here(&self) -> Option<&Known<'_>>
+        ensures { option_map (λ known. known.now) result ≡ here self.now }
+    {
         self.documents.get(self.number)
     }
 
     /// The name at the place. None where there is none.
-    pub fn name(&self) -> Option<Name<'_>> {
-        let here = self.here()?;
-        Some(name_of(here.text, here.occurrence_at(self.byte)?))
+    pub fn name(&self) -> Option<Name<'_>>
+        ensures { option_map name_text result ≡ name_asked self.now }
+    {
+        self.here()?.name_at(self.byte)
     }
 
     /// Where the name at the place stands in the open documents and the closed files; null where there is no name.
-    pub fn locations(&self, alloc: Global, wanted: Wanted) -> Result<Value, AllocError> {
-        let Some(name) = self.name() else {
-            return Ok(Value::Null);
-        };
-        let mut list = Vec::new(alloc);
-        for known in &self.documents {
-            add_locations(
-                alloc,
-                &mut list,
-                known,
-                &known.places_of(alloc, name, wanted)?,
-            )?;
+    pub fn locations(&self, alloc: Global, wanted: Wanted) -> Result<Value, AllocError>
+        ensures { IfOk result (λ value. view value ≡ locations_form self.now wanted) }
+    {
+        match self.name() {
+            Some(name) => locations_of(alloc, &self.documents, name, wanted),
+            None => Ok(Value::Null),
         }
-        Ok(Value::Array(list))
     }
 
     /// Where the name at the place is defined, in the documents and files that are nearest; null where there is no
@@ -91,16 +93,19 @@ impl Asked<'_> {
     }
 
     /// Where the name at the place stands in its document; null where there is none.
-    pub fn highlights(&self, alloc: Global) -> Result<Value, AllocError> {
-        let (Some(name), Some(here)) = (self.name(), self.here()) else {
+    pub fn highlights(&self, alloc: Global) -> Result<Value, AllocError>
+        ensures { IfOk result (λ value. view value ≡ highlights_form self.now) }
+    {
+        let Some(here) = self.here() else {
             return Ok(Value::Null);
         };
-        let mut list = Vec::new(alloc);
-        let mut places = Places::new(here.text);
-        for span in here.places_of(alloc, name, Wanted::All)?.iter() {
-            list.push(highlight_form(alloc, &mut places, *span)?)?;
+        match here.name_at(self.byte) {
+            Some(name) => {
+                let found = here.places_of(alloc, name, Wanted::All)?;
+                highlights_of(alloc, here.text, &found)
+            }
+            None => Ok(Value::Null),
         }
-        Ok(Value::Array(list))
     }
 
     /// The entries that define the name at the place, of the documents and files that are nearest and of the original,
@@ -130,18 +135,52 @@ impl Asked<'_> {
     }
 }
 
+/// Where the name stands in the documents and files, in their order.
+fn locations_of(
+    alloc: Global,
+    documents: &[Known<'_>],
+    name: Name<'_>,
+    wanted: Wanted,
+) -> Result<Value, AllocError>
+    ensures { let found = locations documents.now wanted (name_text name.entry) in
+        IfOk result (λ value. view value ≡ list_form (Some found)) }
+{
+    let mut list = Vec::new(alloc);
+    for known in documents {
+        let places = known.places_of(alloc, name, wanted)?;
+        add_locations(alloc, &mut list, known, &places)?;
+    }
+    Ok(Value::Array(list))
+}
+
 /// Adds the places of a document or file.
 fn add_locations(
     alloc: Global,
     list: &mut Vec<Value>,
     known: &Known<'_>,
     found: &[Span],
-) -> Result<(), AllocError> {
+) -> Result<(), AllocError>
+    ensures { OnOk result (map view list.new.items
+        ≡ map view list.old.items ++ map (location_form known.now.uri.now known.now.text.now) found.now) }
+{
     let mut places = Places::new(known.text);
     for span in found {
         list.push(location_form(alloc, known.uri, &mut places, *span)?)?;
     }
     Ok(())
+}
+
+/// The places in the text, marked.
+fn highlights_of(alloc: Global, text: &str, found: &[Span]) -> Result<Value, AllocError>
+    ensures { let marked = map (highlight_form text.now) found.now in
+        IfOk result (λ value. view value ≡ list_form (Some marked)) }
+{
+    let mut list = Vec::new(alloc);
+    let mut places = Places::new(text);
+    for span in found {
+        list.push(highlight_form(alloc, &mut places, *span)?)?;
+    }
+    Ok(Value::Array(list))
 }
 
 /// Adds the entries at the places of a document or file, a line between each two.
