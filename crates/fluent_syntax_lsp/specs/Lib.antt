@@ -26,3 +26,4 @@ pub mod Params
 pub mod Edits
 pub mod Opened
 pub mod Replies
+pub mod Renaming
