@@ -12,3 +12,4 @@ pub mod OpenedLemmas
 pub mod SessionLemmas
 pub mod KnownLemmas
 pub mod UriLemmas
+pub mod Gathering

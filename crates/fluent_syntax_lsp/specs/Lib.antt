@@ -14,6 +14,7 @@ pub mod Held
 pub mod Highlights
 pub mod Occurrences
 pub mod Ignored
+pub mod Asked
 pub mod Known
 pub mod Locations
 pub mod Offsets
@@ -28,3 +29,4 @@ pub mod Replies
 pub mod Outbox
 pub mod Sessions
 pub mod Served
+pub mod Renaming

@@ -1,9 +1,9 @@
 //! The open documents and the closed files, with their names.
-ghost use Rattle.std.specs.Prelude.{◌≡◌, ◌<◌, IfOk, IfSome, filter, is_some, length, map};
+ghost use Rattle.std.specs.Prelude.{◌≡◌, ◌<◌, IfOk, IfSome, filter, is_some, length, map, option_map};
 ghost use Rattle.fluent_syntax_lsp.specs.Known.{AreKnown, AreKnownClosed, AreKnownOpen, files_beside, has_path};
 ghost use Rattle.fluent_syntax_lsp.specs.Known.{has_uri};
 ghost use Rattle.fluent_syntax_lsp.specs.Known.{IsKnownClosed, IsKnownOpen};
-ghost use Rattle.fluent_syntax_lsp.specs.Known.{defines, is_wanted, names_in, places_in, places_of};
+ghost use Rattle.fluent_syntax_lsp.specs.Known.{defines, is_wanted, name_in, names_in, places_in, places_of};
 ghost use Rattle.fluent_syntax_lsp.specs.Occurrences.{name_text, occurrence_at};
 
 use crate::closed::Closed;
@@ -187,6 +187,14 @@ impl Known<'_> {
         ensures { result ≡ occurrence_at byte (names_in self.now.names) }
     {
         occurrence_in(self.occurrences(), byte)
+    }
+
+    /// The name at the byte, or that ends there. None where there is none.
+    pub fn name_at(&self, byte: usize) -> Option<Name<'_>>
+        ensures { option_map name_text result ≡ name_in byte self.now }
+    {
+        let occurrence = self.occurrence_at(byte)?;
+        Some(name_of(self.text, occurrence))
     }
 
     /// Where the name stands, in order.

@@ -3,6 +3,7 @@ ghost use Rattle.std.specs.Prelude.{◌≡◌, ◌∷◌, false, IfOk, None, OnO
 ghost use Rattle.fluent_syntax_lsp.specs.Occurrences.{AddsMention, AddsNames, attribute_of, named, occurrences};
 ghost use Rattle.fluent_syntax_lsp.specs.Occurrences.{cut, is_at, is_attribute, is_named, is_same_kind, name_of};
 ghost use Rattle.fluent_syntax_lsp.specs.Occurrences.{name_text, now_of, place_of, text_in};
+ghost use Rattle.fluent_syntax_grammar.specs.Bytes.{is_name_byte};
 ghost use Rattle.fluent_syntax_lsp.specs.Remarks.{IsCut};
 
 use fluent_syntax::spans::Span;
@@ -63,8 +64,10 @@ impl Occurrence {
 }
 
 /// Whether a name may have the byte behind its first letter.
-pub fn is_name_byte(byte: u8) -> bool {
-    byte.is_ascii_alphanumeric() || byte == b'_' || byte == b'-'
+pub fn is_name_byte(byte: u8) -> bool
+    ensures { result ≡ is_name_byte byte }
+{
+    byte.is_ascii_alphanumeric() || byte == b'-' || byte == b'_'
 }
 
 /// What a name is one of, and its text: where these are the same, the names stand for the same.
