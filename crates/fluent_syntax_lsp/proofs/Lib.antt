@@ -13,3 +13,4 @@ pub mod SessionLemmas
 pub mod KnownLemmas
 pub mod UriLemmas
 pub mod Gathering
+pub mod ServedLemmas

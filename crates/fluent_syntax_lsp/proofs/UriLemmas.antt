@@ -1,5 +1,5 @@
 -- The open document of a name is among the known documents.
-use Rattle.std.proofs.Common.{◌≡◌, ℕ, List, [], ◌∷◌, ◌++◌, Bool, true, false, Option, Some, refl, sym, ap, ◌∙◌, absurd}
+use Rattle.std.proofs.Common.{◌≡◌, ℕ, List, [], ◌∷◌, ◌++◌, Bool, true, false, Option, None, Some, refl, sym, ap, ◌∙◌}
 use Rattle.std.proofs.Common.{cond, inl, inr, subst, true≢false}
 use Rattle.std.specs.Prelude.{◌||◌, ◌⊎◌, is_some, option_map, String, string_bytes}
 use Rattle.std.specs.BTreeMap.{BTreeMap, get_by_text}
@@ -40,7 +40,7 @@ has_first (k ∷ ks) b uri is =
     has_more (bytes_eq k.uri.now uri) (has_uri ks uri) (has_uri (ks ++ b) uri) (has_first ks b uri) is
 
 module _ (uri : List ℕ) where
-  is_key : String Global → Bool
+  abbrev is_key : String Global → Bool
   is_key key = is_eq (slice_cmp nat_cmp uri (string_bytes key))
 
   has_name : (key : String Global) (opened : Open) (known : Known) → is_key key ≡ true →
@@ -58,7 +58,8 @@ module _ (uri : List ℕ) where
 
   open_is_known : (entries : List (String Global × Open)) (found : List Known) → AreKnownOpen entries found →
       is_some (lookup is_key entries) ≡ true → has_uri found uri ≡ true
-  open_is_known [] [] all some = absurd (true≢false (sym some))
+  open_is_known [] found all some = absurd (true≢false (sym some))
+  open_is_known (e ∷ es) [] all some = absurd all
   open_is_known (e ∷ es) (k ∷ ks) (is, all) some =
       either_known e k (is_some (lookup is_key es)) ks is (open_is_known es ks all)
       (first_or_later (is_key e.0) e.1 (lookup is_key es) some)

@@ -111,7 +111,7 @@ impl Server {
     fn refuse_unnamed(&self, code: ErrorCode) -> Result<Option<Value>, AllocError>
         ensures { IfOk result (λ sent. IsSent (refused null code) (option_map view sent)) }
     {
-        self.refuse(Value::Null, code)
+        self.refuse(no_identifier(), code)
     }
 
     /// Answers a request of the method; one that is not known is None.
@@ -154,6 +154,13 @@ impl Server {
         self.phase = self.phase.after_notification(method);
         Ok(sent)
     }
+}
+
+/// The identifier of a message that has none.
+fn no_identifier() -> Value
+    ensures { view result ≡ null }
+{
+    Value::Null
 }
 
 /// Whether the files of the workspace may be others behind a notification.

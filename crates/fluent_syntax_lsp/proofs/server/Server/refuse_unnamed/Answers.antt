@@ -1,13 +1,11 @@
-use Rattle.std.proofs.Common.{IfOk, ◌≡◌, rules, subst}
+use Rattle.std.proofs.Common.{IfOk, subst}
 use Rattle.std.specs.Prelude.{option_map}
-use Rattle.serde_json.specs.Data.{Data, null}
+use Rattle.serde_json.specs.Data.{Data}
 use Rattle.serde_json.specs.View.{view}
-use Rattle.serde_json.specs.declared.value.Value.TheVariants.{Null}
 use Rattle.fluent_syntax_lsp.specs.Replies.{IsSent, refused}
 use Rattle.fluent_syntax_lsp.proofs.server.Server.refuse_unnamed.Goals as goal
 
 pub returns : goal.returns
 returns c =
-    let seen : view Null ≡ null = search rules in
-    subst (λ (id : Data). IfOk c.refuse.result (λ sent. IsSent (refused id c.args.code) (option_map view sent))) seen
-    c.refuse.ensures
+    subst (λ (id : Data). IfOk c.refuse.result (λ sent. IsSent (refused id c.args.code) (option_map view sent)))
+    c.no_identifier.ensures c.refuse.ensures

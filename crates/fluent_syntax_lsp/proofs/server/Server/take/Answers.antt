@@ -37,8 +37,8 @@ pub returns-in-Response : goal.returns-in-Response
 returns-in-Response g c =
     (silence, sends_none, responded (view c.in-Ok.value) c.in-Ok.ensures.ok.1 (sym c.in-Response.ensures))
 
-pub returns-in-Invalid : goal.returns-in-Invalid
-returns-in-Invalid g c =
+pub returns : goal.returns
+returns g c =
     IfOk-weaker c.refuse_unnamed-in-Invalid.result _ _
     (λ sent is. (
       refused null InvalidRequest,
