@@ -14,13 +14,17 @@ pub record IsFresh (session : Session) : Type 0 where
   pub phase : session.phase ≡ Fresh
   pub none : (name : List ℕ) → session.texts name ≡ None
 
--- A frame is taken off the input, the session takes the step of its body, and what is sent for it is put on the output.
-pub record TakesStep (before now : Session) (left after written sent_on : Option (List ℕ)) : Type 0 where
-  pub body : List ℕ
+-- The session takes the step of the body, and what is sent for it is put on the output.
+pub record SendsAnswer (before : Session) (body : List ℕ) (now : Session) (written sent_on : Option (List ℕ)) : Type 0 where
   pub sent : Option Data
-  pub taken : TakesFrame left after body
   pub answered : Answers before body sent now
   pub sends : Sends written sent_on sent
+
+-- A frame is taken off the input, and its body is answered.
+pub record TakesStep (before now : Session) (left after written sent_on : Option (List ℕ)) : Type 0 where
+  pub body : List ℕ
+  pub taken : TakesFrame left after body
+  pub answered : SendsAnswer before body now written sent_on
 
 -- What is left of the input and what stands on the output, behind a session's steps from the first on.
 pub data Serves (input output : Option (List ℕ)) : (now : Session) → (left written : Option (List ℕ)) → Type 0 where
@@ -29,13 +33,20 @@ pub data Serves (input output : Option (List ℕ)) : (now : Session) → (left w
       Serves input output before left written → ending_of before.phase ≡ None →
       TakesStep before now left after written sent_on → Serves input output now after sent_on
 
--- Why a session takes no further step, and what stands on the output then: no frame is left; memory was refused; or what
+-- Why a body is not answered, and what stands on the output then: memory was refused, and nothing was written; or what
 -- was to be sent could not be written.
+pub data IsUnsent (before : Session) (body : List ℕ) (written : Option (List ℕ)) : Ending → (now : Option (List ℕ)) →
+    Type 0 where
+  has_no_memory : (now : Option (List ℕ)) → now ≡ written → IsUnsent before body written Memory now
+  is_not_written : (now : Option (List ℕ)) (value : Data) (next : Session) → Answers before body (Some value) next →
+      IsUnsent before body written Output now
+
+-- Why a session takes no further step: no frame was read, or its body was not answered.
 pub data Stops (before : Session) (left written : Option (List ℕ)) : Ending → (now : Option (List ℕ)) → Type 0 where
-  has_no_frame : (ending : Ending) → EndsAs left ending → Stops before left written ending written
-  has_no_memory : Stops before left written Memory written
-  is_not_written : (after sent_on : Option (List ℕ)) (body : List ℕ) (value : Data) (next : Session) →
-      TakesFrame left after body → Answers before body (Some value) next → Stops before left written Output sent_on
+  has_no_frame : (ending : Ending) (now : Option (List ℕ)) → EndsAs left ending → now ≡ written →
+      Stops before left written ending now
+  is_unanswered : (ending : Ending) (after now : Option (List ℕ)) (body : List ℕ) → TakesFrame left after body →
+      IsUnsent before body written ending now → Stops before left written ending now
 
 -- How a session ends: by `exit`, or where it stops.
 pub data Ends (input output : Option (List ℕ)) : Ending → (now : Option (List ℕ)) → Type 0 where

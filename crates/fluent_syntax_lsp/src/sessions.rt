@@ -1,9 +1,8 @@
 //! A whole session: reads messages, answers them, and ends.
-ghost use Rattle.std.specs.Prelude.{◌≡◌, ◌<◌, length, IfOk, IfErr};
+ghost use Rattle.std.specs.Prelude.{◌<◌, length, IfErr, OnOk};
 ghost use Rattle.std.specs.Io.KnownBytes.{prepend_known};
 ghost use Rattle.ftl.specs.Watched.{inner_of};
-ghost use Rattle.fluent_syntax_lsp.specs.Phases.{ending_of};
-ghost use Rattle.fluent_syntax_lsp.specs.Served.{Ends, Stops, TakesStep};
+ghost use Rattle.fluent_syntax_lsp.specs.Served.{Ends, IsUnsent, SendsAnswer, Stops, TakesStep};
 ghost use Rattle.fluent_syntax_lsp.specs.Sessions.{session_of};
 
 use crate::endings::Ending;
@@ -12,7 +11,7 @@ use crate::outbox::send;
 use crate::server::Server;
 use ftl::Watched;
 use ftl_workspace::Folders;
-use std::alloc::Global;
+use std::alloc::{AllocError, Global};
 use std::io::{Read, Write};
 
 /// How many bytes are asked of a reader at once.
@@ -28,29 +27,14 @@ pub fn serve<R: Read, W: Write, F: Folders>(
 ) -> Ending
     ensures { Ends (R.remaining (inner_of reader.old)) (W.contents writer.old) result (W.contents writer.new) }
 {
-    match converse(alloc, reader, writer, files) {
-        Ok(ending) | Err(ending) => ending,
-    }
-}
-
-/// The same, with an end by `exit` in `Ok`.
-fn converse<R: Read, W: Write, F: Folders>(
-    alloc: Global,
-    reader: &mut Watched<R>,
-    writer: &mut W,
-    files: &F,
-) -> Result<Ending, Ending>
-    ensures ok { let input = R.remaining (inner_of reader.old) in
-        IfOk result (λ ending. Ends input (W.contents writer.old) ending (W.contents writer.new)) }
-    ensures err { let input = R.remaining (inner_of reader.old) in
-        IfErr result (λ ending. Ends input (W.contents writer.old) ending (W.contents writer.new)) }
-{
-    let mut block = vec![in alloc; 0u8; BLOCK].map_err(|_| Ending::Memory)?;
+    let Ok(mut block) = vec![in alloc; 0u8; BLOCK] else {
+        return Ending::Memory;
+    };
     let mut pending = Vec::new(alloc);
     let mut server = Server::new(alloc);
     for _ in 0..u64::MAX {
         let block = block.as_mut_slice();
-        answer_next(
+        let answered = answer_next(
             alloc,
             &mut server,
             reader,
@@ -58,19 +42,19 @@ fn converse<R: Read, W: Write, F: Folders>(
             block,
             writer,
             files,
-        )?;
+        );
+        if let Err(ending) = answered {
+            return ending;
+        }
         if let Some(ending) = server.ending() {
-            return Ok(ending);
+            return ending;
         }
     }
-    // no more messages than these can be counted
-    Err(Ending::Input)
+    // more messages than can be counted are not read
+    Ending::Input
 }
 
-/// Takes the next message, and sends what is to be sent for it.
-///
-/// `Memory`: a growth was refused, and nothing was sent for the message. `Output`: it could not be written. The others
-/// are those of `next_body`.
+/// Takes the next message, and sends what is to be sent for it. The endings are those of `next_body` and of `answer`.
 fn answer_next<R: Read, W: Write, F: Folders>(
     alloc: Global,
     server: &mut Server,
@@ -83,18 +67,36 @@ fn answer_next<R: Read, W: Write, F: Folders>(
     requires { 0 < length block.old }
     ensures step { let left = prepend_known pending.old.items (R.remaining (inner_of reader.old)) in
         let after = prepend_known pending.new.items (R.remaining (inner_of reader.new)) in
-        IfOk result (λ _. TakesStep (session_of server.old) (session_of server.new) left after
+        OnOk result (TakesStep (session_of server.old) (session_of server.new) left after
         (W.contents writer.old) (W.contents writer.new)) }
     ensures stops { let left = prepend_known pending.old.items (R.remaining (inner_of reader.old)) in
         IfErr result (λ ending. Stops (session_of server.old) left
         (W.contents writer.old) ending (W.contents writer.new)) }
 {
-    let body = next_body(alloc, reader, pending, block)?;
-    let reply = server
-        .take(body.as_slice(), files)
-        .map_err(|_| Ending::Memory)?;
-    match reply {
-        Some(reply) => send(alloc, writer, &reply),
-        None => Ok(()),
+    match next_body(alloc, reader, pending, block) {
+        Ok(body) => answer(alloc, server, body.as_slice(), writer, files),
+        Err(ending) => Err(ending),
+    }
+}
+
+/// Takes the body of a message, and sends what is to be sent for it.
+///
+/// `Memory`: a growth was refused, and nothing was sent. `Output`: what was to be sent could not be written.
+fn answer<W: Write, F: Folders>(
+    alloc: Global,
+    server: &mut Server,
+    body: &[u8],
+    writer: &mut W,
+    files: &F,
+) -> Result<(), Ending>
+    ensures sent { OnOk result (SendsAnswer (session_of server.old) body.now (session_of server.new)
+        (W.contents writer.old) (W.contents writer.new)) }
+    ensures unsent { IfErr result (λ ending. IsUnsent (session_of server.old) body.now
+        (W.contents writer.old) ending (W.contents writer.new)) }
+{
+    match server.take(body, files) {
+        Ok(Some(reply)) => send(alloc, writer, &reply),
+        Ok(None) => Ok(()),
+        Err(AllocError) => Err(Ending::Memory),
     }
 }
