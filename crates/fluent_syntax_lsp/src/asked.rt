@@ -44,6 +44,7 @@ impl Asked<'_> {
     }
 
     /// Where the name at the place stands in the open documents and the closed files; null where there is no name.
+    /// `AllocError` where a growth was refused.
     pub fn locations(&self, alloc: Global, wanted: Wanted) -> Result<Value, AllocError>
         ensures { IfOk result (λ value. view value ≡ locations_form self.now wanted) }
     {
@@ -54,7 +55,7 @@ impl Asked<'_> {
     }
 
     /// Where the name at the place is defined, in the documents and files that are nearest; null where there is no
-    /// name.
+    /// name. `AllocError` where a growth was refused.
     pub fn definitions(&self, alloc: Global) -> Result<Value, AllocError>
         ensures { IfOk result (λ value. view value ≡ definitions_form self.now) }
     {
@@ -88,7 +89,8 @@ impl Asked<'_> {
         }
     }
 
-    /// Where the name at the place stands in its document; null where there is none.
+    /// Where the name at the place stands in its document; null where there is none. `AllocError` where a growth was
+    /// refused.
     pub fn highlights(&self, alloc: Global) -> Result<Value, AllocError>
         ensures { IfOk result (λ value. view value ≡ highlights_form self.now) }
     {

@@ -197,7 +197,7 @@ impl Known<'_> {
         Some(name_of(self.text, occurrence))
     }
 
-    /// Where the name stands, in order.
+    /// Where the name stands, in order. `AllocError` where a growth was refused.
     pub fn places_of(
         &self,
         alloc: Global,

@@ -205,7 +205,7 @@ fn span_form(alloc: Global, places: &mut Places<'_>, span: Span) -> Result<Value
     range_form(alloc, start, end)
 }
 
-/// A place in a document.
+/// A place in a document. `AllocError` where a growth was refused.
 pub fn location_form(
     alloc: Global,
     uri: &str,
@@ -219,7 +219,7 @@ pub fn location_form(
     json!(in alloc; {"uri": uri, "range": range})
 }
 
-/// A place that is marked.
+/// A place that is marked. `AllocError` where a growth was refused.
 pub fn highlight_form(
     alloc: Global,
     places: &mut Places<'_>,
@@ -232,7 +232,7 @@ pub fn highlight_form(
     json!(in alloc; {"range": range})
 }
 
-/// The edit that puts a text in place of a stretch.
+/// The edit that puts a text in place of a stretch. `AllocError` where a growth was refused.
 pub fn edit_form(
     alloc: Global,
     places: &mut Places<'_>,
@@ -246,7 +246,7 @@ pub fn edit_form(
     json!(in alloc; {"range": range, "newText": text})
 }
 
-/// The edits of a document in one of its versions.
+/// The edits of a document in one of its versions. `AllocError` where a growth was refused.
 pub fn edits_of_document(
     alloc: Global,
     uri: &str,
