@@ -3,11 +3,11 @@ ghost use Rattle.std.specs.Prelude.{◌≡◌, IfOk, filter_map, map};
 ghost use Rattle.fluent_syntax_names.specs.declared.differences.Side.TheVariants.{Other, Reference};
 ghost use Rattle.fluent_syntax_lsp.specs.Mismatches.{difference_of, differences, part_difference};
 
-use crate::occurrences::bytes_of;
+use crate::occurrences::{bytes_of, is_name_byte};
 use crate::places::{Place, Places, START};
 use crate::remarks::{PlaceRange, range_of};
 use fluent_syntax::spans::Span;
-use fluent_syntax_names::{Difference, Lack, Mention, Outline, Side, lacks};
+use fluent_syntax_names::{Difference, Lack, Mention, Outline, Part, RefusedNames, Side, lacks};
 use std::alloc::{AllocError, Global};
 use std::collections::BTreeMap;
 
@@ -15,8 +15,8 @@ use std::collections::BTreeMap;
 #[derive(Drop)]
 pub struct Mismatch {
     pub difference: Difference,
-    /// Where the document has what the original lacks, or the entry that lacks something; its begin, where it lacks an
-    /// entry.
+    /// Where the document has what the original lacks, or the entry that lacks something. Where it lacks an entry, the
+    /// name with which the first junk begins that is this entry; its own begin, where none is.
     pub range: PlaceRange,
     pub message: String,
     /// Where the original has what the document lacks.
@@ -62,10 +62,11 @@ fn missing_of(
         if let Some(difference) = Side::Reference.difference(lack.part) {
             let there = range_of(&mut theirs, lack.name);
             let said = difference.sentence(alloc, bytes_of(original.text, lack.name))?;
+            let (range, is_junk) = entries.range_in_document(&mut own, original.text, lack);
             found.push(Mismatch {
                 difference,
-                range: entries.range_in_document(&mut own, lack.name),
-                message: message_of(alloc, said.as_str(), shown, there.start)?,
+                range,
+                message: message_of(alloc, said.as_str(), shown, there.start, is_junk)?,
                 original: Some(there),
             })?;
         }
@@ -73,11 +74,18 @@ fn missing_of(
     Ok(found)
 }
 
-/// What is said of a part, with its place in the original.
-fn message_of(alloc: Global, said: &str, shown: &str, place: Place) -> Result<String, AllocError> {
+/// What is said of a part, with its place in the original, and that it is junk if it is.
+fn message_of(
+    alloc: Global,
+    said: &str,
+    shown: &str,
+    place: Place,
+    is_junk: bool,
+) -> Result<String, AllocError> {
     let line = place.line.saturating_add(1);
     let column = place.character.saturating_add(1);
-    format!(in alloc; "{said} of {shown}:{line}:{column}")
+    let behind = if is_junk { " is junk here" } else { "" };
+    format!(in alloc; "{said} of {shown}:{line}:{column}{behind}")
 }
 
 /// What is told of that which the original lacks.
@@ -100,13 +108,15 @@ fn more_of(alloc: Global, text: &str, lacks: &[Lack]) -> Result<Vec<Mismatch>, A
     Ok(found)
 }
 
-/// The entries of an original, and where a document defines those of the same names.
+/// The entries of an original, and where a document has those of the same names.
 #[derive(Drop)]
 struct EntryPlaces<'d> {
     /// Those of the original, in order: where its name begins, and the name, a term's with its `-`.
     original: Vec<(usize, &'d str)>,
-    /// Where the document has each name first.
+    /// Where the document defines each name first.
     document: BTreeMap<&'d str, Span>,
+    /// The names with which junk of the document begins.
+    refused: RefusedNames<PlaceRange>,
 }
 
 impl<'d> EntryPlaces<'d> {
@@ -130,11 +140,30 @@ impl<'d> EntryPlaces<'d> {
         Ok(EntryPlaces {
             original: theirs,
             document: own,
+            refused: refused_ranges(alloc, document)?,
         })
     }
 
-    /// Where the document has the entry in which the original has the name; its begin, where it lacks that.
-    fn range_in_document(&self, places: &mut Places<'_>, name: Span) -> PlaceRange {
+    /// Where the document has the entry in which the original has what the document lacks, and whether it is junk
+    /// there; its begin, where it lacks that. `text` is that of the original.
+    fn range_in_document(
+        &self,
+        places: &mut Places<'_>,
+        text: &str,
+        lack: &Lack,
+    ) -> (PlaceRange, bool) {
+        let junk = match lack.part {
+            Part::Entry => self.refused.place_of(text, lack.name),
+            _ => None,
+        };
+        match junk {
+            Some(range) => (range, true),
+            None => (self.range_defined(places, lack.name), false),
+        }
+    }
+
+    /// Where the document defines the entry in which the original has the name; its begin, where it lacks that.
+    fn range_defined(&self, places: &mut Places<'_>, name: Span) -> PlaceRange {
         let behind = self
             .original
             .partition_point(|(start, _)| *start <= name.start);
@@ -153,6 +182,31 @@ impl<'d> EntryPlaces<'d> {
             },
         }
     }
+}
+
+/// The names with which junk of the document begins, each with its range where it does first.
+fn refused_ranges(
+    alloc: Global,
+    document: &Outline<'_>,
+) -> Result<RefusedNames<PlaceRange>, AllocError> {
+    let mut names = RefusedNames::new(alloc);
+    let mut places = Places::new(document.text);
+    for mention in &document.mentions {
+        if let Mention::Junk { content } = mention {
+            let length = bytes_of(document.text, *content)
+                .as_bytes()
+                .iter()
+                .take_while(|byte| is_name_byte(**byte))
+                .count();
+            let name = Span {
+                start: content.start,
+                end: content.start.saturating_add(length),
+            };
+            let range = range_of(&mut places, name);
+            names.note(alloc, document.text, *content, range)?;
+        }
+    }
+    Ok(names)
 }
 
 /// The name of the entry that is defined there, a term's with its `-`. None where none is.

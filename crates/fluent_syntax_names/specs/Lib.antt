@@ -6,6 +6,7 @@ pub mod Knowing
 pub mod Lacks
 pub mod Mentions
 pub mod Places
+pub mod Refused
 pub mod Sentences
 pub mod Severities
 pub mod Spelled

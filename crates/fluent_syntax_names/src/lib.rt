@@ -24,6 +24,7 @@ mod outline;
 mod patterns;
 mod places;
 mod referring;
+mod refused_names;
 mod spelled;
 mod uses;
 
@@ -36,3 +37,4 @@ pub use finding::{Finding, Kind, Place, Severity};
 pub use lack::{Lack, Part};
 pub use mention::Mention;
 pub use outline::{Outline, outline_of};
+pub use refused_names::RefusedNames;

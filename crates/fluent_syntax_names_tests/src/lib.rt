@@ -13,3 +13,5 @@ mod findings;
 mod lacks;
 #[cfg(test)]
 mod own;
+#[cfg(test)]
+mod refused;

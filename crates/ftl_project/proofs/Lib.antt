@@ -2,7 +2,9 @@ mod Compared
 mod Counting
 mod FormattingEach
 mod InOrder
+mod Junk
 mod Known
+mod Missed
 mod Normal
 mod Reaching
 mod ReadBack

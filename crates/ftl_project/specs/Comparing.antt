@@ -1,7 +1,7 @@
 -- How a comparison meets each pair.
 use Rattle.std.specs.Io.KnownBytes.{Appends}
 use Rattle.std.specs.Prelude.{◌≡◌, ◌⊎◌, ◌==◌, ◌+◌, ◌-◌, ◌^◌, ◌++◌, ℕ, Bool, true, false, not, List, [], ◌∷◌, Option}
-use Rattle.std.specs.Prelude.{None, Some, IfSome, codes, count_by, min, string_bytes}
+use Rattle.std.specs.Prelude.{None, Some, IfSome, codes, count_by, is_some, min, string_bytes}
 use Rattle.std.specs.Fmt.{decimal}
 use Rattle.fluent_syntax_names.specs.Lacks.{all_lacks}
 use Rattle.fluent_syntax_names.specs.declared.lack.Lack.{Lack}
@@ -13,6 +13,7 @@ use Rattle.fluent_syntax_names.specs.Sentences.{difference_sentence}
 use Rattle.ftl_project.specs.Differences.{is_told_as_error}
 use Rattle.ftl_project.specs.Faults.{Fails, IsFault, IsTooDeep}
 use Rattle.ftl_project.specs.Outlines.{IsOutline, entries_in}
+use Rattle.ftl_project.specs.Junk.{lack_junk}
 use Rattle.ftl_project.specs.Remarks.{IsName, IsRemark, TellsEach, spot_at}
 use Rattle.ftl_project.specs.Tally.{Met, answered, counted, failed}
 use Rattle.ftl_project.specs.declared.comparing.Pair.{Pair}
@@ -32,10 +33,16 @@ use Rattle.ftl_project.specs.declared.tally.Tally.{Tally}
 abbrev pub missing_at : (path : List ℕ) → Spot → List ℕ
 missing_at path spot = path ++ codes ":" ++ decimal spot.line ++ codes ":" ++ decimal spot.column
 
+-- behind the place in the reference of an entry that the other file has as junk
+abbrev pub behind_missing : (is_junk : Bool) → List ℕ
+behind_missing false = codes ""
+behind_missing true = codes " is junk here"
+
 -- of the part that has the name in the reference's text
-abbrev pub missing_message : (path text : List ℕ) → Lack → Difference → (name : List ℕ) → List ℕ
-missing_message path text lack difference name =
+abbrev pub missing_message : (path text : List ℕ) → Lack → Difference → (is_junk : Bool) → (name : List ℕ) → List ℕ
+missing_message path text lack difference is_junk name =
     difference_sentence difference name ++ codes " of " ++ missing_at path (spot_at text lack.name)
+    ++ behind_missing is_junk
 
 -- This is told of a difference in the file, with a message that says so; of no difference nothing is told.
 abbrev pub IsDifferenceTold : Form → (path text : List ℕ) → Option Spot → Option Difference →
@@ -46,19 +53,21 @@ IsDifferenceTold form path text place (Some difference) Says told =
     × IsRemark form path text place (difference_name difference) message told
 
 -- The message is that of the difference, by the name of the part in the text.
-abbrev pub SaysMissing : (path text : List ℕ) → Lack → Difference → (message : List ℕ) → Type 0
-SaysMissing path text lack difference message =
-    (name : List ℕ) × IsName text lack.name name × (message ≡ missing_message path text lack difference name)
+abbrev pub SaysMissing : (path text : List ℕ) → Lack → (is_junk : Bool) → Difference → (message : List ℕ) → Type 0
+SaysMissing path text lack is_junk difference message =
+    (name : List ℕ) × IsName text lack.name name × (message ≡ missing_message path text lack difference is_junk name)
 
 abbrev pub SaysMore : (text : List ℕ) → Lack → Difference → (message : List ℕ) → Type 0
 SaysMore text lack difference message =
     (name : List ℕ) × IsName text lack.name name × (message ≡ difference_sentence difference name)
 
--- This is told of what the reference's text has and the other file lacks.
-abbrev pub IsMissingTold : Form → Pair → (text : List ℕ) → Lack → (told : List ℕ) → Type 0
-IsMissingTold form pair text lack told =
-    IsDifferenceTold form (string_bytes pair.other) [] None (side_difference Reference lack.part)
-    (SaysMissing (string_bytes pair.reference) text lack) told
+-- This is told of what the reference's text has and the other file lacks: where that has the entry as junk, at the first
+-- such junk.
+abbrev pub IsMissingTold : Form → Pair → (text : List ℕ) → (other : Outline) → Lack → (told : List ℕ) → Type 0
+IsMissingTold form pair text other lack told =
+    IsDifferenceTold form (string_bytes pair.other) other.text.now (lack_junk text other lack)
+    (side_difference Reference lack.part)
+    (SaysMissing (string_bytes pair.reference) text lack (is_some (lack_junk text other lack))) told
 
 -- This is told of what the other file's text has and the reference lacks.
 abbrev pub IsMoreTold : Form → Pair → (text : List ℕ) → Lack → (told : List ℕ) → Type 0
@@ -66,10 +75,10 @@ IsMoreTold form pair text lack told =
     IsDifferenceTold form (string_bytes pair.other) text (Some (spot_at text lack.name))
     (side_difference Other lack.part) (SaysMore text lack) told
 
--- This is told of what the text of a side has and the other one lacks.
-abbrev pub IsLackTold : Side → Form → Pair → (text : List ℕ) → Lack → (told : List ℕ) → Type 0
-IsLackTold Reference = IsMissingTold
-IsLackTold Other = IsMoreTold
+-- This is told of what the text of a side has and the other one lacks. `other` is the file that is not the reference.
+abbrev pub IsLackTold : Side → Form → Pair → (text : List ℕ) → (other : Outline) → Lack → (told : List ℕ) → Type 0
+IsLackTold Reference form pair text other = IsMissingTold form pair text other
+IsLackTold Other form pair text other = IsMoreTold form pair text
 
 -- ---- how many
 
@@ -111,7 +120,7 @@ pub record IsAlone (form : Form) (pair : Pair) (reference : Outline) (errors : �
 pub record IsBeside (form : Form) (pair : Pair) (reference other : Outline) (errors : ℕ) (share : Share)
     (text : List ℕ) : Type 0 where
   pub missing : List ℕ
-  pub tells_missing : TellsEach (IsMissingTold form pair reference.text.now) (all_lacks reference other) missing
+  pub tells_missing : TellsEach (IsMissingTold form pair reference.text.now other) (all_lacks reference other) missing
   pub more : List ℕ
   pub tells_more : TellsEach (IsMoreTold form pair other.text.now) (all_lacks other reference) more
   pub text_is : text ≡ missing ++ more

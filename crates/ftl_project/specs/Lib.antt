@@ -4,6 +4,7 @@ pub mod Differences
 pub mod Errors
 pub mod Faults
 pub mod Formatting
+pub mod Junk
 pub mod Linting
 pub mod Outlines
 pub mod Remarks

@@ -5,7 +5,7 @@ ghost use Rattle.fluent_syntax_names.specs.declared.outline.Outline.{Outline};
 ghost use Rattle.ftl_files.specs.Store.{AllStand};
 ghost use Rattle.ftl_project.specs.Comparing.{Compares, ComparesEach, IsAlone, IsBeside, IsComparison, IsLackTold};
 ghost use Rattle.ftl_project.specs.Comparing.{IsMissingTold, IsMoreTold, IsPairFault, SaysMissing, SaysMore, errors_of};
-ghost use Rattle.ftl_project.specs.Comparing.{lacked_entries, with_share};
+ghost use Rattle.ftl_project.specs.Comparing.{behind_missing, lacked_entries, with_share};
 ghost use Rattle.ftl_project.specs.Faults.{IsTooDeep, IsUnparsed};
 ghost use Rattle.ftl_project.specs.Outlines.{IsOutline, IsShort};
 ghost use Rattle.ftl_project.specs.Remarks.{IsRemark, TellsEach, spot_at};
@@ -21,6 +21,7 @@ use crate::remarks::{Remark, Spot, name_in, remark_text, spot_of};
 use crate::rewriting::read_text;
 use crate::streams::{Streams, put, tell};
 use crate::tally::Tally;
+use crate::translation::Translation;
 use fluent_syntax::spans::Lines;
 use fluent_syntax_names::{Difference, Lack, Outline, Part, Side, lacks};
 use ftl::RunFault;
@@ -225,10 +226,28 @@ fn compared_outlines(
     ensures { IfOk result (λ compared. IsBeside form pair.now reference.now other.now compared.errors compared.share
         (string_bytes compared.told)) }
 {
+    let translation = Translation::new(alloc, other)?;
     let missing = lacks(alloc, reference, other)?;
-    let mut told = lacks_text(alloc, pair, Side::Reference, reference.text, &missing, form)?;
+    let side = Side::Reference;
+    let mut told = lacks_text(
+        alloc,
+        pair,
+        side,
+        reference.text,
+        &translation,
+        &missing,
+        form,
+    )?;
     let more = lacks(alloc, other, reference)?;
-    let behind = lacks_text(alloc, pair, Side::Other, other.text, &more, form)?;
+    let behind = lacks_text(
+        alloc,
+        pair,
+        Side::Other,
+        other.text,
+        &translation,
+        &more,
+        form,
+    )?;
     told.push_str(behind.as_str())?;
     let missed = errors_of(Side::Reference, &missing);
     let unknown = errors_of(Side::Other, &more);
@@ -268,16 +287,18 @@ fn lacks_text(
     pair: &Pair,
     side: Side,
     text: &str,
+    translation: &Translation<'_, '_>,
     lacks: &[Lack],
     form: Form,
 ) -> Result<String, AllocError>
     requires { length text.now + 1 < 2 ^ 64 }
-    ensures { IfOk result (λ told. TellsEach (IsLackTold side form pair.now text.now) lacks.now (string_bytes told)) }
+    ensures { IfOk result (λ told. TellsEach
+        (IsLackTold side form pair.now text.now translation.now.outline.now) lacks.now (string_bytes told)) }
 {
     let mut out = String::new(alloc);
     let mut lines = Lines::new(text);
     for lack in lacks {
-        let told = lack_told(alloc, pair, side, text, &mut lines, lack, form)?;
+        let told = lack_told(alloc, pair, side, text, translation, &mut lines, lack, form)?;
         out.push_str(told.as_str())?;
     }
     Ok(out)
@@ -288,16 +309,18 @@ fn lack_told<'t>(
     pair: &Pair,
     side: Side,
     text: &str,
+    translation: &Translation<'_, '_>,
     lines: &mut Lines<'t>,
     lack: &Lack,
     form: Form,
 ) -> Result<String, AllocError>
     requires { lines.old ≡ text.now }
-    ensures told { IfOk result (λ told. IsLackTold side form pair.now text.now lack.now (string_bytes told)) }
+    ensures told { IfOk result (λ told. IsLackTold side form pair.now text.now translation.now.outline.now lack.now
+        (string_bytes told)) }
     ensures lines { lines.new ≡ lines.old }
 {
     match side {
-        Side::Reference => missing_told(alloc, pair, text, lines, lack, form),
+        Side::Reference => missing_told(alloc, pair, text, translation, lines, lack, form),
         Side::Other => more_told(alloc, pair, text, lines, lack, form),
     }
 }
@@ -306,25 +329,30 @@ fn missing_told<'t>(
     alloc: Global,
     pair: &Pair,
     text: &str,
+    translation: &Translation<'_, '_>,
     lines: &mut Lines<'t>,
     lack: &Lack,
     form: Form,
 ) -> Result<String, AllocError>
     requires { lines.old ≡ text.now }
-    ensures told { IfOk result (λ told. IsMissingTold form pair.now text.now lack.now (string_bytes told)) }
+    ensures told { IfOk result (λ told. IsMissingTold form pair.now text.now translation.now.outline.now lack.now
+        (string_bytes told)) }
     ensures lines { lines.new ≡ lines.old }
 {
     let spot = spot_of(lines, text, lack.name);
     let Some(difference) = Side::Reference.difference(lack.part) else {
         return Ok(String::new(alloc));
     };
+    let place = translation.junk_of(text, lack);
+    let path = pair.reference.as_str();
+    let is_junk = place.is_some();
     let remark = Remark {
         path: pair.other.as_str(),
-        text: "",
-        place: None,
+        text: translation.outline.text,
+        place,
         kind: difference.name(),
         severity: severity_name(difference.severity()),
-        message: missing_message(alloc, pair.reference.as_str(), text, spot, lack, difference)?,
+        message: missing_message(alloc, path, text, spot, lack, is_junk, difference)?,
     };
     remark_text(alloc, &remark, form)
 }
@@ -335,15 +363,24 @@ fn missing_message(
     text: &str,
     spot: Spot,
     lack: &Lack,
+    is_junk: bool,
     difference: Difference,
 ) -> Result<String, AllocError>
     requires { spot ≡ spot_at text.now lack.now.name }
     ensures { IfOk result (λ message.
-        SaysMissing path.now text.now lack.now difference (string_bytes message)) }
+        SaysMissing path.now text.now lack.now is_junk difference (string_bytes message)) }
 {
     let said = difference.sentence(alloc, name_in(text, lack.name))?;
     let (line, column) = (spot.line, spot.column);
-    format!(in alloc; "{said} of {path}:{line}:{column}")
+    let behind = behind_missing(is_junk);
+    format!(in alloc; "{said} of {path}:{line}:{column}{behind}")
+}
+
+/// What is said behind the place in the reference.
+fn behind_missing(is_junk: bool) -> &'static str
+    ensures { result.now ≡ behind_missing is_junk }
+{
+    if is_junk { " is junk here" } else { "" }
 }
 
 fn more_told<'t>(

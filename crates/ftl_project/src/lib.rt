@@ -24,6 +24,7 @@ mod reporting;
 mod rewriting;
 mod streams;
 mod tally;
+mod translation;
 mod unsafe_entry;
 
 pub use checking::check_files;

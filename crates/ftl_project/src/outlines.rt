@@ -10,7 +10,7 @@ use fluent_syntax::spans::parse_spans_within;
 use fluent_syntax_names::{Mention, Outline, outline_of};
 use std::alloc::{AllocError, Global};
 
-/// What the text says of names. What is junk in it says nothing.
+/// What the text says of names. What is junk in it defines nothing.
 pub(crate) fn outline<'a>(
     alloc: Global,
     text: &'a str,

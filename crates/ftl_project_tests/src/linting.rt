@@ -187,7 +187,7 @@ type Row = (
     &'static str,
 );
 
-const ROWS: [Row; 4] = [
+const ROWS: [Row; 5] = [
     (
         "each kind",
         Some(OTHER),
@@ -213,6 +213,13 @@ const ROWS: [Row; 4] = [
         de/a.ftl: missing: `about` of en/a.ftl:5:1\nde/a.ftl: missing: `brand` of en/a.ftl:6:2\n",
         4,
         "0 of 4 messages and terms are there\n",
+    ),
+    (
+        "entries that are junk",
+        Some("about\nhello Hallo\nname = Name\n    .label = L\nbrand\n-brand\nhello {\nabout-us\n"),
+        "de/a.ftl:2:1: missing\nde/a.ftl:1:1: missing\nde/a.ftl:6:1: missing\n",
+        3,
+        "1 of 4 messages and terms are there\n",
     ),
     (
         "no file",

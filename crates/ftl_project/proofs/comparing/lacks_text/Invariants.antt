@@ -6,5 +6,6 @@ use Rattle.ftl_project.proofs.comparing.lacks_text.Given as goal
 abbrev pub invariant-loop-lack : goal.invariant-loop-lack
 invariant-loop-lack l = record {
   lines : l.lines ≡ l.text;
-  tells : TellsEach (IsLackTold l.side l.form l.pair l.text) (take l.lack-index l.lacks) (string_bytes l.out);
+  tells : TellsEach (IsLackTold l.side l.form l.pair l.text l.translation.outline.now) (take l.lack-index l.lacks)
+      (string_bytes l.out);
 }

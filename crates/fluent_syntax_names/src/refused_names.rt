@@ -1,0 +1,97 @@
+//! The entries of a file that became junk.
+ghost use Rattle.std.specs.Prelude.{◌≡◌, List, ℕ, None, IfOk, OnOk};
+ghost use Rattle.fluent_syntax_names.specs.Places.{Notes};
+ghost use Rattle.fluent_syntax_names.specs.Refused.{begun_name, entry_at, is_name_byte, refused_place, with_hyphen};
+ghost use Rattle.fluent_syntax_names.specs.Spelled.{name_at};
+
+use crate::spelled::name_at;
+use fluent_syntax_tree::spans::Span;
+use std::alloc::{AllocError, Global};
+use std::collections::BTreeMap;
+
+/// The entries that a file has as junk, since they have a syntax error: the name with which each junk begins, a term's
+/// with its `-`, and a place of the first such junk, which is what its caller has as one. A clause tells by
+/// `refused_place` which they are.
+#[derive(Drop)]
+pub struct RefusedNames<X> {
+    table: BTreeMap<Vec<u8>, X>,
+}
+
+impl<X: Copy> RefusedNames<X> {
+    /// Those of a file without junk.
+    pub fn new(alloc: Global) -> Self
+        ensures { (entry : List ℕ) → refused_place result entry ≡ None }
+    {
+        RefusedNames {
+            table: BTreeMap::new(alloc),
+        }
+    }
+
+    /// Notes the junk that stands in this range of a text, with its place, if none before begins with its name. The
+    /// name ends before the first byte that is none of a name. Junk that begins with none is noted too: no entry has
+    /// the name of no bytes.
+    ///
+    /// Takes the memory of the name; `AllocError` where there is none.
+    pub fn note(
+        &mut self,
+        alloc: Global,
+        text: &str,
+        junk: Span,
+        place: X,
+    ) -> Result<(), AllocError>
+        ensures { OnOk result (Notes (refused_place self.old) (refused_place self.new)
+            (begun_name (name_at text.now junk)) place) }
+    {
+        let name = begun_name(alloc, name_at(text, junk))?;
+        if self.table.get(&name).is_none() {
+            self.table.insert(name, place)?;
+        }
+        Ok(())
+    }
+
+    /// The place of the first junk that begins with the name of an entry: `text` is that of a file that defines it, and
+    /// `name` where it stands there, without the `-` of a term.
+    pub fn place_of(&self, text: &str, name: Span) -> Option<X>
+        ensures { result ≡ refused_place self.now (entry_at text.now name) }
+    {
+        self.table
+            .get(name_at(text, with_hyphen(text, name)))
+            .copied()
+    }
+}
+
+/// The name with which the bytes begin.
+fn begun_name(alloc: Global, bytes: &[u8]) -> Result<Vec<u8>, AllocError>
+    ensures { IfOk result (λ name. name.items ≡ begun_name bytes.now) }
+{
+    bytes
+        .iter()
+        .copied()
+        .take_while(|byte| is_name_byte(*byte))
+        .collect(alloc)
+}
+
+fn is_name_byte(byte: u8) -> bool
+    ensures { result ≡ is_name_byte byte }
+{
+    byte.is_ascii_alphanumeric() || byte == b'-' || byte == b'_'
+}
+
+/// The range of a name with the `-` before it, where one stands there.
+fn with_hyphen(text: &str, name: Span) -> Span
+    ensures { result ≡ with_hyphen text.now name }
+{
+    let start = name.start.saturating_sub(1);
+    let before = Span {
+        start,
+        end: name.start,
+    };
+    if matches!(name_at(text, before), [b'-']) {
+        Span {
+            start,
+            end: name.end,
+        }
+    } else {
+        name
+    }
+}
