@@ -1,6 +1,6 @@
 -- What is told of findings, one after another.
-use Rattle.std.proofs.Common.{◌≡◌, ℕ, ◌+◌, ◌<◌, rules, List, [], ◌∷◌, ◌++◌, length, get_or, take, sym, ap, ◌∙◌, refl}
-use Rattle.std.proofs.Common.{Option, Some, None}
+use Rattle.std.proofs.Common.{◌≡◌, ℕ, ◌+◌, ◌<◌, List, [], ◌∷◌, ◌++◌, length, get_or, take, ◌∙◌, refl}
+use Rattle.std.proofs.Common.{Option, Some}
 use Rattle.std.specs.Prelude.{filter_map, option_map}
 use Rattle.fluent_syntax_tree.specs.declared.spans.Span.{Span}
 use Rattle.fluent_syntax_names.specs.declared.finding.Finding.{Finding}

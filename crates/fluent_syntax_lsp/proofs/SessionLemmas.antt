@@ -3,7 +3,7 @@ use Rattle.std.proofs.Common.{◌≡◌, ℕ, List, Bool, true, false, Option, S
 use Rattle.std.specs.Prelude.{ℤ, ◌&&◌, ◌≢◌, ◌⊎◌}
 use Rattle.std.proofs.Common.{inl, inr, subst, true≢false}
 use Rattle.std.specs.Prelude.{IfOk, OnOk, is_some, option_and_then, option_map}
-use Rattle.std.specs.Str.{IsUtf8, bytes_eq}
+use Rattle.std.specs.Str.{bytes_eq}
 use Rattle.std.proofs.lemmas.Map.{update_same}
 use Rattle.std.proofs.lemmas.Slice.Eq.{bytes_eq-Decides}
 use Rattle.serde_json.specs.Data.{Data, Items}
@@ -14,13 +14,13 @@ use Rattle.fluent_syntax_lsp.specs.Edits.{Edit, edits_in}
 use Rattle.fluent_syntax_lsp.specs.Messages.{message_in, request, notification}
 use Rattle.fluent_syntax_lsp.specs.Opened.{MakesOpen, OpenText, Sets, SetsMade}
 use Rattle.fluent_syntax_lsp.specs.Params.{changes_in, opened_text_in, uri_in, version_in}
-use Rattle.fluent_syntax_lsp.specs.Phases.{after_notification, after_request, refusal_of}
-use Rattle.fluent_syntax_lsp.specs.Replies.{Reply, IsSent, diagnosed, silence, sends_none, answered, refused}
+use Rattle.fluent_syntax_lsp.specs.Phases.{after_notification, after_request}
+use Rattle.fluent_syntax_lsp.specs.Replies.{Reply, IsSent, diagnosed, silence, sends_none}
 use Rattle.fluent_syntax_lsp.specs.Replies.{watch}
 use Rattle.fluent_syntax_lsp.specs.Sessions.{Answers, AnswersNotification, AnswersRequest, AnswersRunning, Follows}
-use Rattle.fluent_syntax_lsp.specs.Sessions.{IsMethod, Session, Steps, TakesRequest, TakesNotification, concerns}
+use Rattle.fluent_syntax_lsp.specs.Sessions.{IsMethod, Session, TakesRequest, concerns}
 use Rattle.fluent_syntax_lsp.specs.Sessions.{changes, names_open, published, requested, notified, opens, passes, runs, saves}
-use Rattle.fluent_syntax_lsp.specs.Sessions.{finds, finds_none, fits, IsFound, watches}
+use Rattle.fluent_syntax_lsp.specs.Sessions.{watches}
 use Rattle.fluent_syntax_lsp.specs.declared.methods.Method.{Method}
 use Rattle.fluent_syntax_lsp.specs.declared.methods.Method.TheVariants.{DidChange, DidClose, DidOpen, DidSave}
 use Rattle.fluent_syntax_lsp.specs.declared.methods.Method.TheVariants.{Initialized}

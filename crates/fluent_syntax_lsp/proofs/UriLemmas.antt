@@ -4,7 +4,6 @@ use Rattle.std.proofs.Common.{cond, inl, inr, subst, true≢false}
 use Rattle.std.specs.Prelude.{◌||◌, ◌⊎◌, is_some, option_map, String, string_bytes}
 use Rattle.std.specs.BTreeMap.{BTreeMap, get_by_text}
 use Rattle.std.specs.Cmp.Lexicographic.{slice_cmp}
-use Rattle.std.specs.List.{list_any}
 use Rattle.std.specs.Map.{lookup}
 use Rattle.std.specs.Ordering.{is_eq, nat_cmp}
 use Rattle.std.specs.Str.{bytes_eq}

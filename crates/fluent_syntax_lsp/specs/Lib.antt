@@ -30,3 +30,4 @@ pub mod Outbox
 pub mod Sessions
 pub mod Served
 pub mod Renaming
+pub mod Asking

@@ -1,5 +1,5 @@
 -- The parameters of a message.
-use Rattle.std.specs.Prelude.{ℕ, ℤ, List, codes, Bool, false, Option, Some, None, option_and_then, unwrap_or}
+use Rattle.std.specs.Prelude.{ℕ, ℤ, List, codes, Bool, false, Option, Some, option_and_then, unwrap_or}
 use Rattle.serde_json.specs.Data.{Data, Items}
 use Rattle.serde_json.specs.Find.{pointer, as_array, as_bool, as_i64, as_number, as_str}
 use Rattle.fluent_syntax_lsp.specs.declared.known.Wanted.{Wanted}

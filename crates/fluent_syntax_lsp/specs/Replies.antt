@@ -1,5 +1,5 @@
 -- What a server sends: the kinds of replies, and their JSON values.
-use Rattle.std.specs.Prelude.{◌≡◌, ℕ, List, codes, Option, Some, None}
+use Rattle.std.specs.Prelude.{ℕ, List, codes, Option, Some, None}
 use Rattle.serde_json.specs.Data.{Data, number, string, array, object, item, no_items, member, no_members}
 use Rattle.serde_json.specs.Find.{of_integer}
 use Rattle.fluent_syntax_lsp.specs.Phases.{number_of, text_of}

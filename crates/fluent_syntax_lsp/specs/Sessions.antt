@@ -1,5 +1,5 @@
 -- What a session does with its messages: what it knows then, and what it sends.
-use Rattle.std.specs.Prelude.{◌≡◌, ◌≢◌, ◌&&◌, ℕ, List, [], ◌∷◌, ◌++◌, Bool, true, false, Option, Some, None}
+use Rattle.std.specs.Prelude.{◌≡◌, ◌≢◌, ◌&&◌, ℕ, List, Bool, true, false, Option, Some, None}
 use Rattle.std.specs.Prelude.{IfSome, IfNone, is_some, option_and_then}
 use Rattle.std.specs.Str.{IsUtf8}
 use Rattle.serde_json.specs.Data.{Data, Items, null}
@@ -20,7 +20,7 @@ use Rattle.fluent_syntax_lsp.specs.declared.methods.Method.TheVariants.{Initiali
 use Rattle.fluent_syntax_lsp.specs.declared.phases.ErrorCode.{ErrorCode}
 use Rattle.fluent_syntax_lsp.specs.declared.phases.ErrorCode.TheVariants.{ParseError, InvalidRequest, InvalidParams}
 use Rattle.fluent_syntax_lsp.specs.declared.phases.Phase.{Phase}
-use Rattle.fluent_syntax_lsp.specs.declared.phases.Phase.TheVariants.{Fresh, Running, ShutDown, Exited, Left}
+use Rattle.fluent_syntax_lsp.specs.declared.phases.Phase.TheVariants.{Running}
 use Rattle.fluent_syntax_lsp.specs.declared.server.Server.{Server}
 
 -- How far a session is, and what is open in it under each name.
@@ -62,16 +62,6 @@ fits texts d _ = true
 abbrev pub IsFound : Option Method → (fitting found : Bool) → Type 0
 IsFound (Some Rename) fitting found = found ≡ true → fitting ≡ true
 IsFound _ fitting found = found ≡ fitting
-
--- The same of a request that asks of a place; one that doesn't finds nothing.
-abbrev pub IsFoundAtPlace : Option Method → (fitting found : Bool) → Type 0
-IsFoundAtPlace (Some Definition) fitting found = found ≡ fitting
-IsFoundAtPlace (Some References) fitting found = found ≡ fitting
-IsFoundAtPlace (Some DocumentHighlight) fitting found = found ≡ fitting
-IsFoundAtPlace (Some Hover) fitting found = found ≡ fitting
-IsFoundAtPlace (Some Completion) fitting found = found ≡ fitting
-IsFoundAtPlace (Some Rename) fitting found = found ≡ true → fitting ≡ true
-IsFoundAtPlace _ fitting found = found ≡ false
 
 -- What a request of the method, with that identifier, does: it is refused, by its phase or for its parameters, and
 -- nothing changes; or it is answered.

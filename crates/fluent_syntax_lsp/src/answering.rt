@@ -3,21 +3,17 @@ ghost use Rattle.std.specs.Prelude.{◌≡◌, is_some, IfOk, OnOk};
 ghost use Rattle.serde_json.specs.View.{view};
 ghost use Rattle.fluent_syntax_lsp.specs.Known.{AreKnown};
 ghost use Rattle.fluent_syntax_lsp.specs.Opened.{texts};
-ghost use Rattle.fluent_syntax_lsp.specs.Sessions.{IsFound, IsFoundAtPlace, fits, names_open, names_place};
+ghost use Rattle.fluent_syntax_lsp.specs.Sessions.{IsFound, fits, names_open};
 ghost use Rattle.fluent_syntax_lsp.specs.Sessions.{session_of};
 
-use crate::asked::Asked;
-use crate::completion::completion;
 use crate::documents::Document;
 use crate::formatting::formatted;
 use crate::highlights::{highlights_of, numbers_of};
-use crate::known::{Known, known_documents, number_of};
+use crate::known::{Known, known_documents};
 use crate::methods::Method;
 use crate::occurrences::bytes_of;
-use crate::offsets::byte_of;
-use crate::params::{asked_place, new_name, takes_related, uri_of, wanted_by};
+use crate::params::{takes_related, uri_of};
 use crate::places::Places;
-use crate::renaming::renaming;
 use crate::replies::{capabilities, fold_list, known_symbol, symbol_list, token_list, whole_edit};
 use crate::server::Server;
 use crate::symbols::{folds_in, symbols_in};
@@ -48,14 +44,12 @@ impl Server {
             Some(Method::FoldingRange) => self.folds(message),
             Some(Method::SemanticTokens) => self.tokens(message),
             Some(Method::WorkspaceSymbol) => Ok(Some(self.known_symbols(message)?)),
-            Some(
-                Method::Definition
-                | Method::References
-                | Method::DocumentHighlight
-                | Method::Hover
-                | Method::Rename
-                | Method::Completion,
-            ) => self.told_of_place(method, message),
+            Some(Method::Definition) => self.definitions(message),
+            Some(Method::References) => self.references(message),
+            Some(Method::DocumentHighlight) => self.marked_places(message),
+            Some(Method::Hover) => self.hover(message),
+            Some(Method::Completion) => self.completions(message),
+            Some(Method::Rename) => self.renaming(message),
             _ => Ok(Some(Value::Null)),
         }
     }
@@ -116,68 +110,11 @@ impl Server {
     }
 
     /// The open documents and the closed files.
-    fn known(&self) -> Result<Vec<Known<'_>>, AllocError>
+    pub(crate) fn known(&self) -> Result<Vec<Known<'_>>, AllocError>
         ensures { IfOk result
             (λ found. AreKnown self.now.documents.by_name self.now.workspace.files found.items) }
     {
         known_documents(self.alloc, self.documents.by_name(), self.workspace.files())
-    }
-
-    /// What a request asks of. None where it names no open document, or no place.
-    fn asked(&self, message: &Value) -> Result<Option<Asked<'_>>, AllocError>
-        ensures { IfOk result (λ found. is_some found ≡ names_place (texts self.now.documents) (view message.now)) }
-    {
-        let (Some(uri), Some(place)) = (uri_of(message), asked_place(message)) else {
-            return Ok(None);
-        };
-        if !self.documents.contains(uri) {
-            return Ok(None);
-        }
-        let documents = self.known()?;
-        let Some(number) = number_of(&documents, uri) else {
-            return Ok(None);
-        };
-        let byte = byte_of(documents[number].text, place);
-        let original = self
-            .workspace
-            .original_of(self.alloc, documents[number].path)?;
-        let original = documents
-            .iter()
-            .position(|known| original.as_deref() == Some(known.path));
-        Ok(Some(Asked {
-            documents,
-            number,
-            byte,
-            original,
-        }))
-    }
-
-    /// What is told of a place.
-    fn told_of_place(
-        &self,
-        method: Option<Method>,
-        message: &Value,
-    ) -> Result<Option<Value>, AllocError>
-        ensures { IfOk result (λ found.
-            IsFoundAtPlace method (fits (texts self.now.documents) (view message.now) method) (is_some found)) }
-    {
-        let Some(asked) = self.asked(message)? else {
-            return Ok(None);
-        };
-        match method {
-            Some(Method::Definition) => Ok(Some(asked.definitions(self.alloc)?)),
-            Some(Method::References) => {
-                Ok(Some(asked.locations(self.alloc, wanted_by(message))?))
-            }
-            Some(Method::DocumentHighlight) => Ok(Some(asked.highlights(self.alloc)?)),
-            Some(Method::Hover) => Ok(Some(asked.hover(self.alloc)?)),
-            Some(Method::Completion) => Ok(Some(completion(self.alloc, &asked)?)),
-            Some(Method::Rename) => match new_name(message) {
-                Some(name) => renaming(self.alloc, &asked, name),
-                None => Ok(None),
-            },
-            _ => Ok(None),
-        }
     }
 
     /// What the open documents and the closed files define whose name has the text that is asked for in it.

@@ -1,7 +1,8 @@
 //! The open documents and the closed files, with their names.
-ghost use Rattle.std.specs.Prelude.{◌≡◌, ◌<◌, IfOk, IfSome, filter, is_some, length, map, option_map};
+ghost use Rattle.std.specs.Prelude.{◌≡◌, IfOk, IfSome, filter, is_some, map, option_map};
 ghost use Rattle.fluent_syntax_lsp.specs.Known.{AreKnown, AreKnownClosed, AreKnownOpen, files_beside, has_path};
 ghost use Rattle.fluent_syntax_lsp.specs.Known.{has_uri};
+ghost use Rattle.fluent_syntax_lsp.specs.Asking.{HasUriAt};
 ghost use Rattle.fluent_syntax_lsp.specs.Known.{IsKnownClosed, IsKnownOpen};
 ghost use Rattle.fluent_syntax_lsp.specs.Known.{defines, is_wanted, name_in, names_in, places_in, places_of};
 ghost use Rattle.fluent_syntax_lsp.specs.Occurrences.{name_text, occurrence_at};
@@ -95,14 +96,14 @@ fn files_beside<'d>(
     Ok(found)
 }
 
-/// The number of the first of the documents that has the URI. None where none has it.
-pub fn number_of(documents: &[Known<'_>], uri: &str) -> Option<usize>
+/// The first of the documents that has the URI, and its number. None where none has it.
+pub fn document_of<'k, 'd>(documents: &'k [Known<'d>], uri: &str) -> Option<(usize, &'k Known<'d>)>
     ensures found { is_some result ≡ has_uri documents.now uri.now }
-    ensures within { IfSome result (λ number. number < length documents.now) }
+    ensures there { IfSome result (λ p. HasUriAt documents.now p.0 p.1.now uri.now) }
 {
     for (number, known) in documents.iter().enumerate() {
         if known.uri == uri {
-            return Some(number);
+            return Some((number, known));
         }
     }
     None

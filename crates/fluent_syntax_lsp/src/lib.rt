@@ -3,6 +3,7 @@
 
 mod answering;
 mod asked;
+mod asking;
 mod breaks;
 mod changes;
 mod closed;
