@@ -1,5 +1,6 @@
 -- A session from its first message on.
-use Rattle.std.proofs.Common.{List, [], ℕ, Option, None, Some, Result, Ok, Err, ap, inl, inr, refl, subst, sym, ◌≡◌, ◌∙◌}
+use Rattle.std.proofs.Common.{List, [], ℕ, Option, None, Some, Result, Ok, Err, ap, inl, inr, refl, subst, sym, ◌≡◌}
+use Rattle.std.proofs.Common.{◌∙◌}
 use Rattle.std.proofs.Common.{◌<◌, ◌++◌, arith, drop, length, take, length-append}
 use Rattle.std.proofs.lemmas.List.{length-drop, length-take}
 use Rattle.std.specs.Prelude.{◌⊎◌, IfErr}

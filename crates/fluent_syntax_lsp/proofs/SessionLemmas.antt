@@ -19,8 +19,8 @@ use Rattle.fluent_syntax_lsp.specs.Replies.{Reply, IsSent, diagnosed, silence, s
 use Rattle.fluent_syntax_lsp.specs.Replies.{watch}
 use Rattle.fluent_syntax_lsp.specs.Sessions.{Answers, AnswersNotification, AnswersRequest, AnswersRunning, Follows}
 use Rattle.fluent_syntax_lsp.specs.Sessions.{IsMethod, Session, TakesRequest, concerns}
-use Rattle.fluent_syntax_lsp.specs.Sessions.{changes, names_open, published, requested, notified, opens, passes, runs, saves}
-use Rattle.fluent_syntax_lsp.specs.Sessions.{watches}
+use Rattle.fluent_syntax_lsp.specs.Sessions.{changes, names_open, published, requested, notified, opens, passes, runs}
+use Rattle.fluent_syntax_lsp.specs.Sessions.{saves, watches}
 use Rattle.fluent_syntax_lsp.specs.declared.methods.Method.{Method}
 use Rattle.fluent_syntax_lsp.specs.declared.methods.Method.TheVariants.{DidChange, DidClose, DidOpen, DidSave}
 use Rattle.fluent_syntax_lsp.specs.declared.methods.Method.TheVariants.{Initialized}
@@ -132,7 +132,8 @@ tells_opened r d uri text version old mid new named told numbered sets same sent
     (λ (n : Option ℤ). Sets old.texts uri (Some (record { text = text; version = n })) mid.texts) numbered sets in
     tells r old.texts d (Some DidOpen) uri mid new (is_open old.texts mid.texts uri _ sets)
     (λ now e. opens uri text now named told
-    (subst (λ (t : List ℕ → Option OpenText). Sets old.texts uri (Some (record { text = text; version = version_in d })) t)
+    (subst
+    (λ (t : List ℕ → Option OpenText). Sets old.texts uri (Some (record { text = text; version = version_in d })) t)
     (sym e) made))
     same sent
 
@@ -215,7 +216,9 @@ pub watched : (old : List ℕ → Option OpenText) (d : Data) (method : Option M
     (sent : Option Data) → method ≡ Some known → known ≡ Initialized → IsSent watch sent ⊎ IsSent silence sent →
     AnswersRunning old d method sent old
 watched old d method known sent is named (inl watches') =
-    (watch, watches', subst (λ (m : Option Method). Follows old d m watch old) (sym (is ∙ ap Some named)) (watches old refl))
+    let follows = subst (λ (m : Option Method). Follows old d m watch old) (sym (is ∙ ap Some named))
+    (watches old refl) in
+    (watch, watches', follows)
 watched old d method known sent is named (inr none) =
     (silence, none, passes method old (ap (concerns old d) (is ∙ ap Some named)) refl)
 

@@ -29,7 +29,7 @@ some_mapped : {A B : Type 0} (f : A → B) (o : Option A) → is_some (option_ma
 some_mapped f None = refl
 some_mapped f (Some x) = refl
 
-has_more : (here : Bool) (later all : Bool) → (later ≡ true → all ≡ true) → (here || later) ≡ true → (here || all) ≡ true
+has_more : (here later all : Bool) → (later ≡ true → all ≡ true) → (here || later) ≡ true → (here || all) ≡ true
 has_more true later all more is = refl
 has_more false later all more is = more is
 

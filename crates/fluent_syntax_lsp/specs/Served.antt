@@ -15,7 +15,8 @@ pub record IsFresh (session : Session) : Type 0 where
   pub none : (name : List ℕ) → session.texts name ≡ None
 
 -- The session takes the step of the body, and what is sent for it is put on the output.
-pub record SendsAnswer (before : Session) (body : List ℕ) (now : Session) (written sent_on : Option (List ℕ)) : Type 0 where
+pub record SendsAnswer (before : Session) (body : List ℕ) (now : Session) (written sent_on : Option (List ℕ)) :
+    Type 0 where
   pub sent : Option Data
   pub answered : Answers before body sent now
   pub sends : Sends written sent_on sent

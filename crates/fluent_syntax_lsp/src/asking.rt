@@ -72,7 +72,8 @@ impl Server {
             (λ found. is_some found ≡ names_place (texts self.now.documents) (view message.now)) }
         ensures told { let documents = self.now.documents.by_name in let files = self.now.workspace.files in
             IfOk result (λ found. IfSome found (λ value.
-            TellsOfPlace documents files (view message.now) (λ asked. view value ≡ locations_form asked (wanted_in (view message.now))))) }
+            TellsOfPlace documents files (view message.now) (λ asked.
+            view value ≡ locations_form asked (wanted_in (view message.now))))) }
     {
         match self.asked(message)? {
             Some(asked) => Ok(Some(asked.locations(self.alloc, wanted_by(message))?)),
@@ -116,8 +117,8 @@ impl Server {
         }
     }
 
-    /// The edits by which the name at the place has the new name of the request. None also where there is no new name, or
-    /// the name can't have it.
+    /// The edits by which the name at the place has the new name of the request. None also where there is no new name,
+    /// or the name can't have it.
     pub(crate) fn renaming(&self, message: &Value) -> Result<Option<Value>, AllocError>
         ensures found { IfOk result (λ found. is_some found ≡ true
             → names_place (texts self.now.documents) (view message.now) ≡ true) }

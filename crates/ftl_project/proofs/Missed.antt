@@ -28,7 +28,8 @@ module _ (form : Form) (pair : Pair) (text : List ℕ) (other : Outline) (lack :
       let junk = lack_junk text other lack in
       let says_so = subst (λ b. SaysMissing theirs text lack b difference message) (same_junk ∙ ap is_some same_place)
       (subst (λ r. SaysMissing r text lack is_junk difference message) same_reference says) in
-      let remark_so = subst (λ p. IsRemark form p other.text.now junk (difference_name difference) message told) same_path
+      let remark_so = subst
+      (λ p. IsRemark form p other.text.now junk (difference_name difference) message told) same_path
       (subst (λ k. IsRemark form path other.text.now junk k message told) same_kind
       (subst (λ spot. IsRemark form path other.text.now spot kind message told) same_place remark)) in
       subst (λ of. IsDifferenceTold form own other.text.now junk of (SaysMissing theirs text lack (is_some junk)) told)

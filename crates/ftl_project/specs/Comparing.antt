@@ -61,8 +61,8 @@ abbrev pub SaysMore : (text : List ℕ) → Lack → Difference → (message : L
 SaysMore text lack difference message =
     (name : List ℕ) × IsName text lack.name name × (message ≡ difference_sentence difference name)
 
--- This is told of what the reference's text has and the other file lacks: where that has the entry as junk, at the first
--- such junk.
+-- This is told of what the reference's text has and the other file lacks: where that has the entry as junk, at the
+-- first such junk.
 abbrev pub IsMissingTold : Form → Pair → (text : List ℕ) → (other : Outline) → Lack → (told : List ℕ) → Type 0
 IsMissingTold form pair text other lack told =
     IsDifferenceTold form (string_bytes pair.other) other.text.now (lack_junk text other lack)

@@ -13,7 +13,7 @@ use Rattle.ftl_project.specs.declared.remarks.Spot.{Spot}
 abbrev pub junk_spot : Outline → (entry : List ℕ) → Option Spot
 junk_spot file entry = option_map (spot_at file.text.now) (refused_at file entry)
 
--- of a part that the file lacks, by its name in the text that has it: no junk is the value of a message, or an attribute
+-- of a part that the file lacks, by its name in the text that has it: no junk is a message's value, or an attribute
 abbrev pub part_junk : (text : List ℕ) → Outline → Part → Span → Option Spot
 part_junk text file part.Entry name = junk_spot file (entry_at text name)
 part_junk text file part.Value name = None

@@ -17,7 +17,8 @@ loop-lack-preserved c =
       lines = c.lack_told.ensures.lines ∙ c.loop-lack.invariant.lines;
       tells = TellsEach-more
           (IsLackTold c.args.side c.args.form c.args.pair.now c.args.text.now c.args.translation.now.outline.now)
-          c.args.lacks.now c.loop-lack.lack-index d before (string_bytes c.in_ok-told.told) (string_bytes c.push_str.new.self)
+          c.args.lacks.now c.loop-lack.lack-index d before (string_bytes c.in_ok-told.told)
+          (string_bytes c.push_str.new.self)
           (omega arith) c.loop-lack.invariant.tells c.in_ok-told.ensures.told
           (c.in_ok-push_str.ensures.bytes ∙ ap (λ text. before ++ text) c.as_str.ensures.value);
     }

@@ -8,6 +8,7 @@ pub returns : goal.returns
 returns c =
     let name = c.name_in.result.now in
     let told = missing_message c.args.path.now c.args.text.now c.args.lack.now c.args.difference c.args.is_junk name in
-    let said = said_as c.format.result _ told (simp (append_assoc, c.in_ok-said.ensures, c.requires, c.behind_missing-behind.ensures))
+    let said = said_as c.format.result _ told
+    (simp (append_assoc, c.in_ok-said.ensures, c.requires, c.behind_missing-behind.ensures))
     c.format.ensures.ok in
     IfOk-weaker c.format.result _ _ (λ message says. (name, c.name_in.ensures, says)) said

@@ -53,7 +53,8 @@ returns-in_default-2-clause-follows c =
       sends_none,
       passes (Some DidChange) old
           (unreadable old d
-          (edits_of_changes d c.deref.result.now values _ (sym c.in-Some-changes_in.ensures) c.deref.ensures.value none))
+          (edits_of_changes d c.deref.result.now values _ (sym c.in-Some-changes_in.ensures)
+          c.deref.ensures.value none))
           refl,
     )
 

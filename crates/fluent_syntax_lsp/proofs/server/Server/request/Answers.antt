@@ -43,5 +43,6 @@ returns c =
       answered (view c.args.id),
       sent_as _ _ _ c.in_ok-reply.ensures (sends_answer _ _),
       finds _ (sym c.in_default.ensures) found
-          (answered_in _ (session_of c.found.new.self) _ method c.after_request-self.ensures c.in_ok-found.ensures.same),
+          (answered_in _ (session_of c.found.new.self) _ method c.after_request-self.ensures
+          c.in_ok-found.ensures.same),
     )
