@@ -1,17 +1,19 @@
 -- A session from its first message on.
 use Rattle.std.proofs.Common.{List, [], ℕ, Option, None, Some, Result, Ok, Err, ap, inl, inr, refl, subst, sym, ◌≡◌}
-use Rattle.std.proofs.Common.{◌∙◌}
+use Rattle.std.proofs.Common.{◌∙◌, Bool, true, false, true≢false}
 use Rattle.std.proofs.Common.{◌<◌, ◌++◌, arith, drop, length, take, length-append}
 use Rattle.std.proofs.lemmas.List.{length-drop, length-take}
-use Rattle.std.specs.Prelude.{◌⊎◌, IfErr}
+use Rattle.std.specs.Prelude.{◌⊎◌, ◌≢◌, IfErr}
 use Rattle.std.specs.Io.KnownBytes.{prepend_known}
 use Rattle.serde_json.specs.Data.{Data}
 use Rattle.fluent_syntax_lsp.specs.Served.{Ends, IsFresh, IsUnsent, Serves, begins, has_no_frame, has_no_memory}
+use Rattle.fluent_syntax_lsp.specs.Phases.{ending_of}
 use Rattle.fluent_syntax_lsp.specs.Served.{is_not_written, stops}
 use Rattle.fluent_syntax_lsp.specs.Sessions.{Answers, Session}
 use Rattle.fluent_syntax_lsp.specs.declared.endings.Ending.{Ending}
-use Rattle.fluent_syntax_lsp.specs.declared.endings.Ending.TheVariants.{Memory, Output}
-use Rattle.fluent_syntax_lsp.specs.declared.phases.Phase.TheVariants.{Fresh}
+use Rattle.fluent_syntax_lsp.specs.declared.endings.Ending.TheVariants.{Input, Memory, Output}
+use Rattle.fluent_syntax_lsp.specs.declared.phases.Phase.{Phase}
+use Rattle.fluent_syntax_lsp.specs.declared.phases.Phase.TheVariants.{Exited, Fresh, Left, Running, ShutDown}
 
 nothing_pending : (input : Option (List ℕ)) → prepend_known [] input ≡ input
 nothing_pending None = refl
@@ -53,3 +55,18 @@ unsent (Err e) before next body sent value written now answers some (inl is) sam
 unsent (Err e) before next body sent value written now answers some (inr is) same =
     subst (λ (ending : Ending). IsUnsent before body written ending now) (sym is)
     (is_not_written now value next (subst (λ (o : Option Data). Answers before body o next) some answers))
+
+abbrev is_exit : Option Ending → Bool
+is_exit (Some Input) = false
+is_exit _ = true
+
+is_exit_of : (phase : Phase) → is_exit (ending_of phase) ≡ true
+is_exit_of Fresh = refl
+is_exit_of Running = refl
+is_exit_of ShutDown = refl
+is_exit_of Exited = refl
+is_exit_of Left = refl
+
+-- no phase ends as where reading fails
+pub ends_by_no_input : (phase : Phase) → ending_of phase ≢ Some Input
+ends_by_no_input phase is = true≢false (sym (is_exit_of phase) ∙ ap is_exit is)

@@ -1,7 +1,7 @@
 //! A whole session: reads messages, answers them, and ends.
-ghost use Rattle.std.specs.Prelude.{◌<◌, length, IfErr, OnOk};
+ghost use Rattle.std.specs.Prelude.{◌≡◌, ◌<◌, length, true, Err, IfErr, OnOk};
 ghost use Rattle.std.specs.Io.KnownBytes.{prepend_known};
-ghost use Rattle.ftl.specs.Watched.{inner_of};
+ghost use Rattle.ftl.specs.Watched.{has_failed, inner_of};
 ghost use Rattle.fluent_syntax_lsp.specs.Served.{Ends, IsUnsent, SendsAnswer, Stops, TakesStep};
 ghost use Rattle.fluent_syntax_lsp.specs.Sessions.{session_of};
 
@@ -25,7 +25,8 @@ pub fn serve<R: Read, W: Write, F: Folders>(
     writer: &mut W,
     files: &F,
 ) -> Ending
-    ensures { Ends (R.remaining (inner_of reader.old)) (W.contents writer.old) result (W.contents writer.new) }
+    ensures ends { Ends (R.remaining (inner_of reader.old)) (W.contents writer.old) result (W.contents writer.new) }
+    ensures input { result ≡ Ending.Input → has_failed reader.new ≡ true }
 {
     let Ok(mut block) = vec![in alloc; 0u8; BLOCK] else {
         return Ending::Memory;
@@ -51,7 +52,7 @@ pub fn serve<R: Read, W: Write, F: Folders>(
         }
     }
     // more messages than can be counted are not read
-    Ending::Input
+    Ending::Memory
 }
 
 /// Takes the next message, and sends what is to be sent for it. The endings are those of `next_body` and of `answer`.
@@ -72,6 +73,7 @@ fn answer_next<R: Read, W: Write, F: Folders>(
     ensures stops { let left = prepend_known pending.old.items (R.remaining (inner_of reader.old)) in
         IfErr result (λ ending. Stops (session_of server.old) left
         (W.contents writer.old) ending (W.contents writer.new)) }
+    ensures input { result ≡ Err Ending.Input → has_failed reader.new ≡ true }
 {
     match next_body(alloc, reader, pending, block) {
         Ok(body) => answer(alloc, server, body.as_slice(), writer, files),

@@ -1,12 +1,12 @@
-use Rattle.std.proofs.Common.{ap, refl, rules, sym}
+use Rattle.std.proofs.Common.{Err, Some, ap, refl, rules, sym, ◌∙◌}
 use Rattle.fluent_syntax_lsp.specs.Phases.{ending_of}
 use Rattle.fluent_syntax_lsp.specs.Served.{exits, goes_on, has_no_frame, stops}
 use Rattle.fluent_syntax_lsp.specs.Sessions.{session_of}
-use Rattle.fluent_syntax_lsp.proofs.ServedLemmas.{begins_with_all, ends_before_all, keeps_room}
+use Rattle.fluent_syntax_lsp.proofs.ServedLemmas.{begins_with_all, ends_before_all, ends_by_no_input, keeps_room}
 use Rattle.fluent_syntax_lsp.proofs.sessions.serve.Goals as goal
 
-pub returns-in_default : goal.returns-in_default
-returns-in_default g c = ends_before_all _ _
+pub returns-in_default-clause-ends : goal.returns-in_default-clause-ends
+returns-in_default-clause-ends g c = ends_before_all _ _
 
 pub loop-init : goal.loop-init
 loop-init g c = record {
@@ -16,13 +16,13 @@ loop-init g c = record {
   goes_on = ap ending_of c.new-server.ensures.phase;
 }
 
-pub returns-in-Err : goal.returns-in-Err
-returns-in-Err g c =
+pub returns-in-Err-clause-ends : goal.returns-in-Err-clause-ends
+returns-in-Err-clause-ends g c =
     stops (session_of c.loop.server) _ _ _ c.in-Err.ending c.loop.invariant.serves c.loop.invariant.goes_on
     c.in-Err.ensures.stops
 
-pub returns-in-Some : goal.returns-in-Some
-returns-in-Some g c =
+pub returns-in-Some-clause-ends : goal.returns-in-Some-clause-ends
+returns-in-Some-clause-ends g c =
     exits (session_of c.answer_next-answered.new.server) _ _ c.in-Some.ending
     (goes_on (session_of c.loop.server) _ _ _ _ _ c.loop.invariant.serves c.loop.invariant.goes_on
     c.in_default-answered.ensures.step)
@@ -36,6 +36,13 @@ loop-preserved g c = record {
   goes_on = sym c.in_default-ending.ensures;
 }
 
-pub returns : goal.returns
-returns g c =
+pub returns-clause-ends : goal.returns-clause-ends
+returns-clause-ends g c =
     stops (session_of c.loop.server) _ _ _ _ c.loop.invariant.serves c.loop.invariant.goes_on (has_no_frame _ _ tt refl)
+
+pub returns-in-Err-clause-input : goal.returns-in-Err-clause-input
+returns-in-Err-clause-input g c is = c.in-Err.ensures.input (ap Err is)
+
+pub returns-in-Some-clause-input : goal.returns-in-Some-clause-input
+returns-in-Some-clause-input g c is =
+    absurd (ends_by_no_input c.answer_next-answered.new.server.phase (sym c.in-Some.ensures ∙ ap Some is))
