@@ -26,6 +26,7 @@ pub mod Params
 pub mod Edits
 pub mod Opened
 pub mod Replies
+pub mod Results
 pub mod Outbox
 pub mod Sessions
 pub mod Served

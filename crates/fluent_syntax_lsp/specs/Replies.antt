@@ -9,7 +9,7 @@ use Rattle.fluent_syntax_lsp.specs.declared.phases.ErrorCode.{ErrorCode}
 pub data Reply : Type 0 where
   silence : Reply
   -- the answer to the request with the identifier, or its refusal
-  answered : (id : Data) → Reply
+  answered : (id result : Data) → Reply
   refused : (id : Data) → ErrorCode → Reply
   -- the diagnostics of the document with the name
   diagnosed : (uri : List ℕ) → Reply
@@ -64,7 +64,7 @@ watch_form =
 -- The value is what is sent for the reply, if anything is.
 pub data IsSent : Reply → Option Data → Type 0 where
   sends_none : IsSent silence None
-  sends_answer : (id result : Data) → IsSent (answered id) (Some (answer_form id result))
+  sends_answer : (id result : Data) → IsSent (answered id result) (Some (answer_form id result))
   sends_refusal : (id : Data) (code : ErrorCode) → IsSent (refused id code) (Some (refusal_form id code))
   sends_diagnostics : (uri : List ℕ) (list : Data) → IsSent (diagnosed uri) (Some (diagnostics_form uri list))
   sends_watch : IsSent watch (Some watch_form)

@@ -4,12 +4,14 @@ use Rattle.std.specs.Prelude.{IfSome, IfNone, is_some, option_and_then}
 use Rattle.std.specs.Str.{IsUtf8}
 use Rattle.serde_json.specs.Data.{Data, Items, null}
 use Rattle.serde_json.specs.Read.{read}
-use Rattle.fluent_syntax_lsp.specs.Edits.{Edit, asked_place_in, edits_in}
+use Rattle.fluent_syntax_lsp.specs.Asking.{names_open, names_place}
+use Rattle.fluent_syntax_lsp.specs.Edits.{Edit, edits_in}
 use Rattle.fluent_syntax_lsp.specs.Messages.{message_in, request, notification, response, invalid}
 use Rattle.fluent_syntax_lsp.specs.Methods.{name_of}
 use Rattle.fluent_syntax_lsp.specs.Opened.{MakesOpen, OpenText, Sets, texts}
 use Rattle.fluent_syntax_lsp.specs.Params.{changes_in, new_name_in, opened_text_in, uri_in, version_in}
 use Rattle.fluent_syntax_lsp.specs.Phases.{after_notification, after_request, refusal_of}
+use Rattle.fluent_syntax_lsp.specs.Results.{IsResult, Sources}
 use Rattle.fluent_syntax_lsp.specs.Replies.{IsSent, Reply, silence, answered, refused, diagnosed, watch}
 use Rattle.fluent_syntax_lsp.specs.declared.methods.Method.{Method}
 use Rattle.fluent_syntax_lsp.specs.declared.methods.Method.TheVariants.{DocumentSymbol, Formatting, FoldingRange}
@@ -36,14 +38,6 @@ abbrev pub IsMethod : (name : List ℕ) → Option Method → Type 0
 IsMethod name method =
     IfSome method (λ known. name_of known ≡ name) × IfNone method ((known : Method) → name_of known ≢ name)
 
--- whether the message names a document that is open
-abbrev pub names_open : (texts : List ℕ → Option OpenText) → Data → Bool
-names_open texts d = is_some (option_and_then texts (uri_in d))
-
--- and a place
-abbrev pub names_place : (texts : List ℕ → Option OpenText) → Data → Bool
-names_place texts d = names_open texts d && is_some (asked_place_in d)
-
 -- whether the parameters of a request are those that its method asks for
 abbrev pub fits : (texts : List ℕ → Option OpenText) → Data → Option Method → Bool
 fits texts d (Some DocumentSymbol) = names_open texts d
@@ -58,21 +52,29 @@ fits texts d (Some Completion) = names_place texts d
 fits texts d (Some Rename) = names_place texts d && is_some (new_name_in d)
 fits texts d _ = true
 
--- An answer is found where the parameters fit; a renaming may have none then too, by what stands at the place.
+-- A result is found where the parameters fit; a renaming may have none then too, by what stands at the place.
 abbrev pub IsFound : Option Method → (fitting found : Bool) → Type 0
 IsFound (Some Rename) fitting found = found ≡ true → fitting ≡ true
 IsFound _ fitting found = found ≡ fitting
 
+-- What is found for a request of the method, where its phase has none against it.
+pub record Finds (old : Session) (sources : Sources) (d : Data) (method : Option Method) (result : Option Data) :
+    Type 0 where
+  pub allowed : refusal_of old.phase method ≡ None
+  pub fitting : IsFound method (fits old.texts d method) (is_some result)
+  pub is_result : IsResult sources d method result
+
 -- What a request of the method, with that identifier, does: it is refused, by its phase or for its parameters, and
--- nothing changes; or it is answered.
-pub data TakesRequest (old : Session) (id d : Data) (method : Option Method) : Reply → (new : Session) → Type 0 where
+-- nothing changes; or it is answered by what is found.
+pub data TakesRequest (old : Session) (sources : Sources) (id d : Data) (method : Option Method) :
+    Reply → (new : Session) → Type 0 where
   has_no_place : (code : ErrorCode) (new : Session) → refusal_of old.phase method ≡ Some code → new ≡ old →
-      TakesRequest old id d method (refused id code) new
-  finds_none : (new : Session) → refusal_of old.phase method ≡ None → IsFound method (fits old.texts d method) false →
-      new ≡ old → TakesRequest old id d method (refused id InvalidParams) new
-  finds : (new : Session) → refusal_of old.phase method ≡ None → IsFound method (fits old.texts d method) true →
+      TakesRequest old sources id d method (refused id code) new
+  finds_none : (new : Session) → Finds old sources d method None → new ≡ old →
+      TakesRequest old sources id d method (refused id InvalidParams) new
+  finds : (result : Data) (new : Session) → Finds old sources d method (Some result) →
       new ≡ record { phase = after_request old.phase method; texts = old.texts } →
-      TakesRequest old id d method (answered id) new
+      TakesRequest old sources id d method (answered id result) new
 
 -- whether a notification changes a document, or has its diagnostics told, while the session runs
 abbrev pub concerns : (texts : List ℕ → Option OpenText) → Data → Option Method → Bool
@@ -114,23 +116,25 @@ pub data TakesNotification (old : Session) (d : Data) (method : Option Method) :
       new ≡ record { phase = after_notification old.phase method; texts = old.texts } →
       TakesNotification old d method silence new
 
--- What a session does with the body of a message, and what it sends for it.
-pub data Steps (old : Session) (body : List ℕ) : Reply → (new : Session) → Type 0 where
-  garbled : (IsUtf8 body → read body ≡ None) → Steps old body (refused null ParseError) old
+-- What a session does with the body of a message, and what it sends for it, where requests are answered from these
+-- sources.
+pub data Steps (old : Session) (sources : Sources) (body : List ℕ) : Reply → (new : Session) → Type 0 where
+  garbled : (IsUtf8 body → read body ≡ None) → Steps old sources body (refused null ParseError) old
   requested : (d id : Data) (name : List ℕ) (method : Option Method) (reply : Reply) (new : Session) →
       read body ≡ Some d → message_in d ≡ request id name → IsMethod name method →
-      TakesRequest old id d method reply new → Steps old body reply new
+      TakesRequest old sources id d method reply new → Steps old sources body reply new
   notified : (d : Data) (name : List ℕ) (method : Option Method) (reply : Reply) (new : Session) →
       read body ≡ Some d → message_in d ≡ notification name → IsMethod name method →
-      TakesNotification old d method reply new → Steps old body reply new
-  responded : (d : Data) → read body ≡ Some d → message_in d ≡ response → Steps old body silence old
+      TakesNotification old d method reply new → Steps old sources body reply new
+  responded : (d : Data) → read body ≡ Some d → message_in d ≡ response → Steps old sources body silence old
   unasked : (d : Data) → read body ≡ Some d → message_in d ≡ invalid →
-      Steps old body (refused null InvalidRequest) old
+      Steps old sources body (refused null InvalidRequest) old
 
 -- The same, where that value is sent for it, if any is.
-abbrev pub AnswersRequest : (old : Session) → (id d : Data) → Option Method → Option Data → (new : Session) → Type 0
-AnswersRequest old id d method sent new =
-    (reply : Reply) × IsSent reply sent × TakesRequest old id d method reply new
+abbrev pub AnswersRequest : (old : Session) → Sources → (id d : Data) → Option Method → Option Data →
+    (new : Session) → Type 0
+AnswersRequest old sources id d method sent new =
+    (reply : Reply) × IsSent reply sent × TakesRequest old sources id d method reply new
 
 abbrev pub AnswersNotification : (old : Session) → Data → Option Method → Option Data → (new : Session) → Type 0
 AnswersNotification old d method sent new =
@@ -140,5 +144,5 @@ abbrev pub AnswersRunning : (old : List ℕ → Option OpenText) → Data → Op
     (new : List ℕ → Option OpenText) → Type 0
 AnswersRunning old d method sent new = (reply : Reply) × IsSent reply sent × Follows old d method reply new
 
-abbrev pub Answers : (old : Session) → (body : List ℕ) → Option Data → (new : Session) → Type 0
-Answers old body sent new = (reply : Reply) × IsSent reply sent × Steps old body reply new
+abbrev pub Answers : (old : Session) → Sources → (body : List ℕ) → Option Data → (new : Session) → Type 0
+Answers old sources body sent new = (reply : Reply) × IsSent reply sent × Steps old sources body reply new

@@ -1,10 +1,11 @@
 //! What a request asks for.
-ghost use Rattle.std.specs.Prelude.{◌≡◌, is_some, IfOk, OnOk};
+ghost use Rattle.std.specs.Prelude.{◌≡◌, is_some, option_map, IfOk, OnOk};
 ghost use Rattle.serde_json.specs.View.{view};
+ghost use Rattle.fluent_syntax_lsp.specs.Asking.{names_open};
 ghost use Rattle.fluent_syntax_lsp.specs.Known.{AreKnown};
 ghost use Rattle.fluent_syntax_lsp.specs.Opened.{texts};
-ghost use Rattle.fluent_syntax_lsp.specs.Sessions.{IsFound, fits, names_open};
-ghost use Rattle.fluent_syntax_lsp.specs.Sessions.{session_of};
+ghost use Rattle.fluent_syntax_lsp.specs.Results.{IsResult, sources_of};
+ghost use Rattle.fluent_syntax_lsp.specs.Sessions.{IsFound, fits, session_of};
 
 use crate::documents::Document;
 use crate::formatting::formatted;
@@ -32,6 +33,8 @@ impl Server {
         ensures same { OnOk result (session_of self.new ≡ session_of self.old) }
         ensures found { IfOk result (λ found.
             IsFound method (fits (texts self.old.documents) (view message.now) method) (is_some found)) }
+        ensures result { IfOk result (λ found.
+            IsResult (sources_of self.old self.new) (view message.now) method (option_map view found)) }
     {
         match method {
             Some(Method::Initialize) => {

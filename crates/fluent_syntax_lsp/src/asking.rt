@@ -2,11 +2,10 @@
 ghost use Rattle.std.specs.Prelude.{◌≡◌, is_some, option_and_then, option_map, true, IfOk, IfSome, Some};
 ghost use Rattle.serde_json.specs.View.{view};
 ghost use Rattle.fluent_syntax_lsp.specs.Asked.{definitions_form, highlights_form, locations_form};
-ghost use Rattle.fluent_syntax_lsp.specs.Asking.{IsAsked, TellsOfPlace};
+ghost use Rattle.fluent_syntax_lsp.specs.Asking.{IsAsked, TellsOfPlace, names_place};
 ghost use Rattle.fluent_syntax_lsp.specs.Opened.{texts};
 ghost use Rattle.fluent_syntax_lsp.specs.Params.{new_name_in, wanted_in};
 ghost use Rattle.fluent_syntax_lsp.specs.Renaming.{renaming_asked};
-ghost use Rattle.fluent_syntax_lsp.specs.Sessions.{names_place};
 
 use crate::asked::Asked;
 use crate::completion::completion;

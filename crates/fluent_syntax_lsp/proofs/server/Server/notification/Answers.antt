@@ -19,5 +19,5 @@ pub returns : goal.returns
 returns g c =
     notified_running (session_of c.args.self.now) (session_of c.read_files.new.self) (view c.args.message.now)
     c.args.method (option_map view c.in_ok-sent.sent) c.follow.new.self.phase c.after_notification-self-2.result
-    (texts c.follow.new.self.documents) c.in-Running.is c.in_ok-read_files.ensures c.in_ok-sent.ensures.phase
+    (texts c.follow.new.self.documents) c.in-Running.is c.in_ok-read_files.ensures.same c.in_ok-sent.ensures.phase
     c.after_notification-self-2.ensures c.in_ok-sent.ensures.follows
