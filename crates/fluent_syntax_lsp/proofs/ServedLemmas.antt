@@ -3,13 +3,15 @@ use Rattle.std.proofs.Common.{List, [], ℕ, Option, None, Some, Result, Ok, Err
 use Rattle.std.proofs.Common.{◌∙◌, Bool, true, false, true≢false}
 use Rattle.std.proofs.Common.{◌<◌, ◌++◌, arith, drop, length, take, length-append}
 use Rattle.std.proofs.lemmas.List.{length-drop, length-take}
-use Rattle.std.specs.Prelude.{◌⊎◌, ◌≢◌, IfErr}
+use Rattle.std.specs.Prelude.{◌⊎◌, ◌≢◌, IfErr, OnOk}
 use Rattle.std.specs.Io.KnownBytes.{prepend_known}
 use Rattle.serde_json.specs.Data.{Data}
 use Rattle.fluent_syntax_lsp.specs.Served.{Ends, IsFresh, IsUnsent, Serves, begins, has_no_frame, has_no_memory}
+use Rattle.fluent_syntax_lsp.specs.Outbox.{Sends}
 use Rattle.fluent_syntax_lsp.specs.Phases.{ending_of}
-use Rattle.fluent_syntax_lsp.specs.Served.{DoesStep, is_not_written, stops}
-use Rattle.fluent_syntax_lsp.specs.Sessions.{Session}
+use Rattle.fluent_syntax_lsp.specs.Served.{DoesStep, GoesOn, Stops, TakesStep, is_not_written, is_untold, stops}
+use Rattle.fluent_syntax_lsp.specs.Served.{takes, tells, tells_unwritten, tells_without_memory}
+use Rattle.fluent_syntax_lsp.specs.Sessions.{Session, TellsAnew}
 use Rattle.fluent_syntax_lsp.specs.declared.endings.Ending.{Ending}
 use Rattle.fluent_syntax_lsp.specs.declared.endings.Ending.TheVariants.{Input, Memory, Output}
 use Rattle.fluent_syntax_lsp.specs.declared.phases.Phase.{Phase}
@@ -70,3 +72,39 @@ is_exit_of Left = refl
 -- no phase ends as where reading fails
 pub ends_by_no_input : (phase : Phase) → ending_of phase ≢ Some Input
 ends_by_no_input phase is = true≢false (sym (is_exit_of phase) ∙ ap is_exit is)
+
+-- ---- What is told anew
+
+-- behind what changes nothing of the session a step is one of the session
+pub takes_behind : {X Y : Type 0} (r : Result X Y) (old mid now : Session)
+    (left after written sent_on : Option (List ℕ)) → mid ≡ old →
+    OnOk r (TakesStep mid now left after written sent_on) → OnOk r (GoesOn old now left after written sent_on)
+takes_behind (Ok x) old mid now left after written sent_on same step =
+    takes (subst (λ (s : Session). TakesStep s now left after written sent_on) same step)
+takes_behind (Err e) old mid now left after written sent_on same step = step
+
+-- a document of which was told
+pub tells_behind : {X Y : Type 0} (r : Result X Y) (old mid : Session) (left written sent_on : Option (List ℕ))
+    (value : Data) → mid ≡ old → TellsAnew old.texts value → OnOk r (Sends written sent_on (Some value)) →
+    OnOk r (GoesOn old mid left left written sent_on)
+tells_behind (Ok x) old mid left written sent_on value same anew sends = tells value anew same refl sends
+tells_behind (Err e) old mid left written sent_on value same anew sends = sends
+
+-- why a session stops behind what changes nothing of it
+pub stops_behind : {X : Type 0} (r : Result X Ending) (old mid : Session) (left written now : Option (List ℕ)) →
+    mid ≡ old → IfErr r (λ ending. Stops mid left written ending now) →
+    IfErr r (λ ending. Stops old left written ending now)
+stops_behind r old mid left written now same stopped =
+    subst (λ (s : Session). IfErr r (λ ending. Stops s left written ending now)) same stopped
+
+-- a document of which could not be told
+pub untold : {Y : Type 0} (r : Result Y Ending) (before : Session) (left written now : Option (List ℕ))
+    (value : Data) → TellsAnew before.texts value → IfErr r (λ ending. (ending ≡ Memory) ⊎ (ending ≡ Output)) →
+    (r ≡ Err Memory → now ≡ written) → IfErr r (λ ending. Stops before left written ending now)
+untold (Ok x) before left written now value anew fault same = fault
+untold (Err e) before left written now value anew (inl is) same =
+    subst (λ (ending : Ending). Stops before left written ending now) (sym is)
+    (is_untold Memory now (tells_without_memory now (same (ap Err is))))
+untold (Err e) before left written now value anew (inr is) same =
+    subst (λ (ending : Ending). Stops before left written ending now) (sym is)
+    (is_untold Output now (tells_unwritten now value anew))

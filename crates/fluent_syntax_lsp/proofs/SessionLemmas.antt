@@ -257,13 +257,25 @@ watched old d method known sent is named (inr none) =
     (silence, none, passes method old (ap (concerns old d) (is ∙ ap Some named)) refl)
 
 -- a notification that was followed while the session runs
-pub notified_running : (old mid : Session) (d : Data) (method : Option Method) (sent : Option Data)
+followed : (old mid : Session) (d : Data) (method : Option Method) (sent : Option Data)
     (phase last : Phase) (new : List ℕ → Option OpenText) → old.phase ≡ Running → mid ≡ old → phase ≡ mid.phase →
     last ≡ after_notification phase method → AnswersRunning mid.texts d method sent new →
     AnswersNotification old d method sent (record { phase = last; texts = new })
-notified_running old mid d method sent phase last new is_running same kept after (reply, is, follows) = (
+followed old mid d method sent phase last new is_running same kept after (reply, is, follows) = (
   reply,
   is,
   runs reply _ is_running (subst (λ (s : Session). Follows s.texts d method reply new) same follows)
       (after ∙ ap (λ (p : Phase). after_notification p method) (kept ∙ ap (λ (s : Session). s.phase) same)),
 )
+
+-- the same, where nothing of the session is changed behind it
+pub notified_running : (old mid behind noted : Session) (d : Data) (method : Option Method) (sent : Option Data)
+    (last : Phase) → old.phase ≡ Running → mid ≡ old → behind.phase ≡ mid.phase → noted ≡ behind →
+    last ≡ after_notification noted.phase method → AnswersRunning mid.texts d method sent behind.texts →
+    AnswersNotification old d method sent (record { phase = last; texts = noted.texts })
+notified_running old mid behind noted d method sent last is_running same kept same_noted after answers =
+    subst
+    (λ (s : Session). last ≡ after_notification s.phase method →
+    AnswersNotification old d method sent (record { phase = last; texts = s.texts }))
+    (sym same_noted)
+    (λ e. followed old mid d method sent behind.phase last behind.texts is_running same kept e answers) after

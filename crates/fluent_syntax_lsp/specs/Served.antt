@@ -6,7 +6,7 @@ use Rattle.fluent_syntax_lsp.specs.Opened.{texts_of}
 use Rattle.fluent_syntax_lsp.specs.Outbox.{Sends}
 use Rattle.fluent_syntax_lsp.specs.Phases.{ending_of}
 use Rattle.fluent_syntax_lsp.specs.Results.{Sources}
-use Rattle.fluent_syntax_lsp.specs.Sessions.{Answers, Session}
+use Rattle.fluent_syntax_lsp.specs.Sessions.{Answers, Session, TellsAnew}
 use Rattle.fluent_syntax_lsp.specs.declared.endings.Ending.{Ending}
 use Rattle.fluent_syntax_lsp.specs.declared.endings.Ending.TheVariants.{Memory, Output}
 use Rattle.fluent_syntax_lsp.specs.declared.phases.Phase.TheVariants.{Fresh}
@@ -36,12 +36,18 @@ pub record TakesStep (before now : Session) (left after written sent_on : Option
   pub taken : TakesFrame left after body
   pub answered : SendsAnswer before body now written sent_on
 
+-- A session goes on: it takes a frame off the input, or it tells anew of a document.
+pub data GoesOn (before now : Session) (left after written sent_on : Option (List ℕ)) : Type 0 where
+  takes : TakesStep before now left after written sent_on → GoesOn before now left after written sent_on
+  tells : (value : Data) → TellsAnew before.texts value → now ≡ before → after ≡ left →
+      Sends written sent_on (Some value) → GoesOn before now left after written sent_on
+
 -- What is left of the input and what stands on the output, behind a session's steps from the first on.
 pub data Serves (input output : Option (List ℕ)) : (now : Session) → (left written : Option (List ℕ)) → Type 0 where
   begins : (session : Session) → IsFresh session → Serves input output session input output
   goes_on : (before now : Session) (left after written sent_on : Option (List ℕ)) →
       Serves input output before left written → ending_of before.phase ≡ None →
-      TakesStep before now left after written sent_on → Serves input output now after sent_on
+      GoesOn before now left after written sent_on → Serves input output now after sent_on
 
 -- Why a body is not answered, and what stands on the output then: memory was refused, and nothing was written; or what
 -- was to be sent could not be written.
@@ -51,12 +57,20 @@ pub data IsUnsent (before : Session) (body : List ℕ) (written : Option (List �
   is_not_written : (now : Option (List ℕ)) (value : Data) (next : Session) → DoesStep before body (Some value) next →
       IsUnsent before body written Output now
 
--- Why a session takes no further step: no frame was read, or its body was not answered.
+-- Why nothing is told anew, and what stands on the output then: likewise.
+pub data IsUntold (before : Session) (written : Option (List ℕ)) : Ending → (now : Option (List ℕ)) → Type 0 where
+  tells_without_memory : (now : Option (List ℕ)) → now ≡ written → IsUntold before written Memory now
+  tells_unwritten : (now : Option (List ℕ)) (value : Data) → TellsAnew before.texts value →
+      IsUntold before written Output now
+
+-- Why a session takes no further step: no frame was read, its body was not answered, or nothing could be told anew.
 pub data Stops (before : Session) (left written : Option (List ℕ)) : Ending → (now : Option (List ℕ)) → Type 0 where
   has_no_frame : (ending : Ending) (now : Option (List ℕ)) → EndsAs left ending → now ≡ written →
       Stops before left written ending now
   is_unanswered : (ending : Ending) (after now : Option (List ℕ)) (body : List ℕ) → TakesFrame left after body →
       IsUnsent before body written ending now → Stops before left written ending now
+  is_untold : (ending : Ending) (now : Option (List ℕ)) → IsUntold before written ending now →
+      Stops before left written ending now
 
 -- How a session ends: by `exit`, or where it stops.
 pub data Ends (input output : Option (List ℕ)) : Ending → (now : Option (List ℕ)) → Type 0 where

@@ -1,6 +1,7 @@
 //! A language server for Fluent Translation Lists: the protocol's frames, places and answers.
 #![tactic(auto)]
 
+mod anew;
 mod answering;
 mod asked;
 mod asking;

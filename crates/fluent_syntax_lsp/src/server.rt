@@ -29,6 +29,8 @@ pub struct Server {
     /// Whether the editor takes related information of a diagnostic.
     pub(crate) related: bool,
     pub(crate) documents: Documents,
+    /// The names of documents of which is still to be told anew.
+    pub(crate) untold: Vec<String>,
     /// The names that the open documents define, by the documents' names, as far as they were looked up since the
     /// documents changed.
     pub(crate) defined: BTreeMap<String, DefinedNames>,
@@ -47,6 +49,7 @@ impl Server {
             phase: Phase::Fresh,
             related: false,
             documents: Documents::new(alloc),
+            untold: Vec::new(alloc),
             defined: BTreeMap::new(alloc),
             workspace: Workspace::new(alloc),
         }
@@ -154,6 +157,7 @@ impl Server {
         };
         self.read_files(changes_files(method), files)?;
         let sent = self.follow(method, message)?;
+        self.note_untold(method, message)?;
         self.phase = self.phase.after_notification(method);
         Ok(sent)
     }

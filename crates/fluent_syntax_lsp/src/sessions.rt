@@ -2,7 +2,7 @@
 ghost use Rattle.std.specs.Prelude.{◌≡◌, ◌<◌, length, true, Err, IfErr, OnOk};
 ghost use Rattle.std.specs.Io.KnownBytes.{prepend_known};
 ghost use Rattle.ftl.specs.Watched.{has_failed, inner_of};
-ghost use Rattle.fluent_syntax_lsp.specs.Served.{Ends, IsUnsent, SendsAnswer, Stops, TakesStep};
+ghost use Rattle.fluent_syntax_lsp.specs.Served.{Ends, GoesOn, IsUnsent, SendsAnswer, Stops, TakesStep};
 ghost use Rattle.fluent_syntax_lsp.specs.Sessions.{session_of};
 
 use crate::endings::Ending;
@@ -35,7 +35,7 @@ pub fn serve<R: Read, W: Write, F: Folders>(
     let mut server = Server::new(alloc);
     for _ in 0..u64::MAX {
         let block = block.as_mut_slice();
-        let answered = answer_next(
+        let went_on = go_on(
             alloc,
             &mut server,
             reader,
@@ -44,7 +44,7 @@ pub fn serve<R: Read, W: Write, F: Folders>(
             writer,
             files,
         );
-        if let Err(ending) = answered {
+        if let Err(ending) = went_on {
             return ending;
         }
         if let Some(ending) = server.ending() {
@@ -53,6 +53,34 @@ pub fn serve<R: Read, W: Write, F: Folders>(
     }
     // more messages than can be counted are not read
     Ending::Memory
+}
+
+/// Tells anew of a document, if there is one of which that is to be done, and takes the next message else. The endings
+/// are those of `answer_next`.
+fn go_on<R: Read, W: Write, F: Folders>(
+    alloc: Global,
+    server: &mut Server,
+    reader: &mut Watched<R>,
+    pending: &mut Vec<u8>,
+    block: &mut [u8],
+    writer: &mut W,
+    files: &F,
+) -> Result<(), Ending>
+    requires { 0 < length block.old }
+    ensures step { let left = prepend_known pending.old.items (R.remaining (inner_of reader.old)) in
+        let after = prepend_known pending.new.items (R.remaining (inner_of reader.new)) in
+        OnOk result (GoesOn (session_of server.old) (session_of server.new) left after
+        (W.contents writer.old) (W.contents writer.new)) }
+    ensures stops { let left = prepend_known pending.old.items (R.remaining (inner_of reader.old)) in
+        IfErr result (λ ending. Stops (session_of server.old) left
+        (W.contents writer.old) ending (W.contents writer.new)) }
+    ensures input { result ≡ Err Ending.Input → has_failed reader.new ≡ true }
+{
+    match server.tell_anew() {
+        Ok(Some(told)) => send(alloc, writer, &told),
+        Ok(None) => answer_next(alloc, server, reader, pending, block, writer, files),
+        Err(AllocError) => Err(Ending::Memory),
+    }
 }
 
 /// Takes the next message, and sends what is to be sent for it. The endings are those of `next_body` and of `answer`.

@@ -153,6 +153,13 @@ impl Workspace {
                 .any(|folder| is_searched(folder.path.as_str(), path))
     }
 
+    /// Whether the path stands below one of the folders.
+    pub fn has(&self, path: &str) -> bool {
+        self.folders
+            .iter()
+            .any(|folder| is_below(folder.path.as_str(), path))
+    }
+
     /// The kinds of findings that are not told of a file at the path: those that a folder leaves out below which it
     /// stands. `AllocError` where a growth was refused.
     pub fn ignored_at(&self, alloc: Global, path: &str) -> Result<Vec<Kind>, AllocError> {

@@ -23,16 +23,16 @@ returns-in-Err-clause-ends g c =
 
 pub returns-in-Some-clause-ends : goal.returns-in-Some-clause-ends
 returns-in-Some-clause-ends g c =
-    exits (session_of c.answer_next-answered.new.server) _ _ c.in-Some.ending
+    exits (session_of c.go_on-went_on.new.server) _ _ c.in-Some.ending
     (goes_on (session_of c.loop.server) _ _ _ _ _ c.loop.invariant.serves c.loop.invariant.goes_on
-    c.in_default-answered.ensures.step)
+    c.in_default-went_on.ensures.step)
     (sym c.in-Some.ensures)
 
 pub loop-preserved : goal.loop-preserved
 loop-preserved g c = record {
   room = keeps_room _ _ _ c.loop.invariant.room (search rules);
   serves = goes_on (session_of c.loop.server) _ _ _ _ _ c.loop.invariant.serves c.loop.invariant.goes_on
-      c.in_default-answered.ensures.step;
+      c.in_default-went_on.ensures.step;
   goes_on = sym c.in_default-ending.ensures;
 }
 
@@ -45,4 +45,4 @@ returns-in-Err-clause-input g c is = c.in-Err.ensures.input (ap Err is)
 
 pub returns-in-Some-clause-input : goal.returns-in-Some-clause-input
 returns-in-Some-clause-input g c is =
-    absurd (ends_by_no_input c.answer_next-answered.new.server.phase (sym c.in-Some.ensures ∙ ap Some is))
+    absurd (ends_by_no_input c.go_on-went_on.new.server.phase (sym c.in-Some.ensures ∙ ap Some is))

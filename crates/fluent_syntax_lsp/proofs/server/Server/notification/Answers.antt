@@ -1,7 +1,6 @@
 use Rattle.std.proofs.Common.{ap}
 use Rattle.serde_json.specs.View.{view}
 use Rattle.std.specs.Prelude.{option_map}
-use Rattle.fluent_syntax_lsp.specs.Opened.{texts}
 use Rattle.fluent_syntax_lsp.specs.Replies.{silence, sends_none}
 use Rattle.fluent_syntax_lsp.specs.Sessions.{rests, session_of}
 use Rattle.fluent_syntax_lsp.proofs.SessionLemmas.{in_phase, notified_running}
@@ -17,7 +16,7 @@ returns-in_default g c = (
 
 pub returns : goal.returns
 returns g c =
-    notified_running (session_of c.args.self.now) (session_of c.read_files.new.self) (view c.args.message.now)
-    c.args.method (option_map view c.in_ok-sent.sent) c.follow.new.self.phase c.after_notification-self-2.result
-    (texts c.follow.new.self.documents) c.in-Running.is c.in_ok-read_files.ensures.same c.in_ok-sent.ensures.phase
-    c.after_notification-self-2.ensures c.in_ok-sent.ensures.follows
+    notified_running (session_of c.args.self.now) (session_of c.read_files.new.self) (session_of c.follow.new.self)
+    (session_of c.note_untold.new.self) (view c.args.message.now) c.args.method (option_map view c.in_ok-sent.sent)
+    c.after_notification-self-2.result c.in-Running.is c.in_ok-read_files.ensures.same c.in_ok-sent.ensures.phase
+    c.in_ok-note_untold.ensures c.after_notification-self-2.ensures c.in_ok-sent.ensures.follows
