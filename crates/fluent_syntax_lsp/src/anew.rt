@@ -38,10 +38,10 @@ impl Server {
         Ok(names)
     }
 
-    /// Whether the document is that of a file below one of the workspace's folders.
+    /// Whether the document is that of a file where the workspace's files are looked for.
     fn is_in_workspace(&self, open: &Open) -> bool {
         match &open.path {
-            Some(path) => self.workspace.has(path.as_str()),
+            Some(path) => self.workspace.searches(path.as_str()),
             None => false,
         }
     }

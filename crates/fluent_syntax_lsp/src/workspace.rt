@@ -146,18 +146,14 @@ impl Workspace {
     /// Whether all files are known that may define what a file at the path refers to: it stands below one of the
     /// folders, and no file of them was left out.
     pub fn surrounds(&self, path: &str) -> bool {
-        self.is_whole
-            && self
-                .folders
-                .iter()
-                .any(|folder| is_searched(folder.path.as_str(), path))
+        self.is_whole && self.searches(path)
     }
 
-    /// Whether the path stands below one of the folders.
-    pub fn has(&self, path: &str) -> bool {
+    /// Whether files are looked for where the path stands, below one of the folders.
+    pub fn searches(&self, path: &str) -> bool {
         self.folders
             .iter()
-            .any(|folder| is_below(folder.path.as_str(), path))
+            .any(|folder| is_searched(folder.path.as_str(), path))
     }
 
     /// The kinds of findings that are not told of a file at the path: those that a folder leaves out below which it
