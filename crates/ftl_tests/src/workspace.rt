@@ -331,11 +331,16 @@ const BESIDE: (&str, &str) = ("file:///w/open.ftl", "open = Open\\n-brand = Bran
 
 /// What is told last in a session over the files.
 fn told_last(alloc: Global, files: &InMemory, bodies: &[&str]) -> Result<String, Fail> {
+    told_of(alloc, files, "", bodies)
+}
+
+/// What is told last of the document in a session over the files.
+fn told_of(alloc: Global, files: &InMemory, uri: &str, bodies: &[&str]) -> Result<String, Fail> {
     let output = answers(alloc, files, bodies)?;
     let last = output
         .as_str()
         .rsplit("Content-Length")
-        .next()
+        .find(|frame| frame.contains(uri))
         .unwrap_or("");
     Ok(String::from_str(alloc, last)?)
 }
@@ -372,10 +377,37 @@ fn references_that_nothing_defines(rt: HostRuntime) -> Result<(), Fail> {
         let uri = uri_of_path(alloc, path)?;
         let opened = opening(alloc, uri.as_str(), text)?;
         let bodies = [INITIALIZE, INITIALIZED, beside.as_str(), opened.as_str()];
-        let told = told_last(alloc, &files, &bodies)?;
+        let told = told_of(alloc, &files, uri.as_str(), &bodies)?;
         assert_told(alloc, shows, told.as_str(), findings)?;
     }
     Ok(())
+}
+
+/// The message that closes the document that defines `b`.
+const CLOSED: &str = "{\"jsonrpc\":\"2.0\",\"method\":\"textDocument/didClose\",\"params\":\
+    {\"textDocument\":{\"uri\":\"file:///w/b.ftl\"}}}";
+
+#[test]
+fn documents_told_anew(rt: HostRuntime) -> Result<(), Fail> {
+    let alloc = rt.alloc();
+    let files = whole_files(alloc)?;
+    let uri = "file:///w/a.ftl";
+    let uses = opening(alloc, uri, "a = { b }")?;
+    let uses = uses.as_str();
+    let defines = opening(alloc, "file:///w/b.ftl", "b = B")?;
+    let missing = [("undefined-message", 6)];
+    let told = told_of(alloc, &files, uri, &[INITIALIZE, INITIALIZED, uses])?;
+    assert_told(alloc, "nothing defines it", told.as_str(), &missing)?;
+    let bodies = [INITIALIZE, INITIALIZED, uses, defines.as_str(), CLOSED];
+    let told = told_of(alloc, &files, uri, &bodies[..4])?;
+    assert_told(
+        alloc,
+        "a document that defines it is opened",
+        told.as_str(),
+        &[],
+    )?;
+    let told = told_of(alloc, &files, uri, &bodies)?;
+    assert_told(alloc, "and closed", told.as_str(), &missing)
 }
 
 #[test]
