@@ -85,7 +85,7 @@ takes_behind (Err e) old mid now left after written sent_on same step = step
 
 -- a document of which was told
 pub tells_behind : {X Y : Type 0} (r : Result X Y) (old mid : Session) (left written sent_on : Option (List ℕ))
-    (value : Data) → mid ≡ old → TellsAnew old.texts value → OnOk r (Sends written sent_on (Some value)) →
+    (value : Data) → mid ≡ old → TellsAnew old value → OnOk r (Sends written sent_on (Some value)) →
     OnOk r (GoesOn old mid left left written sent_on)
 tells_behind (Ok x) old mid left written sent_on value same anew sends = tells value anew same refl sends
 tells_behind (Err e) old mid left written sent_on value same anew sends = sends
@@ -99,7 +99,7 @@ stops_behind r old mid left written now same stopped =
 
 -- a document of which could not be told
 pub untold : {Y : Type 0} (r : Result Y Ending) (before : Session) (left written now : Option (List ℕ))
-    (value : Data) → TellsAnew before.texts value → IfErr r (λ ending. (ending ≡ Memory) ⊎ (ending ≡ Output)) →
+    (value : Data) → TellsAnew before value → IfErr r (λ ending. (ending ≡ Memory) ⊎ (ending ≡ Output)) →
     (r ≡ Err Memory → now ≡ written) → IfErr r (λ ending. Stops before left written ending now)
 untold (Ok x) before left written now value anew fault same = fault
 untold (Err e) before left written now value anew (inl is) same =

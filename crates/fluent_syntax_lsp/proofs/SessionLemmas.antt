@@ -2,7 +2,7 @@
 use Rattle.std.proofs.Common.{◌≡◌, ℕ, List, Bool, true, false, Option, Some, None, Result, Ok, Err, refl, sym, ap, ◌∙◌}
 use Rattle.std.specs.Prelude.{ℤ, ◌&&◌, ◌≢◌, ◌⊎◌}
 use Rattle.std.proofs.Common.{inl, inr, subst, true≢false}
-use Rattle.std.specs.Prelude.{IfOk, OnOk, is_some, option_and_then, option_map}
+use Rattle.std.specs.Prelude.{IfOk, IfSome, OnOk, is_some, option_and_then, option_map}
 use Rattle.std.specs.Str.{bytes_eq}
 use Rattle.std.proofs.lemmas.Map.{update_same}
 use Rattle.std.proofs.lemmas.Slice.Eq.{bytes_eq-Decides}
@@ -19,7 +19,7 @@ use Rattle.fluent_syntax_lsp.specs.Replies.{Reply, IsSent, diagnosed, silence, s
 use Rattle.fluent_syntax_lsp.specs.Replies.{watch}
 use Rattle.fluent_syntax_lsp.specs.Sessions.{Answers, AnswersNotification, AnswersRequest, AnswersRunning, Follows}
 use Rattle.fluent_syntax_lsp.specs.Results.{IsResult, Sources, sources_of}
-use Rattle.fluent_syntax_lsp.specs.Sessions.{Finds, IsFound, fits}
+use Rattle.fluent_syntax_lsp.specs.Sessions.{Finds, IsFound, TellsAnew, fits}
 use Rattle.fluent_syntax_lsp.specs.Sessions.{IsMethod, Session, TakesRequest, concerns, session_of}
 use Rattle.fluent_syntax_lsp.specs.Asking.{names_open}
 use Rattle.fluent_syntax_lsp.specs.Sessions.{changes, published, requested, notified, opens, passes, runs}
@@ -279,3 +279,20 @@ notified_running old mid behind noted d method sent last is_running same kept sa
     AnswersNotification old d method sent (record { phase = last; texts = s.texts }))
     (sym same_noted)
     (λ e. followed old mid d method sent behind.phase last behind.texts is_running same kept e answers) after
+
+-- ---- What is told anew
+
+told_if_open : (session : Session) (uri : List ℕ) (b : Bool) (value : Data) → session.phase ≡ Running →
+    is_some (session.texts uri) ≡ b → IsSent (published uri b) (Some value) → TellsAnew session value
+told_if_open session uri true value running open' sent =
+    record { runs = running; uri = uri; is_open = open'; told = sent }
+told_if_open session uri false value running open' ()
+
+-- what is published of a document is told of one that is open
+pub tells_open : {Y : Type 0} (r : Result (Option Value) Y) (session : Session) (uri : List ℕ) →
+    session.phase ≡ Running →
+    IfOk r (λ sent. IsSent (published uri (is_some (session.texts uri))) (option_map view sent)) →
+    IfOk r (λ sent. IfSome sent (λ value. TellsAnew session (view value)))
+tells_open (Ok (Some value)) session uri running sent = told_if_open session uri _ (view value) running refl sent
+tells_open (Ok None) session uri running sent = tt
+tells_open (Err e) session uri running sent = sent

@@ -39,7 +39,7 @@ pub record TakesStep (before now : Session) (left after written sent_on : Option
 -- A session goes on: it takes a frame off the input, or it tells anew of a document.
 pub data GoesOn (before now : Session) (left after written sent_on : Option (List ℕ)) : Type 0 where
   takes : TakesStep before now left after written sent_on → GoesOn before now left after written sent_on
-  tells : (value : Data) → TellsAnew before.texts value → now ≡ before → after ≡ left →
+  tells : (value : Data) → TellsAnew before value → now ≡ before → after ≡ left →
       Sends written sent_on (Some value) → GoesOn before now left after written sent_on
 
 -- What is left of the input and what stands on the output, behind a session's steps from the first on.
@@ -60,7 +60,7 @@ pub data IsUnsent (before : Session) (body : List ℕ) (written : Option (List �
 -- Why nothing is told anew, and what stands on the output then: likewise.
 pub data IsUntold (before : Session) (written : Option (List ℕ)) : Ending → (now : Option (List ℕ)) → Type 0 where
   tells_without_memory : (now : Option (List ℕ)) → now ≡ written → IsUntold before written Memory now
-  tells_unwritten : (now : Option (List ℕ)) (value : Data) → TellsAnew before.texts value →
+  tells_unwritten : (now : Option (List ℕ)) (value : Data) → TellsAnew before value →
       IsUntold before written Output now
 
 -- Why a session takes no further step: no frame was read, its body was not answered, or nothing could be told anew.

@@ -130,9 +130,12 @@ pub data Steps (old : Session) (sources : Sources) (body : List ℕ) : Reply →
   unasked : (d : Data) → read body ≡ Some d → message_in d ≡ invalid →
       Steps old sources body (refused null InvalidRequest) old
 
--- The value has the diagnostics of a document that is open.
-abbrev pub TellsAnew : (texts : List ℕ → Option OpenText) → Data → Type 0
-TellsAnew texts value = (uri : List ℕ) × (is_some (texts uri) ≡ true) × IsSent (diagnosed uri) (Some value)
+-- The session runs, and the value has the diagnostics of a document that is open in it.
+pub record TellsAnew (session : Session) (value : Data) : Type 0 where
+  pub runs : session.phase ≡ Running
+  pub uri : List ℕ
+  pub is_open : is_some (session.texts uri) ≡ true
+  pub told : IsSent (diagnosed uri) (Some value)
 
 -- The same, where that value is sent for it, if any is.
 abbrev pub AnswersRequest : (old : Session) → Sources → (id d : Data) → Option Method → Option Data →

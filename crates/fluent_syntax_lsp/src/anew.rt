@@ -1,12 +1,12 @@
 //! What is told anew of documents, since others changed.
 ghost use Rattle.std.specs.Prelude.{◌≡◌, IfOk, IfSome, OnOk};
 ghost use Rattle.serde_json.specs.View.{view};
-ghost use Rattle.fluent_syntax_lsp.specs.Opened.{texts};
 ghost use Rattle.fluent_syntax_lsp.specs.Sessions.{TellsAnew, session_of};
 
 use crate::known::Open;
 use crate::methods::Method;
 use crate::params::uri_of;
+use crate::phases::Phase;
 use crate::server::Server;
 use serde_json::Value;
 use std::alloc::AllocError;
@@ -46,12 +46,18 @@ impl Server {
         }
     }
 
-    /// The diagnostics of a document of which is to be told anew. None where there is none left.
-    pub(crate) fn tell_anew(&mut self) -> Result<Option<Value>, AllocError>
+    /// The diagnostics of a document of which is to be told anew, as long as the session runs and no message waits. None
+    /// where there is none left.
+    pub(crate) fn tell_anew(&mut self, is_idle: bool) -> Result<Option<Value>, AllocError>
         ensures same { OnOk result (session_of self.new ≡ session_of self.old) }
-        ensures told { IfOk result (λ sent. IfSome sent (λ value.
-            TellsAnew (texts self.old.documents) (view value))) }
+        ensures told { IfOk result (λ sent. IfSome sent (λ value. TellsAnew (session_of self.old) (view value))) }
     {
+        let Phase::Running = self.phase else {
+            return Ok(None);
+        };
+        if !is_idle {
+            return Ok(None);
+        }
         match self.untold.pop() {
             Some(uri) => self.publish(uri.as_str()),
             None => Ok(None),

@@ -55,8 +55,8 @@ pub fn serve<R: Read, W: Write, F: Folders>(
     Ending::Memory
 }
 
-/// Tells anew of a document, if there is one of which that is to be done, and takes the next message else. The endings
-/// are those of `answer_next`.
+/// Tells anew of a document, if there is one of which that is to be done and no message waits, and takes the next message
+/// else. The endings are those of `answer_next`.
 fn go_on<R: Read, W: Write, F: Folders>(
     alloc: Global,
     server: &mut Server,
@@ -76,7 +76,7 @@ fn go_on<R: Read, W: Write, F: Folders>(
         (W.contents writer.old) ending (W.contents writer.new)) }
     ensures input { result ≡ Err Ending.Input → has_failed reader.new ≡ true }
 {
-    match server.tell_anew() {
+    match server.tell_anew(pending.is_empty()) {
         Ok(Some(told)) => send(alloc, writer, &told),
         Ok(None) => answer_next(alloc, server, reader, pending, block, writer, files),
         Err(AllocError) => Err(Ending::Memory),
