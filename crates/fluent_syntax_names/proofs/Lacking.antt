@@ -1,8 +1,9 @@
 -- Lists of what is lacked, that grow by one mention after another.
 use Rattle.std.proofs.Common.{◌≡◌, ℕ, ◌+◌, ◌<◌, ◌≤◌, Bool, true, false, List, []}
 use Rattle.std.proofs.Common.{◌∷◌, ◌++◌, length, get_or, drop, refl, sym, ap, ◌∙◌}
-use Rattle.std.proofs.Common.{Option, None}
-use Rattle.std.specs.Prelude.{if◌then◌else◌, not}
+use Rattle.std.proofs.Common.{Option, Some, None}
+use Rattle.std.specs.Prelude.{if◌then◌else◌, not, ◌||◌}
+use Rattle.std.specs.List.{list_any}
 use Rattle.std.proofs.lemmas.List.{append-nil, drop_more, drop_all}
 use Rattle.fluent_syntax_tree.specs.declared.spans.Span.{Span}
 use Rattle.fluent_syntax_names.specs.declared.lack.Lack.{Lack}
@@ -15,14 +16,15 @@ use Rattle.fluent_syntax_names.specs.Findings.{put, owner_after}
 use Rattle.fluent_syntax_names.specs.Spelled.{Text, message_name, term_name}
 use Rattle.fluent_syntax_names.specs.Lacks.{Other, lack_at, lacked_entry, lacked_value, lacked_attribute, lacked_part}
 use Rattle.fluent_syntax_names.specs.Lacks.{lacked_reference, lacked_variable, lack_of, lacks_in, AddsLacks}
+use Rattle.fluent_syntax_names.specs.Lacks.{may_use, some_may_use, one_may_use}
 use Rattle.fluent_syntax_names.specs.Mentions.{Mentions}
 use Rattle.fluent_syntax_names.specs.Spelled.{spelled, spelled_attribute, spelled_value, spelled_variable}
-use Rattle.fluent_syntax_names.specs.Spelled.{spelled_reference, spelled_references}
+use Rattle.fluent_syntax_names.specs.Spelled.{name_at, spelled_reference, variable_of}
 
 -- ---- What is lacked depends on what the tables have alone
 
 module _ (text : Text) (D E : Other) (defines : (name : Text) → D.defines name ≡ E.defines name)
-    (uses : (name : Text) → D.uses name ≡ E.uses name) where
+    (uses : (name : Text) → D.uses name ≡ E.uses name) (leads : (name : Text) → D.leads name ≡ E.leads name) where
   part_same : (owner : EntryName) (b c : Bool) → b ≡ c → (p : Part) (x : Span)
       → lacked_part D text owner b p x ≡ lacked_part E text owner c p x
   part_same owner b c e p x =
@@ -52,14 +54,34 @@ module _ (text : Text) (D E : Other) (defines : (name : Text) → D.defines name
       let name = spelled_reference text owner target in
       part_same owner (D.uses name) (E.uses name) (uses name) part.Reference target.name
 
+  one_same : (variable message : Text) → one_may_use D variable message ≡ one_may_use E variable message
+  one_same variable message =
+      ap (λ d. not d || D.uses (variable_of message variable)) (defines message)
+      ∙ ap (λ u. not (E.defines message) || u) (uses (variable_of message variable))
+
+  any_same : (variable : Text) (messages : List Text)
+      → list_any (one_may_use D variable) messages ≡ list_any (one_may_use E variable) messages
+  any_same variable [] = refl
+  any_same variable (x ∷ xs) =
+      ap (λ b. b || list_any (one_may_use D variable) xs) (one_same variable x)
+      ∙ ap (λ b. one_may_use E variable x || b) (any_same variable xs)
+
+  some_same : (variable : Text) (led : Option (List Text))
+      → some_may_use D variable led ≡ some_may_use E variable led
+  some_same variable None = refl
+  some_same variable (Some messages) = any_same variable messages
+
+  may_same : (owner : EntryName) (x : Span) → may_use D text owner x ≡ may_use E text owner x
+  may_same owner x =
+      let variable = name_at text x in
+      ap (λ u. u || some_may_use D variable (D.leads (spelled text owner))) (uses (spelled_variable text owner x))
+      ∙ ap (λ l. E.uses (spelled_variable text owner x) || some_may_use D variable l) (leads (spelled text owner))
+      ∙ ap (λ b. E.uses (spelled_variable text owner x) || b) (some_same variable (E.leads (spelled text owner)))
+
   variable_same : (owner : EntryName) (x : Span) → lacked_variable D text owner x ≡ lacked_variable E text owner x
   variable_same owner x =
-      let all = spelled_references text owner in
-      let name = spelled_variable text owner x in
-      ap (λ d. if owner.is_term then None else if d then None
-      else lacked_part D text owner (D.uses name) part.Variable x) (uses all)
-      ∙ ap (λ o. if owner.is_term then None else if E.uses all then None else o)
-      (part_same owner (D.uses name) (E.uses name) (uses name) part.Variable x)
+      ap (λ o. if owner.is_term then None else o)
+      (part_same owner (may_use D text owner x) (may_use E text owner x) (may_same owner x) part.Variable x)
 
   lack_same : (owner : EntryName) (m : Mention Span) → lack_at D text owner m ≡ lack_at E text owner m
   lack_same owner (says.Message x v) = entry_same (message_name x) v

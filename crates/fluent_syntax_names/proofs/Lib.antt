@@ -1,10 +1,13 @@
 pub mod Adding
 pub mod Alone
+pub mod Followed
 pub mod Gathering
 pub mod Growing
 pub mod Lacking
 pub mod Linking
 pub mod Mapped
 pub mod Nodes
+pub mod Numbered
 pub mod Placed
+pub mod Telling
 pub mod Ways

@@ -1,57 +1,36 @@
 -- A graph that grows by one name or one link after another.
-use Rattle.std.proofs.Common.{◌≡◌, ◌⊎◌, inl, inr, ℕ, ◌+◌, ◌<◌, ◌≤◌, Bool, true, false, List, [], ◌∷◌, ◌++◌}
+use Rattle.std.proofs.Common.{◌≡◌, ◌⊎◌, inl, inr, ℕ, ◌+◌, ◌<◌, ◌≤◌, false, List, [], ◌∷◌, ◌++◌}
 use Rattle.std.proofs.Common.{length, get_or}
-use Rattle.std.proofs.Common.{Option, Some, None, refl, sym, ap, ◌∙◌, subst, arith, set, drop}
-use Rattle.std.specs.Prelude.{◌||◌, if◌then◌else◌}
-use Rattle.std.specs.Str.{bytes_eq}
+use Rattle.std.proofs.Common.{Some, None, refl, sym, ap, ◌∙◌, subst, arith, set, drop}
+use Rattle.std.specs.Prelude.{◌||◌}
 use Rattle.std.proofs.lemmas.Bool.{cases_eq, cases_lt, or_cases}
 use Rattle.std.proofs.lemmas.List.{append-nil, get_or_append_left, get_or_past, get_or_push, length_push}
 use Rattle.std.proofs.lemmas.List.{get_or-set_same, get_or-set_other, length-set, drop_more, drop_all}
 use Rattle.std.proofs.lemmas.List.Folds.{list_any-append}
-use Rattle.std.proofs.lemmas.Slice.Eq.{bytes_eq-Decides}
 use Rattle.fluent_syntax_tree.specs.declared.spans.Span.{Span}
 use Rattle.fluent_syntax_graph.specs.Graph.{Graph, Leads, edges}
 use Rattle.fluent_syntax_names.specs.Circles.{Link, is_link, leads, links_in, link_to, links, pattern_after, referred}
 use Rattle.fluent_syntax_names.specs.Circles.{no_pattern}
 use Rattle.fluent_syntax_names.specs.Drawings.{Drawn, Nodes, IsDrawn, DrawsLinks}
 use Rattle.fluent_syntax_names.specs.Mentions.{Mentions}
-use Rattle.fluent_syntax_names.specs.Places.{Notes, first_of, place_where}
+use Rattle.fluent_syntax_names.specs.Places.{Notes}
 use Rattle.fluent_syntax_names.specs.Spelled.{Text}
 use Rattle.fluent_syntax_names.specs.declared.drawing.Drawing.{Drawing}
 use Rattle.fluent_syntax_names.specs.declared.mention.Mention.{Mention}
 use Rattle.fluent_syntax_names.specs.declared.outline.Outline.{Outline}
 use Rattle.fluent_syntax_names.specs.declared.spelled.PatternName.{PatternName}
-use Rattle.fluent_syntax_names.proofs.Ways.{or_left, or_right, same_name, link_names, is_own_link}
-
-some_is : (u v : ℕ) → Some u ≡ Some v → u ≡ v
-some_is u v e = cc
+use Rattle.fluent_syntax_names.proofs.Numbered.{name_stays, was_known}
+use Rattle.fluent_syntax_names.proofs.Ways.{or_left, or_right, link_names, is_own_link}
 
 -- ---- A new name
 
 module _ (all : List Link) (old new : Nodes) (g : Graph) (name : Text) (node : ℕ) (is_last : node ≡ length g)
     (absent : old name ≡ None) (notes : Notes old new name node) where
-  pub name_stays : (x : Text) (u : ℕ) → old x ≡ Some u → new x ≡ Some u
-  name_stays x u e = notes x ∙ ap (λ (o : Option ℕ). first_of o (place_where x name node)) e
+  stays : (x : Text) (u : ℕ) → old x ≡ Some u → new x ≡ Some u
+  stays x u e = name_stays old new name node absent notes x u e
 
-  pub name_known : new name ≡ Some node
-  name_known =
-      notes name
-      ∙ ap (λ (o : Option ℕ). first_of o (place_where name name node)) absent
-      ∙ ap (λ (b : Bool). if b then Some node else None) (same_name name)
-
-  -- a node that is known now was known, or is that of the name
-  by_test : (x : Text) (u : ℕ) (b : Bool) → bytes_eq x name ≡ b → (if b then Some node else None) ≡ Some u
-      → (x ≡ name) × (u ≡ node)
-  by_test x u true is e = ((bytes_eq-Decides x name).0 is, some_is u node (sym e))
-  by_test x u false is e = absurd (cc)
-
-  by_old : (x : Text) (u : ℕ) (o : Option ℕ) → old x ≡ o → first_of o (place_where x name node) ≡ Some u
-      → (old x ≡ Some u) ⊎ ((x ≡ name) × (u ≡ node))
-  by_old x u None was e = inr (by_test x u (bytes_eq x name) refl e)
-  by_old x u (Some v) was e = inl (was ∙ e)
-
-  was_known : (x : Text) (u : ℕ) → new x ≡ Some u → (old x ≡ Some u) ⊎ ((x ≡ name) × (u ≡ node))
-  was_known x u e = by_old x u (old x) refl (sym (notes x) ∙ e)
+  before : (x : Text) (u : ℕ) → new x ≡ Some u → (old x ≡ Some u) ⊎ ((x ≡ name) × (u ≡ node))
+  before x u e = was_known old new name node absent notes x u e
 
   module _ (drawn : Drawn all old g) where
     abbrev more : Graph
@@ -81,16 +60,16 @@ module _ (all : List Link) (old new : Nodes) (g : Graph) (name : Text) (node : �
 
     pub named_more : Drawn all new more
     named_more = record {
-      within = λ x u e. elim (was_known x u e) [
+      within = λ x u e. elim (before x u e) [
         | inl w ↦ omega (arith, drawn.within x u w, length_push g [])
         | inr w ↦ omega (arith, w.1, length_push g [])
       ];
-      apart = λ x y u e f. elim (was_known x u e) [
-        | inl w ↦ elim (was_known y u f) [
+      apart = λ x y u e f. elim (before x u e) [
+        | inl w ↦ elim (before y u f) [
           | inl v ↦ drawn.apart x y u w v
           | inr v ↦ absurd (omega (arith, drawn.within x u w, v.1))
         ]
-        | inr w ↦ elim (was_known y u f) [
+        | inr w ↦ elim (before y u f) [
           | inl v ↦ absurd (omega (arith, drawn.within y u v, w.1))
           | inr v ↦ w.0 ∙ sym v.0
         ]
@@ -99,13 +78,13 @@ module _ (all : List Link) (old new : Nodes) (g : Graph) (name : Text) (node : �
           let d = drawn.drawn x y e in (
             d.0,
             d.1,
-            name_stays x d.0 d.2,
-            name_stays y d.1 d.3,
+            stays x d.0 d.2,
+            stays y d.1 d.3,
             leads_still d.0 d.1 (drawn.within x d.0 d.2) d.4,
           );
       named = λ u v leads_on.
           let d = drawn.named u v (led_before u v leads_on) in
-          (d.0, d.1, name_stays d.0 u d.2, name_stays d.1 v d.3, d.4);
+          (d.0, d.1, stays d.0 u d.2, stays d.1 v d.3, d.4);
     }
 
 -- ---- A new link

@@ -1,5 +1,5 @@
 -- What one file says and another lacks.
-use Rattle.std.specs.Prelude.{◌≡◌, Bool, true, false, not, List, [], ◌∷◌, ◌++◌, Option, Some, None, if◌then◌else◌}
+use Rattle.std.specs.Prelude.{◌≡◌, Bool, true, false, not, ◌||◌, List, [], ◌∷◌, ◌++◌, Option, Some, None, if◌then◌else◌}
 use Rattle.std.specs.List.{list_any}
 use Rattle.std.specs.Str.{bytes_eq}
 use Rattle.fluent_syntax_tree.specs.declared.spans.Span.{Span}
@@ -13,21 +13,20 @@ use Rattle.fluent_syntax_names.specs.declared.spelled.EntryName.{EntryName}
 use Rattle.fluent_syntax_names.specs.Findings.{put, owner_after, is_defined}
 use Rattle.fluent_syntax_names.specs.Spelled.{Text, nameless, message_name, term_name}
 use Rattle.fluent_syntax_names.specs.Findings.{gathered}
+use Rattle.fluent_syntax_names.specs.Leading.{led_to, references_of}
 use Rattle.fluent_syntax_names.specs.Mentions.{Mentions}
 use Rattle.fluent_syntax_names.specs.Spelled.{spelled, spelled_attribute, spelled_value, spelled_variable}
-use Rattle.fluent_syntax_names.specs.Spelled.{spelled_reference, spelled_references}
+use Rattle.fluent_syntax_names.specs.Spelled.{name_at, spelled_reference, variable_of}
 
 -- ---- What entries use
 
--- what the mention uses in the entry, as it is spelled, before others: `name>message`, `name>`, `name>-term`,
--- `name$variable`
+-- what the mention uses in the entry, as it is spelled, before others: `name>message`, `name>-term`, `name$variable`
 abbrev pub uses : Text → EntryName → Mention Span → List Text → List Text
 uses text owner (says.Message x v) tail = tail
 uses text owner (says.Term x) tail = tail
 uses text owner (says.Attribute x) tail = tail
 uses text owner (says.Junk x) tail = tail
-uses text owner (says.MessageReference x a) tail =
-    spelled_reference text owner (message_name x) ∷ (spelled_references text owner ∷ tail)
+uses text owner (says.MessageReference x a) tail = spelled_reference text owner (message_name x) ∷ tail
 uses text owner (says.TermReference x a) tail = spelled_reference text owner (term_name x) ∷ tail
 uses text owner (says.Variable x) tail = spelled_variable text owner x ∷ tail
 uses text owner (says.Function x) tail = tail
@@ -41,10 +40,11 @@ is_used file name = list_any (bytes_eq name) (used_in file.text.now nameless fil
 
 -- ---- What the other file lacks
 
--- what the other file defines, and what it uses
+-- what the other file defines, what it uses, and which messages an entry of it leads to
 pub record Other : Type 0 where
   pub defines : Text → Bool
   pub uses : Text → Bool
+  pub leads : Text → Option (List Text)
 
 abbrev pub lack_of : Part → Span → Option Lack
 lack_of part name = Some (record { part = part; name = name })
@@ -75,12 +75,25 @@ abbrev pub lacked_reference : Other → Text → EntryName → EntryName → Opt
 lacked_reference other text owner target =
     lacked_part other text owner (other.uses (spelled_reference text owner target)) part.Reference target.name
 
--- where the other's message refers to messages, what these use isn't sought
+-- a message may use the variable that does, and one that the other file doesn't define, since another file may
+abbrev pub one_may_use : Other → (variable message : Text) → Bool
+one_may_use other variable message = not (other.defines message) || other.uses (variable_of message variable)
+
+-- one of the messages that are led to may; where there are too many to be followed, some may
+abbrev pub some_may_use : Other → (variable : Text) → Option (List Text) → Bool
+some_may_use other variable None = true
+some_may_use other variable (Some messages) = list_any (one_may_use other variable) messages
+
+-- a message may be given the variable that it uses, or that one may use that it leads to
+abbrev pub may_use : Other → Text → EntryName → Span → Bool
+may_use other text owner variable =
+    other.uses (spelled_variable text owner variable)
+    || some_may_use other (name_at text variable) (other.leads (spelled text owner))
+
 abbrev pub lacked_variable : Other → Text → EntryName → Span → Option Lack
 lacked_variable other text owner variable =
     if owner.is_term then None
-    else if other.uses (spelled_references text owner) then None
-    else lacked_part other text owner (other.uses (spelled_variable text owner variable)) part.Variable variable
+    else lacked_part other text owner (may_use other text owner variable) part.Variable variable
 
 abbrev pub lack_at : Other → Text → EntryName → Mention Span → Option Lack
 lack_at other text owner (says.Message x v) = lacked_entry other text (message_name x) v
@@ -98,7 +111,11 @@ lacks_in other text owner (m ∷ ms) tail =
     put (lack_at other text owner m) (lacks_in other text (owner_after owner m) ms tail)
 
 abbrev pub other_of : Outline → Other
-other_of file = record { defines = is_defined (file ∷ []); uses = is_used file }
+other_of file = record {
+  defines = is_defined (file ∷ []);
+  uses = is_used file;
+  leads = led_to (references_of file);
+}
 
 -- what the one says and the other lacks, in the order of the one's text
 abbrev pub all_lacks : (one other : Outline) → List Lack

@@ -1,12 +1,15 @@
+pub mod Beside
 pub mod Circles
 pub mod Differences
 pub mod Drawings
 pub mod Findings
 pub mod Knowing
 pub mod Lacks
+pub mod Leading
 pub mod Mentions
 pub mod Places
 pub mod Refused
+pub mod Rows
 pub mod Sentences
 pub mod Severities
 pub mod Spelled

@@ -36,17 +36,16 @@ spelled_attribute text entry attribute = (spelled text entry ++ full_stop ∷ []
 abbrev pub spelled_value : List ℕ → EntryName → List ℕ
 spelled_value text message = spelled text message ++ equals_sign ∷ []
 
--- `name$variable`, a variable that an entry uses
-abbrev pub spelled_variable : List ℕ → EntryName → Span → List ℕ
-spelled_variable text entry variable = (spelled text entry ++ dollar_sign ∷ []) ++ name_at text variable
+-- `name$variable`, a variable that the entry of that name uses
+abbrev pub variable_of : (entry variable : List ℕ) → List ℕ
+variable_of entry variable = (entry ++ dollar_sign ∷ []) ++ variable
 
--- `name>`, that an entry refers to some message
-abbrev pub spelled_references : List ℕ → EntryName → List ℕ
-spelled_references text entry = spelled text entry ++ greater_than ∷ []
+abbrev pub spelled_variable : List ℕ → EntryName → Span → List ℕ
+spelled_variable text entry variable = variable_of (spelled text entry) (name_at text variable)
 
 -- `name>other`, that an entry refers to another, or to an attribute of it
 abbrev pub spelled_reference : List ℕ → EntryName → EntryName → List ℕ
-spelled_reference text entry other = spelled_references text entry ++ spelled text other
+spelled_reference text entry other = (spelled text entry ++ greater_than ∷ []) ++ spelled text other
 
 abbrev pub spelled_part : List ℕ → EntryName → Option Span → List ℕ
 spelled_part text entry None = spelled_value text entry

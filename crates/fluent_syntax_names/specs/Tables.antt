@@ -7,7 +7,6 @@ use Rattle.fluent_syntax_names.specs.declared.finding.Finding.{Finding}
 use Rattle.fluent_syntax_names.specs.declared.mention.Mention.{Mention}
 use Rattle.fluent_syntax_names.specs.Findings.{Known, after}
 use Rattle.fluent_syntax_names.specs.Spelled.{Text}
-use Rattle.fluent_syntax_names.specs.Lacks.{Other}
 use Rattle.fluent_syntax_names.specs.Places.{Notes}
 
 -- names with their places
@@ -51,7 +50,3 @@ NotesEntry old_names new_names new_attributes name place =
 abbrev pub NotesAttribute : (old_names new_names old_attributes new_attributes : Lookup) → Text → Span → Type 0
 NotesAttribute old_names new_names old_attributes new_attributes name place =
     ((n : Text) → new_names n ≡ old_names n) × Notes old_attributes new_attributes name place
-
--- a file by tables of what it defines and of what it uses
-abbrev pub other_by : (defined used : Lookup) → Other
-other_by defined used = record { defines = has_name defined; uses = has_name used }

@@ -23,7 +23,7 @@ pub enum Part {
     /// A reference to a message or a term, or to an attribute of it, from an entry that both define: the other's entry
     /// doesn't refer there.
     Reference,
-    /// A variable of a message that both define: neither does the other's message use it, nor does it refer to any
-    /// message.
+    /// A variable of a message that both define: the other's message doesn't use it, and neither does any message that
+    /// this leads to, which are at most 100 and all defined in the other file.
     Variable,
 }

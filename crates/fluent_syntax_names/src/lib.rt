@@ -15,6 +15,7 @@ mod finding;
 mod found;
 mod known_names;
 mod lack;
+mod leading;
 mod mention;
 mod message;
 mod moved;

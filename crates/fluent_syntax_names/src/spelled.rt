@@ -1,7 +1,7 @@
 //! How names are spelled.
 ghost use Rattle.std.specs.Prelude.{◌≡◌, IfOk};
 ghost use Rattle.fluent_syntax_names.specs.Spelled.{name_at, spelled, spelled_attribute, spelled_value};
-ghost use Rattle.fluent_syntax_names.specs.Spelled.{spelled_variable, spelled_reference, spelled_references};
+ghost use Rattle.fluent_syntax_names.specs.Spelled.{spelled_variable, spelled_reference, variable_of};
 ghost use Rattle.fluent_syntax_names.specs.Spelled.{spelled_pattern};
 
 use fluent_syntax_tree::spans::Span;
@@ -85,22 +85,21 @@ pub(crate) fn spelled_variable(
 ) -> Result<Vec<u8>, AllocError>
     ensures { IfOk result (λ bytes. bytes.items ≡ spelled_variable text.now entry variable) }
 {
-    let mut bytes = spelled(alloc, text, entry)?;
-    bytes.push(b'$')?;
-    bytes.extend_from_slice(name_at(text, variable))?;
-    Ok(bytes)
+    let entry = spelled(alloc, text, entry)?;
+    variable_of(alloc, &entry, name_at(text, variable))
 }
 
-/// The name of an entry with a `>` behind it, which stands for its references to messages.
-pub(crate) fn spelled_references(
+/// A variable behind the entry that uses it and a `$`.
+pub(crate) fn variable_of(
     alloc: Global,
-    text: &str,
-    entry: EntryName,
+    entry: &[u8],
+    variable: &[u8],
 ) -> Result<Vec<u8>, AllocError>
-    ensures { IfOk result (λ bytes. bytes.items ≡ spelled_references text.now entry) }
+    ensures { IfOk result (λ bytes. bytes.items ≡ variable_of entry.now variable.now) }
 {
-    let mut bytes = spelled(alloc, text, entry)?;
-    bytes.push(b'>')?;
+    let mut bytes = Vec::from_slice(alloc, entry)?;
+    bytes.push(b'$')?;
+    bytes.extend_from_slice(variable)?;
     Ok(bytes)
 }
 
@@ -113,7 +112,8 @@ pub(crate) fn spelled_reference(
 ) -> Result<Vec<u8>, AllocError>
     ensures { IfOk result (λ bytes. bytes.items ≡ spelled_reference text.now entry other) }
 {
-    let mut bytes = spelled_references(alloc, text, entry)?;
+    let mut bytes = spelled(alloc, text, entry)?;
+    bytes.push(b'>')?;
     let other = spelled(alloc, text, other)?;
     bytes.extend_from_slice(&other)?;
     Ok(bytes)

@@ -4,13 +4,13 @@ ghost use Rattle.fluent_syntax_names.specs.Findings.{put};
 ghost use Rattle.fluent_syntax_names.specs.Spelled.{nameless, message_name};
 ghost use Rattle.fluent_syntax_names.specs.Lacks.{uses, used_in};
 ghost use Rattle.fluent_syntax_names.specs.Places.{place_of};
-ghost use Rattle.fluent_syntax_names.specs.Spelled.{spelled_reference, spelled_references, spelled_variable};
+ghost use Rattle.fluent_syntax_names.specs.Spelled.{spelled_reference, spelled_variable};
 ghost use Rattle.fluent_syntax_names.specs.Tables.{NotesNames};
 
 use crate::definitions::{NAMELESS, message_name, owner_after, term_name};
 use crate::mention::Mention;
 use crate::places::Places;
-use crate::spelled::{EntryName, spelled_reference, spelled_references, spelled_variable};
+use crate::spelled::{EntryName, spelled_reference, spelled_variable};
 use fluent_syntax_tree::spans::Span;
 use std::alloc::{AllocError, Global};
 
@@ -45,8 +45,7 @@ fn note_use(
 {
     match mention {
         Mention::MessageReference { name, .. } => {
-            note_reference(alloc, table, text, owner, message_name(*name))?;
-            note_references(alloc, table, text, owner)
+            note_reference(alloc, table, text, owner, message_name(*name))
         }
         Mention::TermReference { name, .. } => {
             note_reference(alloc, table, text, owner, term_name(*name))
@@ -54,20 +53,6 @@ fn note_use(
         Mention::Variable { name } => note_variable(alloc, table, text, owner, *name),
         _ => Ok(()),
     }
-}
-
-/// Notes that the entry refers to messages.
-fn note_references(
-    alloc: Global,
-    table: &mut Places,
-    text: &str,
-    owner: EntryName,
-) -> Result<(), AllocError>
-    ensures { OnOk result (NotesNames (place_of table.old.table) (place_of table.new.table)
-        (put (Some (spelled_references text.now owner)))) }
-{
-    let name = spelled_references(alloc, text, owner)?;
-    table.note(name, owner.name)
 }
 
 fn note_reference(

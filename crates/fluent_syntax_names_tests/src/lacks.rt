@@ -2,14 +2,14 @@
 
 use crate::findings::outline;
 use fluent_syntax_names::{Difference, Part, Severity, Side, lacks};
-use fluent_syntax_tests::alike::assert_same_text;
-use std::alloc::Global;
+use fluent_syntax_tests::alike::{assert_same, assert_same_text};
+use std::alloc::{AllocError, Global};
 use std::test::Fail;
 
 /// What is shown, the one file, the other one, and what that lacks: where each name begins, behind a mark of its part.
 type Row = (&'static str, &'static str, &'static str, &'static str);
 
-const ROWS: [Row; 22] = [
+const ROWS: [Row; 20] = [
     ("nothing", "", "a = A\n", ""),
     ("the same", "a = A\n-b = B\n", "-b = C\na = D\n", ""),
     ("a message", "a = A\nb = B\n", "a = A\n", "6\n"),
@@ -78,18 +78,6 @@ const ROWS: [Row; 22] = [
         "a = { $b }\n    .t = T\n",
         "",
     ),
-    (
-        "a variable where the other refers to a message",
-        "a = { $b }\n",
-        "a = { c }\n",
-        "",
-    ),
-    (
-        "a variable where the other refers to a term",
-        "a = { $b }\n",
-        "a = { -c }\n",
-        "$7\n",
-    ),
     ("a variable of a term", "-a = { $b }\n", "-a = A\n", ""),
     (
         "an entry with what it uses",
@@ -128,6 +116,157 @@ fn two_files(rt: HostRuntime) -> Result<(), Fail> {
         assert_lacks(rt.alloc(), row)?;
     }
     Ok(())
+}
+
+/// What is shown, a file, and whether it may use the variable of a message `a = { $b }` of another file.
+type MayUseRow = (&'static str, &'static str, bool);
+
+const MAY_USE: [MayUseRow; 25] = [
+    ("the message itself", "a = { c } { $b }\nc = C\n", true),
+    ("one that it refers to", "a = { c }\nc = { $b }\n", true),
+    (
+        "none that it refers to",
+        "a = { c }\nc = { $d }\nd = { $b }\n",
+        false,
+    ),
+    (
+        "the second one",
+        "a = { c } { d }\nc = C\nd = { $b }\n",
+        true,
+    ),
+    (
+        "two steps behind",
+        "a = { c }\nc = { d }\nd = { $b }\n",
+        true,
+    ),
+    (
+        "none two steps behind",
+        "a = { c }\nc = { d }\nd = { $e }\n",
+        false,
+    ),
+    (
+        "three steps behind",
+        "e = { $b }\nd = { e }\nc = { d }\na = { c }\n",
+        true,
+    ),
+    (
+        "behind an attribute",
+        "a = A\n    .t = { c }\nc = { $b }\n",
+        true,
+    ),
+    (
+        "none behind an attribute",
+        "a = A\n    .t = { c }\nc = C\n",
+        false,
+    ),
+    (
+        "an attribute behind",
+        "a = { c }\nc = C\n    .t = { $b }\n",
+        true,
+    ),
+    (
+        "a value behind its attribute",
+        "a = { c.t }\nc = { $b }\n    .t = T\n",
+        true,
+    ),
+    (
+        "none behind a reference to an attribute",
+        "a = { c.t }\nc = { $d }\n    .t = T\n",
+        false,
+    ),
+    ("one of another file", "a = { c }\n", true),
+    (
+        "one of another file two steps behind",
+        "a = { c }\nc = { d }\n",
+        true,
+    ),
+    (
+        "one of another file beside one of this",
+        "a = { c } { d }\nc = C\n",
+        true,
+    ),
+    ("junk", "a = { c }\nc {\n", true),
+    ("one that leads to itself", "a = { a }\n", true),
+    (
+        "one that comes back",
+        "a = { c }\nc = { d }\nd = { c }\n",
+        true,
+    ),
+    (
+        "each by its name",
+        "a = { c }\na = A\nc = C\nc = { $b }\n",
+        true,
+    ),
+    ("none twice", "a = { c }\na = { c }\nc = C\n", false),
+    ("a term", "a = { -c }\n-c = { $b }\n", false),
+    ("a term that another file may define", "a = { -c }\n", false),
+    (
+        "a term beside a message",
+        "a = { c }\nc = { -c }\n-c = { $b }\n",
+        false,
+    ),
+    (
+        "one that a term refers to",
+        "a = { -c }\n-c = { d }\nd = { $b }\n",
+        false,
+    ),
+    (
+        "a message that nothing refers to",
+        "a = A\nc = { $b }\nd = { c }\n",
+        false,
+    ),
+];
+
+/// That the file may use the variable, or that the use of it is told.
+fn assert_may_use(alloc: Global, shows: &str, file: &str, expected: bool) -> Result<(), Fail> {
+    let one = outline(alloc, "a = { $b }\n")?;
+    let other = outline(alloc, file)?;
+    let lacked = lacks(alloc, &one, &other)?;
+    let told = lacked.iter().any(|lack| lack.part == Part::Variable);
+    assert_same(alloc, shows, &!told, &expected)?;
+    assert_same(alloc, shows, &lacked.len(), &usize::from(told))
+}
+
+#[test]
+fn variables_behind_references(rt: HostRuntime) -> Result<(), Fail> {
+    for (shows, file, expected) in &MAY_USE {
+        assert_may_use(rt.alloc(), *shows, *file, *expected)?;
+    }
+    Ok(())
+}
+
+/// `a = { m1 }`, and so on to a last message, which uses what is given.
+fn chain(alloc: Global, messages: usize, last: &str) -> Result<String, AllocError> {
+    let mut text = format!(in alloc; "a = {{ m1 }}\n")?;
+    for number in 1..messages {
+        let next = number.saturating_add(1);
+        text.push_str(format!(in alloc; "m{number} = {{ m{next} }}\n")?.as_str())?;
+    }
+    text.push_str(format!(in alloc; "m{messages} = {last}\n")?.as_str())?;
+    Ok(text)
+}
+
+/// A message that refers to another so often.
+fn often(alloc: Global, times: usize) -> Result<String, AllocError> {
+    let mut text = format!(in alloc; "c = C\na =")?;
+    for _ in 0..times {
+        text.push_str(" { c }")?;
+    }
+    text.push('\n')?;
+    Ok(text)
+}
+
+#[test]
+fn a_hundred_messages_behind(rt: HostRuntime) -> Result<(), Fail> {
+    let alloc = rt.alloc();
+    let (few, many) = (chain(alloc, 100, "M")?, chain(alloc, 101, "M")?);
+    assert_may_use(alloc, "100 messages", few.as_str(), false)?;
+    assert_may_use(alloc, "101 messages", many.as_str(), true)?;
+    let last = chain(alloc, 100, "{ $b }")?;
+    assert_may_use(alloc, "the last of 100", last.as_str(), true)?;
+    let (few, many) = (often(alloc, 100)?, often(alloc, 101)?);
+    assert_may_use(alloc, "100 references", few.as_str(), false)?;
+    assert_may_use(alloc, "101 references", many.as_str(), true)
 }
 
 #[test]

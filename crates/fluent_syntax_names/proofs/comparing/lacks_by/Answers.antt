@@ -4,8 +4,7 @@ use Rattle.fluent_syntax_names.specs.declared.mention.Mention.{Mention}
 use Rattle.fluent_syntax_names.specs.declared.mention.Mention.TheVariants as says
 use Rattle.fluent_syntax_names.specs.Spelled.{nameless}
 use Rattle.fluent_syntax_names.specs.Lacks.{lacks_in}
-use Rattle.fluent_syntax_names.specs.Places.{place_of}
-use Rattle.fluent_syntax_names.specs.Tables.{other_by}
+use Rattle.fluent_syntax_names.specs.Beside.{other_by}
 use Rattle.fluent_syntax_names.proofs.Lacking.{lack_next, lack_none}
 use Rattle.fluent_syntax_names.proofs.comparing.lacks_by.Goals as goal
 
@@ -15,7 +14,7 @@ loop-mention-init c = record { left = λ rest. rw c.new-list.ensures.items refl 
 pub loop-mention-preserved : goal.loop-mention-preserved
 loop-mention-preserved c =
     let beside = c.args.beside.now in
-    let D = other_by (place_of beside.defined.now.table) (place_of beside.used.now.table) in
+    let D = other_by beside in
     let text = beside.text.now in
     let none : Mention Span = says.Message (record { start = 0; end = 0 }) false in
     let mention = get_or c.args.mentions.now c.loop-mention.mention-index none in
@@ -28,7 +27,7 @@ loop-mention-preserved c =
 pub returns : goal.returns
 returns c =
     let beside = c.args.beside.now in
-    let D = other_by (place_of beside.defined.now.table) (place_of beside.used.now.table) in
+    let D = other_by beside in
     lack_none D beside.text.now [] c.loop-mention.list.items (lacks_in D beside.text.now nameless c.args.mentions.now)
     c.loop-mention.owner c.args.mentions.now c.loop-mention.mention-index c.loop-mention-test.false
     c.loop-mention.invariant.left

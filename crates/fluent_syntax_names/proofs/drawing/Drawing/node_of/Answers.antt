@@ -4,7 +4,8 @@ use Rattle.std.proofs.lemmas.List.{map_push, length-map}
 use Rattle.fluent_syntax_graph.specs.Graph.{Graph, targets_of}
 use Rattle.fluent_syntax_names.specs.Drawings.{Drawn}
 use Rattle.fluent_syntax_names.specs.Places.{place_of}
-use Rattle.fluent_syntax_names.proofs.Linking.{named_more, name_stays, name_known}
+use Rattle.fluent_syntax_names.proofs.Linking.{named_more}
+use Rattle.fluent_syntax_names.proofs.Numbered.{name_known, name_stays}
 use Rattle.fluent_syntax_names.proofs.drawing.Drawing.node_of.Goals as goal
 
 pub returns : goal.returns
@@ -22,8 +23,8 @@ returns c =
     ∙ map_push (λ (v : Vec ℕ Global). v.items) s.targets.items c.new.result
     ∙ ap (λ (l : List ℕ). g ++ l ∷ []) c.new.ensures.items) in
     record {
-      known = name_known [] old new g name node last absent c.in_ok-note.ensures;
-      stays = name_stays [] old new g name node last absent c.in_ok-note.ensures;
+      known = name_known old new name node absent c.in_ok-note.ensures;
+      stays = name_stays old new name node absent c.in_ok-note.ensures;
       drawn = λ all drawn.
           subst (λ (h : Graph). Drawn all new h) more
           (named_more all old new g name node last absent c.in_ok-note.ensures drawn);

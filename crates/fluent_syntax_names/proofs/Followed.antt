@@ -1,0 +1,99 @@
+-- Lists of messages that are followed, as far as an index.
+use Rattle.std.proofs.Common.{◌≡◌, ℕ, zero, suc, ◌+◌, ◌-◌, ◌<◌, ◌≤◌, List, [], ◌∷◌, ◌++◌, length, get_or, take, drop}
+use Rattle.std.proofs.Common.{Option, Some, None, refl, sym, ap, ◌∙◌, arith}
+use Rattle.std.specs.Prelude.{option_map}
+use Rattle.std.proofs.lemmas.List.{append_assoc, append-nil, drop_more, drop_all, take_more, take_all}
+use Rattle.std.proofs.lemmas.List.{take-append-le, drop-append-le, length-append, length-drop}
+use Rattle.fluent_syntax_names.specs.Leading.{followed, led_by, most_followed}
+use Rattle.fluent_syntax_names.specs.Spelled.{Text}
+
+-- behind a name more
+one_more : (front : List Text) (x : Text) (o : Option (List Text))
+    → option_map (λ ys. front ++ ys) (option_map (λ ys. x ∷ ys) o) ≡ option_map (λ ys. (front ++ x ∷ []) ++ ys) o
+one_more front x None = refl
+one_more front x (Some ys) = ap Some (sym (append_assoc front (x ∷ []) ys))
+
+module _ (referred : Text → List Text) where
+  followed-nil : (room : ℕ) → followed referred room [] ≡ Some []
+  followed-nil zero = refl
+  followed-nil (suc room) = refl
+
+  -- there is no list of more names than there is room for
+  too_many : (room : ℕ) (names : List Text) → room < length names → followed referred room names ≡ None
+  too_many zero [] more = absurd (omega arith)
+  too_many zero (x ∷ xs) more = refl
+  too_many (suc room) [] more = absurd (omega arith)
+  too_many (suc room) (x ∷ xs) more =
+      ap (option_map (λ ys. x ∷ ys))
+      (too_many room (xs ++ referred x) (omega (arith, length-append xs (referred x))))
+
+  -- the names of a list up to an index are followed: what is left follows the others
+  abbrev pub FollowedTo : (room : ℕ) → (whole : Option (List Text)) → (names : List Text) → ℕ → Type 0
+  FollowedTo room whole names i =
+      whole ≡ option_map (λ ys. take i names ++ ys) (followed referred (room - i) (drop i names))
+
+  module _ (room : ℕ) (whole : Option (List Text)) (names : List Text) (i : ℕ) (few : length names ≤ room)
+      (before : FollowedTo room whole names i) where
+    -- the next name is followed
+    onward : (x : Text) → i < length names → x ≡ get_or names i []
+        → whole ≡ option_map (λ ys. (take i names ++ x ∷ []) ++ ys)
+        (followed referred (room - (i + 1)) (drop (i + 1) names ++ referred x))
+    onward x within is =
+        let cut : drop i names ≡ x ∷ drop (i + 1) names =
+        drop_more names i [] within ∙ ap (λ y. y ∷ drop (i + 1) names) (sym is) in
+        let left : room - i ≡ suc (room - (i + 1)) = omega arith in
+        let rest = followed referred (room - (i + 1)) (drop (i + 1) names ++ referred x) in
+        before
+        ∙ ap (λ l. option_map (λ ys. take i names ++ ys) (followed referred (room - i) l)) cut
+        ∙ ap (λ r. option_map (λ ys. take i names ++ ys) (followed referred r (x ∷ drop (i + 1) names))) left
+        ∙ one_more (take i names) x rest
+
+    pub followed_next : (x : Text) → i < length names → x ≡ get_or names i []
+        → FollowedTo room whole (names ++ referred x) (i + 1)
+    followed_next x within is =
+        let front : take i names ++ x ∷ [] ≡ take (i + 1) (names ++ referred x) =
+        ap (λ y. take i names ++ y ∷ []) is
+        ∙ sym (take_more names i [] within)
+        ∙ sym (take-append-le (i + 1) names (referred x) (omega arith)) in
+        let back : drop (i + 1) names ++ referred x ≡ drop (i + 1) (names ++ referred x) =
+        sym (drop-append-le (i + 1) names (referred x) (omega arith)) in
+        onward x within is
+        ∙ ap (λ l. option_map (λ ys. l ++ ys)
+        (followed referred (room - (i + 1)) (drop (i + 1) names ++ referred x))) front
+        ∙ ap (λ l. option_map (λ ys. take (i + 1) (names ++ referred x) ++ ys)
+        (followed referred (room - (i + 1)) l)) back
+
+    pub followed_none : (x : Text) → i < length names → x ≡ get_or names i []
+        → room < length names + length (referred x) → whole ≡ None
+    followed_none x within is more =
+        let rest = drop (i + 1) names ++ referred x in
+        let long : room - (i + 1) < length rest =
+        omega (arith, length-append (drop (i + 1) names) (referred x), length-drop (i + 1) names) in
+        onward x within is
+        ∙ ap (option_map (λ ys. (take i names ++ x ∷ []) ++ ys)) (too_many (room - (i + 1)) rest long)
+
+    pub followed_all : length names ≤ i → whole ≡ Some names
+    followed_all end =
+        before
+        ∙ ap (λ l. option_map (λ ys. take i names ++ ys) (followed referred (room - i) l)) (drop_all i names end)
+        ∙ ap (option_map (λ ys. take i names ++ ys)) (followed-nil (room - i))
+        ∙ ap Some (append-nil (take i names) ∙ take_all i names end)
+
+  -- where the first names are too many already
+  pub followed_too_many : (room : ℕ) (names : List Text) → room < length names → followed referred room names ≡ None
+  followed_too_many room names more = too_many room names more
+
+-- ---- What is followed depends on what is referred to alone
+
+pub followed_same : (f g : Text → List Text) → ((x : Text) → f x ≡ g x) → (room : ℕ) (names : List Text)
+    → followed f room names ≡ followed g room names
+followed_same f g same zero [] = refl
+followed_same f g same zero (x ∷ xs) = refl
+followed_same f g same (suc room) [] = refl
+followed_same f g same (suc room) (x ∷ xs) =
+    ap (λ l. option_map (λ ys. x ∷ ys) (followed f room (xs ++ l))) (same x)
+    ∙ ap (option_map (λ ys. x ∷ ys)) (followed_same f g same room (xs ++ g x))
+
+pub led_same : (f g : Text → List Text) → ((x : Text) → f x ≡ g x) → (name : Text) → led_by f name ≡ led_by g name
+led_same f g same name =
+    followed_same f g same most_followed (f name) ∙ ap (followed g most_followed) (same name)

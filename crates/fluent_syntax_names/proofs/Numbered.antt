@@ -1,0 +1,37 @@
+-- Names, of which a new one gets a number.
+use Rattle.std.proofs.Common.{◌≡◌, ◌⊎◌, inl, inr, ℕ, Bool, true, false, Option, Some, None, refl, sym, ap, ◌∙◌}
+use Rattle.std.specs.Prelude.{if◌then◌else◌}
+use Rattle.std.specs.Str.{bytes_eq}
+use Rattle.std.proofs.lemmas.Slice.Eq.{bytes_eq-Decides}
+use Rattle.fluent_syntax_names.specs.Drawings.{Nodes}
+use Rattle.fluent_syntax_names.specs.Places.{Notes, first_of, place_where}
+use Rattle.fluent_syntax_names.specs.Spelled.{Text}
+use Rattle.fluent_syntax_names.proofs.Ways.{same_name}
+
+some_is : (u v : ℕ) → Some u ≡ Some v → u ≡ v
+some_is u v e = cc
+
+module _ (old new : Nodes) (name : Text) (number : ℕ) (absent : old name ≡ None) (notes : Notes old new name number)
+  where
+    pub name_stays : (x : Text) (u : ℕ) → old x ≡ Some u → new x ≡ Some u
+    name_stays x u e = notes x ∙ ap (λ (o : Option ℕ). first_of o (place_where x name number)) e
+
+    pub name_known : new name ≡ Some number
+    name_known =
+        notes name
+        ∙ ap (λ (o : Option ℕ). first_of o (place_where name name number)) absent
+        ∙ ap (λ (b : Bool). if b then Some number else None) (same_name name)
+
+    -- a number that is known now was known, or is that of the name
+    by_test : (x : Text) (u : ℕ) (b : Bool) → bytes_eq x name ≡ b → (if b then Some number else None) ≡ Some u
+        → (x ≡ name) × (u ≡ number)
+    by_test x u true is e = ((bytes_eq-Decides x name).0 is, some_is u number (sym e))
+    by_test x u false is e = absurd (cc)
+
+    by_old : (x : Text) (u : ℕ) (o : Option ℕ) → old x ≡ o → first_of o (place_where x name number) ≡ Some u
+        → (old x ≡ Some u) ⊎ ((x ≡ name) × (u ≡ number))
+    by_old x u None was e = inr (by_test x u (bytes_eq x name) refl e)
+    by_old x u (Some v) was e = inl (was ∙ e)
+
+    pub was_known : (x : Text) (u : ℕ) → new x ≡ Some u → (old x ≡ Some u) ⊎ ((x ≡ name) × (u ≡ number))
+    was_known x u e = by_old x u (old x) refl (sym (notes x) ∙ e)

@@ -1,0 +1,186 @@
+-- A table of references that grows by one name or one reference after another.
+use Rattle.std.proofs.Common.{◌≡◌, ◌⊎◌, inl, inr, ℕ, ◌+◌, ◌<◌, ◌≤◌, Bool, true, false, List, [], ◌∷◌, ◌++◌, length}
+use Rattle.std.proofs.Common.{get_or, set, map, drop, Vec, Option, Some, None, refl, sym, ap, ◌∙◌, subst, arith}
+use Rattle.std.specs.Prelude.{filter, cond, if◌then◌else◌}
+use Rattle.std.specs.Borrow.{Bor}
+use Rattle.std.specs.Str.{bytes_eq}
+use Rattle.std.specs.declared.alloc.Global.{Global}
+use Rattle.std.proofs.lemmas.Bool.{cases_eq}
+use Rattle.std.proofs.lemmas.List.{append-nil, map-append, get_or_append_left, get_or_push, length_push}
+use Rattle.std.proofs.lemmas.List.{get_or-map, length-map, get_or-set_same, get_or-set_other, length-set, drop_more, drop_all}
+use Rattle.std.proofs.lemmas.List.Elements.{filter-append}
+use Rattle.std.proofs.lemmas.Slice.Eq.{bytes_eq-Decides}
+use Rattle.fluent_syntax_tree.specs.declared.spans.Span.{Span}
+use Rattle.fluent_syntax_names.specs.Circles.{Link}
+use Rattle.fluent_syntax_names.specs.Drawings.{Nodes}
+use Rattle.fluent_syntax_names.specs.Findings.{owner_after}
+use Rattle.fluent_syntax_names.specs.Leading.{refers, references_in, referred_by}
+use Rattle.fluent_syntax_names.specs.Mentions.{Mentions}
+use Rattle.fluent_syntax_names.specs.Places.{Notes, first_of, place_where}
+use Rattle.fluent_syntax_names.specs.Rows.{Rows, row_at, rows_of, texts_at, texts_of, Tells, TellsLinks, TellsMore}
+use Rattle.fluent_syntax_names.specs.Spelled.{Text, nameless}
+use Rattle.fluent_syntax_names.specs.declared.leading.Leading.{Leading}
+use Rattle.fluent_syntax_names.specs.declared.mention.Mention.{Mention}
+use Rattle.fluent_syntax_names.specs.declared.spelled.EntryName.{EntryName}
+use Rattle.fluent_syntax_names.proofs.Numbered.{was_known}
+
+-- before any name
+pub nothing_told : (number : Nodes) → ((x : Text) → number x ≡ None) → Tells [] number []
+nothing_told number none = record {
+  within = λ x u e. let never : None ≡ Some u = sym (none x) ∙ e in absurd (cc);
+  apart = λ x y u e f. let never : None ≡ Some u = sym (none x) ∙ e in absurd (cc);
+  told = λ x. ap (row_at []) (none x);
+}
+
+-- ---- A new name
+
+module _ (all : List Link) (old new : Nodes) (rows : Rows) (name : Text) (last : ℕ) (is_last : last ≡ length rows)
+    (absent : old name ≡ None) (notes : Notes old new name last) (tells : Tells all old rows) where
+  abbrev more : Rows
+  more = rows ++ [] ∷ []
+
+  before : (x : Text) (u : ℕ) → new x ≡ Some u → (old x ≡ Some u) ⊎ ((x ≡ name) × (u ≡ last))
+  before x u e = was_known old new name last absent notes x u e
+
+  -- the row of the new name is empty
+  new_row : (b : Bool) → row_at more (if b then Some last else None) ≡ []
+  new_row true = get_or_push rows [] [] last (sym is_last)
+  new_row false = refl
+
+  same_row : (x : Text) (o : Option ℕ) → old x ≡ o
+      → row_at more (first_of o (place_where x name last)) ≡ row_at rows o
+  same_row x None was = new_row (bytes_eq x name)
+  same_row x (Some u) was = get_or_append_left rows ([] ∷ []) [] u (tells.within x u was)
+
+  pub row_more : Tells all new more
+  row_more = record {
+    within = λ x u e. elim (before x u e) [
+      | inl w ↦ omega (arith, tells.within x u w, length_push rows [])
+      | inr w ↦ omega (arith, w.1, is_last, length_push rows [])
+    ];
+    apart = λ x y u e f. elim (before x u e) [
+      | inl w ↦ elim (before y u f) [
+        | inl v ↦ tells.apart x y u w v
+        | inr v ↦ absurd (omega (arith, tells.within x u w, v.1))
+      ]
+      | inr w ↦ elim (before y u f) [
+        | inl v ↦ absurd (omega (arith, tells.within y u v, w.1))
+        | inr v ↦ w.0 ∙ sym v.0
+      ]
+    ];
+    told = λ x. ap (row_at more) (notes x) ∙ same_row x (old x) refl ∙ tells.told x;
+  }
+
+-- ---- A new reference
+
+module _ (before : List Link) (number : Nodes) (rows : Rows) (tells : Tells before number rows) (link : Link) (u : ℕ)
+    (from : number link.from ≡ Some u) where
+  abbrev longer : List Text
+  longer = get_or rows u [] ++ link.to ∷ []
+
+  abbrev told_rows : Rows
+  told_rows = set rows u longer
+
+  abbrev with_link : List Link
+  with_link = before ++ link ∷ []
+
+  -- what the link adds for a name
+  abbrev added : Bool → List Text
+  added b = cond b (link.to ∷ []) []
+
+  of_one : (b : Bool) → map (λ (l : Link). l.to) (cond b (link ∷ []) []) ≡ added b
+  of_one true = refl
+  of_one false = refl
+
+  referred_more : (x : Text) → referred_by with_link x ≡ referred_by before x ++ added (bytes_eq x link.from)
+  referred_more x =
+      let test = λ (l : Link). bytes_eq x l.from in
+      ap (map (λ (l : Link). l.to)) (filter-append test before (link ∷ []))
+      ∙ map-append (λ (l : Link). l.to) (filter test before) (filter test (link ∷ []))
+      ∙ ap (λ l. referred_by before x ++ l) (of_one (bytes_eq x link.from))
+
+  -- another name has what it had
+  row_other : (x : Text) → bytes_eq x link.from ≡ false → row_at rows (number x) ≡ referred_by with_link x
+  row_other x apart =
+      tells.told x
+      ∙ sym (append-nil (referred_by before x))
+      ∙ ap (λ b. referred_by before x ++ added b) (sym apart)
+      ∙ sym (referred_more x)
+
+  by_number : (x : Text) (o : Option ℕ) → number x ≡ o → (b : Bool) → bytes_eq x link.from ≡ b
+      → row_at told_rows o ≡ referred_by with_link x
+  by_number x None is true same =
+      let never : None ≡ Some u = sym is ∙ ap number ((bytes_eq-Decides x link.from).0 same) ∙ from in absurd (cc)
+  by_number x None is false apart = ap (row_at rows) (sym is) ∙ row_other x apart
+  by_number x (Some v) is true same =
+      let e : x ≡ link.from = (bytes_eq-Decides x link.from).0 same in
+      let at : Some v ≡ Some u = sym is ∙ ap number e ∙ from in
+      let v_is : v ≡ u = cc in
+      ap (λ w. get_or told_rows w []) v_is
+      ∙ get_or-set_same rows u longer [] (tells.within link.from u from)
+      ∙ ap (λ l. l ++ link.to ∷ []) (ap (row_at rows) (sym from) ∙ tells.told link.from)
+      ∙ ap (λ n. referred_by before n ++ link.to ∷ []) (sym e)
+      ∙ ap (λ b. referred_by before x ++ added b) (sym same)
+      ∙ sym (referred_more x)
+  by_number x (Some v) is false apart = elim (cases_eq v u) [
+    | inl e ↦
+        let there : x ≡ link.from = tells.apart x link.from u (is ∙ ap Some e) from in
+        let never : true ≡ false = sym ((bytes_eq-Decides x link.from).1 there) ∙ apart in absurd (cc)
+    | inr n ↦
+        get_or-set_other rows u v longer [] n ∙ ap (row_at rows) (sym is) ∙ row_other x apart
+  ]
+
+  pub reference_more : Tells with_link number told_rows
+  reference_more = record {
+    within = λ x w e. omega (arith, tells.within x w e, length-set rows u longer);
+    apart = tells.apart;
+    told = λ x. by_number x (number x) refl (bytes_eq x link.from) refl;
+  }
+
+-- a row, as it is read
+pub row_read : (targets : List (Vec (Vec ℕ Global) Global)) (u : ℕ) (row : Vec (Vec ℕ Global) Global)
+    → u < length targets → row ≡ get_or targets u row → get_or (rows_of targets) u [] ≡ texts_of row.items
+row_read targets u row within is =
+    get_or-map (λ (v : Vec (Vec ℕ Global) Global). texts_of v.items) targets u row [] within
+    ∙ ap (λ (v : Vec (Vec ℕ Global) Global). texts_of v.items) (sym is)
+
+-- a borrowed text, as it is read
+pub text_read : (names : List (Bor Text)) (i : ℕ) (name : Bor Text) → i < length names → name ≡ get_or names i name
+    → name.now ≡ get_or (texts_at names) i []
+text_read names i name within is =
+    ap (λ (b : Bor Text). b.now) is ∙ sym (get_or-map (λ (b : Bor Text). b.now) names i name [] within)
+
+pub length-texts_at : (names : List (Bor Text)) → length (texts_at names) ≡ length names
+length-texts_at names = length-map names (λ (b : Bor Text). b.now)
+
+pub length-texts_of : (names : List (Vec ℕ Global)) → length (texts_of names) ≡ length names
+length-texts_of names = length-map names (λ (v : Vec ℕ Global). v.items)
+
+-- ---- The mentions of a file
+
+module _ (text : Text) (now : Leading) (ms : Mentions Span) (i : ℕ) where
+  abbrev pub LeavesReferences : Leading → EntryName → ℕ → Type 0
+  LeavesReferences leading owner n = (list : List Link) × TellsLinks list leading
+      × (list ++ references_in text owner (drop n ms) [] ≡ references_in text nameless ms [])
+
+  pub references_next : (next : Leading) (owner : EntryName) (m d : Mention Span) → i < length ms → m ≡ get_or ms i d
+      → LeavesReferences now owner i → TellsMore now next (refers text owner m)
+      → LeavesReferences next (owner_after owner m) (i + 1)
+  references_next next owner m d within is left tells =
+      let cut : drop i ms ≡ m ∷ drop (i + 1) ms = drop_more ms i d within ∙ ap (λ y. y ∷ drop (i + 1) ms) (sym is) in
+      let second = tells left.0 left.1 in (
+        second.0,
+        second.1,
+        second.2 (references_in text (owner_after owner m) (drop (i + 1) ms) [])
+            ∙ ap (λ (l : Mentions Span). left.0 ++ references_in text owner l []) (sym cut)
+            ∙ left.2,
+      )
+
+  pub references_none : (owner : EntryName) → length ms ≤ i → LeavesReferences now owner i
+      → TellsLinks (references_in text nameless ms []) now
+  references_none owner end left =
+      let same : left.0 ≡ references_in text nameless ms [] =
+      sym (append-nil left.0)
+      ∙ ap (λ (l : Mentions Span). left.0 ++ references_in text owner l []) (sym (drop_all i ms end))
+      ∙ left.2 in
+      subst (λ (l : List Link). TellsLinks l now) same left.1

@@ -1,0 +1,74 @@
+use Rattle.std.proofs.Common.{◌≡◌, ◌+◌, ◌<◌, ◌≤◌, ◌++◌, List, [], length, get_or, sym, ap, ◌∙◌, subst, arith}
+use Rattle.std.proofs.lemmas.Grind.{common_steps}
+use Rattle.std.proofs.lemmas.List.{length-append}
+use Rattle.fluent_syntax_names.specs.Leading.{most_followed}
+use Rattle.fluent_syntax_names.specs.Rows.{leads_of, row_of, texts_at}
+use Rattle.fluent_syntax_names.specs.Spelled.{Text}
+use Rattle.fluent_syntax_names.proofs.Followed.{FollowedTo, followed_next, followed_none, followed_all, followed_too_many}
+use Rattle.fluent_syntax_names.proofs.Telling.{text_read, length-texts_at, length-texts_of}
+use Rattle.fluent_syntax_names.proofs.leading.Leading.led_to.Goals as goal
+
+pub returns-then-not-branch : goal.returns-then-not-branch
+returns-then-not-branch c =
+    let self = c.args.self.now in
+    let first = row_of self c.args.name.now in
+    let fits = c.in_ok-add_followed.ensures.fits in
+    let size = ap length c.targets_of.ensures in
+    let long : most_followed < length first =
+    grind (arith, common_steps, fits, size, length-texts_of c.targets_of.result.now) in
+    sym (followed_too_many (row_of self) most_followed first long)
+
+pub returns-then-not-branch-2 : goal.returns-then-not-branch-2
+returns-then-not-branch-2 c =
+    let self = c.args.self.now in
+    let messages = c.loop-index.messages.items in
+    let i = c.loop-index.index in
+    let x = c.index.result.now.now in
+    let fits = c.in_ok-add_followed-2.ensures.fits in
+    let size = ap length c.targets_of-targets.ensures in
+    let is : x ≡ get_or (texts_at messages) i [] =
+    text_read messages i c.index.result.now (omega arith) c.index.ensures in
+    let few : length (texts_at messages) ≤ most_followed = omega (arith, length-texts_at messages) in
+    let long : most_followed < length (texts_at messages) + length (row_of self x) =
+    let these = length-texts_of c.targets_of-targets.result.now in
+    grind (arith, common_steps, fits, size, these, length-texts_at messages) in
+    sym (followed_none (row_of self) most_followed (leads_of self c.args.name.now) (texts_at messages) i few
+    c.loop-index.invariant.left x (omega (arith, length-texts_at messages)) is long)
+
+pub loop-index-preserved : goal.loop-index-preserved
+loop-index-preserved c =
+    let self = c.args.self.now in
+    let messages = c.loop-index.messages.items in
+    let new = c.add_followed-in-loop-index.new.names.items in
+    let i = c.loop-index.index in
+    let x = c.index.result.now.now in
+    let fits = c.in_ok-add_followed-2.ensures.fits in
+    let size = ap length c.targets_of-targets.ensures in
+    let is : x ≡ get_or (texts_at messages) i [] =
+    text_read messages i c.index.result.now (omega arith) c.index.ensures in
+    let few : length (texts_at messages) ≤ most_followed = omega (arith, length-texts_at messages) in
+    let enough : length (texts_at messages) + length (row_of self x) ≤ most_followed =
+    let these = length-texts_of c.targets_of-targets.result.now in
+    grind (arith, common_steps, fits, size, these, length-texts_at messages) in
+    let longer : texts_at messages ++ row_of self x ≡ texts_at new =
+    sym (c.in_ok-add_followed-2.ensures.added c.if-not-branch-2.false
+    ∙ ap (λ (l : List Text). texts_at messages ++ l) c.targets_of-targets.ensures) in
+    let sizes : length (texts_at messages) + length (row_of self x) ≡ length new =
+    sym (length-append (texts_at messages) (row_of self x)) ∙ ap length longer ∙ length-texts_at new in
+    let left =
+    followed_next (row_of self) most_followed (leads_of self c.args.name.now) (texts_at messages) i few
+    c.loop-index.invariant.left x (omega (arith, length-texts_at messages)) is in
+    record {
+      few = omega (arith, enough, sizes);
+      within = omega (arith, sizes, length-texts_at messages);
+      left = subst (λ (l : List Text).
+          FollowedTo (row_of self) most_followed (leads_of self c.args.name.now) l (i + 1)) longer left;
+    }
+
+pub returns : goal.returns
+returns c =
+    let self = c.args.self.now in
+    let messages = c.loop-index.messages.items in
+    let few : length (texts_at messages) ≤ most_followed = omega (arith, length-texts_at messages) in
+    sym (followed_all (row_of self) most_followed (leads_of self c.args.name.now) (texts_at messages)
+    c.loop-index.index few c.loop-index.invariant.left (omega (arith, length-texts_at messages)))

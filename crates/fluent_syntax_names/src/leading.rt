@@ -1,0 +1,152 @@
+//! To which messages the entries of a file refer, and where that leads.
+ghost use Rattle.std.specs.Prelude.{◌≡◌, ◌+◌, ◌≤◌, ◌∷◌, ◌++◌, nat_le, true, [], length, IfOk, OnOk, option_map};
+ghost use Rattle.fluent_syntax_names.specs.Leading.{references_in, refers, reference_to, most_followed};
+ghost use Rattle.fluent_syntax_names.specs.Rows.{TellsLinks, TellsSome, TellsMore, AddsRow, row_of, leads_of};
+ghost use Rattle.fluent_syntax_names.specs.Rows.{texts_of, texts_at};
+ghost use Rattle.fluent_syntax_names.specs.Spelled.{nameless};
+
+use crate::definitions::{NAMELESS, message_name, owner_after};
+use crate::mention::Mention;
+use crate::numbers::Numbers;
+use crate::spelled::{EntryName, spelled};
+use fluent_syntax_tree::spans::Span;
+use std::alloc::{AllocError, Global};
+
+/// So many messages are followed at most.
+const MOST_FOLLOWED: usize = 100;
+
+/// To which messages the entries of a file refer.
+#[derive(Drop)]
+pub(crate) struct Leading {
+    /// Which of the lists is an entry's, by its name.
+    pub(crate) numbers: Numbers,
+    /// The messages that an entry refers to, in order, each as often as it does.
+    pub(crate) targets: Vec<Vec<Vec<u8>>>,
+}
+
+/// The references of a file to messages.
+pub(crate) fn leading_of(
+    alloc: Global,
+    text: &str,
+    mentions: &[Mention<Span>],
+) -> Result<Leading, AllocError>
+    ensures { IfOk result (TellsLinks (references_in text.now nameless mentions.now [])) }
+{
+    let mut leading = Leading {
+        numbers: Numbers::new(alloc),
+        targets: Vec::new(alloc),
+    };
+    let mut owner = NAMELESS;
+    for mention in mentions {
+        leading.add_mention(alloc, text, owner, mention)?;
+        owner = owner_after(owner, mention);
+    }
+    Ok(leading)
+}
+
+impl Leading {
+    /// The messages that the entry of that name leads to: those that it refers to, then those that these do, and so
+    /// on, each as often as it is referred to. `None` where there are more than can be followed.
+    pub(crate) fn led_to(
+        &self,
+        alloc: Global,
+        name: &[u8],
+    ) -> Result<Option<Vec<&[u8]>>, AllocError>
+        ensures { IfOk result (λ led.
+            option_map (λ messages. texts_at messages.items) led ≡ leads_of self.now name.now) }
+    {
+        let mut messages = Vec::new(alloc);
+        if !add_followed(&mut messages, self.targets_of(name))? {
+            return Ok(None);
+        }
+        let mut index = 0;
+        while index < messages.len() {
+            let targets = self.targets_of(messages[index]);
+            if !add_followed(&mut messages, targets)? {
+                return Ok(None);
+            }
+            index += 1;
+        }
+        Ok(Some(messages))
+    }
+
+    /// The messages that the entry of that name refers to.
+    fn targets_of(&self, name: &[u8]) -> &[Vec<u8>]
+        ensures { texts_of result.now ≡ row_of self.now name.now }
+    {
+        let Some(number) = self.numbers.number_of(name) else {
+            return &[];
+        };
+        match self.targets.get(number) {
+            Some(targets) => targets,
+            None => &[],
+        }
+    }
+
+    /// Adds the reference that the mention makes in the entry, if it refers to a message.
+    fn add_mention(
+        &mut self,
+        alloc: Global,
+        text: &str,
+        owner: EntryName,
+        mention: &Mention<Span>,
+    ) -> Result<(), AllocError>
+        requires { TellsSome self.old }
+        ensures { OnOk result (TellsMore self.old self.new (refers text.now owner mention.now)) }
+    {
+        match mention {
+            Mention::MessageReference { name, .. } => {
+                self.add_reference(alloc, text, owner, *name)
+            }
+            _ => Ok(()),
+        }
+    }
+
+    fn add_reference(
+        &mut self,
+        alloc: Global,
+        text: &str,
+        owner: EntryName,
+        message: Span,
+    ) -> Result<(), AllocError>
+        requires { TellsSome self.old }
+        ensures { OnOk result (TellsMore self.old self.new
+            (λ tail. reference_to text.now owner message ∷ tail)) }
+    {
+        let from = spelled(alloc, text, owner)?;
+        let to = spelled(alloc, text, message_name(message))?;
+        let number = self.number_for(alloc, from)?;
+        self.targets[number].push(to)?;
+        Ok(())
+    }
+
+    /// The number of the list for the entry of that name, which is added where it is new.
+    fn number_for(&mut self, alloc: Global, name: Vec<u8>) -> Result<usize, AllocError>
+        ensures { IfOk result (AddsRow self.old self.new name.items) }
+    {
+        if let Some(number) = self.numbers.number_of(&name) {
+            return Ok(number);
+        }
+        let number = self.targets.len();
+        self.targets.push(Vec::new(alloc))?;
+        self.numbers.note(name, number)?;
+        Ok(number)
+    }
+}
+
+/// Adds the names, if there are no more then than can be followed: whether it did. It looks at none of them before.
+fn add_followed<'a>(names: &mut Vec<&'a [u8]>, more: &'a [Vec<u8>]) -> Result<bool, AllocError>
+    requires { length names.old.items ≤ most_followed }
+    ensures fits { IfOk result (λ fits.
+        fits ≡ nat_le (length names.old.items + length more.now) most_followed) }
+    ensures added { IfOk result (λ fits. fits ≡ true →
+        texts_at names.new.items ≡ texts_at names.old.items ++ texts_of more.now) }
+{
+    if more.len() > MOST_FOLLOWED - names.len() {
+        return Ok(false);
+    }
+    for name in more {
+        names.push(name)?;
+    }
+    Ok(true)
+}
