@@ -1,2 +1,3 @@
 pub mod GraphLemmas
 pub mod ExamplesFindings
+pub mod ExamplesLacks
