@@ -286,7 +286,7 @@ told_if_open : (session : Session) (uri : List ℕ) (b : Bool) (value : Data) �
     is_some (session.texts uri) ≡ b → IsSent (published uri b) (Some value) → TellsAnew session value
 told_if_open session uri true value running open' sent =
     record { runs = running; uri = uri; is_open = open'; told = sent }
-told_if_open session uri false value running open' ()
+told_if_open session uri false value running open' sent = elim sent [ ]
 
 -- what is published of a document is told of one that is open
 pub tells_open : {Y : Type 0} (r : Result (Option Value) Y) (session : Session) (uri : List ℕ) →
