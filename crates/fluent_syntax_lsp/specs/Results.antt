@@ -1,5 +1,5 @@
 -- What stands in the answer to a request, by its method.
-use Rattle.std.specs.Prelude.{◌≡◌, List, ℕ, true, ⊤, String, Option, Some, IfSome, option_and_then}
+use Rattle.std.specs.Prelude.{◌≡◌, true, ⊤, String, Option, Some, IfSome, option_and_then}
 use Rattle.std.specs.BTreeMap.{BTreeMap}
 use Rattle.std.specs.declared.alloc.Global.{Global}
 use Rattle.serde_json.specs.Data.{Data, null}

@@ -1,4 +1,4 @@
-use Rattle.std.proofs.Common.{ap, refl, subst}
+use Rattle.std.proofs.Common.{ap, refl}
 use Rattle.serde_json.specs.View.{view}
 use Rattle.fluent_syntax_lsp.specs.Served.{is_untold, tells_without_memory}
 use Rattle.fluent_syntax_lsp.specs.Sessions.{session_of}
