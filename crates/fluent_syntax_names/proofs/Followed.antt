@@ -19,13 +19,13 @@ module _ (referred : Text → List Text) where
   followed-nil (suc room) = refl
 
   -- there is no list of more names than there is room for
-  too_many : (room : ℕ) (names : List Text) → room < length names → followed referred room names ≡ None
-  too_many zero [] more = absurd (omega arith)
-  too_many zero (x ∷ xs) more = refl
-  too_many (suc room) [] more = absurd (omega arith)
-  too_many (suc room) (x ∷ xs) more =
+  pub followed_too_many : (room : ℕ) (names : List Text) → room < length names → followed referred room names ≡ None
+  followed_too_many zero [] more = absurd (omega arith)
+  followed_too_many zero (x ∷ xs) more = refl
+  followed_too_many (suc room) [] more = absurd (omega arith)
+  followed_too_many (suc room) (x ∷ xs) more =
       ap (option_map (λ ys. x ∷ ys))
-      (too_many room (xs ++ referred x) (omega (arith, length-append xs (referred x))))
+      (followed_too_many room (xs ++ referred x) (omega (arith, length-append xs (referred x))))
 
   -- the names of a list up to an index are followed: what is left follows the others
   abbrev pub FollowedTo : (room : ℕ) → (whole : Option (List Text)) → (names : List Text) → ℕ → Type 0
@@ -70,7 +70,7 @@ module _ (referred : Text → List Text) where
         let long : room - (i + 1) < length rest =
         omega (arith, length-append (drop (i + 1) names) (referred x), length-drop (i + 1) names) in
         onward x within is
-        ∙ ap (option_map (λ ys. (take i names ++ x ∷ []) ++ ys)) (too_many (room - (i + 1)) rest long)
+        ∙ ap (option_map (λ ys. (take i names ++ x ∷ []) ++ ys)) (followed_too_many (room - (i + 1)) rest long)
 
     pub followed_all : length names ≤ i → whole ≡ Some names
     followed_all end =
@@ -78,10 +78,6 @@ module _ (referred : Text → List Text) where
         ∙ ap (λ l. option_map (λ ys. take i names ++ ys) (followed referred (room - i) l)) (drop_all i names end)
         ∙ ap (option_map (λ ys. take i names ++ ys)) (followed-nil (room - i))
         ∙ ap Some (append-nil (take i names) ∙ take_all i names end)
-
-  -- where the first names are too many already
-  pub followed_too_many : (room : ℕ) (names : List Text) → room < length names → followed referred room names ≡ None
-  followed_too_many room names more = too_many room names more
 
 -- ---- What is followed depends on what is referred to alone
 

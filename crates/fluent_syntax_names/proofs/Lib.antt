@@ -4,6 +4,7 @@ pub mod Followed
 pub mod Gathering
 pub mod Growing
 pub mod Lacking
+pub mod Led
 pub mod Linking
 pub mod Mapped
 pub mod Nodes

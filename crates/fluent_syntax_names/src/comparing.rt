@@ -1,9 +1,13 @@
 //! What one file says and another lacks.
-ghost use Rattle.std.specs.Prelude.{◌≡◌, [], OnOk, IfOk};
-ghost use Rattle.fluent_syntax_names.specs.Findings.{put};
-ghost use Rattle.fluent_syntax_names.specs.Spelled.{nameless};
-ghost use Rattle.fluent_syntax_names.specs.Lacks.{lacks_in, all_lacks, AddsLacks};
+ghost use Rattle.std.specs.List.{list_any};
+ghost use Rattle.std.specs.Prelude.{◌≡◌, ◌↔◌, ℕ, List, [], Some, OnOk, IfOk, IsTrue};
+ghost use Rattle.std.specs.Str.{bytes_eq};
 ghost use Rattle.fluent_syntax_names.specs.Beside.{other_by};
+ghost use Rattle.fluent_syntax_names.specs.Circles.{Reaches};
+ghost use Rattle.fluent_syntax_names.specs.Findings.{put};
+ghost use Rattle.fluent_syntax_names.specs.Lacks.{lacks_in, all_lacks, AddsLacks};
+ghost use Rattle.fluent_syntax_names.specs.Leading.{led_to, references_of};
+ghost use Rattle.fluent_syntax_names.specs.Spelled.{nameless};
 
 use crate::beside::Beside;
 use crate::definitions::{NAMELESS, note_definitions, owner_after};
@@ -32,7 +36,9 @@ use std::alloc::{AllocError, Global};
 /// Takes the memory of three tables of names, and of the list; `AllocError` where there is none. The time is that of
 /// looking each name up in a sorted table, and each variable for up to 100 messages.
 pub fn lacks(alloc: Global, one: &Outline<'_>, other: &Outline<'_>) -> Result<Vec<Lack>, AllocError>
-    ensures { IfOk result (λ list. list.items ≡ all_lacks one.now other.now) }
+    ensures lacks { IfOk result (λ list. list.items ≡ all_lacks one.now other.now) }
+    ensures led { (from to : List ℕ) (led : List (List ℕ)) → led_to (references_of other.now) from ≡ Some led →
+        IsTrue (list_any (bytes_eq to) led) ↔ Reaches (references_of other.now) from to }
 {
     let mut defined = Places::new(alloc);
     note_definitions(alloc, &mut defined, other.text, &other.mentions)?;

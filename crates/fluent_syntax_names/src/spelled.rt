@@ -97,7 +97,9 @@ pub(crate) fn variable_of(
 ) -> Result<Vec<u8>, AllocError>
     ensures { IfOk result (λ bytes. bytes.items ≡ variable_of entry.now variable.now) }
 {
-    let mut bytes = Vec::from_slice(alloc, entry)?;
+    let length = entry.len().saturating_add(1).saturating_add(variable.len());
+    let mut bytes = Vec::with_capacity(alloc, length)?;
+    bytes.extend_from_slice(entry)?;
     bytes.push(b'$')?;
     bytes.extend_from_slice(variable)?;
     Ok(bytes)

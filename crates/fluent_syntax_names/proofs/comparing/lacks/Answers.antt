@@ -9,10 +9,11 @@ use Rattle.fluent_syntax_names.specs.Tables.{has_name}
 use Rattle.fluent_syntax_names.proofs.Followed.{led_same}
 use Rattle.fluent_syntax_names.proofs.Gathering.{noted_alone}
 use Rattle.fluent_syntax_names.proofs.Lacking.{lacks_same}
+use Rattle.fluent_syntax_names.proofs.Led.{led_decides}
 use Rattle.fluent_syntax_names.proofs.comparing.lacks.Goals as goal
 
-pub returns : goal.returns
-returns c =
+pub returns-clause-lacks : goal.returns-clause-lacks
+returns-clause-lacks c =
     let one = c.args.one.now in
     let other = c.args.other.now in
     let defined = place_of c.note_definitions.new.table.table in
@@ -38,3 +39,15 @@ returns c =
     lacks_same one.text.now tables (other_of other) defines uses leads nameless one.mentions.items [] in
     let found = rw c.deref-4.ensures.value at c.lacks_by.ensures in
     rw (← same) found
+
+pub returns-clause-led : goal.returns-clause-led
+returns-clause-led c = led_decides (references_of c.args.other.now)
+
+pub returns-in_err-note_definitions-clause-led : goal.returns-in_err-note_definitions-clause-led
+returns-in_err-note_definitions-clause-led c = led_decides (references_of c.args.other.now)
+
+pub returns-in_err-note_uses-clause-led : goal.returns-in_err-note_uses-clause-led
+returns-in_err-note_uses-clause-led c = led_decides (references_of c.args.other.now)
+
+pub returns-in_err-leading-clause-led : goal.returns-in_err-leading-clause-led
+returns-in_err-leading-clause-led c = led_decides (references_of c.args.other.now)

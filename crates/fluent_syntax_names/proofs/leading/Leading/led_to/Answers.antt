@@ -4,7 +4,8 @@ use Rattle.std.proofs.lemmas.List.{length-append}
 use Rattle.fluent_syntax_names.specs.Leading.{most_followed}
 use Rattle.fluent_syntax_names.specs.Rows.{leads_of, row_of, texts_at}
 use Rattle.fluent_syntax_names.specs.Spelled.{Text}
-use Rattle.fluent_syntax_names.proofs.Followed.{FollowedTo, followed_next, followed_none, followed_all, followed_too_many}
+use Rattle.fluent_syntax_names.proofs.Followed.{FollowedTo, followed_next, followed_none, followed_all}
+use Rattle.fluent_syntax_names.proofs.Followed.{followed_too_many}
 use Rattle.fluent_syntax_names.proofs.Telling.{text_read, length-texts_at, length-texts_of}
 use Rattle.fluent_syntax_names.proofs.leading.Leading.led_to.Goals as goal
 
