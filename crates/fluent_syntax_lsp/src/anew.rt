@@ -46,8 +46,8 @@ impl Server {
         }
     }
 
-    /// The diagnostics of a document of which is to be told anew, as long as the session runs and no message waits. None
-    /// where there is none left.
+    /// The diagnostics of a document of which is to be told anew, as long as the session runs and no message waits.
+    /// None where there is none left.
     pub(crate) fn tell_anew(&mut self, is_idle: bool) -> Result<Option<Value>, AllocError>
         ensures same { OnOk result (session_of self.new ≡ session_of self.old) }
         ensures told { IfOk result (λ sent. IfSome sent (λ value. TellsAnew (session_of self.old) (view value))) }

@@ -55,8 +55,8 @@ pub fn serve<R: Read, W: Write, F: Folders>(
     Ending::Memory
 }
 
-/// Tells anew of a document, if there is one of which that is to be done and no message waits, and takes the next message
-/// else. The endings are those of `answer_next`.
+/// Tells anew of a document, if there is one of which that is to be done and no message waits, and takes the next
+/// message else. The endings are those of `answer_next`.
 fn go_on<R: Read, W: Write, F: Folders>(
     alloc: Global,
     server: &mut Server,
