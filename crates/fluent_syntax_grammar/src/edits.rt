@@ -108,9 +108,9 @@ pub fn replaces_entry<'s, S: Slice<'s>>(before: &str, rest: &str, entry: &Entry<
 ///
 /// Of the tiles, with their places:
 ///
-/// - `replaced`: the same for any entries, by tiles. The tiles of the new text are those before; tiles that give the new
-///   entry text by text; and those behind, moved, which give text by text what they gave. Behind the entry there may be
-///   errors.
+/// - `replaced`: the same for any entries, by tiles. The tiles of the new text are those before; tiles that give the
+///   new entry text by text; and those behind, moved, which give text by text what they gave. Behind the entry there
+///   may be errors.
 /// - `run`: the same in place of several entries in a row, as a message and the comment that hangs on it.
 /// - `before`: the tiles before an entry give text by text the same in each text that has the same bytes before it.
 /// - `inserted`: the same as `replaced` in front of an entry.

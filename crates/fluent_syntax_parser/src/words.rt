@@ -1,5 +1,5 @@
 //! Marks, names and numbers.
-ghost use Rattle.std.specs.Prelude.{◌≡◌, ◌<◌, ◌≤◌, ℕ, length, IfOk, IsTrue, Some};
+ghost use Rattle.std.specs.Prelude.{◌≡◌, ◌<◌, ◌≤◌, ℕ, length, IfOk, IfSome, IsTrue, Some};
 ghost use Rattle.fluent_syntax_tree.specs.declared.spans.Span.{Span};
 ghost use Rattle.fluent_syntax_grammar.specs.Bytes.{is_digit, is_name_byte};
 ghost use Rattle.fluent_syntax_grammar.specs.Construct.{Read};
@@ -103,7 +103,9 @@ impl<'s> Source<'s> {
     /// The name that stands at a place, if one does.
     pub(crate) fn name_at(&self, start: usize) -> Option<Span>
         requires { start ≤ length self.now.bytes.now }
-        ensures { (name : Span) (end : ℕ) → identifier self.now.bytes.now start (Read name end) → result ≡ Some name }
+        ensures name { (name : Span) (end : ℕ) →
+            identifier self.now.bytes.now start (Read name end) → result ≡ Some name }
+        ensures stands { IfSome result (λ name. (end : ℕ) × identifier self.now.bytes.now start (Read name end)) }
     {
         match self.identifier_end(start) {
             Ok(end) => Some(Span { start, end }),

@@ -13,7 +13,7 @@ returns-in-None g c =
     sym (same_name _ e) ∙ ap is_name (sym same) ∙ rw arm.is (name_of_reference g.M.MakeTexts.made arm.id arm.attribute
     c.in-None.is) in
     let found = name_read t c.args.place (within c.args.self.now.edition t n) e end read is in
-    c.name_at.ensures found.0 found.1 found.2 ∙ sym found.3
+    c.name_at.ensures.name found.0 found.1 found.2 ∙ sym found.3
 
 pub returns-in-Some : goal.returns-in-Some
 returns-in-Some g c =
