@@ -8,6 +8,7 @@ pub mod OwnLemmas
 pub mod PlaceLemmas
 pub mod RemarkLemmas
 pub mod TokenTiles
+pub mod ToldLemmas
 pub mod OpenedLemmas
 pub mod SessionLemmas
 pub mod KnownLemmas

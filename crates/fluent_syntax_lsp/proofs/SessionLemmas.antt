@@ -1,5 +1,6 @@
 -- What a session sends for a message, and what it knows then.
-use Rattle.std.proofs.Common.{◌≡◌, ℕ, List, Bool, true, false, Option, Some, None, Result, Ok, Err, refl, sym, ap, ◌∙◌}
+use Rattle.std.proofs.Common.{◌≡◌, ℕ, List, [], Bool, true, false, Option, Some, None, Result, Ok, Err}
+use Rattle.std.proofs.Common.{refl, sym, ap, ◌∙◌}
 use Rattle.std.specs.Prelude.{ℤ, ◌&&◌, ◌≢◌, ◌⊎◌}
 use Rattle.std.proofs.Common.{inl, inr, subst, true≢false}
 use Rattle.std.specs.Prelude.{IfOk, IfSome, OnOk, is_some, option_and_then, option_map}
@@ -15,8 +16,9 @@ use Rattle.fluent_syntax_lsp.specs.Messages.{message_in, request, notification}
 use Rattle.fluent_syntax_lsp.specs.Opened.{MakesOpen, OpenText, Sets, SetsMade}
 use Rattle.fluent_syntax_lsp.specs.Params.{changes_in, opened_text_in, uri_in, version_in}
 use Rattle.fluent_syntax_lsp.specs.Phases.{after_notification, after_request, refusal_of}
-use Rattle.fluent_syntax_lsp.specs.Replies.{Reply, IsSent, diagnosed, silence, sends_none}
-use Rattle.fluent_syntax_lsp.specs.Replies.{watch}
+use Rattle.fluent_syntax_lsp.specs.Replies.{Reply, IsSent, diagnosed, silence, watch, withdrawn, diagnostics_form}
+use Rattle.fluent_syntax_lsp.specs.Replies.{sends_diagnostics, sends_none, sends_withdrawal}
+use Rattle.fluent_syntax_lsp.specs.Told.{TellsErrors}
 use Rattle.fluent_syntax_lsp.specs.Sessions.{Answers, AnswersNotification, AnswersRequest, AnswersRunning, Follows}
 use Rattle.fluent_syntax_lsp.specs.Results.{IsResult, Sources, sources_of}
 use Rattle.fluent_syntax_lsp.specs.Sessions.{Finds, IsFound, TellsAnew, fits}
@@ -56,9 +58,9 @@ answered_in phase before old method after same =
 
 -- a document that was opened is open
 pub is_open : (old new : List ℕ → Option OpenText) (uri : List ℕ) (found : OpenText) →
-    Sets old uri (Some found) new → is_some (new uri) ≡ true
+    Sets old uri (Some found) new → new uri ≡ Some found
 is_open old new uri found sets =
-    ap is_some (sets uri ∙ update_same bytes_eq old uri (Some found) uri ((bytes_eq-Decides uri uri).1 refl))
+    sets uri ∙ update_same bytes_eq old uri (Some found) uri ((bytes_eq-Decides uri uri).1 refl)
 
 pub named_open : (texts : List ℕ → Option OpenText) (d : Data) (uri : List ℕ) → uri_in d ≡ Some uri →
     names_open texts d ≡ is_some (texts uri)
@@ -99,29 +101,36 @@ edits_of_changes d slice values edits told same is_read =
 
 -- what is told of a document that is not open, and of one that is
 pub unpublished : (old mid : Session) (uri : List ℕ) → mid ≡ old → None ≡ mid.texts uri →
-    IsSent (published uri (is_some (old.texts uri))) None
+    IsSent (published uri (old.texts uri)) None
 unpublished old mid uri same none =
-    let at : Session → Type 0 = λ s. IsSent (published uri (is_some (s.texts uri))) None in
-    subst at same (subst (λ (o : Option OpenText). IsSent (published uri (is_some o)) None) none sends_none)
+    let at : Session → Type 0 = λ s. IsSent (published uri (s.texts uri)) None in
+    subst at same (subst (λ (o : Option OpenText). IsSent (published uri o) None) none sends_none)
 
-pub is_published : (old mid : Session) (uri : List ℕ) (found : OpenText) (sent : Option Data) → mid ≡ old →
-    Some found ≡ mid.texts uri → IsSent (diagnosed uri) sent → IsSent (published uri (is_some (old.texts uri))) sent
-is_published old mid uri found sent same open' is =
-    let at : Session → Type 0 = λ s. IsSent (published uri (is_some (s.texts uri))) sent in
-    subst at same (subst (λ (o : Option OpenText). IsSent (published uri (is_some o)) sent) open' is)
+pub is_published : (old mid : Session) (uri : List ℕ) (found : OpenText) (value : Data) (list : List Data) →
+    mid ≡ old → Some found ≡ mid.texts uri → value ≡ diagnostics_form uri list → TellsErrors found.text list →
+    IsSent (published uri (old.texts uri)) (Some value)
+is_published old mid uri found value list same open' is tells_all =
+    let at : Session → Type 0 = λ s. IsSent (published uri (s.texts uri)) (Some value) in
+    let sent = sent_as (diagnosed uri found.text) value _ is (sends_diagnostics uri found.text list tells_all) in
+    subst at same (subst (λ (o : Option OpenText). IsSent (published uri o) (Some value)) open' sent)
+
+-- that there are none any more
+pub is_withdrawn : (uri : List ℕ) (value : Data) (list : List Data) → value ≡ diagnostics_form uri list → list ≡ [] →
+    IsSent (withdrawn uri) (Some value)
+is_withdrawn uri value list is none =
+    sent_as (withdrawn uri) value _ (is ∙ ap (diagnostics_form uri) none) (sends_withdrawal uri)
 
 -- the diagnostics of a document that is open are told, behind what was done before
 pub tells : {Y : Type 0} (r : Result (Option Value) Y) (old : List ℕ → Option OpenText) (d : Data)
-    (method : Option Method) (uri : List ℕ) (mid new : Session) → is_some (mid.texts uri) ≡ true →
-    ((texts : List ℕ → Option OpenText) → texts ≡ mid.texts → Follows old d method (diagnosed uri) texts) →
-    OnOk r (new ≡ mid) →
-    IfOk r (λ sent. IsSent (published uri (is_some (mid.texts uri))) (option_map view sent)) →
+    (method : Option Method) (uri : List ℕ) (found : OpenText) (mid new : Session) → mid.texts uri ≡ Some found →
+    ((texts : List ℕ → Option OpenText) → texts ≡ mid.texts → Follows old d method (diagnosed uri found.text) texts) →
+    OnOk r (new ≡ mid) → IfOk r (λ sent. IsSent (published uri (mid.texts uri)) (option_map view sent)) →
     IfOk r (λ sent. AnswersRunning old d method (option_map view sent) new.texts)
-tells r old d method uri mid new open' follows same sent =
+tells r old d method uri found mid new open' follows same sent =
     ok_with r _ _ _
     (λ e x h. (
-      diagnosed uri,
-      subst (λ b. IsSent (published uri b) (option_map view x)) open' h,
+      diagnosed uri found.text,
+      subst (λ (o : Option OpenText). IsSent (published uri o) (option_map view x)) open' h,
       follows new.texts (ap (λ s. s.texts) e),
     ))
     same sent
@@ -130,12 +139,13 @@ tells r old d method uri mid new open' follows same sent =
 pub tells_opened : {Y : Type 0} (r : Result (Option Value) Y) (d : Data) (uri text : List ℕ) (version : Option ℤ)
     (old mid new : Session) → uri_in d ≡ Some uri → opened_text_in d ≡ Some text → version ≡ version_in d →
     Sets old.texts uri (Some (record { text = text; version = version })) mid.texts → OnOk r (new ≡ mid) →
-    IfOk r (λ sent. IsSent (published uri (is_some (mid.texts uri))) (option_map view sent)) →
+    IfOk r (λ sent. IsSent (published uri (mid.texts uri)) (option_map view sent)) →
     IfOk r (λ sent. AnswersRunning old.texts d (Some DidOpen) (option_map view sent) new.texts)
 tells_opened r d uri text version old mid new named told numbered sets same sent =
     let made = subst
     (λ (n : Option ℤ). Sets old.texts uri (Some (record { text = text; version = n })) mid.texts) numbered sets in
-    tells r old.texts d (Some DidOpen) uri mid new (is_open old.texts mid.texts uri _ sets)
+    tells r old.texts d (Some DidOpen) uri (record { text = text; version = version }) mid new
+    (is_open old.texts mid.texts uri _ sets)
     (λ now e. opens uri text now named told
     (subst
     (λ (t : List ℕ → Option OpenText). Sets old.texts uri (Some (record { text = text; version = version_in d })) t)
@@ -147,11 +157,11 @@ pub tells_changed : {Y : Type 0} (r : Result (Option Value) Y) (d : Data) (uri :
     (edits : List Edit) (version : Option ℤ) (found : Bool) (old mid new : Session) → uri_in d ≡ Some uri →
     changes_in d ≡ Some items → edits_in items ≡ Some edits → version ≡ version_in d →
     is_some (old.texts uri) ≡ true → SetsMade old.texts uri version edits found mid.texts → OnOk r (new ≡ mid) →
-    IfOk r (λ sent. IsSent (published uri (is_some (mid.texts uri))) (option_map view sent)) →
+    IfOk r (λ sent. IsSent (published uri (mid.texts uri)) (option_map view sent)) →
     IfOk r (λ sent. AnswersRunning old.texts d (Some DidChange) (option_map view sent) new.texts)
 tells_changed r d uri items edits version true old mid new named told is_read numbered open'
     (before, after, was, makes, sets) same sent =
-    tells r old.texts d (Some DidChange) uri mid new (is_open old.texts mid.texts uri after sets)
+    tells r old.texts d (Some DidChange) uri after mid new (is_open old.texts mid.texts uri after sets)
     (λ now e. changes uri items edits before after now named told is_read was
     (subst (λ (n : Option ℤ). MakesOpen before n edits after) numbered makes)
     (subst (λ (t : List ℕ → Option OpenText). Sets old.texts uri (Some after) t) (sym e) sets))
@@ -160,16 +170,17 @@ tells_changed r d uri items edits version false old mid new named told is_read n
     absurd (true≢false (sym open' ∙ ap is_some h.0))
 
 -- a document that is saved
-saved : (old new : List ℕ → Option OpenText) (d : Data) (uri : List ℕ) (sent : Option Data) (b : Bool) →
-    is_some (old uri) ≡ b → uri_in d ≡ Some uri → new ≡ old → IsSent (published uri b) sent →
+saved : (old new : List ℕ → Option OpenText) (d : Data) (uri : List ℕ) (sent : Option Data)
+    (found : Option OpenText) → old uri ≡ found → uri_in d ≡ Some uri → new ≡ old → IsSent (published uri found) sent →
     AnswersRunning old d (Some DidSave) sent new
-saved old new d uri sent true open' named same is = (diagnosed uri, is, saves uri new named open' same)
-saved old new d uri sent false open' named same is =
-    (silence, is, passes (Some DidSave) new (named_open old d uri named ∙ open') same)
+saved old new d uri sent (Some found) open' named same is =
+    (diagnosed uri found.text, is, saves uri found new named open' same)
+saved old new d uri sent None open' named same is =
+    (silence, is, passes (Some DidSave) new (named_open old d uri named ∙ ap is_some open') same)
 
 pub tells_saved : {Y : Type 0} (r : Result (Option Value) Y) (d : Data) (uri : List ℕ) (old new : Session) →
     uri_in d ≡ Some uri → OnOk r (new ≡ old) →
-    IfOk r (λ sent. IsSent (published uri (is_some (old.texts uri))) (option_map view sent)) →
+    IfOk r (λ sent. IsSent (published uri (old.texts uri)) (option_map view sent)) →
     IfOk r (λ sent. AnswersRunning old.texts d (Some DidSave) (option_map view sent) new.texts)
 tells_saved r d uri old new named same sent =
     ok_with r _ _ _ (λ e x h. saved old.texts new.texts d uri _ _ refl named (ap (λ s. s.texts) e) h) same sent
@@ -282,16 +293,16 @@ notified_running old mid behind noted d method sent last is_running same kept sa
 
 -- ---- What is told anew
 
-told_if_open : (session : Session) (uri : List ℕ) (b : Bool) (value : Data) → session.phase ≡ Running →
-    is_some (session.texts uri) ≡ b → IsSent (published uri b) (Some value) → TellsAnew session value
-told_if_open session uri true value running open' sent =
-    record { runs = running; uri = uri; is_open = open'; told = sent }
-told_if_open session uri false value running open' sent = elim sent [ ]
+told_if_open : (session : Session) (uri : List ℕ) (found : Option OpenText) (value : Data) →
+    session.phase ≡ Running → session.texts uri ≡ found → IsSent (published uri found) (Some value) →
+    TellsAnew session value
+told_if_open session uri (Some found) value running open' sent =
+    record { runs = running; uri = uri; found = found; is_open = open'; told = sent }
+told_if_open session uri None value running open' sent = elim sent [ ]
 
 -- what is published of a document is told of one that is open
 pub tells_open : {Y : Type 0} (r : Result (Option Value) Y) (session : Session) (uri : List ℕ) →
-    session.phase ≡ Running →
-    IfOk r (λ sent. IsSent (published uri (is_some (session.texts uri))) (option_map view sent)) →
+    session.phase ≡ Running → IfOk r (λ sent. IsSent (published uri (session.texts uri)) (option_map view sent)) →
     IfOk r (λ sent. IfSome sent (λ value. TellsAnew session (view value)))
 tells_open (Ok (Some value)) session uri running sent = told_if_open session uri _ (view value) running refl sent
 tells_open (Ok None) session uri running sent = tt

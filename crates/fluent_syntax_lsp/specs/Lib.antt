@@ -20,6 +20,7 @@ pub mod Locations
 pub mod Offsets
 pub mod Own
 pub mod Remarks
+pub mod Told
 pub mod Tokens
 pub mod Messages
 pub mod Params

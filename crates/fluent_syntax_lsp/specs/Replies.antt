@@ -1,8 +1,10 @@
 -- What a server sends: the kinds of replies, and their JSON values.
-use Rattle.std.specs.Prelude.{ℕ, List, codes, Option, Some, None}
+use Rattle.std.specs.Prelude.{ℕ, List, [], codes, Option, Some, None}
 use Rattle.serde_json.specs.Data.{Data, number, string, array, object, item, no_items, member, no_members}
 use Rattle.serde_json.specs.Find.{of_integer}
+use Rattle.serde_json.specs.View.{items_of}
 use Rattle.fluent_syntax_lsp.specs.Phases.{number_of, text_of}
+use Rattle.fluent_syntax_lsp.specs.Told.{TellsErrors}
 use Rattle.fluent_syntax_lsp.specs.declared.phases.ErrorCode.{ErrorCode}
 
 -- What is sent for a message.
@@ -11,8 +13,10 @@ pub data Reply : Type 0 where
   -- the answer to the request with the identifier, or its refusal
   answered : (id result : Data) → Reply
   refused : (id : Data) → ErrorCode → Reply
-  -- the diagnostics of the document with the name
-  diagnosed : (uri : List ℕ) → Reply
+  -- the diagnostics of the document with the name and the text
+  diagnosed : (uri text : List ℕ) → Reply
+  -- that there are none any more
+  withdrawn : (uri : List ℕ) → Reply
   -- the request to watch files
   watch : Reply
 
@@ -31,13 +35,16 @@ refusal_form id code =
     object (member (codes "error") (error_form code) (member (codes "id") id
     (member (codes "jsonrpc") (string (codes "2.0")) no_members)))
 
-abbrev pub diagnostics_form : (uri : List ℕ) → (diagnostics : Data) → Data
-diagnostics_form uri diagnostics =
+abbrev pub publish_form : (uri : List ℕ) → (diagnostics : Data) → Data
+publish_form uri diagnostics =
     object (member (codes "jsonrpc") (string (codes "2.0"))
     (member (codes "method") (string (codes "textDocument/publishDiagnostics"))
     (member (codes "params")
     (object (member (codes "diagnostics") diagnostics (member (codes "uri") (string uri) no_members)))
     no_members)))
+
+abbrev pub diagnostics_form : (uri : List ℕ) → List Data → Data
+diagnostics_form uri diagnostics = publish_form uri (array (items_of diagnostics))
 
 abbrev pub watcher_form : (pattern : List ℕ) → Data
 watcher_form pattern = object (member (codes "globPattern") (string pattern) no_members)
@@ -66,5 +73,7 @@ pub data IsSent : Reply → Option Data → Type 0 where
   sends_none : IsSent silence None
   sends_answer : (id result : Data) → IsSent (answered id result) (Some (answer_form id result))
   sends_refusal : (id : Data) (code : ErrorCode) → IsSent (refused id code) (Some (refusal_form id code))
-  sends_diagnostics : (uri : List ℕ) (list : Data) → IsSent (diagnosed uri) (Some (diagnostics_form uri list))
+  sends_diagnostics : (uri text : List ℕ) (list : List Data) → TellsErrors text list →
+      IsSent (diagnosed uri text) (Some (diagnostics_form uri list))
+  sends_withdrawal : (uri : List ℕ) → IsSent (withdrawn uri) (Some (diagnostics_form uri []))
   sends_watch : IsSent watch (Some watch_form)

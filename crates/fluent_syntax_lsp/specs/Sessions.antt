@@ -12,7 +12,7 @@ use Rattle.fluent_syntax_lsp.specs.Opened.{MakesOpen, OpenText, Sets, texts}
 use Rattle.fluent_syntax_lsp.specs.Params.{changes_in, new_name_in, opened_text_in, uri_in, version_in}
 use Rattle.fluent_syntax_lsp.specs.Phases.{after_notification, after_request, refusal_of}
 use Rattle.fluent_syntax_lsp.specs.Results.{IsResult, Sources}
-use Rattle.fluent_syntax_lsp.specs.Replies.{IsSent, Reply, silence, answered, refused, diagnosed, watch}
+use Rattle.fluent_syntax_lsp.specs.Replies.{IsSent, Reply, silence, answered, refused, diagnosed, withdrawn, watch}
 use Rattle.fluent_syntax_lsp.specs.declared.methods.Method.{Method}
 use Rattle.fluent_syntax_lsp.specs.declared.methods.Method.TheVariants.{DocumentSymbol, Formatting, FoldingRange}
 use Rattle.fluent_syntax_lsp.specs.declared.methods.Method.TheVariants.{Definition, References, DocumentHighlight}
@@ -89,23 +89,23 @@ module _ (old : List ℕ → Option OpenText) (d : Data) where
   pub data Follows : Option Method → Reply → (new : List ℕ → Option OpenText) → Type 0 where
     opens : (uri text : List ℕ) (new : List ℕ → Option OpenText) → uri_in d ≡ Some uri →
         opened_text_in d ≡ Some text → Sets old uri (Some (record { text = text; version = version_in d })) new →
-        Follows (Some DidOpen) (diagnosed uri) new
+        Follows (Some DidOpen) (diagnosed uri text) new
     changes : (uri : List ℕ) (items : Items) (edits : List Edit) (before after : OpenText)
         (new : List ℕ → Option OpenText) → uri_in d ≡ Some uri → changes_in d ≡ Some items →
         edits_in items ≡ Some edits → old uri ≡ Some before → MakesOpen before (version_in d) edits after →
-        Sets old uri (Some after) new → Follows (Some DidChange) (diagnosed uri) new
+        Sets old uri (Some after) new → Follows (Some DidChange) (diagnosed uri after.text) new
     closes : (uri : List ℕ) (new : List ℕ → Option OpenText) → uri_in d ≡ Some uri → is_some (old uri) ≡ true →
-        Sets old uri None new → Follows (Some DidClose) (diagnosed uri) new
-    saves : (uri : List ℕ) (new : List ℕ → Option OpenText) → uri_in d ≡ Some uri → is_some (old uri) ≡ true →
-        new ≡ old → Follows (Some DidSave) (diagnosed uri) new
+        Sets old uri None new → Follows (Some DidClose) (withdrawn uri) new
+    saves : (uri : List ℕ) (found : OpenText) (new : List ℕ → Option OpenText) → uri_in d ≡ Some uri →
+        old uri ≡ Some found → new ≡ old → Follows (Some DidSave) (diagnosed uri found.text) new
     watches : (new : List ℕ → Option OpenText) → new ≡ old → Follows (Some Initialized) watch new
     passes : (method : Option Method) (new : List ℕ → Option OpenText) → concerns old d method ≡ false → new ≡ old →
         Follows method silence new
 
 -- the diagnostics of a document that is open, if it is
-abbrev pub published : (uri : List ℕ) → (is_open : Bool) → Reply
-published uri true = diagnosed uri
-published uri false = silence
+abbrev pub published : (uri : List ℕ) → Option OpenText → Reply
+published uri (Some found) = diagnosed uri found.text
+published uri None = silence
 
 -- What a notification of the method does: it may lead to another phase; while the session runs it is followed, and else
 -- nothing else changes and nothing is sent.
@@ -134,8 +134,9 @@ pub data Steps (old : Session) (sources : Sources) (body : List ℕ) : Reply →
 pub record TellsAnew (session : Session) (value : Data) : Type 0 where
   pub runs : session.phase ≡ Running
   pub uri : List ℕ
-  pub is_open : is_some (session.texts uri) ≡ true
-  pub told : IsSent (diagnosed uri) (Some value)
+  pub found : OpenText
+  pub is_open : session.texts uri ≡ Some found
+  pub told : IsSent (diagnosed uri found.text) (Some value)
 
 -- The same, where that value is sent for it, if any is.
 abbrev pub AnswersRequest : (old : Session) → Sources → (id d : Data) → Option Method → Option Data →

@@ -1,9 +1,10 @@
 //! What is told of a document.
-ghost use Rattle.std.specs.Prelude.{◌≡◌, is_some, option_map, IfOk, OnOk};
+ghost use Rattle.std.specs.Prelude.{◌≡◌, option_map, IfOk, OnOk};
 ghost use Rattle.serde_json.specs.View.{view};
 ghost use Rattle.fluent_syntax_lsp.specs.Opened.{texts};
-ghost use Rattle.fluent_syntax_lsp.specs.Replies.{IsSent, diagnosed};
+ghost use Rattle.fluent_syntax_lsp.specs.Replies.{IsSent, diagnostics_form};
 ghost use Rattle.fluent_syntax_lsp.specs.Sessions.{published, session_of};
+ghost use Rattle.fluent_syntax_lsp.specs.Told.{TellsMore, told_in};
 
 use crate::documents::Document;
 use crate::ignored::findings_told;
@@ -24,8 +25,8 @@ impl Server {
     /// The diagnostics of a document; None where it is not open.
     pub(crate) fn publish(&mut self, uri: &str) -> Result<Option<Value>, AllocError>
         ensures same { OnOk result (session_of self.new ≡ session_of self.old) }
-        ensures sent { let is_open = is_some (texts self.old.documents uri.now) in
-            IfOk result (λ sent. IsSent (published uri.now is_open) (option_map view sent)) }
+        ensures sent { let found = texts self.old.documents uri.now in
+            IfOk result (λ sent. IsSent (published uri.now found) (option_map view sent)) }
     {
         self.look_up_beside(uri)?;
         let Some(open) = self.documents.get(uri) else {
@@ -59,7 +60,9 @@ impl Server {
 
     /// Tells what a document and its original don't have alike; nothing of one that has none, or where one of them is
     /// too long.
-    fn tell_mismatches(&self, open: &Open, told: &mut Told<'_>) -> Result<(), AllocError> {
+    fn tell_mismatches(&self, open: &Open, told: &mut Told<'_>) -> Result<(), AllocError>
+        ensures { OnOk result (TellsMore told.old told.new) }
+    {
         let (Some(path), Document::Held(held)) = (&open.path, &open.document) else {
             return Ok(());
         };
@@ -89,7 +92,7 @@ impl Server {
 
     /// The notification of what is told of a document.
     pub(crate) fn published(&self, uri: &str, told: Told<'_>) -> Result<Value, AllocError>
-        ensures { IfOk result (λ value. IsSent (diagnosed uri.now) (Some (view value))) }
+        ensures { IfOk result (λ value. view value ≡ diagnostics_form uri.now (told_in told)) }
     {
         let Told { diagnostics, .. } = told;
         diagnostics_notification(self.alloc, uri, diagnostics)

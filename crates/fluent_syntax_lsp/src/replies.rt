@@ -1,10 +1,10 @@
 //! The messages that a server sends, as JSON values.
-ghost use Rattle.std.specs.Prelude.{◌≡◌, IfOk};
-ghost use Rattle.serde_json.specs.Data.{Data};
+ghost use Rattle.std.specs.Prelude.{◌≡◌, IfOk, map};
 ghost use Rattle.serde_json.specs.View.{view};
 ghost use Rattle.fluent_syntax_lsp.specs.Locations.{document_edits_form, edit_form, highlight_form, location_form};
 ghost use Rattle.fluent_syntax_lsp.specs.Locations.{place_form, range_form, span_form};
-ghost use Rattle.fluent_syntax_lsp.specs.Replies.{answer_form, diagnostics_form, refusal_form, watch_form};
+ghost use Rattle.fluent_syntax_lsp.specs.Replies.{answer_form, diagnostics_form, publish_form};
+ghost use Rattle.fluent_syntax_lsp.specs.Replies.{refusal_form, watch_form};
 
 use crate::known::Known;
 use crate::occurrences::{NameKind, Occurrence, bytes_of, name_of};
@@ -82,14 +82,14 @@ pub fn diagnostics_notification(
     uri: &str,
     diagnostics: Vec<Value>,
 ) -> Result<Value, AllocError>
-    ensures { IfOk result (λ value. (list : Data) × (view value ≡ diagnostics_form uri.now list)) }
+    ensures { IfOk result (λ value. view value ≡ diagnostics_form uri.now (map view diagnostics.items)) }
 {
     told_form(alloc, uri, Value::Array(diagnostics))
 }
 
 /// The notification of a list of diagnostics.
 fn told_form(alloc: Global, uri: &str, diagnostics: Value) -> Result<Value, AllocError>
-    ensures { IfOk result (λ value. view value ≡ diagnostics_form uri.now (view diagnostics)) }
+    ensures { IfOk result (λ value. view value ≡ publish_form uri.now (view diagnostics)) }
 {
     json!(in alloc; {
         "jsonrpc": "2.0",

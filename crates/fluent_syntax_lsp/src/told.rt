@@ -1,4 +1,8 @@
 //! The diagnostics of a document, as the protocol has them.
+ghost use Rattle.std.specs.Prelude.{◌≡◌, ◌++◌, [], map, None, Some, IfOk, OnOk};
+ghost use Rattle.serde_json.specs.View.{view};
+ghost use Rattle.fluent_syntax_lsp.specs.Told.{TellsMore, TellsOne, error_form, row_form, severity_number};
+ghost use Rattle.fluent_syntax_lsp.specs.Told.{taken, told_in};
 
 use crate::diagnostics::Diagnostic;
 use crate::mismatches::Mismatch;
@@ -20,7 +24,9 @@ pub struct Told<'u> {
 
 impl<'u> Told<'u> {
     /// Nothing yet.
-    pub fn new(alloc: Global, uri: &'u str, related: bool) -> Self {
+    pub fn new(alloc: Global, uri: &'u str, related: bool) -> Self
+        ensures { told_in result ≡ [] }
+    {
         Told {
             alloc,
             uri,
@@ -30,7 +36,9 @@ impl<'u> Told<'u> {
     }
 
     /// Adds errors of the document.
-    pub fn add_errors(&mut self, errors: &[Diagnostic]) -> Result<(), AllocError> {
+    pub fn add_errors(&mut self, errors: &[Diagnostic]) -> Result<(), AllocError>
+        ensures { OnOk result (told_in self.new ≡ told_in self.old ++ map error_form errors.now) }
+    {
         for error in errors {
             let range = PlaceRange {
                 start: error.start,
@@ -48,7 +56,9 @@ impl<'u> Told<'u> {
     }
 
     /// Adds findings in it.
-    pub fn add_remarks(&mut self, remarks: &[Remark]) -> Result<(), AllocError> {
+    pub fn add_remarks(&mut self, remarks: &[Remark]) -> Result<(), AllocError>
+        ensures { OnOk result (TellsMore self.old self.new) }
+    {
         for remark in remarks {
             let row = Row {
                 range: remark.range,
@@ -72,7 +82,9 @@ impl<'u> Told<'u> {
         &mut self,
         original: &str,
         mismatches: &[Mismatch],
-    ) -> Result<(), AllocError> {
+    ) -> Result<(), AllocError>
+        ensures { OnOk result (TellsMore self.old self.new) }
+    {
         for mismatch in mismatches {
             let row = Row {
                 range: mismatch.range,
@@ -90,7 +102,9 @@ impl<'u> Told<'u> {
         Ok(())
     }
 
-    fn add(&mut self, row: Row<'_>, related: Option<Related<'_>>) -> Result<(), AllocError> {
+    fn add(&mut self, row: Row<'_>, related: Option<Related<'_>>) -> Result<(), AllocError>
+        ensures { OnOk result (TellsOne self.old self.new (row_form row (taken related self.old.related))) }
+    {
         let value = match related {
             Some(related) if self.related => related_form(self.alloc, row, related)?,
             _ => row_form(self.alloc, row)?,
@@ -118,7 +132,9 @@ struct Related<'m> {
 }
 
 /// A diagnostic.
-fn row_form(alloc: Global, row: Row<'_>) -> Result<Value, AllocError> {
+fn row_form(alloc: Global, row: Row<'_>) -> Result<Value, AllocError>
+    ensures { IfOk result (λ value. view value ≡ row_form row None) }
+{
     let range = range_form(alloc, row.range.start, row.range.end)?;
     json!(in alloc; {
         "range": range,
@@ -130,7 +146,9 @@ fn row_form(alloc: Global, row: Row<'_>) -> Result<Value, AllocError> {
 }
 
 /// A diagnostic with another place.
-fn related_form(alloc: Global, row: Row<'_>, related: Related<'_>) -> Result<Value, AllocError> {
+fn related_form(alloc: Global, row: Row<'_>, related: Related<'_>) -> Result<Value, AllocError>
+    ensures { IfOk result (λ value. view value ≡ row_form row (Some related)) }
+{
     let range = range_form(alloc, row.range.start, row.range.end)?;
     let other = range_form(alloc, related.range.start, related.range.end)?;
     json!(in alloc; {
@@ -147,7 +165,9 @@ fn related_form(alloc: Global, row: Row<'_>, related: Related<'_>) -> Result<Val
 }
 
 /// The number of a severity in the protocol.
-fn severity_number(severity: Severity) -> u64 {
+fn severity_number(severity: Severity) -> u64
+    ensures { result ≡ severity_number severity }
+{
     match severity {
         Severity::Error => 1,
         Severity::Warning => 2,

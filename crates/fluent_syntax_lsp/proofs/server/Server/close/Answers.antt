@@ -1,9 +1,9 @@
 use Rattle.std.proofs.Common.{refl, sym}
 use Rattle.fluent_syntax_lsp.specs.Opened.{texts}
-use Rattle.fluent_syntax_lsp.specs.Replies.{diagnosed, silence, sends_none}
+use Rattle.fluent_syntax_lsp.specs.Replies.{silence, sends_none, withdrawn}
 use Rattle.fluent_syntax_lsp.specs.Sessions.{closes, passes}
 use Rattle.fluent_syntax_lsp.specs.declared.methods.Method.TheVariants.{DidClose}
-use Rattle.fluent_syntax_lsp.proofs.SessionLemmas.{not_named, named_open}
+use Rattle.fluent_syntax_lsp.proofs.SessionLemmas.{is_withdrawn, not_named, named_open}
 use Rattle.std.proofs.Common.{Some, ◌∙◌}
 use Rattle.fluent_syntax_lsp.proofs.server.Server.close.Goals as goal
 
@@ -18,7 +18,7 @@ returns-then-not-contains-clause-follows c =
 
 pub returns-clause-follows : goal.returns-clause-follows
 returns-clause-follows c = (
-  diagnosed c.in-Some.uri.now,
-  c.in_ok-published.ensures,
+  withdrawn c.in-Some.uri.now,
+  is_withdrawn c.in-Some.uri.now _ _ c.in_ok-published.ensures c.new.ensures,
   closes c.in-Some.uri.now _ (sym c.in-Some.ensures) (sym c.if-not-contains.ensures) c.close.ensures,
 )
