@@ -1,34 +1,89 @@
--- What is told of a document, one more behind another.
-use Rattle.std.proofs.Common.{◌≡◌, List, [], ◌∷◌, ◌++◌, map, sym, ap, ◌∙◌, append-nil}
-use Rattle.std.proofs.lemmas.List.{append_assoc}
+-- What is told of a document, one diagnostic behind another.
+use Rattle.std.proofs.Common.{◌≡◌, ℕ, List, [], ◌∷◌, ◌++◌, map, sym, ap, ◌∙◌, refl, append-nil, Bool, Option, inl}
 use Rattle.serde_json.specs.Data.{Data}
+use Rattle.fluent_syntax_names.specs.declared.finding.Finding.{Finding}
+use Rattle.fluent_syntax_names.specs.declared.finding.Severity.{Severity}
+use Rattle.fluent_syntax_names.specs.declared.outline.Outline.{Outline}
 use Rattle.fluent_syntax_lsp.specs.Diagnostics.{DiagnosesDocument, shown}
-use Rattle.fluent_syntax_lsp.specs.Told.{TellsErrors, TellsMore, TellsOne, error_form, told_in}
+use Rattle.fluent_syntax_lsp.specs.Documents.{document_text}
+use Rattle.fluent_syntax_lsp.specs.Own.{FindsAmongInDocument, FindsBesideInDocument, FindsInDocument, FindsSome}
+use Rattle.fluent_syntax_lsp.specs.Own.{finds_among, finds_beside, finds_none, finds_own}
+use Rattle.fluent_syntax_lsp.specs.Told.{IsToldAlike, RemarksOn, TellsAll, TellsMismatches, diagnostic_form, error_form}
+use Rattle.fluent_syntax_lsp.specs.Told.{mismatch_form, related_form, remark_form, taken, told_in}
 use Rattle.fluent_syntax_lsp.specs.declared.diagnostics.Diagnostic.{Diagnostic}
+use Rattle.fluent_syntax_lsp.specs.declared.documents.Document.{Document}
+use Rattle.fluent_syntax_lsp.specs.declared.documents.Document.TheVariants.{Held, TooDeep}
+use Rattle.fluent_syntax_lsp.specs.declared.remarks.PlaceRange.{PlaceRange}
+use Rattle.fluent_syntax_lsp.specs.declared.remarks.Remark.{Remark}
 use Rattle.fluent_syntax_lsp.specs.declared.told.Told.{Told}
 
-pub tells_no_more : (told : Told) → TellsMore told told
-tells_no_more told = ([], sym (append-nil (told_in told)))
+pub alike_both : (a b c : Told) → IsToldAlike a b → IsToldAlike b c → IsToldAlike a c
+alike_both a b c first second = (second.0 ∙ first.0, second.1 ∙ first.1)
 
-pub tells_both : (old mid new : Told) → TellsMore old mid → TellsMore mid new → TellsMore old new
-tells_both old mid new first second = (
-  first.0 ++ second.0,
-  second.1 ∙ ap (λ l. l ++ second.0) first.1 ∙ append_assoc (told_in old) first.0 second.0,
-)
+-- one more, whose form is known
+pub told_as : (old new : Told) (form known : Data) → told_in new ≡ told_in old ++ form ∷ [] → form ≡ known →
+    told_in new ≡ told_in old ++ known ∷ []
+told_as old new form known told same = told ∙ ap (λ d. told_in old ++ d ∷ []) same
 
-pub tells_one_more : (old mid new : Told) (form : Data) → TellsMore old mid → TellsOne mid new form → TellsMore old new
-tells_one_more old mid new form more one = tells_both old mid new more (form ∷ [], one)
+-- diagnostics of the same range, all of whose parts are the same
+pub same_form : (range : PlaceRange) (a b : Severity) (code name message text : List ℕ) (place there : Option Data) →
+    a ≡ b → code ≡ name → message ≡ text → place ≡ there →
+    diagnostic_form range a code message place ≡ diagnostic_form range b name text there
+same_form range a b code name message text place there e f g h =
+    ap (λ (s : Severity). diagnostic_form range s code message place) e
+    ∙ ap (λ (l : List ℕ). diagnostic_form range b l message place) f
+    ∙ ap (λ (l : List ℕ). diagnostic_form range b name l place) g
+    ∙ ap (λ (o : Option Data). diagnostic_form range b name text o) h
 
--- the errors were told first, and more behind them
-pub tells_errors : (text : List ℕ) (errors : List Diagnostic) (none first second last : Told) →
-    DiagnosesDocument text (map shown errors) → told_in none ≡ [] →
-    told_in first ≡ told_in none ++ map error_form errors → TellsMore first second → TellsMore second last →
-    TellsErrors text (told_in last)
-tells_errors text errors none first second last diagnoses empty told more behind =
-    let others = tells_both first second last more behind in
+-- all that was told of a document
+pub tells_all : (uri t : List ℕ) (errors : List Diagnostic) (remarks : List Remark) (none first second last : Told) →
+    none.uri.now ≡ uri → DiagnosesDocument t (map shown errors) → RemarksOn t remarks → told_in none ≡ [] →
+    told_in first ≡ told_in none ++ map error_form errors → IsToldAlike none first →
+    told_in second ≡ told_in first ++ map (remark_form first.uri.now first.related) remarks →
+    IsToldAlike first second → TellsMismatches t second last → TellsAll uri t (told_in last)
+tells_all uri t errors remarks none first second last named diagnoses on empty told alike remarked alike_too differs =
+    let forms = map error_form errors in
+    let these : told_in first ≡ forms = told ∙ ap (λ l. l ++ forms) empty in
+    let those : told_in second ≡ forms ++ map (remark_form uri none.related) remarks =
+    remarked
+    ∙ ap (λ l. l ++ map (remark_form first.uri.now first.related) remarks) these
+    ∙ ap (λ (u : List ℕ). forms ++ map (remark_form u first.related) remarks) (alike.0 ∙ named)
+    ∙ ap (λ (b : Bool). forms ++ map (remark_form uri b) remarks) alike.1 in
+    let before = forms ++ map (remark_form uri none.related) remarks in
     record {
+      is_taken = none.related;
       errors = errors;
       diagnoses = diagnoses;
-      others = others.0;
-      told = others.1 ∙ ap (λ l. l ++ others.0) (told ∙ ap (λ l. l ++ map error_form errors) empty);
+      remarks = remarks;
+      remarks_on = on;
+      original = differs.original;
+      mismatches = differs.mismatches;
+      are_mismatches = differs.are;
+      told_each =
+          differs.told_each
+          ∙ ap (λ l. l ++ map (mismatch_form differs.original second.related) differs.mismatches) those
+          ∙ ap (λ (b : Bool). before ++ map (mismatch_form differs.original b) differs.mismatches)
+          (alike_too.1 ∙ alike.1);
     }
+
+-- no differences are told
+pub tells_no_mismatches : (t : List ℕ) (told : Told) → TellsMismatches t told told
+tells_no_mismatches t told =
+    record { original = []; mismatches = []; are = inl refl; told_each = sym (append-nil (told_in told)) }
+
+-- ---- What is found in a document
+
+pub some_own : (document : Document) (found : List Finding) → FindsInDocument document found →
+    FindsSome (document_text document) found
+some_own (Held t) found finds = finds_own finds
+some_own (TooDeep text) found none = finds_none none
+
+pub some_beside : (document : Document) (others : List ℕ → Bool) (found : List Finding) →
+    FindsBesideInDocument document others found → FindsSome (document_text document) found
+some_beside (Held t) others found finds = finds_beside others finds
+some_beside (TooDeep text) others found none = finds_none none
+
+pub some_among : (document : Document) (others : List Outline) (found : List Finding) →
+    FindsAmongInDocument document others found → FindsSome (document_text document) found
+some_among (Held t) others found finds = finds_among others finds
+some_among (TooDeep text) others found none = finds_none none

@@ -65,6 +65,13 @@ abbrev pub FindsAmongInDocument : Document → List Outline → List Finding →
 FindsAmongInDocument (Held t) others found = FindsAmong t others found
 FindsAmongInDocument (TooDeep text) others found = found ≡ []
 
+-- It is what is found in the text by itself, where others define some names, or among some others; or nothing is.
+pub data FindsSome (t : List ℕ) (found : List Finding) : Type 0 where
+  finds_none : found ≡ [] → FindsSome t found
+  finds_own : FindsOwn t found → FindsSome t found
+  finds_beside : (others : List ℕ → Bool) → FindsBeside t others found → FindsSome t found
+  finds_among : (others : List Outline) → FindsAmong t others found → FindsSome t found
+
 -- They are what the entries of the text's tiling say of names, in order.
 pub record AreMentionsOf (t : List ℕ) (mentions : Mentions Span) : Type 0 where
   pub outline : Outline

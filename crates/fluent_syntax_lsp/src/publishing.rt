@@ -4,7 +4,9 @@ ghost use Rattle.serde_json.specs.View.{view};
 ghost use Rattle.fluent_syntax_lsp.specs.Opened.{texts};
 ghost use Rattle.fluent_syntax_lsp.specs.Replies.{IsSent, diagnostics_form};
 ghost use Rattle.fluent_syntax_lsp.specs.Sessions.{published, session_of};
-ghost use Rattle.fluent_syntax_lsp.specs.Told.{TellsMore, told_in};
+ghost use Rattle.fluent_syntax_lsp.specs.Documents.{document_text};
+ghost use Rattle.fluent_syntax_lsp.specs.Own.{FindsSome};
+ghost use Rattle.fluent_syntax_lsp.specs.Told.{RemarksOn, TellsMismatches, told_in};
 
 use crate::documents::Document;
 use crate::ignored::findings_told;
@@ -61,7 +63,7 @@ impl Server {
     /// Tells what a document and its original don't have alike; nothing of one that has none, or where one of them is
     /// too long.
     fn tell_mismatches(&self, open: &Open, told: &mut Told<'_>) -> Result<(), AllocError>
-        ensures { OnOk result (TellsMore told.old told.new) }
+        ensures { OnOk result (TellsMismatches (document_text open.now.document) told.old told.new) }
     {
         let (Some(path), Document::Held(held)) = (&open.path, &open.document) else {
             return Ok(());
@@ -113,7 +115,9 @@ impl Server {
     }
 
     /// What is told of a document's findings; nothing of a document that is too long.
-    fn remarks(&self, uri: &str, document: &Document) -> Result<Vec<Remark>, AllocError> {
+    fn remarks(&self, uri: &str, document: &Document) -> Result<Vec<Remark>, AllocError>
+        ensures { IfOk result (λ remarks. RemarksOn (document_text document.now) remarks.items) }
+    {
         if !is_short(document) {
             return Ok(Vec::new(self.alloc));
         }
@@ -137,7 +141,9 @@ impl Server {
 
     /// What is found in a document: by itself; where all others are known, among them, or beside them where they are
     /// long.
-    fn findings(&self, uri: &str, document: &Document) -> Result<Vec<Finding>, AllocError> {
+    fn findings(&self, uri: &str, document: &Document) -> Result<Vec<Finding>, AllocError>
+        ensures { IfOk result (λ found. FindsSome (document_text document.now) found.items) }
+    {
         let (alloc, workspace) = (self.alloc, &self.workspace);
         let documents = self.documents.by_name();
         if self.is_surrounded(uri) {

@@ -1,8 +1,8 @@
 //! The diagnostics of a document, as the protocol has them.
-ghost use Rattle.std.specs.Prelude.{◌≡◌, ◌++◌, [], map, None, Some, IfOk, OnOk};
+ghost use Rattle.std.specs.Prelude.{◌≡◌, ◌∷◌, ◌++◌, [], map, None, Some, option_map, IfOk, OnOk};
 ghost use Rattle.serde_json.specs.View.{view};
-ghost use Rattle.fluent_syntax_lsp.specs.Told.{TellsMore, TellsOne, error_form, row_form, severity_number};
-ghost use Rattle.fluent_syntax_lsp.specs.Told.{taken, told_in};
+ghost use Rattle.fluent_syntax_lsp.specs.Told.{IsToldAlike, error_form, first_told, mismatch_form, original_told};
+ghost use Rattle.fluent_syntax_lsp.specs.Told.{related_form, remark_form, row_form, severity_number, taken, told_in};
 
 use crate::diagnostics::Diagnostic;
 use crate::mismatches::Mismatch;
@@ -25,7 +25,9 @@ pub struct Told<'u> {
 impl<'u> Told<'u> {
     /// Nothing yet.
     pub fn new(alloc: Global, uri: &'u str, related: bool) -> Self
-        ensures { told_in result ≡ [] }
+        ensures none { told_in result ≡ [] }
+        ensures uri { result.uri.now ≡ uri.now }
+        ensures related { result.related ≡ related }
     {
         Told {
             alloc,
@@ -37,7 +39,8 @@ impl<'u> Told<'u> {
 
     /// Adds errors of the document.
     pub fn add_errors(&mut self, errors: &[Diagnostic]) -> Result<(), AllocError>
-        ensures { OnOk result (told_in self.new ≡ told_in self.old ++ map error_form errors.now) }
+        ensures told { OnOk result (told_in self.new ≡ told_in self.old ++ map error_form errors.now) }
+        ensures alike { OnOk result (IsToldAlike self.old self.new) }
     {
         for error in errors {
             let range = PlaceRange {
@@ -57,7 +60,9 @@ impl<'u> Told<'u> {
 
     /// Adds findings in it.
     pub fn add_remarks(&mut self, remarks: &[Remark]) -> Result<(), AllocError>
-        ensures { OnOk result (TellsMore self.old self.new) }
+        ensures told { OnOk result (told_in self.new
+            ≡ told_in self.old ++ map (remark_form self.old.uri.now self.old.related) remarks.now) }
+        ensures alike { OnOk result (IsToldAlike self.old self.new) }
     {
         for remark in remarks {
             let row = Row {
@@ -66,12 +71,7 @@ impl<'u> Told<'u> {
                 code: remark.kind.name(),
                 message: remark.message.as_str(),
             };
-            let uri = self.uri;
-            let first = remark.first.map(|range| Related {
-                uri,
-                range,
-                message: "first given here",
-            });
+            let first = first_given(self.uri, remark.first);
             self.add(row, first)?;
         }
         Ok(())
@@ -83,7 +83,9 @@ impl<'u> Told<'u> {
         original: &str,
         mismatches: &[Mismatch],
     ) -> Result<(), AllocError>
-        ensures { OnOk result (TellsMore self.old self.new) }
+        ensures told { OnOk result (told_in self.new
+            ≡ told_in self.old ++ map (mismatch_form original.now self.old.related) mismatches.now) }
+        ensures alike { OnOk result (IsToldAlike self.old self.new) }
     {
         for mismatch in mismatches {
             let row = Row {
@@ -92,22 +94,20 @@ impl<'u> Told<'u> {
                 code: mismatch.difference.name(),
                 message: mismatch.message.as_str(),
             };
-            let there = mismatch.original.map(|range| Related {
-                uri: original,
-                range,
-                message: "what the reference has",
-            });
+            let there = original_place(original, mismatch.original);
             self.add(row, there)?;
         }
         Ok(())
     }
 
     fn add(&mut self, row: Row<'_>, related: Option<Related<'_>>) -> Result<(), AllocError>
-        ensures { OnOk result (TellsOne self.old self.new (row_form row (taken related self.old.related))) }
+        ensures told { let place = taken (option_map related_form related) self.old.related in
+            OnOk result (told_in self.new ≡ told_in self.old ++ row_form row place ∷ []) }
+        ensures alike { OnOk result (IsToldAlike self.old self.new) }
     {
         let value = match related {
-            Some(related) if self.related => related_form(self.alloc, row, related)?,
-            _ => row_form(self.alloc, row)?,
+            Some(related) if self.related => form_with_place(self.alloc, row, related)?,
+            _ => form_alone(self.alloc, row)?,
         };
         self.diagnostics.push(value)?;
         Ok(())
@@ -131,8 +131,32 @@ struct Related<'m> {
     message: &'m str,
 }
 
+/// Where the name of a finding was given first, in the same document.
+fn first_given<'m>(uri: &'m str, first: Option<PlaceRange>) -> Option<Related<'m>>
+    ensures { option_map related_form result ≡ first_told uri.now first }
+{
+    let range = first?;
+    Some(Related {
+        uri,
+        range,
+        message: "first given here",
+    })
+}
+
+/// Where an original has what a document lacks.
+fn original_place<'m>(uri: &'m str, there: Option<PlaceRange>) -> Option<Related<'m>>
+    ensures { option_map related_form result ≡ original_told uri.now there }
+{
+    let range = there?;
+    Some(Related {
+        uri,
+        range,
+        message: "what the reference has",
+    })
+}
+
 /// A diagnostic.
-fn row_form(alloc: Global, row: Row<'_>) -> Result<Value, AllocError>
+fn form_alone(alloc: Global, row: Row<'_>) -> Result<Value, AllocError>
     ensures { IfOk result (λ value. view value ≡ row_form row None) }
 {
     let range = range_form(alloc, row.range.start, row.range.end)?;
@@ -146,8 +170,8 @@ fn row_form(alloc: Global, row: Row<'_>) -> Result<Value, AllocError>
 }
 
 /// A diagnostic with another place.
-fn related_form(alloc: Global, row: Row<'_>, related: Related<'_>) -> Result<Value, AllocError>
-    ensures { IfOk result (λ value. view value ≡ row_form row (Some related)) }
+fn form_with_place(alloc: Global, row: Row<'_>, related: Related<'_>) -> Result<Value, AllocError>
+    ensures { IfOk result (λ value. view value ≡ row_form row (Some (related_form related))) }
 {
     let range = range_form(alloc, row.range.start, row.range.end)?;
     let other = range_form(alloc, related.range.start, related.range.end)?;

@@ -1,8 +1,6 @@
-use Rattle.serde_json.specs.View.{view}
 use Rattle.fluent_syntax_lsp.specs.Sessions.{session_of}
-use Rattle.fluent_syntax_lsp.specs.Told.{told_in}
 use Rattle.fluent_syntax_lsp.proofs.SessionLemmas.{is_published, unpublished}
-use Rattle.fluent_syntax_lsp.proofs.ToldLemmas.{tells_errors}
+use Rattle.fluent_syntax_lsp.proofs.ToldLemmas.{tells_all}
 use Rattle.fluent_syntax_lsp.proofs.server.Server.publish.Goals as goal
 
 pub returns-in_default-clause-sent : goal.returns-in_default-clause-sent
@@ -12,8 +10,10 @@ returns-in_default-clause-sent c =
 
 pub returns-clause-sent : goal.returns-clause-sent
 returns-clause-sent c =
-    let tells_all = tells_errors _ _ c.new.result c.add_errors.new.self c.add_remarks.new.self
-    c.tell_mismatches.new.told c.in_ok-errors.ensures c.new.ensures c.in_ok-add_errors.ensures c.in_ok-add_remarks.ensures
-    c.in_ok-tell_mismatches.ensures in
-    is_published (session_of c.args.self.now) (session_of c.look_up_beside.new.self) c.args.uri.now _ _ _
-    c.in_ok-look_up_beside.ensures.same c.in-Some.ensures c.in_ok-published.ensures tells_all
+    let uri = c.args.uri.now in
+    let all = tells_all uri _ _ _ c.new.result c.add_errors.new.self c.add_remarks.new.self
+    c.tell_mismatches.new.told c.new.ensures.uri c.in_ok-errors.ensures c.in_ok-remarks.ensures c.new.ensures.none
+    c.in_ok-add_errors.ensures.told c.in_ok-add_errors.ensures.alike c.in_ok-add_remarks.ensures.told
+    c.in_ok-add_remarks.ensures.alike c.in_ok-tell_mismatches.ensures in
+    is_published (session_of c.args.self.now) (session_of c.look_up_beside.new.self) uri _ _ _
+    c.in_ok-look_up_beside.ensures.same c.in-Some.ensures c.in_ok-published.ensures all
