@@ -1,18 +1,27 @@
 -- What is told of a document, one diagnostic behind another.
-use Rattle.std.proofs.Common.{◌≡◌, ℕ, List, [], ◌∷◌, ◌++◌, map, sym, ap, ◌∙◌, refl, append-nil, Bool, Option, inl}
+use Rattle.std.proofs.Common.{◌≡◌, ℕ, List, [], ◌∷◌, ◌++◌, map, sym, ap, ◌∙◌, refl, subst, append-nil, Bool, Option}
+use Rattle.std.proofs.Common.{inl, inr, Result, Ok, Err, Vec}
+use Rattle.std.specs.Prelude.{All, IfOk, OnOk, filter, filter_map}
+use Rattle.std.specs.declared.alloc.Global.{Global}
+use Rattle.std.proofs.lemmas.List.Elements.{All-nil}
 use Rattle.serde_json.specs.Data.{Data}
 use Rattle.fluent_syntax_names.specs.declared.finding.Finding.{Finding}
+use Rattle.fluent_syntax_names.specs.declared.finding.Kind.{Kind}
 use Rattle.fluent_syntax_names.specs.declared.finding.Severity.{Severity}
 use Rattle.fluent_syntax_names.specs.declared.outline.Outline.{Outline}
 use Rattle.fluent_syntax_lsp.specs.Diagnostics.{DiagnosesDocument, shown}
 use Rattle.fluent_syntax_lsp.specs.Documents.{document_text}
 use Rattle.fluent_syntax_lsp.specs.Own.{FindsAmongInDocument, FindsBesideInDocument, FindsInDocument, FindsSome}
-use Rattle.fluent_syntax_lsp.specs.Own.{finds_among, finds_beside, finds_none, finds_own}
+use Rattle.fluent_syntax_lsp.specs.Own.{IsOutlineOf, finds_among, finds_beside, finds_none, finds_own}
+use Rattle.fluent_syntax_lsp.specs.Ignored.{is_told}
+use Rattle.fluent_syntax_lsp.specs.Mismatches.{difference_of, differences}
+use Rattle.fluent_syntax_lsp.specs.Remarks.{IsSentence, told, told_of}
 use Rattle.fluent_syntax_lsp.specs.Told.{IsToldAlike, RemarksOn, TellsAll, TellsMismatches, diagnostic_form, error_form}
 use Rattle.fluent_syntax_lsp.specs.Told.{mismatch_form, related_form, remark_form, taken, told_in}
 use Rattle.fluent_syntax_lsp.specs.declared.diagnostics.Diagnostic.{Diagnostic}
 use Rattle.fluent_syntax_lsp.specs.declared.documents.Document.{Document}
 use Rattle.fluent_syntax_lsp.specs.declared.documents.Document.TheVariants.{Held, TooDeep}
+use Rattle.fluent_syntax_lsp.specs.declared.mismatches.Mismatch.{Mismatch}
 use Rattle.fluent_syntax_lsp.specs.declared.remarks.PlaceRange.{PlaceRange}
 use Rattle.fluent_syntax_lsp.specs.declared.remarks.Remark.{Remark}
 use Rattle.fluent_syntax_lsp.specs.declared.told.Told.{Told}
@@ -70,6 +79,50 @@ tells_all uri t errors remarks none first second last named diagnoses on empty t
 pub tells_no_mismatches : (t : List ℕ) (told : Told) → TellsMismatches t told told
 tells_no_mismatches t told =
     record { original = []; mismatches = []; are = inl refl; told_each = sym (append-nil (told_in told)) }
+
+-- those of the text are
+pub tells_mismatches : {X Y : Type 0} (r : Result X Y) (t held : List ℕ) (old new : Told) (original : List ℕ)
+    (slice mismatches : List Mismatch) (document there : Outline) → held ≡ t → IsOutlineOf held document →
+    map difference_of mismatches ≡ differences document there → slice ≡ mismatches →
+    OnOk r (told_in new ≡ told_in old ++ map (mismatch_form original old.related) slice) →
+    OnOk r (TellsMismatches t old new)
+tells_mismatches (Ok x) t held old new original slice mismatches document there same outline differ whole told_each =
+    record {
+      original = original;
+      mismatches = mismatches;
+      are = inr (document, subst (λ (u : List ℕ). IsOutlineOf u document) same outline, there, differ);
+      told_each = told_each ∙ ap (λ (l : List Mismatch). told_in old ++ map (mismatch_form original old.related) l) whole;
+    }
+tells_mismatches (Err e) t held old new original slice mismatches document there same outline differ whole h = h
+
+-- ---- Remarks
+
+pub remarks_on_none : (t : List ℕ) (remarks : List Remark) → remarks ≡ [] → RemarksOn t remarks
+remarks_on_none t remarks none =
+    subst (RemarksOn t) (sym none)
+    (record {
+      found = [];
+      finds = finds_none refl;
+      ignored = [];
+      told_each = refl;
+      sentences = All-nil (IsSentence t);
+    })
+
+pub remarks_on : {Y : Type 0} (r : Result (Vec Remark Global) Y) (t text : List ℕ) (told_of_them all : List Finding)
+    (ignored : List Kind) → text ≡ t → FindsSome t all → told_of_them ≡ filter (is_told ignored) all →
+    IfOk r (λ remarks. map told remarks.items ≡ filter_map (told_of text) told_of_them) →
+    IfOk r (λ remarks. All (IsSentence text) remarks.items) → IfOk r (λ remarks. RemarksOn t remarks.items)
+remarks_on (Ok remarks) t text told_of_them all ignored same finds is each sentences = record {
+  found = all;
+  finds = finds;
+  ignored = ignored;
+  told_each =
+      each
+      ∙ ap (λ (u : List ℕ). filter_map (told_of u) told_of_them) same
+      ∙ ap (λ (l : List Finding). filter_map (told_of t) l) is;
+  sentences = subst (λ (u : List ℕ). All (IsSentence u) remarks.items) same sentences;
+}
+remarks_on (Err e) t text told_of_them all ignored same finds is each sentences = each
 
 -- ---- What is found in a document
 

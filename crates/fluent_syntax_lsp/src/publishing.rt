@@ -63,7 +63,7 @@ impl Server {
     /// Tells what a document and its original don't have alike; nothing of one that has none, or where one of them is
     /// too long.
     fn tell_mismatches(&self, open: &Open, told: &mut Told<'_>) -> Result<(), AllocError>
-        ensures { OnOk result (TellsMismatches (document_text open.now.document) told.old told.new) }
+        ensures { OnOk result (TellsMismatches (document_text «open».now.document) told.old told.new) }
     {
         let (Some(path), Document::Held(held)) = (&open.path, &open.document) else {
             return Ok(());
@@ -94,7 +94,7 @@ impl Server {
 
     /// The notification of what is told of a document.
     pub(crate) fn published(&self, uri: &str, told: Told<'_>) -> Result<Value, AllocError>
-        ensures { IfOk result (λ value. view value ≡ diagnostics_form uri.now (told_in told)) }
+        ensures { IfOk result (λ value. view value ≡ diagnostics_form uri.now (told_in told.entry)) }
     {
         let Told { diagnostics, .. } = told;
         diagnostics_notification(self.alloc, uri, diagnostics)

@@ -101,14 +101,11 @@ impl<'u> Told<'u> {
     }
 
     fn add(&mut self, row: Row<'_>, related: Option<Related<'_>>) -> Result<(), AllocError>
-        ensures told { let place = taken (option_map related_form related) self.old.related in
-            OnOk result (told_in self.new ≡ told_in self.old ++ row_form row place ∷ []) }
+        ensures told { let place = taken (option_map related_form related.entry) self.old.related in
+            OnOk result (told_in self.new ≡ told_in self.old ++ row_form row.entry place ∷ []) }
         ensures alike { OnOk result (IsToldAlike self.old self.new) }
     {
-        let value = match related {
-            Some(related) if self.related => form_with_place(self.alloc, row, related)?,
-            _ => form_alone(self.alloc, row)?,
-        };
+        let value = diagnostic_form(self.alloc, row, related, self.related)?;
         self.diagnostics.push(value)?;
         Ok(())
     }
@@ -155,9 +152,25 @@ fn original_place<'m>(uri: &'m str, there: Option<PlaceRange>) -> Option<Related
     })
 }
 
-/// A diagnostic.
+/// A diagnostic, with the other place where the editor takes one.
+fn diagnostic_form(
+    alloc: Global,
+    row: Row<'_>,
+    related: Option<Related<'_>>,
+    is_taken: bool,
+) -> Result<Value, AllocError>
+    ensures { let place = taken (option_map related_form related.entry) is_taken in
+        IfOk result (λ value. view value ≡ row_form row.entry place) }
+{
+    match related {
+        Some(related) if is_taken => form_with_place(alloc, row, related_form(alloc, related)?),
+        _ => form_alone(alloc, row),
+    }
+}
+
+/// A diagnostic by itself.
 fn form_alone(alloc: Global, row: Row<'_>) -> Result<Value, AllocError>
-    ensures { IfOk result (λ value. view value ≡ row_form row None) }
+    ensures { IfOk result (λ value. view value ≡ row_form row.entry None) }
 {
     let range = range_form(alloc, row.range.start, row.range.end)?;
     json!(in alloc; {
@@ -170,21 +183,28 @@ fn form_alone(alloc: Global, row: Row<'_>) -> Result<Value, AllocError>
 }
 
 /// A diagnostic with another place.
-fn form_with_place(alloc: Global, row: Row<'_>, related: Related<'_>) -> Result<Value, AllocError>
-    ensures { IfOk result (λ value. view value ≡ row_form row (Some (related_form related))) }
+fn form_with_place(alloc: Global, row: Row<'_>, place: Value) -> Result<Value, AllocError>
+    ensures { IfOk result (λ value. view value ≡ row_form row.entry (Some (view place))) }
 {
     let range = range_form(alloc, row.range.start, row.range.end)?;
-    let other = range_form(alloc, related.range.start, related.range.end)?;
     json!(in alloc; {
         "range": range,
         "severity": (severity_number(row.severity)),
         "source": "ftl",
         "code": (row.code),
         "message": (row.message),
-        "relatedInformation": [{
-            "location": {"uri": (related.uri), "range": other},
-            "message": (related.message)
-        }]
+        "relatedInformation": [place]
+    })
+}
+
+/// Another place, with what is said of it.
+fn related_form(alloc: Global, related: Related<'_>) -> Result<Value, AllocError>
+    ensures { IfOk result (λ value. view value ≡ related_form related.entry) }
+{
+    let range = range_form(alloc, related.range.start, related.range.end)?;
+    json!(in alloc; {
+        "location": {"uri": (related.uri), "range": range},
+        "message": (related.message)
     })
 }
 

@@ -19,6 +19,6 @@ returns-then-not-contains-clause-follows c =
 pub returns-clause-follows : goal.returns-clause-follows
 returns-clause-follows c = (
   withdrawn c.in-Some.uri.now,
-  is_withdrawn c.in-Some.uri.now _ _ c.in_ok-published.ensures c.new.ensures.none,
+  is_withdrawn c.in-Some.uri.now _ _ c.in_ok-published.ensures c.new-none.ensures.none,
   closes c.in-Some.uri.now _ (sym c.in-Some.ensures) (sym c.if-not-contains.ensures) c.close.ensures,
 )
