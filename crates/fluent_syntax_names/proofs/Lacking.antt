@@ -2,9 +2,10 @@
 use Rattle.std.proofs.Common.{◌≡◌, ℕ, ◌+◌, ◌<◌, ◌≤◌, Bool, true, false, List, []}
 use Rattle.std.proofs.Common.{◌∷◌, ◌++◌, length, get_or, drop, refl, sym, ap, ◌∙◌}
 use Rattle.std.proofs.Common.{Option, Some, None}
+use Rattle.std.specs.Borrow.{Bor}
 use Rattle.std.specs.Prelude.{if◌then◌else◌, not, ◌||◌}
 use Rattle.std.specs.List.{list_any}
-use Rattle.std.proofs.lemmas.List.{append-nil, drop_more, drop_all}
+use Rattle.std.proofs.lemmas.List.{append-nil, at_drop_more, drop_more, drop_all}
 use Rattle.fluent_syntax_tree.specs.declared.spans.Span.{Span}
 use Rattle.fluent_syntax_names.specs.declared.lack.Lack.{Lack}
 use Rattle.fluent_syntax_names.specs.declared.lack.Part.{Part}
@@ -18,6 +19,7 @@ use Rattle.fluent_syntax_names.specs.Lacks.{Other, lack_at, lacked_entry, lacked
 use Rattle.fluent_syntax_names.specs.Lacks.{lacked_reference, lacked_variable, lack_of, lacks_in, AddsLacks}
 use Rattle.fluent_syntax_names.specs.Lacks.{may_use, some_may_use, one_may_use}
 use Rattle.fluent_syntax_names.specs.Mentions.{Mentions}
+use Rattle.fluent_syntax_names.specs.Rows.{texts_at}
 use Rattle.fluent_syntax_names.specs.Spelled.{spelled, spelled_attribute, spelled_value, spelled_variable}
 use Rattle.fluent_syntax_names.specs.Spelled.{name_at, spelled_reference, variable_of}
 
@@ -123,3 +125,16 @@ module _ (D : Other) (text : Text) (old now : List Lack) (all : List Lack → Li
       sym (append-nil now)
       ∙ ap (λ l. now ++ lacks_in D text owner l []) (sym (drop_all i ms end))
       ∙ left []
+
+-- ---- The messages that an entry leads to
+
+abbrev no_text : Bor Text
+no_text = record { ref_ptr = (0, 0); now = [] }
+
+-- what holds of one from an index on holds of the next message or of one behind it
+pub some_next : (test : Text → Bool) (messages : List (Bor Text)) (i : ℕ) → i < length messages → (b : Bool)
+    → test (get_or messages i no_text).now ≡ b
+    → (b || list_any test (texts_at (drop (i + 1) messages))) ≡ list_any test (texts_at (drop i messages))
+some_next test messages i within b is =
+    let some = λ (l : List (Bor Text)). list_any test (texts_at l) in
+    sym (ap (λ c. c || some (drop (i + 1) messages)) is) ∙ sym (at_drop_more some messages i no_text within)

@@ -6,6 +6,7 @@ pub mod Growing
 pub mod Lacking
 pub mod Led
 pub mod Linking
+pub mod Listed
 pub mod Mapped
 pub mod Nodes
 pub mod Numbered

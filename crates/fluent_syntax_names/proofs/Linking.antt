@@ -11,85 +11,85 @@ use Rattle.fluent_syntax_tree.specs.declared.spans.Span.{Span}
 use Rattle.fluent_syntax_graph.specs.Graph.{Graph, Leads, edges}
 use Rattle.fluent_syntax_names.specs.Circles.{Link, is_link, leads, links_in, link_to, links, pattern_after, referred}
 use Rattle.fluent_syntax_names.specs.Circles.{no_pattern}
-use Rattle.fluent_syntax_names.specs.Drawings.{Drawn, Nodes, IsDrawn, DrawsLinks}
+use Rattle.fluent_syntax_names.specs.Drawings.{Drawn, IsDrawn, DrawsLinks}
 use Rattle.fluent_syntax_names.specs.Mentions.{Mentions}
-use Rattle.fluent_syntax_names.specs.Places.{Notes}
+use Rattle.fluent_syntax_names.specs.NamedLists.{AddsItem, AddsName, IsNew, Numbering, Within, lists_of, numbers_of}
+use Rattle.fluent_syntax_names.specs.Places.{place_of}
 use Rattle.fluent_syntax_names.specs.Spelled.{Text}
 use Rattle.fluent_syntax_names.specs.declared.drawing.Drawing.{Drawing}
 use Rattle.fluent_syntax_names.specs.declared.mention.Mention.{Mention}
+use Rattle.fluent_syntax_names.specs.declared.named_lists.NamedLists.{NamedLists}
+use Rattle.fluent_syntax_names.specs.declared.numbers.Numbers.{Numbers}
 use Rattle.fluent_syntax_names.specs.declared.outline.Outline.{Outline}
 use Rattle.fluent_syntax_names.specs.declared.spelled.PatternName.{PatternName}
-use Rattle.fluent_syntax_names.proofs.Numbered.{name_stays, was_known}
+use Rattle.fluent_syntax_names.proofs.Numbered.{apart_more, name_stays, none_apart, none_within, within_more}
 use Rattle.fluent_syntax_names.proofs.Ways.{or_left, or_right, link_names, is_own_link}
 
 -- ---- A new name
 
-module _ (all : List Link) (old new : Nodes) (g : Graph) (name : Text) (node : ℕ) (is_last : node ≡ length g)
-    (absent : old name ≡ None) (notes : Notes old new name node) where
-  stays : (x : Text) (u : ℕ) → old x ≡ Some u → new x ≡ Some u
-  stays x u e = name_stays old new name node absent notes x u e
+module _ (all : List Link) (old new : NamedLists ℕ) (name : Text) (node : ℕ) (is : IsNew old new name node)
+    (drawn : Drawn all (numbers_of old) (lists_of old)) where
+  abbrev g : Graph
+  g = lists_of old
 
-  before : (x : Text) (u : ℕ) → new x ≡ Some u → (old x ≡ Some u) ⊎ ((x ≡ name) × (u ≡ node))
-  before x u e = was_known old new name node absent notes x u e
+  abbrev more : Graph
+  more = g ++ [] ∷ []
 
-  module _ (drawn : Drawn all old g) where
-    abbrev more : Graph
-    more = g ++ [] ∷ []
+  stays : (x : Text) (u : ℕ) → numbers_of old x ≡ Some u → numbers_of new x ≡ Some u
+  stays x u e = name_stays (numbers_of old) (numbers_of new) name node is.absent is.notes x u e
 
-    same_edges : (u : ℕ) → u < length g → edges more u ≡ edges g u
-    same_edges u h = get_or_append_left g ([] ∷ []) [] u h
+  same_edges : (u : ℕ) → u < length g → edges more u ≡ edges g u
+  same_edges u h = get_or_append_left g ([] ∷ []) [] u h
 
-    no_edges : (u : ℕ) → length g ≤ u → edges more u ≡ []
-    no_edges u h = elim (cases_eq u (length g)) [
-      | inl e ↦ get_or_push g [] [] u (sym e)
-      | inr n ↦ get_or_past more u [] (omega (arith, n, length_push g []))
-    ]
+  no_edges : (u : ℕ) → length g ≤ u → edges more u ≡ []
+  no_edges u h = elim (cases_eq u (length g)) [
+    | inl e ↦ get_or_push g [] [] u (sym e)
+    | inr n ↦ get_or_past more u [] (omega (arith, n, length_push g []))
+  ]
 
-    leads_still : (u v : ℕ) → u < length g → Leads g u v → Leads more u v
-    leads_still u v h leads_on =
-        subst (λ (l : List ℕ). (k : ℕ) × (k < length l) × (get_or l k 0 ≡ v)) (sym (same_edges u h)) leads_on
+  leads_still : (u v : ℕ) → u < length g → Leads g u v → Leads more u v
+  leads_still u v h leads_on =
+      subst (λ (l : List ℕ). (k : ℕ) × (k < length l) × (get_or l k 0 ≡ v)) (sym (same_edges u h)) leads_on
 
-    led_before : (u v : ℕ) → Leads more u v → Leads g u v
-    led_before u v leads_on = elim (cases_lt u (length g)) [
-      | inl w ↦ subst (λ (l : List ℕ). (k : ℕ) × (k < length l) × (get_or l k 0 ≡ v)) (same_edges u w) leads_on
-      | inr w ↦
-          let none : leads_on.0 < 0 =
-          subst (λ (l : List ℕ). leads_on.0 < length l) (no_edges u w) leads_on.1 in
-          absurd (omega arith)
-    ]
+  led_before : (u v : ℕ) → Leads more u v → Leads g u v
+  led_before u v leads_on = elim (cases_lt u (length g)) [
+    | inl w ↦ subst (λ (l : List ℕ). (k : ℕ) × (k < length l) × (get_or l k 0 ≡ v)) (same_edges u w) leads_on
+    | inr w ↦
+        let none : leads_on.0 < 0 =
+        subst (λ (l : List ℕ). leads_on.0 < length l) (no_edges u w) leads_on.1 in
+        absurd (omega arith)
+  ]
 
-    pub named_more : Drawn all new more
-    named_more = record {
-      within = λ x u e. elim (before x u e) [
-        | inl w ↦ omega (arith, drawn.within x u w, length_push g [])
-        | inr w ↦ omega (arith, w.1, length_push g [])
-      ];
-      apart = λ x y u e f. elim (before x u e) [
-        | inl w ↦ elim (before y u f) [
-          | inl v ↦ drawn.apart x y u w v
-          | inr v ↦ absurd (omega (arith, drawn.within x u w, v.1))
-        ]
-        | inr w ↦ elim (before y u f) [
-          | inl v ↦ absurd (omega (arith, drawn.within y u v, w.1))
-          | inr v ↦ w.0 ∙ sym v.0
-        ]
-      ];
-      drawn = λ x y e.
-          let d = drawn.drawn x y e in (
-            d.0,
-            d.1,
-            stays x d.0 d.2,
-            stays y d.1 d.3,
-            leads_still d.0 d.1 (drawn.within x d.0 d.2) d.4,
-          );
-      named = λ u v leads_on.
-          let d = drawn.named u v (led_before u v leads_on) in
-          (d.0, d.1, stays d.0 u d.2, stays d.1 v d.3, d.4);
-    }
+  new_name : Drawn all (numbers_of new) more
+  new_name = record {
+    within = subst (Within (numbers_of new)) (sym (length_push g []))
+        (within_more (numbers_of old) (numbers_of new) name node is.absent is.notes (length g) is.last drawn.within);
+    apart = apart_more (numbers_of old) (numbers_of new) name node is.absent is.notes (length g) is.last drawn.within
+        drawn.apart;
+    drawn = λ x y e.
+        let d = drawn.drawn x y e in (
+          d.0,
+          d.1,
+          stays x d.0 d.2,
+          stays y d.1 d.3,
+          leads_still d.0 d.1 (drawn.within x d.0 d.2) d.4,
+        );
+    named = λ u v leads_on.
+        let d = drawn.named u v (led_before u v leads_on) in
+        (d.0, d.1, stays d.0 u d.2, stays d.1 v d.3, d.4);
+  }
+
+pub named_more : (all : List Link) (old new : NamedLists ℕ) (name : Text) (node : ℕ) → AddsName old new name node
+    → Drawn all (numbers_of old) (lists_of old) → Drawn all (numbers_of new) (lists_of new)
+named_more all old new name node adds drawn = elim adds.adds [
+  | inl same ↦ subst (λ (n : NamedLists ℕ). Drawn all (numbers_of n) (lists_of n)) (sym same) drawn
+  | inr is ↦
+      subst (λ (h : Graph). Drawn all (numbers_of new) h) (sym is.longer) (new_name all old new name node is drawn)
+]
 
 -- ---- A new link
 
-module _ (all : List Link) (node : Nodes) (g : Graph) (drawn : Drawn all node g) (link : Link) (u v : ℕ)
+module _ (all : List Link) (node : Numbering) (g : Graph) (drawn : Drawn all node g) (link : Link) (u v : ℕ)
     (from : node link.from ≡ Some u) (to : node link.to ≡ Some v) where
   abbrev longer : List ℕ
   longer = edges g u ++ v ∷ []
@@ -160,8 +160,8 @@ module _ (all : List Link) (node : Nodes) (g : Graph) (drawn : Drawn all node g)
   leads_split : (x y : Text) → leads with_link x y ≡ (leads all x y || leads (link ∷ []) x y)
   leads_split x y = list_any-append (is_link x y) all (link ∷ [])
 
-  pub linked_more : Drawn with_link node linked
-  linked_more = record {
+  new_link : Drawn with_link node linked
+  new_link = record {
     within = λ x w e. omega (arith, drawn.within x w e, length-set g u longer);
     apart = drawn.apart;
     drawn = λ x y e. elim (or_cases (leads all x y) (leads (link ∷ []) x y) (sym (leads_split x y) ∙ e)) [
@@ -194,11 +194,19 @@ module _ (all : List Link) (node : Nodes) (g : Graph) (drawn : Drawn all node g)
     ];
   }
 
+pub linked_more : (all : List Link) (old new : NamedLists ℕ) → Drawn all (numbers_of old) (lists_of old)
+    → (link : Link) (u v : ℕ) → numbers_of old link.from ≡ Some u → numbers_of old link.to ≡ Some v
+    → AddsItem old new u v → Drawn (all ++ link ∷ []) (numbers_of new) (lists_of new)
+linked_more all old new drawn link u v from to adds =
+    let linked = new_link all (numbers_of old) (lists_of old) drawn link u v from to in
+    subst (λ (n : Numbers). Drawn (all ++ link ∷ []) (place_of n.table) (lists_of new)) (sym adds.same)
+    (subst (λ (g : Graph). Drawn (all ++ link ∷ []) (numbers_of old) g) (sym adds.longer) linked)
+
 -- before anything is drawn
-pub nothing_drawn : (node : Nodes) → ((x : Text) → node x ≡ None) → Drawn [] node []
+pub nothing_drawn : (node : Numbering) → ((x : Text) → node x ≡ None) → Drawn [] node []
 nothing_drawn node none = record {
-  within = λ x u e. let never : None ≡ Some u = sym (none x) ∙ e in absurd (cc);
-  apart = λ x y u e f. let never : None ≡ Some u = sym (none x) ∙ e in absurd (cc);
+  within = none_within node none;
+  apart = none_apart node none;
   drawn = λ x y e. absurd (cc);
   named = λ u v leads_on. absurd (omega (arith, leads_on.1));
 }

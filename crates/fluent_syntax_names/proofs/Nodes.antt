@@ -8,14 +8,15 @@ use Rattle.std.proofs.lemmas.Option.{slice_get-get_or}
 use Rattle.fluent_syntax_graph.specs.Graph.{Graph, Leads, IsGraph, target}
 use Rattle.fluent_syntax_graph.specs.Graph.{Reaches as GraphReaches, here, onward as graph_onward}
 use Rattle.fluent_syntax_names.specs.Circles.{Link, leads, Reaches, next, onward, reaches, comes_back}
-use Rattle.fluent_syntax_names.specs.Drawings.{Drawn, Nodes, same_option}
+use Rattle.fluent_syntax_names.specs.Drawings.{Drawn, same_option}
+use Rattle.fluent_syntax_names.specs.NamedLists.{Numbering}
 use Rattle.fluent_syntax_names.specs.Spelled.{Text}
 use Rattle.fluent_syntax_names.proofs.Ways.{reaches_decides}
 
 some_same : (u v : ℕ) → Some u ≡ Some v → u ≡ v
 some_same u v e = cc
 
-module _ (all : List Link) (node : Nodes) (g : Graph) (drawn : Drawn all node g) where
+module _ (all : List Link) (node : Numbering) (g : Graph) (drawn : Drawn all node g) where
   pub is_graph : IsGraph g
   is_graph u k within =
       let name = drawn.named u (target g u k) (k, within, refl) in drawn.within name.1 (target g u k) name.3

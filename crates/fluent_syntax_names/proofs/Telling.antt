@@ -1,81 +1,91 @@
 -- A table of references that grows by one name or one reference after another.
-use Rattle.std.proofs.Common.{◌≡◌, ◌⊎◌, inl, inr, ℕ, ◌+◌, ◌<◌, ◌≤◌, Bool, true, false, List, [], ◌∷◌, ◌++◌, length}
+use Rattle.std.proofs.Common.{◌≡◌, inl, inr, ℕ, ◌+◌, ◌<◌, ◌≤◌, Bool, true, false, List, [], ◌∷◌, ◌++◌, length}
 use Rattle.std.proofs.Common.{get_or, set, map, drop, Vec, Option, Some, None, refl, sym, ap, ◌∙◌, subst, arith}
 use Rattle.std.specs.Prelude.{filter, cond, if◌then◌else◌}
 use Rattle.std.specs.Borrow.{Bor}
 use Rattle.std.specs.Str.{bytes_eq}
 use Rattle.std.specs.declared.alloc.Global.{Global}
 use Rattle.std.proofs.lemmas.Bool.{cases_eq}
-use Rattle.std.proofs.lemmas.List.{append-nil, map-append, get_or_append_left, get_or_push, length_push}
+use Rattle.std.proofs.lemmas.List.{append-nil, map-append, map-set, map_push}
+use Rattle.std.proofs.lemmas.List.{get_or_append_left, get_or_push, length_push}
 use Rattle.std.proofs.lemmas.List.{get_or-map, length-map, get_or-set_same, get_or-set_other, length-set}
 use Rattle.std.proofs.lemmas.List.{drop_more, drop_all}
 use Rattle.std.proofs.lemmas.List.Elements.{filter-append}
 use Rattle.std.proofs.lemmas.Slice.Eq.{bytes_eq-Decides}
 use Rattle.fluent_syntax_tree.specs.declared.spans.Span.{Span}
 use Rattle.fluent_syntax_names.specs.Circles.{Link}
-use Rattle.fluent_syntax_names.specs.Drawings.{Nodes}
 use Rattle.fluent_syntax_names.specs.Findings.{owner_after}
-use Rattle.fluent_syntax_names.specs.Leading.{refers, references_in, referred_by}
+use Rattle.fluent_syntax_names.specs.Leading.{most_followed, refers, references_in, referred_by}
 use Rattle.fluent_syntax_names.specs.Mentions.{Mentions}
-use Rattle.fluent_syntax_names.specs.Places.{Notes, first_of, place_where}
+use Rattle.fluent_syntax_names.specs.NamedLists.{AddsItem, AddsName, IsNew, Numbering, Within, lists_of, numbers_of}
+use Rattle.fluent_syntax_names.specs.Places.{first_of, place_of, place_where}
 use Rattle.fluent_syntax_names.specs.Rows.{Rows, row_at, rows_of, texts_at, texts_of, Tells, TellsLinks, TellsMore}
 use Rattle.fluent_syntax_names.specs.Spelled.{Text, nameless}
 use Rattle.fluent_syntax_names.specs.declared.leading.Leading.{Leading}
 use Rattle.fluent_syntax_names.specs.declared.mention.Mention.{Mention}
+use Rattle.fluent_syntax_names.specs.declared.named_lists.NamedLists.{NamedLists}
+use Rattle.fluent_syntax_names.specs.declared.numbers.Numbers.{Numbers}
 use Rattle.fluent_syntax_names.specs.declared.spelled.EntryName.{EntryName}
-use Rattle.fluent_syntax_names.proofs.Numbered.{was_known}
+use Rattle.fluent_syntax_names.proofs.Listed.{length-items, list_read}
+use Rattle.fluent_syntax_names.proofs.Numbered.{apart_more, none_apart, none_within, within_more}
 
 -- before any name
-pub nothing_told : (number : Nodes) → ((x : Text) → number x ≡ None) → Tells [] number []
+pub nothing_told : (number : Numbering) → ((x : Text) → number x ≡ None) → Tells [] number []
 nothing_told number none = record {
-  within = λ x u e. let never : None ≡ Some u = sym (none x) ∙ e in absurd (cc);
-  apart = λ x y u e f. let never : None ≡ Some u = sym (none x) ∙ e in absurd (cc);
+  within = none_within number none;
+  apart = none_apart number none;
   told = λ x. ap (row_at []) (none x);
 }
 
 -- ---- A new name
 
-module _ (all : List Link) (old new : Nodes) (rows : Rows) (name : Text) (last : ℕ) (is_last : last ≡ length rows)
-    (absent : old name ≡ None) (notes : Notes old new name last) (tells : Tells all old rows) where
+abbrev Lists : Type 0
+Lists = NamedLists (Vec ℕ Global)
+
+module _ (all : List Link) (old new : Lists) (name : Text) (last : ℕ) (is : IsNew old new name last)
+    (tells : Tells all (numbers_of old) (rows_of old)) where
+  abbrev rows : Rows
+  rows = rows_of old
+
   abbrev more : Rows
   more = rows ++ [] ∷ []
 
-  before : (x : Text) (u : ℕ) → new x ≡ Some u → (old x ≡ Some u) ⊎ ((x ≡ name) × (u ≡ last))
-  before x u e = was_known old new name last absent notes x u e
+  is_last : last ≡ length rows
+  is_last = is.last ∙ sym (length-map (lists_of old) texts_of)
 
   -- the row of the new name is empty
   new_row : (b : Bool) → row_at more (if b then Some last else None) ≡ []
   new_row true = get_or_push rows [] [] last (sym is_last)
   new_row false = refl
 
-  same_row : (x : Text) (o : Option ℕ) → old x ≡ o
+  same_row : (x : Text) (o : Option ℕ) → numbers_of old x ≡ o
       → row_at more (first_of o (place_where x name last)) ≡ row_at rows o
   same_row x None was = new_row (bytes_eq x name)
   same_row x (Some u) was = get_or_append_left rows ([] ∷ []) [] u (tells.within x u was)
 
-  pub row_more : Tells all new more
-  row_more = record {
-    within = λ x u e. elim (before x u e) [
-      | inl w ↦ omega (arith, tells.within x u w, length_push rows [])
-      | inr w ↦ omega (arith, w.1, is_last, length_push rows [])
-    ];
-    apart = λ x y u e f. elim (before x u e) [
-      | inl w ↦ elim (before y u f) [
-        | inl v ↦ tells.apart x y u w v
-        | inr v ↦ absurd (omega (arith, tells.within x u w, v.1))
-      ]
-      | inr w ↦ elim (before y u f) [
-        | inl v ↦ absurd (omega (arith, tells.within y u v, w.1))
-        | inr v ↦ w.0 ∙ sym v.0
-      ]
-    ];
-    told = λ x. ap (row_at more) (notes x) ∙ same_row x (old x) refl ∙ tells.told x;
+  new_name : Tells all (numbers_of new) more
+  new_name = record {
+    within = subst (Within (numbers_of new)) (sym (length_push rows []))
+        (within_more (numbers_of old) (numbers_of new) name last is.absent is.notes (length rows) is_last tells.within);
+    apart = apart_more (numbers_of old) (numbers_of new) name last is.absent is.notes (length rows) is_last
+        tells.within tells.apart;
+    told = λ x. ap (row_at more) (is.notes x) ∙ same_row x (numbers_of old x) refl ∙ tells.told x;
   }
+
+pub row_more : (all : List Link) (old new : Lists) (name : Text) (number : ℕ) → AddsName old new name number
+    → Tells all (numbers_of old) (rows_of old) → Tells all (numbers_of new) (rows_of new)
+row_more all old new name number adds tells = elim adds.adds [
+  | inl same ↦ subst (λ (n : Lists). Tells all (numbers_of n) (rows_of n)) (sym same) tells
+  | inr is ↦
+      subst (λ (r : Rows). Tells all (numbers_of new) r)
+      (sym (ap (map texts_of) is.longer ∙ map_push texts_of (lists_of old) []))
+      (new_name all old new name number is tells)
+]
 
 -- ---- A new reference
 
-module _ (before : List Link) (number : Nodes) (rows : Rows) (tells : Tells before number rows) (link : Link) (u : ℕ)
-    (from : number link.from ≡ Some u) where
+module _ (before : List Link) (number : Numbering) (rows : Rows) (tells : Tells before number rows) (link : Link)
+    (u : ℕ) (from : number link.from ≡ Some u) where
   abbrev longer : List Text
   longer = get_or rows u [] ++ link.to ∷ []
 
@@ -131,31 +141,70 @@ module _ (before : List Link) (number : Nodes) (rows : Rows) (tells : Tells befo
         get_or-set_other rows u v longer [] n ∙ ap (row_at rows) (sym is) ∙ row_other x apart
   ]
 
-  pub reference_more : Tells with_link number told_rows
-  reference_more = record {
+  new_reference : Tells with_link number told_rows
+  new_reference = record {
     within = λ x w e. omega (arith, tells.within x w e, length-set rows u longer);
     apart = tells.apart;
     told = λ x. by_number x (number x) refl (bytes_eq x link.from) refl;
   }
 
--- a row, as it is read
-pub row_read : (targets : List (Vec (Vec ℕ Global) Global)) (u : ℕ) (row : Vec (Vec ℕ Global) Global)
-    → u < length targets → row ≡ get_or targets u row → get_or (rows_of targets) u [] ≡ texts_of row.items
-row_read targets u row within is =
-    get_or-map (λ (v : Vec (Vec ℕ Global) Global). texts_of v.items) targets u row [] within
-    ∙ ap (λ (v : Vec (Vec ℕ Global) Global). texts_of v.items) (sym is)
+pub row_within : (all : List Link) (names : Lists) → Tells all (numbers_of names) (rows_of names)
+    → (x : Text) (u : ℕ) → numbers_of names x ≡ Some u → u < length (lists_of names)
+row_within all names tells x u e = omega (arith, tells.within x u e, length-map (lists_of names) texts_of)
 
--- a borrowed text, as it is read
-pub text_read : (names : List (Bor Text)) (i : ℕ) (name : Bor Text) → i < length names → name ≡ get_or names i name
-    → name.now ≡ get_or (texts_at names) i []
-text_read names i name within is =
-    ap (λ (b : Bor Text). b.now) is ∙ sym (get_or-map (λ (b : Bor Text). b.now) names i name [] within)
+pub reference_more : (before : List Link) (old new : Lists) → Tells before (numbers_of old) (rows_of old)
+    → (link : Link) (u : ℕ) → numbers_of old link.from ≡ Some u → (to : Vec ℕ Global) → to.items ≡ link.to
+    → AddsItem old new u to → Tells (before ++ link ∷ []) (numbers_of new) (rows_of new)
+reference_more before old new tells link u from to is adds =
+    let lists = lists_of old in
+    let list = get_or lists u [] in
+    let rows = rows_of old in
+    let row : texts_of list ≡ get_or rows u [] =
+    sym (get_or-map texts_of lists u [] [] (row_within before old tells link.from u from)) in
+    let longer : rows_of new ≡ set rows u (get_or rows u [] ++ link.to ∷ []) =
+    ap (map texts_of) adds.longer
+    ∙ map-set texts_of lists u (list ++ to ∷ [])
+    ∙ ap (set rows u) (map_push (λ (v : Vec ℕ Global). v.items) list to
+    ∙ ap (λ (x : Text). texts_of list ++ x ∷ []) is
+    ∙ ap (λ (l : List Text). l ++ link.to ∷ []) row) in
+    subst (λ (n : Numbers). Tells (before ++ link ∷ []) (place_of n.table) (rows_of new)) (sym adds.same)
+    (subst (λ (r : Rows). Tells (before ++ link ∷ []) (numbers_of old) r) (sym longer)
+    (new_reference before (numbers_of old) rows tells link u from))
+
+-- a row, as it is read
+pub row_read : (names : Lists) (u : ℕ) (row : Vec (Vec ℕ Global) Global) → u < length names.lists.items
+    → row ≡ get_or names.lists.items u row → get_or (rows_of names) u [] ≡ texts_of row.items
+row_read names u row within is =
+    let lists = names.lists.items in
+    get_or-map texts_of (lists_of names) u [] [] (omega (arith, within, length-items lists))
+    ∙ ap texts_of (list_read lists u row within is)
+
+-- ---- Messages that are followed
 
 pub length-texts_at : (names : List (Bor Text)) → length (texts_at names) ≡ length names
 length-texts_at names = length-map names (λ (b : Bor Text). b.now)
 
 pub length-texts_of : (names : List (Vec ℕ Global)) → length (texts_of names) ≡ length names
 length-texts_of names = length-map names (λ (v : Vec ℕ Global). v.items)
+
+-- with those of a row there are so many
+pub both_lengths : (names : List (Bor Text)) (more : List (Vec ℕ Global)) (row : List Text) → texts_of more ≡ row
+    → length names + length more ≡ length (texts_at names) + length row
+both_lengths names more row is = omega (arith, length-texts_at names, length-texts_of more, ap length is)
+
+-- the message at an index is one of few
+pub record IsRead (names : List (Bor Text)) (i : ℕ) (x : Text) : Type 0 where
+  pub few : length (texts_at names) ≤ most_followed
+  pub within : i < length (texts_at names)
+  pub is : x ≡ get_or (texts_at names) i []
+
+pub message_read : (names : List (Bor Text)) (i : ℕ) (name : Bor Text) → length names ≤ most_followed
+    → i < length names → name ≡ get_or names i name → IsRead names i name.now
+message_read names i name few within is = record {
+  few = omega (arith, few, length-texts_at names);
+  within = omega (arith, within, length-texts_at names);
+  is = ap (λ (b : Bor Text). b.now) is ∙ sym (get_or-map (λ (b : Bor Text). b.now) names i name [] within);
+}
 
 -- ---- The mentions of a file
 

@@ -1,32 +1,26 @@
 -- Names as nodes of a graph.
-use Rattle.std.specs.Prelude.{◌≡◌, ◌<◌, ℕ, Bool, true, false, nat_eq, List, ◌++◌, length, Option, None, Some}
+use Rattle.std.specs.Prelude.{◌≡◌, ℕ, Bool, true, false, nat_eq, List, ◌++◌, length, Option, None, Some}
 use Rattle.std.specs.Prelude.{option_and_then, slice_get}
-use Rattle.fluent_syntax_graph.specs.Graph.{Graph, Leads, targets_of}
+use Rattle.fluent_syntax_graph.specs.Graph.{Graph, Leads}
 use Rattle.fluent_syntax_names.specs.Circles.{Link, leads, comes_back}
 use Rattle.fluent_syntax_names.specs.Findings.{Set}
+use Rattle.fluent_syntax_names.specs.NamedLists.{Numbering, Within, Apart, numbers_of, lists_of}
 use Rattle.fluent_syntax_names.specs.Places.{place_of}
 use Rattle.fluent_syntax_names.specs.Spelled.{Text}
 use Rattle.fluent_syntax_names.specs.declared.circles.Circles.{Circles}
 use Rattle.fluent_syntax_names.specs.declared.drawing.Drawing.{Drawing}
 
--- which node a name is
-abbrev pub Nodes : Type 0
-Nodes = Text → Option ℕ
-
 -- the graph has an edge between two nodes exactly where the names lead to one another
-pub record Drawn (all : List Link) (node : Nodes) (g : Graph) : Type 0 where
-  pub within : (x : Text) (u : ℕ) → node x ≡ Some u → u < length g
-  pub apart : (x y : Text) (u : ℕ) → node x ≡ Some u → node y ≡ Some u → x ≡ y
+pub record Drawn (all : List Link) (node : Numbering) (g : Graph) : Type 0 where
+  pub within : Within node (length g)
+  pub apart : Apart node
   pub drawn : (x y : Text) → leads all x y ≡ true
       → (u : ℕ) × (v : ℕ) × (node x ≡ Some u) × (node y ≡ Some v) × Leads g u v
   pub named : (u v : ℕ) → Leads g u v
       → (x : Text) × (y : Text) × (node x ≡ Some u) × (node y ≡ Some v) × (leads all x y ≡ true)
 
-abbrev pub nodes_of : Drawing → Nodes
-nodes_of drawing = place_of drawing.numbers.table
-
 abbrev pub IsDrawn : List Link → Drawing → Type 0
-IsDrawn all drawing = Drawn all (nodes_of drawing) (targets_of drawing.targets.items)
+IsDrawn all drawing = Drawn all (numbers_of drawing.nodes) (lists_of drawing.nodes)
 
 abbrev pub IsSomeDrawing : Drawing → Type 0
 IsSomeDrawing drawing = (all : List Link) × IsDrawn all drawing
@@ -35,12 +29,6 @@ IsSomeDrawing drawing = (all : List Link) × IsDrawn all drawing
 abbrev pub DrawsLinks : Drawing → Drawing → (more : List Link → List Link) → Type 0
 DrawsLinks old new more = (before : List Link) → IsDrawn before old
     → (now : List Link) × IsDrawn now new × ((rest : List Link) → now ++ rest ≡ before ++ more rest)
-
--- the name has this node, and nothing else has changed
-pub record AddsName (old new : Drawing) (name : Text) (number : ℕ) : Type 0 where
-  pub known : nodes_of new name ≡ Some number
-  pub stays : (x : Text) (u : ℕ) → nodes_of old x ≡ Some u → nodes_of new x ≡ Some u
-  pub drawn : (all : List Link) → IsDrawn all old → IsDrawn all new
 
 -- ---- Parts of the graph
 

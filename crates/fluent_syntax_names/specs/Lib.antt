@@ -7,6 +7,7 @@ pub mod Knowing
 pub mod Lacks
 pub mod Leading
 pub mod Mentions
+pub mod NamedLists
 pub mod Places
 pub mod Refused
 pub mod Rows

@@ -1,13 +1,13 @@
 -- Tables of the messages that entries refer to.
-use Rattle.std.specs.Prelude.{◌≡◌, ◌<◌, ℕ, List, [], ◌++◌, length, map, get_or, Option, Some, None, Vec}
+use Rattle.std.specs.Prelude.{◌≡◌, ℕ, List, [], ◌++◌, length, map, get_or, Option, Some, None, Vec}
 use Rattle.std.specs.Borrow.{Bor}
 use Rattle.std.specs.declared.alloc.Global.{Global}
 use Rattle.fluent_syntax_names.specs.Circles.{Link}
-use Rattle.fluent_syntax_names.specs.Drawings.{Nodes}
 use Rattle.fluent_syntax_names.specs.Leading.{referred_by, led_by}
-use Rattle.fluent_syntax_names.specs.Places.{place_of}
+use Rattle.fluent_syntax_names.specs.NamedLists.{Numbering, Within, Apart, numbers_of, lists_of}
 use Rattle.fluent_syntax_names.specs.Spelled.{Text}
 use Rattle.fluent_syntax_names.specs.declared.leading.Leading.{Leading}
+use Rattle.fluent_syntax_names.specs.declared.named_lists.NamedLists.{NamedLists}
 
 abbrev pub texts_of : List (Vec ℕ Global) → List Text
 texts_of names = map (λ name. name.items) names
@@ -19,24 +19,21 @@ texts_at names = map (λ name. name.now) names
 abbrev pub Rows : Type 0
 Rows = List (List Text)
 
-abbrev pub rows_of : List (Vec (Vec ℕ Global) Global) → Rows
-rows_of targets = map (λ row. texts_of row.items) targets
+abbrev pub rows_of : NamedLists (Vec ℕ Global) → Rows
+rows_of names = map texts_of (lists_of names)
 
 abbrev pub row_at : Rows → Option ℕ → List Text
 row_at rows None = []
 row_at rows (Some number) = get_or rows number []
 
 -- each name has a row of its own, and the messages that the links say it refers to
-pub record Tells (all : List Link) (number : Nodes) (rows : Rows) : Type 0 where
-  pub within : (x : Text) (u : ℕ) → number x ≡ Some u → u < length rows
-  pub apart : (x y : Text) (u : ℕ) → number x ≡ Some u → number y ≡ Some u → x ≡ y
+pub record Tells (all : List Link) (number : Numbering) (rows : Rows) : Type 0 where
+  pub within : Within number (length rows)
+  pub apart : Apart number
   pub told : (x : Text) → row_at rows (number x) ≡ referred_by all x
 
-abbrev pub numbers_of : Leading → Nodes
-numbers_of leading = place_of leading.numbers.table
-
 abbrev pub TellsLinks : List Link → Leading → Type 0
-TellsLinks all leading = Tells all (numbers_of leading) (rows_of leading.targets.items)
+TellsLinks all leading = Tells all (numbers_of leading.targets) (rows_of leading.targets)
 
 abbrev pub TellsSome : Leading → Type 0
 TellsSome leading = (all : List Link) × TellsLinks all leading
@@ -46,15 +43,9 @@ abbrev pub TellsMore : Leading → Leading → (more : List Link → List Link) 
 TellsMore old new more = (before : List Link) → TellsLinks before old
     → (now : List Link) × TellsLinks now new × ((rest : List Link) → now ++ rest ≡ before ++ more rest)
 
--- the name has this number, and nothing else has changed
-pub record AddsRow (old new : Leading) (name : Text) (number : ℕ) : Type 0 where
-  pub known : numbers_of new name ≡ Some number
-  pub stays : (x : Text) (u : ℕ) → numbers_of old x ≡ Some u → numbers_of new x ≡ Some u
-  pub tells : (all : List Link) → TellsLinks all old → TellsLinks all new
-
 -- the messages that the table has for the name
 abbrev pub row_of : Leading → Text → List Text
-row_of leading name = row_at (rows_of leading.targets.items) (numbers_of leading name)
+row_of leading name = row_at (rows_of leading.targets) (numbers_of leading.targets name)
 
 -- those that it leads to by the table
 abbrev pub leads_of : Leading → Text → Option (List Text)

@@ -38,9 +38,7 @@ impl Beside<'_> {
         owner: EntryName,
         mention: &Mention<Span>,
     ) -> Result<Option<Lack>, AllocError>
-        ensures { IfOk result (λ lack. lack ≡ lack_at
-            (other_by self.now) self.now.text.now
-            owner mention.now) }
+        ensures { IfOk result (λ lack. lack ≡ lack_at (other_by self.now) self.now.text.now owner mention.now) }
     {
         match mention {
             Mention::Message { name, has_value } => {
@@ -58,9 +56,7 @@ impl Beside<'_> {
     }
 
     fn lacked_entry(&self, entry: EntryName, has_value: bool) -> Result<Option<Lack>, AllocError>
-        ensures { IfOk result (λ lack. lack ≡ lacked_entry
-            (other_by self.now) self.now.text.now
-            entry has_value) }
+        ensures { IfOk result (λ lack. lack ≡ lacked_entry (other_by self.now) self.now.text.now entry has_value) }
     {
         let name = spelled(self.alloc, self.text, entry)?;
         if self.defined.place_of(&name).is_some() {
@@ -73,9 +69,7 @@ impl Beside<'_> {
     }
 
     fn lacked_value(&self, message: EntryName, has_value: bool) -> Result<Option<Lack>, AllocError>
-        ensures { IfOk result (λ lack. lack ≡ lacked_value
-            (other_by self.now) self.now.text.now
-            message has_value) }
+        ensures { IfOk result (λ lack. lack ≡ lacked_value (other_by self.now) self.now.text.now message has_value) }
     {
         if !has_value {
             return Ok(None);
@@ -90,9 +84,7 @@ impl Beside<'_> {
         owner: EntryName,
         attribute: Span,
     ) -> Result<Option<Lack>, AllocError>
-        ensures { IfOk result (λ lack. lack ≡ lacked_attribute
-            (other_by self.now) self.now.text.now
-            owner attribute) }
+        ensures { IfOk result (λ lack. lack ≡ lacked_attribute (other_by self.now) self.now.text.now owner attribute) }
     {
         if owner.is_term {
             return Ok(None);
@@ -107,9 +99,7 @@ impl Beside<'_> {
         owner: EntryName,
         target: EntryName,
     ) -> Result<Option<Lack>, AllocError>
-        ensures { IfOk result (λ lack. lack ≡ lacked_reference
-            (other_by self.now) self.now.text.now
-            owner target) }
+        ensures { IfOk result (λ lack. lack ≡ lacked_reference (other_by self.now) self.now.text.now owner target) }
     {
         let name = spelled_reference(self.alloc, self.text, owner, target)?;
         let is_there = self.used.place_of(&name).is_some();

@@ -23,9 +23,9 @@ pub(crate) fn circles_of(alloc: Global, files: &[Outline<'_>]) -> Result<Circles
     ensures { IfOk result (KnowsCircles (links files.now)) }
 {
     let drawing = drawing_of(alloc, files)?;
-    let parts = components(alloc, &drawing.targets)?;
+    let parts = components(alloc, &drawing.nodes.lists)?;
     Ok(Circles {
-        numbers: drawing.numbers,
+        numbers: drawing.nodes.numbers,
         parts,
     })
 }

@@ -1,11 +1,11 @@
 //! The graph of what patterns refer to.
 ghost use Rattle.std.specs.Prelude.{◌≡◌, ◌<◌, List, ℕ, Some, [], OnOk, IfOk, length};
 ghost use Rattle.fluent_syntax_names.specs.Circles.{link_of, link_to, links_in, links, no_pattern};
-ghost use Rattle.fluent_syntax_names.specs.Drawings.{AddsName, DrawsLinks, IsDrawn, IsSomeDrawing};
+ghost use Rattle.fluent_syntax_names.specs.Drawings.{DrawsLinks, IsDrawn, IsSomeDrawing};
 ghost use Rattle.fluent_syntax_names.specs.Places.{place_of};
 
 use crate::mention::Mention;
-use crate::numbers::Numbers;
+use crate::named_lists::NamedLists;
 use crate::outline::Outline;
 use crate::referring::{NO_PATTERN, pattern_after, referred};
 use crate::spelled::{PatternName, spelled_pattern};
@@ -15,10 +15,8 @@ use std::alloc::{AllocError, Global};
 /// A graph of names, with an edge from each to those that it leads to.
 #[derive(Drop)]
 pub(crate) struct Drawing {
-    /// Which node a name is.
-    pub(crate) numbers: Numbers,
-    /// Where the edges of each node lead.
-    pub(crate) targets: Vec<Vec<usize>>,
+    /// Which node a name is, and where the edges of each node lead.
+    pub(crate) nodes: NamedLists<usize>,
 }
 
 /// The graph of all that the patterns of the files refer to.
@@ -26,8 +24,7 @@ pub(crate) fn drawing_of(alloc: Global, files: &[Outline<'_>]) -> Result<Drawing
     ensures { IfOk result (λ drawing. IsDrawn (links files.now) drawing) }
 {
     let mut drawing = Drawing {
-        numbers: Numbers::new(alloc),
-        targets: Vec::new(alloc),
+        nodes: NamedLists::new(alloc),
     };
     for file in files {
         drawing.add_file(alloc, file.text, &file.mentions)?;
@@ -83,22 +80,9 @@ impl Drawing {
     {
         let from = spelled_pattern(alloc, text, pattern)?;
         let to = spelled_pattern(alloc, text, target)?;
-        let from = self.node_of(alloc, from)?;
-        let to = self.node_of(alloc, to)?;
-        self.targets[from].push(to)?;
+        let from = self.nodes.number_for(alloc, from)?;
+        let to = self.nodes.number_for(alloc, to)?;
+        self.nodes.push(from, to)?;
         Ok(())
-    }
-
-    /// The node of the name, which is added where it is new.
-    fn node_of(&mut self, alloc: Global, name: Vec<u8>) -> Result<usize, AllocError>
-        ensures { IfOk result (AddsName self.old self.new name.items) }
-    {
-        if let Some(node) = self.numbers.number_of(&name) {
-            return Ok(node);
-        }
-        let node = self.targets.len();
-        self.targets.push(Vec::new(alloc))?;
-        self.numbers.note(name, node)?;
-        Ok(node)
     }
 }

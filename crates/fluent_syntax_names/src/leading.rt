@@ -1,13 +1,13 @@
 //! To which messages the entries of a file refer, and where that leads.
 ghost use Rattle.std.specs.Prelude.{◌≡◌, ◌+◌, ◌≤◌, ◌∷◌, ◌++◌, nat_le, true, [], length, IfOk, OnOk, option_map};
 ghost use Rattle.fluent_syntax_names.specs.Leading.{references_in, refers, reference_to, most_followed};
-ghost use Rattle.fluent_syntax_names.specs.Rows.{TellsLinks, TellsSome, TellsMore, AddsRow, row_of, leads_of};
+ghost use Rattle.fluent_syntax_names.specs.Rows.{TellsLinks, TellsSome, TellsMore, row_of, leads_of};
 ghost use Rattle.fluent_syntax_names.specs.Rows.{texts_of, texts_at};
 ghost use Rattle.fluent_syntax_names.specs.Spelled.{nameless};
 
 use crate::definitions::{NAMELESS, message_name, owner_after};
 use crate::mention::Mention;
-use crate::numbers::Numbers;
+use crate::named_lists::NamedLists;
 use crate::spelled::{EntryName, spelled};
 use fluent_syntax_tree::spans::Span;
 use std::alloc::{AllocError, Global};
@@ -18,10 +18,8 @@ const MOST_FOLLOWED: usize = 100;
 /// To which messages the entries of a file refer.
 #[derive(Drop)]
 pub(crate) struct Leading {
-    /// Which of the lists is an entry's, by its name.
-    pub(crate) numbers: Numbers,
-    /// The messages that an entry refers to, in order, each as often as it does.
-    pub(crate) targets: Vec<Vec<Vec<u8>>>,
+    /// For each entry, by its name, the messages that it refers to, in order, each as often as it does.
+    pub(crate) targets: NamedLists<Vec<u8>>,
 }
 
 /// The references of a file to messages.
@@ -33,8 +31,7 @@ pub(crate) fn leading_of(
     ensures { IfOk result (TellsLinks (references_in text.now nameless mentions.now [])) }
 {
     let mut leading = Leading {
-        numbers: Numbers::new(alloc),
-        targets: Vec::new(alloc),
+        targets: NamedLists::new(alloc),
     };
     let mut owner = NAMELESS;
     for mention in mentions {
@@ -74,10 +71,10 @@ impl Leading {
     fn targets_of(&self, name: &[u8]) -> &[Vec<u8>]
         ensures { texts_of result.now ≡ row_of self.now name.now }
     {
-        let Some(number) = self.numbers.number_of(name) else {
+        let Some(number) = self.targets.numbers.number_of(name) else {
             return &[];
         };
-        match self.targets.get(number) {
+        match self.targets.lists.get(number) {
             Some(targets) => targets,
             None => &[],
         }
@@ -115,22 +112,9 @@ impl Leading {
     {
         let from = spelled(alloc, text, owner)?;
         let to = spelled(alloc, text, message_name(message))?;
-        let number = self.number_for(alloc, from)?;
-        self.targets[number].push(to)?;
+        let number = self.targets.number_for(alloc, from)?;
+        self.targets.push(number, to)?;
         Ok(())
-    }
-
-    /// The number of the list for the entry of that name, which is added where it is new.
-    fn number_for(&mut self, alloc: Global, name: Vec<u8>) -> Result<usize, AllocError>
-        ensures { IfOk result (AddsRow self.old self.new name.items) }
-    {
-        if let Some(number) = self.numbers.number_of(&name) {
-            return Ok(number);
-        }
-        let number = self.targets.len();
-        self.targets.push(Vec::new(alloc))?;
-        self.numbers.note(name, number)?;
-        Ok(number)
     }
 }
 

@@ -19,6 +19,7 @@ mod leading;
 mod mention;
 mod message;
 mod moved;
+mod named_lists;
 mod noted;
 mod numbers;
 mod outline;

@@ -1,17 +1,15 @@
-use Rattle.std.proofs.Common.{[], List, Vec, ℕ, refl, sym, subst}
-use Rattle.std.specs.declared.alloc.Global.{Global}
-use Rattle.fluent_syntax_graph.specs.Graph.{targets_of}
+use Rattle.std.proofs.Common.{[], refl, sym, subst}
+use Rattle.fluent_syntax_graph.specs.Graph.{Graph}
 use Rattle.fluent_syntax_names.specs.Drawings.{Drawn}
-use Rattle.fluent_syntax_names.specs.Places.{place_of}
+use Rattle.fluent_syntax_names.specs.NamedLists.{lists_of, numbers_of}
 use Rattle.fluent_syntax_names.proofs.Linking.{link_files_next, link_files_none, nothing_drawn}
 use Rattle.fluent_syntax_names.proofs.drawing.drawing_of.Goals as goal
 
 pub loop-file-init : goal.loop-file-init
 loop-file-init c =
-    let node = place_of c.new.result.table in
-    let empty : Drawn [] node (targets_of c.new-2.result.items) =
-    subst (λ (l : List (Vec ℕ Global)). Drawn [] node (targets_of l)) (sym c.new-2.ensures.items)
-    (nothing_drawn node c.new.ensures) in
+    let node = numbers_of c.new.result in
+    let empty : Drawn [] node (lists_of c.new.result) =
+    subst (λ (g : Graph). Drawn [] node g) (sym c.new.ensures.lists) (nothing_drawn node c.new.ensures.numbers) in
     record { left = ([], empty, refl) }
 
 pub add_file-requires : goal.add_file-requires

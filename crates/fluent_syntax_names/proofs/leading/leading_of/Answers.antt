@@ -1,8 +1,8 @@
-use Rattle.std.proofs.Common.{[], List, Vec, ℕ, false, refl, sym, subst, get_or}
+use Rattle.std.proofs.Common.{[], List, map, Vec, ℕ, false, refl, sym, subst, get_or}
 use Rattle.std.specs.declared.alloc.Global.{Global}
 use Rattle.fluent_syntax_tree.specs.declared.spans.Span.{Span}
-use Rattle.fluent_syntax_names.specs.Places.{place_of}
-use Rattle.fluent_syntax_names.specs.Rows.{Tells, rows_of}
+use Rattle.fluent_syntax_names.specs.NamedLists.{numbers_of}
+use Rattle.fluent_syntax_names.specs.Rows.{Tells, rows_of, texts_of}
 use Rattle.fluent_syntax_names.specs.declared.mention.Mention.{Mention}
 use Rattle.fluent_syntax_names.specs.declared.mention.Mention.TheVariants as says
 use Rattle.fluent_syntax_names.proofs.Telling.{nothing_told, references_next, references_none}
@@ -10,10 +10,10 @@ use Rattle.fluent_syntax_names.proofs.leading.leading_of.Goals as goal
 
 pub loop-mention-init : goal.loop-mention-init
 loop-mention-init c =
-    let number = place_of c.new.result.table in
-    let empty : Tells [] number (rows_of c.new-2.result.items) =
-    subst (λ (l : List (Vec (Vec ℕ Global) Global)). Tells [] number (rows_of l)) (sym c.new-2.ensures.items)
-    (nothing_told number c.new.ensures) in
+    let number = numbers_of c.new.result in
+    let empty : Tells [] number (rows_of c.new.result) =
+    subst (λ (l : List (List (Vec ℕ Global))). Tells [] number (map texts_of l)) (sym c.new.ensures.lists)
+    (nothing_told number c.new.ensures.numbers) in
     record { left = ([], empty, refl) }
 
 pub add_mention-requires : goal.add_mention-requires

@@ -1,4 +1,4 @@
-use Rattle.std.proofs.Common.{◌≡◌, ◌+◌, ◌<◌, ◌≤◌, ◌++◌, List, [], length, get_or, sym, ap, ◌∙◌, subst, arith}
+use Rattle.std.proofs.Common.{◌≡◌, ◌+◌, ◌<◌, ◌≤◌, ◌++◌, List, length, sym, ap, ◌∙◌, subst, arith}
 use Rattle.std.proofs.lemmas.Grind.{common_steps}
 use Rattle.std.proofs.lemmas.List.{length-append}
 use Rattle.fluent_syntax_names.specs.Leading.{most_followed}
@@ -6,7 +6,7 @@ use Rattle.fluent_syntax_names.specs.Rows.{leads_of, row_of, texts_at}
 use Rattle.fluent_syntax_names.specs.Spelled.{Text}
 use Rattle.fluent_syntax_names.proofs.Followed.{FollowedTo, followed_next, followed_none, followed_all}
 use Rattle.fluent_syntax_names.proofs.Followed.{followed_too_many}
-use Rattle.fluent_syntax_names.proofs.Telling.{text_read, length-texts_at, length-texts_of}
+use Rattle.fluent_syntax_names.proofs.Telling.{both_lengths, message_read, length-texts_at, length-texts_of}
 use Rattle.fluent_syntax_names.proofs.leading.Leading.led_to.Goals as goal
 
 pub returns-then-not-branch : goal.returns-then-not-branch
@@ -25,16 +25,13 @@ returns-then-not-branch-2 c =
     let messages = c.loop-index.messages.items in
     let i = c.loop-index.index in
     let x = c.index.result.now.now in
+    let read = message_read messages i c.index.result.now (omega arith) (omega arith) c.index.ensures in
     let fits = c.in_ok-add_followed-2.ensures.fits in
-    let size = ap length c.targets_of-targets.ensures in
-    let is : x ≡ get_or (texts_at messages) i [] =
-    text_read messages i c.index.result.now (omega arith) c.index.ensures in
-    let few : length (texts_at messages) ≤ most_followed = omega (arith, length-texts_at messages) in
+    let sizes = both_lengths messages c.targets_of-targets.result.now (row_of self x) c.targets_of-targets.ensures in
     let long : most_followed < length (texts_at messages) + length (row_of self x) =
-    let these = length-texts_of c.targets_of-targets.result.now in
-    grind (arith, common_steps, fits, size, these, length-texts_at messages) in
-    sym (followed_none (row_of self) most_followed (leads_of self c.args.name.now) (texts_at messages) i few
-    c.loop-index.invariant.left x (omega (arith, length-texts_at messages)) is long)
+    grind (arith, common_steps, fits, sizes) in
+    sym (followed_none (row_of self) most_followed (leads_of self c.args.name.now) (texts_at messages) i read.few
+    c.loop-index.invariant.left x read.within read.is long)
 
 pub loop-index-preserved : goal.loop-index-preserved
 loop-index-preserved c =
@@ -43,25 +40,22 @@ loop-index-preserved c =
     let new = c.add_followed-in-loop-index.new.names.items in
     let i = c.loop-index.index in
     let x = c.index.result.now.now in
+    let read = message_read messages i c.index.result.now (omega arith) (omega arith) c.index.ensures in
     let fits = c.in_ok-add_followed-2.ensures.fits in
-    let size = ap length c.targets_of-targets.ensures in
-    let is : x ≡ get_or (texts_at messages) i [] =
-    text_read messages i c.index.result.now (omega arith) c.index.ensures in
-    let few : length (texts_at messages) ≤ most_followed = omega (arith, length-texts_at messages) in
+    let sizes = both_lengths messages c.targets_of-targets.result.now (row_of self x) c.targets_of-targets.ensures in
     let enough : length (texts_at messages) + length (row_of self x) ≤ most_followed =
-    let these = length-texts_of c.targets_of-targets.result.now in
-    grind (arith, common_steps, fits, size, these, length-texts_at messages) in
+    grind (arith, common_steps, fits, sizes) in
     let longer : texts_at messages ++ row_of self x ≡ texts_at new =
     sym (c.in_ok-add_followed-2.ensures.added c.if-not-branch-2.false
     ∙ ap (λ (l : List Text). texts_at messages ++ l) c.targets_of-targets.ensures) in
-    let sizes : length (texts_at messages) + length (row_of self x) ≡ length new =
+    let size : length (texts_at messages) + length (row_of self x) ≡ length new =
     sym (length-append (texts_at messages) (row_of self x)) ∙ ap length longer ∙ length-texts_at new in
     let left =
-    followed_next (row_of self) most_followed (leads_of self c.args.name.now) (texts_at messages) i few
-    c.loop-index.invariant.left x (omega (arith, length-texts_at messages)) is in
+    followed_next (row_of self) most_followed (leads_of self c.args.name.now) (texts_at messages) i read.few
+    c.loop-index.invariant.left x read.within read.is in
     record {
-      few = omega (arith, enough, sizes);
-      within = omega (arith, sizes, length-texts_at messages);
+      few = omega (arith, enough, size);
+      within = omega (arith, size, read.within);
       left = subst (λ (l : List Text).
           FollowedTo (row_of self) most_followed (leads_of self c.args.name.now) l (i + 1)) longer left;
     }
