@@ -17,7 +17,7 @@ use Rattle.fluent_syntax_lsp.specs.Ignored.{is_told}
 use Rattle.fluent_syntax_lsp.specs.Mismatches.{difference_of, differences}
 use Rattle.fluent_syntax_lsp.specs.Remarks.{IsSentence, told, told_of}
 use Rattle.fluent_syntax_lsp.specs.Told.{IsToldAlike, RemarksOn, TellsAll, TellsMismatches, diagnostic_form, error_form}
-use Rattle.fluent_syntax_lsp.specs.Told.{mismatch_form, related_form, remark_form, taken, told_in}
+use Rattle.fluent_syntax_lsp.specs.Told.{mismatch_form, remark_form, told_in}
 use Rattle.fluent_syntax_lsp.specs.declared.diagnostics.Diagnostic.{Diagnostic}
 use Rattle.fluent_syntax_lsp.specs.declared.documents.Document.{Document}
 use Rattle.fluent_syntax_lsp.specs.declared.documents.Document.TheVariants.{Held, TooDeep}

@@ -1,5 +1,5 @@
 -- What is told of a document, as JSON values.
-use Rattle.std.specs.Prelude.{◌≡◌, ◌⊎◌, ℕ, List, [], ◌∷◌, ◌++◌, map, filter, filter_map, codes, string_bytes, All}
+use Rattle.std.specs.Prelude.{◌≡◌, ◌⊎◌, ℕ, List, [], ◌++◌, map, filter, filter_map, codes, string_bytes, All}
 use Rattle.std.specs.Prelude.{Option, None, Some, option_map, Bool, true, false}
 use Rattle.serde_json.specs.Data.{Data, Members, number, unsigned, string, object, array, item, no_items, member}
 use Rattle.serde_json.specs.Data.{no_members}

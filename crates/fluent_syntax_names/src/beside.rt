@@ -7,7 +7,6 @@ ghost use Rattle.fluent_syntax_names.specs.Lacks.{may_use, some_may_use, one_may
 ghost use Rattle.fluent_syntax_names.specs.Places.{place_of};
 ghost use Rattle.fluent_syntax_names.specs.Rows.{texts_at};
 ghost use Rattle.fluent_syntax_names.specs.Spelled.{spelled_attribute, spelled_reference, spelled_variable};
-ghost use Rattle.fluent_syntax_names.specs.Tables.{has_name};
 
 use crate::definitions::{message_name, term_name};
 use crate::lack::{Lack, Part};

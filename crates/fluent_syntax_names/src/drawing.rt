@@ -1,8 +1,7 @@
 //! The graph of what patterns refer to.
-ghost use Rattle.std.specs.Prelude.{◌≡◌, ◌<◌, List, ℕ, Some, [], OnOk, IfOk, length};
-ghost use Rattle.fluent_syntax_names.specs.Circles.{link_of, link_to, links_in, links, no_pattern};
+ghost use Rattle.std.specs.Prelude.{Some, OnOk, IfOk};
+ghost use Rattle.fluent_syntax_names.specs.Circles.{link_to, links_in, links, no_pattern};
 ghost use Rattle.fluent_syntax_names.specs.Drawings.{DrawsLinks, IsDrawn, IsSomeDrawing};
-ghost use Rattle.fluent_syntax_names.specs.Places.{place_of};
 
 use crate::mention::Mention;
 use crate::named_lists::NamedLists;
