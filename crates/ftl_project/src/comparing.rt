@@ -1,29 +1,26 @@
 //! Files of a reference language are compared with those of another.
-ghost use Rattle.std.specs.Prelude.{◌≡◌, ◌≢◌, ◌⊎◌, ◌+◌, ◌<◌, ◌^◌, ◌++◌, [], None, Some, Err, IfErr, IfOk};
-ghost use Rattle.std.specs.Prelude.{OnOk, codes, length, string_bytes};
+ghost use Rattle.std.specs.Prelude.{◌≡◌, ◌≢◌, ◌⊎◌, ◌++◌, [], None, Some, Err, IfErr, IfOk, OnOk, codes, string_bytes};
 ghost use Rattle.fluent_syntax_names.specs.declared.outline.Outline.{Outline};
 ghost use Rattle.ftl_files.specs.Store.{AllStand};
-ghost use Rattle.ftl_project.specs.Comparing.{Compares, ComparesEach, IsAlone, IsBeside, IsComparison, IsLackTold};
-ghost use Rattle.ftl_project.specs.Comparing.{IsMissingTold, IsMoreTold, IsPairFault, SaysMissing, SaysMore, errors_of};
-ghost use Rattle.ftl_project.specs.Comparing.{behind_missing, lacked_entries, with_share};
+ghost use Rattle.ftl_project.specs.Comparing.{Compares, ComparesEach, IsAlone, IsBeside, IsComparison, IsPairFault};
+ghost use Rattle.ftl_project.specs.Comparing.{errors_of, lacked_entries, with_share};
 ghost use Rattle.ftl_project.specs.Faults.{IsTooDeep, IsUnparsed};
 ghost use Rattle.ftl_project.specs.Outlines.{IsOutline, IsShort};
-ghost use Rattle.ftl_project.specs.Remarks.{IsRemark, TellsEach, spot_at};
+ghost use Rattle.ftl_project.specs.Remarks.{IsRemark};
 ghost use Rattle.ftl_project.specs.Summaries.{share_line_of};
 
 use crate::differences::is_told_as_error;
 use crate::fault::Fault;
-use crate::findings::severity_name;
 use crate::form::Form;
+use crate::lacks_told::PairTold;
 use crate::outlines::{entries_in, outline};
 use crate::reading::Reading;
-use crate::remarks::{Remark, Spot, name_in, remark_text, spot_of};
+use crate::remarks::{Remark, remark_text};
 use crate::rewriting::read_text;
 use crate::streams::{Streams, put, tell};
 use crate::tally::Tally;
 use crate::translation::Translation;
-use fluent_syntax::spans::Lines;
-use fluent_syntax_names::{Difference, Lack, Outline, Part, Side, lacks};
+use fluent_syntax_names::{Lack, Outline, Part, Side, lacks};
 use ftl::RunFault;
 use ftl_files::Store;
 use std::alloc::{AllocError, Global};
@@ -227,27 +224,16 @@ fn compared_outlines(
         (string_bytes compared.told)) }
 {
     let translation = Translation::new(alloc, other)?;
+    let pair_told = PairTold {
+        alloc,
+        pair,
+        translation: &translation,
+        form,
+    };
     let missing = lacks(alloc, reference, other)?;
-    let side = Side::Reference;
-    let mut told = lacks_text(
-        alloc,
-        pair,
-        side,
-        reference.text,
-        &translation,
-        &missing,
-        form,
-    )?;
+    let mut told = pair_told.lacks_text(Side::Reference, reference.text, &missing)?;
     let more = lacks(alloc, other, reference)?;
-    let behind = lacks_text(
-        alloc,
-        pair,
-        Side::Other,
-        other.text,
-        &translation,
-        &more,
-        form,
-    )?;
+    let behind = pair_told.lacks_text(Side::Other, other.text, &more)?;
     told.push_str(behind.as_str())?;
     let missed = errors_of(Side::Reference, &missing);
     let unknown = errors_of(Side::Other, &more);
@@ -279,146 +265,6 @@ fn lacked_entries(lacks: &[Lack]) -> usize
         .iter()
         .filter(|lack| matches!(lack.part, Part::Entry))
         .count()
-}
-
-/// What is told of the parts that the file of this side has and the other one lacks.
-fn lacks_text(
-    alloc: Global,
-    pair: &Pair,
-    side: Side,
-    text: &str,
-    translation: &Translation<'_, '_>,
-    lacks: &[Lack],
-    form: Form,
-) -> Result<String, AllocError>
-    requires { length text.now + 1 < 2 ^ 64 }
-    ensures { IfOk result (λ told. TellsEach
-        (IsLackTold side form pair.now text.now translation.now.outline.now) lacks.now (string_bytes told)) }
-{
-    let mut out = String::new(alloc);
-    let mut lines = Lines::new(text);
-    for lack in lacks {
-        let told = lack_told(alloc, pair, side, text, translation, &mut lines, lack, form)?;
-        out.push_str(told.as_str())?;
-    }
-    Ok(out)
-}
-
-fn lack_told<'t>(
-    alloc: Global,
-    pair: &Pair,
-    side: Side,
-    text: &str,
-    translation: &Translation<'_, '_>,
-    lines: &mut Lines<'t>,
-    lack: &Lack,
-    form: Form,
-) -> Result<String, AllocError>
-    requires { lines.old ≡ text.now }
-    ensures told { IfOk result (λ told. IsLackTold side form pair.now text.now translation.now.outline.now lack.now
-        (string_bytes told)) }
-    ensures lines { lines.new ≡ lines.old }
-{
-    match side {
-        Side::Reference => missing_told(alloc, pair, text, translation, lines, lack, form),
-        Side::Other => more_told(alloc, pair, text, lines, lack, form),
-    }
-}
-
-fn missing_told<'t>(
-    alloc: Global,
-    pair: &Pair,
-    text: &str,
-    translation: &Translation<'_, '_>,
-    lines: &mut Lines<'t>,
-    lack: &Lack,
-    form: Form,
-) -> Result<String, AllocError>
-    requires { lines.old ≡ text.now }
-    ensures told { IfOk result (λ told. IsMissingTold form pair.now text.now translation.now.outline.now lack.now
-        (string_bytes told)) }
-    ensures lines { lines.new ≡ lines.old }
-{
-    let spot = spot_of(lines, text, lack.name);
-    let Some(difference) = Side::Reference.difference(lack.part) else {
-        return Ok(String::new(alloc));
-    };
-    let place = translation.junk_of(text, lack);
-    let path = pair.reference.as_str();
-    let is_junk = place.is_some();
-    let remark = Remark {
-        path: pair.other.as_str(),
-        text: translation.outline.text,
-        place,
-        kind: difference.name(),
-        severity: severity_name(difference.severity()),
-        message: missing_message(alloc, path, text, spot, lack, is_junk, difference)?,
-    };
-    remark_text(alloc, &remark, form)
-}
-
-fn missing_message(
-    alloc: Global,
-    path: &str,
-    text: &str,
-    spot: Spot,
-    lack: &Lack,
-    is_junk: bool,
-    difference: Difference,
-) -> Result<String, AllocError>
-    requires { spot ≡ spot_at text.now lack.now.name }
-    ensures { IfOk result (λ message.
-        SaysMissing path.now text.now lack.now is_junk difference (string_bytes message)) }
-{
-    let said = difference.sentence(alloc, name_in(text, lack.name))?;
-    let (line, column) = (spot.line, spot.column);
-    let behind = behind_missing(is_junk);
-    format!(in alloc; "{said} of {path}:{line}:{column}{behind}")
-}
-
-/// What is said behind the place in the reference.
-fn behind_missing(is_junk: bool) -> &'static str
-    ensures { result.now ≡ behind_missing is_junk }
-{
-    if is_junk { " is junk here" } else { "" }
-}
-
-fn more_told<'t>(
-    alloc: Global,
-    pair: &Pair,
-    text: &str,
-    lines: &mut Lines<'t>,
-    lack: &Lack,
-    form: Form,
-) -> Result<String, AllocError>
-    requires { lines.old ≡ text.now }
-    ensures told { IfOk result (λ told. IsMoreTold form pair.now text.now lack.now (string_bytes told)) }
-    ensures lines { lines.new ≡ lines.old }
-{
-    let spot = spot_of(lines, text, lack.name);
-    let Some(difference) = Side::Other.difference(lack.part) else {
-        return Ok(String::new(alloc));
-    };
-    let remark = Remark {
-        path: pair.other.as_str(),
-        text,
-        place: Some(spot),
-        kind: difference.name(),
-        severity: severity_name(difference.severity()),
-        message: more_message(alloc, text, lack, difference)?,
-    };
-    remark_text(alloc, &remark, form)
-}
-
-fn more_message(
-    alloc: Global,
-    text: &str,
-    lack: &Lack,
-    difference: Difference,
-) -> Result<String, AllocError>
-    ensures { IfOk result (λ message. SaysMore text.now lack.now difference (string_bytes message)) }
-{
-    difference.sentence(alloc, name_in(text, lack.name))
 }
 
 /// How much of the reference is there, on a line: `95 of 100 messages and terms are there`.
