@@ -81,170 +81,163 @@ pub fn compare_files<S: Store, O: Write, E: Write>(
         share.old share.new (O.contents streams.old.out.now) (O.contents streams.new.out.now)) }
     ensures err { result ≢ Err RunFault.Input }
 {
+    let comparing = Comparing {
+        alloc,
+        reading,
+        form,
+    };
     for pair in pairs {
-        tell_pair(alloc, store, pair, reading, form, tally, share, streams)?;
+        comparing.tell_pair(store, pair, tally, share, streams)?;
     }
     Ok(())
 }
 
-/// Compares a pair, tells what came of it, and counts it.
-fn tell_pair<S: Store, O: Write, E: Write>(
+/// How pairs are compared, and how what they lack is told.
+#[derive(Clone, Copy)]
+struct Comparing {
     alloc: Global,
-    store: &mut S,
-    pair: &Pair,
     reading: Reading,
     form: Form,
-    tally: &mut Tally,
-    share: &mut Share,
-    streams: &mut Streams<'_, O, E>,
-) -> Result<(), RunFault>
-    ensures stand { AllStand (S.bytes_at store.old) (S.bytes_at store.new) }
-    ensures counted { OnOk result (Compares reading form (S.bytes_at store.old) pair.now tally.old tally.new
-        share.old share.new (O.contents streams.old.out.now) (O.contents streams.new.out.now)) }
-    ensures err { result ≢ Err RunFault.Input }
-{
-    match compare_pair(alloc, store, pair, reading, form) {
-        Ok(compared) => {
-            tally.count(compared.errors, compared.errors != 0);
-            share.add(compared.share);
-            put(streams.out, compared.told.as_str())
+}
+
+impl Comparing {
+    /// Compares a pair, tells what came of it, and counts it.
+    fn tell_pair<S: Store, O: Write, E: Write>(
+        &self,
+        store: &mut S,
+        pair: &Pair,
+        tally: &mut Tally,
+        share: &mut Share,
+        streams: &mut Streams<'_, O, E>,
+    ) -> Result<(), RunFault>
+        ensures stand { AllStand (S.bytes_at store.old) (S.bytes_at store.new) }
+        ensures counted { OnOk result (Compares self.now.reading self.now.form (S.bytes_at store.old) pair.now
+            tally.old tally.new share.old share.new (O.contents streams.old.out.now)
+            (O.contents streams.new.out.now)) }
+        ensures err { result ≢ Err RunFault.Input }
+    {
+        match self.compare_pair(store, pair) {
+            Ok(compared) => {
+                tally.count(compared.errors, compared.errors != 0);
+                share.add(compared.share);
+                put(streams.out, compared.told.as_str())
+            }
+            Err(fault) => tell(self.alloc, tally, pair.other.as_str(), &fault, streams),
         }
-        Err(fault) => tell(alloc, tally, pair.other.as_str(), &fault, streams),
     }
-}
 
-fn compare_pair<S: Store>(
-    alloc: Global,
-    store: &mut S,
-    pair: &Pair,
-    reading: Reading,
-    form: Form,
-) -> Result<Compared, Fault>
-    ensures stand { AllStand (S.bytes_at store.old) (S.bytes_at store.new) }
-    ensures compared { IfOk result (λ compared. IsComparison reading form (S.bytes_at store.old) pair.now.is_there
-        pair.now compared.errors compared.share (string_bytes compared.told)) }
-    ensures fault { IfErr result (IsPairFault reading form (S.bytes_at store.old) pair.now) }
-{
-    let reference = read_text(store, pair.reference.as_str())?;
-    if !pair.is_there {
-        return compared_alone(alloc, pair, reference.as_str(), reading, form);
-    }
-    let other = read_text(store, pair.other.as_str())?;
-    compared_texts(
-        alloc,
-        pair,
-        reference.as_str(),
-        other.as_str(),
-        reading,
-        form,
-    )
-}
-
-/// What comes of a pair whose other file is not there.
-fn compared_alone(
-    alloc: Global,
-    pair: &Pair,
-    reference: &str,
-    reading: Reading,
-    form: Form,
-) -> Result<Compared, Fault>
-    ensures compared { IfOk result (λ compared. (outline : Outline)
-        × IsOutline reading.edition reference.now outline
-        × IsAlone form pair.now outline compared.errors compared.share (string_bytes compared.told)) }
-    ensures fault { IfErr result (IsUnparsed (IsTooDeep reading reference.now)) }
-{
-    let reference = outline(alloc, reference, reading)?;
-    match no_file(alloc, pair, form) {
-        Ok(told) => {
-            let wanted = entries_in(&reference);
-            let missing = wanted;
-            Ok(Compared {
-                told,
-                errors: 1,
-                share: Share { wanted, missing },
-            })
+    fn compare_pair<S: Store>(&self, store: &mut S, pair: &Pair) -> Result<Compared, Fault>
+        ensures stand { AllStand (S.bytes_at store.old) (S.bytes_at store.new) }
+        ensures compared { IfOk result (λ compared. IsComparison self.now.reading self.now.form
+            (S.bytes_at store.old) pair.now.is_there pair.now compared.errors compared.share
+            (string_bytes compared.told)) }
+        ensures fault { IfErr result (IsPairFault self.now.reading self.now.form (S.bytes_at store.old) pair.now) }
+    {
+        let reference = read_text(store, pair.reference.as_str())?;
+        if !pair.is_there {
+            return self.compared_alone(pair, reference.as_str());
         }
-        Err(AllocError) => Err(Fault::Memory),
+        let other = read_text(store, pair.other.as_str())?;
+        self.compared_texts(pair, reference.as_str(), other.as_str())
     }
-}
 
-/// What is told of a pair whose other file is not there.
-fn no_file(alloc: Global, pair: &Pair, form: Form) -> Result<String, AllocError>
-    ensures { IfOk result (λ told. IsRemark form (string_bytes pair.now.other) [] None (codes "missing-file")
-        (codes "there is no such file; the reference has " ++ string_bytes pair.now.reference) (string_bytes told)) }
-{
-    let reference = pair.reference.as_str();
-    let remark = Remark {
-        path: pair.other.as_str(),
-        text: "",
-        place: None,
-        kind: "missing-file",
-        severity: "error",
-        message: format!(in alloc; "there is no such file; the reference has {reference}")?,
-    };
-    remark_text(alloc, &remark, form)
-}
-
-/// What comes of a pair of these texts.
-fn compared_texts(
-    alloc: Global,
-    pair: &Pair,
-    reference: &str,
-    other: &str,
-    reading: Reading,
-    form: Form,
-) -> Result<Compared, Fault>
-    ensures compared { IfOk result (λ compared. (reference_outline : Outline)
-        × IsOutline reading.edition reference.now reference_outline × (other_outline : Outline)
-        × IsOutline reading.edition other.now other_outline
-        × IsBeside form pair.now reference_outline other_outline compared.errors compared.share
-        (string_bytes compared.told)) }
-    ensures fault { IfErr result (λ fault. IsUnparsed (IsTooDeep reading reference.now) fault
-        ⊎ IsUnparsed (IsTooDeep reading other.now) fault) }
-{
-    let reference = outline(alloc, reference, reading)?;
-    let other = outline(alloc, other, reading)?;
-    match compared_outlines(alloc, pair, &reference, &other, form) {
-        Ok(compared) => Ok(compared),
-        Err(AllocError) => Err(Fault::Memory),
+    /// What comes of a pair whose other file is not there.
+    fn compared_alone(&self, pair: &Pair, reference: &str) -> Result<Compared, Fault>
+        ensures compared { IfOk result (λ compared. (outline : Outline)
+            × IsOutline self.now.reading.edition reference.now outline
+            × IsAlone self.now.form pair.now outline compared.errors compared.share (string_bytes compared.told)) }
+        ensures fault { IfErr result (IsUnparsed (IsTooDeep self.now.reading reference.now)) }
+    {
+        let reference = outline(self.alloc, reference, self.reading)?;
+        match self.no_file(pair) {
+            Ok(told) => {
+                let wanted = entries_in(&reference);
+                let missing = wanted;
+                Ok(Compared {
+                    told,
+                    errors: 1,
+                    share: Share { wanted, missing },
+                })
+            }
+            Err(AllocError) => Err(Fault::Memory),
+        }
     }
-}
 
-/// What comes of a pair whose files say this.
-fn compared_outlines(
-    alloc: Global,
-    pair: &Pair,
-    reference: &Outline<'_>,
-    other: &Outline<'_>,
-    form: Form,
-) -> Result<Compared, AllocError>
-    requires reference { IsShort reference.now }
-    requires other { IsShort other.now }
-    ensures { IfOk result (λ compared. IsBeside form pair.now reference.now other.now compared.errors compared.share
-        (string_bytes compared.told)) }
-{
-    let translation = Translation::new(alloc, other)?;
-    let pair_told = PairTold {
-        alloc,
-        pair,
-        translation: &translation,
-        form,
-    };
-    let missing = lacks(alloc, reference, other)?;
-    let mut told = pair_told.lacks_text(Side::Reference, reference.text, &missing)?;
-    let more = lacks(alloc, other, reference)?;
-    let behind = pair_told.lacks_text(Side::Other, other.text, &more)?;
-    told.push_str(behind.as_str())?;
-    let missed = errors_of(Side::Reference, &missing);
-    let unknown = errors_of(Side::Other, &more);
-    Ok(Compared {
-        told,
-        errors: missed.saturating_add(unknown),
-        share: Share {
-            wanted: entries_in(reference),
-            missing: lacked_entries(&missing),
-        },
-    })
+    /// What is told of a pair whose other file is not there.
+    fn no_file(&self, pair: &Pair) -> Result<String, AllocError>
+        ensures { IfOk result (λ told. IsRemark self.now.form (string_bytes pair.now.other) [] None
+            (codes "missing-file")
+            (codes "there is no such file; the reference has " ++ string_bytes pair.now.reference)
+            (string_bytes told)) }
+    {
+        let reference = pair.reference.as_str();
+        let message = format!(in self.alloc;
+            "there is no such file; the reference has {reference}"
+        )?;
+        let remark = Remark {
+            path: pair.other.as_str(),
+            text: "",
+            place: None,
+            kind: "missing-file",
+            severity: "error",
+            message,
+        };
+        remark_text(self.alloc, &remark, self.form)
+    }
+
+    /// What comes of a pair of these texts.
+    fn compared_texts(&self, pair: &Pair, reference: &str, other: &str) -> Result<Compared, Fault>
+        ensures compared { IfOk result (λ compared. (reference_outline : Outline)
+            × IsOutline self.now.reading.edition reference.now reference_outline × (other_outline : Outline)
+            × IsOutline self.now.reading.edition other.now other_outline
+            × IsBeside self.now.form pair.now reference_outline other_outline compared.errors compared.share
+            (string_bytes compared.told)) }
+        ensures fault { IfErr result (λ fault. IsUnparsed (IsTooDeep self.now.reading reference.now) fault
+            ⊎ IsUnparsed (IsTooDeep self.now.reading other.now) fault) }
+    {
+        let reference = outline(self.alloc, reference, self.reading)?;
+        let other = outline(self.alloc, other, self.reading)?;
+        match self.compared_outlines(pair, &reference, &other) {
+            Ok(compared) => Ok(compared),
+            Err(AllocError) => Err(Fault::Memory),
+        }
+    }
+
+    /// What comes of a pair whose files say this.
+    fn compared_outlines(
+        &self,
+        pair: &Pair,
+        reference: &Outline<'_>,
+        other: &Outline<'_>,
+    ) -> Result<Compared, AllocError>
+        requires reference { IsShort reference.now }
+        requires other { IsShort other.now }
+        ensures { IfOk result (λ compared. IsBeside self.now.form pair.now reference.now other.now
+            compared.errors compared.share (string_bytes compared.told)) }
+    {
+        let translation = Translation::new(self.alloc, other)?;
+        let pair_told = PairTold {
+            alloc: self.alloc,
+            pair,
+            translation: &translation,
+            form: self.form,
+        };
+        let missing = lacks(self.alloc, reference, other)?;
+        let mut told = pair_told.lacks_text(Side::Reference, reference.text, &missing)?;
+        let more = lacks(self.alloc, other, reference)?;
+        let behind = pair_told.lacks_text(Side::Other, other.text, &more)?;
+        told.push_str(behind.as_str())?;
+        let missed = errors_of(Side::Reference, &missing);
+        let unknown = errors_of(Side::Other, &more);
+        Ok(Compared {
+            told,
+            errors: missed.saturating_add(unknown),
+            share: Share {
+                wanted: entries_in(reference),
+                missing: lacked_entries(&missing),
+            },
+        })
+    }
 }
 
 /// How many of the parts that this file has and the other one lacks are told as errors.
