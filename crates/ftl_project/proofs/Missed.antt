@@ -15,19 +15,17 @@ use Rattle.ftl_project.specs.declared.remarks.Spot.{Spot}
 
 module _ (form : Form) (pair : Pair) (text : List ℕ) (other : Outline) (lack : Lack) (difference : Difference) where
   -- A remark with this message, at the place of what is junk, is what is told of the difference.
-  pub missing_told_as : (path reference kind message told : List ℕ) (place : Option Spot) (is_junk : Bool) →
-      path ≡ string_bytes pair.other → reference ≡ string_bytes pair.reference → kind ≡ difference_name difference →
-      place ≡ lack_junk text other lack → is_junk ≡ is_some place →
-      side_difference Reference lack.part ≡ Some difference →
-      SaysMissing reference text lack is_junk difference message →
+  pub missing_told_as : (path kind message told : List ℕ) (place : Option Spot) (is_junk : Bool) →
+      path ≡ string_bytes pair.other → kind ≡ difference_name difference → place ≡ lack_junk text other lack →
+      is_junk ≡ is_some place → side_difference Reference lack.part ≡ Some difference →
+      SaysMissing (string_bytes pair.reference) text lack is_junk difference message →
       IsRemark form path other.text.now place kind message told → IsMissingTold form pair text other lack told
-  missing_told_as path reference kind message told place is_junk same_path same_reference same_kind same_place same_junk
-      found says remark =
+  missing_told_as path kind message told place is_junk same_path same_kind same_place same_junk found says remark =
       let own = string_bytes pair.other in
       let theirs = string_bytes pair.reference in
       let junk = lack_junk text other lack in
       let says_so = subst (λ b. SaysMissing theirs text lack b difference message) (same_junk ∙ ap is_some same_place)
-      (subst (λ r. SaysMissing r text lack is_junk difference message) same_reference says) in
+      says in
       let remark_so = subst
       (λ p. IsRemark form p other.text.now junk (difference_name difference) message told) same_path
       (subst (λ k. IsRemark form path other.text.now junk k message told) same_kind

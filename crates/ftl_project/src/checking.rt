@@ -41,38 +41,81 @@ pub fn check_files<S: Store, O: Write, E: Write>(
         tally.old tally.new (O.contents streams.old.out.now) (O.contents streams.new.out.now)) }
     ensures err { result ≢ Err RunFault.Input }
 {
+    let checking = Checking {
+        alloc,
+        reading,
+        form,
+    };
     for file in files {
-        tell_checked(alloc, store, file.as_str(), reading, form, tally, streams)?;
+        checking.tell_checked(store, file.as_str(), tally, streams)?;
     }
     Ok(())
 }
 
-/// Checks a file, tells its errors, and counts it.
-fn tell_checked<S: Store, O: Write, E: Write>(
+/// How files are checked, and how their errors are told.
+#[derive(Clone, Copy)]
+struct Checking {
     alloc: Global,
-    store: &mut S,
-    path: &str,
     reading: Reading,
     form: Form,
-    tally: &mut Tally,
-    streams: &mut Streams<'_, O, E>,
-) -> Result<(), RunFault>
-    ensures stand { AllStand (S.bytes_at store.old) (S.bytes_at store.new) }
-    ensures counted { OnOk result
-        (Writes (IsChecked reading form path.now (S.bytes_at store.old path.now)) tally.old tally.new
-        (O.contents streams.old.out.now) (O.contents streams.new.out.now)) }
-    ensures err { result ≢ Err RunFault.Input }
-{
-    let checked = match check_file(alloc, store, path, reading, form) {
-        Ok(checked) => checked,
-        Err(fault) => return tell(alloc, tally, path, &fault, streams),
-    };
-    tally.count(checked.errors, checked.errors != 0);
-    put(streams.out, checked.told.as_str())?;
-    if checked.has_mark {
-        tell_mark(alloc, path, streams)
-    } else {
-        Ok(())
+}
+
+/// What was found in a file.
+#[derive(Drop)]
+struct Checked {
+    told: String,
+    errors: usize,
+    /// Whether it begins with a byte order mark.
+    has_mark: bool,
+}
+
+impl Checking {
+    /// Checks a file, tells its errors, and counts it.
+    fn tell_checked<S: Store, O: Write, E: Write>(
+        &self,
+        store: &mut S,
+        path: &str,
+        tally: &mut Tally,
+        streams: &mut Streams<'_, O, E>,
+    ) -> Result<(), RunFault>
+        ensures stand { AllStand (S.bytes_at store.old) (S.bytes_at store.new) }
+        ensures counted { OnOk result
+            (Writes (IsChecked self.now.reading self.now.form path.now (S.bytes_at store.old path.now))
+            tally.old tally.new (O.contents streams.old.out.now) (O.contents streams.new.out.now)) }
+        ensures err { result ≢ Err RunFault.Input }
+    {
+        let checked = match self.check_file(store, path) {
+            Ok(checked) => checked,
+            Err(fault) => return tell(self.alloc, tally, path, &fault, streams),
+        };
+        tally.count(checked.errors, checked.errors != 0);
+        put(streams.out, checked.told.as_str())?;
+        if checked.has_mark {
+            tell_mark(self.alloc, path, streams)
+        } else {
+            Ok(())
+        }
+    }
+
+    /// The report on a file.
+    fn check_file<S: Store>(&self, store: &mut S, path: &str) -> Result<Checked, Fault>
+        ensures stand { AllStand (S.bytes_at store.old) (S.bytes_at store.new) }
+        ensures told { IfOk result (λ checked. (found : List ParserError)
+            × IfSome (S.bytes_at store.old path.now)
+            (λ known. TellsErrors self.now.reading self.now.form path.now known found (string_bytes checked.told))
+            × (checked.errors ≡ length found)) }
+        ensures fault { IfErr result (IsFault (IsTooDeep self.now.reading) (S.bytes_at store.old path.now)) }
+    {
+        let text = read_text(store, path)?;
+        let refused = errors_of(self.alloc, text, self.reading)?;
+        match report(self.alloc, path, &refused, self.form) {
+            Ok(told) => Ok(Checked {
+                told,
+                errors: refused.errors.len(),
+                has_mark: refused.text.as_str().starts_with('\u{feff}'),
+            }),
+            Err(AllocError) => Err(Fault::Memory),
+        }
     }
 }
 
@@ -87,42 +130,6 @@ fn tell_mark<O: Write, E: Write>(
 {
     let note = "begins with a byte order mark, so its first entry is junk";
     put_note(alloc, streams.err, path, note)
-}
-
-/// What was found in a file.
-#[derive(Drop)]
-struct Checked {
-    told: String,
-    errors: usize,
-    /// Whether it begins with a byte order mark.
-    has_mark: bool,
-}
-
-/// The report on a file.
-fn check_file<S: Store>(
-    alloc: Global,
-    store: &mut S,
-    path: &str,
-    reading: Reading,
-    form: Form,
-) -> Result<Checked, Fault>
-    ensures stand { AllStand (S.bytes_at store.old) (S.bytes_at store.new) }
-    ensures told { IfOk result (λ checked. (found : List ParserError)
-        × IfSome (S.bytes_at store.old path.now)
-        (λ known. TellsErrors reading form path.now known found (string_bytes checked.told))
-        × (checked.errors ≡ length found)) }
-    ensures fault { IfErr result (IsFault (IsTooDeep reading) (S.bytes_at store.old path.now)) }
-{
-    let text = read_text(store, path)?;
-    let refused = errors_of(alloc, text, reading)?;
-    match report(alloc, path, &refused, form) {
-        Ok(told) => Ok(Checked {
-            told,
-            errors: refused.errors.len(),
-            has_mark: refused.text.as_str().starts_with('\u{feff}'),
-        }),
-        Err(AllocError) => Err(Fault::Memory),
-    }
 }
 
 /// The text with its errors, which may be none.

@@ -1,29 +1,26 @@
 //! Files of a reference language are compared with those of another.
-ghost use Rattle.std.specs.Prelude.{◌≡◌, ◌≢◌, ◌⊎◌, ◌+◌, ◌<◌, ◌^◌, ◌++◌, [], None, Some, Err, IfErr, IfOk};
-ghost use Rattle.std.specs.Prelude.{OnOk, codes, length, string_bytes};
+ghost use Rattle.std.specs.Prelude.{◌≡◌, ◌≢◌, ◌⊎◌, ◌++◌, [], None, Some, Err, IfErr, IfOk, OnOk, codes, string_bytes};
 ghost use Rattle.fluent_syntax_names.specs.declared.outline.Outline.{Outline};
 ghost use Rattle.ftl_files.specs.Store.{AllStand};
-ghost use Rattle.ftl_project.specs.Comparing.{Compares, ComparesEach, IsAlone, IsBeside, IsComparison, IsLackTold};
-ghost use Rattle.ftl_project.specs.Comparing.{IsMissingTold, IsMoreTold, IsPairFault, SaysMissing, SaysMore, errors_of};
-ghost use Rattle.ftl_project.specs.Comparing.{behind_missing, lacked_entries, with_share};
+ghost use Rattle.ftl_project.specs.Comparing.{Compares, ComparesEach, IsAlone, IsBeside, IsComparison, IsPairFault};
+ghost use Rattle.ftl_project.specs.Comparing.{errors_of, lacked_entries, with_share};
 ghost use Rattle.ftl_project.specs.Faults.{IsTooDeep, IsUnparsed};
 ghost use Rattle.ftl_project.specs.Outlines.{IsOutline, IsShort};
-ghost use Rattle.ftl_project.specs.Remarks.{IsRemark, TellsEach, spot_at};
+ghost use Rattle.ftl_project.specs.Remarks.{IsRemark};
 ghost use Rattle.ftl_project.specs.Summaries.{share_line_of};
 
 use crate::differences::is_told_as_error;
 use crate::fault::Fault;
-use crate::findings::severity_name;
 use crate::form::Form;
+use crate::lacks_told::PairTold;
 use crate::outlines::{entries_in, outline};
 use crate::reading::Reading;
-use crate::remarks::{Remark, Spot, name_in, remark_text, spot_of};
+use crate::remarks::{Remark, remark_text};
 use crate::rewriting::read_text;
 use crate::streams::{Streams, put, tell};
 use crate::tally::Tally;
 use crate::translation::Translation;
-use fluent_syntax::spans::Lines;
-use fluent_syntax_names::{Difference, Lack, Outline, Part, Side, lacks};
+use fluent_syntax_names::{Lack, Outline, Part, Side, lacks};
 use ftl::RunFault;
 use ftl_files::Store;
 use std::alloc::{AllocError, Global};
@@ -84,181 +81,163 @@ pub fn compare_files<S: Store, O: Write, E: Write>(
         share.old share.new (O.contents streams.old.out.now) (O.contents streams.new.out.now)) }
     ensures err { result ≢ Err RunFault.Input }
 {
+    let comparing = Comparing {
+        alloc,
+        reading,
+        form,
+    };
     for pair in pairs {
-        tell_pair(alloc, store, pair, reading, form, tally, share, streams)?;
+        comparing.tell_pair(store, pair, tally, share, streams)?;
     }
     Ok(())
 }
 
-/// Compares a pair, tells what came of it, and counts it.
-fn tell_pair<S: Store, O: Write, E: Write>(
+/// How pairs are compared, and how what they lack is told.
+#[derive(Clone, Copy)]
+struct Comparing {
     alloc: Global,
-    store: &mut S,
-    pair: &Pair,
     reading: Reading,
     form: Form,
-    tally: &mut Tally,
-    share: &mut Share,
-    streams: &mut Streams<'_, O, E>,
-) -> Result<(), RunFault>
-    ensures stand { AllStand (S.bytes_at store.old) (S.bytes_at store.new) }
-    ensures counted { OnOk result (Compares reading form (S.bytes_at store.old) pair.now tally.old tally.new
-        share.old share.new (O.contents streams.old.out.now) (O.contents streams.new.out.now)) }
-    ensures err { result ≢ Err RunFault.Input }
-{
-    match compare_pair(alloc, store, pair, reading, form) {
-        Ok(compared) => {
-            tally.count(compared.errors, compared.errors != 0);
-            share.add(compared.share);
-            put(streams.out, compared.told.as_str())
+}
+
+impl Comparing {
+    /// Compares a pair, tells what came of it, and counts it.
+    fn tell_pair<S: Store, O: Write, E: Write>(
+        &self,
+        store: &mut S,
+        pair: &Pair,
+        tally: &mut Tally,
+        share: &mut Share,
+        streams: &mut Streams<'_, O, E>,
+    ) -> Result<(), RunFault>
+        ensures stand { AllStand (S.bytes_at store.old) (S.bytes_at store.new) }
+        ensures counted { OnOk result (Compares self.now.reading self.now.form (S.bytes_at store.old) pair.now
+            tally.old tally.new share.old share.new (O.contents streams.old.out.now)
+            (O.contents streams.new.out.now)) }
+        ensures err { result ≢ Err RunFault.Input }
+    {
+        match self.compare_pair(store, pair) {
+            Ok(compared) => {
+                tally.count(compared.errors, compared.errors != 0);
+                share.add(compared.share);
+                put(streams.out, compared.told.as_str())
+            }
+            Err(fault) => tell(self.alloc, tally, pair.other.as_str(), &fault, streams),
         }
-        Err(fault) => tell(alloc, tally, pair.other.as_str(), &fault, streams),
     }
-}
 
-fn compare_pair<S: Store>(
-    alloc: Global,
-    store: &mut S,
-    pair: &Pair,
-    reading: Reading,
-    form: Form,
-) -> Result<Compared, Fault>
-    ensures stand { AllStand (S.bytes_at store.old) (S.bytes_at store.new) }
-    ensures compared { IfOk result (λ compared. IsComparison reading form (S.bytes_at store.old) pair.now.is_there
-        pair.now compared.errors compared.share (string_bytes compared.told)) }
-    ensures fault { IfErr result (IsPairFault reading form (S.bytes_at store.old) pair.now) }
-{
-    let reference = read_text(store, pair.reference.as_str())?;
-    if !pair.is_there {
-        return compared_alone(alloc, pair, reference.as_str(), reading, form);
-    }
-    let other = read_text(store, pair.other.as_str())?;
-    compared_texts(
-        alloc,
-        pair,
-        reference.as_str(),
-        other.as_str(),
-        reading,
-        form,
-    )
-}
-
-/// What comes of a pair whose other file is not there.
-fn compared_alone(
-    alloc: Global,
-    pair: &Pair,
-    reference: &str,
-    reading: Reading,
-    form: Form,
-) -> Result<Compared, Fault>
-    ensures compared { IfOk result (λ compared. (outline : Outline)
-        × IsOutline reading.edition reference.now outline
-        × IsAlone form pair.now outline compared.errors compared.share (string_bytes compared.told)) }
-    ensures fault { IfErr result (IsUnparsed (IsTooDeep reading reference.now)) }
-{
-    let reference = outline(alloc, reference, reading)?;
-    match no_file(alloc, pair, form) {
-        Ok(told) => {
-            let wanted = entries_in(&reference);
-            let missing = wanted;
-            Ok(Compared {
-                told,
-                errors: 1,
-                share: Share { wanted, missing },
-            })
+    fn compare_pair<S: Store>(&self, store: &mut S, pair: &Pair) -> Result<Compared, Fault>
+        ensures stand { AllStand (S.bytes_at store.old) (S.bytes_at store.new) }
+        ensures compared { IfOk result (λ compared. IsComparison self.now.reading self.now.form
+            (S.bytes_at store.old) pair.now.is_there pair.now compared.errors compared.share
+            (string_bytes compared.told)) }
+        ensures fault { IfErr result (IsPairFault self.now.reading self.now.form (S.bytes_at store.old) pair.now) }
+    {
+        let reference = read_text(store, pair.reference.as_str())?;
+        if !pair.is_there {
+            return self.compared_alone(pair, reference.as_str());
         }
-        Err(AllocError) => Err(Fault::Memory),
+        let other = read_text(store, pair.other.as_str())?;
+        self.compared_texts(pair, reference.as_str(), other.as_str())
     }
-}
 
-/// What is told of a pair whose other file is not there.
-fn no_file(alloc: Global, pair: &Pair, form: Form) -> Result<String, AllocError>
-    ensures { IfOk result (λ told. IsRemark form (string_bytes pair.now.other) [] None (codes "missing-file")
-        (codes "there is no such file; the reference has " ++ string_bytes pair.now.reference) (string_bytes told)) }
-{
-    let reference = pair.reference.as_str();
-    let remark = Remark {
-        path: pair.other.as_str(),
-        text: "",
-        place: None,
-        kind: "missing-file",
-        severity: "error",
-        message: format!(in alloc; "there is no such file; the reference has {reference}")?,
-    };
-    remark_text(alloc, &remark, form)
-}
-
-/// What comes of a pair of these texts.
-fn compared_texts(
-    alloc: Global,
-    pair: &Pair,
-    reference: &str,
-    other: &str,
-    reading: Reading,
-    form: Form,
-) -> Result<Compared, Fault>
-    ensures compared { IfOk result (λ compared. (reference_outline : Outline)
-        × IsOutline reading.edition reference.now reference_outline × (other_outline : Outline)
-        × IsOutline reading.edition other.now other_outline
-        × IsBeside form pair.now reference_outline other_outline compared.errors compared.share
-        (string_bytes compared.told)) }
-    ensures fault { IfErr result (λ fault. IsUnparsed (IsTooDeep reading reference.now) fault
-        ⊎ IsUnparsed (IsTooDeep reading other.now) fault) }
-{
-    let reference = outline(alloc, reference, reading)?;
-    let other = outline(alloc, other, reading)?;
-    match compared_outlines(alloc, pair, &reference, &other, form) {
-        Ok(compared) => Ok(compared),
-        Err(AllocError) => Err(Fault::Memory),
+    /// What comes of a pair whose other file is not there.
+    fn compared_alone(&self, pair: &Pair, reference: &str) -> Result<Compared, Fault>
+        ensures compared { IfOk result (λ compared. (outline : Outline)
+            × IsOutline self.now.reading.edition reference.now outline
+            × IsAlone self.now.form pair.now outline compared.errors compared.share (string_bytes compared.told)) }
+        ensures fault { IfErr result (IsUnparsed (IsTooDeep self.now.reading reference.now)) }
+    {
+        let reference = outline(self.alloc, reference, self.reading)?;
+        match self.no_file(pair) {
+            Ok(told) => {
+                let wanted = entries_in(&reference);
+                let missing = wanted;
+                Ok(Compared {
+                    told,
+                    errors: 1,
+                    share: Share { wanted, missing },
+                })
+            }
+            Err(AllocError) => Err(Fault::Memory),
+        }
     }
-}
 
-/// What comes of a pair whose files say this.
-fn compared_outlines(
-    alloc: Global,
-    pair: &Pair,
-    reference: &Outline<'_>,
-    other: &Outline<'_>,
-    form: Form,
-) -> Result<Compared, AllocError>
-    requires reference { IsShort reference.now }
-    requires other { IsShort other.now }
-    ensures { IfOk result (λ compared. IsBeside form pair.now reference.now other.now compared.errors compared.share
-        (string_bytes compared.told)) }
-{
-    let translation = Translation::new(alloc, other)?;
-    let missing = lacks(alloc, reference, other)?;
-    let side = Side::Reference;
-    let mut told = lacks_text(
-        alloc,
-        pair,
-        side,
-        reference.text,
-        &translation,
-        &missing,
-        form,
-    )?;
-    let more = lacks(alloc, other, reference)?;
-    let behind = lacks_text(
-        alloc,
-        pair,
-        Side::Other,
-        other.text,
-        &translation,
-        &more,
-        form,
-    )?;
-    told.push_str(behind.as_str())?;
-    let missed = errors_of(Side::Reference, &missing);
-    let unknown = errors_of(Side::Other, &more);
-    Ok(Compared {
-        told,
-        errors: missed.saturating_add(unknown),
-        share: Share {
-            wanted: entries_in(reference),
-            missing: lacked_entries(&missing),
-        },
-    })
+    /// What is told of a pair whose other file is not there.
+    fn no_file(&self, pair: &Pair) -> Result<String, AllocError>
+        ensures { IfOk result (λ told. IsRemark self.now.form (string_bytes pair.now.other) [] None
+            (codes "missing-file")
+            (codes "there is no such file; the reference has " ++ string_bytes pair.now.reference)
+            (string_bytes told)) }
+    {
+        let reference = pair.reference.as_str();
+        let message = format!(in self.alloc;
+            "there is no such file; the reference has {reference}"
+        )?;
+        let remark = Remark {
+            path: pair.other.as_str(),
+            text: "",
+            place: None,
+            kind: "missing-file",
+            severity: "error",
+            message,
+        };
+        remark_text(self.alloc, &remark, self.form)
+    }
+
+    /// What comes of a pair of these texts.
+    fn compared_texts(&self, pair: &Pair, reference: &str, other: &str) -> Result<Compared, Fault>
+        ensures compared { IfOk result (λ compared. (reference_outline : Outline)
+            × IsOutline self.now.reading.edition reference.now reference_outline × (other_outline : Outline)
+            × IsOutline self.now.reading.edition other.now other_outline
+            × IsBeside self.now.form pair.now reference_outline other_outline compared.errors compared.share
+            (string_bytes compared.told)) }
+        ensures fault { IfErr result (λ fault. IsUnparsed (IsTooDeep self.now.reading reference.now) fault
+            ⊎ IsUnparsed (IsTooDeep self.now.reading other.now) fault) }
+    {
+        let reference = outline(self.alloc, reference, self.reading)?;
+        let other = outline(self.alloc, other, self.reading)?;
+        match self.compared_outlines(pair, &reference, &other) {
+            Ok(compared) => Ok(compared),
+            Err(AllocError) => Err(Fault::Memory),
+        }
+    }
+
+    /// What comes of a pair whose files say this.
+    fn compared_outlines(
+        &self,
+        pair: &Pair,
+        reference: &Outline<'_>,
+        other: &Outline<'_>,
+    ) -> Result<Compared, AllocError>
+        requires reference { IsShort reference.now }
+        requires other { IsShort other.now }
+        ensures { IfOk result (λ compared. IsBeside self.now.form pair.now reference.now other.now
+            compared.errors compared.share (string_bytes compared.told)) }
+    {
+        let translation = Translation::new(self.alloc, other)?;
+        let pair_told = PairTold {
+            alloc: self.alloc,
+            pair,
+            translation: &translation,
+            form: self.form,
+        };
+        let missing = lacks(self.alloc, reference, other)?;
+        let mut told = pair_told.lacks_text(Side::Reference, reference.text, &missing)?;
+        let more = lacks(self.alloc, other, reference)?;
+        let behind = pair_told.lacks_text(Side::Other, other.text, &more)?;
+        told.push_str(behind.as_str())?;
+        let missed = errors_of(Side::Reference, &missing);
+        let unknown = errors_of(Side::Other, &more);
+        Ok(Compared {
+            told,
+            errors: missed.saturating_add(unknown),
+            share: Share {
+                wanted: entries_in(reference),
+                missing: lacked_entries(&missing),
+            },
+        })
+    }
 }
 
 /// How many of the parts that this file has and the other one lacks are told as errors.
@@ -279,146 +258,6 @@ fn lacked_entries(lacks: &[Lack]) -> usize
         .iter()
         .filter(|lack| matches!(lack.part, Part::Entry))
         .count()
-}
-
-/// What is told of the parts that the file of this side has and the other one lacks.
-fn lacks_text(
-    alloc: Global,
-    pair: &Pair,
-    side: Side,
-    text: &str,
-    translation: &Translation<'_, '_>,
-    lacks: &[Lack],
-    form: Form,
-) -> Result<String, AllocError>
-    requires { length text.now + 1 < 2 ^ 64 }
-    ensures { IfOk result (λ told. TellsEach
-        (IsLackTold side form pair.now text.now translation.now.outline.now) lacks.now (string_bytes told)) }
-{
-    let mut out = String::new(alloc);
-    let mut lines = Lines::new(text);
-    for lack in lacks {
-        let told = lack_told(alloc, pair, side, text, translation, &mut lines, lack, form)?;
-        out.push_str(told.as_str())?;
-    }
-    Ok(out)
-}
-
-fn lack_told<'t>(
-    alloc: Global,
-    pair: &Pair,
-    side: Side,
-    text: &str,
-    translation: &Translation<'_, '_>,
-    lines: &mut Lines<'t>,
-    lack: &Lack,
-    form: Form,
-) -> Result<String, AllocError>
-    requires { lines.old ≡ text.now }
-    ensures told { IfOk result (λ told. IsLackTold side form pair.now text.now translation.now.outline.now lack.now
-        (string_bytes told)) }
-    ensures lines { lines.new ≡ lines.old }
-{
-    match side {
-        Side::Reference => missing_told(alloc, pair, text, translation, lines, lack, form),
-        Side::Other => more_told(alloc, pair, text, lines, lack, form),
-    }
-}
-
-fn missing_told<'t>(
-    alloc: Global,
-    pair: &Pair,
-    text: &str,
-    translation: &Translation<'_, '_>,
-    lines: &mut Lines<'t>,
-    lack: &Lack,
-    form: Form,
-) -> Result<String, AllocError>
-    requires { lines.old ≡ text.now }
-    ensures told { IfOk result (λ told. IsMissingTold form pair.now text.now translation.now.outline.now lack.now
-        (string_bytes told)) }
-    ensures lines { lines.new ≡ lines.old }
-{
-    let spot = spot_of(lines, text, lack.name);
-    let Some(difference) = Side::Reference.difference(lack.part) else {
-        return Ok(String::new(alloc));
-    };
-    let place = translation.junk_of(text, lack);
-    let path = pair.reference.as_str();
-    let is_junk = place.is_some();
-    let remark = Remark {
-        path: pair.other.as_str(),
-        text: translation.outline.text,
-        place,
-        kind: difference.name(),
-        severity: severity_name(difference.severity()),
-        message: missing_message(alloc, path, text, spot, lack, is_junk, difference)?,
-    };
-    remark_text(alloc, &remark, form)
-}
-
-fn missing_message(
-    alloc: Global,
-    path: &str,
-    text: &str,
-    spot: Spot,
-    lack: &Lack,
-    is_junk: bool,
-    difference: Difference,
-) -> Result<String, AllocError>
-    requires { spot ≡ spot_at text.now lack.now.name }
-    ensures { IfOk result (λ message.
-        SaysMissing path.now text.now lack.now is_junk difference (string_bytes message)) }
-{
-    let said = difference.sentence(alloc, name_in(text, lack.name))?;
-    let (line, column) = (spot.line, spot.column);
-    let behind = behind_missing(is_junk);
-    format!(in alloc; "{said} of {path}:{line}:{column}{behind}")
-}
-
-/// What is said behind the place in the reference.
-fn behind_missing(is_junk: bool) -> &'static str
-    ensures { result.now ≡ behind_missing is_junk }
-{
-    if is_junk { " is junk here" } else { "" }
-}
-
-fn more_told<'t>(
-    alloc: Global,
-    pair: &Pair,
-    text: &str,
-    lines: &mut Lines<'t>,
-    lack: &Lack,
-    form: Form,
-) -> Result<String, AllocError>
-    requires { lines.old ≡ text.now }
-    ensures told { IfOk result (λ told. IsMoreTold form pair.now text.now lack.now (string_bytes told)) }
-    ensures lines { lines.new ≡ lines.old }
-{
-    let spot = spot_of(lines, text, lack.name);
-    let Some(difference) = Side::Other.difference(lack.part) else {
-        return Ok(String::new(alloc));
-    };
-    let remark = Remark {
-        path: pair.other.as_str(),
-        text,
-        place: Some(spot),
-        kind: difference.name(),
-        severity: severity_name(difference.severity()),
-        message: more_message(alloc, text, lack, difference)?,
-    };
-    remark_text(alloc, &remark, form)
-}
-
-fn more_message(
-    alloc: Global,
-    text: &str,
-    lack: &Lack,
-    difference: Difference,
-) -> Result<String, AllocError>
-    ensures { IfOk result (λ message. SaysMore text.now lack.now difference (string_bytes message)) }
-{
-    difference.sentence(alloc, name_in(text, lack.name))
 }
 
 /// How much of the reference is there, on a line: `95 of 100 messages and terms are there`.

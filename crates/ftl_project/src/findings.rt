@@ -39,15 +39,14 @@ pub(crate) fn report_findings(
         lines = lines_in(outlines, file, lines, finding.file);
         starts = starts_in(alloc, outlines, file, starts, finding.file)?;
         file = finding.file;
-        let told = finding_told(
+        let file_told = FileTold {
             alloc,
-            path_of(sources, file),
-            text_of(outlines, file),
-            &mut lines,
-            &starts,
-            finding,
+            path: path_of(sources, file),
+            text: text_of(outlines, file),
+            starts: &starts,
             form,
-        )?;
+        };
+        let told = file_told.finding_told(&mut lines, finding)?;
         out.push_str(told.as_str())?;
     }
     Ok(out)
@@ -105,30 +104,48 @@ fn starts_in(
     }
 }
 
-/// What is told of a finding in the file of this path and text.
-fn finding_told<'t>(
+/// A file whose findings are told: its path and its text, where its lines begin, and the form.
+#[derive(Clone, Copy)]
+struct FileTold<'a> {
     alloc: Global,
-    path: &str,
-    text: &str,
-    lines: &mut Lines<'t>,
-    starts: &LineStarts,
-    finding: &Finding,
+    path: &'a str,
+    text: &'a str,
+    starts: &'a LineStarts,
     form: Form,
-) -> Result<String, AllocError>
-    requires { lines.old ≡ text.now }
-    ensures told { IfOk result (λ told. (message : List ℕ) × IsRemark form path.now text.now
-        (spot_in text.now finding.now.place) (name_of finding.now.kind) message (string_bytes told)) }
-    ensures lines { lines.new ≡ lines.old }
-{
-    let remark = Remark {
-        path,
-        text,
-        place: spot_in(lines, text, finding.place),
-        kind: finding.kind.name(),
-        severity: severity_name(finding.kind.severity()),
-        message: message(alloc, text, starts, finding)?,
-    };
-    remark_text(alloc, &remark, form)
+}
+
+impl FileTold<'_> {
+    /// What is told of a finding in the file.
+    fn finding_told<'t>(
+        &self,
+        lines: &mut Lines<'t>,
+        finding: &Finding,
+    ) -> Result<String, AllocError>
+        requires { lines.old ≡ self.now.text.now }
+        ensures told { IfOk result (λ told. (message : List ℕ) × IsRemark self.now.form self.now.path.now
+            self.now.text.now (spot_in self.now.text.now finding.now.place) (name_of finding.now.kind) message
+            (string_bytes told)) }
+        ensures lines { lines.new ≡ lines.old }
+    {
+        let remark = Remark {
+            path: self.path,
+            text: self.text,
+            place: spot_in(lines, self.text, finding.place),
+            kind: finding.kind.name(),
+            severity: severity_name(finding.kind.severity()),
+            message: self.message(finding)?,
+        };
+        remark_text(self.alloc, &remark, self.form)
+    }
+
+    /// A sentence on the finding.
+    fn message(&self, finding: &Finding) -> Result<String, AllocError> {
+        let name = finding.place.map_or("", |span| name_in(self.text, span));
+        let first = finding
+            .other
+            .map(|first| self.starts.line_column(first.span.start).0);
+        finding.kind.sentence(self.alloc, name, first)
+    }
 }
 
 /// Where the name is in the text, if there is one.
@@ -148,18 +165,4 @@ pub(crate) fn severity_name(severity: Severity) -> &'static str {
         Severity::Error => "error",
         Severity::Warning => "warning",
     }
-}
-
-/// A sentence on the finding.
-fn message(
-    alloc: Global,
-    text: &str,
-    starts: &LineStarts,
-    finding: &Finding,
-) -> Result<String, AllocError> {
-    let name = finding.place.map_or("", |span| name_in(text, span));
-    let first = finding
-        .other
-        .map(|first| starts.line_column(first.span.start).0);
-    finding.kind.sentence(alloc, name, first)
 }

@@ -11,6 +11,7 @@ mod form;
 mod formatting;
 mod github;
 mod json;
+mod lacks_told;
 mod line_starts;
 mod linting;
 mod outlines;

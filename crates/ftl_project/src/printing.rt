@@ -35,64 +35,63 @@ pub fn print_files<S: Store, O: Write, E: Write>(
         (O.contents streams.old.out.now) (O.contents streams.new.out.now)) }
     ensures err { result ≢ Err RunFault.Input }
 {
+    let printing = Printing {
+        alloc,
+        command,
+        nesting,
+    };
     for file in files {
-        print_file(
-            alloc,
-            store,
-            file.as_str(),
-            command,
-            nesting,
-            tally,
-            streams,
-        )?;
+        printing.print_file(store, file.as_str(), tally, streams)?;
     }
     Ok(())
 }
 
-/// Writes the command's text of a file, and counts it.
-fn print_file<S: Store, O: Write, E: Write>(
+/// By which command files are answered, and how deep what they say may nest.
+#[derive(Clone, Copy)]
+struct Printing {
     alloc: Global,
-    store: &mut S,
-    path: &str,
     command: Command,
     nesting: usize,
-    tally: &mut Tally,
-    streams: &mut Streams<'_, O, E>,
-) -> Result<(), RunFault>
-    ensures stand { AllStand (S.bytes_at store.old) (S.bytes_at store.new) }
-    ensures counted { OnOk result
-        (Writes (IsPrinted command nesting (S.bytes_at store.old path.now)) tally.old tally.new
-        (O.contents streams.old.out.now) (O.contents streams.new.out.now)) }
-    ensures err { result ≢ Err RunFault.Input }
-{
-    match answer_file(alloc, store, path, command, nesting) {
-        Ok((text, outcome)) => {
-            put(streams.out, text.as_str())?;
-            tell_outcome(alloc, path, outcome, tally, streams)
-        }
-        Err(fault) => tell(alloc, tally, path, &fault, streams),
-    }
 }
 
-/// The command's text of a file, and what was found in it.
-fn answer_file<S: Store>(
-    alloc: Global,
-    store: &mut S,
-    path: &str,
-    command: Command,
-    nesting: usize,
-) -> Result<(String, Outcome), Fault>
-    ensures stand { AllStand (S.bytes_at store.old) (S.bytes_at store.new) }
-    ensures answer { IfOk result (λ answer. IfSome (S.bytes_at store.old path.now)
-        (λ known. IsAnswer command known (string_bytes answer.0) answer.1)) }
-    ensures fault { IfErr result
-        (IsFault (λ known. ReadsDeeper command known nesting) (S.bytes_at store.old path.now)) }
-{
-    let text = read_text(store, path)?;
-    match answer_within(alloc, command, text.as_bytes(), nesting) {
-        Ok(Ok(answer)) => Ok(answer),
-        Ok(Err(_)) => Err(Fault::Memory),
-        Err(_) => Err(Fault::TooDeep),
+impl Printing {
+    /// Writes the command's text of a file, and counts it.
+    fn print_file<S: Store, O: Write, E: Write>(
+        &self,
+        store: &mut S,
+        path: &str,
+        tally: &mut Tally,
+        streams: &mut Streams<'_, O, E>,
+    ) -> Result<(), RunFault>
+        ensures stand { AllStand (S.bytes_at store.old) (S.bytes_at store.new) }
+        ensures counted { OnOk result
+            (Writes (IsPrinted self.now.command self.now.nesting (S.bytes_at store.old path.now)) tally.old tally.new
+            (O.contents streams.old.out.now) (O.contents streams.new.out.now)) }
+        ensures err { result ≢ Err RunFault.Input }
+    {
+        match self.answer_file(store, path) {
+            Ok((text, outcome)) => {
+                put(streams.out, text.as_str())?;
+                tell_outcome(self.alloc, path, outcome, tally, streams)
+            }
+            Err(fault) => tell(self.alloc, tally, path, &fault, streams),
+        }
+    }
+
+    /// The command's text of a file, and what was found in it.
+    fn answer_file<S: Store>(&self, store: &mut S, path: &str) -> Result<(String, Outcome), Fault>
+        ensures stand { AllStand (S.bytes_at store.old) (S.bytes_at store.new) }
+        ensures answer { IfOk result (λ answer. IfSome (S.bytes_at store.old path.now)
+            (λ known. IsAnswer self.now.command known (string_bytes answer.0) answer.1)) }
+        ensures fault { IfErr result
+            (IsFault (λ known. ReadsDeeper self.now.command known self.now.nesting) (S.bytes_at store.old path.now)) }
+    {
+        let text = read_text(store, path)?;
+        match answer_within(self.alloc, self.command, text.as_bytes(), self.nesting) {
+            Ok(Ok(answer)) => Ok(answer),
+            Ok(Err(_)) => Err(Fault::Memory),
+            Err(_) => Err(Fault::TooDeep),
+        }
     }
 }
 

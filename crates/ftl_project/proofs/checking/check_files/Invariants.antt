@@ -9,7 +9,7 @@ invariant-loop-file g l =
     let written = g.O.Write.contents in
     record {
       stand : AllStand (at l.fn.store) (at l.store);
-      each : WritesSo (IsChecked l.reading l.form) (at l.fn.store) l.files l.file-index l.fn.tally l.tally
+      each : WritesSo (IsChecked l.fn.reading l.fn.form) (at l.fn.store) l.files l.file-index l.fn.tally l.tally
           (written l.fn.streams.out.now)
           (written l.streams.out.now);
     }

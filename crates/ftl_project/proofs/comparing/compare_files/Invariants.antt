@@ -9,6 +9,6 @@ invariant-loop-pair g l =
     let written = g.O.Write.contents in
     record {
       stand : AllStand (at l.fn.store) (at l.store);
-      each : ComparesEach l.reading l.form (at l.fn.store) (take l.pair-index l.pairs) l.fn.tally l.tally
+      each : ComparesEach l.fn.reading l.fn.form (at l.fn.store) (take l.pair-index l.pairs) l.fn.tally l.tally
           l.fn.share l.share (written l.fn.streams.out.now) (written l.streams.out.now);
     }

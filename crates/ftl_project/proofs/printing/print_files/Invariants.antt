@@ -9,7 +9,6 @@ invariant-loop-file g l =
     let written = g.O.Write.contents in
     record {
       stand : AllStand (at l.fn.store) (at l.store);
-      each : WritesSo (λ path. IsPrinted l.command l.nesting) (at l.fn.store) l.files l.file-index l.fn.tally l.tally
-          (written l.fn.streams.out.now)
-          (written l.streams.out.now);
+      each : WritesSo (λ path. IsPrinted l.fn.command l.fn.nesting) (at l.fn.store) l.files l.file-index l.fn.tally
+          l.tally (written l.fn.streams.out.now) (written l.streams.out.now);
     }

@@ -3,14 +3,15 @@ use Rattle.ftl_project.specs.Answered.{IsChecked}
 use Rattle.ftl_project.specs.Faults.{IsFault, IsTooDeep}
 use Rattle.ftl_project.specs.Tally.{answered}
 use Rattle.ftl_project.proofs.Counting.{Writes-told, appends_as, on_ok}
-use Rattle.ftl_project.proofs.checking.tell_checked.Goals as goal
+use Rattle.ftl_project.proofs.checking.Checking.tell_checked.Goals as goal
 
 pub returns-in-Err-clause-counted : goal.returns-in-Err-clause-counted
 returns-in-Err-clause-counted g c =
+    let self = c.args.self.now in
     let bytes = g.S.Store.bytes_at c.args.store.now c.args.path.now in
     let written = g.O.Write.contents in
-    Writes-told (IsChecked c.args.reading c.args.form c.args.path.now bytes)
-    (IsFault (IsTooDeep c.args.reading) bytes) c.tell.result c.in-Err.fault
+    Writes-told (IsChecked self.reading self.form c.args.path.now bytes)
+    (IsFault (IsTooDeep self.reading) bytes) c.tell.result c.in-Err.fault
     c.args.tally.now c.tell.new.tally (written c.args.streams.now.out.now) (written c.tell.new.streams.out.now)
     (λ status fails. (fails, refl)) c.in-Err.ensures.fault c.tell.ensures.counted
     (ap (λ out. written out.now) c.tell.ensures.out)

@@ -1,5 +1,5 @@
 use Rattle.std.proofs.Common.{refl}
-use Rattle.ftl_project.proofs.comparing.compared_alone.Goals as goal
+use Rattle.ftl_project.proofs.comparing.Comparing.compared_alone.Goals as goal
 
 pub returns-in-Ok-clause-compared : goal.returns-in-Ok-clause-compared
 returns-in-Ok-clause-compared c = (

@@ -4,7 +4,7 @@ use Rattle.ftl_project.specs.Answered.{IsPrinted, has_errors}
 use Rattle.ftl_project.specs.Faults.{IsFault}
 use Rattle.ftl_project.specs.Tally.{answered}
 use Rattle.ftl_project.proofs.Counting.{Writes-told, appends_as, on_ok}
-use Rattle.ftl_project.proofs.printing.print_file.Goals as goal
+use Rattle.ftl_project.proofs.printing.Printing.print_file.Goals as goal
 
 pub returns-in_ok-put-in-Ok-clause-counted : goal.returns-in_ok-put-in-Ok-clause-counted
 returns-in_ok-put-in-Ok-clause-counted g c =
@@ -25,10 +25,11 @@ returns-in_ok-put-in-Ok-clause-counted g c =
 
 pub returns-in-Err-clause-counted : goal.returns-in-Err-clause-counted
 returns-in-Err-clause-counted g c =
+    let self = c.args.self.now in
     let bytes = g.S.Store.bytes_at c.args.store.now c.args.path.now in
     let written = g.O.Write.contents in
-    Writes-told (IsPrinted c.args.command c.args.nesting bytes)
-    (IsFault (λ known. ReadsDeeper c.args.command known c.args.nesting) bytes) c.tell.result c.in-Err.fault
+    Writes-told (IsPrinted self.command self.nesting bytes)
+    (IsFault (λ known. ReadsDeeper self.command known self.nesting) bytes) c.tell.result c.in-Err.fault
     c.args.tally.now c.tell.new.tally (written c.args.streams.now.out.now) (written c.tell.new.streams.out.now)
     (λ status fails. (fails, refl)) c.in-Err.ensures.fault c.tell.ensures.counted
     (ap (λ out. written out.now) c.tell.ensures.out)

@@ -1,4 +1,4 @@
-use Rattle.ftl_project.proofs.comparing.compared_texts.Goals as goal
+use Rattle.ftl_project.proofs.comparing.Comparing.compared_texts.Goals as goal
 
 pub returns-in-Ok-clause-compared : goal.returns-in-Ok-clause-compared
 returns-in-Ok-clause-compared c = (

@@ -3,7 +3,7 @@ use Rattle.ftl_project.specs.Tally.{answered}
 use Rattle.std.specs.Prelude.{Some}
 use Rattle.ftl_project.proofs.Compared.{Compares-told}
 use Rattle.ftl_project.proofs.Counting.{appends_as, on_ok_then}
-use Rattle.ftl_project.proofs.comparing.tell_pair.Goals as goal
+use Rattle.ftl_project.proofs.comparing.Comparing.tell_pair.Goals as goal
 
 pub returns-in-Ok-clause-counted : goal.returns-in-Ok-clause-counted
 returns-in-Ok-clause-counted g c =
@@ -23,8 +23,9 @@ returns-in-Ok-clause-counted g c =
 
 pub returns-in-Err-clause-counted : goal.returns-in-Err-clause-counted
 returns-in-Err-clause-counted g c =
+    let self = c.args.self.now in
     let at = g.S.Store.bytes_at c.args.store.now in
     let written = g.O.Write.contents in
-    Compares-told c.args.reading c.args.form at c.args.pair.now c.tell.result c.in-Err.fault c.args.tally.now
+    Compares-told self.reading self.form at c.args.pair.now c.tell.result c.in-Err.fault c.args.tally.now
     c.tell.new.tally c.args.share.now (written c.args.streams.now.out.now) (written c.tell.new.streams.out.now)
     c.in-Err.ensures.fault c.tell.ensures.counted (ap (λ out. written out.now) c.tell.ensures.out)
