@@ -18,7 +18,7 @@ use Rattle.fluent_syntax_lsp.specs.Params.{changes_in, opened_text_in, uri_in, v
 use Rattle.fluent_syntax_lsp.specs.Phases.{after_notification, after_request, refusal_of}
 use Rattle.fluent_syntax_lsp.specs.Replies.{Reply, IsSent, diagnosed, silence, watch, withdrawn, diagnostics_form}
 use Rattle.fluent_syntax_lsp.specs.Replies.{sends_diagnostics, sends_none, sends_withdrawal}
-use Rattle.fluent_syntax_lsp.specs.Told.{TellsAll}
+use Rattle.fluent_syntax_lsp.specs.Told.{TellsDocument}
 use Rattle.fluent_syntax_lsp.specs.Sessions.{Answers, AnswersNotification, AnswersRequest, AnswersRunning, Follows}
 use Rattle.fluent_syntax_lsp.specs.Results.{IsResult, Sources, sources_of}
 use Rattle.fluent_syntax_lsp.specs.Sessions.{Finds, IsFound, TellsAnew, fits}
@@ -107,7 +107,7 @@ unpublished old mid uri same none =
     subst at same (subst (λ (o : Option OpenText). IsSent (published uri o) None) none sends_none)
 
 pub is_published : (old mid : Session) (uri : List ℕ) (found : OpenText) (value : Data) (list : List Data) →
-    mid ≡ old → Some found ≡ mid.texts uri → value ≡ diagnostics_form uri list → TellsAll uri found.text list →
+    mid ≡ old → Some found ≡ mid.texts uri → value ≡ diagnostics_form uri list → TellsDocument uri found.text list →
     IsSent (published uri (old.texts uri)) (Some value)
 is_published old mid uri found value list same open' is tells_all =
     let at : Session → Type 0 = λ s. IsSent (published uri (s.texts uri)) (Some value) in

@@ -16,8 +16,8 @@ use Rattle.fluent_syntax_lsp.specs.Own.{IsOutlineOf, finds_among, finds_beside, 
 use Rattle.fluent_syntax_lsp.specs.Ignored.{is_told}
 use Rattle.fluent_syntax_lsp.specs.Mismatches.{difference_of, differences}
 use Rattle.fluent_syntax_lsp.specs.Remarks.{IsSentence, told, told_of}
-use Rattle.fluent_syntax_lsp.specs.Told.{IsToldAlike, RemarksOn, TellsAll, TellsMismatches, diagnostic_form, error_form}
-use Rattle.fluent_syntax_lsp.specs.Told.{mismatch_form, remark_form, told_in}
+use Rattle.fluent_syntax_lsp.specs.Told.{IsToldAlike, RemarksOn, TellsDocument, TellsMismatches, diagnostic_form}
+use Rattle.fluent_syntax_lsp.specs.Told.{error_form, mismatch_form, remark_form, told_in}
 use Rattle.fluent_syntax_lsp.specs.declared.diagnostics.Diagnostic.{Diagnostic}
 use Rattle.fluent_syntax_lsp.specs.declared.documents.Document.{Document}
 use Rattle.fluent_syntax_lsp.specs.declared.documents.Document.TheVariants.{Held, TooDeep}
@@ -49,7 +49,7 @@ pub tells_all : (uri t : List ℕ) (errors : List Diagnostic) (remarks : List Re
     none.uri.now ≡ uri → DiagnosesDocument t (map shown errors) → RemarksOn t remarks → told_in none ≡ [] →
     told_in first ≡ told_in none ++ map error_form errors → IsToldAlike none first →
     told_in second ≡ told_in first ++ map (remark_form first.uri.now first.related) remarks →
-    IsToldAlike first second → TellsMismatches t second last → TellsAll uri t (told_in last)
+    IsToldAlike first second → TellsMismatches t second last → TellsDocument uri t (told_in last)
 tells_all uri t errors remarks none first second last named diagnoses on empty told alike remarked alike_too differs =
     let forms = map error_form errors in
     let these : told_in first ≡ forms = told ∙ ap (λ l. l ++ forms) empty in
@@ -91,7 +91,8 @@ tells_mismatches (Ok x) t held old new original slice mismatches document there 
       original = original;
       mismatches = mismatches;
       are = inr (document, subst (λ (u : List ℕ). IsOutlineOf u document) same outline, there, differ);
-      told_each = told_each ∙ ap (λ (l : List Mismatch). told_in old ++ map (mismatch_form original old.related) l) whole;
+      told_each =
+          told_each ∙ ap (λ (l : List Mismatch). told_in old ++ map (mismatch_form original old.related) l) whole;
     }
 tells_mismatches (Err e) t held old new original slice mismatches document there same outline differ whole h = h
 

@@ -4,7 +4,7 @@ use Rattle.serde_json.specs.Data.{Data, number, string, array, object, item, no_
 use Rattle.serde_json.specs.Find.{of_integer}
 use Rattle.serde_json.specs.View.{items_of}
 use Rattle.fluent_syntax_lsp.specs.Phases.{number_of, text_of}
-use Rattle.fluent_syntax_lsp.specs.Told.{TellsAll}
+use Rattle.fluent_syntax_lsp.specs.Told.{TellsDocument}
 use Rattle.fluent_syntax_lsp.specs.declared.phases.ErrorCode.{ErrorCode}
 
 -- What is sent for a message.
@@ -73,7 +73,7 @@ pub data IsSent : Reply → Option Data → Type 0 where
   sends_none : IsSent silence None
   sends_answer : (id result : Data) → IsSent (answered id result) (Some (answer_form id result))
   sends_refusal : (id : Data) (code : ErrorCode) → IsSent (refused id code) (Some (refusal_form id code))
-  sends_diagnostics : (uri text : List ℕ) (list : List Data) → TellsAll uri text list →
+  sends_diagnostics : (uri text : List ℕ) (list : List Data) → TellsDocument uri text list →
       IsSent (diagnosed uri text) (Some (diagnostics_form uri list))
   sends_withdrawal : (uri : List ℕ) → IsSent (withdrawn uri) (Some (diagnostics_form uri []))
   sends_watch : IsSent watch (Some watch_form)

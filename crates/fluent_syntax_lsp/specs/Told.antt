@@ -121,7 +121,7 @@ pub record TellsMismatches (t : List ℕ) (old new : Told) : Type 0 where
 
 -- It has a diagnostic for each error of the text, then one for each finding that is told of it, and then one for each
 -- difference from an original, in order.
-pub record TellsAll (uri t : List ℕ) (list : List Data) : Type 0 where
+pub record TellsDocument (uri t : List ℕ) (list : List Data) : Type 0 where
   pub is_taken : Bool
   pub errors : List Diagnostic
   pub diagnoses : DiagnosesDocument t (map shown errors)

@@ -1,11 +1,11 @@
 //! What is told of a document.
 ghost use Rattle.std.specs.Prelude.{◌≡◌, option_map, IfOk, OnOk};
 ghost use Rattle.serde_json.specs.View.{view};
+ghost use Rattle.fluent_syntax_lsp.specs.Documents.{document_text};
 ghost use Rattle.fluent_syntax_lsp.specs.Opened.{texts};
+ghost use Rattle.fluent_syntax_lsp.specs.Own.{FindsSome};
 ghost use Rattle.fluent_syntax_lsp.specs.Replies.{IsSent, diagnostics_form};
 ghost use Rattle.fluent_syntax_lsp.specs.Sessions.{published, session_of};
-ghost use Rattle.fluent_syntax_lsp.specs.Documents.{document_text};
-ghost use Rattle.fluent_syntax_lsp.specs.Own.{FindsSome};
 ghost use Rattle.fluent_syntax_lsp.specs.Told.{RemarksOn, TellsMismatches, told_in};
 
 use crate::documents::Document;
