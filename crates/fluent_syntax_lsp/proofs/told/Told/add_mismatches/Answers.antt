@@ -15,8 +15,8 @@ loop-mismatch-preserved c =
     let form = same_form _ _ _ _ _ _ _ _ _ c.severity.ensures c.name.ensures c.as_str.ensures.value place in
     let one = told_as now c.add.new.self _ _ c.in_ok-add.ensures.told (form ∙ ap known c.mismatch-item.is) in
     record {
-      gathered = gathers_one c.args.mismatches.now c.loop-mismatch.mismatch-index c.mismatch-item.result (told_in now) _ _ known
-          c.loop-mismatch-test.true one c.loop-mismatch.invariant.gathered;
+      gathered = gathers_one c.args.mismatches.now c.loop-mismatch.mismatch-index c.mismatch-item.result (told_in now)
+          _ _ known c.loop-mismatch-test.true one c.loop-mismatch.invariant.gathered;
       alike = alike_both old now c.add.new.self alike c.in_ok-add.ensures.alike;
     }
 
