@@ -169,8 +169,8 @@ start_of (refused f) = f.slice.start
 start_of dropped = 0
 
 -- Two texts with the same bytes from p in the one and from q in the other, at both of which a tile begins: from there
--- on they have the same tiles, moved, the same errors, moved, and text by text the same tree. So whoever reads a changed
--- text anew can stop at the first tile that stands where one stood, before what wasn't changed.
+-- on they have the same tiles, moved, the same errors, moved, and text by text the same tree. So whoever reads a
+-- changed text anew can stop at the first tile that stands where one stood, before what wasn't changed.
 abbrev pub Resyncs : Edition → (t u : List ℕ) → Type 0
 Resyncs edition t u =
     (before front after behind : List Tile) (x y : Tile) → Tiling edition t (before ++ (x ∷ after)) →
