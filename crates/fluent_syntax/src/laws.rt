@@ -11,8 +11,7 @@ ghost use Rattle.fluent_syntax_tree.specs.View.{resource_view};
 
 use crate::parser::{Edition, ParseFault, Result, Slice, parse};
 pub use fluent_syntax_grammar::{
-    edits_entry, formats_again, reads_back, reads_readable, reads_rest, reads_up_to,
-    replaces_entry, unique_reading, written_apart,
+    formats_again, reads_back, reads_readable, unique_reading, written_apart,
 };
 pub use fluent_syntax_joined::joined;
 pub use fluent_syntax_rules::{

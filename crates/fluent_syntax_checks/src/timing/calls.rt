@@ -2,7 +2,7 @@
 
 ghost use Rattle.std.specs.Prelude.{◌+◌, ◌^◌, ◌<◌, length};
 
-use crate::timing::{changes, json, parsing, writing};
+use crate::timing::{json, parsing, writing};
 use std::io;
 use std::time::{Clock, Duration};
 
@@ -32,8 +32,6 @@ pub(crate) fn time_of<R: Clock + AllocGlobal>(
         "unescape" => writing::unescape_texts(rt, text)?,
         "to_value" => json::value_of_tree(rt, text)?,
         "from_value" => json::tree_of_value(rt, text)?,
-        "hold" => changes::hold_text(rt, text)?,
-        "change" => changes::change_text(rt, text)?,
         _ => return Ok(None),
     }))
 }
