@@ -13,8 +13,8 @@ use crate::parser::{Edition, ParseFault, Result, Slice, parse};
 pub use fluent_syntax_grammar::{
     formats_again, reads_back, reads_readable, unique_reading, written_apart,
 };
-pub use fluent_syntax_joined::joined;
-pub use fluent_syntax_rules::{
+pub use fluent_syntax_writer::joined::joined;
+pub use fluent_syntax_writer::canonical::{
     Rule, Uncanonical, broken_rule, broken_rule_with, first_uncanonical, first_uncanonical_with,
     is_canonical, is_readable,
 };

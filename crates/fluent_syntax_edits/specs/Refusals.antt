@@ -6,8 +6,8 @@ use Rattle.fluent_syntax_tree.specs.declared.edition.Edition.{Edition}
 use Rattle.fluent_syntax_tree.specs.declared.spans.Span.{Span}
 use Rattle.fluent_syntax_grammar.specs.Locality.{begins_attribute, begins_comment, begins_entry, ends_line, may_begin}
 use Rattle.fluent_syntax_grammar.specs.Written.{Text}
-use Rattle.fluent_syntax_rules.specs.Uncanonical.{broken_rule}
-use Rattle.fluent_syntax_rules.specs.declared.rules.Rule.{Rule}
+use Rattle.fluent_syntax_writer.specs.Uncanonical.{broken_rule}
+use Rattle.fluent_syntax_writer.specs.declared.canonical.rules.Rule.{Rule}
 use Rattle.fluent_syntax_edits.specs.Runs.{run_from}
 use Rattle.fluent_syntax_edits.specs.declared.fault.EditFault.{EditFault}
 use Rattle.fluent_syntax_edits.specs.declared.fault.EditFault.TheVariants.{CommentBefore, IsJunk, JunkBefore}

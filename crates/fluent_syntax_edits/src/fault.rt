@@ -1,6 +1,6 @@
 //! Why an edit is refused.
 
-use fluent_syntax_rules::Rule;
+use fluent_syntax_writer::canonical::Rule;
 use fluent_syntax_tree::spans::Span;
 use std::alloc::AllocError;
 use thiserror::Error;

@@ -6,7 +6,7 @@ ghost use Rattle.fluent_syntax_grammar.specs.Locality.{entry_text};
 ghost use Rattle.fluent_syntax_tree.specs.View.{entry_view};
 
 use crate::fault::EditFault;
-use fluent_syntax_rules::broken_rule_with;
+use fluent_syntax_writer::canonical::broken_rule_with;
 use fluent_syntax_tree::ast::Entry;
 use fluent_syntax_tree::edition::Edition;
 use fluent_syntax_tree::slice::Slice;

@@ -4,7 +4,7 @@ use crate::trees::tree_and_errors;
 use fluent_syntax::parser::Edition;
 use fluent_syntax::spans::Span;
 use fluent_syntax_edits::{EditFault, insert, remove, replace};
-use fluent_syntax_rules::Rule;
+use fluent_syntax_writer::canonical::Rule;
 use fluent_syntax_tests::alike::{assert_same, assert_same_text};
 use std::alloc::Global;
 use std::test::Fail;

@@ -8,7 +8,7 @@ use Rattle.std.proofs.lemmas.List.{append-nil, get_or_append_left, get_or_past, 
 use Rattle.std.proofs.lemmas.List.{get_or-set_same, get_or-set_other, length-set, drop_more, drop_all}
 use Rattle.std.proofs.lemmas.List.Folds.{list_any-append}
 use Rattle.fluent_syntax_tree.specs.declared.spans.Span.{Span}
-use Rattle.fluent_syntax_graph.specs.Graph.{Graph, Leads, edges}
+use Rattle.fluent_syntax_names.specs.Graph.{Graph, Leads, edges}
 use Rattle.fluent_syntax_names.specs.Circles.{Link, is_link, leads, links_in, link_to, links, pattern_after, referred}
 use Rattle.fluent_syntax_names.specs.Circles.{no_pattern}
 use Rattle.fluent_syntax_names.specs.Drawings.{Drawn, IsDrawn, DrawsLinks}

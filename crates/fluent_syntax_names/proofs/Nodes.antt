@@ -5,8 +5,8 @@ use Rattle.std.specs.Prelude.{option_and_then, slice_get}
 use Rattle.std.proofs.lemmas.Bool.{eqb-true, eq-eqb}
 use Rattle.std.proofs.lemmas.Bool.Decides.{same_from_decides}
 use Rattle.std.proofs.lemmas.Option.{slice_get-get_or}
-use Rattle.fluent_syntax_graph.specs.Graph.{Graph, Leads, IsGraph, target}
-use Rattle.fluent_syntax_graph.specs.Graph.{Reaches as GraphReaches, here, onward as graph_onward}
+use Rattle.fluent_syntax_names.specs.Graph.{Graph, Leads, IsGraph, target}
+use Rattle.fluent_syntax_names.specs.Graph.{Reaches as GraphReaches, here, onward as graph_onward}
 use Rattle.fluent_syntax_names.specs.Circles.{Link, leads, Reaches, next, onward, reaches, comes_back}
 use Rattle.fluent_syntax_names.specs.Drawings.{Drawn, same_option}
 use Rattle.fluent_syntax_names.specs.NamedLists.{Numbering}

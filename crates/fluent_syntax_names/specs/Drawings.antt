@@ -1,7 +1,7 @@
 -- Names as nodes of a graph.
 use Rattle.std.specs.Prelude.{◌≡◌, ℕ, Bool, true, false, nat_eq, List, ◌++◌, length, Option, None, Some}
 use Rattle.std.specs.Prelude.{option_and_then, slice_get}
-use Rattle.fluent_syntax_graph.specs.Graph.{Graph, Leads}
+use Rattle.fluent_syntax_names.specs.Graph.{Graph, Leads}
 use Rattle.fluent_syntax_names.specs.Circles.{Link, leads, comes_back}
 use Rattle.fluent_syntax_names.specs.Findings.{Set}
 use Rattle.fluent_syntax_names.specs.NamedLists.{Numbering, Within, Apart, numbers_of, lists_of}

@@ -15,3 +15,5 @@ pub mod Sentences
 pub mod Severities
 pub mod Spelled
 pub mod Tables
+pub mod Graph
+pub mod Search

@@ -3,7 +3,7 @@ use Rattle.std.proofs.Common.{◌≡◌, ℕ, zero, suc, ◌<◌, List, [], ◌�
 use Rattle.std.specs.Prelude.{All}
 use Rattle.std.specs.declared.alloc.Global.{Global}
 use Rattle.std.proofs.lemmas.List.{length-map}
-use Rattle.fluent_syntax_graph.specs.Graph.{IsGraph, targets_of, edges, target}
+use Rattle.fluent_syntax_names.specs.Graph.{IsGraph, targets_of, edges, target}
 
 -- all targets are among the first n nodes
 abbrev pub AllBelow : ℕ → List (Vec ℕ Global) → Type 0

@@ -1,8 +1,8 @@
 //! Which nodes of a graph reach one another.
 ghost use Rattle.std.specs.Prelude.{◌<◌, All, IfOk};
-ghost use Rattle.fluent_syntax_graph.specs.Graph.{IsGraph, targets_of};
+ghost use Rattle.fluent_syntax_names.specs.Graph.{IsGraph, targets_of};
 
-use fluent_syntax_graph::components;
+use fluent_syntax_names::graph::components;
 use fluent_syntax_tests::alike::assert_holds;
 use std::alloc::{AllocError, Global};
 use std::test::Fail;
