@@ -3,7 +3,7 @@
 use crate::trees::owned_tree_and_errors;
 use fluent_syntax::ast::Entry;
 use fluent_syntax::parser::Edition;
-use fluent_syntax_corpus::TEXTS;
+use fluent_syntax_tests::corpus::TEXTS;
 use fluent_syntax_edits::{EditFault, insert, remove, replace};
 use fluent_syntax_tests::alike::assert_holds;
 use std::alloc::Global;

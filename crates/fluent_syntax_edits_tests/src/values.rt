@@ -4,7 +4,7 @@ use crate::trees::{owned_tree_and_errors, tree_and_errors};
 use fluent_syntax::ast::{Entry, Pattern};
 use fluent_syntax::parser::Edition;
 use fluent_syntax::spans::Span;
-use fluent_syntax_corpus::TEXTS;
+use fluent_syntax_tests::corpus::TEXTS;
 use fluent_syntax_edits::{EditFault, set_attribute, set_value};
 use fluent_syntax_tests::alike::{assert_holds, assert_same, assert_same_text};
 use std::alloc::Global;
