@@ -1,6 +1,6 @@
 use Rattle.std.proofs.Common.{ap, arith, ◌∙◌}
 use Rattle.fluent_syntax_c.proofs.ValueRows.{values_of_all, values_of_nothing, values_on}
-use Rattle.fluent_syntax_c.proofs.values.text_values.Goals as goal
+use Rattle.fluent_syntax_c.proofs.values.value_rows.Goals as goal
 
 pub loop-found-init : goal.loop-found-init
 loop-found-init c = record {

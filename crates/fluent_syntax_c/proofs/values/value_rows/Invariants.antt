@@ -1,13 +1,12 @@
 use Rattle.std.proofs.Common.{◌≡◌, ◌-◌, length}
-use Rattle.fluent_syntax_c.proofs.Rows.{NamesTo}
-use Rattle.fluent_syntax_c.proofs.names.text_rows.Given as goal
+use Rattle.fluent_syntax_c.proofs.ValueRows.{ValuesTo}
+use Rattle.fluent_syntax_c.proofs.values.value_rows.Given as goal
 
 abbrev pub invariant-loop-found : goal.invariant-loop-found
 invariant-loop-found l = record {
   text : l.tiles.source.bytes.now ≡ l.text;
   edition : l.tiles.edition ≡ l.fn.edition;
-  places : l.places ≡ l.text;
-  names : NamesTo l.fn.edition l.text l.tiles.ptr l.rows.items;
+  values : ValuesTo l.fn.edition l.text l.tiles.ptr l.rows.items;
 }
 
 abbrev pub decreases-loop-found : goal.decreases-loop-found
