@@ -1,5 +1,5 @@
 pub mod Bytes
-pub mod Checked
+pub mod ErrorsTo
 pub mod Errors
 pub mod FormattedAgain
 pub mod ReadTo

@@ -3,6 +3,7 @@
 
 mod answers;
 mod command;
+mod errors;
 mod from_json;
 pub mod laws;
 mod one_by_one;
@@ -14,6 +15,7 @@ mod writers;
 
 pub use answers::{Formatted, answer, answer_within, formatted_within};
 pub use command::{Command, usage};
+pub use errors::errors_within;
 pub use from_json::{JsonFault, text_of_json, tree_of_json};
 pub use outcome::{Outcome, RunFault};
 pub use runs::{run, run_within};
