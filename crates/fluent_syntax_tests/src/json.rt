@@ -2,8 +2,6 @@
 
 #[cfg(test)]
 mod forms;
-#[cfg(test)]
-mod sinks;
 pub mod values;
 #[cfg(test)]
 mod written;
