@@ -1,9 +1,8 @@
 -- Lists of findings that grow by one mention after another.
-use Rattle.std.proofs.Common.{◌≡◌, ℕ, ◌+◌, ◌<◌, ◌≤◌, Bool, true, List, []}
-use Rattle.std.proofs.Common.{◌∷◌, ◌++◌, length, get_or, drop, refl, sym, ap, ◌∙◌}
-use Rattle.std.proofs.Common.{Option, Some, None}
+use Rattle.std.proofs.Common.{◌≡◌, ℕ, ◌+◌, ◌<◌, ◌≤◌, Bool, true, List, [], ◌∷◌, ◌++◌, length, get_or, drop, refl, sym}
+use Rattle.std.proofs.Common.{ap, ◌∙◌, Option, Some, None}
 use Rattle.std.specs.Prelude.{if◌then◌else◌}
-use Rattle.std.proofs.lemmas.List.{append_assoc, drop_more, drop_all}
+use Rattle.std.proofs.lemmas.List.{drop_more, drop_all}
 use Rattle.fluent_syntax_tree.specs.declared.spans.Span.{Span}
 use Rattle.fluent_syntax_names.specs.Mentions.{Mentions}
 use Rattle.fluent_syntax_names.specs.declared.mention.Mention.{Mention}
@@ -15,18 +14,12 @@ use Rattle.fluent_syntax_names.proofs.Ways.{or_left, or_right, is_own_link}
 use Rattle.fluent_syntax_names.specs.declared.finding.Finding.{Finding}
 use Rattle.fluent_syntax_names.specs.declared.finding.Kind.{Kind}
 use Rattle.fluent_syntax_names.specs.declared.finding.Kind.TheVariants as kind
-use Rattle.fluent_syntax_names.specs.Findings.{Known, put, found, found_in, found_from, after, nothing, twice}
-use Rattle.fluent_syntax_names.specs.Spelled.{Text}
+use Rattle.fluent_syntax_names.specs.Findings.{Known, put, found, found_in, found_from, after, nothing, twice, Set}
+use Rattle.fluent_syntax_names.specs.Findings.{circle, circle_to, undefined, undefined_part, finding_at}
+use Rattle.fluent_syntax_names.specs.Spelled.{Text, message_name, term_name, spelled, spelled_attribute, spelled_value}
 use Rattle.fluent_syntax_names.specs.Circles.{Link, is_link, leads, link_to, links_in, links, pattern_after, referred}
 use Rattle.fluent_syntax_names.specs.Circles.{no_pattern}
-use Rattle.fluent_syntax_names.specs.Findings.{Set, circle, circle_to}
-use Rattle.fluent_syntax_names.specs.Findings.{undefined, undefined_part, finding_at}
-use Rattle.fluent_syntax_names.specs.Spelled.{message_name, term_name}
-use Rattle.fluent_syntax_names.specs.Spelled.{spelled, spelled_attribute, spelled_value}
 use Rattle.fluent_syntax_names.specs.Tables.{Lookup, Holds, AddsFindings}
-
-pub adds_finding : (old new : List Finding) (x : Finding) → new ≡ old ++ x ∷ [] → AddsFindings old new (put (Some x))
-adds_finding old new x e = λ rest. ap (λ l. l ++ rest) e ∙ append_assoc old (x ∷ []) rest
 
 -- ---- What is found depends on what the tables hold alone
 
