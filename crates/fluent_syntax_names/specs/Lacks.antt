@@ -1,5 +1,5 @@
 -- What one file says and another lacks.
-use Rattle.std.specs.Prelude.{◌≡◌, Bool, true, false, not, ◌||◌, List, [], ◌∷◌, ◌++◌, Option, Some, None, if◌then◌else◌}
+use Rattle.std.specs.Prelude.{Bool, true, false, not, ◌||◌, List, [], ◌∷◌, Option, Some, None, if◌then◌else◌}
 use Rattle.std.specs.List.{list_any}
 use Rattle.std.specs.Str.{bytes_eq}
 use Rattle.fluent_syntax_tree.specs.declared.spans.Span.{Span}
@@ -120,7 +120,3 @@ other_of file = record {
 -- what the one says and the other lacks, in the order of the one's text
 abbrev pub all_lacks : (one other : Outline) → List Lack
 all_lacks one other = lacks_in (other_of other) one.text.now nameless one.mentions.items []
-
--- `new` is `old` with what `more` puts before others behind it
-abbrev pub AddsLacks : (old new : List Lack) → (more : List Lack → List Lack) → Type 0
-AddsLacks old new more = (rest : List Lack) → new ++ rest ≡ old ++ more rest

@@ -3,6 +3,7 @@ pub mod Circles
 pub mod Differences
 pub mod Drawings
 pub mod Findings
+pub mod Growing
 pub mod Knowing
 pub mod Lacks
 pub mod Leading

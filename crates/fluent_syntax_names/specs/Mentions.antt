@@ -1,5 +1,5 @@
 -- What entries say of names, in the order of the text. Each function puts the mentions of its node before a tail.
-use Rattle.std.specs.Prelude.{◌≡◌, ℕ, ◌+◌, Bool, true, false, List, [], ◌∷◌, ◌++◌, Option, Some, None, filter, is_some}
+use Rattle.std.specs.Prelude.{ℕ, ◌+◌, Bool, true, false, List, [], ◌∷◌, Option, Some, None, filter, is_some}
 use Rattle.std.specs.List.{filter_map}
 use Rattle.fluent_syntax_tree.specs.Tree.{ExpressionTree, select, inline, InlineTree, string_literal, number_literal}
 use Rattle.fluent_syntax_tree.specs.Tree.{function_reference, message_reference, term_reference, variable_reference}
@@ -136,16 +136,6 @@ module _ {X : Type 0} where
 
   abbrev pub variables : EntryTree X → List X
   variables e = filter_map variable_of (entry_mentions e [])
-
-  -- ---- Lists that grow
-
-  -- `new` is `old` with what `more` puts before a tail behind it
-  abbrev pub Adds : (old new : Mentions X) → (more : Mentions X → Mentions X) → Type 0
-  Adds old new more = (rest : Mentions X) → new ++ rest ≡ old ++ more rest
-
-  -- what `left` puts before a tail is still to come, of what `all` does
-  abbrev pub Leaves : (old now : Mentions X) → (left all : Mentions X → Mentions X) → Type 0
-  Leaves old now left all = (rest : Mentions X) → now ++ left rest ≡ old ++ all rest
 
 -- ---- Mentions further on
 

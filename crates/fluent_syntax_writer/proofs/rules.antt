@@ -7,4 +7,3 @@ pub mod Nodes
 pub mod Stands
 pub mod Steps
 pub mod Strings
-pub mod Together

@@ -1,6 +1,6 @@
 -- The edges of the last pending node are looked at, one after another.
-use Rattle.std.proofs.Common.{◌≡◌, ℕ, ◌+◌, ◌-◌, ◌<◌, ◌≤◌, ◌⊎◌, inl, inr, List, [], length, set, take}
-use Rattle.std.proofs.Common.{refl, sym, ap, ◌∙◌, arith, subst}
+use Rattle.std.proofs.Common.{◌≡◌, ℕ, ◌+◌, ◌-◌, ◌<◌, ◌≤◌, ◌⊎◌, inl, inr, List, [], length, set, take, refl, sym, ap}
+use Rattle.std.proofs.Common.{◌∙◌, arith, subst}
 use Rattle.std.proofs.lemmas.Bool.{cases_lt}
 use Rattle.std.proofs.lemmas.List.{length-take-le, get_or-take, length-set}
 use Rattle.fluent_syntax_names.specs.Graph.{Graph, Leads, Reaches, edges, target}
@@ -108,9 +108,6 @@ module _ (g : Graph) (states : List State) (stack starts : List ℕ) (pending : 
     now_at : (q : ℕ) → ((q ≡ last) × (pending_at now_pending q ≡ next))
         ⊎ ((q ≡ last → ⊥) × (pending_at now_pending q ≡ pending_at pending q))
     now_at q = written pending last next none last_in q
-
-    now_last : pending_at now_pending last ≡ next
-    now_last = elim (now_at last) [ inl w ↦ w.1 | inr w ↦ absurd (w.0 refl) ]
 
     same_places : (q : ℕ) → (pending_at now_pending q).place ≡ (pending_at pending q).place
     same_places q = elim (now_at q) [

@@ -1,15 +1,13 @@
 -- What is read of a search and of its graph.
-use Rattle.std.proofs.Common.{◌≡◌, ℕ, ◌-◌, ◌<◌, ◌≤◌, inl, inr, List, [], Vec, length, get_or}
-use Rattle.std.proofs.Common.{sym, ap, ◌∙◌, arith, subst}
+use Rattle.std.proofs.Common.{◌≡◌, ℕ, ◌-◌, ◌<◌, inl, inr, List, [], Vec, length, get_or, sym, ap, ◌∙◌, arith, subst}
 use Rattle.std.specs.declared.alloc.Global.{Global}
 use Rattle.std.proofs.lemmas.Bool.{cases_lt}
 use Rattle.std.proofs.lemmas.List.{get_or_past, get_or-map, length-map}
 use Rattle.fluent_syntax_names.specs.Graph.{Graph, Leads, Reaches, edges, target, targets_of}
-use Rattle.fluent_syntax_names.specs.Search.{Sound, State_of, at, pending_at, IsBehind, last_of}
+use Rattle.fluent_syntax_names.specs.Search.{Sound, State_of, at, pending_at, IsBehind}
 use Rattle.fluent_syntax_names.specs.declared.graph.search.Pending.{Pending}
 use Rattle.fluent_syntax_names.specs.declared.graph.search.State.{State}
 use Rattle.fluent_syntax_names.specs.declared.graph.search.State.TheVariants as state
-use Rattle.fluent_syntax_names.proofs.graphs.Lists.{never_down}
 use Rattle.fluent_syntax_names.proofs.graphs.Reaching.{reaches_next}
 
 -- a node that is not new is one of the graph
@@ -32,18 +30,6 @@ module _ (g : Graph) (states : List State) (stack starts : List ℕ) (pending : 
       → p.place < length stack
   place_within p some is =
       omega (arith, ap (λ (x : Pending). x.place) is, sound.pending_within (length pending - 1) (omega arith))
-
-  pub last_is_behind : (p : ℕ) → last_of starts ≤ p → IsBehind starts p
-  last_is_behind p le = λ k h.
-      let below : k ≤ length starts - 1 = omega arith in
-      omega (arith, never_down starts sound.ascending k (length starts - 1) below (omega arith))
-
-  -- the last start is that of an open node
-  pub last_within : 0 < length stack → last_of starts < length stack
-  last_within some = elim (cases_lt 0 (length starts)) [
-    | inl w ↦ sound.within (length starts - 1) (omega (arith, w))
-    | inr w ↦ omega (arith, get_or_past starts (length starts - 1) 0 (omega (arith, w)))
-  ]
 
   -- all open nodes reach what an edge of the last segment leads to
   pub all_reach : (p v : ℕ) → p < length stack → IsBehind starts p → Leads g (at stack p) v

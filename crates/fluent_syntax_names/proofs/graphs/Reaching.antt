@@ -1,6 +1,6 @@
 -- What reaches what, and the numbers of components.
-use Rattle.std.proofs.Common.{ℕ, ◌<◌, length, refl}
-use Rattle.fluent_syntax_names.specs.Graph.{Graph, Leads, Reaches, here, onward, edges, target}
+use Rattle.std.proofs.Common.{ℕ}
+use Rattle.fluent_syntax_names.specs.Graph.{Graph, Leads, Reaches, here, onward}
 
 module _ (g : Graph) where
   pub reaches_on : (u v w : ℕ) → Reaches g u v → Reaches g v w → Reaches g u w
@@ -9,7 +9,3 @@ module _ (g : Graph) where
 
   pub reaches_next : (u v w : ℕ) → Reaches g u v → Leads g v w → Reaches g u w
   reaches_next u v w first leads = reaches_on u v w first (onward v w w leads (here w))
-
-  -- by an edge of the node
-  pub leads_by : (u k : ℕ) → k < length (edges g u) → Leads g u (target g u k)
-  leads_by u k within = (k, within, refl)

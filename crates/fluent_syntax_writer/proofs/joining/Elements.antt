@@ -1,12 +1,10 @@
 -- The elements of a joined pattern, made one by one.
 use Rattle.std.proofs.Common.{◌≡◌, ℕ, ◌+◌, ◌<◌, ◌≤◌, List, [], ◌∷◌, ◌++◌, length, get_or, drop, map, true, false}
-use Rattle.std.proofs.Common.{Option, Some, None}
-use Rattle.std.proofs.Common.{Vec, Global, option_map, refl, sym, ap, ◌∙◌, if◌then◌else◌}
+use Rattle.std.proofs.Common.{Option, Some, None, refl, sym, ap, ◌∙◌, if◌then◌else◌}
 use Rattle.std.proofs.lemmas.List.{drop_all, drop_more, map-append}
 use Rattle.std.specs.Option.{option_to_list}
 use Rattle.fluent_syntax_tree.specs.Tree.{ElementTree, text_element, placeable, ExpressionTree, PatternTree}
-use Rattle.fluent_syntax_tree.specs.Tree.{no_elements}
-use Rattle.fluent_syntax_tree.specs.Tree.{elements, elements_of}
+use Rattle.fluent_syntax_tree.specs.Tree.{no_elements, elements, elements_of}
 use Rattle.fluent_syntax_tree.specs.View.{element_view, expression_view}
 use Rattle.fluent_syntax_tree.specs.declared.ast.Expression.{Expression}
 use Rattle.fluent_syntax_tree.specs.declared.ast.PatternElement as elem
@@ -106,11 +104,3 @@ module _ {S : Type 0} (f : S → Text) where
       ap (map (element_view f)) is ∙ map-append (element_view f) old (elem.Placeable made ∷ [])
       ∙ ap (λ l. l ++ element_view f (elem.Placeable made) ∷ []) before
       ∙ ap (λ x. done ++ x ∷ []) (view-Placeable f made ∙ ap placeable same)
-
-  -- what the elements and the last text give, by other names for them
-  pub given : (es fs : Vec (PatternElement S) Global) (o p : Option S) (rest : PatternTree Text) → es ≡ fs → o ≡ p →
-      before_pattern (map (element_view f) fs.items) (joined_from (option_map f p) rest)
-      ≡ before_pattern (map (element_view f) es.items) (joined_from (option_map f o) rest)
-  given es fs o p rest same last =
-      ap (λ x. before_pattern (map (element_view f) x.items) (joined_from (option_map f p) rest)) (sym same)
-      ∙ ap (λ x. before_pattern (map (element_view f) es.items) (joined_from (option_map f x) rest)) (sym last)

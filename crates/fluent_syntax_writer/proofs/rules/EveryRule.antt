@@ -29,7 +29,7 @@ use Rattle.fluent_syntax_writer.specs.Alone.{first_is_nonblank, first_is_tight, 
 use Rattle.fluent_syntax_writer.specs.declared.canonical.rules.Rule.{Rule}
 use Rattle.fluent_syntax_writer.proofs.rules.Named.{nameds_whole}
 use Rattle.fluent_syntax_writer.proofs.rules.Stands.{and_assoc}
-use Rattle.fluent_syntax_writer.proofs.rules.Together.{ArePartsOf, both_pass, entry_meets}
+use Rattle.fluent_syntax_grammar.proofs.RulesTogether.{ArePartsOf, both_pass, entry_meets}
 
 and_true : (x : Bool) → x ≡ (x && true)
 and_true true = refl

@@ -2,9 +2,7 @@
 ghost use Rattle.std.specs.Prelude.{◌≡◌};
 ghost use Rattle.fluent_syntax_tree.specs.View.{message_view, comment_view, pattern_view, expression_view};
 ghost use Rattle.fluent_syntax_tree.specs.View.{arguments_view};
-ghost use Rattle.fluent_syntax_writer.specs.Standards.{junk_rule, message_rule, comment_rule, pattern_rule};
-ghost use Rattle.fluent_syntax_writer.specs.Standards.{expression_rule, callee_rule, arguments_rule, string_rule};
-ghost use Rattle.fluent_syntax_writer.specs.Standards.{number_rule, name_rule};
+ghost use Rattle.fluent_syntax_writer.specs.Standards.{rules_of};
 
 use crate::canonical::alone::patterns::pattern_keeps;
 use crate::canonical::alone::*;
@@ -32,7 +30,7 @@ pub enum Standard {
 
 /// Whether there may be junk.
 pub fn allows_junk(standard: Standard) -> bool
-    ensures { result ≡ junk_rule standard }
+    ensures { result ≡ (rules_of standard).junk }
 {
     match standard {
         Standard::Readable(_) | Standard::Canonical(_) => false,
@@ -41,7 +39,7 @@ pub fn allows_junk(standard: Standard) -> bool
 }
 
 pub fn is_message_by<X, T: ReadTexts<X>>(standard: Standard, message: &Message<X>) -> bool
-    ensures { result ≡ message_rule standard (message_view T.text message.now) }
+    ensures { result ≡ (rules_of standard).message (message_view T.text message.now) }
 {
     match standard {
         Standard::Readable(_) | Standard::Canonical(_) => is_message::<X, T>(message),
@@ -50,7 +48,7 @@ pub fn is_message_by<X, T: ReadTexts<X>>(standard: Standard, message: &Message<X
 }
 
 pub fn is_comment_by<X, T: ReadTexts<X>>(standard: Standard, comment: &Comment<X>) -> bool
-    ensures { result ≡ comment_rule standard (comment_view T.text comment.now) }
+    ensures { result ≡ (rules_of standard).comment (comment_view T.text comment.now) }
 {
     match standard {
         Standard::Readable(_) => are_lines::<X, T>(&comment.content),
@@ -62,7 +60,7 @@ pub fn is_comment_by<X, T: ReadTexts<X>>(standard: Standard, comment: &Comment<X
 }
 
 pub fn is_pattern_by<X, T: ReadTexts<X>>(standard: Standard, pattern: &Pattern<X>) -> bool
-    ensures { result ≡ pattern_rule standard (pattern_view T.text pattern.now) }
+    ensures { result ≡ (rules_of standard).pattern (pattern_view T.text pattern.now) }
 {
     match standard {
         Standard::Readable(edition) => is_pattern::<X, T>(edition, pattern),
@@ -74,7 +72,7 @@ pub fn is_pattern_by<X, T: ReadTexts<X>>(standard: Standard, pattern: &Pattern<X
 }
 
 pub fn is_expression_by<X, T: ReadTexts<X>>(standard: Standard, expression: &Expression<X>) -> bool
-    ensures { result ≡ expression_rule standard (expression_view T.text expression.now) }
+    ensures { result ≡ (rules_of standard).expression (expression_view T.text expression.now) }
 {
     match standard {
         Standard::Readable(_) => is_expression::<X, T>(expression),
@@ -87,7 +85,7 @@ pub fn is_expression_by<X, T: ReadTexts<X>>(standard: Standard, expression: &Exp
 
 /// Of the name of a function.
 pub fn is_callee_by(standard: Standard, text: &str) -> bool
-    ensures { result ≡ callee_rule standard text.now }
+    ensures { result ≡ (rules_of standard).callee text.now }
 {
     match standard {
         Standard::Readable(_) | Standard::Canonical(_) => is_callee(text),
@@ -96,7 +94,7 @@ pub fn is_callee_by(standard: Standard, text: &str) -> bool
 }
 
 pub fn are_arguments_by<X, T: ReadTexts<X>>(asked: Asked, arguments: &CallArguments<X>) -> bool
-    ensures { result ≡ arguments_rule asked.standard (arguments_view T.text arguments.now) }
+    ensures { result ≡ (rules_of asked.standard).arguments (arguments_view T.text arguments.now) }
 {
     let Asked { standard, alloc } = asked;
     match standard {
@@ -106,7 +104,7 @@ pub fn are_arguments_by<X, T: ReadTexts<X>>(asked: Asked, arguments: &CallArgume
 }
 
 pub fn is_string_by(standard: Standard, text: &str) -> bool
-    ensures { result ≡ string_rule standard text.now }
+    ensures { result ≡ (rules_of standard).string text.now }
 {
     match standard {
         Standard::Readable(_) | Standard::Canonical(_) => is_string(text),
@@ -115,7 +113,7 @@ pub fn is_string_by(standard: Standard, text: &str) -> bool
 }
 
 pub fn is_number_by(standard: Standard, text: &str) -> bool
-    ensures { result ≡ number_rule standard text.now }
+    ensures { result ≡ (rules_of standard).number text.now }
 {
     match standard {
         Standard::Readable(_) | Standard::Canonical(_) => is_number(text),
@@ -124,7 +122,7 @@ pub fn is_number_by(standard: Standard, text: &str) -> bool
 }
 
 pub fn is_name_by(standard: Standard, text: &str) -> bool
-    ensures { result ≡ name_rule standard text.now }
+    ensures { result ≡ (rules_of standard).name text.now }
 {
     match standard {
         Standard::Readable(_) | Standard::Canonical(_) => is_name(text),

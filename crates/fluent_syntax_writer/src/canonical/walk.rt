@@ -10,7 +10,7 @@ ghost use Rattle.fluent_syntax_grammar.specs.Rules.{maybe_obeys, arguments_obey,
 ghost use Rattle.fluent_syntax_grammar.specs.Rules.{named_obeys, pattern_obeys, elements_obey, element_obeys};
 ghost use Rattle.fluent_syntax_grammar.specs.Rules.{variants_obey, variant_obeys, attribute_obeys, message_obeys};
 ghost use Rattle.fluent_syntax_grammar.specs.Rules.{term_obeys, entry_obeys, body_obeys};
-ghost use Rattle.fluent_syntax_writer.specs.Standards.{comment_rule, callee_rule, name_rule, rules_of, parts_obey};
+ghost use Rattle.fluent_syntax_writer.specs.Standards.{rules_of, parts_obey};
 
 use crate::canonical::asked::Asked;
 use crate::canonical::standard::*;
@@ -61,7 +61,7 @@ fn term_obeys<X, T: ReadTexts<X>>(asked: Asked, term: &Term<X>) -> bool
 }
 
 fn comment_obeys<X, T: ReadTexts<X>>(standard: Standard, comment: &Option<Comment<X>>) -> bool
-    ensures { result ≡ option_obeys (comment_rule standard) (option_map (comment_view T.text) comment.now) }
+    ensures { result ≡ option_obeys (rules_of standard).comment (option_map (comment_view T.text) comment.now) }
 {
     match comment {
         Some(comment) => is_comment_by::<X, T>(standard, comment),
@@ -209,7 +209,7 @@ fn inline_obeys<X, T: ReadTexts<X>>(asked: Asked, inline: &InlineExpression<X>) 
 }
 
 fn is_function_name(standard: Standard, name: &str) -> bool
-    ensures { result ≡ (name_rule standard name.now && callee_rule standard name.now) }
+    ensures { result ≡ ((rules_of standard).name name.now && (rules_of standard).callee name.now) }
 {
     is_name_by(standard, name) && is_callee_by(standard, name)
 }
@@ -220,8 +220,8 @@ fn reference_obeys<X, T: ReadTexts<X>>(
     id: &Identifier<X>,
     attribute: &Option<Identifier<X>>,
 ) -> bool
-    ensures { result ≡ (name_rule standard (T.text id.now.name)
-        && option_obeys (name_rule standard) (option_map (identifier_view T.text) attribute.now)) }
+    ensures { result ≡ ((rules_of standard).name (T.text id.now.name)
+        && option_obeys (rules_of standard).name (option_map (identifier_view T.text) attribute.now)) }
 {
     is_name_by(standard, T::as_str(&id.name)) && attribute_name_obeys::<X, T>(standard, attribute)
 }
@@ -230,7 +230,7 @@ fn attribute_name_obeys<X, T: ReadTexts<X>>(
     standard: Standard,
     attribute: &Option<Identifier<X>>,
 ) -> bool
-    ensures { result ≡ option_obeys (name_rule standard) (option_map (identifier_view T.text) attribute.now) }
+    ensures { result ≡ option_obeys (rules_of standard).name (option_map (identifier_view T.text) attribute.now) }
 {
     match attribute {
         Some(id) => is_name_by(standard, T::as_str(&id.name)),

@@ -9,11 +9,12 @@ use Rattle.fluent_syntax_tree.specs.Tree.{no_inlines, inlines, NamedTree, NamedT
 use Rattle.fluent_syntax_tree.specs.Tree.{ElementTree, text_element, placeable, PatternTree, no_elements, elements}
 use Rattle.fluent_syntax_tree.specs.Tree.{VariantTree, VariantTrees, no_variants, variants, variant}
 use Rattle.fluent_syntax_tree.specs.Entry.{EntryTree, message, term, comment, junk, AttributeTree, MessageTree}
+use Rattle.fluent_syntax_tree.specs.Entry.{BodyTree}
 use Rattle.fluent_syntax_grammar.specs.Written.{Text}
 use Rattle.fluent_syntax_grammar.specs.Rules.{Rules, key_obeys, expression_obeys, inline_obeys, maybe_obeys}
 use Rattle.fluent_syntax_grammar.specs.Rules.{arguments_obey, inlines_obey, nameds_obey, named_obeys, pattern_obeys}
 use Rattle.fluent_syntax_grammar.specs.Rules.{elements_obey, element_obeys, variants_obey, variant_obeys}
-use Rattle.fluent_syntax_grammar.specs.Rules.{option_obeys, attribute_obeys, entry_obeys}
+use Rattle.fluent_syntax_grammar.specs.Rules.{option_obeys, attribute_obeys, entry_obeys, body_obeys}
 
 swap : (a b c d : Bool) → ((a && b) && (c && d)) ≡ ((a && c) && (b && d))
 swap true true c d = refl
@@ -157,3 +158,6 @@ module _ {K : Type 0} (ks : List K) (parts : K → Rules) (whole : Rules) where
         (meet _ _ (are.name_parts m.id) (meet _ _ (pattern_meets m.value) (attributes_meet m.attributes)))
     entry_meets (comment level content) = are.comment_parts content
     entry_meets (junk content) = are.junk_parts
+
+    pub body_meets : (es : BodyTree Text) → body_obeys whole es ≡ list_all (λ k. body_obeys (parts k) es) ks
+    body_meets es = list_parts (entry_obeys whole) (λ k. entry_obeys (parts k)) entry_meets es
