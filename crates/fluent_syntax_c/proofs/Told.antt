@@ -6,7 +6,7 @@ use Rattle.fluent_syntax_tree.specs.Kind.{ExpectedCharRange, Kind, kind_of}
 use Rattle.fluent_syntax_tree.specs.declared.errors.ParserError.{ParserError}
 use Rattle.fluent_syntax_grammar.specs.Tiling.{Fault}
 use Rattle.fluent_syntax_parser.specs.Faults.{fault_of}
-use Rattle.ftl.proofs.Errors.{made_of_faults}
+use Rattle.ftl.proofs.FaultLines.{made_of_faults}
 use Rattle.ftl.specs.Answer.{told}
 use Rattle.fluent_syntax_c.specs.Messages.{kind_message, shown}
 

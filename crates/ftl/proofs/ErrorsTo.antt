@@ -1,6 +1,8 @@
 -- Errors that are gathered entry by entry.
-use Rattle.std.proofs.Common.{◌≡◌, ℕ, List, [], ◌∷◌, ◌++◌, map, Option, Some, None, sym, ◌∙◌}
+use Rattle.std.proofs.Common.{ℕ, List, [], ◌∷◌, ◌++◌, map, Option, Some, None, sym, ◌∙◌}
 use Rattle.std.proofs.lemmas.List.{append-nil, append_assoc, map-append}
+use Rattle.std.proofs.lemmas.List.Elements.{All-push}
+use Rattle.std.specs.Prelude.{All, IfSome}
 use Rattle.fluent_syntax_tree.specs.Entry.{BodyTree, EntryTree}
 use Rattle.fluent_syntax_tree.specs.declared.edition.Edition.{Edition}
 use Rattle.fluent_syntax_tree.specs.declared.errors.ParserError.{ParserError}
@@ -45,3 +47,9 @@ module _ (edition : Edition) (t : List ℕ) where
     )
         (so_far.rest _ _ (next entries others rest));
   }
+
+-- what holds of all errors and of the next one, if there is one, holds of all with it
+pub all_with_error : (P : ParserError → Type 0) (errors : List ParserError) (error : Option ParserError) →
+    All P errors → IfSome error P → All P (with_error errors error)
+all_with_error P errors None all next = all
+all_with_error P errors (Some error) all next = All-push P errors error all next

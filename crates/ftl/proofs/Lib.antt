@@ -1,6 +1,6 @@
 pub mod Bytes
 pub mod ErrorsTo
-pub mod Errors
+pub mod FaultLines
 pub mod FormattedAgain
 pub mod ReadTo
 pub mod Came

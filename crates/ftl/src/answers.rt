@@ -1,6 +1,7 @@
 //! The text that a command writes.
 ghost use Rattle.std.specs.Prelude.{◌≡◌, ◌≢◌, ◌↔◌, ◌+◌, ◌++◌, ◌^◌, ◌<◌, ◌≤◌, List, length, string_bytes, Err};
-ghost use Rattle.std.specs.Prelude.{Ok, IfErr, IfOk, IfSome, OnErr, OnOk, false, true};
+ghost use Rattle.std.specs.Prelude.{Ok, IfErr, IfOk, OnErr, OnOk, All, map, true};
+ghost use Rattle.std.specs.List.{flat_map};
 ghost use Rattle.std.specs.Str.{IsUtf8};
 ghost use Rattle.fluent_syntax_tree.specs.Entry.{body_map};
 ghost use Rattle.fluent_syntax_tree.specs.Spans.{bytes_at};
@@ -12,8 +13,8 @@ ghost use Rattle.fluent_syntax_grammar.specs.Canonical.{is_canonical};
 ghost use Rattle.fluent_syntax_parser.specs.Halts.{HaltsWithin, OnHalt};
 ghost use Rattle.fluent_syntax_parser.specs.Rest.{TileIn};
 ghost use Rattle.fluent_syntax_parser.specs.declared.fault.ParseFault.TheVariants.{Memory};
-ghost use Rattle.ftl.specs.Answer.{IsAnswer, ReadsDeeper, error_lines, error_text, line_of_error, range_text};
-ghost use Rattle.ftl.specs.Answer.{json_text, normal_text, outcome_of, told};
+ghost use Rattle.ftl.specs.Answer.{IsAnswer, ReadsDeeper, error_line, error_lines, error_text, json_text};
+ghost use Rattle.ftl.specs.Answer.{normal_text, outcome_of, outcome_with, range_text, told};
 
 use crate::command::Command;
 use crate::errors::errors_within;

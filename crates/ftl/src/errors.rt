@@ -44,8 +44,8 @@ fn push_if_error(
 ) -> Result<(), AllocError>
     ensures { OnOk result (errors.new.items ≡ with_error errors.old.items error) }
 {
-    match error {
-        Some(error) => errors.push(error),
-        None => Ok(()),
+    if let Some(error) = error {
+        errors.push(error)?;
     }
+    Ok(())
 }

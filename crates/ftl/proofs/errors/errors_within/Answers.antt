@@ -1,9 +1,12 @@
-use Rattle.std.proofs.Common.{ap, ◌∙◌, subst, sym}
+use Rattle.std.proofs.Common.{◌≤◌, length, ap, ◌∙◌, subst, sym}
+use Rattle.std.proofs.lemmas.List.Elements.{All-nil}
 use Rattle.std.proofs.lemmas.Result.{err_from_is_err_and}
+use Rattle.std.specs.Prelude.{All}
+use Rattle.fluent_syntax_tree.specs.declared.errors.ParserError.{ParserError}
 use Rattle.fluent_syntax_parser.specs.Rest.{faults_of}
 use Rattle.fluent_syntax_parser.specs.declared.options.Comments.TheVariants.{Kept}
 use Rattle.fluent_syntax_parser.proofs.tilings.Rests.{entry_to}
-use Rattle.ftl.proofs.ErrorsTo.{ErrorsTo, all_errors, errors_on, no_errors}
+use Rattle.ftl.proofs.ErrorsTo.{ErrorsTo, all_errors, all_with_error, errors_on, no_errors}
 use Rattle.ftl.proofs.errors.errors_within.Goals as goal
 
 pub loop-errors-init : goal.loop-errors-init
@@ -13,6 +16,7 @@ loop-errors-init c = record {
   comments = ap (λ options. options.comments) c.new-entries.ensures.options;
   nesting = ap (λ options. options.nesting) c.new-entries.ensures.options;
   errors = rw (c.new-entries.ensures.start, c.new-errors.ensures.items) (no_errors c.args.edition c.args.text.now);
+  places = rw c.new-errors.ensures.items (All-nil (λ (e : ParserError). e.pos.start ≤ length c.args.text.now));
   deeper = rw c.new-entries.ensures.start (λ d. d, λ d. d);
 }
 
@@ -32,6 +36,10 @@ loop-errors-preserved c =
       errors =
           subst (ErrorsTo c.args.edition t _) (sym c.in_ok-push_if_error.ensures)
           (errors_on c.args.edition t _ _ _ next.0 error inv.errors there);
+      places =
+          let is_inside : ParserError → Type 0 = λ e. e.pos.start ≤ length t in
+          subst (All is_inside) (sym c.in_ok-push_if_error.ensures)
+          (all_with_error is_inside _ error inv.places (rw (inv.text, c.in-Some.is) at here.places));
       deeper =
           let shallow = rw (inv.text, inv.edition, inv.comments, inv.nesting, c.in-Some.is) at here.shallow in
           (λ d. inv.deeper.0 (shallow.1 d), λ d. shallow.0 (inv.deeper.1 d));

@@ -1,7 +1,7 @@
 use Rattle.std.proofs.Common.{◌≡◌, ◌∙◌, IfOk, map, ap, sym, subst, inl}
 use Rattle.std.proofs.lemmas.Result.{IfOk-weaker}
 use Rattle.fluent_syntax_grammar.specs.Body.{faults}
-use Rattle.ftl.proofs.Errors.{made_of_faults}
+use Rattle.ftl.proofs.FaultLines.{made_of_faults}
 use Rattle.fluent_syntax_lsp.specs.Diagnostics.{DiagnosesDocument, diagnostic_of, fault_shown, shown}
 use Rattle.fluent_syntax_lsp.specs.Documents.{document_text}
 use Rattle.fluent_syntax_lsp.proofs.documents.Document.diagnostics.Goals as goal

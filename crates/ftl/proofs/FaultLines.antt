@@ -1,15 +1,13 @@
 -- Lists of errors, and the lines that they become.
 use Rattle.std.proofs.Common.{◌≡◌, ◌≢◌, ◌∷◌, [], ℕ, List, map, Option, Some}
 use Rattle.std.proofs.Common.{None, ap, ◌∙◌, refl, sym, option_map, unwrap_or}
-use Rattle.std.proofs.lemmas.List.Folds.{flat_map-map}
 use Rattle.std.proofs.lemmas.Simd.{map-map}
-use Rattle.std.specs.List.{flat_map}
 use Rattle.fluent_syntax_tree.specs.declared.errors.ParserError.{ParserError}
 use Rattle.fluent_syntax_tree.specs.Kind.{Kind, kind_of}
 use Rattle.fluent_syntax_grammar.specs.Tiling.{Fault}
 use Rattle.fluent_syntax_parser.specs.Faults.{fault_of}
 use Rattle.ftl.specs.declared.outcome.Outcome.TheVariants.{SyntaxErrors}
-use Rattle.ftl.specs.Answer.{error_line, outcome_with, told}
+use Rattle.ftl.specs.Answer.{outcome_with, told}
 
 -- ---- errors that tell of faults
 
@@ -32,7 +30,7 @@ told_is : (e : ParserError) (f : Fault) → fault_of e ≡ Some f → told e ≡
 told_is e f h = told_by (kind_of e.kind) e.pos e.slice (λ r. r.start) (λ r. r.end) f h
 
 -- errors tell of just the faults that they tell of
-told_faults : (errors : List ParserError) (fs : List Fault) → map fault_of errors ≡ map Some fs → map told errors ≡ fs
+pub told_faults : (errors : List ParserError) (fs : List Fault) → map fault_of errors ≡ map Some fs → map told errors ≡ fs
 told_faults [] [] h = refl
 told_faults [] (f ∷ fs) h = absurd cc
 told_faults (e ∷ errors) [] h = absurd cc
@@ -47,12 +45,6 @@ told_faults (e ∷ errors) (f ∷ fs) h =
 pub made_of_faults : {X : Type 0} (made : Fault → X) (errors : List ParserError) (fs : List Fault) →
     map fault_of errors ≡ map Some fs → map (λ e. made (told e)) errors ≡ map made fs
 made_of_faults made errors fs h = sym (map-map made told errors) ∙ ap (map made) (told_faults errors fs h)
-
--- errors that tell of faults give their lines
-pub lines_of_faults : (t : List ℕ) (errors : List ParserError) (fs : List Fault) → map fault_of errors ≡ map Some fs →
-    flat_map (λ e. error_line t (told e)) errors ≡ flat_map (error_line t) fs
-lines_of_faults t errors fs h =
-    sym (flat_map-map (error_line t) told errors) ∙ ap (flat_map (error_line t)) (told_faults errors fs h)
 
 -- where there are faults, the outcome tells of them
 pub outcome_of_faults : (fs : List Fault) → fs ≢ [] → SyntaxErrors ≡ outcome_with fs
