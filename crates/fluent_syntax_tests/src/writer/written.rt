@@ -106,7 +106,7 @@ fn trees_of_texts(rt: HostRuntime) -> Result<(), Fail> {
 
 /// Junk, a comment without lines, and a message.
 fn entries_behind(alloc: Global, content: Text) -> Made<Resource<Text>> {
-    let mut body = Vec::new(alloc);
+    let mut body: Vec<Entry<Text>> = Vec::new(alloc);
     body.push(Entry::Junk { content })?;
     body.push(Entry::Comment(comment(alloc, &[])?))?;
     body.push(message_with_value(alloc, "k", &["v"])?)?;
