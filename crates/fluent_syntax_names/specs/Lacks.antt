@@ -22,14 +22,10 @@ use Rattle.fluent_syntax_names.specs.Spelled.{name_at, spelled_reference, variab
 
 -- what the mention uses in the entry, as it is spelled, before others: `name>message`, `name>-term`, `name$variable`
 abbrev pub uses : Text → EntryName → Mention Span → List Text → List Text
-uses text owner (says.Message x v) tail = tail
-uses text owner (says.Term x) tail = tail
-uses text owner (says.Attribute x) tail = tail
-uses text owner (says.Junk x) tail = tail
 uses text owner (says.MessageReference x a) tail = spelled_reference text owner (message_name x) ∷ tail
 uses text owner (says.TermReference x a) tail = spelled_reference text owner (term_name x) ∷ tail
 uses text owner (says.Variable x) tail = spelled_variable text owner x ∷ tail
-uses text owner (says.Function x) tail = tail
+uses text owner _ tail = tail
 
 abbrev pub used_in : Text → EntryName → Mentions Span → List Text → List Text
 used_in text owner ms tail = gathered (uses text) owner ms tail
@@ -99,11 +95,10 @@ abbrev pub lack_at : Other → Text → EntryName → Mention Span → Option La
 lack_at other text owner (says.Message x v) = lacked_entry other text (message_name x) v
 lack_at other text owner (says.Term x) = lacked_entry other text (term_name x) false
 lack_at other text owner (says.Attribute x) = lacked_attribute other text owner x
-lack_at other text owner (says.Junk x) = None
 lack_at other text owner (says.MessageReference x a) = lacked_reference other text owner (message_name x)
 lack_at other text owner (says.TermReference x a) = lacked_reference other text owner (term_name x)
 lack_at other text owner (says.Variable x) = lacked_variable other text owner x
-lack_at other text owner (says.Function x) = None
+lack_at other text owner _ = None
 
 abbrev pub lacks_in : Other → Text → EntryName → Mentions Span → List Lack → List Lack
 lacks_in other text owner [] tail = tail

@@ -100,31 +100,17 @@ module _ {X : Type 0} where
   is_definition (says.Message x v) = true
   is_definition (says.Term x) = true
   is_definition (says.Attribute x) = true
-  is_definition (says.Junk x) = false
-  is_definition (says.MessageReference x a) = false
-  is_definition (says.TermReference x a) = false
-  is_definition (says.Variable x) = false
-  is_definition (says.Function x) = false
+  is_definition _ = false
 
   abbrev pub is_reference : Mention X → Bool
-  is_reference (says.Message x v) = false
-  is_reference (says.Term x) = false
-  is_reference (says.Attribute x) = false
-  is_reference (says.Junk x) = false
   is_reference (says.MessageReference x a) = true
   is_reference (says.TermReference x a) = true
-  is_reference (says.Variable x) = false
   is_reference (says.Function x) = true
+  is_reference _ = false
 
   abbrev pub variable_of : Mention X → Option X
-  variable_of (says.Message x v) = None
-  variable_of (says.Term x) = None
-  variable_of (says.Attribute x) = None
-  variable_of (says.Junk x) = None
-  variable_of (says.MessageReference x a) = None
-  variable_of (says.TermReference x a) = None
   variable_of (says.Variable x) = Some x
-  variable_of (says.Function x) = None
+  variable_of _ = None
 
   -- ---- Of an entry
 
