@@ -1,6 +1,6 @@
 //! Entries by their names.
 
-use crate::trees::tree_and_errors;
+use crate::asked::tree_of;
 use fluent_syntax_edits::{EntryName, number_of};
 use fluent_syntax_tests::alike::assert_holds;
 use std::test::Fail;
@@ -20,7 +20,7 @@ const ROWS: [(EntryName, Option<usize>); 6] = [
 #[test]
 fn numbers(rt: HostRuntime) -> Result<(), Fail> {
     let alloc = rt.alloc();
-    let (tree, _) = tree_and_errors(alloc, TEXT)?;
+    let tree = tree_of(alloc, TEXT)?;
     for (name, number) in ROWS {
         let shown = format!(in alloc; "{name:?}")?;
         assert_holds(alloc, shown.as_str(), number_of(&tree, name) == number)?;
