@@ -1,2 +1,5 @@
+pub mod Answered
+pub mod Compared
 pub mod Numbered
 pub mod OneEntry
+pub mod PlacesRead

@@ -20,12 +20,11 @@ use Rattle.fluent_syntax_edits.specs.declared.fault.EditFault.TheVariants.{Memor
 -- ---- what is read
 
 -- The text is read as the tree, and with these errors.
-pub record ReadAs (edition : Edition) (t : List ℕ) (tree : Resource (String Global)) (errors : List ParserError) :
-    Type 0 where
+pub record ReadAs (edition : Edition) (t : List ℕ) (r : Resource (String Global)) (es : List ParserError) : Type 0 where
   pub tiles : List Tile
   pub tiling : Tiling edition t tiles
-  pub tree : resource_view (λ s. string_bytes s) tree ≡ tree_of t tiles
-  pub errors : map fault_of errors ≡ map Some (faults tiles)
+  pub tree : resource_view (λ s. string_bytes s) r ≡ tree_of t tiles
+  pub errors : map fault_of es ≡ map Some (faults tiles)
 
 module _ (edition : Edition) (t : List ℕ) (n : ℕ) (change : Change) where
   -- ---- the new text

@@ -27,11 +27,15 @@ kind_of (comment group content) = OtherComment
 kind_of (comment resource content) = OtherComment
 kind_of (junk content) = Junk
 
+-- where an entry stands by itself
+abbrev pub place_found : Span → EntryTree Span → Place
+place_found s e = record { start = s.start; span = s; kind = kind_of e }
+
 -- where a tile stands; one that was dropped has no place
 abbrev pub place_of : Tile → Place
-place_of (entry s e) = record { start = s.start; span = s; kind = kind_of e }
-place_of (refused f) = record { start = f.slice.start; span = f.slice; kind = Junk }
-place_of dropped = record { start = 0; span = record { start = 0; end = 0 }; kind = Junk }
+place_of (entry s e) = place_found s e
+place_of (refused f) = place_found f.slice (junk f.slice)
+place_of dropped = let nowhere : Span = record { start = 0; end = 0 } in place_found nowhere (junk nowhere)
 
 abbrev pub is_junk : PlaceKind → Bool
 is_junk Junk = true

@@ -50,11 +50,7 @@ fn probe_name(alloc: Global) -> Result<Identifier<String>, AllocError>
 }
 
 /// A message whose only part is the slot, with that pattern: an attribute is its first one.
-fn probe_of(
-    alloc: Global,
-    slot: Slot,
-    value: &Pattern<String>,
-) -> Result<Entry<String>, AllocError>
+fn probe_of(alloc: Global, slot: Slot, value: &Pattern<String>) -> Result<Entry<String>, AllocError>
     ensures { IfOk result (λ made. entry_view (λ s. string_bytes s) made
         ≡ probe slot (pattern_view (λ s. string_bytes s) value.now)) }
 {
@@ -87,11 +83,7 @@ fn before_pattern(slot: Slot) -> usize
 }
 
 /// The text of the pattern, as it is written behind the `=`.
-fn pattern_text(
-    alloc: Global,
-    slot: Slot,
-    value: &Pattern<String>,
-) -> Result<String, AllocError>
+fn pattern_text(alloc: Global, slot: Slot, value: &Pattern<String>) -> Result<String, AllocError>
     ensures { IfOk result (λ text. string_bytes text
         ≡ pattern_text slot (pattern_view (λ s. string_bytes s) value.now)) }
 {
@@ -137,11 +129,7 @@ fn unless_broken(alloc: Global, edition: Edition, entry: &Entry<String>) -> Edit
 }
 
 /// The same, of an edit.
-pub(crate) fn refusal(
-    alloc: Global,
-    edition: Edition,
-    edit: &Edit,
-) -> Result<EditFault, AllocError>
+pub(crate) fn refusal(alloc: Global, edition: Edition, edit: &Edit) -> Result<EditFault, AllocError>
     ensures { IfOk result (λ fault. fault ≡ refusal edition (change_of edit.now)) }
 {
     match edit {

@@ -38,10 +38,7 @@ impl<'s, S: Slice<'s>> CopyTexts<S, String> for OwnTexts<'s> {
 }
 
 /// The entry with texts of its own.
-fn own_entry<'s, S: Slice<'s>>(
-    alloc: Global,
-    entry: &Entry<S>,
-) -> Result<Entry<String>, AllocError>
+fn own_entry<'s, S: Slice<'s>>(alloc: Global, entry: &Entry<S>) -> Result<Entry<String>, AllocError>
     ensures { IfOk result (λ own. entry_view (λ s. string_bytes s) own ≡ entry_view S.text entry.now) }
 {
     entries::entry(&OwnTexts(PhantomData), alloc, entry)
@@ -66,12 +63,7 @@ fn own_pattern(alloc: Global, value: &Pattern<&str>) -> Result<Pattern<String>, 
 }
 
 /// The source with the text in place of the stretch.
-fn spliced(
-    alloc: Global,
-    source: &str,
-    stretch: Span,
-    text: &str,
-) -> Result<String, AllocError>
+fn spliced(alloc: Global, source: &str, stretch: Span, text: &str) -> Result<String, AllocError>
     requires start { IsCharBoundary source.now stretch.start }
     requires end { IsCharBoundary source.now stretch.end }
     ensures { IfOk result (λ made. string_bytes made

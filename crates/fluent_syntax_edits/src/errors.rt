@@ -32,12 +32,7 @@ fn is_moved_place(shift: Shift, stays: bool, place: usize, other: usize) -> bool
     }
 }
 
-fn is_moved_range(
-    shift: Shift,
-    stays: bool,
-    range: &Range<usize>,
-    other: &Range<usize>,
-) -> bool
+fn is_moved_range(shift: Shift, stays: bool, range: &Range<usize>, other: &Range<usize>) -> bool
     ensures { IsTrue result ↔ ((other.now.start ≡ moved_place stays shift.stretch.end shift.to range.now.start)
         × (other.now.end ≡ moved_place stays shift.stretch.end shift.to range.now.end)) }
 {

@@ -5,6 +5,7 @@
 mod applied;
 mod blanks;
 mod edit;
+#[tactic(auto, using(crate::proofs::Answered::no_growth))]
 mod edits;
 mod errors;
 pub mod fault;

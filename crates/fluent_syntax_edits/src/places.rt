@@ -1,11 +1,12 @@
 //! Where the entries of a text stand.
-ghost use Rattle.std.specs.Prelude.{◌≡◌, ◌++◌, List, Some, IfOk};
-ghost use Rattle.fluent_syntax_edits.specs.Places.{HasPlaces, hangs_on, kind_of, place_of, places_behind};
+ghost use Rattle.std.specs.Prelude.{◌≡◌, ◌∷◌, ◌++◌, List, Some, IfOk};
+ghost use Rattle.fluent_syntax_edits.specs.Places.{HasPlaces, hangs_on, kind_of, place_found, place_of};
+ghost use Rattle.fluent_syntax_edits.specs.Places.{places_behind};
 ghost use Rattle.fluent_syntax_grammar.specs.Tiling.{Tile};
 ghost use Rattle.fluent_syntax_parser.specs.Rest.{tree_of};
 
 use fluent_syntax_parser::options::Halt;
-use fluent_syntax_parser::tiles::Tiles;
+use fluent_syntax_parser::tiles::{FoundTile, Tiles};
 use fluent_syntax_tree::ast::Entry;
 use fluent_syntax_tree::edition::Edition;
 use fluent_syntax_tree::spans::Span;
@@ -44,6 +45,16 @@ fn kind_of(entry: &Entry<Span>) -> PlaceKind
     }
 }
 
+fn place_found(found: FoundTile) -> Place
+    ensures { result ≡ place_found found.span (tree_of found.entry) }
+{
+    Place {
+        start: found.span.start,
+        span: found.span,
+        kind: kind_of(&found.entry),
+    }
+}
+
 fn hangs_on(comment: Place, place: Place) -> bool
     ensures { result ≡ hangs_on comment place }
 {
@@ -54,11 +65,7 @@ fn hangs_on(comment: Place, place: Place) -> bool
 
 /// Adds the place read before, unless it is that of a comment that hangs on what stands at the next one. What is the
 /// last place now.
-fn add_place(
-    places: &mut Vec<Place>,
-    last: Option<Place>,
-    next: Place,
-) -> Result<Place, AllocError>
+fn add_place(places: &mut Vec<Place>, last: Option<Place>, next: Place) -> Result<Place, AllocError>
     ensures { IfOk result (λ now. (tile : Tile) (more : List Tile) → place_of tile ≡ next →
         places.new.items ++ places_behind (Some now) more ≡ places.old.items ++ places_behind last (tile ∷ more)) }
 {
@@ -88,14 +95,7 @@ pub(crate) fn places(
     let mut last = None;
     loop {
         match tiles.next_tile(alloc) {
-            Ok(Some(found)) => {
-                let place = Place {
-                    start: found.span.start,
-                    span: found.span,
-                    kind: kind_of(&found.entry),
-                };
-                last = Some(add_place(&mut places, last, place)?);
-            }
+            Ok(Some(found)) => last = Some(add_place(&mut places, last, place_found(found))?),
             Ok(None) => {
                 if let Some(place) = last {
                     places.push(place)?;

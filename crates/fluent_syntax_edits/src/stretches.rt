@@ -14,7 +14,7 @@ use std::alloc::Global;
 
 /// Where what has that place begins; behind the last one the text's end.
 fn start_of(source: &str, place: Option<&Place>) -> usize
-    ensures { result ≡ start_of source.now (option_copied place) }
+    ensures { result ≡ start_of source.now (option_copied place.entry) }
 {
     match place {
         Some(place) => place.start,

@@ -9,8 +9,8 @@ pub returns-then-not-is_moved : goal.returns-then-not-is_moved
 returns-then-not-is_moved c = (
   (λ so. cc),
   (λ e.
-  let same =
-  same_at fault_of (option_map (moved_fault c.args.shift.stretch c.args.shift.to)) c.args.errors.now c.args.others.now
-  c.loop-index.index _ _ c.loop-index-test.true (omega arith) c.index-errors-index.is c.index-others-index.is e in
-  c.if-not-is_moved.ensures.1 same),
+      let same =
+      same_at fault_of (option_map (moved_fault c.args.shift.stretch c.args.shift.to)) c.args.errors.now c.args.others.now
+      c.loop-index.index _ _ c.loop-index-test.true (omega arith) c.index-errors-index.is c.index-others-index.is e in
+      c.if-not-is_moved.ensures.1 same),
 )
