@@ -1,14 +1,13 @@
 //! The parts of a message or a term that can be set.
-ghost use Rattle.std.specs.Prelude.{◌≡◌, ◌≤◌, length, IfOk, IfSome};
-ghost use Rattle.fluent_syntax_edits.specs.Values.{SlotAt, probe, probe_slot, slot_span};
-ghost use Rattle.fluent_syntax_tree.specs.Spans.{IsPart};
-ghost use Rattle.fluent_syntax_tree.specs.View.{entry_view, pattern_view};
+ghost use Rattle.std.specs.Prelude.{◌≡◌, ◌⊎◌, Err, Ok, Some};
+ghost use Rattle.fluent_syntax_edits.specs.Places.{SlotAt, slot_in};
+ghost use Rattle.fluent_syntax_edits.specs.declared.fault.EditFault.TheVariants.{Memory};
 
+use crate::fault::EditFault;
 use fluent_syntax_parser::extents::{EntryExtents, entry_extents};
-use fluent_syntax_tree::ast::{Attribute, Entry, Identifier, Message, Pattern};
 use fluent_syntax_tree::edition::Edition;
 use fluent_syntax_tree::spans::Span;
-use std::alloc::{AllocError, Global};
+use std::alloc::Global;
 
 /// What is set.
 #[derive(Clone, Copy, Debug, Drop)]
@@ -18,73 +17,37 @@ pub(crate) enum Slot {
     Attribute(usize),
 }
 
-/// Where what is set stands.
-fn slot_span(extents: &EntryExtents, slot: Slot) -> Option<Span>
-    ensures { result ≡ slot_span slot extents.now }
+/// Where the slot is.
+fn slot_in(extents: &EntryExtents, slot: Slot) -> Result<Span, EditFault>
+    ensures { result ≡ slot_in slot (Some extents.now) }
 {
     match slot {
-        Slot::Value => extents.value,
+        Slot::Value => extents.value.ok_or(EditFault::NoValue),
         Slot::Attribute(number) => match extents.attributes.get(number) {
-            Some(attribute) => Some(attribute.value),
-            None => None,
+            Some(attribute) => Ok(attribute.value),
+            None => Err(EditFault::NoValue),
         },
     }
 }
 
-/// Where the slot of the entry that begins at the place stands, if there is one.
+/// Where the slot is of the message or the term that begins at the place.
 pub(crate) fn slot_at(
     alloc: Global,
-    text: &str,
+    source: &str,
     edition: Edition,
+    slot: Slot,
     start: usize,
-    slot: Slot,
-) -> Result<Option<Span>, AllocError>
-    requires { start ≤ length text.now }
-    ensures slot { IfOk result (SlotAt edition text.now start slot) }
-    ensures part { IfOk result (λ found. IfSome found (IsPart text.now)) }
+) -> Result<Span, EditFault>
+    ensures { (result ≡ Err Memory) ⊎ SlotAt edition source.now slot (Ok start) result }
 {
-    match entry_extents(alloc, text, edition, usize::MAX, start) {
-        Ok(Some(extents)) => Ok(slot_span(&extents, slot)),
-        Ok(None) => Ok(None),
+    if start > source.len() {
+        // no entry begins behind the end
+        return Err(EditFault::Memory);
+    }
+    match entry_extents(alloc, source, edition, usize::MAX, start) {
+        Ok(Some(extents)) => slot_in(&extents, slot),
+        Ok(None) => Err(EditFault::NoValue),
         // no text is longer than the greatest usize, so none nests too deeply
-        Err(_) => Err(AllocError),
+        Err(_) => Err(EditFault::Memory),
     }
-}
-
-/// The slot of the message that has nothing else.
-pub(crate) fn probe_slot(slot: Slot) -> Slot
-    ensures { result ≡ probe_slot slot }
-{
-    match slot {
-        Slot::Value => Slot::Value,
-        Slot::Attribute(_) => Slot::Attribute(0),
-    }
-}
-
-/// A message whose only part is the slot, with that pattern: an attribute is its first one.
-pub(crate) fn probe_of<'s>(
-    alloc: Global,
-    slot: Slot,
-    value: &Pattern<&'s str>,
-) -> Result<Entry<&'s str>, AllocError>
-    ensures { IfOk result (λ made.
-        entry_view (λ text. text.now) made ≡ probe slot (pattern_view (λ text. text.now) value.now)) }
-{
-    let mut attributes = Vec::new(alloc);
-    let value = match slot {
-        Slot::Value => Some(value.try_clone(alloc)?),
-        Slot::Attribute(_) => {
-            attributes.push(Attribute {
-                id: Identifier { name: "a" },
-                value: value.try_clone(alloc)?,
-            })?;
-            None
-        }
-    };
-    Ok(Entry::Message(Message {
-        id: Identifier { name: "a" },
-        value,
-        attributes,
-        comment: None,
-    }))
 }

@@ -8,6 +8,8 @@ macro_rules! table {
 
 pub mod alike;
 pub mod corpus;
+#[cfg(test)]
+mod edits;
 pub mod json;
 #[cfg(test)]
 mod made;
