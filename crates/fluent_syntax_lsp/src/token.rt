@@ -1,6 +1,4 @@
 //! What an editor can highlight: a stretch of the text, and what stands there.
-ghost use Rattle.std.specs.Prelude.{◌≡◌};
-ghost use Rattle.fluent_syntax_lsp.specs.Tokens.{defines, marked};
 
 use fluent_syntax::spans::Span;
 
@@ -45,9 +43,7 @@ pub struct Token {
 
 impl TokenKind {
     /// Whether an entry defines what has the name.
-    pub fn defines(self) -> bool
-        ensures { result ≡ defines self }
-    {
+    pub fn defines(self) -> bool {
         matches!(
             self,
             TokenKind::Message | TokenKind::Term | TokenKind::Attribute
@@ -57,9 +53,7 @@ impl TokenKind {
 
 impl Token {
     /// Its range with the `-` of a term, the `$` of a variable or the quotes of a string.
-    pub fn marked(self) -> Span
-        ensures { result ≡ marked self }
-    {
+    pub fn marked(self) -> Span {
         let Span { start, end } = self.span;
         match self.kind {
             TokenKind::Term | TokenKind::TermReference | TokenKind::Variable => Span {

@@ -2,8 +2,8 @@
 
 use crate::ends::{Drip, Narrow};
 use fluent_syntax_lsp::{
-    BODY_LIMIT, Diagnostic, Ending, ErrorCode, FrameFault, Framing, Method, Phase, Place, Places,
-    diagnostics_in, first_frame, formatted, serve,
+    BODY_LIMIT, Diagnostic, Document, Ending, ErrorCode, FrameFault, Framing, Method, Phase, Place,
+    Places, first_frame, formatted, serve,
 };
 use fluent_syntax_tests::alike::{assert_holds, assert_same, assert_same_text};
 use ftl::Watched;
@@ -448,10 +448,14 @@ fn is_diagnostic(
         && (found.end.line, found.end.character) == end
 }
 
+fn document_of(alloc: Global, text: &str) -> Result<Document, Fail> {
+    Ok(Document::new(alloc, String::from_str(alloc, text)?)?)
+}
+
 fn assert_one_diagnostic(alloc: Global, row: &ErrorRow) -> Result<(), Fail> {
     let (text, code, start, end) = row;
-    let found = diagnostics_in(alloc, *text)?;
-    let is_so = match found.as_slice() {
+    let document = document_of(alloc, text)?;
+    let is_so = match document.diagnostics() {
         [one] => is_diagnostic(one, *code, *start, *end),
         _ => false,
     };
@@ -459,8 +463,8 @@ fn assert_one_diagnostic(alloc: Global, row: &ErrorRow) -> Result<(), Fail> {
 }
 
 fn assert_diagnostics_counted(alloc: Global, text: &str, count: usize) -> Result<(), Fail> {
-    let found = diagnostics_in(alloc, text)?;
-    assert_same(alloc, text, &found.len(), &count)
+    let document = document_of(alloc, text)?;
+    assert_same(alloc, text, &document.diagnostics().len(), &count)
 }
 
 #[test]
@@ -512,16 +516,17 @@ fn nested_text(alloc: Global, depth: usize) -> Result<String, Fail> {
 
 /// Whether the text nests too deeply, and is told so.
 fn is_too_deep(alloc: Global, text: &str) -> Result<bool, Fail> {
-    let found = diagnostics_in(alloc, text)?;
-    match found.as_slice() {
-        [one] => Ok(one.code == "TooDeep"),
-        _ => Ok(false),
-    }
+    let document = document_of(alloc, text)?;
+    let is_told = match document.diagnostics() {
+        [one] => one.code == "TooDeep",
+        _ => false,
+    };
+    Ok(is_told && document.is_too_deep() && document.body().is_empty())
 }
 
 fn is_flawless(alloc: Global, text: &str) -> Result<bool, Fail> {
-    let found = diagnostics_in(alloc, text)?;
-    Ok(found.is_empty())
+    let document = document_of(alloc, text)?;
+    Ok(document.diagnostics().is_empty() && document.body().len() == 1)
 }
 
 #[test]

@@ -8,8 +8,7 @@ use std::time::{Clock, Duration};
 
 /// How long the call of this name takes on the text: `parse`, `runtime` (both over `&str`), `parse_string` and
 /// `runtime_string` (over `String`), `spans`, `runtime_spans`, `resolve`, `clone`, `drop`, `serialize`,
-/// `serialize_room` (onto a sink with room), `unescape`, `to_value`, `from_value`, `hold` and `change` (of a text that
-/// is held). None for another name.
+/// `serialize_room` (onto a sink with room), `unescape`, `to_value` and `from_value`. None for another name.
 pub(crate) fn time_of<R: Clock + AllocGlobal>(
     rt: &R,
     call: &str,
