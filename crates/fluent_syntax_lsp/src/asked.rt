@@ -50,22 +50,24 @@ impl Asked<'_> {
             return Ok(Value::Null);
         };
         let mut list = Vec::new(alloc);
-        for known in self.nearest(alloc, name)?.iter() {
-            add_locations(alloc, &mut list, known, name, Wanted::Definitions)?;
+        for number in self.nearest(alloc, name)?.iter() {
+            if let Some(known) = self.documents.get(*number) {
+                add_locations(alloc, &mut list, known, name, Wanted::Definitions)?;
+            }
         }
         Ok(Value::Array(list))
     }
 
-    /// The documents and files that define the name and have the most folders in common with the document that is
-    /// named, of all that define it.
-    fn nearest(&self, alloc: Global, name: Name<'_>) -> Result<Vec<&Known<'_>>, AllocError> {
+    /// The numbers of the documents and files that define the name and have the most folders in common with the document
+    /// that is named, of all that define it.
+    fn nearest(&self, alloc: Global, name: Name<'_>) -> Result<Vec<usize>, AllocError> {
         let from = match self.here() {
             Some(here) => here.path,
             None => "",
         };
         let mut most = 0;
         let mut nearest = Vec::new(alloc);
-        for known in &self.documents {
+        for (number, known) in self.documents.iter().enumerate() {
             if known.defines(name) {
                 let shared = shared_folders(from, known.path);
                 if shared > most {
@@ -73,7 +75,7 @@ impl Asked<'_> {
                     nearest.clear();
                 }
                 if shared == most {
-                    nearest.push(known)?;
+                    nearest.push(number)?;
                 }
             }
         }
@@ -103,13 +105,15 @@ impl Asked<'_> {
         let Some(name) = self.name() else {
             return Ok(Value::Null);
         };
-        let nearest = self.nearest(alloc, name)?;
-        let mut shown = String::new(alloc);
-        for known in nearest.iter() {
-            add_entries(alloc, &mut shown, known, name)?;
+        let mut numbers = self.nearest(alloc, name)?;
+        for (number, known) in self.documents.iter().enumerate() {
+            if self.is_original(known) && !numbers.contains(&number) {
+                numbers.push(number)?;
+            }
         }
-        for known in &self.documents {
-            if self.is_original(known) && !nearest.iter().any(|near| near.uri == known.uri) {
+        let mut shown = String::new(alloc);
+        for number in numbers.iter() {
+            if let Some(known) = self.documents.get(*number) {
                 add_entries(alloc, &mut shown, known, name)?;
             }
         }

@@ -32,21 +32,34 @@ impl Document {
     pub fn new(alloc: Global, text: String) -> Result<Document, AllocError>
         ensures { IfOk result (λ document. string_bytes document.text ≡ string_bytes text) }
     {
-        let read = parse_spans_within(alloc, text.as_str(), Edition::One, NESTING_LIMIT);
-        let (body, diagnostics, is_too_deep) = match read {
-            Ok(Ok(Resource { body })) => (body, Vec::new(alloc), false),
-            Ok(Err(ParseFault::Syntax(Resource { body }, errors))) => {
-                (body, diagnostics_of(alloc, text.as_str(), &errors)?, false)
+        match parse_spans_within(alloc, text.as_str(), Edition::One, NESTING_LIMIT) {
+            Ok(Ok(Resource { body })) => Ok(Document {
+                text,
+                body,
+                diagnostics: Vec::new(alloc),
+                is_too_deep: false,
+            }),
+            Ok(Err(ParseFault::Syntax(tree, errors))) => {
+                let Resource { body } = tree;
+                let diagnostics = diagnostics_of(alloc, text.as_str(), &errors)?;
+                Ok(Document {
+                    text,
+                    body,
+                    diagnostics,
+                    is_too_deep: false,
+                })
             }
-            Ok(Err(ParseFault::Memory)) => return Err(AllocError),
-            Err(TooDeep) => (Vec::new(alloc), too_deep(alloc)?, true),
-        };
-        Ok(Document {
-            text,
-            body,
-            diagnostics,
-            is_too_deep,
-        })
+            Ok(Err(ParseFault::Memory)) => Err(AllocError),
+            Err(TooDeep) => {
+                let diagnostics = too_deep(alloc)?;
+                Ok(Document {
+                    text,
+                    body: Vec::new(alloc),
+                    diagnostics,
+                    is_too_deep: true,
+                })
+            }
+        }
     }
 
     /// The text.

@@ -5,7 +5,7 @@ use crate::token::{Token, TokenKind};
 use std::alloc::{AllocError, Global};
 
 /// A token where the protocol has it: in one line.
-#[derive(Clone, Copy, Debug, PartialEq, Eq)]
+#[derive(Clone, Copy)]
 pub struct Highlight {
     pub start: Place,
     /// How many UTF-16 units it has.

@@ -5,7 +5,7 @@ use fluent_syntax_names::Mention;
 use std::alloc::{AllocError, Global};
 
 /// What a name is one of.
-#[derive(Clone, Copy, Debug, PartialEq, Eq)]
+#[derive(Clone, Copy, PartialEq, Eq)]
 pub enum NameKind {
     Message,
     Term,

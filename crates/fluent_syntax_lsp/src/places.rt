@@ -6,7 +6,7 @@ use fluent_syntax::spans::Span;
 use std::marker::Model;
 
 /// A line and a column, both from 0. The column counts UTF-16 units.
-#[derive(Clone, Copy, Debug, PartialEq, Eq)]
+#[derive(Clone, Copy, PartialEq, Eq)]
 pub struct Place {
     pub line: usize,
     pub character: usize,

@@ -61,14 +61,19 @@ impl Server {
             return Ok(list);
         }
         let outline = open.document.outline(self.alloc)?;
-        let mut differences = self.mismatches(open, &outline)?;
+        let differences = self.mismatches(open, &outline)?;
         let findings = self.findings_told(uri, outline)?;
-        let mut told = remarks_of(self.alloc, uri, open.document.text(), &findings)?;
-        told.append(&mut differences)?;
-        for told in told.iter() {
+        let remarks = remarks_of(self.alloc, uri, open.document.text(), &findings)?;
+        self.add_told(&mut list, &remarks)?;
+        self.add_told(&mut list, &differences)?;
+        Ok(list)
+    }
+
+    fn add_told(&self, list: &mut Vec<Value>, all: &[Told<'_>]) -> Result<(), AllocError> {
+        for told in all {
             list.push(told_form(self.alloc, told, self.related)?)?;
         }
-        Ok(list)
+        Ok(())
     }
 
     /// What a document and its original don't have alike; nothing of one that has none, or one that is too long.
@@ -81,13 +86,15 @@ impl Server {
             return Ok(none);
         };
         let (documents, files) = (self.documents.by_name(), self.workspace.files());
-        match original_at(self.alloc, there.as_str(), documents, files)? {
-            Some(original) if original.outline.text.len() <= FINDINGS_LIMIT => {
-                let shown = self.workspace.shown(there.as_str());
-                mismatches_of(self.alloc, outline, &original, shown)
-            }
-            _ => Ok(none),
+        let found = original_at(self.alloc, there.as_str(), documents, files)?;
+        let Some(original) = found else {
+            return Ok(none);
+        };
+        if original.outline.text.len() > FINDINGS_LIMIT {
+            return Ok(none);
         }
+        let shown = self.workspace.shown(there.as_str());
+        mismatches_of(self.alloc, outline, &original, shown)
     }
 
     /// Whether the document's findings are sought, and all files are known that may define what it refers to.

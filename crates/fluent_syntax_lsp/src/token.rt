@@ -3,7 +3,7 @@
 use fluent_syntax::spans::Span;
 
 /// What a token is.
-#[derive(Clone, Copy, Debug, PartialEq, Eq)]
+#[derive(Clone, Copy, Debug)]
 pub enum TokenKind {
     /// A line of a comment, without its marks.
     Comment,
@@ -34,7 +34,7 @@ pub enum TokenKind {
 }
 
 /// A token of a text.
-#[derive(Clone, Copy, Debug, PartialEq, Eq)]
+#[derive(Clone, Copy)]
 pub struct Token {
     pub kind: TokenKind,
     /// The name, the number or the text, without the `-` of a term, the `$` of a variable and the quotes of a string.
