@@ -8,8 +8,8 @@ use Rattle.fluent_syntax_tree.specs.View.{entry_view, pattern_view}
 use Rattle.fluent_syntax_tree.specs.declared.edition.Edition.{Edition}
 use Rattle.fluent_syntax_grammar.specs.Bytes.{cr, lf, space}
 use Rattle.fluent_syntax_grammar.specs.Written.{Text, written}
-use Rattle.fluent_syntax_rules.specs.Uncanonical.{broken_rule}
-use Rattle.fluent_syntax_rules.specs.declared.rules.Rule.{Rule}
+use Rattle.fluent_syntax_writer.specs.Uncanonical.{broken_rule}
+use Rattle.fluent_syntax_writer.specs.declared.canonical.rules.Rule.{Rule}
 use Rattle.fluent_syntax_edits.specs.declared.edit.Edit.{Edit}
 use Rattle.fluent_syntax_edits.specs.declared.edit.Edit.TheVariants as edit
 use Rattle.fluent_syntax_edits.specs.declared.fault.EditFault.{EditFault}

@@ -2,13 +2,13 @@
 ghost use Rattle.std.specs.Prelude.{◌≡◌, ◌≤◌, ◌∷◌, [], length, IfOk, string_bytes};
 ghost use Rattle.fluent_syntax_edits.specs.Changes.{change_of, coming, entry_text, pattern_text, probe, refusal};
 ghost use Rattle.fluent_syntax_edits.specs.Changes.{before_pattern, unless_broken};
-ghost use Rattle.fluent_syntax_rules.specs.Uncanonical.{broken_rule};
+ghost use Rattle.fluent_syntax_writer.specs.Uncanonical.{broken_rule};
 ghost use Rattle.fluent_syntax_tree.specs.View.{entry_view, pattern_view};
 
 use crate::blanks::with_blank_lines;
 use crate::fault::EditFault;
 use crate::slots::Slot;
-use fluent_syntax_rules::broken_rule_with;
+use fluent_syntax_writer::canonical::broken_rule_with;
 use fluent_syntax_tree::ast::{Attribute, Entry, Identifier, Message, Pattern};
 use fluent_syntax_tree::edition::Edition;
 use fluent_syntax_writer::serializer::{EntryWriter, Options};

@@ -1,11 +1,12 @@
 -- Where the byte of a place is looked for.
 use Rattle.std.proofs.Common.{◌≡◌, ℕ, suc, ◌+◌, ◌<◌, ◌≤◌, List, length, slice_index, nat_le}
-use Rattle.std.proofs.Common.{◌==◌, ◌&&◌, ◌||◌, Bool, true, false, not, ◌⊎◌, refl, subst, arith, inl, inr}
+use Rattle.std.proofs.Common.{◌==◌, ◌&&◌, ◌||◌, Bool, true, false, not, ◌⊎◌, refl, sym, ap, ◌∙◌, subst, arith, inl, inr}
 use Rattle.std.proofs.lemmas.Str.{IsCharBoundary-end}
 use Rattle.fluent_syntax_grammar.specs.Bytes.{lf, cr}
 use Rattle.fluent_syntax_lsp.specs.Places.{ends_line, utf16_units, next_line, next_character, line_at, character_at}
 use Rattle.fluent_syntax_lsp.specs.Places.{place_at}
-use Rattle.fluent_syntax_lsp.specs.Offsets.{is_break, is_reached, stops_at, IsByteOf, IsInLine, IsBehindAll}
+use Rattle.fluent_syntax_lsp.specs.Offsets.{BeginsLine, is_break, is_reached, stops_at, IsByteOf, IsInLine}
+use Rattle.fluent_syntax_lsp.specs.Offsets.{IsBehindAll}
 use Rattle.fluent_syntax_lsp.specs.declared.places.Place.{Place}
 
 -- The place is not passed before the byte.
@@ -13,9 +14,18 @@ pub record IsAhead (t : List ℕ) (place : Place) (byte : ℕ) : Type 0 where
   pub line : line_at t byte ≤ place.line
   pub column : line_at t byte ≡ place.line → character_at t byte ≤ place.character
 
--- it is not before the first byte
-pub ahead_of_all : (t : List ℕ) (place : Place) → IsAhead t place 0
-ahead_of_all t place = record { line = omega arith; column = λ e. omega arith }
+abbrev in_line : (line character : ℕ) → Place
+in_line line character = record { line = line; character = character }
+
+-- the place where a line begins
+pub starts_at : (t : List ℕ) (number at : ℕ) → BeginsLine t number at → in_line number 0 ≡ place_at t at
+starts_at t number at begins =
+    ap (λ n. in_line n 0) (sym begins.line) ∙ ap (λ n. in_line (line_at t at) n) (sym begins.character)
+
+-- it is not passed before its line's first byte
+pub ahead_of_line : (t : List ℕ) (place : Place) (at : ℕ) → BeginsLine t place.line at → IsAhead t place at
+ahead_of_line t place at begins =
+    record { line = omega (arith, begins.line); column = λ e. omega (arith, begins.character) }
 
 -- a line ends with a byte at which its text ends
 break_of : (is_lf is_cr before_lf : Bool) → (is_lf || (is_cr && not before_lf)) ≡ true → (is_lf || is_cr) ≡ true

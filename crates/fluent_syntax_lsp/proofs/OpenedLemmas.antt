@@ -1,18 +1,14 @@
 -- What changes of the open documents come to.
-use Rattle.std.proofs.Common.{◌≡◌, ℕ, ◌+◌, ◌<◌, List, [], ◌∷◌, ◌++◌, Bool, true, false, Option, cond}
-use Rattle.std.proofs.Common.{length, get_or, take, map, sym, ap, ◌∙◌, refl, subst}
+use Rattle.std.proofs.Common.{◌≡◌, ℕ, List, Bool, true, false, Option, cond, ap, ◌∙◌, refl}
 use Rattle.std.specs.Prelude.{option_map, String, string_bytes}
 use Rattle.std.specs.BTreeMap.{BTreeMap, UpdatesBy}
 use Rattle.std.specs.Cmp.Lexicographic.{slice_cmp}
 use Rattle.std.specs.Ordering.{nat_cmp}
 use Rattle.std.specs.String.{string_cmp}
 use Rattle.std.specs.declared.alloc.Global.{Global}
-use Rattle.std.proofs.lemmas.List.{map-append, take_more}
 use Rattle.std.proofs.lemmas.Map.Text.{btree_map_updates_text}
-use Rattle.fluent_syntax_lsp.specs.Edits.{Edit, edit_of}
-use Rattle.fluent_syntax_lsp.specs.Opened.{MakesEdit, MakesEdits, makes_last, open_text, Sets, texts_of}
-use Rattle.fluent_syntax_lsp.specs.declared.changes.Change.{Change}
-use Rattle.fluent_syntax_lsp.specs.declared.known.Open.{Open}
+use Rattle.fluent_syntax_lsp.specs.Opened.{open_text, Sets, texts_of}
+use Rattle.fluent_syntax_lsp.specs.declared.opened.Open.{Open}
 
 option_map-cond : {A B : Type 0} (f : A → B) (b : Bool) (x y : Option A) →
     option_map f (cond b x y) ≡ cond b (option_map f x) (option_map f y)
@@ -26,14 +22,3 @@ pub sets : (m n : BTreeMap (String Global) Open) (name : List ℕ) (found : Opti
 sets m n name found updates other =
     ap (option_map open_text) (btree_map_updates_text name m n found updates other)
     ∙ option_map-cond open_text _ found _
-
--- one change more was made
-pub made_more : (old : List ℕ) (changes : List Change) (i : ℕ) (d : Change) (made new : List ℕ) →
-    i < length changes → MakesEdits old (map edit_of (take i changes)) made →
-    MakesEdit made (edit_of (get_or changes i d)) new → MakesEdits old (map edit_of (take (i + 1) changes)) new
-made_more old changes i d made new within before last =
-    let edit = edit_of (get_or changes i d) in
-    let longer : map edit_of (take i changes) ++ edit ∷ [] ≡ map edit_of (take (i + 1) changes) =
-    sym (ap (map edit_of) (take_more changes i d within)
-    ∙ map-append edit_of (take i changes) (get_or changes i d ∷ [])) in
-    subst (λ (edits : List Edit). MakesEdits old edits new) longer (makes_last _ _ _ _ before last)

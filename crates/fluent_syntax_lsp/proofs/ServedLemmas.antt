@@ -9,9 +9,9 @@ use Rattle.serde_json.specs.Data.{Data}
 use Rattle.fluent_syntax_lsp.specs.Served.{Ends, IsFresh, IsUnsent, Serves, begins, has_no_frame, has_no_memory}
 use Rattle.fluent_syntax_lsp.specs.Outbox.{Sends}
 use Rattle.fluent_syntax_lsp.specs.Phases.{ending_of}
-use Rattle.fluent_syntax_lsp.specs.Served.{DoesStep, GoesOn, Stops, TakesStep, is_not_written, is_untold, stops}
+use Rattle.fluent_syntax_lsp.specs.Served.{GoesOn, Stops, TakesStep, is_not_written, is_untold, stops}
 use Rattle.fluent_syntax_lsp.specs.Served.{takes, tells, tells_unwritten, tells_without_memory}
-use Rattle.fluent_syntax_lsp.specs.Sessions.{Session, TellsAnew}
+use Rattle.fluent_syntax_lsp.specs.Sessions.{Answers, Session, TellsAnew}
 use Rattle.fluent_syntax_lsp.specs.declared.endings.Ending.{Ending}
 use Rattle.fluent_syntax_lsp.specs.declared.endings.Ending.TheVariants.{Input, Memory, Output}
 use Rattle.fluent_syntax_lsp.specs.declared.phases.Phase.{Phase}
@@ -48,7 +48,7 @@ ends_before_all input output =
 
 -- what was to be sent for a body, and was not
 pub unsent : {Y : Type 0} (r : Result Y Ending) (before next : Session) (body : List ℕ) (sent : Option Data)
-    (value : Data) (written now : Option (List ℕ)) → DoesStep before body sent next → sent ≡ Some value →
+    (value : Data) (written now : Option (List ℕ)) → Answers before body sent next → sent ≡ Some value →
     IfErr r (λ ending. (ending ≡ Memory) ⊎ (ending ≡ Output)) → (r ≡ Err Memory → now ≡ written) →
     IfErr r (λ ending. IsUnsent before body written ending now)
 unsent (Ok x) before next body sent value written now answers some fault same = fault
@@ -56,7 +56,7 @@ unsent (Err e) before next body sent value written now answers some (inl is) sam
     subst (λ (ending : Ending). IsUnsent before body written ending now) (sym is) (has_no_memory now (same (ap Err is)))
 unsent (Err e) before next body sent value written now answers some (inr is) same =
     subst (λ (ending : Ending). IsUnsent before body written ending now) (sym is)
-    (is_not_written now value next (subst (λ (o : Option Data). DoesStep before body o next) some answers))
+    (is_not_written now value next (subst (λ (o : Option Data). Answers before body o next) some answers))
 
 abbrev is_exit : Option Ending → Bool
 is_exit (Some Input) = false

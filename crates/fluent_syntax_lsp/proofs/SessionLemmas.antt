@@ -20,19 +20,16 @@ use Rattle.fluent_syntax_lsp.specs.Replies.{Reply, IsSent, diagnosed, silence, w
 use Rattle.fluent_syntax_lsp.specs.Replies.{sends_diagnostics, sends_none, sends_withdrawal}
 use Rattle.fluent_syntax_lsp.specs.Told.{TellsDocument}
 use Rattle.fluent_syntax_lsp.specs.Sessions.{Answers, AnswersNotification, AnswersRequest, AnswersRunning, Follows}
-use Rattle.fluent_syntax_lsp.specs.Results.{IsResult, Sources, sources_of}
 use Rattle.fluent_syntax_lsp.specs.Sessions.{Finds, IsFound, TellsAnew, fits}
-use Rattle.fluent_syntax_lsp.specs.Sessions.{IsMethod, Session, TakesRequest, concerns, session_of}
-use Rattle.fluent_syntax_lsp.specs.Asking.{names_open}
+use Rattle.fluent_syntax_lsp.specs.Sessions.{IsMethod, Session, TakesRequest, concerns}
+use Rattle.fluent_syntax_lsp.specs.Asking.{IsResult, names_open}
 use Rattle.fluent_syntax_lsp.specs.Sessions.{changes, published, requested, notified, opens, passes, runs}
 use Rattle.fluent_syntax_lsp.specs.Sessions.{saves, watches}
 use Rattle.fluent_syntax_lsp.specs.declared.methods.Method.{Method}
 use Rattle.fluent_syntax_lsp.specs.declared.methods.Method.TheVariants.{DidChange, DidClose, DidOpen, DidSave}
 use Rattle.fluent_syntax_lsp.specs.declared.methods.Method.TheVariants.{Initialized}
-use Rattle.fluent_syntax_lsp.specs.declared.opened.Documents.{Documents}
 use Rattle.fluent_syntax_lsp.specs.declared.phases.Phase.{Phase}
 use Rattle.fluent_syntax_lsp.specs.declared.phases.Phase.TheVariants.{Running}
-use Rattle.fluent_syntax_lsp.specs.declared.server.Server.{Server}
 
 -- what holds of a result's value, with what holds where there is one
 pub ok_with : {X Y : Type 0} (r : Result X Y) (P : Type 0) (Q R : X → Type 0) → (P → (x : X) → Q x → R x) →
@@ -107,7 +104,7 @@ unpublished old mid uri same none =
     subst at same (subst (λ (o : Option OpenText). IsSent (published uri o) None) none sends_none)
 
 pub is_published : (old mid : Session) (uri : List ℕ) (found : OpenText) (value : Data) (list : List Data) →
-    mid ≡ old → Some found ≡ mid.texts uri → value ≡ diagnostics_form uri list → TellsDocument uri found.text list →
+    mid ≡ old → Some found ≡ mid.texts uri → value ≡ diagnostics_form uri list → TellsDocument found.text list →
     IsSent (published uri (old.texts uri)) (Some value)
 is_published old mid uri found value list same open' is tells_all =
     let at : Session → Type 0 = λ s. IsSent (published uri (s.texts uri)) (Some value) in
@@ -190,52 +187,40 @@ mapped_some None = refl
 mapped_some (Some value) = refl
 
 -- what is found for a request, where it is known whether that is a value
-pub finds_of : (old : Session) (sources : Sources) (d : Data) (method : Option Method) (found value : Option Value) →
+pub finds_of : (old : Session) (d : Data) (method : Option Method) (found value : Option Value) →
     refusal_of old.phase method ≡ None → IsFound method (fits old.texts d method) (is_some found) →
-    IsResult sources d method (option_map view found) → found ≡ value →
-    Finds old sources d method (option_map view value)
-finds_of old sources d method found value allowed fitting is_result is =
-    subst (λ (o : Option Value). Finds old sources d method (option_map view o)) is
+    IsResult old.texts d method (option_map view found) → found ≡ value → Finds old d method (option_map view value)
+finds_of old d method found value allowed fitting is_result is =
+    subst (λ (o : Option Value). Finds old d method (option_map view o)) is
     (record {
       allowed = allowed;
       fitting = subst (IsFound method (fits old.texts d method)) (mapped_some found) fitting;
       is_result = is_result;
     })
 
--- a request that was taken behind something that changes neither the session nor what is open
-pub takes_request : {Y : Type 0} (r : Result (Option Value) Y) (old mid new : Server) (body : List ℕ)
+-- a request that was taken behind something that changes nothing of the session
+pub takes_request : {Y : Type 0} (r : Result (Option Value) Y) (old mid new : Session) (body : List ℕ)
     (d id same_id : Data) (name : List ℕ) (method : Option Method) → read body ≡ Some d →
-    message_in d ≡ request id name → same_id ≡ id → IsMethod name method → session_of mid ≡ session_of old →
-    mid.documents ≡ old.documents →
-    IfOk r
-    (λ sent. AnswersRequest (session_of mid) (sources_of mid new) same_id d method (option_map view sent)
-    (session_of new)) →
-    IfOk r (λ sent. Answers (session_of old) (sources_of old new) body (option_map view sent) (session_of new))
-takes_request (Ok sent) old mid new body d id same_id name method is_read asked same named before opened
-    (reply, is, takes) =
-    let files = new.workspace.files in
-    let by_id = subst
-    (λ (i : Data). TakesRequest (session_of mid) (sources_of mid new) i d method reply (session_of new)) same takes in
-    let by_session = subst
-    (λ (s : Session). TakesRequest s (sources_of mid new) id d method reply (session_of new)) before by_id in (
-      reply,
-      is,
-      requested d id name method reply (session_of new) is_read asked named
-          (subst
-          (λ (o : Documents). TakesRequest (session_of old) (record { documents = o.by_name; files = files }) id d
-          method reply (session_of new))
-          opened by_session),
-    )
-takes_request (Err e) old mid new body d id same_id name method is_read asked same named before opened h = h
+    message_in d ≡ request id name → same_id ≡ id → IsMethod name method → mid ≡ old →
+    IfOk r (λ sent. AnswersRequest mid same_id d method (option_map view sent) new) →
+    IfOk r (λ sent. Answers old body (option_map view sent) new)
+takes_request (Ok sent) old mid new body d id same_id name method is_read asked same named before (reply, is, takes) = (
+  reply,
+  is,
+  requested d id name method reply new is_read asked named
+      (subst (λ (s : Session). TakesRequest s id d method reply new) before
+      (subst (λ (i : Data). TakesRequest mid i d method reply new) same takes)),
+)
+takes_request (Err e) old mid new body d id same_id name method is_read asked same named before h = h
 
-pub takes_notification : {Y : Type 0} (r : Result (Option Value) Y) (old new : Session) (sources : Sources)
-    (body : List ℕ) (d : Data) (name : List ℕ) (method : Option Method) → read body ≡ Some d →
+pub takes_notification : {Y : Type 0} (r : Result (Option Value) Y) (old new : Session) (body : List ℕ) (d : Data)
+    (name : List ℕ) (method : Option Method) → read body ≡ Some d →
     message_in d ≡ notification name → IsMethod name method →
     IfOk r (λ sent. AnswersNotification old d method (option_map view sent) new) →
-    IfOk r (λ sent. Answers old sources body (option_map view sent) new)
-takes_notification (Ok sent) old new sources body d name method is_read asked named (reply, is, takes) =
+    IfOk r (λ sent. Answers old body (option_map view sent) new)
+takes_notification (Ok sent) old new body d name method is_read asked named (reply, is, takes) =
     (reply, is, notified d name method reply new is_read asked named takes)
-takes_notification (Err e) old new sources body d name method is_read asked named h = h
+takes_notification (Err e) old new body d name method is_read asked named h = h
 
 -- nothing is done for a method that concerns no document
 unconcerned : (texts : List ℕ → Option OpenText) (d : Data) (method : Method) → method ≢ DidOpen → method ≢ DidChange →

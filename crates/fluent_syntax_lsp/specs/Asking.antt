@@ -1,18 +1,12 @@
--- What a request asks of: the place that its message names, among all that is known then.
-use Rattle.std.specs.Prelude.{◌≡◌, ◌&&◌, ℕ, List, Bool, Option, Some, String, is_some, option_and_then, slice_get}
-use Rattle.std.specs.BTreeMap.{BTreeMap}
-use Rattle.std.specs.declared.alloc.Global.{Global}
-use Rattle.serde_json.specs.Data.{Data}
+-- What a request asks of, and what stands in its answer.
+use Rattle.std.specs.Prelude.{◌≡◌, ◌&&◌, ℕ, List, ⊤, Bool, Option, Some, is_some, option_and_then}
+use Rattle.serde_json.specs.Data.{Data, null}
 use Rattle.fluent_syntax_lsp.specs.Edits.{asked_place_in}
-use Rattle.fluent_syntax_lsp.specs.Known.{AreKnown}
-use Rattle.fluent_syntax_lsp.specs.Offsets.{IsByteOf}
+use Rattle.fluent_syntax_lsp.specs.Formatting.{FormatsText}
 use Rattle.fluent_syntax_lsp.specs.Opened.{OpenText}
-use Rattle.fluent_syntax_lsp.specs.Params.{uri_in}
-use Rattle.fluent_syntax_lsp.specs.declared.asked.Asked.{Asked}
-use Rattle.fluent_syntax_lsp.specs.declared.closed.Closed.{Closed}
-use Rattle.fluent_syntax_lsp.specs.declared.known.Known.{Known}
-use Rattle.fluent_syntax_lsp.specs.declared.known.Open.{Open}
-use Rattle.fluent_syntax_lsp.specs.declared.places.Place.{Place}
+use Rattle.fluent_syntax_lsp.specs.Params.{new_name_in, uri_in}
+use Rattle.fluent_syntax_lsp.specs.declared.methods.Method.{Method}
+use Rattle.fluent_syntax_lsp.specs.declared.methods.Method.TheVariants.{Formatting, Shutdown}
 
 -- whether the message names a document that is open
 abbrev pub names_open : (texts : List ℕ → Option OpenText) → Data → Bool
@@ -22,25 +16,17 @@ names_open texts d = is_some (option_and_then texts (uri_in d))
 abbrev pub names_place : (texts : List ℕ → Option OpenText) → Data → Bool
 names_place texts d = names_open texts d && is_some (asked_place_in d)
 
--- The document of that number has the URI.
-pub record HasUriAt (documents : List Known) (number : ℕ) (known : Known) (uri : List ℕ) : Type 0 where
-  pub there : slice_get documents number ≡ Some known
-  pub named : known.uri.now ≡ uri
+-- and another name for what stands there
+abbrev pub renames_place : (texts : List ℕ → Option OpenText) → Data → Bool
+renames_place texts d = names_place texts d && is_some (new_name_in d)
 
--- The documents are all that are known, the number is that of the one which the message names, and the byte is that of
--- the place that it names there.
-pub record IsAsked (documents : BTreeMap (String Global) Open) (files : BTreeMap (String Global) Closed) (d : Data)
-    (asked : Asked) : Type 0 where
-  pub known : AreKnown documents files asked.documents.items
-  pub uri : List ℕ
-  pub named : Some uri ≡ uri_in d
-  pub here : Known
-  pub here_at : HasUriAt asked.documents.items asked.number here uri
-  pub place : Place
-  pub placed : Some place ≡ asked_place_in d
-  pub byte_there : IsByteOf here.text.now place asked.byte
+-- What is found is the formatting of the document.
+abbrev pub IsFormattingOf : (document : Option OpenText) → (result : Option Data) → Type 0
+IsFormattingOf (Some found) (Some value) = FormatsText found.text value
+IsFormattingOf _ _ = ⊤
 
--- P holds of what the message asks of.
-abbrev pub TellsOfPlace : BTreeMap (String Global) Open → BTreeMap (String Global) Closed → Data →
-    (P : Asked → Type 0) → Type 0
-TellsOfPlace documents files d P = (asked : Asked) × IsAsked documents files d asked × P asked
+-- It is what stands in the answer to a request of the method. Of methods that aren't named here nothing is said.
+abbrev pub IsResult : (texts : List ℕ → Option OpenText) → Data → Option Method → (result : Option Data) → Type 0
+IsResult texts d (Some Formatting) result = IsFormattingOf (option_and_then texts (uri_in d)) result
+IsResult texts d (Some Shutdown) result = result ≡ Some null
+IsResult texts d _ result = ⊤

@@ -42,11 +42,6 @@ deep_diagnostic = record {
   code = codes "TooDeep";
 }
 
--- One for each fault of the text's tiling, in order.
-abbrev pub DiagnosesTiling : List ℕ → List Shown → Type 0
-DiagnosesTiling t found =
-    (tiles : List Tile) × Tiling One t tiles × (found ≡ map (fault_shown t) (faults tiles))
-
 -- One for each fault of the tiling, in order, of a text that nests no deeper than the limit; a lone one of a text that
 -- nests deeper, which has more bytes than the limit.
 abbrev pub DiagnosesText : List ℕ → List Shown → Type 0
@@ -54,7 +49,3 @@ DiagnosesText t found =
     ((tiles : List Tile) × Tiling One t tiles × (found ≡ map (fault_shown t) (faults tiles)) ×
     (NestsDeeper One t NESTING_LIMIT → ⊥)) ⊎
     ((found ≡ deep_diagnostic ∷ []) × (NESTING_LIMIT < length t) × NestsDeeper One t NESTING_LIMIT)
-
--- Of a document: one for each fault of the text's tiling, in order; or what a text has that is read by itself.
-abbrev pub DiagnosesDocument : List ℕ → List Shown → Type 0
-DiagnosesDocument t found = DiagnosesTiling t found ⊎ DiagnosesText t found

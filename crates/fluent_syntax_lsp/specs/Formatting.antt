@@ -5,8 +5,10 @@ use Rattle.fluent_syntax_grammar.specs.Body.{faults}
 use Rattle.fluent_syntax_grammar.specs.Nesting.{NestsDeeper}
 use Rattle.fluent_syntax_grammar.specs.RoundTrip.{tree_of}
 use Rattle.fluent_syntax_grammar.specs.Tiling.{Tile, Tiling}
+use Rattle.serde_json.specs.Data.{Data, null, array, item, no_items}
 use Rattle.ftl.specs.Answer.{normal_text}
 use Rattle.ftl.specs.Safe.{is_safe}
+use Rattle.fluent_syntax_lsp.specs.Locations.{edit_form}
 use Rattle.fluent_syntax_lsp.specs.declared.limits.TheConstants.{NESTING_LIMIT}
 
 -- The written text of a text without errors that nests no deeper than the limit, and whose tree is safe to write: it
@@ -23,3 +25,14 @@ IsLeft t =
     ((tiles : List Tile) × Tiling One t tiles
     × ((faults tiles ≢ []) ⊎ (is_safe One (tree_of t tiles) ≡ false)) × (NestsDeeper One t NESTING_LIMIT → ⊥)) ⊎
     ((NESTING_LIMIT < length t) × NestsDeeper One t NESTING_LIMIT)
+
+-- the edit that sets the whole text
+abbrev pub whole_edit_form : (t written : List ℕ) → Data
+whole_edit_form t written = array (item (edit_form t written (record { start = 0; end = length t })) no_items)
+
+-- The value is the edit that makes of the text its formatted text; or null, of one that is left as it is, or is so
+-- formatted.
+pub data FormatsText (t : List ℕ) : Data → Type 0 where
+  formats : (written : List ℕ) → IsFormatted t written → FormatsText t (whole_edit_form t written)
+  stays : IsFormatted t t → FormatsText t null
+  leaves : IsLeft t → FormatsText t null

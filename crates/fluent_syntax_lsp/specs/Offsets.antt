@@ -19,6 +19,12 @@ stops_at byte character column = is_break byte || nat_le (column + 1) (character
 abbrev pub is_reached : (byte : ℕ) (here place : Place) → Bool
 is_reached byte here place = (here.line == place.line) && stops_at byte here.character place.character
 
+-- The line of the number begins with the byte.
+pub record BeginsLine (t : List ℕ) (number at : ℕ) : Type 0 where
+  pub within : at ≤ length t
+  pub line : line_at t at ≡ number
+  pub character : character_at t at ≡ 0
+
 -- The byte stands in the place's line, not behind the column; and the text ends there, or the place is reached.
 pub record IsInLine (t : List ℕ) (place : Place) (byte : ℕ) : Type 0 where
   pub line : line_at t byte ≡ place.line

@@ -1,15 +1,14 @@
 -- The texts and versions of the open documents, and what changes them.
-use Rattle.std.specs.Prelude.{◌≡◌, ℕ, ℤ, List, [], ◌∷◌, ◌++◌, Bool, true, false, Option, Some, None, String}
+use Rattle.std.specs.Prelude.{◌≡◌, ℕ, ℤ, List, Bool, true, false, Option, Some, None, String, string_bytes}
 use Rattle.std.specs.Prelude.{option_map}
 use Rattle.std.specs.BTreeMap.{BTreeMap, get_by_text}
 use Rattle.std.specs.Map.{update}
 use Rattle.std.specs.Str.{bytes_eq}
 use Rattle.std.specs.declared.alloc.Global.{Global}
-use Rattle.fluent_syntax_lsp.specs.Documents.{ChangesBetween, document_text}
-use Rattle.fluent_syntax_lsp.specs.Edits.{Edit, whole, between}
-use Rattle.fluent_syntax_lsp.specs.declared.known.Open.{Open}
+use Rattle.fluent_syntax_lsp.specs.Changes.{MakesEdits}
+use Rattle.fluent_syntax_lsp.specs.Edits.{Edit}
 use Rattle.fluent_syntax_lsp.specs.declared.opened.Documents.{Documents}
-use Rattle.fluent_syntax_lsp.specs.declared.places.Place.{Place}
+use Rattle.fluent_syntax_lsp.specs.declared.opened.Open.{Open}
 
 -- The text of an open document, and the number that the editor gave it, if it gave one.
 pub record OpenText : Type 0 where
@@ -17,7 +16,7 @@ pub record OpenText : Type 0 where
   pub version : Option ℤ
 
 abbrev pub open_text : Open → OpenText
-open_text open' = record { text = document_text open'.document; version = open'.version }
+open_text open' = record { text = string_bytes open'.document.text; version = open'.version }
 
 -- the document that is open under a name
 abbrev pub texts_of : BTreeMap (String Global) Open → (name : List ℕ) → Option OpenText
@@ -30,18 +29,6 @@ texts documents name = texts_of documents.by_name name
 abbrev pub Sets : (old : List ℕ → Option OpenText) → (name : List ℕ) → Option OpenText →
     (new : List ℕ → Option OpenText) → Type 0
 Sets old name found new = (other : List ℕ) → new other ≡ update bytes_eq old name found other
-
--- The change makes the second text of the first.
-pub data MakesEdit (old : List ℕ) : Edit → (new : List ℕ) → Type 0 where
-  makes_whole : (text new : List ℕ) → new ≡ text → MakesEdit old (whole text) new
-  makes_between : (start end : Place) → (text new : List ℕ) → ChangesBetween old start end text new →
-      MakesEdit old (between start end text) new
-
--- The changes, one after another, make the second text of the first.
-pub data MakesEdits (old : List ℕ) : List Edit → (new : List ℕ) → Type 0 where
-  makes_none : MakesEdits old [] old
-  makes_last : (edits : List Edit) (edit : Edit) (made new : List ℕ) → MakesEdits old edits made →
-      MakesEdit made edit new → MakesEdits old (edits ++ edit ∷ []) new
 
 -- The document that was open has that version now, and the text that the changes make of its own.
 pub record MakesOpen (old : OpenText) (version : Option ℤ) (edits : List Edit) (new : OpenText) : Type 0 where

@@ -1,6 +1,6 @@
 -- What a server sends: the kinds of replies, and their JSON values.
 use Rattle.std.specs.Prelude.{ℕ, List, [], codes, Option, Some, None}
-use Rattle.serde_json.specs.Data.{Data, number, string, array, object, item, no_items, member, no_members}
+use Rattle.serde_json.specs.Data.{Data, number, string, array, object, member, no_members}
 use Rattle.serde_json.specs.Find.{of_integer}
 use Rattle.serde_json.specs.View.{items_of}
 use Rattle.fluent_syntax_lsp.specs.Phases.{number_of, text_of}
@@ -35,45 +35,29 @@ refusal_form id code =
     object (member (codes "error") (error_form code) (member (codes "id") id
     (member (codes "jsonrpc") (string (codes "2.0")) no_members)))
 
-abbrev pub publish_form : (uri : List ℕ) → (diagnostics : Data) → Data
-publish_form uri diagnostics =
+abbrev pub diagnostics_form : (uri : List ℕ) → List Data → Data
+diagnostics_form uri diagnostics =
     object (member (codes "jsonrpc") (string (codes "2.0"))
     (member (codes "method") (string (codes "textDocument/publishDiagnostics"))
     (member (codes "params")
-    (object (member (codes "diagnostics") diagnostics (member (codes "uri") (string uri) no_members)))
+    (object (member (codes "diagnostics") (array (items_of diagnostics))
+    (member (codes "uri") (string uri) no_members)))
     no_members)))
 
-abbrev pub diagnostics_form : (uri : List ℕ) → List Data → Data
-diagnostics_form uri diagnostics = publish_form uri (array (items_of diagnostics))
-
-abbrev pub watcher_form : (pattern : List ℕ) → Data
-watcher_form pattern = object (member (codes "globPattern") (string pattern) no_members)
-
-abbrev pub registration_form : Data
-registration_form =
-    object (member (codes "id") (string (codes "ftl-files"))
-    (member (codes "method") (string (codes "workspace/didChangeWatchedFiles"))
-    (member (codes "registerOptions")
-    (object (member (codes "watchers")
-    (array (item (watcher_form (codes "**/*.ftl")) (item (watcher_form (codes "**/ftl.toml")) no_items)))
-    no_members))
-    no_members)))
-
-abbrev pub watch_form : Data
-watch_form =
+-- the request to be told of something, by what it asks for
+abbrev pub register_form : (params : Data) → Data
+register_form params =
     object (member (codes "id") (string (codes "ftl-watch"))
     (member (codes "jsonrpc") (string (codes "2.0"))
     (member (codes "method") (string (codes "client/registerCapability"))
-    (member (codes "params")
-    (object (member (codes "registrations") (array (item registration_form no_items)) no_members))
-    no_members))))
+    (member (codes "params") params no_members))))
 
 -- The value is what is sent for the reply, if anything is.
 pub data IsSent : Reply → Option Data → Type 0 where
   sends_none : IsSent silence None
   sends_answer : (id result : Data) → IsSent (answered id result) (Some (answer_form id result))
   sends_refusal : (id : Data) (code : ErrorCode) → IsSent (refused id code) (Some (refusal_form id code))
-  sends_diagnostics : (uri text : List ℕ) (list : List Data) → TellsDocument uri text list →
+  sends_diagnostics : (uri text : List ℕ) (list : List Data) → TellsDocument text list →
       IsSent (diagnosed uri text) (Some (diagnostics_form uri list))
   sends_withdrawal : (uri : List ℕ) → IsSent (withdrawn uri) (Some (diagnostics_form uri []))
-  sends_watch : IsSent watch (Some watch_form)
+  sends_watch : (params : Data) → IsSent watch (Some (register_form params))

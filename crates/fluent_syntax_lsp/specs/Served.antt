@@ -2,10 +2,8 @@
 use Rattle.std.specs.Prelude.{◌≡◌, ℕ, List, Option, None, Some}
 use Rattle.serde_json.specs.Data.{Data}
 use Rattle.fluent_syntax_lsp.specs.Inbox.{EndsAs, TakesFrame}
-use Rattle.fluent_syntax_lsp.specs.Opened.{texts_of}
 use Rattle.fluent_syntax_lsp.specs.Outbox.{Sends}
 use Rattle.fluent_syntax_lsp.specs.Phases.{ending_of}
-use Rattle.fluent_syntax_lsp.specs.Results.{Sources}
 use Rattle.fluent_syntax_lsp.specs.Sessions.{Answers, Session, TellsAnew}
 use Rattle.fluent_syntax_lsp.specs.declared.endings.Ending.{Ending}
 use Rattle.fluent_syntax_lsp.specs.declared.endings.Ending.TheVariants.{Memory, Output}
@@ -16,18 +14,11 @@ pub record IsFresh (session : Session) : Type 0 where
   pub phase : session.phase ≡ Fresh
   pub none : (name : List ℕ) → session.texts name ≡ None
 
--- The session does the step of the body, from its open documents and some closed files, and that value is to be sent
--- for it, if any is.
-pub record DoesStep (before : Session) (body : List ℕ) (sent : Option Data) (now : Session) : Type 0 where
-  pub sources : Sources
-  pub opened : texts_of sources.documents ≡ before.texts
-  pub answered : Answers before sources body sent now
-
 -- The session does the step of the body, and what is sent for it is put on the output.
 pub record SendsAnswer (before : Session) (body : List ℕ) (now : Session) (written sent_on : Option (List ℕ)) :
     Type 0 where
   pub sent : Option Data
-  pub answered : DoesStep before body sent now
+  pub answered : Answers before body sent now
   pub sends : Sends written sent_on sent
 
 -- A frame is taken off the input, and its body is answered.
@@ -54,7 +45,7 @@ pub data Serves (input output : Option (List ℕ)) : (now : Session) → (left w
 pub data IsUnsent (before : Session) (body : List ℕ) (written : Option (List ℕ)) : Ending → (now : Option (List ℕ)) →
     Type 0 where
   has_no_memory : (now : Option (List ℕ)) → now ≡ written → IsUnsent before body written Memory now
-  is_not_written : (now : Option (List ℕ)) (value : Data) (next : Session) → DoesStep before body (Some value) next →
+  is_not_written : (now : Option (List ℕ)) (value : Data) (next : Session) → Answers before body (Some value) next →
       IsUnsent before body written Output now
 
 -- Why nothing is told anew, and what stands on the output then: likewise.

@@ -4,14 +4,13 @@ use Rattle.std.specs.Prelude.{IfSome, IfNone, is_some, option_and_then}
 use Rattle.std.specs.Str.{IsUtf8}
 use Rattle.serde_json.specs.Data.{Data, Items, null}
 use Rattle.serde_json.specs.Read.{read}
-use Rattle.fluent_syntax_lsp.specs.Asking.{names_open, names_place}
+use Rattle.fluent_syntax_lsp.specs.Asking.{IsResult, names_open, names_place, renames_place}
 use Rattle.fluent_syntax_lsp.specs.Edits.{Edit, edits_in}
 use Rattle.fluent_syntax_lsp.specs.Messages.{message_in, request, notification, response, invalid}
 use Rattle.fluent_syntax_lsp.specs.Methods.{name_of}
 use Rattle.fluent_syntax_lsp.specs.Opened.{MakesOpen, OpenText, Sets, texts}
-use Rattle.fluent_syntax_lsp.specs.Params.{changes_in, new_name_in, opened_text_in, uri_in, version_in}
+use Rattle.fluent_syntax_lsp.specs.Params.{changes_in, opened_text_in, uri_in, version_in}
 use Rattle.fluent_syntax_lsp.specs.Phases.{after_notification, after_request, refusal_of}
-use Rattle.fluent_syntax_lsp.specs.Results.{IsResult, Sources}
 use Rattle.fluent_syntax_lsp.specs.Replies.{IsSent, Reply, silence, answered, refused, diagnosed, withdrawn, watch}
 use Rattle.fluent_syntax_lsp.specs.declared.methods.Method.{Method}
 use Rattle.fluent_syntax_lsp.specs.declared.methods.Method.TheVariants.{DocumentSymbol, Formatting, FoldingRange}
@@ -49,7 +48,7 @@ fits texts d (Some References) = names_place texts d
 fits texts d (Some DocumentHighlight) = names_place texts d
 fits texts d (Some Hover) = names_place texts d
 fits texts d (Some Completion) = names_place texts d
-fits texts d (Some Rename) = names_place texts d && is_some (new_name_in d)
+fits texts d (Some Rename) = renames_place texts d
 fits texts d _ = true
 
 -- A result is found where the parameters fit; a renaming may have none then too, by what stands at the place.
@@ -58,23 +57,23 @@ IsFound (Some Rename) fitting found = found ≡ true → fitting ≡ true
 IsFound _ fitting found = found ≡ fitting
 
 -- What is found for a request of the method, where its phase has none against it.
-pub record Finds (old : Session) (sources : Sources) (d : Data) (method : Option Method) (result : Option Data) :
+pub record Finds (old : Session) (d : Data) (method : Option Method) (result : Option Data) :
     Type 0 where
   pub allowed : refusal_of old.phase method ≡ None
   pub fitting : IsFound method (fits old.texts d method) (is_some result)
-  pub is_result : IsResult sources d method result
+  pub is_result : IsResult old.texts d method result
 
 -- What a request of the method, with that identifier, does: it is refused, by its phase or for its parameters, and
 -- nothing changes; or it is answered by what is found.
-pub data TakesRequest (old : Session) (sources : Sources) (id d : Data) (method : Option Method) :
+pub data TakesRequest (old : Session) (id d : Data) (method : Option Method) :
     Reply → (new : Session) → Type 0 where
   has_no_place : (code : ErrorCode) (new : Session) → refusal_of old.phase method ≡ Some code → new ≡ old →
-      TakesRequest old sources id d method (refused id code) new
-  finds_none : (new : Session) → Finds old sources d method None → new ≡ old →
-      TakesRequest old sources id d method (refused id InvalidParams) new
-  finds : (result : Data) (new : Session) → Finds old sources d method (Some result) →
+      TakesRequest old id d method (refused id code) new
+  finds_none : (new : Session) → Finds old d method None → new ≡ old →
+      TakesRequest old id d method (refused id InvalidParams) new
+  finds : (result : Data) (new : Session) → Finds old d method (Some result) →
       new ≡ record { phase = after_request old.phase method; texts = old.texts } →
-      TakesRequest old sources id d method (answered id result) new
+      TakesRequest old id d method (answered id result) new
 
 -- whether a notification changes a document, or has its diagnostics told, while the session runs
 abbrev pub concerns : (texts : List ℕ → Option OpenText) → Data → Option Method → Bool
@@ -116,19 +115,18 @@ pub data TakesNotification (old : Session) (d : Data) (method : Option Method) :
       new ≡ record { phase = after_notification old.phase method; texts = old.texts } →
       TakesNotification old d method silence new
 
--- What a session does with the body of a message, and what it sends for it, where requests are answered from these
--- sources.
-pub data Steps (old : Session) (sources : Sources) (body : List ℕ) : Reply → (new : Session) → Type 0 where
-  garbled : (IsUtf8 body → read body ≡ None) → Steps old sources body (refused null ParseError) old
+-- What a session does with the body of a message, and what it sends for it.
+pub data Steps (old : Session) (body : List ℕ) : Reply → (new : Session) → Type 0 where
+  garbled : (IsUtf8 body → read body ≡ None) → Steps old body (refused null ParseError) old
   requested : (d id : Data) (name : List ℕ) (method : Option Method) (reply : Reply) (new : Session) →
       read body ≡ Some d → message_in d ≡ request id name → IsMethod name method →
-      TakesRequest old sources id d method reply new → Steps old sources body reply new
+      TakesRequest old id d method reply new → Steps old body reply new
   notified : (d : Data) (name : List ℕ) (method : Option Method) (reply : Reply) (new : Session) →
       read body ≡ Some d → message_in d ≡ notification name → IsMethod name method →
-      TakesNotification old d method reply new → Steps old sources body reply new
-  responded : (d : Data) → read body ≡ Some d → message_in d ≡ response → Steps old sources body silence old
+      TakesNotification old d method reply new → Steps old body reply new
+  responded : (d : Data) → read body ≡ Some d → message_in d ≡ response → Steps old body silence old
   unasked : (d : Data) → read body ≡ Some d → message_in d ≡ invalid →
-      Steps old sources body (refused null InvalidRequest) old
+      Steps old body (refused null InvalidRequest) old
 
 -- The session runs, and the value has the diagnostics of a document that is open in it.
 pub record TellsAnew (session : Session) (value : Data) : Type 0 where
@@ -139,10 +137,10 @@ pub record TellsAnew (session : Session) (value : Data) : Type 0 where
   pub told : IsSent (diagnosed uri found.text) (Some value)
 
 -- The same, where that value is sent for it, if any is.
-abbrev pub AnswersRequest : (old : Session) → Sources → (id d : Data) → Option Method → Option Data →
+abbrev pub AnswersRequest : (old : Session) → (id d : Data) → Option Method → Option Data →
     (new : Session) → Type 0
-AnswersRequest old sources id d method sent new =
-    (reply : Reply) × IsSent reply sent × TakesRequest old sources id d method reply new
+AnswersRequest old id d method sent new =
+    (reply : Reply) × IsSent reply sent × TakesRequest old id d method reply new
 
 abbrev pub AnswersNotification : (old : Session) → Data → Option Method → Option Data → (new : Session) → Type 0
 AnswersNotification old d method sent new =
@@ -152,5 +150,5 @@ abbrev pub AnswersRunning : (old : List ℕ → Option OpenText) → Data → Op
     (new : List ℕ → Option OpenText) → Type 0
 AnswersRunning old d method sent new = (reply : Reply) × IsSent reply sent × Follows old d method reply new
 
-abbrev pub Answers : (old : Session) → Sources → (body : List ℕ) → Option Data → (new : Session) → Type 0
-Answers old sources body sent new = (reply : Reply) × IsSent reply sent × Steps old sources body reply new
+abbrev pub Answers : (old : Session) → (body : List ℕ) → Option Data → (new : Session) → Type 0
+Answers old body sent new = (reply : Reply) × IsSent reply sent × Steps old body reply new

@@ -3,8 +3,8 @@ ghost use Rattle.std.specs.Prelude.{◌≡◌, IfOk, IfSome, OnOk};
 ghost use Rattle.serde_json.specs.View.{view};
 ghost use Rattle.fluent_syntax_lsp.specs.Sessions.{TellsAnew, session_of};
 
-use crate::known::Open;
 use crate::methods::Method;
+use crate::opened::Open;
 use crate::params::uri_of;
 use crate::phases::Phase;
 use crate::server::Server;

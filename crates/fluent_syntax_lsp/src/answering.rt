@@ -1,23 +1,23 @@
 //! What a request asks for.
-ghost use Rattle.std.specs.Prelude.{◌≡◌, is_some, option_map, IfOk, OnOk};
+ghost use Rattle.std.specs.Prelude.{◌≡◌, is_some, option_and_then, option_map, IfOk, OnOk};
 ghost use Rattle.serde_json.specs.View.{view};
-ghost use Rattle.fluent_syntax_lsp.specs.Asking.{names_open};
-ghost use Rattle.fluent_syntax_lsp.specs.Known.{AreKnown};
-ghost use Rattle.fluent_syntax_lsp.specs.Opened.{texts};
-ghost use Rattle.fluent_syntax_lsp.specs.Results.{IsResult, sources_of};
+ghost use Rattle.fluent_syntax_lsp.specs.Asking.{IsFormattingOf, IsResult, names_open};
+ghost use Rattle.fluent_syntax_lsp.specs.Opened.{open_text, texts};
+ghost use Rattle.fluent_syntax_lsp.specs.Params.{uri_in};
 ghost use Rattle.fluent_syntax_lsp.specs.Sessions.{IsFound, fits, session_of};
 
-use crate::documents::Document;
-use crate::formatting::formatted;
+use crate::formatting::formatting_of;
 use crate::highlights::{highlights_of, numbers_of};
 use crate::known::{Known, known_documents};
 use crate::methods::Method;
 use crate::occurrences::bytes_of;
+use crate::opened::Open;
 use crate::params::{takes_related, uri_of};
 use crate::places::Places;
-use crate::replies::{capabilities, fold_list, known_symbol, symbol_list, token_list, whole_edit};
+use crate::replies::{capabilities, fold_list, known_symbol, symbol_list, token_list};
 use crate::server::Server;
 use crate::symbols::{folds_in, symbols_in};
+use crate::tokens::tokens_of;
 use crate::workspace::Workspace;
 use serde_json::Value;
 use std::alloc::AllocError;
@@ -34,7 +34,7 @@ impl Server {
         ensures found { IfOk result (λ found.
             IsFound method (fits (texts self.old.documents) (view message.now) method) (is_some found)) }
         ensures result { IfOk result (λ found.
-            IsResult (sources_of self.old self.new) (view message.now) method (option_map view found)) }
+            IsResult (texts self.old.documents) (view message.now) method (option_map view found)) }
     {
         match method {
             Some(Method::Initialize) => {
@@ -58,16 +58,17 @@ impl Server {
     }
 
     /// The open document that the message names.
-    fn document_of(&self, message: &Value) -> Option<&Document>
-        ensures { is_some result ≡ names_open (texts self.now.documents) (view message.now) }
+    fn document_of(&self, message: &Value) -> Option<&Open>
+        ensures { option_map (λ found. open_text found.now) result
+            ≡ option_and_then (texts self.now.documents) (uri_in (view message.now)) }
     {
-        Some(&self.documents.get(uri_of(message)?)?.document)
+        self.documents.get(uri_of(message)?)
     }
 
     fn symbols(&self, message: &Value) -> Result<Option<Value>, AllocError>
         ensures { IfOk result (λ found. is_some found ≡ names_open (texts self.now.documents) (view message.now)) }
     {
-        let Some(document) = self.document_of(message) else {
+        let Some(Open { document, .. }) = self.document_of(message) else {
             return Ok(None);
         };
         let symbols = symbols_in(self.alloc, document)?;
@@ -77,7 +78,7 @@ impl Server {
     fn folds(&self, message: &Value) -> Result<Option<Value>, AllocError>
         ensures { IfOk result (λ found. is_some found ≡ names_open (texts self.now.documents) (view message.now)) }
     {
-        let Some(document) = self.document_of(message) else {
+        let Some(Open { document, .. }) = self.document_of(message) else {
             return Ok(None);
         };
         let folds = folds_in(self.alloc, document)?;
@@ -87,10 +88,10 @@ impl Server {
     fn tokens(&self, message: &Value) -> Result<Option<Value>, AllocError>
         ensures { IfOk result (λ found. is_some found ≡ names_open (texts self.now.documents) (view message.now)) }
     {
-        let Some(document) = self.document_of(message) else {
+        let Some(Open { document, .. }) = self.document_of(message) else {
             return Ok(None);
         };
-        let tokens = document.tokens(self.alloc)?;
+        let tokens = tokens_of(self.alloc, document.body())?;
         let highlights = highlights_of(self.alloc, document.text(), &tokens)?;
         let numbers = numbers_of(self.alloc, &highlights)?;
         Ok(Some(token_list(self.alloc, &numbers)?))
@@ -98,25 +99,19 @@ impl Server {
 
     /// The edit that formats the document; null where it stays as it is.
     fn formatting(&self, message: &Value) -> Result<Option<Value>, AllocError>
-        ensures { IfOk result (λ found. is_some found ≡ names_open (texts self.now.documents) (view message.now)) }
+        ensures found { IfOk result
+            (λ found. is_some found ≡ names_open (texts self.now.documents) (view message.now)) }
+        ensures formats { let here = option_and_then (texts self.now.documents) (uri_in (view message.now)) in
+            IfOk result (λ found. IsFormattingOf here (option_map view found)) }
     {
-        let Some(document) = self.document_of(message) else {
+        let Some(open) = self.document_of(message) else {
             return Ok(None);
         };
-        let text = document.text();
-        match formatted(self.alloc, text)? {
-            Some(written) if written.as_str() != text => {
-                Ok(Some(whole_edit(self.alloc, text, written.as_str())?))
-            }
-            _ => Ok(Some(Value::Null)),
-        }
+        Ok(Some(formatting_of(self.alloc, open.document.text())?))
     }
 
     /// The open documents and the closed files.
-    pub(crate) fn known(&self) -> Result<Vec<Known<'_>>, AllocError>
-        ensures { IfOk result
-            (λ found. AreKnown self.now.documents.by_name self.now.workspace.files found.items) }
-    {
+    pub(crate) fn known(&self) -> Result<Vec<Known<'_>>, AllocError> {
         known_documents(self.alloc, self.documents.by_name(), self.workspace.files())
     }
 

@@ -1,12 +1,12 @@
 //! A change of a document, as the protocol tells of it.
-ghost use Rattle.std.specs.Prelude.{◌≡◌, map, option_and_then, option_map, IfOk, OnErr, OnOk};
+ghost use Rattle.std.specs.Prelude.{◌≡◌, map, option_and_then, option_map, string_bytes, IfOk};
 ghost use Rattle.serde_json.specs.Find.{as_number, as_u64};
 ghost use Rattle.serde_json.specs.View.{items_view, view};
-ghost use Rattle.fluent_syntax_lsp.specs.Documents.{document_text};
 ghost use Rattle.fluent_syntax_lsp.specs.Edits.{edit_in, edit_of, edits_in, place_in};
-ghost use Rattle.fluent_syntax_lsp.specs.Opened.{MakesEdit};
+ghost use Rattle.fluent_syntax_lsp.specs.Changes.{ChangesBetween, MakesEdit, MakesEdits};
+ghost use Rattle.fluent_syntax_lsp.specs.Offsets.{IsByteOf};
 
-use crate::documents::Document;
+use crate::offsets::byte_of;
 use crate::places::Place;
 use serde_json::Value;
 use std::alloc::{AllocError, Global};
@@ -70,18 +70,58 @@ fn number_of(value: &Value) -> Option<usize>
 }
 
 impl Change<'_> {
-    /// Changes the document. `AllocError` where a growth was refused; the document is then as it was.
-    pub fn apply(&self, alloc: Global, document: &mut Document) -> Result<(), AllocError>
-        ensures text { OnOk result
-            (MakesEdit (document_text document.old) (edit_of self.now) (document_text document.new)) }
-        ensures same { OnErr result (document_text document.new ≡ document_text document.old) }
+    /// The text with the change made. `AllocError` where a growth was refused.
+    fn made_in(&self, alloc: Global, text: &str) -> Result<String, AllocError>
+        ensures { IfOk result (λ made. MakesEdit text.now (edit_of self.now) (string_bytes made)) }
     {
         match self {
-            Change::Whole(text) => *document = Document::new(alloc, text)?,
-            Change::Between { start, end, text } => {
-                document.change_between(alloc, *start, *end, text)?
-            }
+            Change::Whole(whole) => String::from_str(alloc, whole),
+            Change::Between {
+                start,
+                end,
+                text: new,
+            } => changed_between(alloc, text, *start, *end, new),
         }
-        Ok(())
     }
+}
+
+/// The text with another in place of what stands between two places, in whichever order they come.
+fn changed_between(
+    alloc: Global,
+    text: &str,
+    start: Place,
+    end: Place,
+    new: &str,
+) -> Result<String, AllocError>
+    ensures { IfOk result (λ made. ChangesBetween text.now start end new.now (string_bytes made)) }
+{
+    let first = byte_of(text, start);
+    let last = end_byte(text, start, first, end);
+    let mut made = String::from_str(alloc, &text[..first.min(last)])?;
+    made.push_str(new)?;
+    made.push_str(&text[first.max(last)..])?;
+    Ok(made)
+}
+
+/// The byte of the place where a range ends that begins at another, whose byte is known: mostly these are the same.
+fn end_byte(text: &str, start: Place, first: usize, end: Place) -> usize
+    requires { IsByteOf text.now start first }
+    ensures { IsByteOf text.now end result }
+{
+    if end == start {
+        first
+    } else {
+        byte_of(text, end)
+    }
+}
+
+/// The text with the changes made, one after another. `AllocError` where a growth was refused.
+pub fn changed(alloc: Global, text: &str, changes: &[Change<'_>]) -> Result<String, AllocError>
+    ensures { IfOk result (λ made. MakesEdits text.now (map edit_of changes.now) (string_bytes made)) }
+{
+    let mut made = String::from_str(alloc, text)?;
+    for change in changes {
+        made = change.made_in(alloc, made.as_str())?;
+    }
+    Ok(made)
 }

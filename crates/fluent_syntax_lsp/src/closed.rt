@@ -1,10 +1,7 @@
 //! A file of the workspace that is not open, with the names in it.
-ghost use Rattle.std.specs.Prelude.{◌≡◌, IfOk, IfSome, string_bytes};
-ghost use Rattle.fluent_syntax_lsp.specs.Occurrences.{Occurs};
-ghost use Rattle.fluent_syntax_lsp.specs.Own.{AreMentionsOf};
 
 use crate::documents::Document;
-use crate::occurrences::Occurrence;
+use crate::occurrences::{Occurrence, occurrences_of};
 use fluent_syntax::spans::Span;
 use fluent_syntax_names::{Mention, Outline};
 use ftl_workspace::uri_of_path;
@@ -24,29 +21,22 @@ pub struct Closed {
 impl Closed {
     /// The file at the path with the text. None where that nests deeper than `NESTING_LIMIT`. `AllocError` where a
     /// growth was refused.
-    pub fn new(alloc: Global, path: &str, text: String) -> Result<Option<Closed>, AllocError>
-        ensures text { IfOk result (λ found. IfSome found (λ file. string_bytes file.text ≡ string_bytes text)) }
-        ensures names { IfOk result (λ found. IfSome found (λ file.
-            Occurs (string_bytes text) file.occurrences.items)) }
-        ensures mentions { IfOk result (λ found. IfSome found (λ file.
-            AreMentionsOf (string_bytes text) file.mentions.items)) }
-    {
-        match Document::new(alloc, text.as_str())? {
-            Document::Held(held) => Ok(Some(Closed {
-                uri: uri_of_path(alloc, path)?,
-                text,
-                occurrences: held.occurrences(alloc)?,
-                mentions: held.mentions(alloc)?,
-            })),
-            Document::TooDeep(_) => Ok(None),
+    pub fn new(alloc: Global, path: &str, text: String) -> Result<Option<Closed>, AllocError> {
+        let document = Document::new(alloc, text)?;
+        if document.is_too_deep() {
+            return Ok(None);
         }
+        let Outline { mentions, .. } = document.outline(alloc)?;
+        Ok(Some(Closed {
+            uri: uri_of_path(alloc, path)?,
+            text: document.into_text(),
+            occurrences: occurrences_of(alloc, &mentions)?,
+            mentions,
+        }))
     }
 
     /// Its text with what its entries say of names. `AllocError` where a growth was refused.
-    pub fn outline(&self, alloc: Global) -> Result<Outline<'_>, AllocError>
-        ensures text { IfOk result (λ outline. outline.text.now ≡ string_bytes self.now.text) }
-        ensures mentions { IfOk result (λ outline. outline.mentions.items ≡ self.now.mentions.items) }
-    {
+    pub fn outline(&self, alloc: Global) -> Result<Outline<'_>, AllocError> {
         Ok(Outline {
             text: self.text.as_str(),
             mentions: self.mentions.iter().copied().collect(alloc)?,

@@ -1,15 +1,13 @@
 //! The errors of a text, for a client to show.
 ghost use Rattle.std.specs.Prelude.{◌≡◌, ◌≤◌, [], ◌∷◌, length, map, All, IfOk};
-ghost use Rattle.fluent_syntax_lsp.specs.Diagnostics.{DiagnosesText, deep_diagnostic, diagnostic_of, shown};
+ghost use Rattle.fluent_syntax_lsp.specs.Diagnostics.{deep_diagnostic, diagnostic_of, shown};
 
-use crate::limits::NESTING_LIMIT;
 use crate::places::{Place, Places};
-use fluent_syntax::parser::{Edition, ParseFault, ParserError, TooDeep};
-use fluent_syntax::spans::parse_spans_within;
+use fluent_syntax::parser::ParserError;
 use std::alloc::{AllocError, Global};
 
 /// An error of a text: where it is, its kind, and what is said of it.
-#[derive(Debug, Drop)]
+#[derive(Drop)]
 pub struct Diagnostic {
     pub start: Place,
     pub end: Place,
@@ -17,27 +15,8 @@ pub struct Diagnostic {
     pub message: String,
 }
 
-/// The diagnostics of a text: one for each of its errors, in order, at the error's place; a lone one at the text's
-/// begin where the text nests deeper than `NESTING_LIMIT`. `AllocError` where a growth was refused.
-pub fn diagnostics_in(alloc: Global, text: &str) -> Result<Vec<Diagnostic>, AllocError>
-    ensures { IfOk result (λ found. DiagnosesText text.now (map shown found.items)) }
-{
-    match parse_spans_within(alloc, text, Edition::One, NESTING_LIMIT) {
-        Ok(Ok(_tree)) => Ok(Vec::new(alloc)),
-        Ok(Err(ParseFault::Syntax(_tree, errors))) => {
-            let found = diagnostics_of(alloc, text, &errors)?;
-            Ok(found)
-        }
-        Ok(Err(ParseFault::Memory)) => Err(AllocError),
-        Err(TooDeep) => {
-            let found = too_deep(alloc)?;
-            Ok(found)
-        }
-    }
-}
-
 /// What is said of a text that nests too deeply.
-fn too_deep(alloc: Global) -> Result<Vec<Diagnostic>, AllocError>
+pub(crate) fn too_deep(alloc: Global) -> Result<Vec<Diagnostic>, AllocError>
     ensures { IfOk result (λ found. map shown found.items ≡ deep_diagnostic ∷ []) }
 {
     let start = Place {

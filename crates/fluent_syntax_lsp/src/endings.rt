@@ -5,7 +5,7 @@ ghost use Rattle.fluent_syntax_lsp.specs.Endings.{status_of, line_of};
 use crate::frames::FrameFault;
 
 /// Why a session ended.
-#[derive(Clone, Copy, Debug, PartialEq, Eq)]
+#[derive(Clone, Copy, PartialEq, Eq)]
 pub enum Ending {
     /// `exit` came after `shutdown`.
     Exited,

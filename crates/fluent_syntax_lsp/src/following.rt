@@ -8,9 +8,8 @@ ghost use Rattle.fluent_syntax_lsp.specs.Sessions.{AnswersRunning};
 use crate::changes::changes_of;
 use crate::methods::Method;
 use crate::params::{changes_in, opened_text, uri_of, version_of};
-use crate::replies::watch_request;
+use crate::replies::{diagnostics_notification, register_request, watch_params};
 use crate::server::Server;
-use crate::told::Told;
 use serde_json::Value;
 use std::alloc::AllocError;
 
@@ -45,7 +44,8 @@ impl Server {
             IsSent watch (option_map view sent) ⊎ IsSent silence (option_map view sent)) }
     {
         if self.workspace.wants_watch() {
-            return Ok(Some(watch_request(self.alloc)?));
+            let params = watch_params(self.alloc)?;
+            return Ok(Some(register_request(self.alloc, params)?));
         }
         Ok(None)
     }
@@ -125,7 +125,7 @@ impl Server {
         self.documents.close(uri);
         drop(self.defined.remove(uri));
         self.workspace.forget_defined();
-        let none = Told::new(self.alloc, uri, self.related);
-        Ok(Some(self.published(uri, none)?))
+        let none = Vec::new(self.alloc);
+        Ok(Some(diagnostics_notification(self.alloc, uri, none)?))
     }
 }

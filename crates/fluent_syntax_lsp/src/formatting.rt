@@ -1,11 +1,16 @@
 //! The formatted text of a document.
-ghost use Rattle.std.specs.Prelude.{IfOk, MatchOption, string_bytes};
-ghost use Rattle.fluent_syntax_lsp.specs.Formatting.{IsFormatted, IsLeft};
+ghost use Rattle.std.specs.Prelude.{◌≡◌, IfOk, MatchOption, string_bytes};
+ghost use Rattle.serde_json.specs.View.{view};
+ghost use Rattle.fluent_syntax_lsp.specs.Formatting.{FormatsText, IsFormatted, IsLeft, whole_edit_form};
 
 use crate::limits::NESTING_LIMIT;
+use crate::places::Places;
+use crate::replies::edit_form;
 use fluent_syntax::parser::{Edition, ParseFault, TooDeep, parse_within};
 use fluent_syntax::serializer::serialize;
+use fluent_syntax::spans::Span;
 use ftl::first_unsafe;
+use serde_json::{Value, json};
 use std::alloc::{AllocError, Global};
 
 /// The text formatted. None of a text that has an error, since its junk would be lost, of one that would not read back
@@ -23,4 +28,28 @@ pub fn formatted(alloc: Global, text: &str) -> Result<Option<String>, AllocError
         Ok(Err(ParseFault::Syntax(_tree, _errors))) => Ok(None),
         Err(TooDeep) => Ok(None),
     }
+}
+
+/// The edit that formats the text, as the protocol has it; null where the text stays as it is. `AllocError` where a
+/// growth was refused.
+pub fn formatting_of(alloc: Global, text: &str) -> Result<Value, AllocError>
+    ensures { IfOk result (λ value. FormatsText text.now (view value)) }
+{
+    match formatted(alloc, text)? {
+        None => Ok(Value::Null),
+        Some(written) if written.as_str() == text => Ok(Value::Null),
+        Some(written) => whole_edit(alloc, text, written.as_str()),
+    }
+}
+
+/// The edit that sets the whole text.
+fn whole_edit(alloc: Global, text: &str, written: &str) -> Result<Value, AllocError>
+    ensures { IfOk result (λ value. view value ≡ whole_edit_form text.now written.now) }
+{
+    let whole = Span {
+        start: 0,
+        end: text.len(),
+    };
+    let edit = edit_form(alloc, &mut Places::new(text), whole, written)?;
+    json!(in alloc; [edit])
 }

@@ -7,7 +7,7 @@ use crate::fields::content_length;
 use crate::limits::{BODY_LIMIT, HEADER_LIMIT};
 
 /// Why no frame can be read.
-#[derive(Clone, Copy, Debug, PartialEq, Eq)]
+#[derive(Clone, Copy, PartialEq, Eq)]
 pub enum FrameFault {
     /// The header has more than `HEADER_LIMIT` bytes with its empty line.
     LongHeader,
@@ -18,7 +18,7 @@ pub enum FrameFault {
 }
 
 /// What bytes begin with.
-#[derive(Clone, Copy, Debug, PartialEq, Eq)]
+#[derive(Clone, Copy, PartialEq, Eq)]
 pub enum Framing {
     /// A frame, whose body lies from `start` up to `end`, where the frame ends.
     Frame { start: usize, end: usize },

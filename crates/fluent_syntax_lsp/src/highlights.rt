@@ -1,15 +1,11 @@
 //! Tokens as the protocol counts them.
-ghost use Rattle.std.specs.Prelude.{◌≡◌, ◌++◌, IfOk, OnOk, filter_map};
-ghost use Rattle.fluent_syntax_lsp.specs.Highlights.{columns_behind, highlight_of, modifier_bits, numbers_from, row_of};
-ghost use Rattle.fluent_syntax_lsp.specs.Highlights.{start_of_text, type_number};
 
 use crate::places::{Place, Places, START};
-use crate::remarks::range_of;
 use crate::token::{Token, TokenKind};
 use std::alloc::{AllocError, Global};
 
 /// A token where the protocol has it: in one line.
-#[derive(Clone, Copy, Debug, PartialEq, Eq)]
+#[derive(Clone, Copy)]
 pub struct Highlight {
     pub start: Place,
     /// How many UTF-16 units it has.
@@ -23,9 +19,7 @@ pub fn highlights_of(
     alloc: Global,
     text: &str,
     tokens: &[Token],
-) -> Result<Vec<Highlight>, AllocError>
-    ensures { IfOk result (λ list. list.items ≡ filter_map (highlight_of text.now) tokens.now) }
-{
+) -> Result<Vec<Highlight>, AllocError> {
     let mut places = Places::new(text);
     let mut list = Vec::new(alloc);
     for token in tokens {
@@ -37,11 +31,8 @@ pub fn highlights_of(
     Ok(list)
 }
 
-fn highlight_of(places: &mut Places<'_>, token: Token) -> Option<Highlight>
-    ensures text { places.new ≡ places.old }
-    ensures highlight { result ≡ highlight_of places.old token }
-{
-    let range = range_of(places, token.marked());
+fn highlight_of(places: &mut Places<'_>, token: Token) -> Option<Highlight> {
+    let range = places.range(token.marked());
     if range.start.line == range.end.line && range.start.character < range.end.character {
         Some(Highlight {
             start: range.start,
@@ -55,9 +46,7 @@ fn highlight_of(places: &mut Places<'_>, token: Token) -> Option<Highlight>
 
 /// Five numbers for each highlight, as the protocol wants them: the lines and columns from the one before it, its
 /// length, its type and its modifiers. `AllocError` where a growth was refused.
-pub fn numbers_of(alloc: Global, highlights: &[Highlight]) -> Result<Vec<usize>, AllocError>
-    ensures { IfOk result (λ list. list.items ≡ numbers_from start_of_text highlights.now) }
-{
+pub fn numbers_of(alloc: Global, highlights: &[Highlight]) -> Result<Vec<usize>, AllocError> {
     let mut list = Vec::new(alloc);
     let mut before = START;
     for highlight in highlights {
@@ -68,9 +57,7 @@ pub fn numbers_of(alloc: Global, highlights: &[Highlight]) -> Result<Vec<usize>,
 }
 
 /// Adds the numbers of a highlight behind one that begins at `before`.
-fn add_row(list: &mut Vec<usize>, before: Place, highlight: Highlight) -> Result<(), AllocError>
-    ensures { OnOk result (list.new.items ≡ list.old.items ++ row_of before highlight) }
-{
+fn add_row(list: &mut Vec<usize>, before: Place, highlight: Highlight) -> Result<(), AllocError> {
     list.push(highlight.start.line.saturating_sub(before.line))?;
     list.push(columns_behind(before, highlight.start))?;
     list.push(highlight.length)?;
@@ -80,9 +67,7 @@ fn add_row(list: &mut Vec<usize>, before: Place, highlight: Highlight) -> Result
 }
 
 /// The column of a place, from that of one before it where they are in the same line.
-fn columns_behind(before: Place, place: Place) -> usize
-    ensures { result ≡ columns_behind before place }
-{
+fn columns_behind(before: Place, place: Place) -> usize {
     if before.line == place.line {
         place.character.saturating_sub(before.character)
     } else {
@@ -91,9 +76,7 @@ fn columns_behind(before: Place, place: Place) -> usize
 }
 
 /// The number of its type in the legend.
-fn type_number(kind: TokenKind) -> usize
-    ensures { result ≡ type_number kind }
-{
+fn type_number(kind: TokenKind) -> usize {
     match kind {
         TokenKind::Message | TokenKind::MessageReference => 0,
         TokenKind::Attribute | TokenKind::AttributeReference => 0,
@@ -109,8 +92,6 @@ fn type_number(kind: TokenKind) -> usize
 }
 
 /// Its modifiers: the one of the legend where an entry defines it.
-fn modifier_bits(kind: TokenKind) -> usize
-    ensures { result ≡ modifier_bits kind }
-{
+fn modifier_bits(kind: TokenKind) -> usize {
     if kind.defines() { 1 } else { 0 }
 }

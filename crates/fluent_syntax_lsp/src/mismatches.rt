@@ -1,77 +1,61 @@
 //! What of a document and its original one has and the other lacks.
-ghost use Rattle.std.specs.Prelude.{◌≡◌, IfOk, filter_map, map};
-ghost use Rattle.fluent_syntax_names.specs.declared.differences.Side.TheVariants.{Other, Reference};
-ghost use Rattle.fluent_syntax_lsp.specs.Mismatches.{difference_of, differences, part_difference};
 
 use crate::occurrences::{bytes_of, is_name_byte};
-use crate::places::{Place, Places, START};
-use crate::remarks::{PlaceRange, range_of};
+use crate::originals::Original;
+use crate::places::{Place, PlaceRange, Places, START};
+use crate::told::{Related, Told};
 use fluent_syntax::spans::Span;
-use fluent_syntax_names::{Difference, Lack, Mention, Outline, Part, RefusedNames, Side, lacks};
+use fluent_syntax_names::{Lack, Mention, Outline, Part, RefusedNames, Side, lacks};
 use std::alloc::{AllocError, Global};
 use std::collections::BTreeMap;
-
-/// A difference between a document and its original.
-#[derive(Drop)]
-pub struct Mismatch {
-    pub difference: Difference,
-    /// Where the document has what the original lacks, or the entry that lacks something. Where it lacks an entry, the
-    /// name with which the first junk begins that is this entry; its own begin, where none is.
-    pub range: PlaceRange,
-    pub message: String,
-    /// Where the original has what the document lacks.
-    pub original: Option<PlaceRange>,
-}
 
 /// What the original has and the document lacks, in the order of the original, and then what the document has and the
 /// original lacks, in the order of the document. `shown` is the path of the original, as it is told.
 ///
 /// `AllocError` where a growth was refused.
-pub fn mismatches_of(
+pub fn mismatches_of<'u>(
     alloc: Global,
     document: &Outline<'_>,
-    original: &Outline<'_>,
+    original: &Original<'u>,
     shown: &str,
-) -> Result<Vec<Mismatch>, AllocError>
-    ensures { IfOk result (λ found.
-        map difference_of found.items ≡ differences document.now original.now) }
-{
-    let missing = lacks(alloc, original, document)?;
-    let mut found = missing_of(alloc, document, original, shown, &missing)?;
-    let more = lacks(alloc, document, original)?;
-    found.append(&mut more_of(alloc, document.text, &more)?)?;
-    Ok(found)
+) -> Result<Vec<Told<'u>>, AllocError> {
+    let mut told = missing_of(alloc, document, original, shown)?;
+    told.append(&mut more_of(alloc, document, original)?)?;
+    Ok(told)
 }
 
-/// What is told of that which the document lacks.
-fn missing_of(
+/// What is told of that which the document lacks: at the entry that lacks it, or at the name with which the first junk
+/// begins that is the entry; at the document's begin, where neither is.
+fn missing_of<'u>(
     alloc: Global,
     document: &Outline<'_>,
-    original: &Outline<'_>,
+    original: &Original<'u>,
     shown: &str,
-    lacks: &[Lack],
-) -> Result<Vec<Mismatch>, AllocError>
-    ensures { IfOk result (λ found.
-        map difference_of found.items ≡ filter_map (part_difference Reference) lacks.now) }
-{
-    let entries = EntryPlaces::new(alloc, document, original)?;
-    let mut own = Places::new(document.text);
-    let mut theirs = Places::new(original.text);
-    let mut found = Vec::new(alloc);
-    for lack in lacks {
+) -> Result<Vec<Told<'u>>, AllocError> {
+    let theirs = &original.outline;
+    let entries = EntryPlaces::new(alloc, document, theirs)?;
+    let mut places = Places::new(document.text);
+    let mut their_places = Places::new(theirs.text);
+    let mut told = Vec::new(alloc);
+    for lack in lacks(alloc, theirs, document)?.iter() {
         if let Some(difference) = Side::Reference.difference(lack.part) {
-            let there = range_of(&mut theirs, lack.name);
-            let said = difference.sentence(alloc, bytes_of(original.text, lack.name))?;
-            let (range, is_junk) = entries.range_in_document(&mut own, original.text, lack);
-            found.push(Mismatch {
-                difference,
+            let there = their_places.range(lack.name);
+            let said = difference.sentence(alloc, bytes_of(theirs.text, lack.name))?;
+            let (range, is_junk) = entries.range_in_document(&mut places, theirs.text, lack);
+            told.push(Told {
                 range,
+                severity: difference.severity(),
+                code: difference.name(),
                 message: message_of(alloc, said.as_str(), shown, there.start, is_junk)?,
-                original: Some(there),
+                related: Some(Related {
+                    uri: original.uri,
+                    range: there,
+                    message: "what the reference has",
+                }),
             })?;
         }
     }
-    Ok(found)
+    Ok(told)
 }
 
 /// What is said of a part, with its place in the original, and that it is junk if it is.
@@ -89,23 +73,25 @@ fn message_of(
 }
 
 /// What is told of that which the original lacks.
-fn more_of(alloc: Global, text: &str, lacks: &[Lack]) -> Result<Vec<Mismatch>, AllocError>
-    ensures { IfOk result (λ found.
-        map difference_of found.items ≡ filter_map (part_difference Other) lacks.now) }
-{
-    let mut places = Places::new(text);
-    let mut found = Vec::new(alloc);
-    for lack in lacks {
+fn more_of<'u>(
+    alloc: Global,
+    document: &Outline<'_>,
+    original: &Original<'u>,
+) -> Result<Vec<Told<'u>>, AllocError> {
+    let mut places = Places::new(document.text);
+    let mut told = Vec::new(alloc);
+    for lack in lacks(alloc, document, &original.outline)?.iter() {
         if let Some(difference) = Side::Other.difference(lack.part) {
-            found.push(Mismatch {
-                difference,
-                range: range_of(&mut places, lack.name),
-                message: difference.sentence(alloc, bytes_of(text, lack.name))?,
-                original: None,
+            told.push(Told {
+                range: places.range(lack.name),
+                severity: difference.severity(),
+                code: difference.name(),
+                message: difference.sentence(alloc, bytes_of(document.text, lack.name))?,
+                related: None,
             })?;
         }
     }
-    Ok(found)
+    Ok(told)
 }
 
 /// The entries of an original, and where a document has those of the same names.
@@ -175,7 +161,7 @@ impl<'d> EntryPlaces<'d> {
             None => None,
         };
         match own {
-            Some(span) => range_of(places, span),
+            Some(span) => places.range(span),
             None => PlaceRange {
                 start: START,
                 end: START,
@@ -202,7 +188,7 @@ fn refused_ranges(
                 start: content.start,
                 end: content.start.saturating_add(length),
             };
-            let range = range_of(&mut places, name);
+            let range = places.range(name);
             names.note(alloc, document.text, *content, range)?;
         }
     }

@@ -1,17 +1,11 @@
 //! The names in a text, each where it stands.
-ghost use Rattle.std.specs.Prelude.{◌≡◌, ◌∷◌, false, IfOk, None, OnOk, Some};
-ghost use Rattle.fluent_syntax_lsp.specs.Occurrences.{AddsMention, AddsNames, attribute_of, named, occurrences};
-ghost use Rattle.fluent_syntax_lsp.specs.Occurrences.{cut, is_at, is_attribute, is_named, is_same_kind, name_of};
-ghost use Rattle.fluent_syntax_lsp.specs.Occurrences.{name_text, now_of, place_of, text_in};
-ghost use Rattle.fluent_syntax_grammar.specs.Bytes.{is_name_byte};
-ghost use Rattle.fluent_syntax_lsp.specs.Remarks.{IsCut};
 
 use fluent_syntax::spans::Span;
 use fluent_syntax_names::Mention;
 use std::alloc::{AllocError, Global};
 
 /// What a name is one of.
-#[derive(Clone, Copy, Debug, PartialEq, Eq)]
+#[derive(Clone, Copy, PartialEq, Eq)]
 pub enum NameKind {
     Message,
     Term,
@@ -20,7 +14,7 @@ pub enum NameKind {
 }
 
 /// A name in a text, or that of an attribute.
-#[derive(Clone, Copy, Debug)]
+#[derive(Clone, Copy)]
 pub struct Occurrence {
     pub kind: NameKind,
     /// The name, without the `-` of a term or the `$` of a variable.
@@ -33,9 +27,7 @@ pub struct Occurrence {
 
 impl Occurrence {
     /// A name without an attribute.
-    fn of(kind: NameKind, name: Span, defines: bool) -> Self
-        ensures { result ≡ named kind name defines }
-    {
+    fn of(kind: NameKind, name: Span, defines: bool) -> Self {
         Occurrence {
             kind,
             name,
@@ -45,9 +37,7 @@ impl Occurrence {
     }
 
     /// Where it stands.
-    pub fn place(&self) -> Span
-        ensures { result ≡ place_of self.now }
-    {
+    pub fn place(&self) -> Span {
         match self.attribute {
             None => self.name,
             Some(attribute) => attribute,
@@ -55,23 +45,19 @@ impl Occurrence {
     }
 
     /// Whether it stands at the byte or ends there.
-    pub fn is_at(&self, byte: usize) -> bool
-        ensures { result ≡ is_at byte self.now }
-    {
+    pub fn is_at(&self, byte: usize) -> bool {
         let place = self.place();
         place.start <= byte && byte <= place.end
     }
 }
 
 /// Whether a name may have the byte behind its first letter.
-pub fn is_name_byte(byte: u8) -> bool
-    ensures { result ≡ is_name_byte byte }
-{
+pub fn is_name_byte(byte: u8) -> bool {
     byte.is_ascii_alphanumeric() || byte == b'-' || byte == b'_'
 }
 
 /// What a name is one of, and its text: where these are the same, the names stand for the same.
-#[derive(Clone, Copy, Debug, PartialEq, Eq)]
+#[derive(Clone, Copy, PartialEq, Eq)]
 pub struct Name<'t> {
     pub kind: NameKind,
     pub name: &'t str,
@@ -79,66 +65,17 @@ pub struct Name<'t> {
 }
 
 /// The bytes of a range of the text; none where it has no such range.
-pub fn bytes_of(text: &str, span: Span) -> &str
-    ensures cut { IsCut text.now span result.now }
-    ensures text { result.now ≡ text_in text.now span }
-{
-    let (start, end) = (span.start, span.end);
-    if start <= end && text.is_char_boundary(start) && text.is_char_boundary(end) {
-        &text[start..end]
-    } else {
-        ""
-    }
-}
-
-/// The bytes of a range of the text; none where it has no such range.
-fn cut(text: &[u8], span: Span) -> &[u8]
-    ensures { result.now ≡ cut text.now span }
-{
-    if span.start <= span.end && span.end <= text.len() {
-        &text[span.start..span.end]
-    } else {
-        &[]
-    }
+pub fn bytes_of(text: &str, span: Span) -> &str {
+    text.get(span.start..span.end).unwrap_or("")
 }
 
 /// Whether it is this name that occurs in the text.
-pub fn is_named(text: &str, occurrence: &Occurrence, name: Name<'_>) -> bool
-    ensures { result ≡ is_named text.now occurrence.now (name_text name.entry) }
-{
-    let text = text.as_bytes();
-    is_same_kind(occurrence.kind, name.kind)
-        && cut(text, occurrence.name) == name.name.as_bytes()
-        && is_attribute(text, occurrence.attribute, name.attribute)
-}
-
-fn is_same_kind(a: NameKind, b: NameKind) -> bool
-    ensures { result ≡ is_same_kind a b }
-{
-    matches!(
-        (a, b),
-        (NameKind::Message, NameKind::Message)
-            | (NameKind::Term, NameKind::Term)
-            | (NameKind::Variable, NameKind::Variable)
-            | (NameKind::Function, NameKind::Function)
-    )
-}
-
-/// Whether the range has this attribute's name, or there are none.
-fn is_attribute(text: &[u8], span: Option<Span>, attribute: Option<&str>) -> bool
-    ensures { result ≡ is_attribute text.now span (now_of attribute.entry) }
-{
-    match (span, attribute) {
-        (None, None) => true,
-        (Some(span), Some(attribute)) => cut(text, span) == attribute.as_bytes(),
-        _ => false,
-    }
+pub fn is_named(text: &str, occurrence: &Occurrence, name: Name<'_>) -> bool {
+    name_of(text, *occurrence) == name
 }
 
 /// The name that occurs in the text.
-pub fn name_of(text: &str, occurrence: Occurrence) -> Name<'_>
-    ensures { name_text result ≡ name_of text.now occurrence }
-{
+pub fn name_of(text: &str, occurrence: Occurrence) -> Name<'_> {
     Name {
         kind: occurrence.kind,
         name: bytes_of(text, occurrence.name),
@@ -153,9 +90,7 @@ pub fn name_of(text: &str, occurrence: Occurrence) -> Name<'_>
 pub fn occurrences_of(
     alloc: Global,
     mentions: &[Mention<Span>],
-) -> Result<Vec<Occurrence>, AllocError>
-    ensures { IfOk result (λ found. found.items ≡ occurrences None mentions.now) }
-{
+) -> Result<Vec<Occurrence>, AllocError> {
     let mut found = Vec::new(alloc);
     let mut owner = None;
     for mention in mentions {
@@ -170,9 +105,7 @@ fn add_mention(
     found: &mut Vec<Occurrence>,
     owner: Option<Occurrence>,
     mention: Mention<Span>,
-) -> Result<Option<Occurrence>, AllocError>
-    ensures { IfOk result (λ next. AddsMention found.old.items found.new.items owner mention next) }
-{
+) -> Result<Option<Occurrence>, AllocError> {
     match mention {
         Mention::Message { name, .. } => {
             let message = Occurrence::of(NameKind::Message, name, true);
@@ -214,10 +147,7 @@ fn add_reference(
     kind: NameKind,
     name: Span,
     attribute: Option<Span>,
-) -> Result<(), AllocError>
-    ensures { OnOk result (AddsNames found.old.items found.new.items
-        (λ rest. named kind name false ∷ attribute_of (Some (named kind name false)) attribute rest)) }
-{
+) -> Result<(), AllocError> {
     let reference = Occurrence::of(kind, name, false);
     found.push(reference)?;
     add_attribute(found, Some(reference), attribute)
@@ -228,9 +158,7 @@ fn add_attribute(
     found: &mut Vec<Occurrence>,
     owner: Option<Occurrence>,
     attribute: Option<Span>,
-) -> Result<(), AllocError>
-    ensures { OnOk result (AddsNames found.old.items found.new.items (attribute_of owner attribute)) }
-{
+) -> Result<(), AllocError> {
     if let (Some(owner), Some(_)) = (owner, attribute) {
         found.push(Occurrence { attribute, ..owner })?;
     }

@@ -3,12 +3,21 @@ ghost use Rattle.std.specs.Prelude.{◌≡◌, ℕ, List, is_some, map, option_m
 ghost use Rattle.fluent_syntax_lsp.specs.Edits.{edit_of};
 ghost use Rattle.fluent_syntax_lsp.specs.Opened.{MakesOpen, open_text, Sets, SetsMade, texts};
 
-use crate::changes::Change;
+use crate::changes::{Change, changed};
 use crate::documents::Document;
-use crate::known::Open;
 use ftl_workspace::path_of_uri;
 use std::alloc::{AllocError, Global};
 use std::collections::BTreeMap;
+
+/// A document as it is open.
+#[derive(Drop)]
+pub struct Open {
+    /// The path of its file, if its name is that of one.
+    pub path: Option<String>,
+    /// The number that the editor gave it, if it gave one.
+    pub version: Option<i64>,
+    pub document: Document,
+}
 
 /// The documents that are open, by their names.
 #[derive(Drop)]
@@ -59,7 +68,7 @@ impl Documents {
             OnOk result (Sets (texts self.old) name.now made (texts self.new)) }
     {
         let key = String::from_str(alloc, name)?;
-        let document = Document::new(alloc, text)?;
+        let document = Document::new(alloc, String::from_str(alloc, text)?)?;
         let path = path_of_uri(alloc, name)?;
         let open = Open {
             path,
@@ -100,7 +109,15 @@ impl Documents {
 }
 
 impl Open {
-    /// Makes the changes, in order. `AllocError` where a growth was refused.
+    /// The path of its file, or its name where it has none.
+    pub fn path_or<'o>(&'o self, name: &'o str) -> &'o str {
+        match &self.path {
+            Some(path) => path.as_str(),
+            None => name,
+        }
+    }
+
+    /// Makes the changes, one after another. `AllocError` where a growth was refused.
     fn change(
         &mut self,
         alloc: Global,
@@ -110,10 +127,9 @@ impl Open {
         ensures { OnOk result
             (MakesOpen (open_text self.old) version (map edit_of changes.now) (open_text self.new)) }
     {
+        let text = changed(alloc, self.document.text(), changes)?;
+        self.document = Document::new(alloc, text)?;
         self.version = version;
-        for change in changes {
-            change.apply(alloc, &mut self.document)?;
-        }
         Ok(())
     }
 }

@@ -1,8 +1,7 @@
 //! The files of the reference language, of which the others are to be translations.
 
 use crate::closed::Closed;
-use crate::documents::Document;
-use crate::known::Open;
+use crate::opened::Open;
 use fluent_syntax_names::Outline;
 use ftl_workspace::original_of;
 use std::alloc::{AllocError, Global};
@@ -55,20 +54,20 @@ pub fn original_at<'d>(
 ) -> Result<Option<Original<'d>>, AllocError> {
     for (uri, open) in documents.iter() {
         if open.path.as_deref() == Some(path) {
-            return match &open.document {
-                Document::Held(held) => Ok(Some(Original {
-                    uri: uri.as_str(),
-                    outline: held.outline(alloc)?,
-                })),
-                Document::TooDeep(_) => Ok(None),
-            };
+            if open.document.is_too_deep() {
+                return Ok(None);
+            }
+            return Ok(Some(Original {
+                uri: uri.as_str(),
+                outline: open.document.outline(alloc)?,
+            }));
         }
     }
-    match files.get(path) {
-        Some(file) => Ok(Some(Original {
-            uri: file.uri.as_str(),
-            outline: file.outline(alloc)?,
-        })),
-        None => Ok(None),
-    }
+    let Some(file) = files.get(path) else {
+        return Ok(None);
+    };
+    Ok(Some(Original {
+        uri: file.uri.as_str(),
+        outline: file.outline(alloc)?,
+    }))
 }

@@ -1,8 +1,7 @@
 //! What is defined and said beside a document.
 
-use crate::documents::Document;
-use crate::known::Open;
 use crate::limits::FINDINGS_LIMIT;
+use crate::opened::Open;
 use crate::workspace::{Workspace, is_open};
 use fluent_syntax_names::{DefinedNames, Outline};
 use std::alloc::{AllocError, Global};
@@ -22,7 +21,9 @@ pub fn look_up_others(
     for (other, open) in documents.iter() {
         let name = other.as_str();
         if name != uri && !defined.contains_key(name) {
-            let names = open.document.defined(alloc)?;
+            let outline = open.document.outline(alloc)?;
+            let mut names = DefinedNames::new(alloc);
+            names.add(alloc, outline.text, &outline.mentions)?;
             drop(defined.insert(String::from_str(alloc, name)?, names)?);
         }
     }
@@ -47,8 +48,8 @@ pub fn others_of<'d>(
     others.push(closed)?;
     for (other, open) in documents.iter() {
         if other.as_str() != uri {
-            match (&open.document, defined.get(other.as_str())) {
-                (Document::Held(_), Some(names)) => others.push(names)?,
+            match defined.get(other.as_str()) {
+                Some(names) if !open.document.is_too_deep() => others.push(names)?,
                 _ => return Ok(None),
             }
         }
@@ -71,10 +72,11 @@ pub fn outlines_of<'d>(
     }
     let mut outlines = Vec::new(alloc);
     for (other, open) in documents.iter() {
-        match &open.document {
-            Document::Held(_) if other.as_str() == uri => {}
-            Document::Held(held) => outlines.push(held.outline(alloc)?)?,
-            Document::TooDeep(_) => return Ok(None),
+        if open.document.is_too_deep() {
+            return Ok(None);
+        }
+        if other.as_str() != uri {
+            outlines.push(open.document.outline(alloc)?)?;
         }
     }
     for (path, file) in workspace.files().iter() {

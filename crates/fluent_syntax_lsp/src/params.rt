@@ -2,8 +2,8 @@
 ghost use Rattle.std.specs.Prelude.{◌≡◌, option_map};
 ghost use Rattle.serde_json.specs.View.{items_view, view};
 ghost use Rattle.fluent_syntax_lsp.specs.Edits.{asked_place_in};
-ghost use Rattle.fluent_syntax_lsp.specs.Params.{changes_in, new_name_in, opened_text_in, takes_related_in, uri_in};
-ghost use Rattle.fluent_syntax_lsp.specs.Params.{version_in, wanted_in};
+ghost use Rattle.fluent_syntax_lsp.specs.Params.{changes_in, new_name_in, opened_text_in, uri_in};
+ghost use Rattle.fluent_syntax_lsp.specs.Params.{version_in};
 
 use crate::changes::place_of;
 use crate::known::Wanted;
@@ -11,9 +11,7 @@ use crate::places::Place;
 use serde_json::Value;
 
 /// Whether an editor that says this of itself takes related information of a diagnostic.
-pub fn takes_related(message: &Value) -> bool
-    ensures { result ≡ takes_related_in (view message.now) }
-{
+pub fn takes_related(message: &Value) -> bool {
     message
         .pointer("/params/capabilities/textDocument/publishDiagnostics/relatedInformation")
         .and_then(Value::as_bool)
@@ -67,9 +65,7 @@ pub fn asked_place(message: &Value) -> Option<Place>
 }
 
 /// Which places of a name are asked for.
-pub fn wanted_by(message: &Value) -> Wanted
-    ensures { result ≡ wanted_in (view message.now) }
-{
+pub fn wanted_by(message: &Value) -> Wanted {
     let declared = message
         .pointer("/params/context/includeDeclaration")
         .and_then(Value::as_bool);

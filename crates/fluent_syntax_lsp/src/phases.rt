@@ -7,7 +7,7 @@ use crate::endings::Ending;
 use crate::methods::Method;
 
 /// How far a session is.
-#[derive(Clone, Copy, Debug, PartialEq, Eq)]
+#[derive(Clone, Copy, PartialEq, Eq)]
 pub enum Phase {
     /// `initialize` has not come.
     Fresh,
@@ -21,7 +21,7 @@ pub enum Phase {
 }
 
 /// Why a message is refused.
-#[derive(Clone, Copy, Debug, PartialEq, Eq)]
+#[derive(Clone, Copy, PartialEq, Eq)]
 pub enum ErrorCode {
     /// The body is no JSON text.
     ParseError,

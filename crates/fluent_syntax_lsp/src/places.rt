@@ -2,13 +2,21 @@
 ghost use Rattle.std.specs.Prelude.{◌≡◌, ◌+◌, ◌^◌, ◌<◌, ◌≤◌, ℕ, List, length, min};
 ghost use Rattle.fluent_syntax_lsp.specs.Places.{ends_line, utf16_units, place_at, line_at, character_at, IsPlace};
 
+use fluent_syntax::spans::Span;
 use std::marker::Model;
 
 /// A line and a column, both from 0. The column counts UTF-16 units.
-#[derive(Clone, Copy, Debug, PartialEq, Eq)]
+#[derive(Clone, Copy, PartialEq, Eq)]
 pub struct Place {
     pub line: usize,
     pub character: usize,
+}
+
+/// From one place to another.
+#[derive(Clone, Copy)]
+pub struct PlaceRange {
+    pub start: Place,
+    pub end: Place,
 }
 
 /// Where a text begins.
@@ -81,6 +89,14 @@ impl Places<'_> {
         let size = self.text.len();
         self.place(byte.min(size))
     }
+
+    /// Where a range of the text begins and ends.
+    pub fn range(&mut self, span: Span) -> PlaceRange {
+        PlaceRange {
+            start: self.place_or_end(span.start),
+            end: self.place_or_end(span.end),
+        }
+    }
 }
 
 /// The place behind a byte of the text that has this one.
@@ -104,7 +120,7 @@ pub(crate) fn place_behind(text: &[u8], at: usize, here: Place) -> Place
 }
 
 /// Whether a line ends with the byte: an LF, or a CR before anything but an LF.
-fn is_line_end(text: &[u8], at: usize) -> bool
+pub(crate) fn is_line_end(text: &[u8], at: usize) -> bool
     requires { at < length text.now }
     ensures { result ≡ ends_line text.now at }
 {

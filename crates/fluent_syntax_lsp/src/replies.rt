@@ -1,10 +1,8 @@
 //! The messages that a server sends, as JSON values.
 ghost use Rattle.std.specs.Prelude.{◌≡◌, IfOk, map};
 ghost use Rattle.serde_json.specs.View.{view};
-ghost use Rattle.fluent_syntax_lsp.specs.Locations.{document_edits_form, edit_form, highlight_form, location_form};
-ghost use Rattle.fluent_syntax_lsp.specs.Locations.{place_form, range_form, span_form};
-ghost use Rattle.fluent_syntax_lsp.specs.Replies.{answer_form, diagnostics_form, publish_form};
-ghost use Rattle.fluent_syntax_lsp.specs.Replies.{refusal_form, watch_form};
+ghost use Rattle.fluent_syntax_lsp.specs.Locations.{edit_form, place_form, range_form, span_form};
+ghost use Rattle.fluent_syntax_lsp.specs.Replies.{answer_form, diagnostics_form, refusal_form, register_form};
 
 use crate::known::Known;
 use crate::occurrences::{NameKind, Occurrence, bytes_of, name_of};
@@ -31,49 +29,91 @@ pub fn refusal(alloc: Global, id: Value, code: ErrorCode) -> Result<Value, Alloc
 
 /// What the server can do.
 pub fn capabilities(alloc: Global) -> Result<Value, AllocError> {
+    json!(in alloc; {"capabilities": (provided(alloc)?), "serverInfo": {"name": "ftl"}})
+}
+
+/// The parts of the protocol that the server answers, each by its name.
+fn provided(alloc: Global) -> Result<Value, AllocError> {
     json!(in alloc; {
-        "capabilities": {
-            "positionEncoding": "utf-16",
-            "textDocumentSync": {"openClose": true, "change": 2, "save": true},
-            "documentSymbolProvider": true,
-            "documentFormattingProvider": true,
-            "foldingRangeProvider": true,
-            "definitionProvider": true,
-            "referencesProvider": true,
-            "documentHighlightProvider": true,
-            "hoverProvider": true,
-            "renameProvider": true,
-            "completionProvider": {"triggerCharacters": ["{", "-", "$", "."]},
-            "workspaceSymbolProvider": true,
-            "semanticTokensProvider": {
-                "legend": {
-                    "tokenTypes": [
-                        "property", "macro", "variable", "function", "parameter", "string",
-                        "number", "enumMember", "comment"
-                    ],
-                    "tokenModifiers": ["declaration"]
-                },
-                "full": true
-            }
-        },
-        "serverInfo": {"name": "ftl"}
+        "positionEncoding": "utf-16",
+        "textDocumentSync": (document_sync(alloc)?),
+        "documentSymbolProvider": true,
+        "documentFormattingProvider": true,
+        "foldingRangeProvider": true,
+        "definitionProvider": true,
+        "referencesProvider": true,
+        "documentHighlightProvider": true,
+        "hoverProvider": true,
+        "renameProvider": true,
+        "completionProvider": (completion_provider(alloc)?),
+        "workspaceSymbolProvider": true,
+        "semanticTokensProvider": (tokens_provider(alloc)?)
     })
 }
 
-/// The request by which an editor watches the files of its folders.
-pub fn watch_request(alloc: Global) -> Result<Value, AllocError>
-    ensures { IfOk result (λ value. view value ≡ watch_form) }
+/// Which changes of a document the server is told.
+fn document_sync(alloc: Global) -> Result<Value, AllocError> {
+    json!(in alloc; {"openClose": true, "change": 2, "save": true})
+}
+
+/// The characters after which names are proposed.
+fn completion_provider(alloc: Global) -> Result<Value, AllocError> {
+    json!(in alloc; {"triggerCharacters": (text_list(alloc, &["{", "-", "$", "."])?)})
+}
+
+/// The kinds of tokens, by whose places in the list the tokens name them.
+fn tokens_provider(alloc: Global) -> Result<Value, AllocError> {
+    let types = [
+        "property",
+        "macro",
+        "variable",
+        "function",
+        "parameter",
+        "string",
+        "number",
+        "enumMember",
+        "comment",
+    ];
+    json!(in alloc; {
+        "legend": {
+            "tokenTypes": (text_list(alloc, &types)?),
+            "tokenModifiers": ["declaration"]
+        },
+        "full": true
+    })
+}
+
+/// A list of texts.
+fn text_list(alloc: Global, texts: &[&str]) -> Result<Value, AllocError> {
+    let mut list = Vec::new(alloc);
+    for text in texts {
+        list.push(json!(in alloc; (*text))?)?;
+    }
+    Ok(Value::Array(list))
+}
+
+/// The request to be told of something, by what it asks for.
+pub fn register_request(alloc: Global, params: Value) -> Result<Value, AllocError>
+    ensures { IfOk result (λ value. view value ≡ register_form (view params)) }
 {
     json!(in alloc; {
         "jsonrpc": "2.0",
         "id": "ftl-watch",
         "method": "client/registerCapability",
-        "params": {"registrations": [{
-            "id": "ftl-files",
-            "method": "workspace/didChangeWatchedFiles",
-            "registerOptions": {"watchers": [{"globPattern": "**/*.ftl"}, {"globPattern": "**/ftl.toml"}]}
-        }]}
+        "params": params
     })
+}
+
+/// What asks to be told of changes of the files in the editor's folders.
+pub fn watch_params(alloc: Global) -> Result<Value, AllocError> {
+    let texts = json!(in alloc; {"globPattern": "**/*.ftl"})?;
+    let settings = json!(in alloc; {"globPattern": "**/ftl.toml"})?;
+    let registration = json!(in alloc; {
+        "id": "ftl-files",
+        "method": "workspace/didChangeWatchedFiles",
+        "registerOptions": {"watchers": [texts, settings]}
+    })?;
+    json!(in alloc; {"registrations": [registration]})
 }
 
 /// The notification of a document's diagnostics.
@@ -84,13 +124,7 @@ pub fn diagnostics_notification(
 ) -> Result<Value, AllocError>
     ensures { IfOk result (λ value. view value ≡ diagnostics_form uri.now (map view diagnostics.items)) }
 {
-    told_form(alloc, uri, Value::Array(diagnostics))
-}
-
-/// The notification of a list of diagnostics.
-fn told_form(alloc: Global, uri: &str, diagnostics: Value) -> Result<Value, AllocError>
-    ensures { IfOk result (λ value. view value ≡ publish_form uri.now (view diagnostics)) }
-{
+    let diagnostics = Value::Array(diagnostics);
     json!(in alloc; {
         "jsonrpc": "2.0",
         "method": "textDocument/publishDiagnostics",
@@ -98,17 +132,8 @@ fn told_form(alloc: Global, uri: &str, diagnostics: Value) -> Result<Value, Allo
     })
 }
 
-/// The edit that sets the whole text.
-pub fn whole_edit(alloc: Global, text: &str, written: &str) -> Result<Value, AllocError> {
-    let mut places = Places::new(text);
-    let start = places.place(0);
-    let end = places.place(text.len());
-    let range = range_form(alloc, start, end)?;
-    json!(in alloc; [{"range": range, "newText": written}])
-}
-
 /// The symbols of a text, in order.
-pub fn symbol_list(alloc: Global, text: &str, symbols: &Vec<Symbol>) -> Result<Value, AllocError> {
+pub fn symbol_list(alloc: Global, text: &str, symbols: &[Symbol]) -> Result<Value, AllocError> {
     let mut places = Places::new(text);
     let mut list = Vec::new(alloc);
     for symbol in symbols {
@@ -124,45 +149,48 @@ fn symbol_form(
     places: &mut Places<'_>,
     symbol: &Symbol,
 ) -> Result<Value, AllocError> {
-    let selected = match symbol.kind {
-        SymbolKind::Term => Span {
-            start: symbol.name.start.saturating_sub(1),
-            end: symbol.name.end,
-        },
-        SymbolKind::Message | SymbolKind::Attribute => symbol.name,
-    };
-    let range = span_form(alloc, places, symbol.whole)?;
-    let selection = span_form(alloc, places, selected)?;
     let mut children = Vec::new(alloc);
     for name in &symbol.attributes {
-        children.push(attribute_form(alloc, text, places, *name)?)?;
+        let shown = Shown {
+            name: bytes_of(text, *name),
+            kind: SymbolKind::Attribute,
+            whole: *name,
+            selected: *name,
+        };
+        children.push(shown_form(alloc, places, shown, Vec::new(alloc))?)?;
     }
-    let children = Value::Array(children);
-    json!(in alloc; {
-        "name": (bytes_of(text, selected)),
-        "kind": (kind_number(symbol.kind)),
-        "range": range,
-        "selectionRange": selection,
-        "children": children
-    })
+    let shown = Shown {
+        name: bytes_of(text, symbol.name),
+        kind: symbol.kind,
+        whole: symbol.whole,
+        selected: symbol.name,
+    };
+    shown_form(alloc, places, shown, children)
 }
 
-/// An attribute, by its name.
-fn attribute_form(
+/// What is told of a symbol: its name, its kind, its stretch, and the part of that which is its name.
+#[derive(Clone, Copy)]
+struct Shown<'a> {
+    name: &'a str,
+    kind: SymbolKind,
+    whole: Span,
+    selected: Span,
+}
+
+/// A symbol with those under it.
+fn shown_form(
     alloc: Global,
-    text: &str,
     places: &mut Places<'_>,
-    name: Span,
+    shown: Shown<'_>,
+    children: Vec<Value>,
 ) -> Result<Value, AllocError> {
-    let range = span_form(alloc, places, name)?;
-    let selection = span_form(alloc, places, name)?;
-    let none = Value::Array(Vec::new(alloc));
+    let children = Value::Array(children);
     json!(in alloc; {
-        "name": (bytes_of(text, name)),
-        "kind": (kind_number(SymbolKind::Attribute)),
-        "range": range,
-        "selectionRange": selection,
-        "children": none
+        "name": (shown.name),
+        "kind": (kind_number(shown.kind)),
+        "range": (span_form(alloc, places, shown.whole)?),
+        "selectionRange": (span_form(alloc, places, shown.selected)?),
+        "children": children
     })
 }
 
@@ -176,7 +204,7 @@ fn kind_number(kind: SymbolKind) -> u64 {
 }
 
 /// The folds of a text, in order.
-pub fn fold_list(alloc: Global, folds: &Vec<Fold>) -> Result<Value, AllocError> {
+pub fn fold_list(alloc: Global, folds: &[Fold]) -> Result<Value, AllocError> {
     let mut list = Vec::new(alloc);
     for fold in folds {
         let (first, last) = (fold.first as u64, fold.last as u64);
@@ -211,10 +239,7 @@ pub fn location_form(
     uri: &str,
     places: &mut Places<'_>,
     span: Span,
-) -> Result<Value, AllocError>
-    ensures text { places.new ≡ places.old }
-    ensures form { IfOk result (λ value. view value ≡ location_form uri.now places.old span) }
-{
+) -> Result<Value, AllocError> {
     let range = span_form(alloc, places, span)?;
     json!(in alloc; {"uri": uri, "range": range})
 }
@@ -224,10 +249,7 @@ pub fn highlight_form(
     alloc: Global,
     places: &mut Places<'_>,
     span: Span,
-) -> Result<Value, AllocError>
-    ensures text { places.new ≡ places.old }
-    ensures form { IfOk result (λ value. view value ≡ highlight_form places.old span) }
-{
+) -> Result<Value, AllocError> {
     let range = span_form(alloc, places, span)?;
     json!(in alloc; {"range": range})
 }
@@ -251,15 +273,14 @@ pub fn edits_of_document(
     alloc: Global,
     uri: &str,
     version: Option<i64>,
-    edits: Value,
-) -> Result<Value, AllocError>
-    ensures { IfOk result (λ value. view value ≡ document_edits_form uri.now version (view edits)) }
-{
-    match version {
-        Some(version) =>
-            json!(in alloc; {"textDocument": {"uri": uri, "version": version}, "edits": edits}),
-        None => json!(in alloc; {"textDocument": {"uri": uri, "version": null}, "edits": edits}),
-    }
+    edits: Vec<Value>,
+) -> Result<Value, AllocError> {
+    let edits = Value::Array(edits);
+    let version = match version {
+        Some(version) => json!(in alloc; version)?,
+        None => Value::Null,
+    };
+    json!(in alloc; {"textDocument": {"uri": uri, "version": version}, "edits": edits})
 }
 
 /// A name that may be chosen.
@@ -287,12 +308,25 @@ pub fn known_symbol(
         (None, _) => (SymbolKind::Message, name.name),
     };
     let number = kind_number(kind);
+    let symbol = json!(in alloc; {"name": shown, "kind": number, "location": location})?;
     match name.attribute {
-        None => json!(in alloc; {"name": shown, "kind": number, "location": location}),
-        Some(_) => json!(in alloc; {
-            "name": shown, "kind": number, "location": location, "containerName": (name.name)
-        }),
+        None => Ok(symbol),
+        Some(_) => with_member(alloc, symbol, "containerName", json!(in alloc; (name.name))?),
     }
+}
+
+/// An object with a member more.
+pub fn with_member(
+    alloc: Global,
+    object: Value,
+    key: &str,
+    member: Value,
+) -> Result<Value, AllocError> {
+    let mut object = object;
+    if let Some(members) = object.as_object_mut() {
+        drop(members.insert(String::from_str(alloc, key)?, member)?);
+    }
+    Ok(object)
 }
 
 /// A range, by its two places.

@@ -5,7 +5,6 @@ ghost use Rattle.serde_json.specs.View.{view};
 ghost use Rattle.fluent_syntax_lsp.specs.Opened.{texts};
 ghost use Rattle.fluent_syntax_lsp.specs.Phases.{ending_of};
 ghost use Rattle.fluent_syntax_lsp.specs.Replies.{IsSent, refused};
-ghost use Rattle.fluent_syntax_lsp.specs.Results.{sources_of};
 ghost use Rattle.fluent_syntax_lsp.specs.Sessions.{Answers, AnswersNotification, AnswersRequest, session_of};
 
 use crate::endings::Ending;
@@ -68,7 +67,7 @@ impl Server {
     /// `AllocError` where a growth was refused.
     pub fn take<F: Folders>(&mut self, body: &[u8], files: &F) -> Result<Option<Value>, AllocError>
         ensures { IfOk result (λ sent.
-            Answers (session_of self.old) (sources_of self.old self.new) body.now (option_map view sent)
+            Answers (session_of self.old) body.now (option_map view sent)
             (session_of self.new)) }
     {
         let value = match Value::from_slice(self.alloc, body) {
@@ -97,8 +96,7 @@ impl Server {
 
     /// Reads the files of the workspace, if they may be others now.
     fn read_files<F: Folders>(&mut self, anew: bool, files: &F) -> Result<(), AllocError>
-        ensures same { OnOk result (session_of self.new ≡ session_of self.old) }
-        ensures documents { OnOk result (self.new.documents ≡ self.old.documents) }
+        ensures { OnOk result (session_of self.new ≡ session_of self.old) }
     {
         if anew {
             self.workspace.read(self.alloc, files)?;
@@ -127,7 +125,7 @@ impl Server {
         method: Option<Method>,
         message: &Value,
     ) -> Result<Option<Value>, AllocError>
-        ensures { IfOk result (λ sent. AnswersRequest (session_of self.old) (sources_of self.old self.new)
+        ensures { IfOk result (λ sent. AnswersRequest (session_of self.old)
             (view id) (view message.now) method (option_map view sent) (session_of self.new)) }
     {
         if let Some(code) = self.phase.refusal(method) {

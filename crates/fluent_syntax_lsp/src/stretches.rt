@@ -1,56 +1,44 @@
 //! Where the entries of a document stand, with their comments.
 
-use fluent_syntax::ast::Entry;
+use fluent_syntax::ast::{Comment, Entry};
 use fluent_syntax::spans::Span;
-use fluent_syntax_reread::placed::Placed;
 
-/// The range so many bytes on.
-pub fn moved(base: usize, span: Span) -> Span {
-    Span {
-        start: base.saturating_add(span.start),
-        end: base.saturating_add(span.end),
+/// Where the entry begins, with the comment that hangs on it.
+fn start_of(text: &str, entry: &Entry<Span>) -> usize {
+    match entry {
+        Entry::Message(message) => start_with(text, &message.comment, message.id.name.start),
+        Entry::Term(term) => start_with(text, &term.comment, term.id.name.start.saturating_sub(1)),
+        Entry::Comment(comment)
+        | Entry::GroupComment(comment)
+        | Entry::ResourceComment(comment) => start_of_comment(text, comment),
+        Entry::Junk { content } => content.start,
     }
 }
 
-/// Where entries stand that come one after the other.
-#[derive(Drop)]
-pub struct Stretches<'t> {
-    text: &'t [u8],
-    /// The comment before, if there is one.
-    comment: Option<Span>,
+/// Where what begins at the place begins with its comment, if it has one.
+fn start_with(text: &str, comment: &Option<Comment<Span>>, own: usize) -> usize {
+    match comment {
+        Some(comment) => start_of_comment(text, comment),
+        None => own,
+    }
 }
 
-impl<'t> Stretches<'t> {
-    pub fn new(text: &'t str) -> Self {
-        Stretches {
-            text: text.as_bytes(),
-            comment: None,
+/// Where the first line of the comment begins.
+fn start_of_comment(text: &str, comment: &Comment<Span>) -> usize {
+    match comment.content.first() {
+        Some(line) => start_of_line(text.as_bytes(), line.start),
+        None => 0,
+    }
+}
+
+/// Where the line begins in which the byte stands.
+fn start_of_line(text: &[u8], byte: usize) -> usize {
+    for at in (0..byte.min(text.len())).rev() {
+        if text[at] == b'\n' {
+            return at + 1;
         }
     }
-
-    /// Where the next tile stands, without blanks behind it; a message or a term with the comment that ends where it
-    /// begins.
-    pub fn next(&mut self, tile: &Placed) -> Span {
-        let own = moved(tile.base, tile.found.span);
-        let whole = Span {
-            start: self.start_of(own, &tile.found.entry),
-            end: trimmed_end(self.text, own.end),
-        };
-        self.comment = match tile.found.entry {
-            Entry::Comment(_) => Some(own),
-            _ => None,
-        };
-        whole
-    }
-
-    fn start_of(&self, own: Span, entry: &Entry<Span>) -> usize {
-        match (entry, self.comment) {
-            (Entry::Message(_) | Entry::Term(_), Some(before)) if before.end == own.start => {
-                before.start
-            }
-            _ => own.start,
-        }
-    }
+    0
 }
 
 /// Where what ends at the byte ends without spaces and line ends.
@@ -61,4 +49,24 @@ fn trimmed_end(text: &[u8], end: usize) -> usize {
         }
     }
     0
+}
+
+/// Where the entry of that number stands, with its comment and without blanks behind it: nothing else stands between it
+/// and the next one.
+pub fn stretch_of(text: &str, body: &[Entry<Span>], number: usize) -> Option<Span> {
+    let start = start_of(text, body.get(number)?);
+    let next = match number.checked_add(1).and_then(|next| body.get(next)) {
+        Some(next) => start_of(text, next),
+        None => text.len(),
+    };
+    Some(Span {
+        start,
+        end: trimmed_end(text.as_bytes(), next),
+    })
+}
+
+/// Where the entry stands that is the last to begin before the byte or there. None where none does.
+pub fn stretch_at(text: &str, body: &[Entry<Span>], byte: usize) -> Option<Span> {
+    let behind = body.partition_point(|entry| start_of(text, entry) <= byte);
+    stretch_of(text, body, behind.checked_sub(1)?)
 }

@@ -2,14 +2,13 @@
 
 use crate::documents::Document;
 use crate::places::Places;
-use crate::stretches::{Stretches, moved};
+use crate::stretches::stretch_of;
 use fluent_syntax::ast::{Attribute, Comment, Entry};
 use fluent_syntax::spans::Span;
-use fluent_syntax_reread::placed::Placed;
 use std::alloc::{AllocError, Global};
 
 /// What a symbol stands for.
-#[derive(Clone, Copy, Debug, PartialEq, Eq)]
+#[derive(Clone, Copy)]
 pub enum SymbolKind {
     Message,
     Term,
@@ -17,18 +16,18 @@ pub enum SymbolKind {
 }
 
 /// A message or a term of a document, with its attributes.
-#[derive(Debug, Drop)]
+#[derive(Drop)]
 pub struct Symbol {
     pub kind: SymbolKind,
     /// The entry with its comment, without blanks behind it.
     pub whole: Span,
-    /// Without the `-` of a term.
+    /// With the `-` of a term.
     pub name: Span,
     pub attributes: Vec<Span>,
 }
 
 /// Lines that can be folded, both from 0.
-#[derive(Clone, Copy, Debug, PartialEq, Eq)]
+#[derive(Clone, Copy)]
 pub struct Fold {
     pub first: usize,
     pub last: usize,
@@ -37,41 +36,44 @@ pub struct Fold {
 /// The symbols of a document, in order. None of one that nests deeper than `NESTING_LIMIT`.
 pub fn symbols_in(alloc: Global, document: &Document) -> Result<Vec<Symbol>, AllocError> {
     let mut found = Vec::new(alloc);
-    let mut stretches = Stretches::new(document.text());
-    for tile in document.tiles() {
-        let whole = stretches.next(tile);
-        if let Some(symbol) = symbol_of(alloc, tile, whole)? {
-            found.push(symbol)?;
+    for number in 0..document.body().len() {
+        if let Some(whole) = stretch_of(document.text(), document.body(), number) {
+            if let Some(symbol) = symbol_of(alloc, &document.body()[number], whole)? {
+                found.push(symbol)?;
+            }
         }
     }
     Ok(found)
 }
 
-/// The symbol of a tile. None of comments and junk.
-fn symbol_of(alloc: Global, tile: &Placed, whole: Span) -> Result<Option<Symbol>, AllocError> {
-    let (kind, name, attributes) = match &tile.found.entry {
+/// The symbol of an entry. None of comments and junk.
+fn symbol_of(
+    alloc: Global,
+    entry: &Entry<Span>,
+    whole: Span,
+) -> Result<Option<Symbol>, AllocError> {
+    let (kind, name, attributes) = match entry {
         Entry::Message(message) => (SymbolKind::Message, message.id.name, &message.attributes),
-        Entry::Term(term) => (SymbolKind::Term, term.id.name, &term.attributes),
-        Entry::Comment(_) | Entry::GroupComment(_) | Entry::ResourceComment(_) => return Ok(None),
-        Entry::Junk { content: _ } => return Ok(None),
+        Entry::Term(term) => {
+            let Span { start, end } = term.id.name;
+            let start = start.saturating_sub(1);
+            (SymbolKind::Term, Span { start, end }, &term.attributes)
+        }
+        _ => return Ok(None),
     };
     Ok(Some(Symbol {
         kind,
         whole,
-        name: moved(tile.base, name),
-        attributes: names_of(alloc, tile.base, attributes)?,
+        name,
+        attributes: names_of(alloc, attributes)?,
     }))
 }
 
-/// The names of attributes, which are counted from the base.
-fn names_of(
-    alloc: Global,
-    base: usize,
-    attributes: &Vec<Attribute<Span>>,
-) -> Result<Vec<Span>, AllocError> {
+/// The names of attributes.
+fn names_of(alloc: Global, attributes: &[Attribute<Span>]) -> Result<Vec<Span>, AllocError> {
     let mut names = Vec::new(alloc);
     for attribute in attributes {
-        names.push(moved(base, attribute.id.name))?;
+        names.push(attribute.id.name)?;
     }
     Ok(names)
 }
@@ -80,32 +82,30 @@ fn names_of(
 pub fn folds_in(alloc: Global, document: &Document) -> Result<Vec<Fold>, AllocError> {
     let mut found = Vec::new(alloc);
     let mut places = Places::new(document.text());
-    for tile in document.tiles() {
-        if let Some(comment) = comment_of(&tile.found.entry) {
-            if let Some(fold) = fold_of(&mut places, tile.base, comment) {
-                found.push(fold)?;
-            }
+    for entry in document.body() {
+        if let Some(fold) = comment_of(entry).and_then(|comment| fold_of(&mut places, comment)) {
+            found.push(fold)?;
         }
     }
     Ok(found)
 }
 
-/// The comment that a tile is.
+/// The comment that an entry is, or that hangs on it.
 fn comment_of(entry: &Entry<Span>) -> Option<&Comment<Span>> {
     match entry {
-        Entry::Comment(comment) | Entry::GroupComment(comment) | Entry::ResourceComment(comment) =>
-            { Some(comment) }
-        Entry::Message(_) | Entry::Term(_) => None,
+        Entry::Comment(comment)
+        | Entry::GroupComment(comment)
+        | Entry::ResourceComment(comment) => Some(comment),
+        Entry::Message(message) => message.comment.as_ref(),
+        Entry::Term(term) => term.comment.as_ref(),
         Entry::Junk { content: _ } => None,
     }
 }
 
-/// The lines of a comment, if it has several. Its places are counted from the base.
-fn fold_of(places: &mut Places<'_>, base: usize, comment: &Comment<Span>) -> Option<Fold> {
-    let first = moved(base, *comment.content.first()?);
-    let last = moved(base, *comment.content.last()?);
-    let first = places.place_or_end(first.start).line;
-    let last = places.place_or_end(last.start).line;
+/// The lines of a comment, if it has several.
+fn fold_of(places: &mut Places<'_>, comment: &Comment<Span>) -> Option<Fold> {
+    let first = places.place_or_end(comment.content.first()?.start).line;
+    let last = places.place_or_end(comment.content.last()?.start).line;
     if first < last {
         Some(Fold { first, last })
     } else {

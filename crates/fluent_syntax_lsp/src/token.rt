@@ -1,11 +1,9 @@
 //! What an editor can highlight: a stretch of the text, and what stands there.
-ghost use Rattle.std.specs.Prelude.{◌≡◌};
-ghost use Rattle.fluent_syntax_lsp.specs.Tokens.{defines, marked};
 
 use fluent_syntax::spans::Span;
 
 /// What a token is.
-#[derive(Clone, Copy, Debug, PartialEq, Eq)]
+#[derive(Clone, Copy, Debug)]
 pub enum TokenKind {
     /// A line of a comment, without its marks.
     Comment,
@@ -36,7 +34,7 @@ pub enum TokenKind {
 }
 
 /// A token of a text.
-#[derive(Clone, Copy, Debug, PartialEq, Eq)]
+#[derive(Clone, Copy)]
 pub struct Token {
     pub kind: TokenKind,
     /// The name, the number or the text, without the `-` of a term, the `$` of a variable and the quotes of a string.
@@ -45,9 +43,7 @@ pub struct Token {
 
 impl TokenKind {
     /// Whether an entry defines what has the name.
-    pub fn defines(self) -> bool
-        ensures { result ≡ defines self }
-    {
+    pub fn defines(self) -> bool {
         matches!(
             self,
             TokenKind::Message | TokenKind::Term | TokenKind::Attribute
@@ -57,9 +53,7 @@ impl TokenKind {
 
 impl Token {
     /// Its range with the `-` of a term, the `$` of a variable or the quotes of a string.
-    pub fn marked(self) -> Span
-        ensures { result ≡ marked self }
-    {
+    pub fn marked(self) -> Span {
         let Span { start, end } = self.span;
         match self.kind {
             TokenKind::Term | TokenKind::TermReference | TokenKind::Variable => Span {

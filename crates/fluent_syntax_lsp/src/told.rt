@@ -1,206 +1,99 @@
 //! The diagnostics of a document, as the protocol has them.
-ghost use Rattle.std.specs.Prelude.{◌≡◌, ◌∷◌, ◌++◌, [], map, None, Some, option_map, IfOk, OnOk};
+ghost use Rattle.std.specs.Prelude.{◌≡◌, map, string_bytes, IfOk};
 ghost use Rattle.serde_json.specs.View.{view};
-ghost use Rattle.fluent_syntax_lsp.specs.Told.{IsToldAlike, error_form, first_told, mismatch_form, original_told};
-ghost use Rattle.fluent_syntax_lsp.specs.Told.{related_form, remark_form, row_form, severity_number, taken, told_in};
+ghost use Rattle.fluent_syntax_lsp.specs.Told.{diagnostic_form, error_form, severity_number};
 
 use crate::diagnostics::Diagnostic;
-use crate::mismatches::Mismatch;
-use crate::remarks::{PlaceRange, Remark};
-use crate::replies::range_form;
+use crate::places::PlaceRange;
+use crate::replies::{range_form, with_member};
 use fluent_syntax_names::Severity;
 use serde_json::{Value, json};
 use std::alloc::{AllocError, Global};
 
-/// What is told of a document.
+/// What is told of a document beside its errors.
 #[derive(Drop)]
 pub struct Told<'u> {
-    alloc: Global,
-    uri: &'u str,
-    /// Whether the editor takes related information.
-    related: bool,
-    pub diagnostics: Vec<Value>,
+    pub range: PlaceRange,
+    pub severity: Severity,
+    /// The name of its kind.
+    pub code: &'static str,
+    pub message: String,
+    /// Another place that it has to do with.
+    pub related: Option<Related<'u>>,
 }
 
-impl<'u> Told<'u> {
-    /// Nothing yet.
-    pub fn new(alloc: Global, uri: &'u str, related: bool) -> Self
-        ensures none { told_in result ≡ [] }
-        ensures uri { result.uri.now ≡ uri.now }
-        ensures related { result.related ≡ related }
-    {
-        Told {
-            alloc,
-            uri,
-            related,
-            diagnostics: Vec::new(alloc),
-        }
-    }
-
-    /// Adds errors of the document.
-    pub fn add_errors(&mut self, errors: &[Diagnostic]) -> Result<(), AllocError>
-        ensures told { OnOk result (told_in self.new ≡ told_in self.old ++ map error_form errors.now) }
-        ensures alike { OnOk result (IsToldAlike self.old self.new) }
-    {
-        for error in errors {
-            let range = PlaceRange {
-                start: error.start,
-                end: error.end,
-            };
-            let row = Row {
-                range,
-                severity: Severity::Error,
-                code: error.code,
-                message: error.message.as_str(),
-            };
-            self.add(row, None)?;
-        }
-        Ok(())
-    }
-
-    /// Adds findings in it.
-    pub fn add_remarks(&mut self, remarks: &[Remark]) -> Result<(), AllocError>
-        ensures told { OnOk result (told_in self.new
-            ≡ told_in self.old ++ map (remark_form self.old.uri.now self.old.related) remarks.now) }
-        ensures alike { OnOk result (IsToldAlike self.old self.new) }
-    {
-        for remark in remarks {
-            let row = Row {
-                range: remark.range,
-                severity: remark.kind.severity(),
-                code: remark.kind.name(),
-                message: remark.message.as_str(),
-            };
-            let first = first_given(self.uri, remark.first);
-            self.add(row, first)?;
-        }
-        Ok(())
-    }
-
-    /// Adds what it and its original, which has this name, don't have alike.
-    pub fn add_mismatches(
-        &mut self,
-        original: &str,
-        mismatches: &[Mismatch],
-    ) -> Result<(), AllocError>
-        ensures told { OnOk result (told_in self.new
-            ≡ told_in self.old ++ map (mismatch_form original.now self.old.related) mismatches.now) }
-        ensures alike { OnOk result (IsToldAlike self.old self.new) }
-    {
-        for mismatch in mismatches {
-            let row = Row {
-                range: mismatch.range,
-                severity: mismatch.difference.severity(),
-                code: mismatch.difference.name(),
-                message: mismatch.message.as_str(),
-            };
-            let there = original_place(original, mismatch.original);
-            self.add(row, there)?;
-        }
-        Ok(())
-    }
-
-    fn add(&mut self, row: Row<'_>, related: Option<Related<'_>>) -> Result<(), AllocError>
-        ensures told { let place = taken (option_map related_form related.entry) self.old.related in
-            OnOk result (told_in self.new ≡ told_in self.old ++ row_form row.entry place ∷ []) }
-        ensures alike { OnOk result (IsToldAlike self.old self.new) }
-    {
-        let value = diagnostic_form(self.alloc, row, related, self.related)?;
-        self.diagnostics.push(value)?;
-        Ok(())
-    }
-}
-
-/// What is told of a range of a document.
+/// A place in a document, with what is said of it.
 #[derive(Clone, Copy)]
-struct Row<'m> {
-    range: PlaceRange,
-    severity: Severity,
-    code: &'m str,
-    message: &'m str,
+pub struct Related<'u> {
+    pub uri: &'u str,
+    pub range: PlaceRange,
+    pub message: &'static str,
 }
 
-/// A place that it has to do with.
-#[derive(Clone, Copy)]
-struct Related<'m> {
-    uri: &'m str,
-    range: PlaceRange,
-    message: &'m str,
-}
-
-/// Where the name of a finding was given first, in the same document.
-fn first_given<'m>(uri: &'m str, first: Option<PlaceRange>) -> Option<Related<'m>>
-    ensures { option_map related_form result ≡ first_told uri.now first }
+/// The diagnostics of errors, in order. `AllocError` where a growth was refused.
+pub fn error_list(alloc: Global, errors: &[Diagnostic]) -> Result<Vec<Value>, AllocError>
+    ensures { IfOk result (λ list. map view list.items ≡ map error_form errors.now) }
 {
-    let range = first?;
-    Some(Related {
-        uri,
+    let mut list = Vec::new(alloc);
+    for error in errors {
+        list.push(error_form(alloc, error)?)?;
+    }
+    Ok(list)
+}
+
+/// The diagnostic of an error.
+fn error_form(alloc: Global, error: &Diagnostic) -> Result<Value, AllocError>
+    ensures { IfOk result (λ value. view value ≡ error_form error.now) }
+{
+    let range = PlaceRange {
+        start: error.start,
+        end: error.end,
+    };
+    diagnostic_form(
+        alloc,
         range,
-        message: "first given here",
-    })
+        Severity::Error,
+        error.code,
+        error.message.as_str(),
+    )
 }
 
-/// Where an original has what a document lacks.
-fn original_place<'m>(uri: &'m str, there: Option<PlaceRange>) -> Option<Related<'m>>
-    ensures { option_map related_form result ≡ original_told uri.now there }
-{
-    let range = there?;
-    Some(Related {
-        uri,
-        range,
-        message: "what the reference has",
-    })
-}
-
-/// A diagnostic, with the other place where the editor takes one.
-fn diagnostic_form(
-    alloc: Global,
-    row: Row<'_>,
-    related: Option<Related<'_>>,
-    is_taken: bool,
-) -> Result<Value, AllocError>
-    ensures { let place = taken (option_map related_form related.entry) is_taken in
-        IfOk result (λ value. view value ≡ row_form row.entry place) }
-{
-    match related {
-        Some(related) if is_taken => form_with_place(alloc, row, related_form(alloc, related)?),
-        _ => form_alone(alloc, row),
+/// What is told beside the errors: with the other place, if the editor takes one. `AllocError` where a growth was
+/// refused.
+pub fn told_form(alloc: Global, told: &Told<'_>, takes_related: bool) -> Result<Value, AllocError> {
+    let message = told.message.as_str();
+    let value = diagnostic_form(alloc, told.range, told.severity, told.code, message)?;
+    match told.related {
+        Some(related) if takes_related => {
+            let places = json!(in alloc; [(related_form(alloc, related)?)])?;
+            with_member(alloc, value, "relatedInformation", places)
+        }
+        _ => Ok(value),
     }
 }
 
 /// A diagnostic by itself.
-fn form_alone(alloc: Global, row: Row<'_>) -> Result<Value, AllocError>
-    ensures { IfOk result (λ value. view value ≡ row_form row.entry None) }
+fn diagnostic_form(
+    alloc: Global,
+    range: PlaceRange,
+    severity: Severity,
+    code: &str,
+    message: &str,
+) -> Result<Value, AllocError>
+    ensures { IfOk result (λ value. view value ≡ diagnostic_form range severity code.now message.now) }
 {
-    let range = range_form(alloc, row.range.start, row.range.end)?;
+    let range = range_form(alloc, range.start, range.end)?;
     json!(in alloc; {
         "range": range,
-        "severity": (severity_number(row.severity)),
+        "severity": (severity_number(severity)),
         "source": "ftl",
-        "code": (row.code),
-        "message": (row.message)
-    })
-}
-
-/// A diagnostic with another place.
-fn form_with_place(alloc: Global, row: Row<'_>, place: Value) -> Result<Value, AllocError>
-    ensures { IfOk result (λ value. view value ≡ row_form row.entry (Some (view place))) }
-{
-    let range = range_form(alloc, row.range.start, row.range.end)?;
-    json!(in alloc; {
-        "range": range,
-        "severity": (severity_number(row.severity)),
-        "source": "ftl",
-        "code": (row.code),
-        "message": (row.message),
-        "relatedInformation": [place]
+        "code": code,
+        "message": message
     })
 }
 
 /// Another place, with what is said of it.
-fn related_form(alloc: Global, related: Related<'_>) -> Result<Value, AllocError>
-    ensures { IfOk result (λ value. view value ≡ related_form related.entry) }
-{
+fn related_form(alloc: Global, related: Related<'_>) -> Result<Value, AllocError> {
     let range = range_form(alloc, related.range.start, related.range.end)?;
     json!(in alloc; {
         "location": {"uri": (related.uri), "range": range},

@@ -2,7 +2,7 @@
 ghost use Rattle.std.specs.Prelude.{◌≡◌};
 
 use crate::closed::Closed;
-use crate::known::Open;
+use crate::opened::Open;
 use crate::originals::Reference;
 use crate::settings::settings_in;
 use fluent_syntax_names::{DefinedNames, Kind};

@@ -1,9 +1,10 @@
-//! Open documents of the language server: bytes of places, and changes.
+//! Open documents of the language server: bytes of places, changes, what is found in them, and their tokens.
 
 use fluent_syntax_lsp::{
-    Diagnostic, Document, NESTING_LIMIT, Place, byte_of, diagnostics_in, highlights_of, numbers_of,
+    Change, Document, Place, byte_of, changed, highlights_of, numbers_of, tokens_of,
 };
-use fluent_syntax_tests::alike::{assert_holds, assert_same, assert_same_text};
+use fluent_syntax_names::own_findings;
+use fluent_syntax_tests::alike::{assert_same, assert_same_text};
 use std::alloc::Global;
 use std::fmt::Write;
 use std::test::Fail;
@@ -83,85 +84,26 @@ fn place_of(pair: (usize, usize)) -> Place {
     }
 }
 
-/// Whether two lists of diagnostics are the same ones.
-fn are_same(some: &[Diagnostic], others: &[Diagnostic]) -> bool {
-    some.len() == others.len()
-        && some.iter().zip(others).all(|(a, b)| {
-            a.start == b.start && a.end == b.end && a.code == b.code && a.message == b.message
-        })
-}
-
-/// The document has the text, and the diagnostics of it.
-fn assert_document(alloc: Global, document: &Document, text: &str) -> Result<(), Fail> {
-    assert_same_text(alloc, text, document.text(), text)?;
-    let found = document.diagnostics(alloc)?;
-    assert_holds(alloc, text, are_same(&found, &diagnostics_in(alloc, text)?))
-}
-
 #[test]
-fn changes_of_a_document(rt: HostRuntime) -> Result<(), Fail> {
+fn changes_of_a_text(rt: HostRuntime) -> Result<(), Fail> {
     let alloc = rt.alloc();
     for row in &CHANGES {
         let (text, start, end, new, whole) = row;
-        let mut document = Document::new(alloc, text)?;
-        assert_document(alloc, &document, text)?;
-        document.change_between(alloc, place_of(*start), place_of(*end), new)?;
-        assert_document(alloc, &document, whole)?;
+        let change = Change::Between {
+            start: place_of(*start),
+            end: place_of(*end),
+            text: *new,
+        };
+        let made = changed(alloc, text, &[change])?;
+        assert_same_text(alloc, *text, made.as_str(), *whole)?;
+        let back = changed(alloc, text, &[change, Change::Whole(text)])?;
+        assert_same_text(alloc, *text, back.as_str(), *text)?;
     }
     Ok(())
 }
 
-#[test]
-fn tiles_of_a_document(rt: HostRuntime) -> Result<(), Fail> {
-    let alloc = rt.alloc();
-    let mut document = Document::new(alloc, "# c\na = b\nbro ken\n")?;
-    assert_same(alloc, "tiles", &document.tiles().len(), &3)?;
-    document.change_between(alloc, place_of((2, 0)), place_of((3, 0)), "-d = e\n")?;
-    assert_same_text(alloc, "text", document.text(), "# c\na = b\n-d = e\n")?;
-    assert_same(alloc, "tiles", &document.tiles().len(), &3)?;
-    assert_holds(
-        alloc,
-        "no junk",
-        document
-            .tiles()
-            .iter()
-            .all(|tile| tile.found.error.is_none()),
-    )
-}
-
-/// A message whose value nests that deeply.
-fn nested(alloc: Global, depth: usize) -> Result<String, Fail> {
-    let mut text = String::from_str(alloc, "a = ")?;
-    for _ in 0..depth {
-        text.push_str("{ ")?;
-    }
-    text.push_str("$x")?;
-    for _ in 0..depth {
-        text.push_str(" }")?;
-    }
-    text.push_str("\n")?;
-    Ok(text)
-}
-
-#[test]
-fn a_document_that_nests_too_deeply(rt: HostRuntime) -> Result<(), Fail> {
-    let alloc = rt.alloc();
-    let deep = nested(alloc, NESTING_LIMIT + 1)?;
-    let (start, end) = (place_of((0, 0)), place_of((9, 0)));
-    let mut document = Document::new(alloc, deep.as_str())?;
-    assert_holds(alloc, "deep", matches!(document, Document::TooDeep(_)))?;
-    assert_same(alloc, "tokens", &document.tokens(alloc)?.len(), &0)?;
-    assert_document(alloc, &document, deep.as_str())?;
-    document.change_between(alloc, start, end, "b = c\n")?;
-    assert_holds(alloc, "shallow", matches!(document, Document::Held(_)))?;
-    assert_document(alloc, &document, "b = c\n")?;
-    document.change_between(alloc, start, end, deep.as_str())?;
-    assert_holds(
-        alloc,
-        "deep again",
-        matches!(document, Document::TooDeep(_)),
-    )?;
-    assert_document(alloc, &document, deep.as_str())
+fn document_of(alloc: Global, text: &str) -> Result<Document, Fail> {
+    Ok(Document::new(alloc, String::from_str(alloc, text)?)?)
 }
 
 /// A text, and the kinds of what is found in it by itself, with where each begins.
@@ -184,9 +126,9 @@ const FOUND: [(&str, &str); 6] = [
 fn findings_of_a_document(rt: HostRuntime) -> Result<(), Fail> {
     let alloc = rt.alloc();
     for (text, wanted) in &FOUND {
-        let document = Document::new(alloc, text)?;
+        let document = document_of(alloc, text)?;
         let mut shown = String::new(alloc);
-        for finding in document.findings(alloc)?.iter() {
+        for finding in own_findings(alloc, &document.outline(alloc)?)?.iter() {
             let place = finding.place.map_or(0, |span| span.start);
             writeln!(shown, "{} {place}", finding.kind.name())?;
         }
@@ -232,9 +174,9 @@ const TOKENS: [(&str, &str); 9] = [
 fn tokens_of_a_document(rt: HostRuntime) -> Result<(), Fail> {
     let alloc = rt.alloc();
     for (text, wanted) in &TOKENS {
-        let document = Document::new(alloc, text)?;
+        let document = document_of(alloc, text)?;
         let mut shown = String::new(alloc);
-        for token in document.tokens(alloc)?.iter() {
+        for token in tokens_of(alloc, document.body())?.iter() {
             let name = text.get(token.span.start..token.span.end).unwrap_or("?");
             writeln!(shown, "{:?} {name}", token.kind)?;
         }
@@ -255,7 +197,7 @@ const NUMBERS: [(&str, &str); 4] = [
 fn numbers_of_tokens(rt: HostRuntime) -> Result<(), Fail> {
     let alloc = rt.alloc();
     for (text, wanted) in &NUMBERS {
-        let tokens = Document::new(alloc, text)?.tokens(alloc)?;
+        let tokens = tokens_of(alloc, document_of(alloc, text)?.body())?;
         let highlights = highlights_of(alloc, *text, &tokens)?;
         let mut shown = String::new(alloc);
         for number in numbers_of(alloc, &highlights)?.iter() {

@@ -2,8 +2,8 @@
 
 use crate::ends::{Drip, Narrow};
 use fluent_syntax_lsp::{
-    BODY_LIMIT, Diagnostic, Ending, ErrorCode, FrameFault, Framing, Method, Phase, Place, Places,
-    diagnostics_in, first_frame, formatted, serve,
+    BODY_LIMIT, Diagnostic, Document, Ending, ErrorCode, FrameFault, Framing, Method, Phase, Place,
+    Places, first_frame, formatted, serve,
 };
 use fluent_syntax_tests::alike::{assert_holds, assert_same, assert_same_text};
 use ftl::Watched;
@@ -51,7 +51,7 @@ fn assert_placed(alloc: Global, row: &PlaceRow) -> Result<(), Fail> {
         line: *line,
         character: *character,
     };
-    assert_same(alloc, *text, &place, &expected)
+    assert_holds(alloc, *text, place == expected)
 }
 
 #[test]
@@ -73,12 +73,7 @@ fn places_in_any_order(rt: HostRuntime) -> Result<(), Fail> {
             line: *line,
             character: *character,
         };
-        assert_same(
-            rt.alloc(),
-            "a place",
-            &places.place_or_end(*byte),
-            &expected,
-        )?;
+        assert_holds(rt.alloc(), "a place", places.place_or_end(*byte) == expected)?;
     }
     Ok(())
 }
@@ -153,7 +148,7 @@ const FRAMES: [Frame; 20] = [
 
 fn assert_framed(alloc: Global, row: &Frame) -> Result<(), Fail> {
     let (bytes, found) = row;
-    assert_same(alloc, *bytes, &first_frame(bytes.as_bytes()), found)
+    assert_holds(alloc, *bytes, first_frame(bytes.as_bytes()) == *found)
 }
 
 #[test]
@@ -167,7 +162,7 @@ fn frames_at_the_front(rt: HostRuntime) -> Result<(), Fail> {
 /// Fails where so many bytes without the end of a header are found to be something else.
 fn assert_found(alloc: Global, size: usize, found: Framing) -> Result<(), Fail> {
     let bytes = vec![in alloc; b'x'; size]?;
-    assert_same(alloc, "bytes", &first_frame(bytes.as_slice()), &found)
+    assert_holds(alloc, "bytes", first_frame(bytes.as_slice()) == found)
 }
 
 #[test]
@@ -249,7 +244,7 @@ const METHODS: [MethodRow; 16] = [
 
 fn assert_named(alloc: Global, row: &MethodRow) -> Result<(), Fail> {
     let (name, method) = row;
-    assert_same(alloc, *name, &Method::from_name(*name), method)
+    assert_holds(alloc, *name, Method::from_name(*name) == *method)
 }
 
 #[test]
@@ -383,14 +378,9 @@ const PHASES: [PhaseRow; 13] = [
 
 fn assert_phases_after(alloc: Global, row: &PhaseRow) -> Result<(), Fail> {
     let (phase, method, refusal, requested, notified) = row;
-    assert_same(alloc, "a refusal", &phase.refusal(*method), refusal)?;
-    assert_same(alloc, "requested", &phase.after_request(*method), requested)?;
-    assert_same(
-        alloc,
-        "notified",
-        &phase.after_notification(*method),
-        notified,
-    )
+    assert_holds(alloc, "a refusal", phase.refusal(*method) == *refusal)?;
+    assert_holds(alloc, "requested", phase.after_request(*method) == *requested)?;
+    assert_holds(alloc, "notified", phase.after_notification(*method) == *notified)
 }
 
 /// Each phase, and how a session that is in it has ended.
@@ -406,7 +396,7 @@ const ENDS: [EndRow; 5] = [
 
 fn assert_ended(alloc: Global, row: &EndRow) -> Result<(), Fail> {
     let (phase, ending) = row;
-    assert_same(alloc, "an ending", &phase.ending(), ending)
+    assert_holds(alloc, "an ending", phase.ending() == *ending)
 }
 
 #[test]
@@ -448,10 +438,14 @@ fn is_diagnostic(
         && (found.end.line, found.end.character) == end
 }
 
+fn document_of(alloc: Global, text: &str) -> Result<Document, Fail> {
+    Ok(Document::new(alloc, String::from_str(alloc, text)?)?)
+}
+
 fn assert_one_diagnostic(alloc: Global, row: &ErrorRow) -> Result<(), Fail> {
     let (text, code, start, end) = row;
-    let found = diagnostics_in(alloc, *text)?;
-    let is_so = match found.as_slice() {
+    let document = document_of(alloc, text)?;
+    let is_so = match document.diagnostics() {
         [one] => is_diagnostic(one, *code, *start, *end),
         _ => false,
     };
@@ -459,8 +453,8 @@ fn assert_one_diagnostic(alloc: Global, row: &ErrorRow) -> Result<(), Fail> {
 }
 
 fn assert_diagnostics_counted(alloc: Global, text: &str, count: usize) -> Result<(), Fail> {
-    let found = diagnostics_in(alloc, text)?;
-    assert_same(alloc, text, &found.len(), &count)
+    let document = document_of(alloc, text)?;
+    assert_same(alloc, text, &document.diagnostics().len(), &count)
 }
 
 #[test]
@@ -512,16 +506,17 @@ fn nested_text(alloc: Global, depth: usize) -> Result<String, Fail> {
 
 /// Whether the text nests too deeply, and is told so.
 fn is_too_deep(alloc: Global, text: &str) -> Result<bool, Fail> {
-    let found = diagnostics_in(alloc, text)?;
-    match found.as_slice() {
-        [one] => Ok(one.code == "TooDeep"),
-        _ => Ok(false),
-    }
+    let document = document_of(alloc, text)?;
+    let is_told = match document.diagnostics() {
+        [one] => one.code == "TooDeep",
+        _ => false,
+    };
+    Ok(is_told && document.is_too_deep() && document.body().is_empty())
 }
 
 fn is_flawless(alloc: Global, text: &str) -> Result<bool, Fail> {
-    let found = diagnostics_in(alloc, text)?;
-    Ok(found.is_empty())
+    let document = document_of(alloc, text)?;
+    Ok(document.diagnostics().is_empty() && document.body().len() == 1)
 }
 
 #[test]
@@ -663,5 +658,5 @@ fn a_writer_that_fails(rt: HostRuntime) -> Result<(), Fail> {
     let mut writer = Narrow::closed(rt.alloc());
     let files = InMemory::new(rt.alloc());
     let ended = serve(rt.alloc(), &mut reader, &mut writer, &files);
-    assert_same(rt.alloc(), "a closed writer", &ended, &Ending::Output)
+    assert_holds(rt.alloc(), "a closed writer", ended == Ending::Output)
 }

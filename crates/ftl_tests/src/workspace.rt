@@ -1,6 +1,6 @@
 //! The files of a workspace: URIs, what is read of folders in memory, and a session over them.
 
-use fluent_syntax_lsp::{Closed, Document, NameKind, Occurrence, serve};
+use fluent_syntax_lsp::{Closed, NameKind, Occurrence, serve};
 use fluent_syntax_tests::alike::{assert_holds, assert_same, assert_same_text};
 use ftl::Watched;
 use ftl_workspace::{
@@ -166,13 +166,10 @@ fn are_names(found: &[Occurrence], expected: &[(NameKind, usize, usize)]) -> boo
 fn names_of_a_closed_file(rt: HostRuntime) -> Result<(), Fail> {
     let alloc = rt.alloc();
     let text = String::from_str(alloc, "a = { b.c } { $d }\n    .e = { F() }\n")?;
-    let document = Document::new(alloc, text.as_str())?;
-    let open = document.occurrences(alloc)?;
-    assert_holds(alloc, "of a document", are_names(&open, &NAMES))?;
     match Closed::new(alloc, "/w/a b.ftl", text)? {
         Some(file) => {
             assert_same_text(alloc, "its URI", file.uri.as_str(), "file:///w/a%20b.ftl")?;
-            assert_holds(alloc, "of a file", are_names(&file.occurrences, &NAMES))
+            assert_holds(alloc, "its names", are_names(&file.occurrences, &NAMES))
         }
         None => assert_holds(alloc, "it can be read", false),
     }

@@ -1,12 +1,18 @@
 use Rattle.std.proofs.Common.{◌≡◌, ◌≤◌, ◌∙◌, sym, ap, subst, arith, length, slice_index, refl, true, false}
 use Rattle.fluent_syntax_lsp.specs.Places.{character_at, place_at}
 use Rattle.fluent_syntax_lsp.specs.Offsets.{is_reached, IsByteOf}
-use Rattle.fluent_syntax_lsp.proofs.ByteLemmas.{IsAhead, ahead_of_all, at_the_end, still_ahead, there}
+use Rattle.fluent_syntax_lsp.proofs.ByteLemmas.{IsAhead, ahead_of_line, at_the_end, starts_at, still_ahead, there}
 use Rattle.fluent_syntax_lsp.proofs.PlaceLemmas.{character_at-le}
 use Rattle.fluent_syntax_lsp.proofs.offsets.byte_of.Goals as goal
 
 pub loop-at-init : goal.loop-at-init
-loop-at-init c = record { here = refl; ahead = ahead_of_all c.as_bytes-bytes.result.now c.args.place }
+loop-at-init c =
+    let t = c.as_bytes-bytes.result.now in
+    let begins = rw c.in-Some.is at c.line_start.ensures.begins in
+    record {
+      here = starts_at t c.args.place.line c.in-Some.start begins;
+      ahead = ahead_of_line t c.args.place c.in-Some.start begins;
+    }
 
 pub is_reached-requires : goal.is_reached-requires
 is_reached-requires c =
@@ -41,7 +47,8 @@ loop-at-preserved c =
 pub returns : goal.returns
 returns c =
     let t = c.as_bytes-bytes.result.now in
-    let low : c.loop-at.at ≤ length t = c.loop-at.auto.at-end in
+    let begins = rw c.in-Some.is at c.line_start.ensures.begins in
+    let low : c.loop-at.at ≤ length t = c.loop-at.auto.at-end begins.within in
     let end : c.loop-at.at ≡ length t = omega (arith, low, c.loop-at-test.false) in
     subst (λ u. IsByteOf u c.args.place (length t)) c.as_bytes-bytes.ensures.value
     (at_the_end t c.args.place (subst (IsAhead t c.args.place) end c.loop-at.invariant.ahead))

@@ -1,4 +1,4 @@
-use Rattle.std.proofs.Common.{◌≡◌}
+use Rattle.std.proofs.Common.{◌≡◌, ◌≤◌}
 use Rattle.fluent_syntax_lsp.specs.Places.{place_at}
 use Rattle.fluent_syntax_lsp.proofs.ByteLemmas.{IsAhead}
 use Rattle.fluent_syntax_lsp.proofs.offsets.byte_of.Given as goal

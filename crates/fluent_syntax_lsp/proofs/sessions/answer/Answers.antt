@@ -2,7 +2,6 @@ use Rattle.std.proofs.Common.{ap, refl}
 use Rattle.std.specs.Prelude.{option_map}
 use Rattle.serde_json.specs.View.{view}
 use Rattle.fluent_syntax_lsp.specs.Served.{has_no_memory}
-use Rattle.fluent_syntax_lsp.specs.Results.{sources_of}
 use Rattle.fluent_syntax_lsp.specs.Sessions.{session_of}
 use Rattle.fluent_syntax_lsp.proofs.ServedLemmas.{unsent}
 use Rattle.fluent_syntax_lsp.proofs.sessions.answer.Goals as goal
@@ -12,11 +11,7 @@ returns-in-Ok-Some-clause-unsent g c =
     unsent c.send.result (session_of c.args.server.now) (session_of c.take.new.self) c.args.body.now
     (option_map view c.in-Ok-Some.field-0) (view c.in-Ok-Some.reply) (g.W.Write.contents c.args.writer.now)
     (g.W.Write.contents c.send.new.writer)
-    (record {
-      sources = sources_of c.args.server.now c.take.new.self;
-      opened = refl;
-      answered = c.in-Ok-Some.ensures;
-    }) (ap (option_map view) c.in-Ok-Some.field-0-is)
+    c.in-Ok-Some.ensures (ap (option_map view) c.in-Ok-Some.field-0-is)
     c.send.ensures.fault (λ is. ap g.W.Write.contents (c.send.ensures.unwritten is))
 
 pub returns-in-Err-clause-unsent : goal.returns-in-Err-clause-unsent

@@ -1,4 +1,5 @@
-use Rattle.std.proofs.Common.{refl, sym}
+use Rattle.std.proofs.Common.{ap, map, refl, sym}
+use Rattle.serde_json.specs.View.{view}
 use Rattle.fluent_syntax_lsp.specs.Opened.{texts}
 use Rattle.fluent_syntax_lsp.specs.Replies.{silence, sends_none, withdrawn}
 use Rattle.fluent_syntax_lsp.specs.Sessions.{closes, passes}
@@ -19,6 +20,6 @@ returns-then-not-contains-clause-follows c =
 pub returns-clause-follows : goal.returns-clause-follows
 returns-clause-follows c = (
   withdrawn c.in-Some.uri.now,
-  is_withdrawn c.in-Some.uri.now _ _ c.in_ok-published.ensures c.new-none.ensures.none,
+  is_withdrawn c.in-Some.uri.now _ _ c.in_ok-diagnostics_notification.ensures (ap (map view) c.new-none.ensures.items),
   closes c.in-Some.uri.now _ (sym c.in-Some.ensures) (sym c.if-not-contains.ensures) c.close.ensures,
 )

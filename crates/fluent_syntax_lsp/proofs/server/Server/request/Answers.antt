@@ -2,7 +2,6 @@ use Rattle.std.proofs.Common.{None, Some, refl, sym}
 use Rattle.std.proofs.lemmas.Result.{IfOk-weaker}
 use Rattle.serde_json.specs.View.{view}
 use Rattle.fluent_syntax_lsp.specs.Replies.{answered, refused, sends_answer}
-use Rattle.fluent_syntax_lsp.specs.Results.{sources_of}
 use Rattle.fluent_syntax_lsp.specs.Sessions.{finds, finds_none, has_no_place, session_of}
 use Rattle.fluent_syntax_lsp.specs.declared.phases.ErrorCode.TheVariants.{InvalidParams}
 use Rattle.fluent_syntax_lsp.proofs.SessionLemmas.{sent_as, answered_in, finds_of}
@@ -20,8 +19,7 @@ returns-in-Some c =
 
 pub returns-in_default-2 : goal.returns-in_default-2
 returns-in_default-2 c =
-    let found = finds_of (session_of c.args.self.now) (sources_of c.args.self.now c.found.new.self)
-    (view c.args.message.now) c.args.method c.in_ok-found.field-0 None (sym c.in_default.ensures)
+    let found = finds_of (session_of c.args.self.now) (view c.args.message.now) c.args.method c.in_ok-found.field-0 None (sym c.in_default.ensures)
     c.in_ok-found.ensures.found c.in_ok-found.ensures.result c.in_default-2.is in
     IfOk-weaker c.refuse-in_default-2.result _ _
     (λ sent is. (
@@ -33,8 +31,7 @@ returns-in_default-2 c =
 
 pub returns : goal.returns
 returns c =
-    let found = finds_of (session_of c.args.self.now) (sources_of c.args.self.now c.found.new.self)
-    (view c.args.message.now) c.args.method c.in_ok-found.field-0 (Some c.in-Some-2.found) (sym c.in_default.ensures)
+    let found = finds_of (session_of c.args.self.now) (view c.args.message.now) c.args.method c.in_ok-found.field-0 (Some c.in-Some-2.found) (sym c.in_default.ensures)
     c.in_ok-found.ensures.found c.in_ok-found.ensures.result c.in-Some-2.is in (
       answered (view c.args.id) (view c.in-Some-2.found),
       sent_as _ _ _ c.in_ok-reply.ensures (sends_answer _ _),

@@ -3,7 +3,6 @@ use Rattle.std.proofs.lemmas.Result.{IfOk-weaker}
 use Rattle.serde_json.specs.Data.{null}
 use Rattle.serde_json.specs.View.{view}
 use Rattle.fluent_syntax_lsp.specs.Replies.{refused, silence, sends_none}
-use Rattle.fluent_syntax_lsp.specs.Results.{sources_of}
 use Rattle.fluent_syntax_lsp.specs.Sessions.{garbled, responded, session_of, unasked}
 use Rattle.fluent_syntax_lsp.specs.declared.phases.ErrorCode.TheVariants.{InvalidRequest, ParseError}
 use Rattle.fluent_syntax_lsp.proofs.SessionLemmas.{takes_notification, takes_request}
@@ -21,16 +20,17 @@ returns-in_default g c =
 
 pub returns-in-Request : goal.returns-in-Request
 returns-in-Request g c =
-    takes_request c.request.result c.args.self.now c.read_files.new.self c.request.new.self c.args.body.now
+    takes_request c.request.result (session_of c.args.self.now) (session_of c.read_files.new.self)
+    (session_of c.request.new.self) c.args.body.now
     (view c.in-Ok.value) (view c.in-Request.id.now) (view c.in_ok-id-in-Request.id) c.in-Request.method.now
     c.from_name-method.result c.in-Ok.ensures.ok.1 (sym c.in-Request.ensures) c.in_ok-id-in-Request.ensures.cases
-    (c.from_name-method.ensures.named, c.from_name-method.ensures.other) c.in_ok-read_files-in-Request.ensures.same
-    c.in_ok-read_files-in-Request.ensures.documents c.request.ensures
+    (c.from_name-method.ensures.named, c.from_name-method.ensures.other) c.in_ok-read_files-in-Request.ensures
+    c.request.ensures
 
 pub returns-in-Notification : goal.returns-in-Notification
 returns-in-Notification g c =
     takes_notification c.notification.result (session_of c.args.self.now) (session_of c.notification.new.self)
-    (sources_of c.args.self.now c.notification.new.self) c.args.body.now (view c.in-Ok.value)
+    c.args.body.now (view c.in-Ok.value)
     c.in-Notification.method.now c.from_name.result c.in-Ok.ensures.ok.1 (sym c.in-Notification.ensures)
     (c.from_name.ensures.named, c.from_name.ensures.other) c.notification.ensures
 

@@ -4,7 +4,7 @@ use Rattle.fluent_syntax_lsp.proofs.SessionLemmas.{sent_as}
 use Rattle.fluent_syntax_lsp.proofs.server.Server.watch.Goals as goal
 
 pub returns-then-wants_watch : goal.returns-then-wants_watch
-returns-then-wants_watch c = inl (sent_as watch _ _ c.in_ok-watch_request.ensures sends_watch)
+returns-then-wants_watch c = inl (sent_as watch _ _ c.in_ok-register_request.ensures (sends_watch _))
 
 pub returns : goal.returns
 returns c = inr sends_none
