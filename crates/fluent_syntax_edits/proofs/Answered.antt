@@ -1,5 +1,5 @@
 -- Answers of edits.
-use Rattle.std.proofs.Common.{◌≡◌, ◌⊎◌, inl, inr, ℕ, List, Result, Ok, Err, String, string_bytes, subst, sym}
+use Rattle.std.proofs.Common.{◌≡◌, ◌⊎◌, inl, inr, ℕ, List, Result, Ok, Err, String, subst}
 use Rattle.std.specs.Prelude.{IsErrAnd}
 use Rattle.std.specs.Global.{Global}
 use Rattle.fluent_syntax_tree.specs.declared.edition.Edition.{Edition}

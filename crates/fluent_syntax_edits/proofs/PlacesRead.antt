@@ -1,5 +1,5 @@
 -- The places of what was read up to a place.
-use Rattle.std.proofs.Common.{◌≡◌, ℕ, List, [], ◌∷◌, ◌++◌, length, Option, Some, None, refl, sym, ◌∙◌, ap, subst}
+use Rattle.std.proofs.Common.{◌≡◌, ℕ, List, [], ◌∷◌, ◌++◌, length, Option, Some, ◌∙◌, ap, subst}
 use Rattle.fluent_syntax_tree.specs.Entry.{junk}
 use Rattle.fluent_syntax_tree.specs.declared.ast.Entry.{Entry}
 use Rattle.fluent_syntax_tree.specs.declared.edition.Edition.{Edition}
@@ -18,9 +18,6 @@ module _ (edition : Edition) (t : List ℕ) where
   pub record ReadTo (i : ℕ) (ps : List Place) (last : Option Place) : Type 0 where
     pub whole : (more : List Tile) → Tiled t (TileAt edition t) i more →
         (tiles : List Tile) × Tiling edition t tiles × (ps ++ places_behind last more ≡ places tiles)
-
-  pub read_nothing : ReadTo 0 [] None
-  read_nothing = record { whole = λ more a. (more, a, refl) }
 
   place_given : (s : Span) (tile : Tile) (e : Entry Span) (error : Option ParserError) →
       TileAt edition t s.start s.end tile → Gives tile e error →

@@ -14,8 +14,8 @@ use Rattle.fluent_syntax_edits.specs.declared.edit.Edit.{Edit}
 use Rattle.fluent_syntax_edits.specs.declared.edit.Edit.TheVariants as edit
 use Rattle.fluent_syntax_edits.specs.declared.fault.EditFault.{EditFault}
 use Rattle.fluent_syntax_edits.specs.declared.fault.EditFault.TheVariants.{NotCanonical, ReadsOtherwise}
-use Rattle.fluent_syntax_edits.specs.declared.slots.Slot.{Slot}
-use Rattle.fluent_syntax_edits.specs.declared.slots.Slot.TheVariants.{Attribute, Value}
+use Rattle.fluent_syntax_edits.specs.declared.stretches.Slot.{Slot}
+use Rattle.fluent_syntax_edits.specs.declared.stretches.Slot.TheVariants.{Attribute, Value}
 
 -- what is done at the entry of a number
 pub data Change : Type 0 where

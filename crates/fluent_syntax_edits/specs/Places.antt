@@ -14,8 +14,8 @@ use Rattle.fluent_syntax_edits.specs.declared.fault.EditFault.TheVariants.{IsJun
 use Rattle.fluent_syntax_edits.specs.declared.places.Place.{Place}
 use Rattle.fluent_syntax_edits.specs.declared.places.PlaceKind.{PlaceKind}
 use Rattle.fluent_syntax_edits.specs.declared.places.PlaceKind.TheVariants.{Field, Comment, OtherComment, Junk}
-use Rattle.fluent_syntax_edits.specs.declared.slots.Slot.{Slot}
-use Rattle.fluent_syntax_edits.specs.declared.slots.Slot.TheVariants.{Attribute, Value}
+use Rattle.fluent_syntax_edits.specs.declared.stretches.Slot.{Slot}
+use Rattle.fluent_syntax_edits.specs.declared.stretches.Slot.TheVariants.{Attribute, Value}
 
 -- ---- the places of entries
 

@@ -5,7 +5,7 @@ ghost use Rattle.fluent_syntax_tree.specs.Entry.{message, term};
 ghost use Rattle.fluent_syntax_tree.specs.View.{attribute_view, entry_view, message_view, pattern_view, term_view};
 
 use crate::edit::Edit;
-use crate::slots::Slot;
+use crate::stretches::Slot;
 use fluent_syntax_tree::ast::{Attribute, Entry, Message, Pattern, Term};
 use std::alloc::AllocError;
 
@@ -72,7 +72,9 @@ pub(crate) fn apply(
             body.remove(index);
         }
         // nothing has that number
-        Edit::Replace(_) | Edit::Set(_, _) | Edit::Remove => {}
+        Edit::Replace(_) => {}
+        Edit::Set(_, _) => {}
+        Edit::Remove => {}
     }
     Ok(())
 }

@@ -2,16 +2,14 @@
 ghost use Rattle.std.specs.Prelude.{◌≡◌, ◌⊎◌, ◌++◌, Err, drop, take, IfOk, string_bytes};
 ghost use Rattle.fluent_syntax_edits.specs.Changes.{change_of, inserts, removes, replaces, sets};
 ghost use Rattle.fluent_syntax_edits.specs.Edits.{Answers};
-ghost use Rattle.fluent_syntax_edits.specs.declared.slots.Slot.TheVariants.{Attribute, Value};
+ghost use Rattle.fluent_syntax_edits.specs.declared.stretches.Slot.TheVariants.{Attribute, Value};
 ghost use Rattle.fluent_syntax_tree.specs.View.{entry_view, pattern_view};
 ghost use Rattle.std.specs.Str.{IsCharBoundary};
 
 use crate::edit::{Edit, coming, refusal};
-use crate::errors::Shift;
 use crate::fault::EditFault;
-use crate::reading::reads_changed;
-use crate::slots::Slot;
-use crate::stretches::stretch_of;
+use crate::reading::{Shift, reads_changed};
+use crate::stretches::{Slot, stretch_of};
 use fluent_syntax_tree::ast::{Entry, Identifier, Pattern, Term};
 use fluent_syntax_tree::copied::entries;
 use fluent_syntax_tree::edition::Edition;

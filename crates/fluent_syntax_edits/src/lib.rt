@@ -3,16 +3,13 @@
 #![tactic(auto)]
 
 mod applied;
-mod blanks;
 mod edit;
 #[tactic(auto, using(crate::proofs::Answered::no_growth))]
 mod edits;
-mod errors;
 pub mod fault;
 pub mod numbers;
 mod places;
 mod reading;
-mod slots;
 mod stretches;
 
 pub use edits::{insert, remove, replace, set_attribute, set_value};

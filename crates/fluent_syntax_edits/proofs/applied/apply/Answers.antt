@@ -1,10 +1,9 @@
-use Rattle.std.proofs.Common.{◌≡◌, ◌<◌, ◌≤◌, ◌∙◌, ap, arith, length, map, refl, string_bytes, sym}
+use Rattle.std.proofs.Common.{◌≡◌, ◌∙◌, ap, arith, length, refl, string_bytes}
 use Rattle.std.specs.Vec.{vec_len}
 use Rattle.fluent_syntax_tree.specs.View.{entry_view, pattern_view}
-use Rattle.fluent_syntax_edits.specs.Changes.{change_of, changed, with_slot}
-use Rattle.fluent_syntax_edits.proofs.Numbered.{insert_there, none_there, remove_none, remove_there, set_there}
+use Rattle.fluent_syntax_edits.specs.Changes.{with_slot}
+use Rattle.fluent_syntax_edits.proofs.Numbered.{insert_there, none_there, remove_there, set_there}
 use Rattle.fluent_syntax_edits.proofs.applied.apply.Goals as goal
-use Rattle.fluent_syntax_edits.proofs.applied.apply.Goals.{in-Replace+else-index-len, in-Set+else-index-len-2, in-Remove+else-index-len-3}
 
 pub returns-in_ok-insert-in-Insert : goal.returns-in_ok-insert-in-Insert
 returns-in_ok-insert-in-Insert c =
@@ -31,7 +30,8 @@ returns-in-Set c =
     rw c.in-Set.is
     (set_there (entry_view (λ s. string_bytes s)) (with_slot slot v) c.args.index body.items _ _
     (omega (arith, size))
-    (c.set_in.ensures ∙ ap (λ e. with_slot slot v (entry_view (λ s. string_bytes s) e)) c.index_mut-in-Set.ensures.value))
+    (c.set_in.ensures
+    ∙ ap (λ e. with_slot slot v (entry_view (λ s. string_bytes s) e)) c.index_mut-in-Set.ensures.value))
 
 pub returns-in-Remove : goal.returns-in-Remove
 returns-in-Remove c =
@@ -42,9 +42,10 @@ pub returns-in-Replace-2 : goal.returns-in-Replace-2
 returns-in-Replace-2 c =
     let body = c.args.body.now in
     let size : length body.items ≡ vec_len body = omega (arith, body.ok.0) in
-    let view = entry_view (λ s. string_bytes s) in
-    elim c.in-Replace-2-1.branch [
-      | in-Replace+else-index-len w ↦ rw w.in-Replace.is (none_there view _ c.args.index body.items (omega (arith, size)))
-      | in-Set+else-index-len-2 w ↦ rw w.in-Set.is (none_there view _ c.args.index body.items (omega (arith, size)))
-      | in-Remove+else-index-len-3 w ↦ rw w.in-Remove.is (remove_none view c.args.index body.items (omega (arith, size)))
-    ]
+    rw c.in-Replace.is (none_there (entry_view (λ s. string_bytes s)) _ c.args.index body.items (omega (arith, size)))
+
+pub returns-in-Set-2 : goal.returns-in-Set-2
+returns-in-Set-2 c =
+    let body = c.args.body.now in
+    let size : length body.items ≡ vec_len body = omega (arith, body.ok.0) in
+    rw c.in-Set.is (none_there (entry_view (λ s. string_bytes s)) _ c.args.index body.items (omega (arith, size)))

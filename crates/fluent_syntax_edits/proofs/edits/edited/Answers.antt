@@ -1,7 +1,7 @@
-use Rattle.std.proofs.Common.{◌≡◌, ap, ◌∙◌, ◌++◌, drop, take, string_bytes, sym}
+use Rattle.std.proofs.Common.{ap, ◌∙◌, ◌++◌, drop, take}
 use Rattle.std.proofs.lemmas.Result.{err_from_is_err_and}
-use Rattle.fluent_syntax_edits.specs.Changes.{change_of, coming}
-use Rattle.fluent_syntax_edits.specs.Edits.{made, new_text}
+use Rattle.fluent_syntax_edits.specs.Changes.{change_of}
+use Rattle.fluent_syntax_edits.specs.Edits.{made}
 use Rattle.fluent_syntax_edits.proofs.Answered.{no_place, place, refused}
 use Rattle.fluent_syntax_edits.proofs.edits.edited.Goals as goal
 
@@ -17,7 +17,8 @@ returns-then-branch c =
     let s = c.in_ok-stretch.stretch in
     let change = change_of c.args.edit in
     let text = rw c.as_bytes.ensures.value at c.in_ok-text.ensures in
-    let bytes = c.in_ok-made.ensures ∙ ap (λ w. take s.start t ++ (w ++ drop s.end t)) (c.as_str.ensures.value ∙ text) in
+    let bytes =
+    c.in_ok-made.ensures ∙ ap (λ w. take s.start t ++ (w ++ drop s.end t)) (c.as_str.ensures.value ∙ text) in
     made s (place c.args.edition t c.args.index change s c.in_ok-stretch.ensures) bytes
     (c.in_ok-reads_changed.ensures.0 c.if-branch.true)
 
@@ -27,7 +28,8 @@ returns c =
     let s = c.in_ok-stretch.stretch in
     let change = change_of c.args.edit in
     let text = rw c.as_bytes.ensures.value at c.in_ok-text.ensures in
-    let bytes = c.in_ok-made.ensures ∙ ap (λ w. take s.start t ++ (w ++ drop s.end t)) (c.as_str.ensures.value ∙ text) in
+    let bytes =
+    c.in_ok-made.ensures ∙ ap (λ w. take s.start t ++ (w ++ drop s.end t)) (c.as_str.ensures.value ∙ text) in
     refused c.args.edition t c.args.index change s _ c.in_ok-refusal.refusal
     (place c.args.edition t c.args.index change s c.in_ok-stretch.ensures) bytes
     (λ x. let so = c.in_ok-reads_changed.ensures.1 x in let not = c.if-branch.false in cc) c.in_ok-refusal.ensures

@@ -13,12 +13,14 @@ loop-found-preserved c =
     let inv = c.loop-found.invariant in
     let here = c.in-Ok-Some.ensures in
     let t = c.new-tiles.result.source.bytes.now in
+    let ps = c.loop-found.places.items in
     let next = rw (inv.text, inv.edition, c.in-Ok-Some.field-0-is) at here.next in
     record {
       text = ap (λ source. source.bytes.now) here.text ∙ inv.text;
       edition = here.edition ∙ inv.edition;
-      read = read_on c.new-tiles.result.edition t c.loop-found.tiles.ptr c.next_tile.new.self.ptr c.loop-found.places.items _
-          c.loop-found.last _ c.in-Ok-Some.found inv.read next
+      read = read_on c.new-tiles.result.edition t c.loop-found.tiles.ptr c.next_tile.new.self.ptr ps _
+          c.loop-found.last _
+          c.in-Ok-Some.found inv.read next
           (λ tile more place. c.in_ok-add_place-in-Ok-Some.ensures tile more (place ∙ sym c.place_found.ensures));
     }
 

@@ -16,12 +16,13 @@ returns c =
     elim c.if-same_texts.branch [
       | then-same_texts w ↦
           (let same = c.same_texts.ensures.0 w.if-same_texts.true in
-          let moved = rw (w.deref.ensures.value, w.deref-then-same_texts.ensures.value, c.requires) at w.are_moved.ensures in (
+          let moved =
+          rw (w.deref.ensures.value, w.deref-then-same_texts.ensures.value, c.requires) at w.are_moved.ensures in (
             (λ so. compared.0 (sym same ∙ applied, moved.0 (subst IsTrue w.result-is so))),
             (λ x. subst IsTrue (sym w.result-is) (moved.1 (compared.1 x).1)),
           ))
       | else-same_texts w ↦ (
-          (λ so. cc),
-          (λ x. let so = c.same_texts.ensures.1 (applied ∙ sym (compared.1 x).0) in cc),
-        )
+        (λ so. cc),
+        (λ x. let so = c.same_texts.ensures.1 (applied ∙ sym (compared.1 x).0) in cc),
+      )
     ]

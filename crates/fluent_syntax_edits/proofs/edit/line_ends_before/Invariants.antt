@@ -1,6 +1,6 @@
 use Rattle.std.proofs.Common.{◌≡◌, ◌≤◌, ◌+◌}
 use Rattle.fluent_syntax_edits.specs.Changes.{line_ends_before}
-use Rattle.fluent_syntax_edits.proofs.blanks.line_ends_before.Given as goal
+use Rattle.fluent_syntax_edits.proofs.edit.line_ends_before.Given as goal
 
 abbrev pub invariant-loop-at : goal.invariant-loop-at
 invariant-loop-at l = record {
