@@ -16,7 +16,8 @@ use Rattle.fluent_syntax_grammar.specs.Laws as laws
 use Rattle.fluent_syntax_grammar.proofs.JunkAndSpans.{junk_of_errors, runtime_junk_of_errors, errors_ascend}
 use Rattle.fluent_syntax_grammar.proofs.JunkAndSpans.{runtime_errors_ascend}
 use Rattle.fluent_syntax_parser.specs.Faults.{fault_of}
-use Rattle.fluent_syntax_parser.specs.Answers.{Answers, AnswersIn}
+use Rattle.fluent_syntax_parser.specs.Answers.{Answers}
+use Rattle.fluent_syntax_parser.specs.Rest.{AnswersIn}
 use Rattle.fluent_syntax_parser.specs.declared.options.Comments.{Comments}
 use Rattle.fluent_syntax_parser.specs.declared.options.Comments.TheVariants.{Kept, Dropped}
 use Rattle.fluent_syntax_parser.specs.declared.fault.ParseFault.{ParseFault}

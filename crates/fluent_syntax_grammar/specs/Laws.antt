@@ -65,10 +65,8 @@ Ascend t from (f ∷ fs) =
 
 -- what an entry is that is junk; nothing of another
 abbrev pub junk_slice : {X : Type 0} → EntryTree X → List X
-junk_slice (message m) = []
-junk_slice (term m) = []
-junk_slice (comment level content) = []
 junk_slice (junk s) = s ∷ []
+junk_slice _ = []
 
 -- the stretch of an error
 abbrev pub fault_slice : Fault → Span
