@@ -21,15 +21,18 @@ use Rattle.fluent_syntax_grammar.specs.Readable.{is_argument_value}
 use Rattle.fluent_syntax_grammar.specs.Canonical.{is_plain_line, hides_mark, line_numbers, are_lone, first_stand}
 use Rattle.fluent_syntax_grammar.specs.Rules.{Rules, entry_obeys}
 use Rattle.fluent_syntax_writer.specs.declared.canonical.rules.Rule.{Rule}
-use Rattle.fluent_syntax_writer.specs.declared.canonical.rules.Rule.TheVariants.{Junk, EmptyMessage, LfInComment, EmptyPattern}
-use Rattle.fluent_syntax_writer.specs.declared.canonical.rules.Rule.TheVariants.{EmptyText, BraceInText, CrBeforeLf, LfWithinText}
-use Rattle.fluent_syntax_writer.specs.declared.canonical.rules.Rule.TheVariants.{TextAfterText, BlankFirstText, LeadingSpace}
-use Rattle.fluent_syntax_writer.specs.declared.canonical.rules.Rule.TheVariants.{BlankEnd, LineOfSpaces, MarkedLine}
-use Rattle.fluent_syntax_writer.specs.declared.canonical.rules.Rule.TheVariants.{ForbiddenSelector, SecondDefault, TermAttribute}
+use Rattle.fluent_syntax_writer.specs.declared.canonical.rules.Rule.TheVariants.{Junk, EmptyMessage, LfInComment}
+use Rattle.fluent_syntax_writer.specs.declared.canonical.rules.Rule.TheVariants.{EmptyPattern, EmptyText, BraceInText}
+use Rattle.fluent_syntax_writer.specs.declared.canonical.rules.Rule.TheVariants.{CrBeforeLf, LfWithinText}
+use Rattle.fluent_syntax_writer.specs.declared.canonical.rules.Rule.TheVariants.{TextAfterText, BlankFirstText}
+use Rattle.fluent_syntax_writer.specs.declared.canonical.rules.Rule.TheVariants.{LeadingSpace, BlankEnd, LineOfSpaces}
+use Rattle.fluent_syntax_writer.specs.declared.canonical.rules.Rule.TheVariants.{MarkedLine, ForbiddenSelector}
+use Rattle.fluent_syntax_writer.specs.declared.canonical.rules.Rule.TheVariants.{SecondDefault, TermAttribute}
 use Rattle.fluent_syntax_writer.specs.declared.canonical.rules.Rule.TheVariants.{ForbiddenCallee, ForbiddenArgument}
 use Rattle.fluent_syntax_writer.specs.declared.canonical.rules.Rule.TheVariants.{RepeatedArgument, MisspelledString}
-use Rattle.fluent_syntax_writer.specs.declared.canonical.rules.Rule.TheVariants.{MisspelledNumber, MisspelledName, EmptyComment}
-use Rattle.fluent_syntax_writer.specs.declared.canonical.rules.Rule.TheVariants.{BlankCommentLine, HiddenMark, CommonIndent}
+use Rattle.fluent_syntax_writer.specs.declared.canonical.rules.Rule.TheVariants.{MisspelledNumber, MisspelledName}
+use Rattle.fluent_syntax_writer.specs.declared.canonical.rules.Rule.TheVariants.{EmptyComment, BlankCommentLine}
+use Rattle.fluent_syntax_writer.specs.declared.canonical.rules.Rule.TheVariants.{HiddenMark, CommonIndent}
 use Rattle.fluent_syntax_writer.specs.declared.canonical.rules.Rule.TheVariants.{SpacesOnBlankLine, NoDefault}
 
 -- Each rule once, in the order in which a broken one is looked for.

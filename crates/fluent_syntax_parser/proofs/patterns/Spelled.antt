@@ -86,7 +86,8 @@ module _ {X : Type 0} (f : Span → X) (t : List ℕ) where
     all_items =
         made
         ∙ ap (λ c. map (item_view v) opening ++ flat_map (line_items edition c) (map (line_view v) lines))
-        (indent ∙ ap (λ ls. least (flat_map (counted edition) ls)) same_lines ∙ common_mapped (expression_map f) edition y)
+        (indent ∙ ap (λ ls. least (flat_map (counted edition) ls)) same_lines
+        ∙ common_mapped (expression_map f) edition y)
         ∙ rw (same_opening, same_lines) refl
         ∙ items_mapped (expression_map f) edition y
 

@@ -84,21 +84,23 @@ pub inline_obeys-returns-then-reference_obeys : goal.inline_obeys-returns-then-r
 inline_obeys-returns-then-reference_obeys g t c =
     let f = g.T.ReadTexts.text in
     let reference = c.in-TermReference in
-    let named = option_obeys (rules_of c.args.asked.standard).name (option_map (identifier_view f) reference.attribute) in
+    let name = (rules_of c.args.asked.standard).name in
+    let named = option_obeys name (option_map (identifier_view f) reference.attribute) in
     let both = sym c.reference_obeys-in-TermReference.ensures ∙ c.if-reference_obeys.true in
     rw (reference.is, view-TermReference)
-    (three_hold ((rules_of c.args.asked.standard).name (f reference.id.name)) named _ _ both c.maybe_obeys.ensures)
+    (three_hold (name (f reference.id.name)) named _ _ both c.maybe_obeys.ensures)
 
 pub inline_obeys-returns-else-reference_obeys : goal.inline_obeys-returns-else-reference_obeys
 inline_obeys-returns-else-reference_obeys g t c =
     let f = g.T.ReadTexts.text in
     let reference = c.in-TermReference in
-    let named = option_obeys (rules_of c.args.asked.standard).name (option_map (identifier_view f) reference.attribute) in
+    let name = (rules_of c.args.asked.standard).name in
+    let named = option_obeys name (option_map (identifier_view f) reference.attribute) in
     let given = arguments_of (option_map (arguments_view f) reference.arguments) in
     let both = sym c.reference_obeys-in-TermReference.ensures ∙ c.if-reference_obeys.false in
     rw (reference.is, view-TermReference)
     (c.if-reference_obeys.false
-    ∙ three_fail ((rules_of c.args.asked.standard).name (f reference.id.name)) named
+    ∙ three_fail (name (f reference.id.name)) named
     (maybe_obeys (rules_of c.args.asked.standard) given) both)
 
 pub inline_obeys-returns-in-VariableReference : goal.inline_obeys-returns-in-VariableReference

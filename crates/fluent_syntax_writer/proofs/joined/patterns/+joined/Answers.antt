@@ -5,7 +5,8 @@ use Rattle.fluent_syntax_tree.proofs.Lists.{map_finished}
 use Rattle.fluent_syntax_tree.proofs.Views.{view-Pattern, view-Placeable}
 use Rattle.fluent_syntax_grammar.specs.Joined.{joined_maybe, joined_named, joined_pattern, joined_variant}
 use Rattle.fluent_syntax_writer.specs.Joining.{before_pattern, joined_from}
-use Rattle.fluent_syntax_writer.proofs.joining.Elements.{with_placeable, with_end, left_more, left_none, placeable_pushed}
+use Rattle.fluent_syntax_writer.proofs.joining.Elements.{with_placeable, with_end, left_more, left_none}
+use Rattle.fluent_syntax_writer.proofs.joining.Elements.{placeable_pushed}
 use Rattle.fluent_syntax_writer.proofs.joining.Trees.{joined-CallArguments, joined-Select, joined-TermReference}
 use Rattle.fluent_syntax_writer.proofs.joined.patterns.+joined.Goals as goal
 

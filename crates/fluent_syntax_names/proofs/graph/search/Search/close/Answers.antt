@@ -4,7 +4,8 @@ use Rattle.std.proofs.lemmas.List.{length-set, take_all}
 use Rattle.fluent_syntax_names.specs.Graph.{targets_of}
 use Rattle.fluent_syntax_names.specs.Search.{State_of, news}
 use Rattle.fluent_syntax_names.specs.declared.graph.search.State.TheVariants as state
-use Rattle.fluent_syntax_names.proofs.graphs.Closing.{closed_segment, none_closed, one_more, fewer_is, node_in, news_still}
+use Rattle.fluent_syntax_names.proofs.graphs.Closing.{closed_segment, none_closed, one_more, fewer_is, node_in}
+use Rattle.fluent_syntax_names.proofs.graphs.Closing.{news_still}
 use Rattle.fluent_syntax_names.proofs.graphs.Closing.{now_closed_to, closed_at}
 use Rattle.fluent_syntax_names.proofs.graphs.Same.{sound_same}
 use Rattle.fluent_syntax_names.proofs.graph.search.Search.close.Goals as goal
