@@ -53,14 +53,11 @@ fn one_answer_over_both_types_of_texts(rt: HostRuntime) -> Result<(), Fail> {
     assert_one_answer(rt.alloc(), JUNK)
 }
 
-fn entries_of(text: &str) -> Entries<'_> {
-    let options = Options {
-        edition: Edition::One,
-        comments: Comments::Kept,
-        nesting: 3,
-    };
-    Entries::new(text, options)
-}
+const OPTIONS: Options = Options {
+    edition: Edition::One,
+    comments: Comments::Kept,
+    nesting: 3,
+};
 
 /// The tree of the text's spans, with the text's bytes put back.
 fn put_back(alloc: Global, text: &'static str) -> Result<Resource<&'static str>, Fail> {
@@ -70,7 +67,7 @@ fn put_back(alloc: Global, text: &'static str) -> Result<Resource<&'static str>,
 
 /// The tree of the entries that are read one by one, each with its texts put in.
 fn put_back_one_by_one(alloc: Global, text: &'static str) -> Result<Resource<&'static str>, Fail> {
-    let mut entries = entries_of(text);
+    let mut entries = Entries::new(text, OPTIONS);
     let mut body = Vec::new(alloc);
     for _ in 0..=text.len() {
         match entries.next_entry(alloc) {
@@ -85,7 +82,7 @@ fn put_back_one_by_one(alloc: Global, text: &'static str) -> Result<Resource<&'s
 /// The tree of the entries that are read one by one with their texts.
 fn gathered(alloc: Global, text: &'static str) -> Result<Resource<&'static str>, Fail> {
     let slices: Slices<'_, '_, &'static str> = Slices::new(&text);
-    let mut entries = entries_of(text);
+    let mut entries = Entries::new(text, OPTIONS);
     let mut body = Vec::new(alloc);
     for _ in 0..=text.len() {
         match entries.next_entry_with(alloc, &slices) {
