@@ -2,7 +2,8 @@
 use Rattle.std.proofs.Common.{◌≡◌, ℕ, List, [], Bool, true, false, Option, Some, None, Result, Ok, Err}
 use Rattle.std.proofs.Common.{refl, sym, ap, ◌∙◌}
 use Rattle.std.specs.Prelude.{ℤ, ◌&&◌, ◌≢◌, ◌⊎◌}
-use Rattle.std.proofs.Common.{inl, inr, subst, true≢false}
+use Rattle.std.proofs.Common.{inl, inr, subst, true≢false, map, ◌++◌}
+use Rattle.std.proofs.lemmas.List.{map-append}
 use Rattle.std.specs.Prelude.{IfOk, IfSome, OnOk, is_some, option_and_then, option_map}
 use Rattle.std.specs.Str.{bytes_eq}
 use Rattle.std.proofs.lemmas.Map.{update_same}
@@ -18,7 +19,9 @@ use Rattle.fluent_syntax_lsp.specs.Params.{changes_in, opened_text_in, uri_in, v
 use Rattle.fluent_syntax_lsp.specs.Phases.{after_notification, after_request, refusal_of}
 use Rattle.fluent_syntax_lsp.specs.Replies.{Reply, IsSent, diagnosed, silence, watch, withdrawn, diagnostics_form}
 use Rattle.fluent_syntax_lsp.specs.Replies.{sends_diagnostics, sends_none, sends_withdrawal}
-use Rattle.fluent_syntax_lsp.specs.Told.{TellsDocument}
+use Rattle.fluent_syntax_lsp.specs.Diagnostics.{DiagnosesText, shown}
+use Rattle.fluent_syntax_lsp.specs.Told.{TellsDocument, error_form}
+use Rattle.fluent_syntax_lsp.specs.declared.diagnostics.Diagnostic.{Diagnostic}
 use Rattle.fluent_syntax_lsp.specs.Sessions.{Answers, AnswersNotification, AnswersRequest, AnswersRunning, Follows}
 use Rattle.fluent_syntax_lsp.specs.Sessions.{Finds, IsFound, TellsAnew, fits}
 use Rattle.fluent_syntax_lsp.specs.Sessions.{IsMethod, Session, TakesRequest, concerns}
@@ -110,6 +113,17 @@ is_published old mid uri found value list same open' is tells_all =
     let at : Session → Type 0 = λ s. IsSent (published uri (s.texts uri)) (Some value) in
     let sent = sent_as (diagnosed uri found.text) value _ is (sends_diagnostics uri found.text list tells_all) in
     subst at same (subst (λ (o : Option OpenText). IsSent (published uri o) (Some value)) open' sent)
+
+-- what is told of a document: its errors, and then what is told beside
+pub tells_document : (t : List ℕ) (errors : List Diagnostic) (values others all : List Value) →
+    ∥ DiagnosesText t (map shown errors) ∥₁ → map view values ≡ map error_form errors → all ≡ values ++ others →
+    TellsDocument t (map view all)
+tells_document t errors values others all diagnoses told is = record {
+  errors = errors;
+  diagnoses = diagnoses;
+  others = map view others;
+  told_each = ap (map view) is ∙ map-append view values others ∙ ap (λ l. l ++ map view others) told;
+}
 
 -- that there are none any more
 pub is_withdrawn : (uri : List ℕ) (value : Data) (list : List Data) → value ≡ diagnostics_form uri list → list ≡ [] →

@@ -5,7 +5,7 @@ ghost use Rattle.fluent_syntax_lsp.specs.Formatting.{FormatsText, IsFormatted, I
 
 use crate::limits::NESTING_LIMIT;
 use crate::places::Places;
-use crate::replies::edit_form;
+use crate::replies::{edit_form, null};
 use fluent_syntax::parser::{Edition, ParseFault, TooDeep, parse_within};
 use fluent_syntax::serializer::serialize;
 use fluent_syntax::spans::Span;
@@ -35,11 +35,13 @@ pub fn formatted(alloc: Global, text: &str) -> Result<Option<String>, AllocError
 pub fn formatting_of(alloc: Global, text: &str) -> Result<Value, AllocError>
     ensures { IfOk result (λ value. FormatsText text.now (view value)) }
 {
-    match formatted(alloc, text)? {
-        None => Ok(Value::Null),
-        Some(written) if written.as_str() == text => Ok(Value::Null),
-        Some(written) => whole_edit(alloc, text, written.as_str()),
+    let Some(written) = formatted(alloc, text)? else {
+        return Ok(null());
+    };
+    if written.as_str() == text {
+        return Ok(null());
     }
+    whole_edit(alloc, text, written.as_str())
 }
 
 /// The edit that sets the whole text.

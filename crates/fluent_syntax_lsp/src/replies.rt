@@ -1,5 +1,6 @@
 //! The messages that a server sends, as JSON values.
 ghost use Rattle.std.specs.Prelude.{◌≡◌, IfOk, map};
+ghost use Rattle.serde_json.specs.Data.{null};
 ghost use Rattle.serde_json.specs.View.{view};
 ghost use Rattle.fluent_syntax_lsp.specs.Locations.{edit_form, place_form, range_form, span_form};
 ghost use Rattle.fluent_syntax_lsp.specs.Replies.{answer_form, diagnostics_form, refusal_form, register_form};
@@ -25,6 +26,13 @@ pub fn refusal(alloc: Global, id: Value, code: ErrorCode) -> Result<Value, Alloc
     ensures { IfOk result (λ value. view value ≡ refusal_form (view id) code) }
 {
     json!(in alloc; {"jsonrpc": "2.0", "id": id, "error": {"code": (code.number()), "message": (code.text())}})
+}
+
+/// The value of what there is none of.
+pub fn null() -> Value
+    ensures { view result ≡ null }
+{
+    Value::Null
 }
 
 /// What the server can do.

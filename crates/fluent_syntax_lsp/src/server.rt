@@ -12,7 +12,7 @@ use crate::messages::{Message, message_of};
 use crate::methods::Method;
 use crate::opened::Documents;
 use crate::phases::{ErrorCode, Phase};
-use crate::replies::{answer, refusal};
+use crate::replies::{answer, null, refusal};
 use crate::workspace::Workspace;
 use fluent_syntax_names::DefinedNames;
 use ftl_workspace::Folders;
@@ -115,7 +115,7 @@ impl Server {
     fn refuse_unnamed(&self, code: ErrorCode) -> Result<Option<Value>, AllocError>
         ensures { IfOk result (λ sent. IsSent (refused null code) (option_map view sent)) }
     {
-        self.refuse(no_identifier(), code)
+        self.refuse(null(), code)
     }
 
     /// Answers a request of the method; one that is not known is None.
@@ -159,13 +159,6 @@ impl Server {
         self.phase = self.phase.after_notification(method);
         Ok(sent)
     }
-}
-
-/// The identifier of a message that has none.
-fn no_identifier() -> Value
-    ensures { view result ≡ null }
-{
-    Value::Null
 }
 
 /// Whether the files of the workspace may be others behind a notification.

@@ -8,4 +8,4 @@ use Rattle.fluent_syntax_lsp.proofs.server.Server.refuse_unnamed.Goals as goal
 pub returns : goal.returns
 returns c =
     subst (λ (id : Data). IfOk c.refuse.result (λ sent. IsSent (refused id c.args.code) (option_map view sent)))
-    c.no_identifier.ensures c.refuse.ensures
+    c.null.ensures c.refuse.ensures
