@@ -1,9 +1,9 @@
 //! Edits of many texts: hardly any is refused, which no clause says.
 
+use crate::alike::assert_holds;
+use crate::corpus::TEXTS;
 use crate::edits::asked::{Edit, made, tree_of};
 use fluent_syntax::ast::Entry;
-use crate::corpus::TEXTS;
-use crate::alike::assert_holds;
 use std::alloc::Global;
 use std::test::Fail;
 

@@ -1,8 +1,8 @@
 //! Entries by their names.
 
+use crate::alike::assert_holds;
 use crate::edits::asked::tree_of;
 use fluent_syntax_edits::{EntryName, number_of};
-use crate::alike::assert_holds;
 use std::test::Fail;
 
 /// A comment that hangs is a part of its entry; one that stands alone has a number, and so has junk.
