@@ -1,5 +1,5 @@
 mod Statuses
-mod Rows
+mod NameRows
 mod ValueRows
 mod LineStarts
 mod Recovered

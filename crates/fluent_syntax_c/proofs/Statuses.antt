@@ -1,6 +1,7 @@
 -- Statuses and their numbers, and what calls leave by them.
 use Rattle.std.proofs.Common.{◌≡◌, ◌==◌, ℕ, List, Result, Ok, Err, IfOk, IsOkAnd, cond, refl, sym, ap, ◌∙◌}
 use Rattle.std.proofs.Common.{subst, inl, inr}
+use Rattle.std.specs.Global.{Global}
 use Rattle.std.specs.Prelude.{◌↔◌, ◌⊎◌, Vec}
 use Rattle.ftl.specs.declared.outcome.Outcome.{Outcome}
 use Rattle.ftl.specs.declared.outcome.Outcome.TheVariants as outcome
@@ -9,6 +10,7 @@ use Rattle.fluent_syntax_c.specs.declared.status.Refusal.TheVariants.{Argument, 
 use Rattle.fluent_syntax_c.specs.declared.status.Status.{Status}
 use Rattle.fluent_syntax_c.specs.declared.status.Status.TheVariants.{Clean, SyntaxErrors, TooSmall, Refused}
 use Rattle.fluent_syntax_c.specs.Status.{EndsAs, refusal_number, status_number}
+use Rattle.fluent_syntax_c.specs.Arguments.{IsNoEdition}
 use Rattle.fluent_syntax_c.specs.Output.{Leaves}
 use Rattle.fluent_syntax_c.specs.Rows.{Answers, Gives}
 
@@ -106,3 +108,24 @@ gives_answered number asked AreTexts Long Deeper answer before after count statu
   deeper = λ told. h.deeper ((refused Depth).0 told);
   shallow = λ deeper. refused_deeper answer status Deeper refused h.shallow h.read (λ e d. h.tree e) deeper;
 }
+
+-- These are the rows, where they are those that are asked for, the edition is known, all texts are UTF-8, and none
+-- nests deeper than it may.
+pub answers_ok : {A : Type 0} (number : ℕ) (asked : List A → Outcome → Type 0) (AreTexts Long Deeper : Type 0)
+    (rows : Vec A Global) (outcome : Outcome) → asked rows.items outcome → ¬ (IsNoEdition number) → AreTexts →
+    (Deeper → ⊥) → Answers number asked AreTexts Long Deeper (Ok (rows, outcome))
+answers_ok number asked AreTexts Long Deeper rows outcome is known texts shallow = record {
+  rows = is;
+  argument = ((λ e. cc), (λ none. absurd (known none)));
+  input = λ known. ((λ e. cc), (λ no. absurd (no texts)));
+  deep = λ e. cc;
+  deeper = λ e. cc;
+  shallow = shallow;
+  read = λ e. cc;
+  tree = λ e. cc;
+}
+
+-- what neither of two gives, one of them does not
+pub either_absurd : {P Q : Type 0} → (P → ⊥) → (Q → ⊥) → P ⊎ Q → ⊥
+either_absurd first second (inl p) = first p
+either_absurd first second (inr q) = second q

@@ -1,5 +1,6 @@
 -- Rows: what is answered where rows of texts are asked for, and what a call leaves and returns.
 use Rattle.std.specs.Prelude.{◌≡◌, ◌≢◌, ◌↔◌, ◌⊎◌, ℕ, List, Result, Err, IfOk, Vec}
+use Rattle.std.specs.Global.{Global}
 use Rattle.std.specs.Str.{IsUtf8}
 use Rattle.fluent_syntax_tree.specs.declared.edition.Edition.{Edition}
 use Rattle.fluent_syntax_grammar.specs.Tiling.{Tile, Tiling}

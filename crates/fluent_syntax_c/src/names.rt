@@ -14,7 +14,7 @@ use crate::readings::Reading;
 use crate::rows::{TextRows, give_rows};
 use fluent_syntax::ast::{Attribute, Entry};
 use fluent_syntax::parser::Edition;
-use fluent_syntax::spans::{Halt, Span, Tiles};
+use fluent_syntax::spans::{FoundTile, Halt, Span, Tiles};
 use std::alloc::{AllocError, Global};
 
 /// A name: `struct ftl_name` of `include/fluent.h`.
@@ -114,12 +114,26 @@ fn name_rows(
     let mut tiles = Tiles::new(text, edition, nesting, 0);
     loop {
         match tiles.next_tile(alloc) {
-            Ok(Some(found)) => add_entry(&mut rows, &mut places, found.span, &found.entry)?,
+            Ok(Some(found)) => add_found(&mut rows, &mut places, found)?,
             Ok(None) => return Ok(rows),
             // it was read before, so it is not too deep
             Err(Halt::TooDeep | Halt::Memory) => return Err(AllocError),
         }
     }
+}
+
+/// Adds the rows of what was found, which is dropped here and not on each way out of the loop.
+fn add_found<'t>(
+    rows: &mut Vec<FtlName>,
+    places: &mut Places<'t>,
+    found: FoundTile,
+) -> Result<(), AllocError>
+    requires { entry_every (IsPart places.old) (tree_of found.entry) }
+    ensures rows { OnOk result (rows.new.items
+        ≡ rows.old.items ++ entry_rows places.old (vec_len rows.old) found.span (tree_of found.entry)) }
+    ensures text { places.new ≡ places.old }
+{
+    add_entry(rows, places, found.span, &found.entry)
 }
 
 /// Adds the rows of an entry that stands there.

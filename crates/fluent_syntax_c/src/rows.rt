@@ -19,7 +19,7 @@ pub(crate) trait TextRows {
     type Row: Copy;
 
     /// Whether the rows are those of the tiling of a text by an edition.
-    ghost are: { ByEdition → List ℕ → List Tile → List Row → Type 0 };
+    ghost are: { ByEdition → List ℕ → List Tile → List Self.Row → Type 0 };
 
     /// The rows of a text that nests no deeper than that.
     fn rows_of(

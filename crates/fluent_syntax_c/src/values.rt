@@ -8,7 +8,7 @@ ghost use Rattle.fluent_syntax_c.specs.Values.{AddsValues, TilesValues, ValuesTi
 use crate::readings::Reading;
 use crate::rows::{TextRows, give_rows};
 use fluent_syntax::parser::Edition;
-use fluent_syntax::spans::{EntryExtents, Halt, Span, Tiles, entry_extents};
+use fluent_syntax::spans::{EntryExtents, FoundTile, Halt, Span, Tiles, entry_extents};
 use std::alloc::{AllocError, Global};
 
 /// Where a value stands: `struct ftl_value` of `include/fluent.h`.
@@ -76,14 +76,27 @@ fn value_rows(
     let mut tiles = Tiles::new(text, edition, nesting, 0);
     loop {
         match tiles.next_tile(alloc) {
-            Ok(Some(found)) => {
-                add_values_at(&mut rows, alloc, text, edition, nesting, found.span.start)?;
-            }
+            Ok(Some(found)) => add_found(&mut rows, alloc, text, edition, nesting, found)?,
             Ok(None) => return Ok(rows),
             // it was read before, so it is not too deep
             Err(Halt::TooDeep | Halt::Memory) => return Err(AllocError),
         }
     }
+}
+
+/// Adds the rows of what was found, which is dropped here and not on each way out of the loop.
+fn add_found(
+    rows: &mut Vec<FtlValue>,
+    alloc: Global,
+    text: &str,
+    edition: Edition,
+    nesting: usize,
+    found: FoundTile,
+) -> Result<(), AllocError>
+    requires { found.span.start ≤ length text.now }
+    ensures { OnOk result (AddsValues edition text.now found.span.start rows.old.items rows.new.items) }
+{
+    add_values_at(rows, alloc, text, edition, nesting, found.span.start)
 }
 
 /// Adds the rows of the message or the term that begins at the place, if one does, and nests no deeper than that.

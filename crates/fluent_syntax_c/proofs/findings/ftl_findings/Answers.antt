@@ -2,6 +2,7 @@ use Rattle.fluent_syntax_c.proofs.Statuses.{gives_answered}
 use Rattle.fluent_syntax_c.proofs.findings.ftl_findings.Goals as goal
 
 pub returns : goal.returns
-returns c =
-    gives_answered _ _ _ _ _ c.edition_findings.result _ _ _ _ c.edition_findings.ensures c.give.ensures.leaves
-    c.give.ensures.refused
+returns c = record {
+  gives = gives_answered _ _ _ _ _ c.edition_findings.result _ _ _ _ c.edition_findings.ensures.answers
+      c.give.ensures.leaves c.give.ensures.refused;
+}

@@ -3,7 +3,7 @@ use Rattle.fluent_syntax_tree.specs.Every.{entry_every}
 use Rattle.fluent_syntax_tree.specs.Spans.{IsPart}
 use Rattle.fluent_syntax_parser.specs.Rest.{tree_of}
 use Rattle.fluent_syntax_c.specs.Names.{entry_rows}
-use Rattle.fluent_syntax_c.proofs.Rows.{names_of_all, names_of_nothing, names_on, parts_found}
+use Rattle.fluent_syntax_c.proofs.NameRows.{names_of_all, names_of_nothing, names_on, parts_found}
 use Rattle.fluent_syntax_c.proofs.names.name_rows.Goals as goal
 
 pub loop-found-init : goal.loop-found-init

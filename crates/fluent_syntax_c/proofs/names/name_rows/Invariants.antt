@@ -1,5 +1,5 @@
 use Rattle.std.proofs.Common.{◌≡◌, ◌-◌, length}
-use Rattle.fluent_syntax_c.proofs.Rows.{NamesTo}
+use Rattle.fluent_syntax_c.proofs.NameRows.{NamesTo}
 use Rattle.fluent_syntax_c.proofs.names.name_rows.Given as goal
 
 abbrev pub invariant-loop-found : goal.invariant-loop-found

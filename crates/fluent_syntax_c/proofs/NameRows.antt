@@ -1,6 +1,8 @@
 -- Rows of names.
 use Rattle.std.proofs.Common.{◌≡◌, ◌<◌, ◌≤◌, ◌+◌, ◌++◌, [], ◌∷◌, ℕ, List, length, get_or, map, arith}
 use Rattle.std.proofs.Common.{sym, ap, ◌∙◌, refl, subst, append_assoc, append-nil, length-append}
+use Rattle.std.specs.Global.{Global}
+use Rattle.std.specs.Prelude.{Vec, Result, Ok, Err, IfOk}
 use Rattle.std.specs.Str.{IsCharBoundary, IsUtf8}
 use Rattle.std.proofs.lemmas.Str.{IsCharBoundary-start}
 use Rattle.fluent_syntax_tree.specs.Entry.{EntryTree, junk}
@@ -14,14 +16,15 @@ use Rattle.fluent_syntax_tree.specs.declared.spans.Span.{Span}
 use Rattle.fluent_syntax_tree.proofs.Every.{every_item}
 use Rattle.fluent_syntax_grammar.specs.Body.{alone}
 use Rattle.fluent_syntax_grammar.specs.Places.{BlankBlock}
-use Rattle.fluent_syntax_grammar.specs.Tiling.{Tile, Tiled, TileAt, done, next, reads, refuses}
+use Rattle.fluent_syntax_grammar.specs.Tiling.{Tile, Tiled, TileAt, Tiling, done, next, reads, refuses}
 use Rattle.fluent_syntax_grammar.proofs.Boundaries.{boundary_cuts}
 use Rattle.fluent_syntax_grammar.proofs.Cuts.{block_place}
+use Rattle.fluent_syntax_grammar.proofs.OneTiling.{one_tiling}
 use Rattle.fluent_syntax_grammar.proofs.SoundTiling.{EndedTile, GoodTile, tile_good}
 use Rattle.fluent_syntax_parser.specs.Rest.{tree_of}
 use Rattle.fluent_syntax_parser.specs.Tiles.{TileTo}
 use Rattle.fluent_syntax_parser.specs.declared.tiles.FoundTile.{FoundTile}
-use Rattle.fluent_syntax_c.specs.Names.{NamesTiles, entry_rows, tile_rows, tiles_rows}
+use Rattle.fluent_syntax_c.specs.Names.{NamesTiles, are_names, entry_rows, tile_rows, tiles_rows}
 use Rattle.fluent_syntax_c.specs.declared.names.FtlName.{FtlName}
 
 -- the name of an attribute of a tree of the text lies within the text
@@ -120,3 +123,11 @@ module _ (edition : Edition) (t : List ℕ) where
     has_tiles = subst (Tiled t (TileAt edition t) 0) (append-nil names.tiles) (names.whole [] (done blank));
     rows_are = names.rows_are;
   }
+
+-- the rows of a tiling of the text are those of each
+pub names_of_tiling : {E : Type 0} (edition : Edition) (t : List ℕ) (tiles : List Tile) → Tiling edition t tiles →
+    (answer : Result (Vec FtlName Global) E) → IfOk answer (λ rows. NamesTiles edition t rows.items) →
+    IfOk answer (λ rows. are_names edition t tiles rows.items)
+names_of_tiling edition t tiles tiling (Ok rows) found =
+    found.rows_are ∙ ap (tiles_rows t 0) (one_tiling edition t found.tiles tiles found.has_tiles tiling)
+names_of_tiling edition t tiles tiling (Err e) found = found
