@@ -36,9 +36,10 @@ pub struct Fold {
 /// The symbols of a document, in order. None of one that nests deeper than `NESTING_LIMIT`.
 pub fn symbols_in(alloc: Global, document: &Document) -> Result<Vec<Symbol>, AllocError> {
     let mut found = Vec::new(alloc);
-    for number in 0..document.body().len() {
-        if let Some(whole) = stretch_of(document.text(), document.body(), number) {
-            if let Some(symbol) = symbol_of(alloc, &document.body()[number], whole)? {
+    let body = document.body();
+    for (number, entry) in body.iter().enumerate() {
+        if let Some(whole) = stretch_of(document.text(), body, number) {
+            if let Some(symbol) = symbol_of(alloc, entry, whole)? {
                 found.push(symbol)?;
             }
         }

@@ -1,4 +1,4 @@
-use Rattle.std.proofs.Common.{List, ℕ, Some, subst}
+use Rattle.std.proofs.Common.{List, ℕ, Some, subst, ◌∙◌}
 use Rattle.std.specs.Prelude.{string_bytes}
 use Rattle.fluent_syntax_lsp.specs.Opened.{Sets, texts_of}
 use Rattle.fluent_syntax_lsp.proofs.OpenedLemmas.{sets}
@@ -12,6 +12,6 @@ returns c =
     let v = c.args.version in
     let made = sets c.args.self.now.by_name c.insert.new.self (string_bytes key) _ c.in_ok-insert.ensures.updates in
     let named = subst (λ (text : List ℕ). Sets old (string_bytes key) (Some (record { text = text; version = v })) new)
-    c.in_ok-document.ensures.text made in
+    (c.in_ok-document.ensures ∙ c.in_ok-from_str.ensures.ok) made in
     subst (λ (name : List ℕ). Sets old name (Some (record { text = c.args.text.now; version = v })) new)
     c.in_ok-key.ensures.ok named
