@@ -3,7 +3,7 @@
 use fluent_syntax::parser::Edition;
 use fluent_syntax_names::Kind;
 use fluent_syntax_tests::alike::{assert_holds, assert_same_text};
-use ftl_settings::{
+use ftl_files::{
     Color, Output, Settings, SettingsFault, color_named, kind_named, output_named, settings_of,
 };
 use std::alloc::{AllocError, Global};

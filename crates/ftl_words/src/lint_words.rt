@@ -4,7 +4,7 @@ use crate::clap_words::color;
 use crate::options::Options;
 use clap::{Arg, ArgAction, ArgMatches, Command, value_parser};
 use fluent_syntax_names::Kind;
-use ftl_settings::kind_named;
+use ftl_files::kind_named;
 use std::alloc::{AllocError, Global};
 
 /// Files to search for mistakes between names.

@@ -7,7 +7,7 @@ use crate::options::Options;
 use crate::request::{Change, Request, Task, Work};
 use clap::{ArgMatches, Error};
 use fluent_syntax::parser::Edition;
-use ftl_settings::{Color, Output, color_named, output_named};
+use ftl_files::{Color, Output, color_named, output_named};
 use std::alloc::{AllocError, Global};
 
 /// What the words ask for, the program's own name first; a mistake in them, or a wish for help, as `Err`.
