@@ -16,6 +16,6 @@ pub use answers::{Formatted, answer, answer_within, formatted_within};
 pub use command::{Command, usage};
 pub use from_json::{JsonFault, text_of_json, tree_of_json};
 pub use outcome::{Outcome, RunFault};
-pub use runs::{run, run_within};
+pub use runs::{run, run_within, write_all};
 pub use safe::first_unsafe;
 pub use watched::Watched;
