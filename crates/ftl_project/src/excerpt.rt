@@ -1,7 +1,7 @@
 //! The line of a place, and a caret below it.
 ghost use Rattle.std.specs.Prelude.{◌≡◌, ◌++◌, OnOk, string_bytes};
 ghost use Rattle.std.specs.Str.{IsCharBoundary};
-ghost use Rattle.ftl_excerpts.specs.Excerpt.{AddsExcerpt, below_front, excerpt, shown_back, shown_front};
+ghost use Rattle.ftl_project.specs.Excerpt.{AddsExcerpt, below_front, excerpt, shown_back, shown_front};
 
 use crate::line::{back, front};
 use crate::shown::{WINDOW, push_below, push_shown, window_start};

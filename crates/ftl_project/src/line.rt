@@ -3,7 +3,7 @@ ghost use Rattle.std.specs.Prelude.{◌≡◌, ◌-◌, length};
 ghost use Rattle.std.specs.List.{suffix_len};
 ghost use Rattle.std.specs.Str.{IsCharBoundary};
 ghost use Rattle.std.specs.Str.Lines.{strip_carriage_return};
-ghost use Rattle.ftl_excerpts.specs.Excerpt.{back, front, is_in_line, last_line};
+ghost use Rattle.ftl_project.specs.Excerpt.{back, front, is_in_line, last_line};
 
 /// What of the line stands before the place.
 pub(crate) fn front(text: &str, cut: usize) -> &str

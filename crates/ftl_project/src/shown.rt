@@ -1,7 +1,7 @@
 //! How a text is shown in a terminal, and what stands below it.
 ghost use Rattle.std.specs.Prelude.{◌≡◌, ◌++◌, ◌≤◌, OnOk, chars, length, replicate, string_bytes};
-ghost use Rattle.ftl_excerpts.specs.Excerpt.{below, below_char, is_hidden, shown, shown_char, shown_text, window};
-ghost use Rattle.ftl_excerpts.specs.Excerpt.{window_start};
+ghost use Rattle.ftl_project.specs.Excerpt.{below, below_char, is_hidden, shown, shown_char, shown_text, window};
+ghost use Rattle.ftl_project.specs.Excerpt.{window_start};
 
 use std::alloc::AllocError;
 use unicode_width::UnicodeWidthChar;

@@ -447,10 +447,7 @@ fn kinds_that_are_left_out(rt: HostRuntime) -> Result<(), Fail> {
         let (text, is_told) = *row;
         let mut files = whole_files(alloc)?;
         files.put("/w/ftl.toml", text.as_bytes())?;
-        files.put(
-            "/w/de/ftl.toml",
-            b"ignore = [\"undefined-message\"]\n",
-        )?;
+        files.put("/w/de/ftl.toml", b"ignore = [\"undefined-message\"]\n")?;
         let told = told_last(alloc, &files, &[INITIALIZE, INITIALIZED, opened.as_str()])?;
         if is_told {
             assert_told(alloc, text, told.as_str(), &[("undefined-message", 6)])?;

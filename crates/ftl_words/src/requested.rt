@@ -1,6 +1,6 @@
 //! The request that a command line makes.
 
-use crate::clap_words::command_line;
+use crate::clap_words::{command_line, paths_of};
 use crate::compare_words::compare_of;
 use crate::lint_words::lint_of;
 use crate::options::Options;
@@ -82,11 +82,4 @@ fn output_of(options: &ArgMatches<'_>) -> Option<Output> {
 
 fn color_of(options: &ArgMatches<'_>) -> Option<Color> {
     color_named(options.get_str("color")?)
-}
-
-fn paths_of<'a>(alloc: Global, options: &ArgMatches<'a>) -> Result<Vec<&'a str>, AllocError> {
-    match options.get_strs("paths") {
-        Some(paths) => Vec::from_slice(alloc, paths),
-        None => Ok(Vec::new(alloc)),
-    }
 }

@@ -3,8 +3,8 @@ use Rattle.std.specs.Prelude.{chars, nat_lt}
 use Rattle.std.proofs.lemmas.Bool.{lt-ltb}
 use Rattle.std.proofs.lemmas.Iterator.{YieldsList-from_chars}
 use Rattle.std.proofs.lemmas.Iterator.Consumers.{count_from_yields_List}
-use Rattle.ftl_excerpts.specs.Excerpt.{window}
-use Rattle.ftl_excerpts.proofs.excerpt.push_back.Goals as goal
+use Rattle.ftl_project.specs.Excerpt.{window}
+use Rattle.ftl_project.proofs.excerpt.push_back.Goals as goal
 
 pub returns-in_ok-push : goal.returns-in_ok-push
 returns-in_ok-push c =

@@ -1,7 +1,7 @@
 use Rattle.std.proofs.Common.{◌≡◌, ◌<◌, ◌+◌, ◌-◌, arith, subst, get_or}
 use Rattle.std.specs.Str.{IsCharBoundary}
 use Rattle.std.proofs.lemmas.Str.{IsCharBoundary-after_ascii, IsCharBoundary-start}
-use Rattle.ftl_excerpts.proofs.line.line_start.Goals as goal
+use Rattle.ftl_project.proofs.line.line_start.Goals as goal
 
 pub returns-else-bytes-start-ne10-clause-boundary : goal.returns-else-bytes-start-ne10-clause-boundary
 returns-else-bytes-start-ne10-clause-boundary c =

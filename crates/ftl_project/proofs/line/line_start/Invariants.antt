@@ -1,7 +1,7 @@
 use Rattle.std.proofs.Common.{◌≡◌, ◌+◌, ◌≤◌, length, take}
 use Rattle.std.specs.List.{suffix_len}
-use Rattle.ftl_excerpts.specs.Excerpt.{is_in_line}
-use Rattle.ftl_excerpts.proofs.line.line_start.Given as goal
+use Rattle.ftl_project.specs.Excerpt.{is_in_line}
+use Rattle.ftl_project.proofs.line.line_start.Given as goal
 
 abbrev pub invariant-loop-start : goal.invariant-loop-start
 invariant-loop-start l = record {

@@ -1,8 +1,8 @@
 use Rattle.std.proofs.Common.{arith}
 use Rattle.std.proofs.lemmas.Option.{MatchOption-at_none, MatchOption-at_some}
 use Rattle.std.proofs.lemmas.Str.Pattern.{strip_suffix_char}
-use Rattle.ftl_excerpts.proofs.Lines.{stripped, unstripped}
-use Rattle.ftl_excerpts.proofs.line.strip_carriage_return.Goals as goal
+use Rattle.ftl_project.proofs.LineEnds.{stripped, unstripped}
+use Rattle.ftl_project.proofs.line.strip_carriage_return.Goals as goal
 
 pub returns-in-Some : goal.returns-in-Some
 returns-in-Some c =

@@ -3,8 +3,8 @@ use Rattle.std.specs.List.{flat_map}
 use Rattle.std.proofs.lemmas.Iterator.{YieldsList-from_chars, YieldsList-from_take}
 use Rattle.std.proofs.lemmas.Iterator.Adapters.{YieldsList-from_skip}
 use Rattle.std.proofs.lemmas.Iterator.Consumers.{YieldsList-end}
-use Rattle.ftl_excerpts.specs.Excerpt.{below_char, window}
-use Rattle.ftl_excerpts.proofs.shown.push_below.Goals as goal
+use Rattle.ftl_project.specs.Excerpt.{below_char, window}
+use Rattle.ftl_project.proofs.shown.push_below.Goals as goal
 
 pub returns : goal.returns
 returns c =

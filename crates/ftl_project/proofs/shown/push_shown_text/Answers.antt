@@ -2,8 +2,8 @@ use Rattle.std.proofs.Common.{sym, ap, ◌∙◌, ◌++◌, map-id, string_bytes
 use Rattle.std.specs.List.{flat_map}
 use Rattle.std.proofs.lemmas.Iterator.{YieldsList-from_chars}
 use Rattle.std.proofs.lemmas.Iterator.Consumers.{YieldsList-end}
-use Rattle.ftl_excerpts.specs.Excerpt.{shown_char}
-use Rattle.ftl_excerpts.proofs.shown.push_shown_text.Goals as goal
+use Rattle.ftl_project.specs.Excerpt.{shown_char}
+use Rattle.ftl_project.proofs.shown.push_shown_text.Goals as goal
 
 pub returns : goal.returns
 returns c =

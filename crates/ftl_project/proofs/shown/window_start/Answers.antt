@@ -1,8 +1,8 @@
 use Rattle.std.proofs.Common.{◌-◌, ap, ◌∙◌}
 use Rattle.std.proofs.lemmas.Iterator.{YieldsList-from_chars}
 use Rattle.std.proofs.lemmas.Iterator.Consumers.{count_from_yields_List}
-use Rattle.ftl_excerpts.specs.Excerpt.{window}
-use Rattle.ftl_excerpts.proofs.shown.window_start.Goals as goal
+use Rattle.ftl_project.specs.Excerpt.{window}
+use Rattle.ftl_project.proofs.shown.window_start.Goals as goal
 
 pub returns : goal.returns
 returns c =

@@ -1,0 +1,30 @@
+use Rattle.std.proofs.Common.{refl, subst, sym}
+use Rattle.ftl_project.specs.Formatting.{IsMet}
+use Rattle.ftl_project.specs.Tally.{failed}
+use Rattle.ftl_project.proofs.Counting.{on_ok}
+use Rattle.ftl_project.proofs.Reaching.{AllReach-rewrites}
+use Rattle.ftl_project.proofs.formatting.write_file.Goals as goal
+
+pub returns-in-Err-clause-reaches : goal.returns-in-Err-clause-reaches
+returns-in-Err-clause-reaches g c =
+    let at = g.S.Store.bytes_at in
+    AllReach-rewrites g.S.Store.fails c.args.reading c.args.path.now (at c.args.store.now) (at c.rewrite.new.store)
+    c.rewrite.result c.rewrite.ensures
+
+pub returns-in-Err-clause-counted : goal.returns-in-Err-clause-counted
+returns-in-Err-clause-counted g c =
+    let told = c.tell.ensures.counted in
+    let met = subst (λ r. IsMet r (failed told.0)) (sym c.in-Err.is) (told.0, told.1, refl) in
+    on_ok c.tell.result (c.rewrite.result, c.rewrite.ensures, failed told.0, met, told.2)
+
+pub returns-in-Ok-left_note-clause-reaches : goal.returns-in-Ok-left_note-clause-reaches
+returns-in-Ok-left_note-clause-reaches g c =
+    let at = g.S.Store.bytes_at in
+    AllReach-rewrites g.S.Store.fails c.args.reading c.args.path.now (at c.args.store.now) (at c.rewrite.new.store)
+    c.rewrite.result c.rewrite.ensures
+
+pub returns-clause-reaches : goal.returns-clause-reaches
+returns-clause-reaches g c =
+    let at = g.S.Store.bytes_at in
+    AllReach-rewrites g.S.Store.fails c.args.reading c.args.path.now (at c.args.store.now) (at c.rewrite.new.store)
+    c.rewrite.result c.rewrite.ensures
