@@ -1,6 +1,6 @@
 //! Files in memory. They show that the clauses of `FileSystem`, `Store` and `Folders` can be met, and serve tests.
-ghost use Rattle.std.specs.Prelude.{◌≡◌, ◌∷◌, [], List, None, Some, IfOk, MatchOption, OnErr, OnOk, string_bytes};
-ghost use Rattle.ftl_files.specs.Memory.{bytes_at, bytes_of, counts_now, fails, files_of, only_now};
+ghost use Rattle.std.specs.Prelude.{◌≡◌, ◌∷◌, [], None, Some, MatchOption, OnErr, OnOk, string_bytes};
+ghost use Rattle.ftl_files.specs.Memory.{bytes_at, counts_now, fails, files_of, only_now};
 
 use crate::file_system::FileSystem;
 use crate::folders::Folders;
