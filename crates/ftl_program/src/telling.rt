@@ -21,11 +21,7 @@ pub(crate) fn refuse_run<R: Eprint>(rt: &R, fault: RunFault) -> u8 {
 }
 
 /// Tells what a run met, on a line, and gives the exit status.
-pub(crate) fn end_run<R: Eprint>(
-    rt: &R,
-    tally: &Tally,
-    summary: Result<String, AllocError>,
-) -> u8 {
+pub(crate) fn end_run<R: Eprint>(rt: &R, tally: &Tally, summary: Result<String, AllocError>) -> u8 {
     match summary {
         Ok(line) => {
             let _ = rt.eprint(line.as_str());

@@ -7,7 +7,12 @@ use std::io::ErrorKind;
 use std::test::Fail;
 
 /// Fails where the file has other bytes, or where there is one and none is wanted.
-fn assert_stands(alloc: Global, memory: &Memory, path: &str, text: Option<&str>) -> Result<(), Fail> {
+fn assert_stands(
+    alloc: Global,
+    memory: &Memory,
+    path: &str,
+    text: Option<&str>,
+) -> Result<(), Fail> {
     let expected = text.map(|text| text.as_bytes());
     assert_same(alloc, path, &memory.bytes_at(path), &expected)
 }

@@ -146,7 +146,7 @@ const RUNS: [Run; 3] = [
         &CONVERTED,
         "# c\n\na =  b\n",
         "ftl: /d/b.json: entry 1 would not read back: a pattern on one line begins with a space\n\
-        ftl: /d/d.json: can't be read: ",
+        ftl: /d/c.json: is JSON that spells no tree\nftl: /d/d.json: can't be read: ",
         [2, 0, 0, 3],
     ),
 ];

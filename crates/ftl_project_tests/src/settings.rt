@@ -32,10 +32,15 @@ const SAID: [(&str, &str); 11] = [
 ];
 
 const REFERENCE: &str = "`reference` wants a path in quotes";
+
 const IGNORE: &str = "`ignore` wants a list of names of kinds";
+
 const EDITION: &str = "`edition` wants 1 or 2";
+
 const OUTPUT: &str = "`output` wants \"lines\", \"full\", \"json\" or \"github\"";
+
 const NESTING: &str = "`nesting` wants a number from 0 to 4294967295";
+
 const COLOR: &str = "`color` wants \"auto\", \"always\" or \"never\"";
 
 /// The text, and what is told of it; nothing of a text that is no TOML, since those words are not this repository's.

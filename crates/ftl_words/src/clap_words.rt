@@ -144,7 +144,10 @@ fn paths<'a>(alloc: Global, help: &'a str) -> Arg<'a> {
 }
 
 /// The paths that the words name.
-pub(crate) fn paths_of<'a>(alloc: Global, options: &ArgMatches<'a>) -> Result<Vec<&'a str>, AllocError> {
+pub(crate) fn paths_of<'a>(
+    alloc: Global,
+    options: &ArgMatches<'a>,
+) -> Result<Vec<&'a str>, AllocError> {
     match options.get_strs("paths") {
         Some(paths) => Vec::from_slice(alloc, paths),
         None => Ok(Vec::new(alloc)),

@@ -11,7 +11,7 @@ invariant-loop-file g l =
     record {
       stand : AllStand (at l.fn.store) (at l.store);
       each : WritesSo (MeetsFile g.S.Store.fails (g.A.Answering.answers l.answering) (g.A.Answering.refuses
-      l.answering))
+          l.answering))
           (at l.fn.store) l.files l.file-index l.fn.tally l.tally (written (inner_of l.fn.streams.out.now))
           (written (inner_of l.streams.out.now));
     }

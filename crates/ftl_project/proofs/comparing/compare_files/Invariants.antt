@@ -11,6 +11,6 @@ invariant-loop-pair g l =
     record {
       stand : AllStand (at l.fn.store) (at l.store);
       each : ComparesEach g.S.Store.fails l.fn.reading l.fn.form (at l.fn.store) (take l.pair-index l.pairs)
-      l.fn.tally l.tally
+          l.fn.tally l.tally
           l.fn.share l.share (written (inner_of l.fn.streams.out.now)) (written (inner_of l.streams.out.now));
     }

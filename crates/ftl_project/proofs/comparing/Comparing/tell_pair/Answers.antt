@@ -19,7 +19,7 @@ returns-in-Ok-clause-counted g c =
       c.count.ensures,
       c.add.ensures,
       appends_as (written (inner_of c.args.streams.now.out.now)) after after c.as_bytes.result.now (string_bytes
-      compared.told)
+          compared.told)
           appends c.as_bytes.ensures.value refl,
     )) c.write_all.ensures.all
 
