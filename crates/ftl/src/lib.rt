@@ -18,6 +18,6 @@ pub use command::{Command, usage};
 pub use errors::errors_within;
 pub use from_json::{JsonFault, text_of_json, tree_of_json};
 pub use outcome::{Outcome, RunFault};
-pub use runs::{run, run_within};
+pub use runs::{run, run_within, write_all};
 pub use safe::first_unsafe;
 pub use watched::Watched;

@@ -3,6 +3,7 @@
 use crate::shelf::{Failing, Shelf, State};
 use fluent_syntax::parser::Edition;
 use fluent_syntax_tests::alike::{assert_holds, assert_same};
+use ftl::Watched;
 use ftl_files::{Disk, list};
 use ftl_project::{Reading, Streams, Tally, write_files};
 use std::alloc::Global;
@@ -38,11 +39,9 @@ fn format(alloc: Global, state: &State) -> Result<Tally, Fail> {
         edition: Edition::One,
         nesting: 10,
     };
-    let mut out = Vec::new(alloc);
-    let mut err = Vec::new(alloc);
     let mut streams = Streams {
-        out: &mut out,
-        err: &mut err,
+        out: &mut Watched::new(Vec::new(alloc)),
+        err: &mut Watched::new(Vec::new(alloc)),
     };
     let files = listing.files.as_slice();
     match write_files(
@@ -86,37 +85,22 @@ fn formats_what_has_no_error(rt: HostRuntime) -> Result<(), Fail> {
     assert_holds(alloc, "the calls", state.calls() > 20 && state.calls() < 80)
 }
 
-/// One call fails: the file is old or new, nothing is left beside, and status 0 or 1 tells of the new bytes alone.
-fn assert_one_failure(alloc: Global, at: usize) -> Result<(), Fail> {
-    let state = folder(alloc, Failing::Once(at))?;
+/// The file is old or new, and status 0 or 1 tells of the new bytes alone. After one failure nothing is left beside.
+fn assert_whole(alloc: Global, failing: Failing) -> Result<(), Fail> {
+    let state = folder(alloc, failing)?;
     let met = format(alloc, &state)?;
     let (is_whole, is_new) = stands(&state)?;
     assert_holds(alloc, "old or new", is_whole)?;
-    assert_holds(alloc, "nothing is left beside", state.count()? == 4)?;
-    assert_holds(alloc, "the status", is_new || met.status() >= 3)
-}
-
-/// No call succeeds from there on.
-fn assert_failures_from(alloc: Global, at: usize) -> Result<(), Fail> {
-    let state = folder(alloc, Failing::From(at))?;
-    let met = format(alloc, &state)?;
-    let (is_whole, is_new) = stands(&state)?;
-    assert_holds(alloc, "old or new", is_whole)?;
+    let is_cleared = state.count()? == 4 || matches!(failing, Failing::From(_));
+    assert_holds(alloc, "nothing is left beside", is_cleared)?;
     assert_holds(alloc, "the status", is_new || met.status() >= 3)
 }
 
 #[test]
-fn each_call_fails_in_turn(rt: HostRuntime) -> Result<(), Fail> {
+fn calls_that_fail(rt: HostRuntime) -> Result<(), Fail> {
     for at in 0..80 {
-        assert_one_failure(rt.alloc(), at)?;
-    }
-    Ok(())
-}
-
-#[test]
-fn all_calls_fail_from_each_on(rt: HostRuntime) -> Result<(), Fail> {
-    for at in 0..80 {
-        assert_failures_from(rt.alloc(), at)?;
+        assert_whole(rt.alloc(), Failing::Once(at))?;
+        assert_whole(rt.alloc(), Failing::From(at))?;
     }
     Ok(())
 }

@@ -1,7 +1,7 @@
 //! The two lines that show a place.
 
 use fluent_syntax_tests::alike::assert_same_text;
-use ftl_excerpts::push_excerpt;
+use ftl_project::push_excerpt;
 use std::alloc::Global;
 use std::test::Fail;
 

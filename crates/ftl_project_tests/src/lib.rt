@@ -2,6 +2,8 @@
 #![tactic(auto)]
 
 #[cfg(test)]
+mod bench;
+#[cfg(test)]
 mod disk;
 #[cfg(test)]
 mod excerpts;
@@ -9,8 +11,6 @@ mod excerpts;
 mod files;
 #[cfg(test)]
 mod linting;
-#[cfg(test)]
-mod printing;
 #[cfg(test)]
 mod reports;
 #[cfg(test)]

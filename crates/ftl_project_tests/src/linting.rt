@@ -1,22 +1,13 @@
 //! What is told of mistakes between names, and of what a translation lacks.
 
-use fluent_syntax::parser::Edition;
+use crate::bench::{Bench, File, Task};
 use fluent_syntax_names::Kind;
-use fluent_syntax_tests::alike::{assert_holds, assert_same, assert_same_text};
-use ftl_files::Memory;
-use ftl_project::{
-    Form, Pair, Reading, Share, Streams, Tally, Telling, compare_files, lint_files, share_line,
-};
-use std::alloc::Global;
+use fluent_syntax_tests::alike::{assert_same, assert_same_text};
+use ftl_project::{Form, Tally, share_line};
 use std::test::Fail;
 
-const READING: Reading = Reading {
-    edition: Edition::One,
-    nesting: 2,
-};
-
 /// A mistake of each kind.
-const WRONG: &str = "hello = { place } { -brand } { b.t } { only }
+const WRONG: &[u8] = b"hello = { place } { -brand } { b.t } { only }
 hello = Hello
     .t = T
     .t = U
@@ -25,103 +16,103 @@ only =
 loop = { loop }
 ";
 
-fn lint(
-    alloc: Global,
-    files: &[(&str, &str)],
-    telling: Telling<'_>,
-    tally: &mut Tally,
-) -> Result<(Vec<u8>, Vec<u8>), Fail> {
-    let mut memory = Memory::new(alloc);
-    let mut paths = Vec::new(alloc);
-    for (path, text) in files {
-        memory.put(*path, text.as_bytes())?;
-        paths.push(String::from_str(alloc, *path)?)?;
-    }
-    let mut out = Vec::new(alloc);
-    let mut err = Vec::new(alloc);
-    let mut streams = Streams {
-        out: &mut out,
-        err: &mut err,
-    };
-    let ended = lint_files(
-        alloc,
-        &mut memory,
-        &paths,
-        READING,
-        telling,
-        tally,
-        &mut streams,
-    );
-    assert_holds(alloc, "the run ends", ended.is_ok())?;
-    Ok((out, err))
-}
+const KINDS: [Kind; 6] = [
+    Kind::UndefinedMessage,
+    Kind::UndefinedTerm,
+    Kind::UndefinedAttribute,
+    Kind::UndefinedValue,
+    Kind::CyclicReference,
+    Kind::AttributeTwice,
+];
+
+const TWO: [File; 2] = [("/d/a.ftl", WRONG), ("/d/b.ftl", b"b = B\n")];
+
+const DEEP: [File; 2] = [("/d/a.ftl", WRONG), ("/d/b.ftl", b"b = {{{ $x }}}\n")];
+
+const LEFT: &str = "ftl: /d/b.ftl: nests deeper than it may\n1 defined-twice\n";
+
+/// How it is told, what is left out, the files, what is told, what is told beside, and the status.
+type Found = (
+    Form,
+    &'static [Kind],
+    &'static [File],
+    &'static str,
+    &'static str,
+    u8,
+);
+
+const FOUND: [Found; 5] = [
+    (
+        Form::Lines,
+        &[],
+        &TWO,
+        "/d/a.ftl:1:11: undefined-message\n/d/a.ftl:1:22: undefined-term\n/d/a.ftl:1:34: undefined-attribute\n\
+        /d/a.ftl:1:40: undefined-value\n/d/a.ftl:2:1: defined-twice\n/d/a.ftl:4:6: attribute-twice\n\
+        /d/a.ftl:7:10: cyclic-reference\n",
+        "1 defined-twice\n1 attribute-twice\n1 undefined-message\n1 undefined-term\n1 undefined-attribute\n\
+        1 undefined-value\n1 cyclic-reference\n",
+        1,
+    ),
+    (
+        Form::Full,
+        &KINDS,
+        &DEEP,
+        "/d/a.ftl:2:1: error[defined-twice]: `hello` is defined twice, first on line 1\nhello = Hello\n^\n",
+        LEFT,
+        6,
+    ),
+    (
+        Form::Colored,
+        &KINDS,
+        &DEEP,
+        "\u{1B}[1m/d/a.ftl:2:1\u{1B}[0m: \u{1B}[1;31merror[defined-twice]\u{1B}[0m: \
+        `hello` is defined twice, first on line 1\nhello = Hello\n\u{1B}[1;31m^\u{1B}[0m\n",
+        LEFT,
+        6,
+    ),
+    (
+        Form::Json,
+        &KINDS,
+        &DEEP,
+        "{\"path\":\"/d/a.ftl\",\"line\":2,\"column\":1,\"start\":46,\"end\":51,\"kind\":\"defined-twice\",\
+        \"severity\":\"error\",\"message\":\"`hello` is defined twice, first on line 1\"}\n",
+        LEFT,
+        6,
+    ),
+    (
+        Form::Github,
+        &KINDS,
+        &DEEP,
+        "::error file=/d/a.ftl,line=2,col=1,title=defined-twice::`hello` is defined twice, first on line 1\n",
+        LEFT,
+        6,
+    ),
+];
 
 #[test]
 fn finds(rt: HostRuntime) -> Result<(), Fail> {
     let alloc = rt.alloc();
-    let mut tally = Tally::new();
-    let telling = Telling {
-        form: Form::Lines,
-        ignored: &[],
-    };
-    let files = [("/d/a.ftl", WRONG), ("/d/b.ftl", "b = B\n")];
-    let (out, err) = lint(alloc, &files, telling, &mut tally)?;
-    assert_same_text(
-        alloc,
-        "findings",
-        str::from_utf8(out.as_slice())?,
-        "/d/a.ftl:1:11: undefined-message\n/d/a.ftl:1:22: undefined-term\n/d/a.ftl:1:34: undefined-attribute\n\
-        /d/a.ftl:1:40: undefined-value\n/d/a.ftl:2:1: defined-twice\n/d/a.ftl:4:6: attribute-twice\n\
-        /d/a.ftl:7:10: cyclic-reference\n",
-    )?;
-    assert_same_text(
-        alloc,
-        "sums",
-        str::from_utf8(err.as_slice())?,
-        "1 defined-twice\n1 attribute-twice\n1 undefined-message\n1 undefined-term\n1 undefined-attribute\n\
-        1 undefined-value\n1 cyclic-reference\n",
-    )?;
+    for (form, ignored, files, out, err, status) in &FOUND {
+        let mut bench = Bench::new(alloc, *files)?;
+        bench.run(alloc, Task::Lint(*form, *ignored))?;
+        assert_same(alloc, *out, &bench.tally.status(), status)?;
+        bench.assert_told(alloc, *out, *out, *err)?;
+    }
+    Ok(())
+}
+
+#[test]
+fn counts_what_is_found(rt: HostRuntime) -> Result<(), Fail> {
+    let alloc = rt.alloc();
+    let mut bench = Bench::new(alloc, &TWO)?;
+    bench.run(alloc, Task::Lint(Form::Lines, &[]))?;
     let met = Tally {
         files: 2,
         concerned: 1,
         errors: 7,
         fault: 0,
     };
-    assert_same(alloc, "what was met", &tally, &met)
-}
-
-/// What is left out, in full; beside a file that nests too deep.
-#[test]
-fn leaves_out(rt: HostRuntime) -> Result<(), Fail> {
-    let alloc = rt.alloc();
-    let mut tally = Tally::new();
-    let ignored = [
-        Kind::UndefinedMessage,
-        Kind::UndefinedTerm,
-        Kind::UndefinedAttribute,
-        Kind::UndefinedValue,
-        Kind::CyclicReference,
-        Kind::AttributeTwice,
-    ];
-    let telling = Telling {
-        form: Form::Full,
-        ignored: ignored.as_slice(),
-    };
-    let files = [("/d/a.ftl", WRONG), ("/d/b.ftl", "b = {{{ $x }}}\n")];
-    let (out, err) = lint(alloc, &files, telling, &mut tally)?;
-    assert_same_text(
-        alloc,
-        "findings",
-        str::from_utf8(out.as_slice())?,
-        "/d/a.ftl:2:1: error[defined-twice]: `hello` is defined twice, first on line 1\nhello = Hello\n^\n",
-    )?;
-    assert_same_text(
-        alloc,
-        "faults and sums",
-        str::from_utf8(err.as_slice())?,
-        "ftl: /d/b.ftl: nests deeper than it may\n1 defined-twice\n",
-    )?;
-    assert_same(alloc, "the status", &tally.status(), &6)
+    assert_same(alloc, "what was met", &bench.tally, &met)
 }
 
 const REFERENCE: &str = "hello = Hello { $user } { -brand }
@@ -141,47 +132,10 @@ old = Alt
 bro ken
 ";
 
-fn compare(
-    alloc: Global,
-    other: Option<&str>,
-    tally: &mut Tally,
-    share: &mut Share,
-) -> Result<Vec<u8>, Fail> {
-    let mut memory = Memory::new(alloc);
-    memory.put("en/a.ftl", REFERENCE.as_bytes())?;
-    if let Some(text) = other {
-        memory.put("de/a.ftl", text.as_bytes())?;
-    }
-    let pair = Pair {
-        reference: String::from_str(alloc, "en/a.ftl")?,
-        other: String::from_str(alloc, "de/a.ftl")?,
-        is_there: other.is_some(),
-    };
-    let mut out = Vec::new(alloc);
-    let mut err = Vec::new(alloc);
-    let mut streams = Streams {
-        out: &mut out,
-        err: &mut err,
-    };
-    let ended = compare_files(
-        alloc,
-        &mut memory,
-        &vec![in alloc; pair]?,
-        READING,
-        Form::Lines,
-        tally,
-        share,
-        &mut streams,
-    );
-    assert_holds(alloc, "the run ends", ended.is_ok())?;
-    assert_holds(alloc, "no fault", err.is_empty())?;
-    Ok(out)
-}
-
 /// What is shown, the other file, what is told, errors, and how much is there.
 type Row = (
     &'static str,
-    Option<&'static str>,
+    &'static str,
     &'static str,
     usize,
     &'static str,
@@ -190,7 +144,7 @@ type Row = (
 const ROWS: [Row; 5] = [
     (
         "each kind",
-        Some(OTHER),
+        OTHER,
         "de/a.ftl: missing-reference: the reference to `brand` of en/a.ftl:1:28\n\
         de/a.ftl: missing-attribute: `title` of en/a.ftl:2:6\n\
         de/a.ftl: missing-value: the value of `name` of en/a.ftl:3:1\n\
@@ -201,14 +155,14 @@ const ROWS: [Row; 5] = [
     ),
     (
         "the same",
-        Some(REFERENCE),
+        REFERENCE,
         "",
         0,
         "4 of 4 messages and terms are there\n",
     ),
     (
         "nothing",
-        Some(""),
+        "\n",
         "de/a.ftl: missing: `hello` of en/a.ftl:1:1\nde/a.ftl: missing: `name` of en/a.ftl:3:1\n\
         de/a.ftl: missing: `about` of en/a.ftl:5:1\nde/a.ftl: missing: `brand` of en/a.ftl:6:2\n",
         4,
@@ -216,14 +170,14 @@ const ROWS: [Row; 5] = [
     ),
     (
         "entries that are junk",
-        Some("about\nhello Hallo\nname = Name\n    .label = L\nbrand\n-brand\nhello {\nabout-us\n"),
+        "about\nhello Hallo\nname = Name\n    .label = L\nbrand\n-brand\nhello {\nabout-us\n",
         "de/a.ftl:2:1: missing\nde/a.ftl:1:1: missing\nde/a.ftl:6:1: missing\n",
         3,
         "1 of 4 messages and terms are there\n",
     ),
     (
         "no file",
-        None,
+        "",
         "de/a.ftl: missing-file: there is no such file; the reference has en/a.ftl\n",
         1,
         "0 of 4 messages and terms are there\n",
@@ -234,15 +188,57 @@ const ROWS: [Row; 5] = [
 fn compares(rt: HostRuntime) -> Result<(), Fail> {
     let alloc = rt.alloc();
     for (shows, other, told, errors, there) in &ROWS {
-        let mut tally = Tally::new();
-        let mut share = Share {
-            wanted: 0,
-            missing: 0,
-        };
-        let out = compare(alloc, *other, &mut tally, &mut share)?;
-        assert_same_text(alloc, *shows, str::from_utf8(out.as_slice())?, *told)?;
-        assert_same(alloc, *shows, &tally.errors, errors)?;
-        assert_same_text(alloc, *shows, share_line(alloc, &share)?.as_str(), *there)?;
+        let files = [
+            ("en/a.ftl", REFERENCE.as_bytes()),
+            ("de/a.ftl", other.as_bytes()),
+        ];
+        let mut bench = Bench::new(alloc, &files)?;
+        bench.run(alloc, Task::Compare(Form::Lines))?;
+        assert_same(alloc, *shows, &bench.tally.errors, errors)?;
+        assert_same_text(
+            alloc,
+            *shows,
+            share_line(alloc, &bench.share)?.as_str(),
+            *there,
+        )?;
+        bench.assert_told(alloc, *shows, *told, "")?;
+    }
+    Ok(())
+}
+
+/// How it is told that a file is not there, which has no place.
+const MISSING: [(Form, &str); 4] = [
+    (
+        Form::Full,
+        "de/a.ftl: error[missing-file]: there is no such file; the reference has en/a.ftl\n",
+    ),
+    (
+        Form::Colored,
+        "\u{1B}[1mde/a.ftl\u{1B}[0m: \u{1B}[1;31merror[missing-file]\u{1B}[0m: \
+        there is no such file; the reference has en/a.ftl\n",
+    ),
+    (
+        Form::Json,
+        "{\"path\":\"de/a.ftl\",\"kind\":\"missing-file\",\"severity\":\"error\",\
+        \"message\":\"there is no such file; the reference has en/a.ftl\"}\n",
+    ),
+    (
+        Form::Github,
+        "::error file=de/a.ftl,title=missing-file::there is no such file; the reference has en/a.ftl\n",
+    ),
+];
+
+#[test]
+fn tells_what_has_no_place(rt: HostRuntime) -> Result<(), Fail> {
+    let alloc = rt.alloc();
+    for (form, told) in &MISSING {
+        let files = [
+            ("en/a.ftl", REFERENCE.as_bytes()),
+            ("de/a.ftl", b"".as_slice()),
+        ];
+        let mut bench = Bench::new(alloc, &files)?;
+        bench.run(alloc, Task::Compare(*form))?;
+        bench.assert_told(alloc, *told, *told, "")?;
     }
     Ok(())
 }

@@ -7,7 +7,7 @@ use fluent_syntax_lsp::{
 };
 use fluent_syntax_tests::alike::{assert_holds, assert_same, assert_same_text};
 use ftl::Watched;
-use ftl_workspace::InMemory;
+use ftl_files::Memory;
 use std::alloc::Global;
 use std::io::Read;
 use std::test::Fail;
@@ -614,7 +614,7 @@ fn frames_of(alloc: Global, bodies: &[&str]) -> Result<String, Fail> {
 /// Whether a session over the reader ends so, with these bytes written.
 fn serves<R: Read + Drop>(alloc: Global, reader: R, ending: Ending, output: &[u8]) -> bool {
     let mut writer = Vec::new(alloc);
-    let files = InMemory::new(alloc);
+    let files = Memory::new(alloc);
     let ended = serve(alloc, &mut Watched::new(reader), &mut writer, &files);
     ended == ending && writer.as_slice() == output
 }
@@ -656,7 +656,7 @@ fn a_writer_that_fails(rt: HostRuntime) -> Result<(), Fail> {
     let input = frames_of(rt.alloc(), &[SHUTDOWN])?;
     let mut reader = Watched::new(input.as_bytes());
     let mut writer = Narrow::closed(rt.alloc());
-    let files = InMemory::new(rt.alloc());
+    let files = Memory::new(rt.alloc());
     let ended = serve(rt.alloc(), &mut reader, &mut writer, &files);
     assert_holds(rt.alloc(), "a closed writer", ended == Ending::Output)
 }

@@ -3,8 +3,8 @@
 use fluent_syntax_lsp::{Closed, NameKind, Occurrence, serve};
 use fluent_syntax_tests::alike::{assert_holds, assert_same, assert_same_text};
 use ftl::Watched;
-use ftl_workspace::{
-    FILE_LIMIT, Folders, InMemory, SourceFile, is_below, original_of, path_of_uri, read_files,
+use ftl_files::{
+    FILE_LIMIT, Folders, Memory, SourceFile, is_below, original_of, path_of_uri, read_files,
     shared_folders, uri_of_path,
 };
 use std::alloc::Global;
@@ -101,17 +101,17 @@ fn folders_of_paths(rt: HostRuntime) -> Result<(), Fail> {
 }
 
 /// Files of two languages, and some that are not to be read.
-fn some_files(alloc: Global) -> Result<InMemory, Fail> {
-    let mut files = InMemory::new(alloc);
-    files.put(alloc, "/w/de/b.ftl", b"old = Old\n")?;
-    files.put(alloc, "/w/de/b.ftl", b"use = { menu }\n")?;
-    files.put(alloc, "/w/de/a.ftl", b"menu = Karte\n")?;
-    files.put(alloc, "/w/en/a.ftl", b"menu = Menu\n")?;
-    files.put(alloc, "/w/en/a.txt", b"a = A\n")?;
-    files.put(alloc, "/w/en/no.ftl", b"\xff")?;
-    files.put(alloc, "/x/a.ftl", b"menu = X\n")?;
+fn some_files(alloc: Global) -> Result<Memory, Fail> {
+    let mut files = Memory::new(alloc);
+    files.put("/w/de/b.ftl", b"old = Old\n")?;
+    files.put("/w/de/b.ftl", b"use = { menu }\n")?;
+    files.put("/w/de/a.ftl", b"menu = Karte\n")?;
+    files.put("/w/en/a.ftl", b"menu = Menu\n")?;
+    files.put("/w/en/a.txt", b"a = A\n")?;
+    files.put("/w/en/no.ftl", b"\xff")?;
+    files.put("/x/a.ftl", b"menu = X\n")?;
     let long = vec![in alloc; b'#'; FILE_LIMIT + 1]?;
-    files.put(alloc, "/w/long.ftl", long.as_slice())?;
+    files.put("/w/long.ftl", long.as_slice())?;
     Ok(files)
 }
 
@@ -133,8 +133,8 @@ fn files_of_a_folder(rt: HostRuntime) -> Result<(), Fail> {
     let alloc = rt.alloc();
     let files = some_files(alloc)?;
     let listed = files.files_below(alloc, "/w")?;
-    assert_same(alloc, "listed", &listed.paths.len(), &5)?;
-    assert_holds(alloc, "all listed", listed.is_whole)?;
+    assert_same(alloc, "listed", &listed.files.len(), &5)?;
+    assert_holds(alloc, "all listed", listed.is_whole())?;
     let found = read_files(alloc, &files, "/w")?;
     assert_holds(alloc, "found", are_files(&found.files, &FOUND))?;
     assert_holds(alloc, "two left out", !found.is_whole)?;
@@ -210,7 +210,7 @@ const RENAMED: [&str; 4] = [
 ];
 
 /// What a session over the files answers to the messages.
-fn answers(alloc: Global, files: &InMemory, bodies: &[&str]) -> Result<String, Fail> {
+fn answers(alloc: Global, files: &Memory, bodies: &[&str]) -> Result<String, Fail> {
     let mut input = String::new(alloc);
     for body in bodies {
         let header = format!(in alloc; "Content-Length: {}\r\n\r\n", body.len())?;
@@ -312,14 +312,13 @@ const REFERENCES: [ReferenceRow; 10] = [
 ];
 
 /// Files of a folder of which none is left out.
-fn whole_files(alloc: Global) -> Result<InMemory, Fail> {
-    let mut files = InMemory::new(alloc);
+fn whole_files(alloc: Global) -> Result<Memory, Fail> {
+    let mut files = Memory::new(alloc);
     files.put(
-        alloc,
         "/w/de/a.ftl",
         b"menu = Karte\n    .title = Titel\nbare =\n    .t = T\n",
     )?;
-    files.put(alloc, "/w/open.ftl", b"hidden = Hidden\n")?;
+    files.put("/w/open.ftl", b"hidden = Hidden\n")?;
     Ok(files)
 }
 
@@ -327,12 +326,12 @@ fn whole_files(alloc: Global) -> Result<InMemory, Fail> {
 const BESIDE: (&str, &str) = ("file:///w/open.ftl", "open = Open\\n-brand = Brand");
 
 /// What is told last in a session over the files.
-fn told_last(alloc: Global, files: &InMemory, bodies: &[&str]) -> Result<String, Fail> {
+fn told_last(alloc: Global, files: &Memory, bodies: &[&str]) -> Result<String, Fail> {
     told_of(alloc, files, "", bodies)
 }
 
 /// What is told last of the document in a session over the files.
-fn told_of(alloc: Global, files: &InMemory, uri: &str, bodies: &[&str]) -> Result<String, Fail> {
+fn told_of(alloc: Global, files: &Memory, uri: &str, bodies: &[&str]) -> Result<String, Fail> {
     let output = answers(alloc, files, bodies)?;
     let last = output
         .as_str()
@@ -419,7 +418,7 @@ fn references_where_a_file_is_left_out(rt: HostRuntime) -> Result<(), Fail> {
         told.as_str(),
         &[("undefined-message", 6)],
     )?;
-    files.put(alloc, "/w/no.ftl", b"\xff")?;
+    files.put("/w/no.ftl", b"\xff")?;
     let told = told_last(alloc, &files, &[INITIALIZE, INITIALIZED, opened.as_str()])?;
     assert_told(alloc, "one left out", told.as_str(), &[])
 }
@@ -444,12 +443,8 @@ fn kinds_that_are_left_out(rt: HostRuntime) -> Result<(), Fail> {
     for row in &SETTINGS {
         let (text, is_told) = *row;
         let mut files = whole_files(alloc)?;
-        files.put(alloc, "/w/ftl.toml", text.as_bytes())?;
-        files.put(
-            alloc,
-            "/w/de/ftl.toml",
-            b"ignore = [\"undefined-message\"]\n",
-        )?;
+        files.put("/w/ftl.toml", text.as_bytes())?;
+        files.put("/w/de/ftl.toml", b"ignore = [\"undefined-message\"]\n")?;
         let told = told_last(alloc, &files, &[INITIALIZE, INITIALIZED, opened.as_str()])?;
         if is_told {
             assert_told(alloc, text, told.as_str(), &[("undefined-message", 6)])?;
@@ -510,10 +505,9 @@ const TRANSLATIONS: [TranslationRow; 6] = [
 #[test]
 fn documents_beside_their_original(rt: HostRuntime) -> Result<(), Fail> {
     let alloc = rt.alloc();
-    let mut files = InMemory::new(alloc);
-    files.put(alloc, "/w/ftl.toml", b"reference = \"l10n/en\"\n")?;
+    let mut files = Memory::new(alloc);
+    files.put("/w/ftl.toml", b"reference = \"l10n/en\"\n")?;
     files.put(
-        alloc,
         "/w/l10n/en/menu.ftl",
         b"hello = Hello { $user }\n    .title = Hi\n",
     )?;
@@ -529,9 +523,9 @@ fn documents_beside_their_original(rt: HostRuntime) -> Result<(), Fail> {
 #[test]
 fn references_that_come_back_through_files(rt: HostRuntime) -> Result<(), Fail> {
     let alloc = rt.alloc();
-    let mut files = InMemory::new(alloc);
-    files.put(alloc, "/w/a.ftl", b"a = { b }\n")?;
-    files.put(alloc, "/w/b.ftl", b"b = { c }\n")?;
+    let mut files = Memory::new(alloc);
+    files.put("/w/a.ftl", b"a = { b }\n")?;
+    files.put("/w/b.ftl", b"b = { c }\n")?;
     let opened = opening(alloc, "file:///w/c.ftl", "c = { a }")?;
     let told = told_last(alloc, &files, &[INITIALIZE, INITIALIZED, opened.as_str()])?;
     assert_told(
