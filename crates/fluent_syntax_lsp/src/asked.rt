@@ -4,7 +4,7 @@ use crate::known::{Known, Wanted};
 use crate::occurrences::Name;
 use crate::places::Places;
 use crate::replies::{highlight_form, location_form};
-use ftl_workspace::shared_folders;
+use ftl_files::shared_folders;
 use serde_json::{Value, json};
 use std::alloc::{AllocError, Global};
 

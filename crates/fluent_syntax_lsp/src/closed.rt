@@ -4,7 +4,7 @@ use crate::documents::Document;
 use crate::occurrences::{Occurrence, occurrences_of};
 use fluent_syntax::spans::Span;
 use fluent_syntax_names::{Mention, Outline};
-use ftl_workspace::uri_of_path;
+use ftl_files::uri_of_path;
 use std::alloc::{AllocError, Global};
 
 /// A file as it was read.

@@ -5,7 +5,7 @@ ghost use Rattle.fluent_syntax_lsp.specs.Opened.{MakesOpen, open_text, Sets, Set
 
 use crate::changes::{Change, changed};
 use crate::documents::Document;
-use ftl_workspace::path_of_uri;
+use ftl_files::path_of_uri;
 use std::alloc::{AllocError, Global};
 use std::collections::BTreeMap;
 

@@ -3,7 +3,7 @@
 use crate::closed::Closed;
 use crate::opened::Open;
 use fluent_syntax_names::Outline;
-use ftl_workspace::original_of;
+use ftl_files::original_of;
 use std::alloc::{AllocError, Global};
 use std::collections::BTreeMap;
 

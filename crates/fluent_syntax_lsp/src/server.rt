@@ -15,7 +15,7 @@ use crate::phases::{ErrorCode, Phase};
 use crate::replies::{answer, null, refusal};
 use crate::workspace::Workspace;
 use fluent_syntax_names::DefinedNames;
-use ftl_workspace::Folders;
+use ftl_files::Folders;
 use serde_json::{Category, Value};
 use std::alloc::{AllocError, Global};
 use std::collections::BTreeMap;

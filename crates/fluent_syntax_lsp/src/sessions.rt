@@ -10,7 +10,7 @@ use crate::inbox::next_body;
 use crate::outbox::send;
 use crate::server::Server;
 use ftl::Watched;
-use ftl_workspace::Folders;
+use ftl_files::Folders;
 use std::alloc::{AllocError, Global};
 use std::io::{Read, Write};
 

@@ -6,8 +6,8 @@ use Rattle.fluent_syntax_grammar.specs.Body.{body}
 use Rattle.fluent_syntax_grammar.specs.RoundTrip.{ReadsAs}
 use Rattle.fluent_syntax_grammar.specs.Tiling.{Tile, Tiling}
 use Rattle.fluent_syntax_grammar.specs.Written.{Text}
-use Rattle.fluent_syntax_rules.specs.Uncanonical.{IsFirstBroken}
-use Rattle.fluent_syntax_rules.specs.declared.first.Uncanonical.{Uncanonical}
+use Rattle.fluent_syntax_writer.specs.Uncanonical.{IsFirstBroken}
+use Rattle.fluent_syntax_writer.specs.declared.canonical.first.Uncanonical.{Uncanonical}
 use Rattle.fluent_syntax_tree.specs.Entry.{BodyTree, EntryTree, comment, junk, message, term}
 use Rattle.fluent_syntax_tree.specs.declared.edition.Edition.{Edition}
 use Rattle.fluent_syntax_tree.specs.declared.spans.Span.{Span}
