@@ -1,7 +1,7 @@
 //! The language server.
 
 use crate::telling::refuse;
-use fluent_syntax_lsp as server;
+use ftl_lsp as server;
 use ftl::Watched;
 use ftl_files::Disk;
 use std::io;
