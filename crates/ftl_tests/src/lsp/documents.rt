@@ -1,10 +1,8 @@
 //! Open documents of the language server: bytes of places, changes, what is found in them, and their tokens.
 
-use ftl_lsp::{
-    Change, Document, Place, byte_of, changed, highlights_of, numbers_of, tokens_of,
-};
 use fluent_syntax_names::own_findings;
 use fluent_syntax_tests::alike::{assert_same, assert_same_text};
+use ftl_lsp::{Change, Document, Place, byte_of, changed, highlights_of, numbers_of, tokens_of};
 use std::alloc::Global;
 use std::fmt::Write;
 use std::test::Fail;

@@ -1,12 +1,12 @@
 //! The files of a workspace: URIs, what is read of folders in memory, and a session over them.
 
-use ftl_lsp::{Closed, NameKind, Occurrence, serve};
 use fluent_syntax_tests::alike::{assert_holds, assert_same, assert_same_text};
 use ftl::Watched;
 use ftl_files::{
     FILE_LIMIT, Folders, Memory, SourceFile, is_below, original_of, path_of_uri, read_files,
     shared_folders, uri_of_path,
 };
+use ftl_lsp::{Closed, NameKind, Occurrence, serve};
 use std::alloc::Global;
 use std::test::Fail;
 
