@@ -1,6 +1,7 @@
 //! Edits, each with the text that it gives, or why it gives none.
 
 use crate::asked::{Edit, made};
+use Edit::{Attribute, Insert, Remove, Replace, Value};
 use fluent_syntax::ast::{Comment, Entry};
 use fluent_syntax::parser::Edition;
 use fluent_syntax::spans::Span;
@@ -9,8 +10,6 @@ use fluent_syntax_rules::Rule;
 use fluent_syntax_tests::alike::{assert_holds, assert_same, assert_same_text};
 use std::alloc::Global;
 use std::test::Fail;
-
-use Edit::{Attribute, Insert, Remove, Replace, Value};
 
 /// What it shows, the text, the edit, and the new text.
 type Row = (
@@ -202,12 +201,7 @@ const ROWS: [Row; 60] = [
         Remove(0),
         Ok("}\n"),
     ),
-    (
-        "away before an arrow",
-        "a = b\n->\n",
-        Remove(0),
-        Ok("->\n"),
-    ),
+    ("away before an arrow", "a = b\n->\n", Remove(0), Ok("->\n")),
     (
         "the last, with its blank lines",
         "a = b\nc = d\n\n",
