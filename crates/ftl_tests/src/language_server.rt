@@ -73,7 +73,11 @@ fn places_in_any_order(rt: HostRuntime) -> Result<(), Fail> {
             line: *line,
             character: *character,
         };
-        assert_holds(rt.alloc(), "a place", places.place_or_end(*byte) == expected)?;
+        assert_holds(
+            rt.alloc(),
+            "a place",
+            places.place_or_end(*byte) == expected,
+        )?;
     }
     Ok(())
 }
@@ -379,8 +383,16 @@ const PHASES: [PhaseRow; 13] = [
 fn assert_phases_after(alloc: Global, row: &PhaseRow) -> Result<(), Fail> {
     let (phase, method, refusal, requested, notified) = row;
     assert_holds(alloc, "a refusal", phase.refusal(*method) == *refusal)?;
-    assert_holds(alloc, "requested", phase.after_request(*method) == *requested)?;
-    assert_holds(alloc, "notified", phase.after_notification(*method) == *notified)
+    assert_holds(
+        alloc,
+        "requested",
+        phase.after_request(*method) == *requested,
+    )?;
+    assert_holds(
+        alloc,
+        "notified",
+        phase.after_notification(*method) == *notified,
+    )
 }
 
 /// Each phase, and how a session that is in it has ended.
