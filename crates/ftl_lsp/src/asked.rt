@@ -58,8 +58,8 @@ impl Asked<'_> {
         Ok(Value::Array(list))
     }
 
-    /// The numbers of the documents and files that define the name and have the most folders in common with the document
-    /// that is named, of all that define it.
+    /// The numbers of the documents and files that define the name and have the most folders in common with the
+    /// document that is named, of all that define it.
     fn nearest(&self, alloc: Global, name: Name<'_>) -> Result<Vec<usize>, AllocError> {
         let from = match self.here() {
             Some(here) => here.path,

@@ -100,11 +100,13 @@ impl Server {
     /// Whether the document's findings are sought, and all files are known that may define what it refers to.
     fn is_surrounded(&self, uri: &str) -> bool {
         match self.documents.get(uri) {
-            Some(Open {
-                path: Some(path),
-                document,
-                ..
-            }) => is_sought_in(document) && self.workspace.surrounds(path.as_str()),
+            Some(
+                Open {
+                    path: Some(path),
+                    document,
+                    ..
+                },
+            ) => is_sought_in(document) && self.workspace.surrounds(path.as_str()),
             _ => false,
         }
     }
@@ -112,9 +114,12 @@ impl Server {
     /// What is found in a document, but for the kinds that are not told of it.
     fn findings_told(&self, uri: &str, outline: Outline<'_>) -> Result<Vec<Finding>, AllocError> {
         let ignored = match self.documents.get(uri) {
-            Some(Open {
-                path: Some(path), ..
-            }) => self.workspace.ignored_at(self.alloc, path.as_str())?,
+            Some(
+                Open {
+                    path: Some(path),
+                    ..
+                },
+            ) => self.workspace.ignored_at(self.alloc, path.as_str())?,
             _ => Vec::new(self.alloc),
         };
         self.findings(uri, outline)?

@@ -319,7 +319,12 @@ pub fn known_symbol(
     let symbol = json!(in alloc; {"name": shown, "kind": number, "location": location})?;
     match name.attribute {
         None => Ok(symbol),
-        Some(_) => with_member(alloc, symbol, "containerName", json!(in alloc; (name.name))?),
+        Some(_) => with_member(
+            alloc,
+            symbol,
+            "containerName",
+            json!(in alloc; (name.name))?,
+        ),
     }
 }
 

@@ -8,9 +8,8 @@ fn start_of(text: &str, entry: &Entry<Span>) -> usize {
     match entry {
         Entry::Message(message) => start_with(text, &message.comment, message.id.name.start),
         Entry::Term(term) => start_with(text, &term.comment, term.id.name.start.saturating_sub(1)),
-        Entry::Comment(comment)
-        | Entry::GroupComment(comment)
-        | Entry::ResourceComment(comment) => start_of_comment(text, comment),
+        Entry::Comment(comment) | Entry::GroupComment(comment) | Entry::ResourceComment(comment) =>
+            start_of_comment(text, comment),
         Entry::Junk { content } => content.start,
     }
 }

@@ -94,9 +94,8 @@ pub fn folds_in(alloc: Global, document: &Document) -> Result<Vec<Fold>, AllocEr
 /// The comment that an entry is, or that hangs on it.
 fn comment_of(entry: &Entry<Span>) -> Option<&Comment<Span>> {
     match entry {
-        Entry::Comment(comment)
-        | Entry::GroupComment(comment)
-        | Entry::ResourceComment(comment) => Some(comment),
+        Entry::Comment(comment) | Entry::GroupComment(comment) | Entry::ResourceComment(comment) =>
+            Some(comment),
         Entry::Message(message) => message.comment.as_ref(),
         Entry::Term(term) => term.comment.as_ref(),
         Entry::Junk { content: _ } => None,

@@ -49,10 +49,7 @@ pub(crate) fn add_pattern(
 }
 
 #[cycle(tokens)]
-fn add_expression(
-    list: &mut Vec<Token>,
-    expression: &Expression<Span>,
-) -> Result<(), AllocError> {
+fn add_expression(list: &mut Vec<Token>, expression: &Expression<Span>) -> Result<(), AllocError> {
     match expression {
         Expression::Select { selector, variants } => {
             add_inline(list, selector)?;
@@ -103,10 +100,7 @@ fn add_inline(list: &mut Vec<Token>, inline: &InlineExpression<Span>) -> Result<
 }
 
 #[cycle(tokens)]
-fn add_arguments(
-    list: &mut Vec<Token>,
-    arguments: &CallArguments<Span>,
-) -> Result<(), AllocError> {
+fn add_arguments(list: &mut Vec<Token>, arguments: &CallArguments<Span>) -> Result<(), AllocError> {
     for inline in &arguments.positional {
         add_inline(list, inline)?;
     }

@@ -31,9 +31,8 @@ fn add_entry(list: &mut Vec<Token>, entry: &Entry<Span>) -> Result<(), AllocErro
             add_pattern(list, &term.value)?;
             add_attributes(list, &term.attributes)
         }
-        Entry::Comment(comment)
-        | Entry::GroupComment(comment)
-        | Entry::ResourceComment(comment) => add_comment(list, comment),
+        Entry::Comment(comment) | Entry::GroupComment(comment) | Entry::ResourceComment(comment) =>
+            add_comment(list, comment),
         Entry::Junk { .. } => Ok(()),
     }
 }
@@ -53,10 +52,7 @@ fn add_comment(list: &mut Vec<Token>, comment: &Comment<Span>) -> Result<(), All
     Ok(())
 }
 
-fn add_attributes(
-    list: &mut Vec<Token>,
-    attributes: &[Attribute<Span>],
-) -> Result<(), AllocError> {
+fn add_attributes(list: &mut Vec<Token>, attributes: &[Attribute<Span>]) -> Result<(), AllocError> {
     for attribute in attributes {
         add_token(list, TokenKind::Attribute, attribute.id.name)?;
         add_pattern(list, &attribute.value)?;

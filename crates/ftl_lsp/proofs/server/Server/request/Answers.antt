@@ -19,7 +19,8 @@ returns-in-Some c =
 
 pub returns-in_default-2 : goal.returns-in_default-2
 returns-in_default-2 c =
-    let found = finds_of (session_of c.args.self.now) (view c.args.message.now) c.args.method c.in_ok-found.field-0 None (sym c.in_default.ensures)
+    let found = finds_of (session_of c.args.self.now) (view c.args.message.now) c.args.method c.in_ok-found.field-0
+    None (sym c.in_default.ensures)
     c.in_ok-found.ensures.found c.in_ok-found.ensures.result c.in_default-2.is in
     IfOk-weaker c.refuse-in_default-2.result _ _
     (λ sent is. (
@@ -31,7 +32,8 @@ returns-in_default-2 c =
 
 pub returns : goal.returns
 returns c =
-    let found = finds_of (session_of c.args.self.now) (view c.args.message.now) c.args.method c.in_ok-found.field-0 (Some c.in-Some-2.found) (sym c.in_default.ensures)
+    let found = finds_of (session_of c.args.self.now) (view c.args.message.now) c.args.method c.in_ok-found.field-0
+    (Some c.in-Some-2.found) (sym c.in_default.ensures)
     c.in_ok-found.ensures.found c.in_ok-found.ensures.result c.in-Some-2.is in (
       answered (view c.args.id) (view c.in-Some-2.found),
       sent_as _ _ _ c.in_ok-reply.ensures (sends_answer _ _),
