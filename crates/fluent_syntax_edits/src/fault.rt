@@ -1,7 +1,7 @@
 //! Why an edit is refused.
 
-use fluent_syntax_writer::canonical::Rule;
 use fluent_syntax_tree::spans::Span;
+use fluent_syntax_writer::canonical::Rule;
 use std::alloc::AllocError;
 use thiserror::Error;
 

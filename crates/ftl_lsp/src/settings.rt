@@ -1,7 +1,6 @@
 //! What the folders of the workspace say of themselves.
 
-use ftl_files::{Settings, SettingsFault, settings_of};
-use ftl_files::{FILE_LIMIT, Folders};
+use ftl_files::{FILE_LIMIT, Folders, Settings, SettingsFault, settings_of};
 use std::alloc::{AllocError, Global};
 
 /// What the `ftl.toml` at the top of a folder says. None where there is no such file, or it says nothing that can be

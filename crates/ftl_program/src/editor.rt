@@ -1,9 +1,9 @@
 //! The language server.
 
 use crate::telling::refuse;
-use ftl_lsp as server;
 use ftl::Watched;
 use ftl_files::Disk;
+use ftl_lsp as server;
 use std::io;
 use std::rt::Files;
 

@@ -13,9 +13,9 @@ returns-in-Ok-error_lines-clause-text c =
       found.0,
       found.1,
       c.in-Ok-error_lines.ensures
-      ∙ ap (λ es. flat_map (error_line c.args.text.now) (map told es)) c.deref.ensures.value
-      ∙ ap (flat_map (error_line c.args.text.now)) same,
+          ∙ ap (λ es. flat_map (error_line c.args.text.now) (map told es)) c.deref.ensures.value
+          ∙ ap (flat_map (error_line c.args.text.now)) same,
       c.outcome_of.ensures
-      ∙ ap (λ es. outcome_with (map told es)) c.deref-in-Ok-error_lines.ensures.value
-      ∙ ap outcome_with same,
+          ∙ ap (λ es. outcome_with (map told es)) c.deref-in-Ok-error_lines.ensures.value
+          ∙ ap outcome_with same,
     )
