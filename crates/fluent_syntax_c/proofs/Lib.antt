@@ -5,5 +5,4 @@ mod LineStarts
 mod Recovered
 mod Told
 mod Commands
-mod Spelled
 mod Outlined
