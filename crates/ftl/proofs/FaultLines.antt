@@ -30,7 +30,8 @@ told_is : (e : ParserError) (f : Fault) → fault_of e ≡ Some f → told e ≡
 told_is e f h = told_by (kind_of e.kind) e.pos e.slice (λ r. r.start) (λ r. r.end) f h
 
 -- errors tell of just the faults that they tell of
-pub told_faults : (errors : List ParserError) (fs : List Fault) → map fault_of errors ≡ map Some fs → map told errors ≡ fs
+pub told_faults : (errors : List ParserError) (fs : List Fault) → map fault_of errors ≡ map Some fs →
+    map told errors ≡ fs
 told_faults [] [] h = refl
 told_faults [] (f ∷ fs) h = absurd cc
 told_faults (e ∷ errors) [] h = absurd cc
