@@ -4,7 +4,7 @@ use Rattle.fluent_syntax_tree.specs.Entry.{BodyTree}
 use Rattle.fluent_syntax_tree.specs.declared.spans.Span.{Span}
 use Rattle.fluent_syntax_parser.specs.Answers.{Answers}
 use Rattle.fluent_syntax_parser.specs.declared.fault.ParseFault.{ParseFault}
-use Rattle.ftl.proofs.Errors.{made_of_faults}
+use Rattle.ftl.proofs.FaultLines.{made_of_faults}
 use Rattle.ftl_lsp.specs.Diagnostics.{DiagnosesText, diagnostic_of, fault_shown, shown}
 use Rattle.ftl_lsp.proofs.documents.Document.new.Goals as goal
 
