@@ -9,7 +9,6 @@ use Rattle.fluent_syntax_tree.specs.View.{resource_view}
 use Rattle.fluent_syntax_tree.specs.declared.ast.Resource.{Resource}
 use Rattle.fluent_syntax_tree.specs.declared.errors.ParserError.{ParserError}
 use Rattle.fluent_syntax_tree.specs.declared.edition.Edition.{Edition}
-use Rattle.fluent_syntax_tree.specs.declared.spans.Span.{Span}
 use Rattle.fluent_syntax_grammar.specs.Tiling.{Fault, Tile}
 use Rattle.fluent_syntax_grammar.specs.Body.{body, faults}
 use Rattle.fluent_syntax_grammar.specs.Laws.{junk_slice, fault_slice}
@@ -17,7 +16,8 @@ use Rattle.fluent_syntax_grammar.specs.Laws as laws
 use Rattle.fluent_syntax_grammar.proofs.JunkAndSpans.{junk_of_errors, runtime_junk_of_errors, errors_ascend}
 use Rattle.fluent_syntax_grammar.proofs.JunkAndSpans.{runtime_errors_ascend}
 use Rattle.fluent_syntax_parser.specs.Faults.{fault_of}
-use Rattle.fluent_syntax_parser.specs.Answers.{Answers, AnswersIn}
+use Rattle.fluent_syntax_parser.specs.Answers.{Answers}
+use Rattle.fluent_syntax_parser.specs.Rest.{AnswersIn}
 use Rattle.fluent_syntax_parser.specs.declared.options.Comments.{Comments}
 use Rattle.fluent_syntax_parser.specs.declared.options.Comments.TheVariants.{Kept, Dropped}
 use Rattle.fluent_syntax_parser.specs.declared.fault.ParseFault.{ParseFault}
@@ -32,13 +32,6 @@ junk_mapped f (message m ∷ b) = junk_mapped f b
 junk_mapped f (term m ∷ b) = junk_mapped f b
 junk_mapped f (comment level lines ∷ b) = junk_mapped f b
 junk_mapped f (junk x ∷ b) = ap (λ ys. f x ∷ ys) (junk_mapped f b)
-
-junk_spans : (b : BodyTree Span) → junk_texts b ≡ flat_map junk_slice b
-junk_spans [] = refl
-junk_spans (message m ∷ b) = junk_spans b
-junk_spans (term m ∷ b) = junk_spans b
-junk_spans (comment level lines ∷ b) = junk_spans b
-junk_spans (junk x ∷ b) = ap (λ ys. x ∷ ys) (junk_spans b)
 
 module _ (t : List ℕ) where
   abbrev fault_text : Fault → List ℕ
@@ -79,7 +72,7 @@ module _ {S : Type 0} (text : S → List ℕ) (t : List ℕ) (tiles : List Tile)
       junk_texts (resource_view text tree) ≡ map (bytes_at t) (map fault_slice (faults tiles))
   junk_of tree same law =
       ap junk_texts same
-      ∙ (junk_mapped (bytes_at t) (body tiles) ∙ ap (map (bytes_at t)) (junk_spans (body tiles) ∙ law))
+      ∙ (junk_mapped (bytes_at t) (body tiles) ∙ ap (map (bytes_at t)) law)
 
   junk_given : (result : Result (Resource S) (ParseFault S)) →
       flat_map junk_slice (body tiles) ≡ map fault_slice (faults tiles) → Given result → JunkIsRefused t text result

@@ -1,26 +1,19 @@
 -- The errors of what parsing answers, and the junk of its tree.
-use Rattle.std.specs.Prelude.{◌≡◌, ℕ, List, [], ◌∷◌, map, slice_range, Option, Some, option_map, Result, Ok, Err}
+use Rattle.std.specs.Prelude.{◌≡◌, ℕ, List, [], map, slice_range, Option, Some, option_map, Result, Ok, Err}
 use Rattle.std.specs.List.{flat_map}
-use Rattle.fluent_syntax_tree.specs.Entry.{EntryTree, message, term, comment, junk, BodyTree}
+use Rattle.fluent_syntax_tree.specs.Entry.{BodyTree}
 use Rattle.fluent_syntax_tree.specs.View.{resource_view}
 use Rattle.fluent_syntax_tree.specs.declared.ast.Resource.{Resource}
 use Rattle.fluent_syntax_tree.specs.declared.errors.ParserError.{ParserError}
-use Rattle.fluent_syntax_grammar.specs.Laws.{Ascend}
+use Rattle.fluent_syntax_grammar.specs.Laws.{Ascend, junk_slice}
 use Rattle.fluent_syntax_grammar.specs.Tiling.{Fault}
 use Rattle.fluent_syntax_parser.specs.Faults.{fault_of}
 use Rattle.fluent_syntax_parser.specs.declared.fault.ParseFault.{ParseFault}
 use Rattle.fluent_syntax_parser.specs.declared.fault.ParseFault.TheVariants.{Syntax, Memory}
 
--- the text of an entry that is junk; nothing else
-abbrev pub junk_text : {X : Type 0} → EntryTree X → List X
-junk_text (message m) = []
-junk_text (term m) = []
-junk_text (comment level lines) = []
-junk_text (junk text) = text ∷ []
-
 -- the texts of a body's junk, in order
 abbrev pub junk_texts : {X : Type 0} → BodyTree X → List X
-junk_texts body = flat_map junk_text body
+junk_texts body = flat_map junk_slice body
 
 -- the text that an error tells to have become junk
 abbrev pub refused_text : List ℕ → ParserError → Option (List ℕ)

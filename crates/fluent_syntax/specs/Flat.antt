@@ -1,14 +1,11 @@
 -- Texts that hold no brace, and no line that a mark begins.
 use Rattle.std.specs.Prelude.{ℕ, ◌-◌, List, Bool, true, ◌≡◌, ◌&&◌, ◌||◌, ◌==◌, not, slice_index, EachIndex}
-use Rattle.fluent_syntax_grammar.specs.Bytes.{cr, full_stop, hash, hyphen, left_brace, lf, right_brace, space}
+use Rattle.fluent_syntax_grammar.specs.Bytes.{cr, full_stop, hash, hyphen, lf, space}
+use Rattle.fluent_syntax_grammar.specs.PatternTexts.{is_brace}
 
 -- a line starts at place 0 and after every LF
 abbrev pub starts_line : List ℕ → ℕ → Bool
 starts_line t i = i == 0 || slice_index t (i - 1) == lf
-
--- `{` or `}`
-abbrev pub is_brace : ℕ → Bool
-is_brace b = b == left_brace || b == right_brace
 
 -- a space, `#`, `.`, `-` or CR
 abbrev pub is_line_mark : ℕ → Bool

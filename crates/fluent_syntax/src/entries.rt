@@ -3,8 +3,8 @@ ghost use Rattle.std.specs.Prelude.{◌+◌, ◌<◌, ◌^◌, ◌≢◌, length
 ghost use Rattle.fluent_syntax.specs.Errors.{ErrorsAscend, JunkIsRefused};
 ghost use Rattle.fluent_syntax_grammar.specs.Nesting.{TextDeeper};
 ghost use Rattle.fluent_syntax_grammar.specs.Places.{BlankBlock};
-ghost use Rattle.fluent_syntax_parser.specs.Answers.{AnswersIn, ErrorsInText};
-ghost use Rattle.fluent_syntax_parser.specs.Rest.{TileIn};
+ghost use Rattle.fluent_syntax_parser.specs.Answers.{ErrorsInText};
+ghost use Rattle.fluent_syntax_parser.specs.Rest.{AnswersIn, TileIn};
 ghost use Rattle.fluent_syntax_parser.specs.declared.fault.ParseFault.TheVariants.{Memory};
 ghost use Rattle.fluent_syntax_tree.specs.Entry.{body_map};
 ghost use Rattle.fluent_syntax_tree.specs.Spans.{bytes_at};

@@ -1,6 +1,7 @@
 //! A plain test of texts.
 ghost use Rattle.std.specs.Prelude.{◌≡◌, ◌↔◌, IsTrue};
-ghost use Rattle.fluent_syntax.specs.Flat.{IsFlat, is_brace, is_line_mark, may_stand};
+ghost use Rattle.fluent_syntax.specs.Flat.{IsFlat, is_line_mark, may_stand};
+ghost use Rattle.fluent_syntax_grammar.specs.PatternTexts.{is_brace};
 
 /// Whether the text holds no `{` and no `}`, and no line begins with a space, `#`, `.`, `-` or CR.
 pub fn is_flat(text: &str) -> bool

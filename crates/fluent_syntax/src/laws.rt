@@ -11,16 +11,15 @@ ghost use Rattle.fluent_syntax_tree.specs.View.{resource_view};
 
 use crate::parser::{Edition, ParseFault, Result, Slice, parse};
 pub use fluent_syntax_grammar::{
-    edits_entry, formats_again, reads_back, reads_readable, reads_rest, reads_up_to,
-    replaces_entry, unique_reading, written_apart,
-};
-pub use fluent_syntax_joined::joined;
-pub use fluent_syntax_rules::{
-    Rule, Uncanonical, broken_rule, broken_rule_with, first_uncanonical, first_uncanonical_with,
-    is_canonical, is_readable,
+    formats_again, reads_back, reads_readable, unique_reading, written_apart,
 };
 use fluent_syntax_tree::ast::Resource;
 pub use fluent_syntax_tree::laws::same_texts;
+pub use fluent_syntax_writer::canonical::{
+    Rule, Uncanonical, broken_rule, broken_rule_with, first_uncanonical, first_uncanonical_with,
+    is_canonical, is_readable,
+};
+pub use fluent_syntax_writer::joined::joined;
 use fluent_syntax_writer::serializer::serialize;
 use std::alloc::{AllocError, Global};
 

@@ -1,9 +1,8 @@
 mod Statuses
-mod Rows
+mod NameRows
 mod ValueRows
 mod LineStarts
 mod Recovered
 mod Told
 mod Commands
-mod Spelled
 mod Outlined

@@ -1,21 +1,12 @@
 -- Outlines of texts, and what holds of some of several texts.
-use Rattle.std.proofs.Common.{◌≡◌, ◌+◌, ◌<◌, ◌++◌, [], ◌∷◌, ℕ, List, length, get_or, take, inl, inr, sym}
+use Rattle.std.proofs.Common.{◌≡◌, ◌+◌, ◌<◌, ◌++◌, [], ◌∷◌, ℕ, List, length, get_or, take, sym}
 use Rattle.std.proofs.Common.{subst}
-use Rattle.std.specs.Prelude.{◌⊎◌}
 use Rattle.std.specs.List.{All, Any}
 use Rattle.std.proofs.lemmas.List.{take_more}
 use Rattle.fluent_syntax_names.specs.declared.outline.Outline.{Outline}
 use Rattle.ftl.specs.declared.outcome.Outcome.{Outcome}
-use Rattle.fluent_syntax_c.specs.Arguments.{IsNoEdition}
-use Rattle.fluent_syntax_c.specs.Depth.{EditionReadsDeeper}
 use Rattle.fluent_syntax_c.specs.Outlines.{AreOutlines, IsEditionOutline, either_outcome, more_outlines}
 use Rattle.fluent_syntax_c.specs.declared.outlines.FtlText.{FtlText}
-
--- where no edition has the number, neither of two texts is read by it
-pub no_edition_deeper : (number : ℕ) (t u : List ℕ) (n : ℕ) → IsNoEdition number →
-    EditionReadsDeeper number t n ⊎ EditionReadsDeeper number u n → ⊥
-no_edition_deeper number t u n none (inl deeper) = none deeper.0 deeper.1
-no_edition_deeper number t u n none (inr deeper) = none deeper.0 deeper.1
 
 -- what holds of none holds of no single one
 pub none_of_any : {X : Type 0} (P : X → Type 0) (xs : List X) → All (λ x. P x → ⊥) xs → Any P xs → ⊥

@@ -1,7 +1,8 @@
 -- Statuses and their numbers, and what calls leave by them.
 use Rattle.std.proofs.Common.{◌≡◌, ◌==◌, ℕ, List, Result, Ok, Err, IfOk, IsOkAnd, cond, refl, sym, ap, ◌∙◌}
 use Rattle.std.proofs.Common.{subst, inl, inr}
-use Rattle.std.specs.Prelude.{◌↔◌, ◌⊎◌}
+use Rattle.std.specs.Global.{Global}
+use Rattle.std.specs.Prelude.{◌↔◌, ◌⊎◌, Vec}
 use Rattle.ftl.specs.declared.outcome.Outcome.{Outcome}
 use Rattle.ftl.specs.declared.outcome.Outcome.TheVariants as outcome
 use Rattle.fluent_syntax_c.specs.declared.status.Refusal.{Refusal}
@@ -9,7 +10,9 @@ use Rattle.fluent_syntax_c.specs.declared.status.Refusal.TheVariants.{Argument, 
 use Rattle.fluent_syntax_c.specs.declared.status.Status.{Status}
 use Rattle.fluent_syntax_c.specs.declared.status.Status.TheVariants.{Clean, SyntaxErrors, TooSmall, Refused}
 use Rattle.fluent_syntax_c.specs.Status.{EndsAs, refusal_number, status_number}
+use Rattle.fluent_syntax_c.specs.Arguments.{IsNoEdition}
 use Rattle.fluent_syntax_c.specs.Output.{Leaves}
+use Rattle.fluent_syntax_c.specs.Rows.{Answers, Gives}
 
 -- the status of a number
 abbrev status_at : ℕ → Status
@@ -86,3 +89,43 @@ pub leaves_answered : {A X E : Type 0} (asked : List A → Outcome → Type 0) (
     before after count) → EndsAs number (Leaves asked before after count)
 leaves_answered asked items_of found_of answer before after count number is h =
     (h.0, h.1, leaves_other _ asked before after count h.0 (asked_is asked items_of found_of answer is) h.2)
+
+-- Rows that were answered are given.
+pub gives_answered : {A : Type 0} (number : ℕ) (asked : List A → Outcome → Type 0) (AreTexts Long Deeper : Type 0)
+    (answer : Result (Vec A Global × Outcome) Refusal) (before after : List A) (count status : ℕ) →
+    Answers number asked AreTexts Long Deeper answer →
+    EndsAs status
+    (Leaves (λ items found. IsOkAnd answer (λ given. (given.0.items ≡ items) × (given.1 ≡ found))) before after
+    count) →
+    ((why : Refusal) → (status ≡ refusal_number why) ↔ (answer ≡ Err why)) →
+    Gives number asked AreTexts Long Deeper before after count status
+gives_answered number asked AreTexts Long Deeper answer before after count status h leaves refused = record {
+  leaves =
+      leaves_answered asked (λ given. given.0.items) (λ given. given.1) answer before after count status h.rows leaves;
+  argument = told_where (refused Argument) h.argument;
+  input = λ known. told_where (refused Input) (h.input known);
+  deep = λ told. h.deep ((refused Depth).0 told);
+  deeper = λ told. h.deeper ((refused Depth).0 told);
+  shallow = λ deeper. refused_deeper answer status Deeper refused h.shallow h.read (λ e d. h.tree e) deeper;
+}
+
+-- These are the rows, where they are those that are asked for, the edition is known, all texts are UTF-8, and none
+-- nests deeper than it may.
+pub answers_ok : {A : Type 0} (number : ℕ) (asked : List A → Outcome → Type 0) (AreTexts Long Deeper : Type 0)
+    (rows : Vec A Global) (outcome : Outcome) → asked rows.items outcome → ¬ (IsNoEdition number) → AreTexts →
+    (Deeper → ⊥) → Answers number asked AreTexts Long Deeper (Ok (rows, outcome))
+answers_ok number asked AreTexts Long Deeper rows outcome is known texts shallow = record {
+  rows = is;
+  argument = ((λ e. cc), (λ none. absurd (known none)));
+  input = λ known. ((λ e. cc), (λ no. absurd (no texts)));
+  deep = λ e. cc;
+  deeper = λ e. cc;
+  shallow = shallow;
+  read = λ e. cc;
+  tree = λ e. cc;
+}
+
+-- what neither of two gives, one of them does not
+pub either_absurd : {P Q : Type 0} → (P → ⊥) → (Q → ⊥) → P ⊎ Q → ⊥
+either_absurd first second (inl p) = first p
+either_absurd first second (inr q) = second q

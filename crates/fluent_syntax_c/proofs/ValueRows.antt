@@ -1,12 +1,15 @@
 -- Rows of values.
 use Rattle.std.proofs.Common.{◌≡◌, ◌++◌, [], ◌∷◌, ℕ, List, Option, Some, None, length}
 use Rattle.std.proofs.Common.{sym, subst, append_assoc, append-nil}
+use Rattle.std.specs.Global.{Global}
+use Rattle.std.specs.Prelude.{Vec, Result, Ok, Err, IfOk}
 use Rattle.fluent_syntax_tree.specs.declared.edition.Edition.{Edition}
 use Rattle.fluent_syntax_tree.specs.declared.spans.Span.{Span}
 use Rattle.fluent_syntax_grammar.specs.Grammar.{family}
 use Rattle.fluent_syntax_grammar.specs.Places.{BlankBlock}
-use Rattle.fluent_syntax_grammar.specs.Tiling.{Tile, Tiled, TileAt, done, entry, next, reads, refuses}
+use Rattle.fluent_syntax_grammar.specs.Tiling.{Tile, Tiled, TileAt, Tiling, done, entry, next, reads, refuses}
 use Rattle.fluent_syntax_grammar.proofs.FunctionalEntries.{functional_entry}
+use Rattle.fluent_syntax_grammar.proofs.OneTiling.{one_tiling}
 use Rattle.fluent_syntax_parser.specs.Extents.{EntryStands, HasExtents}
 use Rattle.fluent_syntax_parser.specs.Tiles.{TileTo}
 use Rattle.fluent_syntax_parser.specs.declared.extents.EntryExtents.{EntryExtents}
@@ -75,3 +78,12 @@ module _ (edition : Edition) (t : List ℕ) where
     has_tiles = subst (Tiled t (TileAt edition t) 0) (append-nil values.tiles) (values.whole [] (done blank));
     values = values.values;
   }
+
+-- the rows of a tiling of the text are those of each
+pub values_of_tiling : {E : Type 0} (edition : Edition) (t : List ℕ) (tiles : List Tile) → Tiling edition t tiles →
+    (answer : Result (Vec FtlValue Global) E) → IfOk answer (λ rows. ValuesTiling edition t rows.items) →
+    IfOk answer (λ rows. TilesValues edition t tiles rows.items)
+values_of_tiling edition t tiles tiling (Ok rows) found =
+    subst (λ ts. TilesValues edition t ts rows.items)
+    (one_tiling edition t found.tiles tiles found.has_tiles tiling) found.values
+values_of_tiling edition t tiles tiling (Err e) found = found

@@ -30,15 +30,6 @@ row_at place f = record {
 abbrev pub error_row : List ℕ → Fault → FtlError
 error_row t f = row_at (place_at t f.pos.start) f
 
--- The source is UTF-8, and the rows are those of the errors of its tiling by the edition, in order, with the outcome.
-pub record AreErrors (edition : Edition) (t : List ℕ) (rows : List FtlError) (outcome : Outcome) : Type 0 where
-  pub is_utf8 : IsUtf8 t
-  pub tiles : List Tile
-  pub has_tiles : Tiling edition t tiles
-  pub rows_are : rows ≡ map (error_row t) (faults tiles)
-  pub outcome_is : outcome ≡ outcome_of tiles
-
--- The same by the edition of the number.
-abbrev pub AreEditionErrors : (number : ℕ) (t : List ℕ) (rows : List FtlError) (outcome : Outcome) → Type 0
-AreEditionErrors number t rows outcome =
-    (edition : Edition) × (edition_number edition ≡ number) × AreErrors edition t rows outcome
+-- The rows are those of the errors of the tiles, in order.
+abbrev pub are_errors : Edition → List ℕ → List Tile → List FtlError → Type 0
+are_errors edition t tiles rows = rows ≡ map (error_row t) (faults tiles)

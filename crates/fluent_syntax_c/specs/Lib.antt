@@ -5,6 +5,7 @@ pub mod Status
 pub mod Output
 pub mod Kinds
 pub mod Reading
+pub mod Rows
 pub mod Columns
 pub mod Errors
 pub mod Names

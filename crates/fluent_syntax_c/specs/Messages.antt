@@ -62,15 +62,6 @@ abbrev pub IsKindName : (number : ℕ) (name : List ℕ) (outcome : Outcome) →
 IsKindName number name outcome =
     (kind : Kind) × (kind_number kind ≡ number) × (name ≡ kind_name kind) × (outcome ≡ Clean)
 
--- The source is UTF-8, and the lines are those of the errors of its tiling by the edition, in order, with the outcome.
-pub record AreMessages (edition : Edition) (t lines : List ℕ) (outcome : Outcome) : Type 0 where
-  pub is_utf8 : IsUtf8 t
-  pub tiles : List Tile
-  pub has_tiles : Tiling edition t tiles
-  pub lines_are : lines ≡ flat_map (λ f. message_line f.kind) (faults tiles)
-  pub outcome_is : outcome ≡ outcome_of tiles
-
--- The same by the edition of the number.
-abbrev pub AreEditionMessages : (number : ℕ) (t lines : List ℕ) (outcome : Outcome) → Type 0
-AreEditionMessages number t lines outcome =
-    (edition : Edition) × (edition_number edition ≡ number) × AreMessages edition t lines outcome
+-- The lines are those of the errors of the tiles, in order.
+abbrev pub are_messages : Edition → List ℕ → List Tile → List ℕ → Type 0
+are_messages edition t tiles lines = lines ≡ flat_map (λ f. message_line f.kind) (faults tiles)

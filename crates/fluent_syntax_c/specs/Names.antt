@@ -69,15 +69,6 @@ pub record NamesTiles (edition : Edition) (t : List ℕ) (rows : List FtlName) :
   pub has_tiles : Tiling edition t tiles
   pub rows_are : rows ≡ tiles_rows t 0 tiles
 
--- The source is UTF-8, and the rows are those of the names of its tiling by the edition, with the outcome.
-pub record AreNames (edition : Edition) (t : List ℕ) (rows : List FtlName) (outcome : Outcome) : Type 0 where
-  pub is_utf8 : IsUtf8 t
-  pub tiles : List Tile
-  pub has_tiles : Tiling edition t tiles
-  pub rows_are : rows ≡ tiles_rows t 0 tiles
-  pub outcome_is : outcome ≡ outcome_of tiles
-
--- The same by the edition of the number.
-abbrev pub AreEditionNames : (number : ℕ) (t : List ℕ) (rows : List FtlName) (outcome : Outcome) → Type 0
-AreEditionNames number t rows outcome =
-    (edition : Edition) × (edition_number edition ≡ number) × AreNames edition t rows outcome
+-- The rows are those of the names of the tiles, in order.
+abbrev pub are_names : Edition → List ℕ → List Tile → List FtlName → Type 0
+are_names edition t tiles rows = rows ≡ tiles_rows t 0 tiles

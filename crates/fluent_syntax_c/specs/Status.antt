@@ -1,7 +1,5 @@
 -- The numbers of statuses.
 use Rattle.std.specs.Prelude.{◌≡◌, ℕ}
-use Rattle.ftl.specs.declared.outcome.Outcome.{Outcome}
-use Rattle.ftl.specs.declared.outcome.Outcome.TheVariants as outcome
 use Rattle.fluent_syntax_c.specs.declared.status.Refusal.{Refusal}
 use Rattle.fluent_syntax_c.specs.declared.status.Refusal.TheVariants.{Argument, Input, Memory, Depth, Tree}
 use Rattle.fluent_syntax_c.specs.declared.status.Status.{Status}
@@ -19,11 +17,6 @@ status_number Clean = 0
 status_number SyntaxErrors = 1
 status_number TooSmall = 5
 status_number (Refused refusal) = refusal_number refusal
-
--- the status of what was given whole
-abbrev pub status_of : Outcome → Status
-status_of outcome.Clean = Clean
-status_of outcome.SyntaxErrors = SyntaxErrors
 
 -- The number is that of a status of which this holds.
 abbrev pub EndsAs : (number : ℕ) → (Status → Type 0) → Type 0

@@ -53,16 +53,3 @@ pub record ValuesTiling (edition : Edition) (t : List ℕ) (rows : List FtlValue
   pub tiles : List Tile
   pub has_tiles : Tiling edition t tiles
   pub values : TilesValues edition t tiles rows
-
--- The source is UTF-8, and the rows are those of the values of its tiling by the edition, with the outcome.
-pub record AreValues (edition : Edition) (t : List ℕ) (rows : List FtlValue) (outcome : Outcome) : Type 0 where
-  pub is_utf8 : IsUtf8 t
-  pub tiles : List Tile
-  pub has_tiles : Tiling edition t tiles
-  pub values : TilesValues edition t tiles rows
-  pub outcome_is : outcome ≡ outcome_of tiles
-
--- The same by the edition of the number.
-abbrev pub AreEditionValues : (number : ℕ) (t : List ℕ) (rows : List FtlValue) (outcome : Outcome) → Type 0
-AreEditionValues number t rows outcome =
-    (edition : Edition) × (edition_number edition ≡ number) × AreValues edition t rows outcome

@@ -1,13 +1,11 @@
 //! What one of two texts has and the other lacks, as rows.
-ghost use Rattle.std.specs.Prelude.{◌≡◌, ◌≢◌, ◌↔◌, ◌⊎◌, ◌++◌, ◌+◌, ◌<◌, ◌^◌, length, Err, IfOk, OnOk};
+ghost use Rattle.std.specs.Prelude.{◌≡◌, ◌⊎◌, ◌++◌, ◌+◌, ◌<◌, ◌^◌, length, IfOk, OnOk};
 ghost use Rattle.std.specs.List.{flat_map};
 ghost use Rattle.std.specs.Str.{IsUtf8};
-ghost use Rattle.fluent_syntax_c.specs.Arguments.{IsNoEdition};
 ghost use Rattle.fluent_syntax_c.specs.Comparison.{AreDifferences, compared_rows, lack_rows, side_number};
 ghost use Rattle.fluent_syntax_c.specs.Depth.{EditionReadsDeeper};
-ghost use Rattle.fluent_syntax_c.specs.Output.{Leaves};
 ghost use Rattle.fluent_syntax_c.specs.Outlines.{IsShort};
-ghost use Rattle.fluent_syntax_c.specs.Status.{EndsAs};
+ghost use Rattle.fluent_syntax_c.specs.Rows.{Answers, Gives};
 
 use crate::arguments::edition_of;
 use crate::columns::Places;
@@ -48,16 +46,11 @@ pub extern "C" fn ftl_comparison(
     rows: &mut [FtlFinding],
     count: &mut usize,
 ) -> u32
-    ensures leaves { EndsAs result
-        (Leaves (AreDifferences edition reference.now other.now) rows.old rows.new count.new) }
-    ensures argument { (result ≡ 2) ↔ IsNoEdition edition }
-    ensures input { ¬ (IsNoEdition edition) →
-        ((result ≡ 3) ↔ ¬ (IsUtf8 reference.now × IsUtf8 other.now)) }
-    ensures deep { result ≡ 6 → (nesting < length reference.now) ⊎ (nesting < length other.now) }
-    ensures deeper { result ≡ 6 →
-        EditionReadsDeeper edition reference.now nesting ⊎ EditionReadsDeeper edition other.now nesting }
-    ensures shallow { EditionReadsDeeper edition reference.now nesting ⊎ EditionReadsDeeper edition other.now nesting →
-        (result ≡ 3) ⊎ (result ≡ 4) ⊎ (result ≡ 6) }
+    ensures gives { Gives edition (AreDifferences edition reference.now other.now)
+        (IsUtf8 reference.now × IsUtf8 other.now)
+        ((nesting < length reference.now) ⊎ (nesting < length other.now))
+        (EditionReadsDeeper edition reference.now nesting ⊎ EditionReadsDeeper edition other.now nesting)
+        rows.old rows.new count.new result }
 {
     give(
         edition_differences(alloc, edition, nesting, reference, other),
@@ -74,16 +67,10 @@ fn edition_differences(
     reference: &[u8],
     other: &[u8],
 ) -> Result<(Vec<FtlFinding>, Outcome), Refusal>
-    ensures rows { IfOk result (λ found. AreDifferences edition reference.now other.now found.0.items found.1) }
-    ensures argument { (result ≡ Err Refusal.Argument) ↔ IsNoEdition edition }
-    ensures input { ¬ (IsNoEdition edition) →
-        ((result ≡ Err Refusal.Input) ↔ ¬ (IsUtf8 reference.now × IsUtf8 other.now)) }
-    ensures deep { result ≡ Err Refusal.Depth → (nesting < length reference.now) ⊎ (nesting < length other.now) }
-    ensures deeper { result ≡ Err Refusal.Depth →
-        EditionReadsDeeper edition reference.now nesting ⊎ EditionReadsDeeper edition other.now nesting }
-    ensures shallow { IfOk result (λ found.
-        EditionReadsDeeper edition reference.now nesting ⊎ EditionReadsDeeper edition other.now nesting → ⊥) }
-    ensures tree { result ≢ Err Refusal.Tree }
+    ensures answers { Answers edition (AreDifferences edition reference.now other.now)
+        (IsUtf8 reference.now × IsUtf8 other.now)
+        ((nesting < length reference.now) ⊎ (nesting < length other.now))
+        (EditionReadsDeeper edition reference.now nesting ⊎ EditionReadsDeeper edition other.now nesting) result }
 {
     if edition_of(edition).is_none() {
         return Err(Refusal::Argument);

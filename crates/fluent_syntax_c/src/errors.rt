@@ -1,20 +1,16 @@
 //! Errors as rows.
-ghost use Rattle.std.specs.Prelude.{◌≡◌, ◌≢◌, ◌↔◌, ◌⊎◌, ◌+◌, ◌<◌, ◌≤◌, ◌^◌, length, map, All, Err, IfOk};
+ghost use Rattle.std.specs.Prelude.{◌≡◌, ◌+◌, ◌<◌, ◌≤◌, ◌^◌, length, map, All, IfOk};
 ghost use Rattle.std.specs.Str.{IsUtf8};
 ghost use Rattle.ftl.specs.Answer.{told};
-ghost use Rattle.fluent_syntax_c.specs.Arguments.{IsNoEdition};
 ghost use Rattle.fluent_syntax_c.specs.Depth.{EditionReadsDeeper};
-ghost use Rattle.fluent_syntax_c.specs.Errors.{AreEditionErrors, error_row, row_at};
-ghost use Rattle.fluent_syntax_c.specs.Output.{Leaves};
-ghost use Rattle.fluent_syntax_c.specs.Status.{EndsAs};
+ghost use Rattle.fluent_syntax_c.specs.Errors.{are_errors, error_row, row_at};
+ghost use Rattle.fluent_syntax_c.specs.Rows.{AreRows, Gives};
 
 use crate::columns::{Place, Places};
 use crate::kinds::kind_number;
-use crate::outputs::give;
-use crate::readings::{outcome_of, read};
-use crate::status::Refusal;
+use crate::readings::Reading;
+use crate::rows::{TextRows, give_rows};
 use fluent_syntax::parser::ParserError;
-use ftl::Outcome;
 use std::alloc::{AllocError, Global};
 
 /// An error: `struct ftl_error` of `include/fluent.h`.
@@ -53,36 +49,27 @@ pub extern "C" fn ftl_errors(
     rows: &mut [FtlError],
     count: &mut usize,
 ) -> u32
-    ensures leaves { EndsAs result (Leaves (AreEditionErrors edition input.now) rows.old rows.new count.new) }
-    ensures argument { (result ≡ 2) ↔ IsNoEdition edition }
-    ensures input { ¬ (IsNoEdition edition) → ((result ≡ 3) ↔ ¬ (IsUtf8 input.now)) }
-    ensures deep { result ≡ 6 → nesting < length input.now }
-    ensures deeper { result ≡ 6 → EditionReadsDeeper edition input.now nesting }
-    ensures shallow { EditionReadsDeeper edition input.now nesting →
-        (result ≡ 3) ⊎ (result ≡ 4) ⊎ (result ≡ 6) }
+    ensures gives { Gives edition (AreRows are_errors edition input.now) (IsUtf8 input.now)
+        (nesting < length input.now) (EditionReadsDeeper edition input.now nesting)
+        rows.old rows.new count.new result }
 {
-    give(edition_errors(alloc, edition, nesting, input), rows, count)
+    give_rows::<Errors>(alloc, edition, nesting, input, rows, count)
 }
 
-/// The errors by the edition of the number.
-fn edition_errors(
-    alloc: Global,
-    edition: u32,
-    nesting: usize,
-    input: &[u8],
-) -> Result<(Vec<FtlError>, Outcome), Refusal>
-    ensures rows { IfOk result (λ found. AreEditionErrors edition input.now found.0.items found.1) }
-    ensures argument { (result ≡ Err Refusal.Argument) ↔ IsNoEdition edition }
-    ensures input { ¬ (IsNoEdition edition) → ((result ≡ Err Refusal.Input) ↔ ¬ (IsUtf8 input.now)) }
-    ensures deep { result ≡ Err Refusal.Depth → nesting < length input.now }
-    ensures deeper { result ≡ Err Refusal.Depth → EditionReadsDeeper edition input.now nesting }
-    ensures shallow { IfOk result (λ found. EditionReadsDeeper edition input.now nesting → ⊥) }
-    ensures tree { result ≢ Err Refusal.Tree }
-{
-    let reading = read(alloc, edition, nesting, input)?;
-    match error_rows(alloc, reading.text, &reading.errors) {
-        Ok(rows) => Ok((rows, outcome_of(&reading.errors))),
-        Err(_) => Err(Refusal::Memory),
+/// The errors of a text.
+struct Errors;
+
+impl TextRows for Errors {
+    type Row = FtlError;
+
+    ghost are = { are_errors };
+
+    fn rows_of(
+        alloc: Global,
+        _nesting: usize,
+        reading: &Reading<'_>,
+    ) -> Result<Vec<FtlError>, AllocError> {
+        error_rows(alloc, reading.text, &reading.errors)
     }
 }
 

@@ -1,14 +1,14 @@
 //! What is found in the texts of one language, as rows.
-ghost use Rattle.std.specs.Prelude.{◌≡◌, ◌≢◌, ◌↔◌, ◌⊎◌, ◌+◌, ◌<◌, ◌^◌, length, map, Err, IfOk};
+ghost use Rattle.std.specs.Prelude.{◌≡◌, ◌↔◌, ◌+◌, ◌<◌, ◌^◌, length, map, Err, IfOk};
 ghost use Rattle.std.specs.List.{All, Any};
 ghost use Rattle.fluent_syntax_names.specs.Findings.{all_findings};
-ghost use Rattle.fluent_syntax_c.specs.Arguments.{IsNoEdition};
 ghost use Rattle.fluent_syntax_c.specs.Depth.{EditionReadsDeeper};
 ghost use Rattle.fluent_syntax_c.specs.Findings.{AreFindings, finding_row, found_row, place_or_none, span_or_none};
 ghost use Rattle.fluent_syntax_c.specs.Findings.{text_at};
 ghost use Rattle.fluent_syntax_c.specs.FoundKinds.{IsFoundKindName, IsNoFoundKind};
 ghost use Rattle.fluent_syntax_c.specs.Output.{Leaves};
 ghost use Rattle.fluent_syntax_c.specs.Outlines.{IsShort, IsText};
+ghost use Rattle.fluent_syntax_c.specs.Rows.{Answers, Gives};
 ghost use Rattle.fluent_syntax_c.specs.Status.{EndsAs};
 
 use crate::arguments::edition_of;
@@ -63,13 +63,10 @@ pub extern "C" fn ftl_findings(
     rows: &mut [FtlFinding],
     count: &mut usize,
 ) -> u32
-    ensures leaves { EndsAs result (Leaves (AreFindings edition texts.now) rows.old rows.new count.new) }
-    ensures argument { (result ≡ 2) ↔ IsNoEdition edition }
-    ensures input { ¬ (IsNoEdition edition) → ((result ≡ 3) ↔ ¬ (All IsText texts.now)) }
-    ensures deep { result ≡ 6 → Any (λ text. nesting < length text.text.now) texts.now }
-    ensures deeper { result ≡ 6 → Any (λ text. EditionReadsDeeper edition text.text.now nesting) texts.now }
-    ensures shallow { Any (λ text. EditionReadsDeeper edition text.text.now nesting) texts.now →
-        (result ≡ 3) ⊎ (result ≡ 4) ⊎ (result ≡ 6) }
+    ensures gives { Gives edition (AreFindings edition texts.now) (All IsText texts.now)
+        (Any (λ text. nesting < length text.text.now) texts.now)
+        (Any (λ text. EditionReadsDeeper edition text.text.now nesting) texts.now)
+        rows.old rows.new count.new result }
 {
     give(
         edition_findings(alloc, edition, nesting, texts),
@@ -85,15 +82,9 @@ fn edition_findings(
     nesting: usize,
     texts: &[FtlText<'_>],
 ) -> Result<(Vec<FtlFinding>, Outcome), Refusal>
-    ensures rows { IfOk result (λ found. AreFindings edition texts.now found.0.items found.1) }
-    ensures argument { (result ≡ Err Refusal.Argument) ↔ IsNoEdition edition }
-    ensures input { ¬ (IsNoEdition edition) → ((result ≡ Err Refusal.Input) ↔ ¬ (All IsText texts.now)) }
-    ensures deep { result ≡ Err Refusal.Depth → Any (λ text. nesting < length text.text.now) texts.now }
-    ensures deeper { result ≡ Err Refusal.Depth →
-        Any (λ text. EditionReadsDeeper edition text.text.now nesting) texts.now }
-    ensures shallow { IfOk result (λ found.
-        Any (λ text. EditionReadsDeeper edition text.text.now nesting) texts.now → ⊥) }
-    ensures tree { result ≢ Err Refusal.Tree }
+    ensures answers { Answers edition (AreFindings edition texts.now) (All IsText texts.now)
+        (Any (λ text. nesting < length text.text.now) texts.now)
+        (Any (λ text. EditionReadsDeeper edition text.text.now nesting) texts.now) result }
 {
     if edition_of(edition).is_none() {
         return Err(Refusal::Argument);

@@ -17,6 +17,7 @@ mod names;
 mod outlines;
 mod outputs;
 mod readings;
+mod rows;
 mod status;
 mod texts;
 mod values;

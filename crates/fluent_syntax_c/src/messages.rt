@@ -1,19 +1,20 @@
 //! What is said of errors: the names of their kinds, and their messages.
-ghost use Rattle.std.specs.Prelude.{◌≡◌, ◌≢◌, ◌↔◌, ◌⊎◌, ◌++◌, ◌<◌, length, Err, IfOk, OnOk};
+ghost use Rattle.std.specs.Prelude.{◌≡◌, ◌↔◌, ◌++◌, ◌<◌, length, Err, IfOk, OnOk};
 ghost use Rattle.std.specs.List.{flat_map};
 ghost use Rattle.std.specs.Str.{IsUtf8};
 ghost use Rattle.fluent_syntax_tree.specs.Kind.{kind_of};
-ghost use Rattle.fluent_syntax_c.specs.Arguments.{IsNoEdition};
 ghost use Rattle.fluent_syntax_c.specs.Depth.{EditionReadsDeeper};
 ghost use Rattle.fluent_syntax_c.specs.Kinds.{IsNoKind};
-ghost use Rattle.fluent_syntax_c.specs.Messages.{AreEditionMessages, IsKindName, kind_message, message_line, shown};
+ghost use Rattle.fluent_syntax_c.specs.Messages.{IsKindName, are_messages, kind_message, message_line, shown};
 ghost use Rattle.fluent_syntax_c.specs.Messages.{shown_byte};
 ghost use Rattle.fluent_syntax_c.specs.Output.{Leaves};
+ghost use Rattle.fluent_syntax_c.specs.Rows.{AreRows, Gives};
 ghost use Rattle.fluent_syntax_c.specs.Status.{EndsAs};
 
 use crate::kinds::kind_at;
 use crate::outputs::give;
-use crate::readings::{outcome_of, read};
+use crate::readings::Reading;
+use crate::rows::{TextRows, give_rows};
 use crate::status::Refusal;
 use fluent_syntax::parser::{ErrorKind, ParserError};
 use ftl::Outcome;
@@ -63,40 +64,27 @@ pub extern "C" fn ftl_error_messages(
     out: &mut [u8],
     needed: &mut usize,
 ) -> u32
-    ensures leaves { EndsAs result (Leaves (AreEditionMessages edition input.now) out.old out.new needed.new) }
-    ensures argument { (result ≡ 2) ↔ IsNoEdition edition }
-    ensures input { ¬ (IsNoEdition edition) → ((result ≡ 3) ↔ ¬ (IsUtf8 input.now)) }
-    ensures deep { result ≡ 6 → nesting < length input.now }
-    ensures deeper { result ≡ 6 → EditionReadsDeeper edition input.now nesting }
-    ensures shallow { EditionReadsDeeper edition input.now nesting →
-        (result ≡ 3) ⊎ (result ≡ 4) ⊎ (result ≡ 6) }
+    ensures gives { Gives edition (AreRows are_messages edition input.now) (IsUtf8 input.now)
+        (nesting < length input.now) (EditionReadsDeeper edition input.now nesting)
+        out.old out.new needed.new result }
 {
-    give(
-        edition_messages(alloc, edition, nesting, input),
-        out,
-        needed,
-    )
+    give_rows::<Messages>(alloc, edition, nesting, input, out, needed)
 }
 
-/// The messages by the edition of the number.
-fn edition_messages(
-    alloc: Global,
-    edition: u32,
-    nesting: usize,
-    input: &[u8],
-) -> Result<(Vec<u8>, Outcome), Refusal>
-    ensures lines { IfOk result (λ found. AreEditionMessages edition input.now found.0.items found.1) }
-    ensures argument { (result ≡ Err Refusal.Argument) ↔ IsNoEdition edition }
-    ensures input { ¬ (IsNoEdition edition) → ((result ≡ Err Refusal.Input) ↔ ¬ (IsUtf8 input.now)) }
-    ensures deep { result ≡ Err Refusal.Depth → nesting < length input.now }
-    ensures deeper { result ≡ Err Refusal.Depth → EditionReadsDeeper edition input.now nesting }
-    ensures shallow { IfOk result (λ found. EditionReadsDeeper edition input.now nesting → ⊥) }
-    ensures tree { result ≢ Err Refusal.Tree }
-{
-    let reading = read(alloc, edition, nesting, input)?;
-    match message_lines(alloc, &reading.errors) {
-        Ok(lines) => Ok((lines, outcome_of(&reading.errors))),
-        Err(_) => Err(Refusal::Memory),
+/// The messages of the errors of a text, as bytes.
+struct Messages;
+
+impl TextRows for Messages {
+    type Row = u8;
+
+    ghost are = { are_messages };
+
+    fn rows_of(
+        alloc: Global,
+        _nesting: usize,
+        reading: &Reading<'_>,
+    ) -> Result<Vec<u8>, AllocError> {
+        message_lines(alloc, &reading.errors)
     }
 }
 

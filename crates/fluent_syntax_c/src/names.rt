@@ -1,26 +1,20 @@
 //! The names of messages, terms and attributes as rows.
-ghost use Rattle.std.specs.Prelude.{◌≡◌, ◌≢◌, ◌↔◌, ◌⊎◌, ◌+◌, ◌++◌, ◌<◌, ◌≤◌, ◌^◌, length, map, Err, IfOk, OnOk};
-ghost use Rattle.std.specs.Prelude.{vec_len};
+ghost use Rattle.std.specs.Prelude.{◌≡◌, ◌+◌, ◌++◌, ◌<◌, ◌≤◌, ◌^◌, length, map, vec_len, IfOk, OnOk};
 ghost use Rattle.std.specs.Str.{IsUtf8};
 ghost use Rattle.fluent_syntax_tree.specs.Every.{attribute_every, entry_every, list_every};
 ghost use Rattle.fluent_syntax_tree.specs.Spans.{IsPart};
 ghost use Rattle.fluent_syntax_tree.specs.View.{attribute_view};
 ghost use Rattle.fluent_syntax_parser.specs.Rest.{tree_of};
-ghost use Rattle.fluent_syntax_c.specs.Arguments.{IsNoEdition};
 ghost use Rattle.fluent_syntax_c.specs.Depth.{EditionReadsDeeper};
-ghost use Rattle.fluent_syntax_c.specs.Names.{AreEditionNames, NamesTiles, entry_rows, name_row, named_number};
-ghost use Rattle.fluent_syntax_c.specs.Names.{owner_rows};
-ghost use Rattle.fluent_syntax_c.specs.Output.{Leaves};
-ghost use Rattle.fluent_syntax_c.specs.Status.{EndsAs};
+ghost use Rattle.fluent_syntax_c.specs.Names.{NamesTiles, are_names, entry_rows, name_row, named_number, owner_rows};
+ghost use Rattle.fluent_syntax_c.specs.Rows.{AreRows, Gives};
 
 use crate::columns::Places;
-use crate::outputs::give;
-use crate::readings::{outcome_of, read};
-use crate::status::Refusal;
+use crate::readings::Reading;
+use crate::rows::{TextRows, give_rows};
 use fluent_syntax::ast::{Attribute, Entry};
 use fluent_syntax::parser::Edition;
 use fluent_syntax::spans::{FoundTile, Halt, Span, Tiles};
-use ftl::Outcome;
 use std::alloc::{AllocError, Global};
 
 /// A name: `struct ftl_name` of `include/fluent.h`.
@@ -81,41 +75,32 @@ pub extern "C" fn ftl_names(
     rows: &mut [FtlName],
     count: &mut usize,
 ) -> u32
-    ensures leaves { EndsAs result (Leaves (AreEditionNames edition input.now) rows.old rows.new count.new) }
-    ensures argument { (result ≡ 2) ↔ IsNoEdition edition }
-    ensures input { ¬ (IsNoEdition edition) → ((result ≡ 3) ↔ ¬ (IsUtf8 input.now)) }
-    ensures deep { result ≡ 6 → nesting < length input.now }
-    ensures deeper { result ≡ 6 → EditionReadsDeeper edition input.now nesting }
-    ensures shallow { EditionReadsDeeper edition input.now nesting →
-        (result ≡ 3) ⊎ (result ≡ 4) ⊎ (result ≡ 6) }
+    ensures gives { Gives edition (AreRows are_names edition input.now) (IsUtf8 input.now)
+        (nesting < length input.now) (EditionReadsDeeper edition input.now nesting)
+        rows.old rows.new count.new result }
 {
-    give(edition_names(alloc, edition, nesting, input), rows, count)
+    give_rows::<Names>(alloc, edition, nesting, input, rows, count)
 }
 
-/// The names by the edition of the number.
-fn edition_names(
-    alloc: Global,
-    edition: u32,
-    nesting: usize,
-    input: &[u8],
-) -> Result<(Vec<FtlName>, Outcome), Refusal>
-    ensures rows { IfOk result (λ found. AreEditionNames edition input.now found.0.items found.1) }
-    ensures argument { (result ≡ Err Refusal.Argument) ↔ IsNoEdition edition }
-    ensures input { ¬ (IsNoEdition edition) → ((result ≡ Err Refusal.Input) ↔ ¬ (IsUtf8 input.now)) }
-    ensures deep { result ≡ Err Refusal.Depth → nesting < length input.now }
-    ensures deeper { result ≡ Err Refusal.Depth → EditionReadsDeeper edition input.now nesting }
-    ensures shallow { IfOk result (λ found. EditionReadsDeeper edition input.now nesting → ⊥) }
-    ensures tree { result ≢ Err Refusal.Tree }
-{
-    let reading = read(alloc, edition, nesting, input)?;
-    match text_rows(alloc, reading.text, reading.edition, nesting) {
-        Ok(rows) => Ok((rows, outcome_of(&reading.errors))),
-        Err(_) => Err(Refusal::Memory),
+/// The names in a text.
+struct Names;
+
+impl TextRows for Names {
+    type Row = FtlName;
+
+    ghost are = { are_names };
+
+    fn rows_of(
+        alloc: Global,
+        nesting: usize,
+        reading: &Reading<'_>,
+    ) -> Result<Vec<FtlName>, AllocError> {
+        name_rows(alloc, reading.text, reading.edition, nesting)
     }
 }
 
 /// The rows of the names of a text that nests no deeper than that.
-fn text_rows(
+fn name_rows(
     alloc: Global,
     text: &str,
     edition: Edition,
@@ -137,7 +122,7 @@ fn text_rows(
     }
 }
 
-/// Adds the rows of what was found.
+/// Adds the rows of what was found, which is dropped here and not on each way out of the loop.
 fn add_found<'t>(
     rows: &mut Vec<FtlName>,
     places: &mut Places<'t>,

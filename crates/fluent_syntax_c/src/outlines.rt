@@ -57,7 +57,7 @@ pub(crate) fn outlines<'t>(
     ensures deeper { result ≡ Err Refusal.Depth →
         Any (λ text. EditionReadsDeeper edition text.text.now nesting) texts.now }
     ensures shallow { IfOk result (λ found.
-        All (λ text. EditionReadsDeeper edition text.text.now nesting → ⊥) texts.now) }
+        Any (λ text. EditionReadsDeeper edition text.text.now nesting) texts.now → ⊥) }
 {
     let mut outlines = Vec::new(alloc);
     let mut outcome = Outcome::Clean;

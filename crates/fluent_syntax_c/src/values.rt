@@ -1,18 +1,14 @@
 //! Where the values of messages, terms and attributes stand, as rows.
-ghost use Rattle.std.specs.Prelude.{◌≡◌, ◌≢◌, ◌↔◌, ◌⊎◌, ◌+◌, ◌++◌, ◌<◌, ◌≤◌, ◌^◌, length, Err, IfOk, OnOk};
+ghost use Rattle.std.specs.Prelude.{◌≡◌, ◌+◌, ◌++◌, ◌<◌, ◌≤◌, ◌^◌, length, IfOk, OnOk};
 ghost use Rattle.std.specs.Str.{IsUtf8};
-ghost use Rattle.fluent_syntax_c.specs.Arguments.{IsNoEdition};
 ghost use Rattle.fluent_syntax_c.specs.Depth.{EditionReadsDeeper};
-ghost use Rattle.fluent_syntax_c.specs.Output.{Leaves};
-ghost use Rattle.fluent_syntax_c.specs.Status.{EndsAs};
-ghost use Rattle.fluent_syntax_c.specs.Values.{AddsValues, AreEditionValues, ValuesTiling, entry_values, value_row};
+ghost use Rattle.fluent_syntax_c.specs.Rows.{AreRows, Gives};
+ghost use Rattle.fluent_syntax_c.specs.Values.{AddsValues, TilesValues, ValuesTiling, entry_values, value_row};
 
-use crate::outputs::give;
-use crate::readings::{outcome_of, read};
-use crate::status::Refusal;
+use crate::readings::Reading;
+use crate::rows::{TextRows, give_rows};
 use fluent_syntax::parser::Edition;
 use fluent_syntax::spans::{EntryExtents, FoundTile, Halt, Span, Tiles, entry_extents};
-use ftl::Outcome;
 use std::alloc::{AllocError, Global};
 
 /// Where a value stands: `struct ftl_value` of `include/fluent.h`.
@@ -42,41 +38,32 @@ pub extern "C" fn ftl_values(
     rows: &mut [FtlValue],
     count: &mut usize,
 ) -> u32
-    ensures leaves { EndsAs result (Leaves (AreEditionValues edition input.now) rows.old rows.new count.new) }
-    ensures argument { (result ≡ 2) ↔ IsNoEdition edition }
-    ensures input { ¬ (IsNoEdition edition) → ((result ≡ 3) ↔ ¬ (IsUtf8 input.now)) }
-    ensures deep { result ≡ 6 → nesting < length input.now }
-    ensures deeper { result ≡ 6 → EditionReadsDeeper edition input.now nesting }
-    ensures shallow { EditionReadsDeeper edition input.now nesting →
-        (result ≡ 3) ⊎ (result ≡ 4) ⊎ (result ≡ 6) }
+    ensures gives { Gives edition (AreRows TilesValues edition input.now) (IsUtf8 input.now)
+        (nesting < length input.now) (EditionReadsDeeper edition input.now nesting)
+        rows.old rows.new count.new result }
 {
-    give(edition_values(alloc, edition, nesting, input), rows, count)
+    give_rows::<Values>(alloc, edition, nesting, input, rows, count)
 }
 
-/// The values by the edition of the number.
-fn edition_values(
-    alloc: Global,
-    edition: u32,
-    nesting: usize,
-    input: &[u8],
-) -> Result<(Vec<FtlValue>, Outcome), Refusal>
-    ensures rows { IfOk result (λ found. AreEditionValues edition input.now found.0.items found.1) }
-    ensures argument { (result ≡ Err Refusal.Argument) ↔ IsNoEdition edition }
-    ensures input { ¬ (IsNoEdition edition) → ((result ≡ Err Refusal.Input) ↔ ¬ (IsUtf8 input.now)) }
-    ensures deep { result ≡ Err Refusal.Depth → nesting < length input.now }
-    ensures deeper { result ≡ Err Refusal.Depth → EditionReadsDeeper edition input.now nesting }
-    ensures shallow { IfOk result (λ found. EditionReadsDeeper edition input.now nesting → ⊥) }
-    ensures tree { result ≢ Err Refusal.Tree }
-{
-    let reading = read(alloc, edition, nesting, input)?;
-    match text_values(alloc, reading.text, reading.edition, nesting) {
-        Ok(rows) => Ok((rows, outcome_of(&reading.errors))),
-        Err(_) => Err(Refusal::Memory),
+/// Where the values of a text stand.
+struct Values;
+
+impl TextRows for Values {
+    type Row = FtlValue;
+
+    ghost are = { TilesValues };
+
+    fn rows_of(
+        alloc: Global,
+        nesting: usize,
+        reading: &Reading<'_>,
+    ) -> Result<Vec<FtlValue>, AllocError> {
+        value_rows(alloc, reading.text, reading.edition, nesting)
     }
 }
 
 /// The rows of the values of a text that nests no deeper than that.
-fn text_values(
+fn value_rows(
     alloc: Global,
     text: &str,
     edition: Edition,
@@ -97,7 +84,7 @@ fn text_values(
     }
 }
 
-/// Adds the rows of what was found, if it is a message or a term, which nests no deeper than that.
+/// Adds the rows of what was found, which is dropped here and not on each way out of the loop.
 fn add_found(
     rows: &mut Vec<FtlValue>,
     alloc: Global,

@@ -10,11 +10,12 @@ mod json;
 mod parsing;
 mod program;
 mod requests;
+mod tally;
 mod trees;
 mod turns;
 mod writing;
 
-use fluent_syntax_corpus::Tally;
+use crate::refusals::tally::Tally;
 use std::io;
 
 /// Prints what was seen of each call, and gives what was seen in all.

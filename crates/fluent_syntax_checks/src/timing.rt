@@ -6,7 +6,6 @@
 ghost use Rattle.std.specs.Prelude.{◌+◌, ◌^◌, ◌<◌, length};
 
 mod calls;
-mod changes;
 mod clock;
 mod json;
 mod parsing;

@@ -1,12 +1,5 @@
-pub mod Apart
-pub mod FoundRuns
-pub mod Sound
-pub mod CommentsBefore
-pub mod Standing
-pub mod Edited
-pub mod Results
-pub mod RunSteps
-pub mod Reading
-pub mod Asked
+pub mod Answered
+pub mod Compared
+pub mod Numbered
 pub mod OneEntry
-pub mod SlotsSet
+pub mod PlacesRead

@@ -1,7 +1,5 @@
+pub mod Changes
 pub mod Edits
+pub mod Errors
 pub mod Numbers
 pub mod Places
-pub mod Refusals
-pub mod Runs
-pub mod Spliced
-pub mod Values

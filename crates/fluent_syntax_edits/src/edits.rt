@@ -1,46 +1,104 @@
 //! The edits.
-ghost use Rattle.std.specs.Prelude.{◌≡◌, ◌+◌, ◌^◌, ◌<◌, false, length, IfErr, IfOk, string_bytes};
-ghost use Rattle.fluent_syntax_edits.specs.Edits.{
-  EditsBytes,
-  InsertRefused,
-  RefusedBy,
-  RemoveRefused,
-  ReplaceRefused,
-  IsInserted,
-  IsRemoved,
-  IsReplaced,
-  InsertsBytes,
-  RemovesBytes,
-  ReplacesBytes,
-};
-ghost use Rattle.fluent_syntax_grammar.specs.Locality.{is_comment};
-ghost use Rattle.fluent_syntax_tree.specs.View.{entry_view};
+ghost use Rattle.std.specs.Prelude.{◌≡◌, ◌⊎◌, ◌++◌, Err, drop, take, IfOk, string_bytes};
+ghost use Rattle.fluent_syntax_edits.specs.Changes.{change_of, inserts, removes, replaces, sets};
+ghost use Rattle.fluent_syntax_edits.specs.Edits.{Answers};
+ghost use Rattle.fluent_syntax_edits.specs.declared.stretches.Slot.TheVariants.{Attribute, Value};
+ghost use Rattle.fluent_syntax_tree.specs.View.{entry_view, pattern_view};
+ghost use Rattle.std.specs.Str.{IsCharBoundary};
 
+use crate::edit::{Edit, coming, refusal};
 use crate::fault::EditFault;
-use crate::splice::spliced;
-use crate::stretches::{Edit, blank_behind, changed_stretch};
-use crate::text::entry_text;
-use fluent_syntax_tree::ast::Entry;
+use crate::reading::{Shift, reads_changed};
+use crate::stretches::{Slot, stretch_of};
+use fluent_syntax_tree::ast::{Entry, Identifier, Pattern, Term};
+use fluent_syntax_tree::copied::entries;
 use fluent_syntax_tree::edition::Edition;
 use fluent_syntax_tree::slice::Slice;
-use std::alloc::Global;
+use fluent_syntax_tree::spans::Span;
+use fluent_syntax_tree::texts::CopyTexts;
+use std::alloc::{AllocError, Global};
+use std::marker::PhantomData;
 
-/// The source with the edit made at the entry of that number, and that text in the stretch's place.
+/// Each text as one of its own.
+#[derive(Drop)]
+struct OwnTexts<'s>(PhantomData<&'s ()>);
+
+impl<'s, S: Slice<'s>> CopyTexts<S, String> for OwnTexts<'s> {
+    ghost can = { λ _ _. Unit {0} };
+
+    ghost source = { λ _ text. S.text text };
+
+    ghost made = { λ text. string_bytes text };
+
+    fn copy(&self, alloc: Global, text: &S) -> Result<String, AllocError> {
+        String::from_str(alloc, text.as_str())
+    }
+}
+
+/// The entry with texts of its own.
+fn own_entry<'s, S: Slice<'s>>(alloc: Global, entry: &Entry<S>) -> Result<Entry<String>, AllocError>
+    ensures { IfOk result (λ own. entry_view (λ s. string_bytes s) own ≡ entry_view S.text entry.now) }
+{
+    entries::entry(&OwnTexts(PhantomData), alloc, entry)
+}
+
+/// The pattern with texts of its own.
+fn own_pattern(alloc: Global, value: &Pattern<&str>) -> Result<Pattern<String>, AllocError>
+    ensures { IfOk result (λ own.
+        pattern_view (λ s. string_bytes s) own ≡ pattern_view (λ text. text.now) value.now) }
+{
+    let holder = Entry::Term(Term {
+        id: Identifier { name: "a" },
+        value: value.try_clone(alloc)?,
+        attributes: Vec::new(alloc),
+        comment: None,
+    });
+    match own_entry(alloc, &holder)? {
+        Entry::Term(own) => Ok(own.value),
+        // the copy of a term is one
+        _ => Err(AllocError),
+    }
+}
+
+/// The source with the text in place of the stretch.
+fn spliced(alloc: Global, source: &str, stretch: Span, text: &str) -> Result<String, AllocError>
+    requires start { IsCharBoundary source.now stretch.start }
+    requires end { IsCharBoundary source.now stretch.end }
+    ensures { IfOk result (λ made. string_bytes made
+        ≡ take stretch.start source.now ++ (text.now ++ drop stretch.end source.now)) }
+{
+    let mut made = String::from_str(alloc, &source[..stretch.start])?;
+    made.push_str(text)?;
+    made.push_str(&source[stretch.end..])?;
+    Ok(made)
+}
+
+/// The source with the edit made at the entry of that number.
 fn edited(
     alloc: Global,
     source: &str,
     edition: Edition,
-    edit: Edit,
     index: usize,
-    text: &str,
+    edit: Edit,
 ) -> Result<String, EditFault>
-    requires { length source.now + 1 < 2 ^ 64 }
-    ensures bytes { IfOk result (λ made. EditsBytes edit edition source.now index text.now (string_bytes made)) }
-    ensures fault { IfErr result (RefusedBy edit edition source.now index text.now) }
+    ensures { Answers edition source.now index (change_of edit) result }
 {
-    let stretch = changed_stretch(alloc, source, edition, edit, index, text)?;
-    let blank = blank_behind(edit, source.as_bytes(), stretch, text.as_bytes());
-    Ok(spliced(alloc, source, stretch, text, blank)?)
+    let stretch = stretch_of(alloc, source, edition, index, &edit)?;
+    let cuts = source.is_char_boundary(stretch.start) && source.is_char_boundary(stretch.end);
+    if !cuts {
+        // entries and values begin and end between characters
+        return Err(EditFault::Memory);
+    }
+    let text = coming(alloc, source.as_bytes(), stretch.end, &edit)?;
+    let refusal = refusal(alloc, edition, &edit)?;
+    let made = spliced(alloc, source, stretch, text.as_str())?;
+    let to = stretch.start + text.len();
+    let shift = Shift { stretch, to };
+    if reads_changed(alloc, source, &made, edition, index, edit, shift)? {
+        Ok(made)
+    } else {
+        Err(refusal)
+    }
 }
 
 /// The source with the entry in place of the one of that number, counted from 0 as in the tree, and of the comment that
@@ -52,16 +110,10 @@ pub fn replace<'s, S: Slice<'s>>(
     index: usize,
     entry: &Entry<S>,
 ) -> Result<String, EditFault>
-    requires { length source.now + 1 < 2 ^ 64 }
-    ensures bytes { IfOk result (λ made.
-        ReplacesBytes edition source.now index (entry_view S.text entry.now) (string_bytes made)) }
-    ensures tree { let new = entry_view S.text entry.now in
-        IfOk result (λ made. is_comment new ≡ false →
-        IsReplaced edition source.now index new (string_bytes made)) }
-    ensures fault { IfErr result (ReplaceRefused edition source.now index (entry_view S.text entry.now)) }
+    ensures { Answers edition source.now index (replaces (entry_view S.text entry.now)) result }
 {
-    let text = entry_text(alloc, edition, entry)?;
-    edited(alloc, source, edition, Edit::Replace, index, text.as_str())
+    let entry = own_entry(alloc, entry)?;
+    edited(alloc, source, edition, index, Edit::Replace(entry))
 }
 
 /// The source with the entry before the one of that number, counted from 0 as in the tree, and before the comment that
@@ -73,29 +125,54 @@ pub fn insert<'s, S: Slice<'s>>(
     index: usize,
     entry: &Entry<S>,
 ) -> Result<String, EditFault>
-    requires { length source.now + 1 < 2 ^ 64 }
-    ensures bytes { IfOk result (λ made.
-        InsertsBytes edition source.now index (entry_view S.text entry.now) (string_bytes made)) }
-    ensures tree { let new = entry_view S.text entry.now in
-        IfOk result (λ made. is_comment new ≡ false →
-        IsInserted edition source.now index new (string_bytes made)) }
-    ensures fault { IfErr result (InsertRefused edition source.now index (entry_view S.text entry.now)) }
+    ensures { Answers edition source.now index (inserts (entry_view S.text entry.now)) result }
 {
-    let text = entry_text(alloc, edition, entry)?;
-    edited(alloc, source, edition, Edit::Insert, index, text.as_str())
+    let entry = own_entry(alloc, entry)?;
+    edited(alloc, source, edition, index, Edit::Insert(entry))
 }
 
-/// The source without the entry of that number, counted from 0 as in the tree, and the comment that hangs on it.
+/// The source without the entry of that number, counted from 0 as in the tree, the comment that hangs on it and the
+/// blank lines behind it.
 pub fn remove(
     alloc: Global,
     source: &str,
     edition: Edition,
     index: usize,
 ) -> Result<String, EditFault>
-    requires { length source.now + 1 < 2 ^ 64 }
-    ensures bytes { IfOk result (λ made. RemovesBytes edition source.now index (string_bytes made)) }
-    ensures tree { IfOk result (λ made. IsRemoved edition source.now index (string_bytes made)) }
-    ensures fault { IfErr result (RemoveRefused edition source.now index) }
+    ensures { Answers edition source.now index removes result }
 {
-    edited(alloc, source, edition, Edit::Remove, index, "")
+    edited(alloc, source, edition, index, Edit::Remove)
+}
+
+/// The source with the pattern in place of the value of the message or the term of that number, counted from 0 as in
+/// the tree.
+pub fn set_value(
+    alloc: Global,
+    source: &str,
+    edition: Edition,
+    index: usize,
+    value: &Pattern<&str>,
+) -> Result<String, EditFault>
+    ensures { Answers edition source.now index (sets Value (pattern_view (λ text. text.now) value.now)) result }
+{
+    let value = own_pattern(alloc, value)?;
+    edited(alloc, source, edition, index, Edit::Set(Slot::Value, value))
+}
+
+/// The source with the pattern in place of the value of an attribute, which has that number among those of the message
+/// or the term of that number; both are counted from 0 as in the tree.
+pub fn set_attribute(
+    alloc: Global,
+    source: &str,
+    edition: Edition,
+    index: usize,
+    attribute: usize,
+    value: &Pattern<&str>,
+) -> Result<String, EditFault>
+    ensures { let v = pattern_view (λ text. text.now) value.now in
+        Answers edition source.now index (sets (Attribute attribute) v) result }
+{
+    let value = own_pattern(alloc, value)?;
+    let slot = Slot::Attribute(attribute);
+    edited(alloc, source, edition, index, Edit::Set(slot, value))
 }

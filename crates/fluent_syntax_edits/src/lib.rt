@@ -1,22 +1,17 @@
-//! Edits of a text: an entry in another's place, before another, or away; all else stays as it is.
+//! Edits of a text: an entry in another's place, before another, or away, or a value in another's place; all else stays
+//! as it is.
 #![tactic(auto)]
 
+mod applied;
+mod edit;
+#[tactic(auto, using(crate::proofs::Answered::no_growth))]
 mod edits;
 pub mod fault;
 pub mod numbers;
-mod outline;
 mod places;
-mod refusals;
-mod runs;
-mod setting;
-mod slots;
-mod splice;
+mod reading;
 mod stretches;
-mod text;
-mod trees;
-mod values;
 
-pub use edits::{insert, remove, replace};
+pub use edits::{insert, remove, replace, set_attribute, set_value};
 pub use fault::EditFault;
 pub use numbers::{EntryName, number_of};
-pub use values::{set_attribute, set_value};

@@ -1,7 +1,7 @@
 -- A list is its first item and, where there is one, the rest of the list.
 use Rattle.std.proofs.Common.{ℕ}
-use Rattle.fluent_syntax_grammar.specs.Construct.{Outcome, Read, Construct, ◌>>=◌, stops, goes_on, gives, given}
-use Rattle.fluent_syntax_grammar.specs.Construct.{More, no_item, item, many, list_ends, list_stops, item_and_more}
+use Rattle.fluent_syntax_grammar.specs.Construct.{Outcome, Read, Construct, ◌>>=◌, stops, goes_on, gives, given, More}
+use Rattle.fluent_syntax_grammar.specs.Construct.{no_item, item, many, list_ends, list_stops, item_and_more}
 use Rattle.fluent_syntax_grammar.specs.Construct.{stops_later}
 
 module _ {A S B : Type 0} (next : S → Construct (More A S)) (add : A → B → B) (none : B) where
@@ -23,9 +23,3 @@ module _ {A S B : Type 0} (next : S → Construct (More A S)) (add : A → B →
   pub into_list : (s : S) (i : ℕ) (o : Outcome B) → (next s >>= rest_of) i o → many next add none s i o
   into_list s i o (stops x) = list_stops x
   into_list s i o (goes_on {j = j} {a = a} x y) = into_rest s i j a o x y
-
-  pub from_list : (s : S) (i : ℕ) (o : Outcome B) → many next add none s i o → (next s >>= rest_of) i o
-  from_list s i o (list_ends x) = goes_on x given
-  from_list s i o (list_stops x) = stops x
-  from_list s i o (item_and_more x y) = goes_on x (goes_on y given)
-  from_list s i o (stops_later x y) = goes_on x (stops y)

@@ -5,7 +5,7 @@ use Rattle.fluent_syntax_tree.specs.Tree.{ArgumentsTree, ExpressionTree}
 use Rattle.fluent_syntax_grammar.specs.Construct.{Outcome}
 use Rattle.fluent_syntax_grammar.specs.Arguments as arguments
 use Rattle.fluent_syntax_grammar.specs.Placeables as placeables
-use Rattle.fluent_syntax_grammar.specs.Grammar.{next, within, family}
+use Rattle.fluent_syntax_grammar.specs.Grammar.{within, family}
 use Rattle.fluent_syntax_tree.specs.declared.edition.Edition.{Edition}
 use Rattle.fluent_syntax_tree.specs.declared.spans.Span.{Span}
 use Rattle.fluent_syntax_grammar.proofs.FunctionalRules.{IsFunctionalFamily, functional_next}
@@ -70,22 +70,6 @@ module _ (edition : Edition) (t : List ℕ) where
   into_argument_list i o x =
       let m = (union_arguments t (family edition t) (within edition t) union_family []).found i o x in
       argument_list_at m.0 i o m.1
-
-  from_within : (n : ℕ) → IsIncludedFamily (within edition t n) (next edition t (family edition t))
-  unfolding within
-  from_within zero = record {
-    expression = record { part = λ i o x. absurd x };
-    argument_list = record { part = λ i o x. absurd x };
-  }
-  from_within (suc n) = included_next edition t (within edition t n) (family edition t) (within_family n)
-
-  -- what the family gives, the rules give over the family
-  pub from_family : IsIncludedFamily (family edition t) (next edition t (family edition t))
-  unfolding family
-  from_family = record {
-    expression = record { part = λ i o x. (from_within x.0).expression.part i o x.1 };
-    argument_list = record { part = λ i o x. (from_within x.0).argument_list.part i o x.1 };
-  }
 
   functional_nothing : IsFunctionalFamily (within edition t zero)
   unfolding within

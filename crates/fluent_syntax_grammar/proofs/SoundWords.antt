@@ -9,9 +9,9 @@ use Rattle.fluent_syntax_grammar.specs.Words.{optional, token, digits, identifie
 use Rattle.fluent_syntax_grammar.proofs.Holds.{Holds, holds_weaker, holds_bind, holds_gives, holds_fails, holds_over}
 use Rattle.fluent_syntax_grammar.proofs.Holds.{holds_at_each, holds_either}
 use Rattle.fluent_syntax_grammar.proofs.Cuts.{IsCuts, ascii_byte, ascii_digit, ascii_name}
-use Rattle.fluent_syntax_grammar.proofs.Sound.{IsSpan, Inside, IsFault, Sound, sound_bind, sound_gives}
-use Rattle.fluent_syntax_grammar.proofs.Sound.{sound_fails, sound_over, sound_at_each, sound_either, sound_here}
-use Rattle.fluent_syntax_grammar.proofs.Sound.{sound_spanned, onward_word}
+use Rattle.fluent_syntax_grammar.proofs.Sound.{IsSpan, Inside, IsFault, Sound, sound_bind, sound_gives, sound_fails}
+use Rattle.fluent_syntax_grammar.proofs.Sound.{sound_over, sound_at_each, sound_either, sound_here, sound_spanned}
+use Rattle.fluent_syntax_grammar.proofs.Sound.{onward_word}
 
 is_small : (b : ℕ) → nat_lt b 128 ≡ true → b < 128
 is_small b e = grind (arith, nat_tests)
@@ -59,8 +59,6 @@ module _ (t : List ℕ) (P : ℕ → Type 0) (cuts : IsCuts t P) where
           means = p.missing e;
         })));
   }
-
-  pub ruleset sound = (sound_bind, sound_gives, sound_either, sound_at_each, sound_here, sound_spanned)
 
   sound_range : {s : ℕ} {A : Type 0} {Good : A → Type 0} (range : List ℕ) →
       Sound t P s (fails (ExpectedCharRange range)) Good

@@ -219,6 +219,3 @@ module _ {A S B : Type 0} (t : List ℕ) (next : S → Construct (More A S)) (ad
   -- a list whose items go on, by induction on the bytes that are left
   pub both_many : (s : ℕ) → low ≤ s → (r : S) → Both t s (many next add none r)
   both_many s l r = many_from (length t + 1) s l (omega arith) r
-
-pub ruleset totals =
-    (both_bind, both_gives, both_here, both_fails, both_fails_from, both_over, both_at_each, both_either)

@@ -1,15 +1,14 @@
 -- What nests has an outcome at each place of the text.
-use Rattle.std.proofs.Common.{◌≡◌, ℕ, ◌+◌, ◌≤◌, List, [], ◌∷◌, Option, Some, None, Bool, true, false, refl, ◌∙◌}
-use Rattle.std.proofs.Common.{subst, arith, inl, inr}
+use Rattle.std.proofs.Common.{◌≡◌, ℕ, ◌+◌, ◌≤◌, List, [], ◌∷◌, Option, Some, None, Bool, true, false, refl, ◌∙◌, subst}
+use Rattle.std.proofs.Common.{arith, inl, inr}
 use Rattle.std.specs.Prelude.{slice_get, ◌⊎◌, ◌==◌, ◌||◌, ◌&&◌, not, if◌then◌else◌}
 use Rattle.fluent_syntax_tree.specs.Kind.{UnbalancedClosingBrace}
-use Rattle.fluent_syntax_tree.specs.Tree.{InlineTree, MaybeArguments, no_arguments}
-use Rattle.fluent_syntax_tree.specs.Tree.{some_arguments}
+use Rattle.fluent_syntax_tree.specs.Tree.{InlineTree, MaybeArguments, no_arguments, some_arguments}
 use Rattle.fluent_syntax_grammar.specs.Bytes.{lf, cr}
 use Rattle.fluent_syntax_grammar.specs.Places.{holds, Stretch, has_byte, has_eol, after_eol}
-use Rattle.fluent_syntax_grammar.specs.Construct.{Read, Construct, ◌>>=◌, goes_on, gives, here, at_place}
-use Rattle.fluent_syntax_grammar.specs.Construct.{passed, at_each, chosen, either, first, second, fails, More, no_item}
-use Rattle.fluent_syntax_grammar.specs.Construct.{item, many, list_ends, item_and_more}
+use Rattle.fluent_syntax_grammar.specs.Construct.{Read, Construct, ◌>>=◌, goes_on, gives, here, at_place, passed}
+use Rattle.fluent_syntax_grammar.specs.Construct.{at_each, chosen, either, first, second, fails, More, no_item, item}
+use Rattle.fluent_syntax_grammar.specs.Construct.{many, list_ends, item_and_more}
 use Rattle.fluent_syntax_grammar.specs.Family.{Family}
 use Rattle.fluent_syntax_grammar.specs.Starts.{Start, quote, digit, term, minus, dollar, letter, brace, other}
 use Rattle.fluent_syntax_grammar.specs.Arguments.{accessor, separator, call_arguments, argument_value, named_rest}
@@ -18,8 +17,8 @@ use Rattle.fluent_syntax_grammar.specs.Arguments.{next_argument, more_arguments}
 use Rattle.fluent_syntax_grammar.specs.Placeables.{arrow_line_end, placeable}
 use Rattle.fluent_syntax_grammar.specs.Inline.{named_reference, inline_of, inline_expression}
 use Rattle.fluent_syntax_grammar.specs.Layout.{Piece, run, placed, Ending}
-use Rattle.fluent_syntax_grammar.specs.Lines.{is_run_place, ending_of, ending, text_run, next_piece_at}
-use Rattle.fluent_syntax_grammar.specs.Lines.{next_piece, more_pieces}
+use Rattle.fluent_syntax_grammar.specs.Lines.{is_run_place, ending_of, ending, text_run, next_piece_at, next_piece}
+use Rattle.fluent_syntax_grammar.specs.Lines.{more_pieces}
 use Rattle.fluent_syntax_grammar.specs.Variants.{variant_key}
 use Rattle.fluent_syntax_tree.specs.declared.spans.Span.{Span}
 use Rattle.fluent_syntax_grammar.proofs.Holds.{Holds, gave, holds_weaker, holds_bind, holds_gives, holds_here}
@@ -232,7 +231,7 @@ module _ (t : List ℕ) (R : Family) (low : ℕ) (h : (s : ℕ) → low ≤ s �
     past_run i j p w = let q = p.0 in let late = q.late in let on = stretch_onward (is_run_place t) i j p.1 w in
         record { late = omega arith; in_text = (run_word t).in_text i j q.in_text w }
 
-    after_run : (from : ℕ) → Both t (s + 1) (here >>= λ to. gives (run from to))
+    after_run : (from : ℕ) → Both {A = Piece} t (s + 1) (here >>= λ to. gives (run from to))
     after_run from = both_bind both_here (λ to. both_gives)
 
     run_total : Total AtRun (text_run t)

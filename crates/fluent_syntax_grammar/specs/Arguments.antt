@@ -1,23 +1,20 @@
 -- Argument lists.
-use Rattle.std.specs.Prelude.{ℕ, List, [], ◌∷◌, slice_get, Option, Some, None, Bool, true, false, ◌==◌}
+use Rattle.std.specs.Prelude.{ℕ, List, [], ◌∷◌, slice_get, Option, Some, None, Bool, true, false, ◌==◌, nat_eq}
 use Rattle.std.specs.List.{list_any}
-use Rattle.std.specs.Prelude.{nat_eq}
 use lib.Pointwise.{pointwise}
 use Rattle.fluent_syntax_grammar.specs.Bytes.{colon, comma, right_parenthesis}
 use Rattle.fluent_syntax_grammar.specs.Places.{has_byte}
 use Rattle.fluent_syntax_tree.specs.Spans.{bytes_at}
-use Rattle.fluent_syntax_tree.specs.Tree.{InlineTree, string_literal, number_literal, function_reference}
-use Rattle.fluent_syntax_tree.specs.Tree.{message_reference, term_reference, variable_reference, inline_placeable}
-use Rattle.fluent_syntax_tree.specs.Tree.{ArgumentsTree, arguments}
-use Rattle.fluent_syntax_tree.specs.Tree.{no_inlines, inlines, no_named, nameds, named_argument}
+use Rattle.fluent_syntax_tree.specs.Tree.{InlineTree, message_reference, ArgumentsTree, arguments, no_inlines, inlines}
+use Rattle.fluent_syntax_tree.specs.Tree.{no_named, nameds, named_argument}
 use Rattle.fluent_syntax_tree.specs.Kind.{ExpectedToken, PositionalArgumentFollowsNamed, DuplicatedNamedArgument}
 use Rattle.fluent_syntax_tree.specs.Kind.{ExpectedLiteral}
 pub use Rattle.fluent_syntax_grammar.specs.Family.{call_arguments}
 pub use Rattle.fluent_syntax_grammar.specs.Inline.{accessor}
-use Rattle.fluent_syntax_grammar.specs.Construct.{Construct, ◌>>=◌, ◌>>◌, gives, fails, at_each, either, More}
-use Rattle.fluent_syntax_grammar.specs.Construct.{no_item, item, many}
+use Rattle.fluent_syntax_grammar.specs.Construct.{Construct, ◌>>=◌, ◌>>◌, gives, fails, at_each, either, More, no_item}
+use Rattle.fluent_syntax_grammar.specs.Construct.{item, many}
 use Rattle.fluent_syntax_grammar.specs.Words.{optional, token, blank}
-use Rattle.fluent_syntax_grammar.specs.Starts.{Start, quote, digit, term, minus, dollar, letter, brace, other, start}
+use Rattle.fluent_syntax_grammar.specs.Starts.{Start, quote, digit, letter, start}
 use Rattle.fluent_syntax_grammar.specs.Family.{Family}
 use Rattle.fluent_syntax_grammar.specs.Inline.{inline_expression}
 use Rattle.fluent_syntax_tree.specs.declared.spans.Span.{Span}
@@ -42,14 +39,8 @@ add_argument (named name e) a = add_named name e a
 
 -- the name of an argument that is a message reference without attribute
 abbrev pub argument_name : InlineTree Span → Option Span
-argument_name (string_literal v) = None
-argument_name (number_literal v) = None
-argument_name (function_reference id a) = None
 argument_name (message_reference id None) = Some id
-argument_name (message_reference id (Some a)) = None
-argument_name (term_reference id attribute a) = None
-argument_name (variable_reference id) = None
-argument_name (inline_placeable e) = None
+argument_name _ = None
 
 -- whether the name is among the names
 abbrev pub is_used : List ℕ → List (List ℕ) → Bool
@@ -75,11 +66,7 @@ module _ (t : List ℕ) (R : Family) where
   argument_value quote = inline_expression t R
   argument_value digit = inline_expression t R
   argument_value letter = inline_expression t R
-  argument_value term = fails ExpectedLiteral
-  argument_value minus = fails ExpectedLiteral
-  argument_value dollar = fails ExpectedLiteral
-  argument_value brace = fails ExpectedLiteral
-  argument_value other = fails ExpectedLiteral
+  argument_value _ = fails ExpectedLiteral
 
   -- From the `:` of a named argument on: a name that was used is refused there. Else `:`, a blank and the value; and
   -- what stands between it and the next argument.

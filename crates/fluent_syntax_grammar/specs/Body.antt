@@ -15,8 +15,7 @@ faults (dropped ∷ tiles) = faults tiles
 abbrev pub hung : List Span → EntryTree Span → Option (EntryTree Span)
 hung content (message m) = Some (message (record m { comment = Some content }))
 hung content (term m) = Some (term (record m { comment = Some content }))
-hung content (comment level c) = None
-hung content (junk s) = None
+hung content _ = None
 
 -- What two tiles give together: a comment of level 1 becomes the comment of a message or a term whose tile begins where
 -- the comment's tile ends.

@@ -3,8 +3,8 @@ use Rattle.std.specs.Prelude.{ℕ, ◌+◌, min, List, [], ◌∷◌, ◌++◌, 
 use Rattle.std.specs.Prelude.{if◌then◌else◌, slice_range}
 use Rattle.std.specs.List.{flat_map, list_any}
 use Rattle.fluent_syntax_grammar.specs.Bytes.{lf, is_space}
-use Rattle.fluent_syntax_grammar.specs.Layout.{Piece, run, placed, Ending, lf_at, crlf_at, text_end, Line, Layout}
-use Rattle.fluent_syntax_grammar.specs.Layout.{common_indent}
+use Rattle.fluent_syntax_grammar.specs.Layout.{PieceOf, run, placed, Ending, lf_at, crlf_at, text_end, LineOf, LayoutOf}
+use Rattle.fluent_syntax_grammar.specs.Layout.{Layout, common_indent}
 use Rattle.fluent_syntax_tree.specs.Text.{trimmed_len}
 use Rattle.fluent_syntax_tree.specs.Tree.{ExpressionTree, ElementTree, text_element, placeable, PatternTree}
 use Rattle.fluent_syntax_tree.specs.Tree.{elements_of}
@@ -12,16 +12,19 @@ use Rattle.fluent_syntax_tree.specs.declared.spans.Span.{Span}
 use Rattle.fluent_syntax_tree.specs.declared.edition.Edition.{Edition}
 use Rattle.fluent_syntax_tree.specs.declared.edition.Edition.TheVariants.{One, Two}
 
--- an element before the tail is cut: a text from the one place to the other, or a placeable
-pub data Item : Type 0 where
-  text : (from to : ℕ) → Item
-  filled : ExpressionTree Span → Item
+-- an element before the tail is cut: a text from the one place to the other, or a placeable, for which an E stands
+pub data ItemOf (E : Type 0) : Type 0 where
+  text : (from to : ℕ) → ItemOf E
+  filled : E → ItemOf E
+
+abbrev pub Item : Type 0
+Item = ItemOf (ExpressionTree Span)
 
 -- ---- line by line
 
 -- The pieces of a line and its ending. An ending LF joins the run directly before it, and is a text of its own after a
 -- placeable; an ending CRLF is a text of its own that is one LF.
-abbrev pub with_ending : List Piece → Ending → List Item
+abbrev pub with_ending : {E : Type 0} → List (PieceOf E) → Ending → List (ItemOf E)
 with_ending [] (lf_at p) = text p (p + 1) ∷ []
 with_ending [] (crlf_at p) = text (p + 1) (p + 2) ∷ []
 with_ending [] text_end = []
@@ -33,20 +36,20 @@ with_ending (placed e ∷ ps) ending = filled e ∷ with_ending ps ending
 
 -- Where the leading spaces of a line beyond the common indent begin. Where there is no common indent, none are beyond
 -- it.
-abbrev pub kept_from : Option ℕ → Line → ℕ
+abbrev pub kept_from : {E : Type 0} → Option ℕ → LineOf E → ℕ
 kept_from None l = l.start + l.spaces
 kept_from (Some common) l = l.start + min l.spaces common
 
 -- Leading spaces before a placeable are dropped. In edition two those beyond the common indent, if there are any, are a
 -- text.
-abbrev pub indented : Edition → (kept first : ℕ) → List Item
+abbrev pub indented : {E : Type 0} → Edition → (kept first : ℕ) → List (ItemOf E)
 indented One kept first = []
 indented Two kept first = if nat_lt kept first then text kept first ∷ [] else []
 
 -- The items of a line that is not the opening line; its leading spaces beyond the common indent reach from the one
 -- place to the other. A run that begins the line is one text with these spaces. A blank line with LF gives them and the
 -- LF as one text, one with CRLF the LF alone.
-abbrev pub items_from : Edition → (kept first : ℕ) → List Piece → Ending → List Item
+abbrev pub items_from : {E : Type 0} → Edition → (kept first : ℕ) → List (PieceOf E) → Ending → List (ItemOf E)
 items_from edition kept first [] (lf_at p) = text kept (p + 1) ∷ []
 items_from edition kept first [] (crlf_at p) = text (p + 1) (p + 2) ∷ []
 items_from edition kept first [] text_end = []
@@ -54,16 +57,16 @@ items_from edition kept first (run from to ∷ ps) ending = with_ending (run kep
 items_from edition kept first (placed e ∷ ps) ending = indented edition kept first ++ with_ending (placed e ∷ ps) ending
 
 -- the items of a line that is not the opening line, under a common indent
-abbrev pub line_items : Edition → Option ℕ → Line → List Item
+abbrev pub line_items : {E : Type 0} → Edition → Option ℕ → LineOf E → List (ItemOf E)
 line_items edition common l = items_from edition (kept_from common l) (l.start + l.spaces) l.pieces l.ending
 
 -- the items of the opening line, which has no leading spaces
-abbrev pub opening_items : Option Line → List Item
+abbrev pub opening_items : {E : Type 0} → Option (LineOf E) → List (ItemOf E)
 opening_items None = []
 opening_items (Some l) = with_ending l.pieces l.ending
 
 -- the items of all lines, joined
-abbrev pub items : Edition → Layout → List Item
+abbrev pub items : {E : Type 0} → Edition → LayoutOf E → List (ItemOf E)
 items edition y = opening_items y.opening ++ flat_map (line_items edition (common_indent edition y)) y.lines
 
 -- ---- the tail
@@ -80,17 +83,17 @@ is_nonblank bs = list_any (λ b. not (is_space b)) (without_last_lf bs)
 
 module _ (t : List ℕ) where
   -- a placeable, or a nonblank text
-  abbrev pub stays : Item → Bool
+  abbrev pub stays : {E : Type 0} → ItemOf E → Bool
   stays (filled e) = true
   stays (text from to) = is_nonblank (slice_range t from to)
 
   -- an item before the items that are left after it
-  abbrev pub cut_before : Item → List Item → List Item
+  abbrev pub cut_before : {E : Type 0} → ItemOf E → List (ItemOf E) → List (ItemOf E)
   cut_before x [] = if stays x then x ∷ [] else []
   cut_before x (y ∷ ys) = x ∷ y ∷ ys
 
   -- the items up to the last one that stays
-  abbrev pub cut : List Item → List Item
+  abbrev pub cut : {E : Type 0} → List (ItemOf E) → List (ItemOf E)
   cut [] = []
   cut (x ∷ xs) = cut_before x (cut xs)
 

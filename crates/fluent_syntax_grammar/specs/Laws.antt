@@ -63,12 +63,10 @@ Ascend t from (f ∷ fs) =
     (from ≤ f.slice.start) × (f.slice.start < f.slice.end) × (f.slice.start ≤ f.pos.start) ×
     (f.pos.start ≤ f.slice.end) × Ascend t f.slice.end fs
 
--- the stretches of a body's junk, in order
-abbrev pub junk_slice : EntryTree Span → List Span
-junk_slice (message m) = []
-junk_slice (term m) = []
-junk_slice (comment level content) = []
+-- what an entry is that is junk; nothing of another
+abbrev pub junk_slice : {X : Type 0} → EntryTree X → List X
 junk_slice (junk s) = s ∷ []
+junk_slice _ = []
 
 -- the stretch of an error
 abbrev pub fault_slice : Fault → Span

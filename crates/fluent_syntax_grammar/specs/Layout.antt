@@ -6,10 +6,11 @@ use Rattle.fluent_syntax_tree.specs.declared.spans.Span.{Span}
 use Rattle.fluent_syntax_tree.specs.declared.edition.Edition.{Edition}
 use Rattle.fluent_syntax_tree.specs.declared.edition.Edition.TheVariants.{One, Two}
 
--- A run of text, from the one place to the other, or a placeable. (A placeable may span several lines of the source.)
-pub data Piece : Type 0 where
-  run : (from to : ℕ) → Piece
-  placed : ExpressionTree Span → Piece
+-- A run of text, from the one place to the other, or a placeable, for which an E stands. (A placeable may span several
+-- lines of the source.)
+pub data PieceOf (E : Type 0) : Type 0 where
+  run : (from to : ℕ) → PieceOf E
+  placed : E → PieceOf E
 
 -- how a line ends: LF or CRLF, which begins at the place, or the text's end
 pub data Ending : Type 0 where
@@ -17,34 +18,44 @@ pub data Ending : Type 0 where
   text_end : Ending
 
 -- a line of a pattern
-pub record Line : Type 0 where
+pub record LineOf (E : Type 0) : Type 0 where
   -- where its leading spaces begin
   pub start : ℕ
   -- how many they are
   pub spaces : ℕ
   -- what follows them, up to the ending
-  pub pieces : List Piece
+  pub pieces : List (PieceOf E)
   pub ending : Ending
 
 -- the source of a pattern
-pub record Layout : Type 0 where
+pub record LayoutOf (E : Type 0) : Type 0 where
   -- the line on which the pattern opens, if something stands there
-  pub opening : Option Line
+  pub opening : Option (LineOf E)
   -- the later lines that belong to the pattern
-  pub lines : List Line
+  pub lines : List (LineOf E)
+
+-- those of a source: the tree of an expression stands for a placeable
+abbrev pub Piece : Type 0
+Piece = PieceOf (ExpressionTree Span)
+
+abbrev pub Line : Type 0
+Line = LineOf (ExpressionTree Span)
+
+abbrev pub Layout : Type 0
+Layout = LayoutOf (ExpressionTree Span)
 
 -- ---- the common indent
 
 -- The leading spaces that a line counts with, by what it begins with: a run counts; a placeable counts at column 0, and
 -- in edition two anywhere; a blank line does not count.
-abbrev pub counted_spaces : Edition → (spaces : ℕ) → List Piece → List ℕ
+abbrev pub counted_spaces : {E : Type 0} → Edition → (spaces : ℕ) → List (PieceOf E) → List ℕ
 counted_spaces edition spaces [] = []
 counted_spaces edition spaces (run from to ∷ ps) = spaces ∷ []
 counted_spaces One spaces (placed e ∷ ps) = if spaces == 0 then 0 ∷ [] else []
 counted_spaces Two spaces (placed e ∷ ps) = spaces ∷ []
 
 -- the number that a line counts with, if it counts
-abbrev pub counted : Edition → Line → List ℕ
+abbrev pub counted : {E : Type 0} → Edition → LineOf E → List ℕ
 counted edition l = counted_spaces edition l.spaces l.pieces
 
 -- the least of a number and the least of others, if there are others
@@ -58,5 +69,5 @@ least [] = None
 least (n ∷ ns) = Some (least_with n (least ns))
 
 -- Common indent: the least number of leading spaces of the lines that count. The opening line is not among them.
-abbrev pub common_indent : Edition → Layout → Option ℕ
+abbrev pub common_indent : {E : Type 0} → Edition → LayoutOf E → Option ℕ
 common_indent edition y = least (flat_map (counted edition) y.lines)

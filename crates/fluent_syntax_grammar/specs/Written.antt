@@ -68,13 +68,8 @@ abbrev mutual
   is_select (inline e) = holds_select e
 
   pub holds_select : InlineTree Text → Bool
-  holds_select (string_literal v) = false
-  holds_select (number_literal v) = false
-  holds_select (function_reference id a) = false
-  holds_select (message_reference id a) = false
-  holds_select (term_reference id attribute a) = false
-  holds_select (variable_reference id) = false
   holds_select (inline_placeable e) = is_select e
+  holds_select _ = false
 
 -- an element that makes its pattern multiline: a text with an LF, or a placeable of a select
 abbrev pub spans_lines : ElementTree Text → Bool
@@ -288,10 +283,8 @@ entry_marks with_junk follows (comment level content) = free_comment_marks follo
 entry_marks with_junk follows (junk content) = junk_marks with_junk content
 
 abbrev pub is_junk : EntryTree Text → Bool
-is_junk (message m) = false
-is_junk (term m) = false
-is_junk (comment level content) = false
 is_junk (junk content) = true
+is_junk _ = false
 
 -- the entries one after the other
 abbrev pub body_marks : (with_junk follows : Bool) → BodyTree Text → List Mark

@@ -1,6 +1,6 @@
 -- Entries after entries, and the brackets around them.
-use Rattle.std.proofs.Common.{◌≡◌, ℕ, List, [], ◌∷◌, ◌++◌, Bool, true, false, codes, map}
-use Rattle.std.proofs.Common.{refl, sym, ap, ◌∙◌, subst, append_assoc, append-nil}
+use Rattle.std.proofs.Common.{◌≡◌, ℕ, List, [], ◌∷◌, ◌++◌, Bool, true, false, codes, map, refl, sym, ap, ◌∙◌, subst}
+use Rattle.std.proofs.Common.{append_assoc, append-nil}
 use Rattle.json.specs.Print.{escape_byte}
 use Rattle.serde_json.specs.View.{items_of}
 use Rattle.serde_json.specs.Written.{comma_if, compact_text, items_text}
@@ -56,16 +56,6 @@ begun_text-last body e later is =
 -- ---- what became of the entries
 
 module _ {W : Type 0} {text : W → List ℕ} {room : W → ℕ} where
-  -- no entry came yet, and the sink took what stands before the first one
-  pub HasWritten-opened : {start sink : W} → Takes text room start sink (codes "{\"body\":[")
-      → HasWritten text room start [] (record { sink = sink; later = false; refused = false })
-  HasWritten-opened took = whole refl took refl
-
-  -- or refused it
-  pub HasWritten-unopened : {start sink : W} → Refuses text room start sink (codes "{\"body\":[")
-      → HasWritten text room start [] (record { sink = sink; later = false; refused = true })
-  HasWritten-unopened refuses = beginning refl (TakesBeginning-refused text room refuses)
-
   -- the entry that comes next, by what a writer has done with its text
   pub HasWritten-next : {T : Type 0} {start : W} {body : BodyTree Text} {old : BodyWriter W} {a b : TextWriter T W}
       (e : EntryTree Text) (refused : Bool) → HasWritten text room start body old → old.refused ≡ false

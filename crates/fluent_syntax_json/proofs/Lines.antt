@@ -1,5 +1,5 @@
 -- The lines of a comment.
-use Rattle.std.proofs.Common.{◌≡◌, None, true, false, is_some, refl, sym, ap, ◌∙◌, true≢false}
+use Rattle.std.proofs.Common.{◌≡◌, false, is_some, refl, true≢false}
 use Rattle.serde_json.specs.Data.{Data, null, boolean, number, string, array, object}
 use Rattle.serde_json.specs.Find.{as_str}
 use Rattle.fluent_syntax_json.specs.Reading.{list_by, lines_in}
@@ -12,7 +12,3 @@ list_of_lines (number n) e = refl
 list_of_lines (string x) e = absurd (true≢false e)
 list_of_lines (array ds) e = refl
 list_of_lines (object ms) e = refl
-
--- what is a text that cannot be read is none
-pub no_line : (d : Data) → is_some (as_str d) ≡ true → as_str d ≡ None → lines_in d ≡ None
-no_line d e none = absurd (true≢false (sym e ∙ ap is_some none))

@@ -1,47 +1,60 @@
--- Lists that grow by the mentions of one node after another.
+-- Lists that grow by one node after another.
 use Rattle.std.proofs.Common.{◌≡◌, ℕ, ◌+◌, ◌<◌, ◌≤◌, List, [], ◌∷◌, ◌++◌, length, get_or, drop, sym, ap, ◌∙◌}
 use Rattle.std.proofs.Common.{Result, Ok, Err}
 use Rattle.std.specs.Prelude.{OnOk}
 use Rattle.std.proofs.lemmas.List.{append_assoc, drop_more, drop_all}
-use Rattle.fluent_syntax_names.specs.Mentions.{Mentions, Adds, Leaves}
-use Rattle.fluent_syntax_names.specs.declared.mention.Mention.{Mention}
+use Rattle.fluent_syntax_names.specs.Growing.{Adds, Leaves}
+
+-- the node that a loop takes next, and those after it
+pub drop_next : {A : Type 0} (nodes : List A) (i : ℕ) (x d : A) → i < length nodes → x ≡ get_or nodes i d
+    → drop i nodes ≡ x ∷ drop (i + 1) nodes
+drop_next nodes i x d within is = drop_more nodes i d within ∙ ap (λ y. y ∷ drop (i + 1) nodes) (sym is)
 
 module _ {X : Type 0} where
-  pub adds_one : (old new : Mentions X) (m : Mention X) → new ≡ old ++ m ∷ [] → Adds old new (λ tail. m ∷ tail)
-  adds_one old new m e = λ rest. ap (λ l. l ++ rest) e ∙ append_assoc old (m ∷ []) rest
+  pub adds_one : (old new : List X) (x : X) → new ≡ old ++ x ∷ [] → Adds old new (λ tail. x ∷ tail)
+  adds_one old new x e = λ rest. ap (λ l. l ++ rest) e ∙ append_assoc old (x ∷ []) rest
 
-  pub adds_both : (a b c : Mentions X) (f g : Mentions X → Mentions X) → Adds a b f → Adds b c g
-      → Adds a c (λ tail. f (g tail))
+  pub adds_both : (a b c : List X) (f g : List X → List X) → Adds a b f → Adds b c g → Adds a c (λ tail. f (g tail))
   adds_both a b c f g first second = λ rest. second rest ∙ first (g rest)
 
   -- the second where it was made
-  pub adds_last : {A E : Type 0} (r : Result A E) (a b c : Mentions X) (f g : Mentions X → Mentions X) → Adds a b f
+  pub adds_last : {A E : Type 0} (r : Result A E) (a b c : List X) (f g : List X → List X) → Adds a b f
       → OnOk r (Adds b c g) → OnOk r (Adds a c (λ tail. f (g tail)))
   adds_last (Ok x) a b c f g first second = adds_both a b c f g first second
   adds_last (Err e) a b c f g first second = second
 
+  -- what was left, without what it put first, which was added
+  pub leaves_rest : (old now next : List X) (left one rest all : List X → List X)
+      → ((tail : List X) → left tail ≡ one (rest tail)) → Leaves old now left all → Adds now next one
+      → Leaves old next rest all
+  leaves_rest old now next left one rest all same leaves adds = λ tail.
+      adds (rest tail) ∙ ap (λ l. now ++ l) (sym (same tail)) ∙ leaves tail
+
+  -- nothing is left
+  pub leaves_nothing : (old now : List X) (left all : List X → List X) → ((tail : List X) → left tail ≡ tail)
+      → Leaves old now left all → Adds old now all
+  leaves_nothing old now left all none leaves = λ tail. ap (λ l. now ++ l) (sym (none tail)) ∙ leaves tail
+
   -- ---- Loops over nodes
 
-  module _ {A : Type 0} (all : List A → Mentions X → Mentions X) (one : A → Mentions X → Mentions X)
-      (old now : Mentions X) (nodes : List A) (i : ℕ) where
-    pub leaves_on : ((x : A) (xs : List A) (tail : Mentions X) → all (x ∷ xs) tail ≡ one x (all xs tail))
-        → (next : Mentions X) (x d : A) → i < length nodes → x ≡ get_or nodes i d
+  module _ {A : Type 0} (all : List A → List X → List X) (one : A → List X → List X) (old now : List X)
+      (nodes : List A) (i : ℕ) where
+    pub leaves_on : ((x : A) (xs : List A) (tail : List X) → all (x ∷ xs) tail ≡ one x (all xs tail))
+        → (next : List X) (x d : A) → i < length nodes → x ≡ get_or nodes i d
         → Leaves old now (all (drop i nodes)) (all nodes) → Adds now next (one x)
         → Leaves old next (all (drop (i + 1) nodes)) (all nodes)
-    leaves_on each next x d within is left adds = λ rest.
-        let cut : drop i nodes ≡ x ∷ drop (i + 1) nodes =
-        drop_more nodes i d within ∙ ap (λ y. y ∷ drop (i + 1) nodes) (sym is) in
-        adds (all (drop (i + 1) nodes) rest)
-        ∙ ap (λ l. now ++ l) (sym (each x (drop (i + 1) nodes) rest) ∙ sym (ap (λ ns. all ns rest) cut))
-        ∙ left rest
+    leaves_on each next x d within is =
+        leaves_rest old now next (all (drop i nodes)) (one x) (all (drop (i + 1) nodes)) (all nodes)
+        (λ tail. ap (λ ns. all ns tail) (drop_next nodes i x d within is) ∙ each x (drop (i + 1) nodes) tail)
 
-    pub leaves_next : ((x : A) (xs : List A) (tail : Mentions X) → all (x ∷ xs) tail ≡ one x (all xs tail))
-        → (next : Mentions X) (x : A) → i < length nodes → x ≡ get_or nodes i x
+    pub leaves_next : ((x : A) (xs : List A) (tail : List X) → all (x ∷ xs) tail ≡ one x (all xs tail))
+        → (next : List X) (x : A) → i < length nodes → x ≡ get_or nodes i x
         → Leaves old now (all (drop i nodes)) (all nodes) → Adds now next (one x)
         → Leaves old next (all (drop (i + 1) nodes)) (all nodes)
-    leaves_next each next x within is left adds = leaves_on each next x x within is left adds
+    leaves_next each next x = leaves_on each next x x
 
-    pub leaves_none : ((tail : Mentions X) → all [] tail ≡ tail) → length nodes ≤ i
+    pub leaves_none : ((tail : List X) → all [] tail ≡ tail) → length nodes ≤ i
         → Leaves old now (all (drop i nodes)) (all nodes) → Adds old now (all nodes)
-    leaves_none none end left = λ rest.
-        ap (λ l. now ++ l) (sym (none rest) ∙ sym (ap (λ ns. all ns rest) (drop_all i nodes end))) ∙ left rest
+    leaves_none none end =
+        leaves_nothing old now (all (drop i nodes)) (all nodes)
+        (λ tail. ap (λ ns. all ns tail) (drop_all i nodes end) ∙ none tail)

@@ -2,8 +2,9 @@
 use Rattle.std.proofs.Common.{◌≡◌, ℕ, zero, suc, ◌+◌, ◌-◌, ◌<◌, ◌≤◌, List, [], ◌∷◌, ◌++◌, length, get_or, take, drop}
 use Rattle.std.proofs.Common.{Option, Some, None, refl, sym, ap, ◌∙◌, arith}
 use Rattle.std.specs.Prelude.{option_map}
-use Rattle.std.proofs.lemmas.List.{append_assoc, append-nil, drop_more, drop_all, take_more, take_all}
+use Rattle.std.proofs.lemmas.List.{append_assoc, append-nil, drop_all, take_more, take_all}
 use Rattle.std.proofs.lemmas.List.{take-append-le, drop-append-le, length-append, length-drop}
+use Rattle.fluent_syntax_names.proofs.Adding.{drop_next}
 use Rattle.fluent_syntax_names.specs.Leading.{followed, led_by, most_followed}
 use Rattle.fluent_syntax_names.specs.Spelled.{Text}
 
@@ -39,8 +40,7 @@ module _ (referred : Text → List Text) where
         → whole ≡ option_map (λ ys. (take i names ++ x ∷ []) ++ ys)
         (followed referred (room - (i + 1)) (drop (i + 1) names ++ referred x))
     onward x within is =
-        let cut : drop i names ≡ x ∷ drop (i + 1) names =
-        drop_more names i [] within ∙ ap (λ y. y ∷ drop (i + 1) names) (sym is) in
+        let cut = drop_next names i x [] within is in
         let left : room - i ≡ suc (room - (i + 1)) = omega arith in
         let rest = followed referred (room - (i + 1)) (drop (i + 1) names ++ referred x) in
         before

@@ -1,12 +1,13 @@
 -- Tables that grow by the names of one mention after another.
 use Rattle.std.proofs.Common.{◌≡◌, ℕ, ◌+◌, ◌<◌, ◌≤◌, Bool, true, false}
-use Rattle.std.proofs.Common.{List, [], ◌∷◌, length, get_or, drop, refl, sym, ap}
+use Rattle.std.proofs.Common.{List, [], length, get_or, drop, refl, sym, ap}
 use Rattle.std.proofs.Common.{◌∙◌, Option, Some, None, Result, Ok, Err, subst}
 use Rattle.std.specs.Prelude.{◌||◌, is_some, if◌then◌else◌, OnOk}
 use Rattle.std.specs.List.{list_any}
 use Rattle.std.specs.Str.{bytes_eq}
-use Rattle.std.proofs.lemmas.List.{drop_more, drop_all}
+use Rattle.std.proofs.lemmas.List.{drop_all}
 use Rattle.fluent_syntax_tree.specs.declared.spans.Span.{Span}
+use Rattle.fluent_syntax_names.proofs.Adding.{drop_next}
 use Rattle.fluent_syntax_names.specs.Mentions.{Mentions}
 use Rattle.fluent_syntax_names.specs.declared.mention.Mention.{Mention}
 use Rattle.fluent_syntax_names.specs.declared.outline.Outline.{Outline}
@@ -53,7 +54,7 @@ module _ (old now next : Lookup) (all : List Text → List Text)
       → LeavesNames old now (gathered adds owner (drop i ms)) all → NotesNames now next (adds owner m)
       → LeavesNames old next (gathered adds (owner_after owner m) (drop (i + 1) ms)) all
   names_next m d within is left notes = λ rest name.
-      let cut : drop i ms ≡ m ∷ drop (i + 1) ms = drop_more ms i d within ∙ ap (λ y. y ∷ drop (i + 1) ms) (sym is) in
+      let cut = drop_next ms i m d within is in
       notes (gathered adds (owner_after owner m) (drop (i + 1) ms) rest) name
       ∙ ap (λ l. has_name now name || list_any (bytes_eq name) (gathered adds owner l rest)) (sym cut)
       ∙ left rest name
@@ -87,8 +88,7 @@ module _ (files : List Outline) (now next : Lookup) (i : ℕ) where
   pub files_next : (file : Outline) → i < length files → file ≡ get_or files i file → left_of_files now i
       → NotesNames now next (defined_in file.text.now nameless file.mentions.items) → left_of_files next (i + 1)
   files_next file within is left notes = λ name.
-      let cut : drop i files ≡ file ∷ drop (i + 1) files =
-      drop_more files i file within ∙ ap (λ y. y ∷ drop (i + 1) files) (sym is) in
+      let cut = drop_next files i file file within is in
       notes (defined_by (drop (i + 1) files)) name
       ∙ ap (λ l. has_name now name || list_any (bytes_eq name) (defined_by l)) (sym cut)
       ∙ left name

@@ -1,9 +1,8 @@
 -- Lists of findings that grow by one mention after another.
-use Rattle.std.proofs.Common.{◌≡◌, ℕ, ◌+◌, ◌<◌, ◌≤◌, Bool, true, List, []}
-use Rattle.std.proofs.Common.{◌∷◌, ◌++◌, length, get_or, drop, refl, sym, ap, ◌∙◌}
-use Rattle.std.proofs.Common.{Option, Some, None}
+use Rattle.std.proofs.Common.{◌≡◌, ℕ, ◌+◌, ◌<◌, ◌≤◌, Bool, true, List, [], ◌∷◌, length, get_or, drop, refl, sym}
+use Rattle.std.proofs.Common.{ap, ◌∙◌, Option, Some, None}
 use Rattle.std.specs.Prelude.{if◌then◌else◌}
-use Rattle.std.proofs.lemmas.List.{append_assoc, drop_more, drop_all}
+use Rattle.std.proofs.lemmas.List.{drop_all}
 use Rattle.fluent_syntax_tree.specs.declared.spans.Span.{Span}
 use Rattle.fluent_syntax_names.specs.Mentions.{Mentions}
 use Rattle.fluent_syntax_names.specs.declared.mention.Mention.{Mention}
@@ -15,18 +14,14 @@ use Rattle.fluent_syntax_names.proofs.Ways.{or_left, or_right, is_own_link}
 use Rattle.fluent_syntax_names.specs.declared.finding.Finding.{Finding}
 use Rattle.fluent_syntax_names.specs.declared.finding.Kind.{Kind}
 use Rattle.fluent_syntax_names.specs.declared.finding.Kind.TheVariants as kind
-use Rattle.fluent_syntax_names.specs.Findings.{Known, put, found, found_in, found_from, after, nothing, twice}
-use Rattle.fluent_syntax_names.specs.Spelled.{Text}
+use Rattle.fluent_syntax_names.specs.Findings.{Known, put, found, found_in, found_from, after, nothing, twice, Set}
+use Rattle.fluent_syntax_names.specs.Findings.{circle, circle_to, undefined, undefined_part, finding_at}
+use Rattle.fluent_syntax_names.specs.Spelled.{Text, message_name, term_name, spelled, spelled_attribute, spelled_value}
 use Rattle.fluent_syntax_names.specs.Circles.{Link, is_link, leads, link_to, links_in, links, pattern_after, referred}
 use Rattle.fluent_syntax_names.specs.Circles.{no_pattern}
-use Rattle.fluent_syntax_names.specs.Findings.{Set, circle, circle_to}
-use Rattle.fluent_syntax_names.specs.Findings.{undefined, undefined_part, finding_at}
-use Rattle.fluent_syntax_names.specs.Spelled.{message_name, term_name}
-use Rattle.fluent_syntax_names.specs.Spelled.{spelled, spelled_attribute, spelled_value}
-use Rattle.fluent_syntax_names.specs.Tables.{Lookup, Holds, AddsFindings}
-
-pub adds_finding : (old new : List Finding) (x : Finding) → new ≡ old ++ x ∷ [] → AddsFindings old new (put (Some x))
-adds_finding old new x e = λ rest. ap (λ l. l ++ rest) e ∙ append_assoc old (x ∷ []) rest
+use Rattle.fluent_syntax_names.specs.Tables.{Lookup, Holds}
+use Rattle.fluent_syntax_names.specs.Growing.{Adds, Leaves}
+use Rattle.fluent_syntax_names.proofs.Adding.{adds_both, drop_next, leaves_rest, leaves_nothing}
 
 -- ---- What is found depends on what the tables hold alone
 
@@ -127,47 +122,41 @@ module _ (A B : Set) (defines : (name : Text) → A.defines name ≡ B.defines n
 
 module _ (A : Set) (file : ℕ) (text : Text) (old now : List Finding) (all : List Finding → List Finding)
     (ms : Mentions Span) (i : ℕ) where
-  abbrev pub LeavesFound : List Finding → Known → PatternName → ℕ → Type 0
-  LeavesFound list known pattern n = (rest : List Finding) →
-      list ++ found_in A file text known pattern (drop n ms) rest ≡ old ++ all rest
-
   pub found_next : (between next : List Finding) (known : Known) (pattern : PatternName) (m d : Mention Span)
       (finding comes : Option Finding) → i < length ms → m ≡ get_or ms i d
       → finding ≡ found A.defines file text known m → comes ≡ circle A.comes_back file text pattern m
-      → LeavesFound now known pattern i → AddsFindings now between (put finding) → AddsFindings between next (put comes)
-      → LeavesFound next (after text known m) (pattern_after pattern m) (i + 1)
-  found_next between next known pattern m d finding comes within is made made_too left adds adds_too = λ rest.
-      let cut : drop i ms ≡ m ∷ drop (i + 1) ms = drop_more ms i d within ∙ ap (λ y. y ∷ drop (i + 1) ms) (sym is) in
-      let others = found_in A file text (after text known m) (pattern_after pattern m) (drop (i + 1) ms) rest in
-      adds_too others
-      ∙ adds (put comes others)
-      ∙ ap (λ o. now ++ put o (put comes others)) made
-      ∙ ap (λ o. now ++ put (found A.defines file text known m) (put o others)) made_too
-      ∙ ap (λ l. now ++ found_in A file text known pattern l rest) (sym cut)
-      ∙ left rest
+      → Leaves old now (found_in A file text known pattern (drop i ms)) all
+      → Adds now between (put finding) → Adds between next (put comes)
+      → Leaves old next (found_in A file text (after text known m) (pattern_after pattern m) (drop (i + 1) ms)) all
+  found_next between next known pattern m d finding comes within is made made_too left adds adds_too =
+      let others = found_in A file text (after text known m) (pattern_after pattern m) (drop (i + 1) ms) in
+      leaves_rest old now next (found_in A file text known pattern (drop i ms)) (λ tail. put finding (put comes tail))
+      others all
+      (λ tail. ap (λ l. found_in A file text known pattern l tail) (drop_next ms i m d within is)
+      ∙ ap (λ o. put o (put (circle A.comes_back file text pattern m) (others tail))) (sym made)
+      ∙ ap (λ o. put finding (put o (others tail))) (sym made_too))
+      left (adds_both now between next (put finding) (put comes) adds adds_too)
 
-  pub found_none : (known : Known) (pattern : PatternName) → length ms ≤ i → LeavesFound now known pattern i
-      → AddsFindings old now all
-  found_none known pattern end left = λ rest.
-      ap (λ l. now ++ found_in A file text known pattern l rest) (sym (drop_all i ms end)) ∙ left rest
+  pub found_none : (known : Known) (pattern : PatternName) → length ms ≤ i
+      → Leaves old now (found_in A file text known pattern (drop i ms)) all → Adds old now all
+  found_none known pattern end =
+      leaves_nothing old now (found_in A file text known pattern (drop i ms)) all
+      (λ tail. ap (λ l. found_in A file text known pattern l tail) (drop_all i ms end))
 
 -- ---- The files
 
 module _ (A : Set) (files : List Outline) (now next : List Finding) (i : ℕ) where
-  abbrev pub LeavesFiles : List Finding → ℕ → Type 0
-  LeavesFiles list n = (rest : List Finding) →
-      list ++ found_from A n (drop n files) rest ≡ found_from A 0 files rest
+  pub file_next : (file : Outline) → i < length files → file ≡ get_or files i file
+      → Leaves [] now (found_from A i (drop i files)) (found_from A 0 files)
+      → Adds now next (found_in A i file.text.now nothing no_pattern file.mentions.items)
+      → Leaves [] next (found_from A (i + 1) (drop (i + 1) files)) (found_from A 0 files)
+  file_next file within is =
+      leaves_rest [] now next (found_from A i (drop i files))
+      (found_in A i file.text.now nothing no_pattern file.mentions.items) (found_from A (i + 1) (drop (i + 1) files))
+      (found_from A 0 files) (λ tail. ap (λ l. found_from A i l tail) (drop_next files i file file within is))
 
-  pub file_next : (file : Outline) → i < length files → file ≡ get_or files i file → LeavesFiles now i
-      → AddsFindings now next (found_in A i file.text.now nothing no_pattern file.mentions.items)
-      → LeavesFiles next (i + 1)
-  file_next file within is left adds = λ rest.
-      let cut : drop i files ≡ file ∷ drop (i + 1) files =
-      drop_more files i file within ∙ ap (λ y. y ∷ drop (i + 1) files) (sym is) in
-      adds (found_from A (i + 1) (drop (i + 1) files) rest)
-      ∙ ap (λ l. now ++ found_from A i l rest) (sym cut)
-      ∙ left rest
-
-  pub file_none : length files ≤ i → LeavesFiles now i → (rest : List Finding) → now ++ rest ≡ found_from A 0 files rest
-  file_none end left = λ rest.
-      ap (λ l. now ++ found_from A i l rest) (sym (drop_all i files end)) ∙ left rest
+  pub file_none : length files ≤ i → Leaves [] now (found_from A i (drop i files)) (found_from A 0 files)
+      → Adds [] now (found_from A 0 files)
+  file_none end =
+      leaves_nothing [] now (found_from A i (drop i files)) (found_from A 0 files)
+      (λ tail. ap (λ l. found_from A i l tail) (drop_all i files end))

@@ -5,7 +5,7 @@ use Rattle.std.proofs.Common.{Option, Some, None}
 use Rattle.std.specs.Borrow.{Bor}
 use Rattle.std.specs.Prelude.{if◌then◌else◌, not, ◌||◌}
 use Rattle.std.specs.List.{list_any}
-use Rattle.std.proofs.lemmas.List.{append-nil, at_drop_more, drop_more, drop_all}
+use Rattle.std.proofs.lemmas.List.{append-nil, at_drop_more, drop_all}
 use Rattle.fluent_syntax_tree.specs.declared.spans.Span.{Span}
 use Rattle.fluent_syntax_names.specs.declared.lack.Lack.{Lack}
 use Rattle.fluent_syntax_names.specs.declared.lack.Part.{Part}
@@ -15,8 +15,10 @@ use Rattle.fluent_syntax_names.specs.declared.mention.Mention.TheVariants as say
 use Rattle.fluent_syntax_names.specs.declared.spelled.EntryName.{EntryName}
 use Rattle.fluent_syntax_names.specs.Findings.{put, owner_after}
 use Rattle.fluent_syntax_names.specs.Spelled.{Text, message_name, term_name}
+use Rattle.fluent_syntax_names.specs.Growing.{Adds, Leaves}
+use Rattle.fluent_syntax_names.proofs.Adding.{drop_next, leaves_rest, leaves_nothing}
 use Rattle.fluent_syntax_names.specs.Lacks.{Other, lack_at, lacked_entry, lacked_value, lacked_attribute, lacked_part}
-use Rattle.fluent_syntax_names.specs.Lacks.{lacked_reference, lacked_variable, lack_of, lacks_in, AddsLacks}
+use Rattle.fluent_syntax_names.specs.Lacks.{lacked_reference, lacked_variable, lack_of, lacks_in}
 use Rattle.fluent_syntax_names.specs.Lacks.{may_use, some_may_use, one_may_use}
 use Rattle.fluent_syntax_names.specs.Mentions.{Mentions}
 use Rattle.fluent_syntax_names.specs.Rows.{texts_at}
@@ -106,25 +108,21 @@ module _ (text : Text) (D E : Other) (defines : (name : Text) → D.defines name
 
 module _ (D : Other) (text : Text) (old now : List Lack) (all : List Lack → List Lack) (owner : EntryName)
     (ms : Mentions Span) (i : ℕ) where
-  abbrev pub LeavesLacks : List Lack → EntryName → ℕ → Type 0
-  LeavesLacks list owner n = (rest : List Lack) → list ++ lacks_in D text owner (drop n ms) rest ≡ old ++ all rest
-
   pub lack_next : (next : List Lack) (m d : Mention Span) (lack : Option Lack) → i < length ms → m ≡ get_or ms i d
-      → lack ≡ lack_at D text owner m → LeavesLacks now owner i → AddsLacks now next (put lack)
-      → LeavesLacks next (owner_after owner m) (i + 1)
-  lack_next next m d lack within is made left adds = λ rest.
-      let cut : drop i ms ≡ m ∷ drop (i + 1) ms = drop_more ms i d within ∙ ap (λ y. y ∷ drop (i + 1) ms) (sym is) in
-      let others = lacks_in D text (owner_after owner m) (drop (i + 1) ms) rest in
-      adds others
-      ∙ ap (λ o. now ++ put o others) made
-      ∙ ap (λ l. now ++ lacks_in D text owner l rest) (sym cut)
-      ∙ left rest
+      → lack ≡ lack_at D text owner m → Leaves old now (lacks_in D text owner (drop i ms)) all
+      → Adds now next (put lack)
+      → Leaves old next (lacks_in D text (owner_after owner m) (drop (i + 1) ms)) all
+  lack_next next m d lack within is made =
+      let others = lacks_in D text (owner_after owner m) (drop (i + 1) ms) in
+      leaves_rest old now next (lacks_in D text owner (drop i ms)) (put lack) others all
+      (λ tail. ap (λ l. lacks_in D text owner l tail) (drop_next ms i m d within is)
+      ∙ ap (λ o. put o (others tail)) (sym made))
 
-  pub lack_none : length ms ≤ i → LeavesLacks now owner i → now ≡ old ++ all []
+  pub lack_none : length ms ≤ i → Leaves old now (lacks_in D text owner (drop i ms)) all → now ≡ old ++ all []
   lack_none end left =
       sym (append-nil now)
-      ∙ ap (λ l. now ++ lacks_in D text owner l []) (sym (drop_all i ms end))
-      ∙ left []
+      ∙ leaves_nothing old now (lacks_in D text owner (drop i ms)) all
+      (λ tail. ap (λ l. lacks_in D text owner l tail) (drop_all i ms end)) left []
 
 -- ---- The messages that an entry leads to
 

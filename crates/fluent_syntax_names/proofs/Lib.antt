@@ -13,3 +13,4 @@ pub mod Numbered
 pub mod Placed
 pub mod Telling
 pub mod Ways
+pub mod graphs

@@ -5,10 +5,12 @@ use Rattle.std.proofs.Common.{Some, None, refl, sym, ap, ◌∙◌, subst, arith
 use Rattle.std.specs.Prelude.{◌||◌}
 use Rattle.std.proofs.lemmas.Bool.{cases_eq, cases_lt, or_cases}
 use Rattle.std.proofs.lemmas.List.{append-nil, get_or_append_left, get_or_past, get_or_push, length_push}
-use Rattle.std.proofs.lemmas.List.{get_or-set_same, get_or-set_other, length-set, drop_more, drop_all}
+use Rattle.std.proofs.lemmas.List.{get_or-set_same, get_or-set_other, length-set, drop_all}
 use Rattle.std.proofs.lemmas.List.Folds.{list_any-append}
 use Rattle.fluent_syntax_tree.specs.declared.spans.Span.{Span}
-use Rattle.fluent_syntax_graph.specs.Graph.{Graph, Leads, edges}
+use Rattle.fluent_syntax_names.proofs.Adding.{drop_next, leaves_rest, leaves_nothing}
+use Rattle.fluent_syntax_names.specs.Growing.{Leaves}
+use Rattle.fluent_syntax_names.specs.Graph.{Graph, Leads, edges}
 use Rattle.fluent_syntax_names.specs.Circles.{Link, is_link, leads, links_in, link_to, links, pattern_after, referred}
 use Rattle.fluent_syntax_names.specs.Circles.{no_pattern}
 use Rattle.fluent_syntax_names.specs.Drawings.{Drawn, IsDrawn, DrawsLinks}
@@ -217,21 +219,19 @@ module _ (text : Text) (all : List Link → List Link) (old now : Drawing) (ms :
   abbrev pub LeavesLinks : Drawing → PatternName → ℕ → Type 0
   LeavesLinks drawing pattern n = (before : List Link) → IsDrawn before old → (list : List Link)
       × IsDrawn list drawing
-      × ((rest : List Link) → list ++ links_in text pattern (drop n ms) rest ≡ before ++ all rest)
+      × Leaves before list (links_in text pattern (drop n ms)) all
 
   pub links_next : (next : Drawing) (pattern : PatternName) (m d : Mention Span) → i < length ms → m ≡ get_or ms i d
       → LeavesLinks now pattern i → DrawsLinks now next (link_to text pattern (referred m))
       → LeavesLinks next (pattern_after pattern m) (i + 1)
   links_next next pattern m d within is left draws = λ before drawn.
-      let cut : drop i ms ≡ m ∷ drop (i + 1) ms = drop_more ms i d within ∙ ap (λ y. y ∷ drop (i + 1) ms) (sym is) in
       let first = left before drawn in
       let second = draws first.0 first.1 in (
         second.0,
         second.1,
-        λ rest.
-            second.2 (links_in text (pattern_after pattern m) (drop (i + 1) ms) rest)
-            ∙ ap (λ (l : Mentions Span). first.0 ++ links_in text pattern l rest) (sym cut)
-            ∙ first.2 rest,
+        leaves_rest before first.0 second.0 (links_in text pattern (drop i ms))
+            (link_to text pattern (referred m)) (links_in text (pattern_after pattern m) (drop (i + 1) ms)) all
+            (λ tail. ap (λ l. links_in text pattern l tail) (drop_next ms i m d within is)) first.2 second.2,
       )
 
   pub links_none : (pattern : PatternName) → length ms ≤ i → LeavesLinks now pattern i → DrawsLinks old now all
@@ -239,9 +239,8 @@ module _ (text : Text) (all : List Link → List Link) (old now : Drawing) (ms :
       let first = left before drawn in (
         first.0,
         first.1,
-        λ rest.
-            ap (λ (l : Mentions Span). first.0 ++ links_in text pattern l rest) (sym (drop_all i ms end))
-            ∙ first.2 rest,
+        leaves_nothing before first.0 (links_in text pattern (drop i ms)) all
+            (λ tail. ap (λ l. links_in text pattern l tail) (drop_all i ms end)) first.2,
       )
 
 -- ---- The files
@@ -254,8 +253,7 @@ module _ (files : List Outline) (now : Drawing) (i : ℕ) where
       → LeavesLinkFiles now i → DrawsLinks now next (links_in file.text.now no_pattern file.mentions.items)
       → LeavesLinkFiles next (i + 1)
   link_files_next next file within is left draws =
-      let cut : drop i files ≡ file ∷ drop (i + 1) files =
-      drop_more files i file within ∙ ap (λ y. y ∷ drop (i + 1) files) (sym is) in
+      let cut = drop_next files i file file within is in
       let second = draws left.0 left.1 in (
         second.0,
         second.1,

@@ -1,12 +1,12 @@
 -- Names as nodes of a graph: what reaches what among the names is what does among the nodes.
-use Rattle.std.proofs.Common.{◌≡◌, ◌↔◌, ◌⊎◌, inl, inr, ℕ, ◌<◌, true, List, length, get_or}
-use Rattle.std.proofs.Common.{Option, Some, refl, sym, ap, ◌∙◌, subst, nat_eq, arith}
+use Rattle.std.proofs.Common.{◌≡◌, ◌↔◌, ◌⊎◌, inl, inr, ℕ, ◌<◌, true, List, length, get_or, Option, Some, refl, sym, ap}
+use Rattle.std.proofs.Common.{◌∙◌, subst, nat_eq, arith}
 use Rattle.std.specs.Prelude.{option_and_then, slice_get}
 use Rattle.std.proofs.lemmas.Bool.{eqb-true, eq-eqb}
 use Rattle.std.proofs.lemmas.Bool.Decides.{same_from_decides}
 use Rattle.std.proofs.lemmas.Option.{slice_get-get_or}
-use Rattle.fluent_syntax_graph.specs.Graph.{Graph, Leads, IsGraph, target}
-use Rattle.fluent_syntax_graph.specs.Graph.{Reaches as GraphReaches, here, onward as graph_onward}
+use Rattle.fluent_syntax_names.specs.Graph.{Graph, Leads, IsGraph, target, Reaches as GraphReaches, here}
+use Rattle.fluent_syntax_names.specs.Graph.{onward as graph_onward}
 use Rattle.fluent_syntax_names.specs.Circles.{Link, leads, Reaches, next, onward, reaches, comes_back}
 use Rattle.fluent_syntax_names.specs.Drawings.{Drawn, same_option}
 use Rattle.fluent_syntax_names.specs.NamedLists.{Numbering}
@@ -53,9 +53,6 @@ module _ (all : List Link) (node : Numbering) (g : Graph) (drawn : Drawn all nod
   module _ (parts : List ℕ) (sizes : length parts ≡ length g)
       (circles : (u v : ℕ) → u < length g → Leads g u v
       → (get_or parts u 0 ≡ get_or parts v 0) ↔ GraphReaches g v u) where
-    part_of : Text → Option ℕ
-    part_of x = option_and_then (slice_get parts) (node x)
-
     part_is : (x : Text) (u : ℕ) → node x ≡ Some u
         → option_and_then (slice_get parts) (node x) ≡ Some (get_or parts u 0)
     part_is x u is =

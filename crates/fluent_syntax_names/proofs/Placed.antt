@@ -1,6 +1,6 @@
 -- What a table of names holds once a name was put in.
-use Rattle.std.proofs.Common.{◌≡◌, ℕ, Bool, true, false, List, [], ◌∷◌}
-use Rattle.std.proofs.Common.{Option, Some, None, Vec, refl, sym, ap, ◌∙◌, cond}
+use Rattle.std.proofs.Common.{◌≡◌, ℕ, Bool, true, false, List, [], ◌∷◌, Option, Some, None, Vec, refl, sym, ap, ◌∙◌}
+use Rattle.std.proofs.Common.{cond}
 use Rattle.std.specs.Prelude.{if◌then◌else◌}
 use Rattle.std.specs.BTreeMap.{is_at, insert_entry}
 use Rattle.std.specs.Map.{lookup}
@@ -28,18 +28,6 @@ find name rows = lookup (is_at (λ k. slice_cmp nat_cmp name k.items)) rows
 pub first_of-None : {X : Type 0} (o : Option X) → first_of o None ≡ o
 first_of-None None = refl
 first_of-None (Some x) = refl
-
--- a name that is found stays as it is
-pub stays_found : {X : Type 0} (before : Option X) (name noted : List ℕ) (place : X)
-    → (bytes_eq name noted ≡ true → (found : X) × (before ≡ Some found))
-    → before ≡ first_of before (place_where name noted place)
-stays_found before name noted place held =
-    let by : (b : Bool) → bytes_eq name noted ≡ b → before ≡ first_of before (if b then Some place else None) =
-    λ b. elim b as (λ b. bytes_eq name noted ≡ b → before ≡ first_of before (if b then Some place else None)) [
-      | true ↦ λ e. ap (λ o. o) ((held e).1) ∙ sym (ap (λ o. first_of o (Some place)) ((held e).1))
-      | false ↦ λ e. sym (first_of-None before)
-    ] in
-    by (bytes_eq name noted) refl
 
 module _ {X : Type 0} (key : Key) (place : X) (name : List ℕ) where
   abbrev wanted : List (Row X) → Type 0

@@ -9,10 +9,11 @@ use Rattle.std.proofs.lemmas.Bool.{cases_eq}
 use Rattle.std.proofs.lemmas.List.{append-nil, map-append, map-set, map_push}
 use Rattle.std.proofs.lemmas.List.{get_or_append_left, get_or_push, length_push}
 use Rattle.std.proofs.lemmas.List.{get_or-map, length-map, get_or-set_same, get_or-set_other, length-set}
-use Rattle.std.proofs.lemmas.List.{drop_more, drop_all}
+use Rattle.std.proofs.lemmas.List.{drop_all}
 use Rattle.std.proofs.lemmas.List.Elements.{filter-append}
 use Rattle.std.proofs.lemmas.Slice.Eq.{bytes_eq-Decides}
 use Rattle.fluent_syntax_tree.specs.declared.spans.Span.{Span}
+use Rattle.fluent_syntax_names.proofs.Adding.{drop_next}
 use Rattle.fluent_syntax_names.specs.Circles.{Link}
 use Rattle.fluent_syntax_names.specs.Findings.{owner_after}
 use Rattle.fluent_syntax_names.specs.Leading.{most_followed, refers, references_in, referred_by}
@@ -217,7 +218,7 @@ module _ (text : Text) (now : Leading) (ms : Mentions Span) (i : ℕ) where
       → LeavesReferences now owner i → TellsMore now next (refers text owner m)
       → LeavesReferences next (owner_after owner m) (i + 1)
   references_next next owner m d within is left tells =
-      let cut : drop i ms ≡ m ∷ drop (i + 1) ms = drop_more ms i d within ∙ ap (λ y. y ∷ drop (i + 1) ms) (sym is) in
+      let cut = drop_next ms i m d within is in
       let second = tells left.0 left.1 in (
         second.0,
         second.1,

@@ -28,22 +28,13 @@ abbrev pub pattern_after : PatternName → Mention Span → PatternName
 pattern_after pattern (says.Message x v) = value_of (message_name x)
 pattern_after pattern (says.Term x) = value_of (term_name x)
 pattern_after pattern (says.Attribute x) = attribute_of pattern.entry x
-pattern_after pattern (says.Junk x) = pattern
-pattern_after pattern (says.MessageReference x a) = pattern
-pattern_after pattern (says.TermReference x a) = pattern
-pattern_after pattern (says.Variable x) = pattern
-pattern_after pattern (says.Function x) = pattern
+pattern_after pattern _ = pattern
 
 -- the pattern that the mention refers to, if it refers to one
 abbrev pub referred : Mention Span → Option PatternName
-referred (says.Message x v) = None
-referred (says.Term x) = None
-referred (says.Attribute x) = None
-referred (says.Junk x) = None
 referred (says.MessageReference x a) = Some (record { entry = message_name x; attribute = a })
 referred (says.TermReference x a) = Some (record { entry = term_name x; attribute = a })
-referred (says.Variable x) = None
-referred (says.Function x) = None
+referred _ = None
 
 -- a pattern refers to another: `name=` or `name.attribute`, and of terms `-name=` or `-name.attribute`
 pub record Link : Type 0 where

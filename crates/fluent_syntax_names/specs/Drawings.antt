@@ -1,7 +1,8 @@
 -- Names as nodes of a graph.
-use Rattle.std.specs.Prelude.{◌≡◌, ℕ, Bool, true, false, nat_eq, List, ◌++◌, length, Option, None, Some}
+use Rattle.std.specs.Prelude.{◌≡◌, ℕ, Bool, true, false, nat_eq, List, length, Option, None, Some}
 use Rattle.std.specs.Prelude.{option_and_then, slice_get}
-use Rattle.fluent_syntax_graph.specs.Graph.{Graph, Leads}
+use Rattle.fluent_syntax_names.specs.Growing.{Adds}
+use Rattle.fluent_syntax_names.specs.Graph.{Graph, Leads}
 use Rattle.fluent_syntax_names.specs.Circles.{Link, leads, comes_back}
 use Rattle.fluent_syntax_names.specs.Findings.{Set}
 use Rattle.fluent_syntax_names.specs.NamedLists.{Numbering, Within, Apart, numbers_of, lists_of}
@@ -28,7 +29,7 @@ IsSomeDrawing drawing = (all : List Link) × IsDrawn all drawing
 -- what was drawn is drawn still, with what `more` puts before other links
 abbrev pub DrawsLinks : Drawing → Drawing → (more : List Link → List Link) → Type 0
 DrawsLinks old new more = (before : List Link) → IsDrawn before old
-    → (now : List Link) × IsDrawn now new × ((rest : List Link) → now ++ rest ≡ before ++ more rest)
+    → (now : List Link) × IsDrawn now new × Adds before now more
 
 -- ---- Parts of the graph
 

@@ -26,12 +26,7 @@ use Rattle.fluent_syntax_names.specs.Circles.{pattern_after, referred, no_patter
 abbrev pub owner_after : EntryName → Mention Span → EntryName
 owner_after owner (says.Message x v) = message_name x
 owner_after owner (says.Term x) = term_name x
-owner_after owner (says.Attribute x) = owner
-owner_after owner (says.Junk x) = owner
-owner_after owner (says.MessageReference x a) = owner
-owner_after owner (says.TermReference x a) = owner
-owner_after owner (says.Variable x) = owner
-owner_after owner (says.Function x) = owner
+owner_after owner _ = owner
 
 -- a message, and its value where it has one
 abbrev pub message_defines : Text → EntryName → Bool → List Text → List Text
@@ -44,11 +39,7 @@ abbrev pub defines : Text → EntryName → Mention Span → List Text → List 
 defines text owner (says.Message x v) tail = message_defines text (message_name x) v tail
 defines text owner (says.Term x) tail = spelled text (term_name x) ∷ tail
 defines text owner (says.Attribute x) tail = spelled_attribute text owner x ∷ tail
-defines text owner (says.Junk x) tail = tail
-defines text owner (says.MessageReference x a) tail = tail
-defines text owner (says.TermReference x a) tail = tail
-defines text owner (says.Variable x) tail = tail
-defines text owner (says.Function x) tail = tail
+defines text owner _ tail = tail
 
 -- what each mention adds before others, where it is known whose attributes stand there
 abbrev pub gathered : (EntryName → Mention Span → List Text → List Text) → EntryName → Mentions Span → List Text
@@ -95,11 +86,7 @@ after text known (says.Term x) =
     record { names = noted known.names (spelled text (term_name x)) x; attributes = λ name. None }
 after text known (says.Attribute x) =
     record { names = known.names; attributes = noted known.attributes (name_at text x) x }
-after text known (says.Junk x) = known
-after text known (says.MessageReference x a) = known
-after text known (says.TermReference x a) = known
-after text known (says.Variable x) = known
-after text known (says.Function x) = known
+after text known _ = known
 
 -- ---- What is found at a mention
 
@@ -141,13 +128,11 @@ found is_defined file text known (says.Term x) =
     twice kind.DefinedTwice file x (known.names (spelled text (term_name x)))
 found is_defined file text known (says.Attribute x) =
     twice kind.AttributeTwice file x (known.attributes (name_at text x))
-found is_defined file text known (says.Junk x) = None
 found is_defined file text known (says.MessageReference x a) =
     undefined is_defined file text kind.UndefinedMessage (message_name x) a
 found is_defined file text known (says.TermReference x a) =
     undefined is_defined file text kind.UndefinedTerm (term_name x) a
-found is_defined file text known (says.Variable x) = None
-found is_defined file text known (says.Function x) = None
+found is_defined file text known _ = None
 
 -- a reference to the target that stands in the pattern, where it comes back
 abbrev pub circle_to : (Text → Text → Bool) → ℕ → Text → PatternName → Option PatternName → Option Finding

@@ -1,5 +1,5 @@
 -- What one file says and another lacks.
-use Rattle.std.specs.Prelude.{◌≡◌, Bool, true, false, not, ◌||◌, List, [], ◌∷◌, ◌++◌, Option, Some, None, if◌then◌else◌}
+use Rattle.std.specs.Prelude.{Bool, true, false, not, ◌||◌, List, [], ◌∷◌, Option, Some, None, if◌then◌else◌}
 use Rattle.std.specs.List.{list_any}
 use Rattle.std.specs.Str.{bytes_eq}
 use Rattle.fluent_syntax_tree.specs.declared.spans.Span.{Span}
@@ -22,14 +22,10 @@ use Rattle.fluent_syntax_names.specs.Spelled.{name_at, spelled_reference, variab
 
 -- what the mention uses in the entry, as it is spelled, before others: `name>message`, `name>-term`, `name$variable`
 abbrev pub uses : Text → EntryName → Mention Span → List Text → List Text
-uses text owner (says.Message x v) tail = tail
-uses text owner (says.Term x) tail = tail
-uses text owner (says.Attribute x) tail = tail
-uses text owner (says.Junk x) tail = tail
 uses text owner (says.MessageReference x a) tail = spelled_reference text owner (message_name x) ∷ tail
 uses text owner (says.TermReference x a) tail = spelled_reference text owner (term_name x) ∷ tail
 uses text owner (says.Variable x) tail = spelled_variable text owner x ∷ tail
-uses text owner (says.Function x) tail = tail
+uses text owner _ tail = tail
 
 abbrev pub used_in : Text → EntryName → Mentions Span → List Text → List Text
 used_in text owner ms tail = gathered (uses text) owner ms tail
@@ -99,11 +95,10 @@ abbrev pub lack_at : Other → Text → EntryName → Mention Span → Option La
 lack_at other text owner (says.Message x v) = lacked_entry other text (message_name x) v
 lack_at other text owner (says.Term x) = lacked_entry other text (term_name x) false
 lack_at other text owner (says.Attribute x) = lacked_attribute other text owner x
-lack_at other text owner (says.Junk x) = None
 lack_at other text owner (says.MessageReference x a) = lacked_reference other text owner (message_name x)
 lack_at other text owner (says.TermReference x a) = lacked_reference other text owner (term_name x)
 lack_at other text owner (says.Variable x) = lacked_variable other text owner x
-lack_at other text owner (says.Function x) = None
+lack_at other text owner _ = None
 
 abbrev pub lacks_in : Other → Text → EntryName → Mentions Span → List Lack → List Lack
 lacks_in other text owner [] tail = tail
@@ -120,7 +115,3 @@ other_of file = record {
 -- what the one says and the other lacks, in the order of the one's text
 abbrev pub all_lacks : (one other : Outline) → List Lack
 all_lacks one other = lacks_in (other_of other) one.text.now nameless one.mentions.items []
-
--- `new` is `old` with what `more` puts before others behind it
-abbrev pub AddsLacks : (old new : List Lack) → (more : List Lack → List Lack) → Type 0
-AddsLacks old new more = (rest : List Lack) → new ++ rest ≡ old ++ more rest

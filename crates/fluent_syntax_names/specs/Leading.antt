@@ -20,14 +20,8 @@ reference_to text owner message = record { from = spelled text owner; to = spell
 -- the reference that the mention makes in the entry, before others. A reference to an attribute is one to its message.
 -- Terms get no variables of the program, so a reference to a term leads nowhere.
 abbrev pub refers : Text → EntryName → Mention Span → List Link → List Link
-refers text owner (says.Message x v) tail = tail
-refers text owner (says.Term x) tail = tail
-refers text owner (says.Attribute x) tail = tail
-refers text owner (says.Junk x) tail = tail
 refers text owner (says.MessageReference x a) tail = reference_to text owner x ∷ tail
-refers text owner (says.TermReference x a) tail = tail
-refers text owner (says.Variable x) tail = tail
-refers text owner (says.Function x) tail = tail
+refers text owner _ tail = tail
 
 -- the references of a file to messages, in the order of its text, before others
 abbrev pub references_in : Text → EntryName → Mentions Span → List Link → List Link

@@ -3,6 +3,7 @@ pub mod Circles
 pub mod Differences
 pub mod Drawings
 pub mod Findings
+pub mod Growing
 pub mod Knowing
 pub mod Lacks
 pub mod Leading
@@ -15,3 +16,5 @@ pub mod Sentences
 pub mod Severities
 pub mod Spelled
 pub mod Tables
+pub mod Graph
+pub mod Search

@@ -1,5 +1,5 @@
 -- What entries say of names, in the order of the text. Each function puts the mentions of its node before a tail.
-use Rattle.std.specs.Prelude.{◌≡◌, ℕ, ◌+◌, Bool, true, false, List, [], ◌∷◌, ◌++◌, Option, Some, None, filter, is_some}
+use Rattle.std.specs.Prelude.{ℕ, ◌+◌, Bool, true, false, List, [], ◌∷◌, Option, Some, None, filter, is_some}
 use Rattle.std.specs.List.{filter_map}
 use Rattle.fluent_syntax_tree.specs.Tree.{ExpressionTree, select, inline, InlineTree, string_literal, number_literal}
 use Rattle.fluent_syntax_tree.specs.Tree.{function_reference, message_reference, term_reference, variable_reference}
@@ -100,31 +100,17 @@ module _ {X : Type 0} where
   is_definition (says.Message x v) = true
   is_definition (says.Term x) = true
   is_definition (says.Attribute x) = true
-  is_definition (says.Junk x) = false
-  is_definition (says.MessageReference x a) = false
-  is_definition (says.TermReference x a) = false
-  is_definition (says.Variable x) = false
-  is_definition (says.Function x) = false
+  is_definition _ = false
 
   abbrev pub is_reference : Mention X → Bool
-  is_reference (says.Message x v) = false
-  is_reference (says.Term x) = false
-  is_reference (says.Attribute x) = false
-  is_reference (says.Junk x) = false
   is_reference (says.MessageReference x a) = true
   is_reference (says.TermReference x a) = true
-  is_reference (says.Variable x) = false
   is_reference (says.Function x) = true
+  is_reference _ = false
 
   abbrev pub variable_of : Mention X → Option X
-  variable_of (says.Message x v) = None
-  variable_of (says.Term x) = None
-  variable_of (says.Attribute x) = None
-  variable_of (says.Junk x) = None
-  variable_of (says.MessageReference x a) = None
-  variable_of (says.TermReference x a) = None
   variable_of (says.Variable x) = Some x
-  variable_of (says.Function x) = None
+  variable_of _ = None
 
   -- ---- Of an entry
 
@@ -136,16 +122,6 @@ module _ {X : Type 0} where
 
   abbrev pub variables : EntryTree X → List X
   variables e = filter_map variable_of (entry_mentions e [])
-
-  -- ---- Lists that grow
-
-  -- `new` is `old` with what `more` puts before a tail behind it
-  abbrev pub Adds : (old new : Mentions X) → (more : Mentions X → Mentions X) → Type 0
-  Adds old new more = (rest : Mentions X) → new ++ rest ≡ old ++ more rest
-
-  -- what `left` puts before a tail is still to come, of what `all` does
-  abbrev pub Leaves : (old now : Mentions X) → (left all : Mentions X → Mentions X) → Type 0
-  Leaves old now left all = (rest : Mentions X) → now ++ left rest ≡ old ++ all rest
 
 -- ---- Mentions further on
 

@@ -22,14 +22,8 @@ begun_name bytes = take_while is_name_byte bytes
 
 -- the range of the mention, where it is junk that begins with the name
 abbrev pub junk_named : Text → Mention Span → (name : Text) → Option Span
-junk_named text (says.Message x v) name = None
-junk_named text (says.Term x) name = None
-junk_named text (says.Attribute x) name = None
 junk_named text (says.Junk x) name = place_where name (begun_name (name_at text x)) x
-junk_named text (says.MessageReference x a) name = None
-junk_named text (says.TermReference x a) name = None
-junk_named text (says.Variable x) name = None
-junk_named text (says.Function x) name = None
+junk_named text _ name = None
 
 abbrev pub refused_in : Text → Mentions Span → (name : Text) → Option Span
 refused_in text [] name = None

@@ -1,7 +1,8 @@
 -- Tables of the messages that entries refer to.
-use Rattle.std.specs.Prelude.{◌≡◌, ℕ, List, [], ◌++◌, length, map, get_or, Option, Some, None, Vec}
+use Rattle.std.specs.Prelude.{◌≡◌, ℕ, List, [], length, map, get_or, Option, Some, None, Vec}
 use Rattle.std.specs.Borrow.{Bor}
 use Rattle.std.specs.declared.alloc.Global.{Global}
+use Rattle.fluent_syntax_names.specs.Growing.{Adds}
 use Rattle.fluent_syntax_names.specs.Circles.{Link}
 use Rattle.fluent_syntax_names.specs.Leading.{referred_by, led_by}
 use Rattle.fluent_syntax_names.specs.NamedLists.{Numbering, Within, Apart, numbers_of, lists_of}
@@ -41,7 +42,7 @@ TellsSome leading = (all : List Link) × TellsLinks all leading
 -- it tells still what was told, with what `more` puts before other links
 abbrev pub TellsMore : Leading → Leading → (more : List Link → List Link) → Type 0
 TellsMore old new more = (before : List Link) → TellsLinks before old
-    → (now : List Link) × TellsLinks now new × ((rest : List Link) → now ++ rest ≡ before ++ more rest)
+    → (now : List Link) × TellsLinks now new × Adds before now more
 
 -- the messages that the table has for the name
 abbrev pub row_of : Leading → Text → List Text

@@ -1,9 +1,8 @@
 -- What tables hold while files are gone through.
-use Rattle.std.specs.Prelude.{◌≡◌, Bool, ◌||◌, List, ◌++◌, Option, None, is_some}
+use Rattle.std.specs.Prelude.{◌≡◌, Bool, ◌||◌, List, Option, None, is_some}
 use Rattle.std.specs.List.{list_any}
 use Rattle.std.specs.Str.{bytes_eq}
 use Rattle.fluent_syntax_tree.specs.declared.spans.Span.{Span}
-use Rattle.fluent_syntax_names.specs.declared.finding.Finding.{Finding}
 use Rattle.fluent_syntax_names.specs.declared.mention.Mention.{Mention}
 use Rattle.fluent_syntax_names.specs.Findings.{Known, after}
 use Rattle.fluent_syntax_names.specs.Spelled.{Text}
@@ -36,10 +35,6 @@ Holds names attributes known =
 abbrev pub HoldsAfter : (old_names old_attributes new_names new_attributes : Lookup) → Text → Mention Span → Type 0
 HoldsAfter old_names old_attributes new_names new_attributes text mention = (known : Known) →
     Holds old_names old_attributes known → Holds new_names new_attributes (after text known mention)
-
--- `new` is `old` with what `more` puts before others behind it
-abbrev pub AddsFindings : (old new : List Finding) → (more : List Finding → List Finding) → Type 0
-AddsFindings old new more = (rest : List Finding) → new ++ rest ≡ old ++ more rest
 
 -- the entry is noted, and no attribute of it
 abbrev pub NotesEntry : (old_names new_names new_attributes : Lookup) → Text → Span → Type 0

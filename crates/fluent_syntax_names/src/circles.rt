@@ -4,9 +4,9 @@ ghost use Rattle.fluent_syntax_names.specs.Circles.{links};
 ghost use Rattle.fluent_syntax_names.specs.Drawings.{KnowsCircles, same_part, part_at};
 
 use crate::drawing::drawing_of;
+use crate::graph::components;
 use crate::numbers::Numbers;
 use crate::outline::Outline;
-use fluent_syntax_graph::components;
 use std::alloc::{AllocError, Global};
 
 /// The parts of the graph of all references: the names of a part reach one another.

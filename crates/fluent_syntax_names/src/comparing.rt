@@ -5,7 +5,8 @@ ghost use Rattle.std.specs.Str.{bytes_eq};
 ghost use Rattle.fluent_syntax_names.specs.Beside.{other_by};
 ghost use Rattle.fluent_syntax_names.specs.Circles.{Reaches};
 ghost use Rattle.fluent_syntax_names.specs.Findings.{put};
-ghost use Rattle.fluent_syntax_names.specs.Lacks.{lacks_in, all_lacks, AddsLacks};
+ghost use Rattle.fluent_syntax_names.specs.Growing.{Adds};
+ghost use Rattle.fluent_syntax_names.specs.Lacks.{lacks_in, all_lacks};
 ghost use Rattle.fluent_syntax_names.specs.Leading.{led_to, references_of};
 ghost use Rattle.fluent_syntax_names.specs.Spelled.{nameless};
 
@@ -72,7 +73,7 @@ fn lacks_by(beside: &Beside<'_>, mentions: &[Mention<Span>]) -> Result<Vec<Lack>
 }
 
 fn add_lack(list: &mut Vec<Lack>, lack: Option<Lack>) -> Result<(), AllocError>
-    ensures { OnOk result (AddsLacks list.old.items list.new.items (put lack)) }
+    ensures { OnOk result (Adds list.old.items list.new.items (put lack)) }
 {
     match lack {
         Some(lack) => {

@@ -2,7 +2,8 @@
 ghost use Rattle.std.specs.Prelude.{◌≡◌, [], OnOk, IfOk, map, filter};
 ghost use Rattle.std.specs.List.{filter_map};
 ghost use Rattle.fluent_syntax_tree.specs.View.{entry_view, message_view, term_view, attribute_view};
-ghost use Rattle.fluent_syntax_names.specs.Mentions.{Adds, attribute_mentions, attributes_mentions, message_mentions};
+ghost use Rattle.fluent_syntax_names.specs.Growing.{Adds};
+ghost use Rattle.fluent_syntax_names.specs.Mentions.{attribute_mentions, attributes_mentions, message_mentions};
 ghost use Rattle.fluent_syntax_names.specs.Mentions.{term_mentions, entry_mentions, defined, references, variables};
 ghost use Rattle.fluent_syntax_names.specs.Mentions.{is_definition, is_reference, variable_of};
 

@@ -6,7 +6,8 @@ ghost use Rattle.fluent_syntax_names.specs.Findings.{nothing, found_in, found_fr
 ghost use Rattle.fluent_syntax_names.specs.Findings.{findings_beside, is_defined, own_findings};
 ghost use Rattle.fluent_syntax_names.specs.Knowing.{knows, others_define};
 ghost use Rattle.fluent_syntax_names.specs.Places.{place_of};
-ghost use Rattle.fluent_syntax_names.specs.Tables.{AddsFindings, has_name};
+ghost use Rattle.fluent_syntax_names.specs.Growing.{Adds};
+ghost use Rattle.fluent_syntax_names.specs.Tables.{has_name};
 
 use crate::circles::{Circles, circles_of};
 use crate::defined_names::DefinedNames;
@@ -121,7 +122,7 @@ fn add_found(
     mentions: &[Mention<Span>],
     list: &mut Vec<Finding>,
 ) -> Result<(), AllocError>
-    ensures { OnOk result (AddsFindings list.old.items list.new.items
+    ensures { OnOk result (Adds list.old.items list.new.items
         (found_in (set_by (knows here.now.known) here.now.circles.now) here.now.file
         here.now.text.now nothing no_pattern mentions.now)) }
 {
@@ -139,7 +140,7 @@ fn add_found(
 }
 
 fn add_finding(list: &mut Vec<Finding>, finding: Option<Finding>) -> Result<(), AllocError>
-    ensures { OnOk result (AddsFindings list.old.items list.new.items (put finding)) }
+    ensures { OnOk result (Adds list.old.items list.new.items (put finding)) }
 {
     match finding {
         Some(finding) => {

@@ -2,7 +2,8 @@
 ghost use Rattle.std.specs.Prelude.{◌≡◌, ◌++◌, [], OnOk, IfOk, map};
 ghost use Rattle.fluent_syntax_tree.specs.Entry.{entry_map};
 ghost use Rattle.fluent_syntax_tree.specs.View.{entry_view};
-ghost use Rattle.fluent_syntax_names.specs.Mentions.{Adds, body_mentions, entry_mentions};
+ghost use Rattle.fluent_syntax_names.specs.Growing.{Adds};
+ghost use Rattle.fluent_syntax_names.specs.Mentions.{body_mentions, entry_mentions};
 ghost use Rattle.fluent_syntax_names.specs.Mentions.{mention_map, span_on};
 
 use crate::entries::{add_entry, mentions};

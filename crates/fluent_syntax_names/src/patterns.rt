@@ -3,7 +3,8 @@ ghost use Rattle.std.specs.Prelude.{◌≡◌, OnOk, option_map, map};
 ghost use Rattle.fluent_syntax_tree.specs.Tree.{elements_of, inlines_of, nameds_of, variants_of};
 ghost use Rattle.fluent_syntax_tree.specs.View.{identifier_view, expression_view, inline_view, element_view};
 ghost use Rattle.fluent_syntax_tree.specs.View.{arguments_view, named_view, pattern_view, variant_view};
-ghost use Rattle.fluent_syntax_names.specs.Mentions.{Adds, expression_mentions, inline_mentions, element_mentions};
+ghost use Rattle.fluent_syntax_names.specs.Growing.{Adds};
+ghost use Rattle.fluent_syntax_names.specs.Mentions.{expression_mentions, inline_mentions, element_mentions};
 ghost use Rattle.fluent_syntax_names.specs.Mentions.{arguments_mentions, pattern_mentions, inlines_mentions};
 ghost use Rattle.fluent_syntax_names.specs.Mentions.{nameds_mentions, variants_mentions};
 

@@ -5,12 +5,9 @@ use Rattle.fluent_syntax_tree.specs.View.{resource_view}
 use Rattle.fluent_syntax_tree.specs.declared.ast.Resource.{Resource}
 use Rattle.fluent_syntax_tree.specs.declared.edition.Edition.{Edition}
 use Rattle.fluent_syntax_tree.specs.declared.spans.Span.{Span}
-use Rattle.fluent_syntax_grammar.specs.Grammar.{family}
-use Rattle.fluent_syntax_grammar.specs.Tiling.{Tile, Tiled, Tiling, RuntimeTiling}
+use Rattle.fluent_syntax_grammar.specs.Tiling.{Tile, Tiling, RuntimeTiling}
 use Rattle.fluent_syntax_grammar.specs.Body.{faults, body}
 use Rattle.fluent_syntax_parser.specs.Faults.{fault_of}
-use Rattle.fluent_syntax_parser.specs.Rest.{TileIn}
-use Rattle.fluent_syntax_parser.specs.declared.options.Comments.{Comments}
 use Rattle.fluent_syntax_parser.specs.declared.fault.ParseFault.{ParseFault}
 use Rattle.fluent_syntax_parser.specs.declared.fault.ParseFault.TheVariants.{Syntax, Memory}
 
@@ -32,11 +29,6 @@ module _ {S X : Type 0} (text : S → X) (whole : BodyTree Span → BodyTree X) 
   abbrev pub AnswersRuntimeTiling : Edition → List ℕ → Result (Resource S) (ParseFault S) → Type 0
   AnswersRuntimeTiling edition t result = (tiles : List Tile) × RuntimeTiling edition t tiles × Answers tiles result
 
-  -- The answer is that of a tiling of the text, with comments or without.
-  abbrev pub AnswersIn : Comments → Edition → List ℕ → Result (Resource S) (ParseFault S) → Type 0
-  AnswersIn comments edition t result =
-      (tiles : List Tile) × Tiled t (TileIn comments edition t (family edition t)) 0 tiles × Answers tiles result
-
 -- The answer is that of a tiling of the text, with the ranges of its texts as they are.
 abbrev pub AnswersSpans : Edition → List ℕ → Result (Resource Span) (ParseFault Span) → Type 0
 AnswersSpans edition t result = AnswersTiling (λ s. s) (λ b. b) edition t result
@@ -44,10 +36,6 @@ AnswersSpans edition t result = AnswersTiling (λ s. s) (λ b. b) edition t resu
 -- The same of a tiling of the text without comments.
 abbrev pub AnswersRuntimeSpans : Edition → List ℕ → Result (Resource Span) (ParseFault Span) → Type 0
 AnswersRuntimeSpans edition t result = AnswersRuntimeTiling (λ s. s) (λ b. b) edition t result
-
--- The same of a tiling of the text with comments or without.
-abbrev pub AnswersSpansIn : Comments → Edition → List ℕ → Result (Resource Span) (ParseFault Span) → Type 0
-AnswersSpansIn comments edition t result = AnswersIn (λ s. s) (λ b. b) comments edition t result
 
 -- The place of each error begins within the text.
 abbrev pub ErrorsInText : {S : Type 0} → List ℕ → Result (Resource S) (ParseFault S) → Type 0

@@ -1,6 +1,6 @@
 -- What a layout spells, as a reader makes it.
-use Rattle.std.specs.Prelude.{◌≡◌, Box, ℕ, ◌+◌, List, [], ◌∷◌, ◌++◌, map, Option, Some, None, option_map, min}
-use Rattle.std.specs.Prelude.{nat_lt, if◌then◌else◌}
+use Rattle.std.specs.Prelude.{◌≡◌, Box, ℕ, ◌+◌, List, [], ◌∷◌, ◌++◌, map, Option, Some, None, option_map, min, nat_lt}
+use Rattle.std.specs.Prelude.{if◌then◌else◌}
 use Rattle.std.specs.Global.{Global}
 use Rattle.fluent_syntax_tree.specs.Tree.{ElementTree, ExpressionTree, text_element, pattern_map, placeable}
 use Rattle.fluent_syntax_tree.specs.View.{pattern_view}
@@ -9,20 +9,19 @@ use Rattle.fluent_syntax_tree.specs.declared.ast.Pattern.{Pattern}
 use Rattle.fluent_syntax_tree.specs.declared.edition.Edition.{Edition}
 use Rattle.fluent_syntax_tree.specs.declared.edition.Edition.TheVariants.{One, Two}
 use Rattle.fluent_syntax_tree.specs.declared.spans.Span.{Span}
-use Rattle.fluent_syntax_grammar.specs.Elements.{pattern_of, trimmed_end}
-use Rattle.fluent_syntax_grammar.specs.Layout as grammar
+use Rattle.fluent_syntax_grammar.specs.Elements.{ItemOf, text, filled, cut, opening_items, pattern_of, trimmed_end}
+use Rattle.fluent_syntax_grammar.specs.Layout.{Layout, PieceOf, run, placed, Ending, lf_at, crlf_at, text_end}
 use Rattle.fluent_syntax_parser.specs.Boxed.{boxed_expression_view}
-use Rattle.fluent_syntax_parser.specs.Layouts as layouts
-use Rattle.fluent_syntax_parser.specs.Layouts.{cut}
+use Rattle.fluent_syntax_parser.specs.Layouts.{line_of}
 use Rattle.fluent_syntax_parser.specs.Lines.{line_view}
 use Rattle.fluent_syntax_parser.specs.declared.pattern.line.Line.{Line}
 use Rattle.fluent_syntax_parser.specs.declared.pattern.line.Piece.{Piece}
 use Rattle.fluent_syntax_parser.specs.declared.pattern.line.Piece.TheVariants as piece
 
-module _ {S X : Type 0} (text : S → X) where
-  abbrev pub item_view : Piece S → layouts.Item (ExpressionTree X)
-  item_view (piece.Run from to) = layouts.text from to
-  item_view (piece.Placed e) = layouts.filled (boxed_expression_view text e)
+module _ {S X : Type 0} (v : S → X) where
+  abbrev pub item_view : Piece S → ItemOf (ExpressionTree X)
+  item_view (piece.Run from to) = text from to
+  item_view (piece.Placed e) = filled (boxed_expression_view v e)
 
   -- The items are cut to those that are left and a last one; or none is left.
   abbrev pub CutsTo : List ℕ → (all left : List (Piece S)) → (last : Option (Piece S)) → Type 0
@@ -31,40 +30,40 @@ module _ {S X : Type 0} (text : S → X) where
 
 -- with each placeable as it is
 module _ {S : Type 0} where
-  abbrev pub item_shape : Piece S → layouts.Item (Box (Expression S) Global)
-  item_shape (piece.Run from to) = layouts.text from to
-  item_shape (piece.Placed e) = layouts.filled e
+  abbrev pub item_shape : Piece S → ItemOf (Box (Expression S) Global)
+  item_shape (piece.Run from to) = text from to
+  item_shape (piece.Placed e) = filled e
 
 module _ {E : Type 0} where
   -- a run that waits for what follows it, and what follows
-  abbrev pub waiting : Option (ℕ × ℕ) → List (layouts.Piece E) → List (layouts.Piece E)
+  abbrev pub waiting : Option (ℕ × ℕ) → List (PieceOf E) → List (PieceOf E)
   waiting None ps = ps
-  waiting (Some r) ps = layouts.run r.0 r.1 ∷ ps
+  waiting (Some r) ps = run r.0 r.1 ∷ ps
 
   -- the pieces, of which a run that begins them begins at another place, if one is given
-  abbrev pub leading : Option ℕ → List (layouts.Piece E) → List (layouts.Piece E)
+  abbrev pub leading : Option ℕ → List (PieceOf E) → List (PieceOf E)
   leading None ps = ps
   leading (Some k) [] = []
-  leading (Some k) (layouts.run from to ∷ ps) = layouts.run k to ∷ ps
-  leading (Some k) (layouts.placed e ∷ ps) = layouts.placed e ∷ ps
+  leading (Some k) (run from to ∷ ps) = run k to ∷ ps
+  leading (Some k) (placed e ∷ ps) = placed e ∷ ps
 
   -- the items, with the run that waits behind them
-  abbrev pub flushed : List (layouts.Item E) → Option (ℕ × ℕ) → List (layouts.Item E)
+  abbrev pub flushed : List (ItemOf E) → Option (ℕ × ℕ) → List (ItemOf E)
   flushed xs None = xs
-  flushed xs (Some r) = xs ++ layouts.text r.0 r.1 ∷ []
+  flushed xs (Some r) = xs ++ text r.0 r.1 ∷ []
 
   -- the leading spaces beyond the common indent, where they are a text of their own: before a placeable, in edition 2
-  abbrev pub indent_of : Edition → (kept first : ℕ) → List (layouts.Piece E) → Option (ℕ × ℕ)
+  abbrev pub indent_of : Edition → (kept first : ℕ) → List (PieceOf E) → Option (ℕ × ℕ)
   indent_of edition kept first [] = None
-  indent_of edition kept first (layouts.run from to ∷ ps) = None
-  indent_of One kept first (layouts.placed e ∷ ps) = None
-  indent_of Two kept first (layouts.placed e ∷ ps) = if nat_lt kept first then Some (kept, first) else None
+  indent_of edition kept first (run from to ∷ ps) = None
+  indent_of One kept first (placed e ∷ ps) = None
+  indent_of Two kept first (placed e ∷ ps) = if nat_lt kept first then Some (kept, first) else None
 
   -- a line that holds nothing
-  abbrev pub bare_items : (kept : ℕ) → grammar.Ending → List (layouts.Item E)
-  bare_items kept (grammar.lf_at p) = layouts.text kept (p + 1) ∷ []
-  bare_items kept (grammar.crlf_at p) = layouts.text (p + 1) (p + 2) ∷ []
-  bare_items kept grammar.text_end = []
+  abbrev pub bare_items : (kept : ℕ) → Ending → List (ItemOf E)
+  bare_items kept (lf_at p) = text kept (p + 1) ∷ []
+  bare_items kept (crlf_at p) = text (p + 1) (p + 2) ∷ []
+  bare_items kept text_end = []
 
 -- where the leading spaces of a line beyond the common indent begin
 abbrev pub kept_place : Option ℕ → (start spaces : ℕ) → ℕ
@@ -78,20 +77,20 @@ listed (Some n) = n ∷ []
 
 module _ {X : Type 0} (f : Span → X) where
   -- the element that an item is which others follow
-  abbrev pub element_of : layouts.Item (ExpressionTree X) → ElementTree X
-  element_of (layouts.text from to) = text_element (f (record { start = from; end = to }))
-  element_of (layouts.filled e) = placeable e
+  abbrev pub element_of : ItemOf (ExpressionTree X) → ElementTree X
+  element_of (text from to) = text_element (f (record { start = from; end = to }))
+  element_of (filled e) = placeable e
 
   -- the element that the last item is: a text is trimmed at its end
-  abbrev pub last_of : List ℕ → layouts.Item (ExpressionTree X) → ElementTree X
-  last_of t (layouts.text from to) = text_element (f (record { start = from; end = trimmed_end t from to }))
-  last_of t (layouts.filled e) = placeable e
+  abbrev pub last_of : List ℕ → ItemOf (ExpressionTree X) → ElementTree X
+  last_of t (text from to) = text_element (f (record { start = from; end = trimmed_end t from to }))
+  last_of t (filled e) = placeable e
 
 -- The pattern is what a layout spells: that of any layout of the grammar of which the items of the opening line and the
 -- other lines are made, with f of each text.
 abbrev pub MakesPattern : {S X : Type 0} → (Span → X) → (S → X) → Edition → List ℕ → (items : List (Piece S)) →
     (lines : List (Line S)) → Option (Pattern S) → Type 0
 MakesPattern f v edition t items lines pattern =
-    (y : grammar.Layout) → map (item_view v) items ≡ layouts.opening_items (option_map (layouts.line_of f) y.opening) →
-    map (line_view v) lines ≡ map (layouts.line_of f) y.lines →
+    (y : Layout) → map (item_view v) items ≡ opening_items (option_map (line_of f) y.opening) →
+    map (line_view v) lines ≡ map (line_of f) y.lines →
     option_map (pattern_view v) pattern ≡ option_map (pattern_map f) (pattern_of edition t y)

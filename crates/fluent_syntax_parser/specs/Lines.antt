@@ -3,26 +3,26 @@ use Rattle.std.specs.Prelude.{Box, map}
 use Rattle.std.specs.Global.{Global}
 use Rattle.fluent_syntax_tree.specs.Tree.{ExpressionTree}
 use Rattle.fluent_syntax_tree.specs.declared.ast.Expression.{Expression}
-use Rattle.fluent_syntax_grammar.specs.Layout as grammar
+use Rattle.fluent_syntax_grammar.specs.Layout as layout
+use Rattle.fluent_syntax_grammar.specs.Layout.{PieceOf, LineOf, run, placed, lf_at, crlf_at, text_end}
 use Rattle.fluent_syntax_parser.specs.Boxed.{boxed_expression_view}
-use Rattle.fluent_syntax_parser.specs.Layouts as layout
 use Rattle.fluent_syntax_parser.specs.declared.pattern.line.Ending.{Ending}
 use Rattle.fluent_syntax_parser.specs.declared.pattern.line.Ending.TheVariants as ends
 use Rattle.fluent_syntax_parser.specs.declared.pattern.line.Line.{Line}
 use Rattle.fluent_syntax_parser.specs.declared.pattern.line.Piece.{Piece}
 use Rattle.fluent_syntax_parser.specs.declared.pattern.line.Piece.TheVariants as piece
 
-abbrev pub ending_view : Ending → grammar.Ending
-ending_view (ends.Lf p) = grammar.lf_at p
-ending_view (ends.Crlf p) = grammar.crlf_at p
-ending_view ends.TextEnd = grammar.text_end
+abbrev pub ending_view : Ending → layout.Ending
+ending_view (ends.Lf p) = lf_at p
+ending_view (ends.Crlf p) = crlf_at p
+ending_view ends.TextEnd = text_end
 
 module _ {S X : Type 0} (text : S → X) where
-  abbrev pub piece_view : Piece S → layout.Piece (ExpressionTree X)
-  piece_view (piece.Run from to) = layout.run from to
-  piece_view (piece.Placed e) = layout.placed (boxed_expression_view text e)
+  abbrev pub piece_view : Piece S → PieceOf (ExpressionTree X)
+  piece_view (piece.Run from to) = run from to
+  piece_view (piece.Placed e) = placed (boxed_expression_view text e)
 
-  abbrev pub line_view : Line S → layout.Line (ExpressionTree X)
+  abbrev pub line_view : Line S → LineOf (ExpressionTree X)
   line_view l = record {
     start = l.start;
     spaces = l.spaces;
@@ -33,11 +33,11 @@ module _ {S X : Type 0} (text : S → X) where
 -- ---- with each placeable as it is
 
 module _ {S : Type 0} where
-  abbrev pub piece_shape : Piece S → layout.Piece (Box (Expression S) Global)
-  piece_shape (piece.Run from to) = layout.run from to
-  piece_shape (piece.Placed e) = layout.placed e
+  abbrev pub piece_shape : Piece S → PieceOf (Box (Expression S) Global)
+  piece_shape (piece.Run from to) = run from to
+  piece_shape (piece.Placed e) = placed e
 
-  abbrev pub line_shape : Line S → layout.Line (Box (Expression S) Global)
+  abbrev pub line_shape : Line S → LineOf (Box (Expression S) Global)
   line_shape l = record {
     start = l.start;
     spaces = l.spaces;

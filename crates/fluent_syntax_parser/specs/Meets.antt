@@ -81,12 +81,6 @@ pub data Fails {A : Type 0} (t : List ℕ) (c : Construct A) (i : ℕ) : ReadFau
   too_deep : TooDeep c i → Fails t c i faults.TooDeep
   no_memory : Fails t c i faults.Memory
 
--- The same of a reader that nests or takes memory. Where it says that the construct nests too deeply, that has no
--- outcome.
-abbrev pub Meets : {A X : Type 0} → List ℕ → Construct A → (X → A) → ℕ → Result (X × ℕ) ReadFault → Type 0
-Meets t c view i (Ok x) = c i (Read (view x.0) x.1)
-Meets t c view i (Err f) = Fails t c i f
-
 -- the same of a reader of what has no value
 abbrev pub MeetsEnd : List ℕ → Construct (Unit {0}) → ℕ → Result ℕ Refusal → Type 0
 MeetsEnd t c i (Ok j) = c i (Read tt j)

@@ -8,7 +8,8 @@ use Rattle.fluent_syntax_grammar.specs.Lines.{more_lines}
 use Rattle.fluent_syntax_grammar.specs.Patterns.{layout_at}
 use Rattle.fluent_syntax_grammar.specs.Places.{after_eol}
 use Rattle.fluent_syntax_parser.specs.Elements.{item_view}
-use Rattle.fluent_syntax_parser.specs.Layouts.{line_of, opening_items}
+use Rattle.fluent_syntax_grammar.specs.Elements.{opening_items}
+use Rattle.fluent_syntax_parser.specs.Layouts.{line_of}
 use Rattle.fluent_syntax_parser.specs.Lines.{line_view}
 use Rattle.fluent_syntax_parser.specs.Meets.{Fails}
 use Rattle.fluent_syntax_parser.specs.declared.fault.ReadFault.{ReadFault}

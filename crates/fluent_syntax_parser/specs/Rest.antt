@@ -1,8 +1,10 @@
 -- What is left of a text that is read entry by entry.
 use Rattle.std.specs.Prelude.{◌≡◌, ℕ, ◌<◌, ◌≤◌, List, [], ◌∷◌, ◌++◌, length, map, Option, Some, None, Bool, true, false}
+use Rattle.std.specs.Prelude.{Result}
 use Rattle.fluent_syntax_tree.specs.Entry.{BodyTree, EntryTree, comment, regular}
 use Rattle.fluent_syntax_tree.specs.View.{entry_view}
 use Rattle.fluent_syntax_tree.specs.declared.ast.Entry.{Entry}
+use Rattle.fluent_syntax_tree.specs.declared.ast.Resource.{Resource}
 use Rattle.fluent_syntax_tree.specs.declared.edition.Edition.{Edition}
 use Rattle.fluent_syntax_tree.specs.declared.errors.ParserError.{ParserError}
 use Rattle.fluent_syntax_tree.specs.declared.spans.Span.{Span}
@@ -13,7 +15,9 @@ use Rattle.fluent_syntax_grammar.specs.Grammar.{family, within}
 use Rattle.fluent_syntax_grammar.specs.Places.{has_byte}
 use Rattle.fluent_syntax_grammar.specs.Tiling as tiling
 use Rattle.fluent_syntax_grammar.specs.Tiling.{Fault, Tile, entry, Tiled, TileAt, RuntimeTileIn}
+use Rattle.fluent_syntax_parser.specs.Answers.{Answers}
 use Rattle.fluent_syntax_parser.specs.Faults.{fault_of}
+use Rattle.fluent_syntax_parser.specs.declared.fault.ParseFault.{ParseFault}
 use Rattle.fluent_syntax_parser.specs.declared.options.Comments.{Comments}
 use Rattle.fluent_syntax_parser.specs.declared.options.Comments.TheVariants.{Kept, Dropped}
 
@@ -119,3 +123,16 @@ pub record Reached (comments : Comments) (edition : Edition) (t : List ℕ) (i :
   pub errors : List (Option Fault)
   pub rest : (others : BodyTree Span) (more : List (Option Fault)) → Rest comments edition t i others more →
       Rest comments edition t 0 (entries ++ others) (errors ++ more)
+
+-- ---- Answers
+
+-- The answer is that of a tiling of the text, with comments or without.
+abbrev pub AnswersIn : {S X : Type 0} → (S → X) → (BodyTree Span → BodyTree X) → Comments → Edition → List ℕ →
+    Result (Resource S) (ParseFault S) → Type 0
+AnswersIn text whole comments edition t result =
+    (tiles : List Tile) × Tiled t (TileIn comments edition t (family edition t)) 0 tiles ×
+    Answers text whole tiles result
+
+-- The same with the ranges of the texts as they are.
+abbrev pub AnswersSpansIn : Comments → Edition → List ℕ → Result (Resource Span) (ParseFault Span) → Type 0
+AnswersSpansIn comments edition t result = AnswersIn (λ s. s) (λ b. b) comments edition t result

@@ -8,7 +8,7 @@ ghost use Rattle.fluent_syntax_grammar.specs.Lines.{ending};
 ghost use Rattle.fluent_syntax_grammar.specs.Patterns.{pattern};
 ghost use Rattle.fluent_syntax_grammar.specs.Places.{InlineBlank};
 ghost use Rattle.fluent_syntax_parser.specs.Elements.{item_view};
-ghost use Rattle.fluent_syntax_parser.specs.Layouts.{with_ending};
+ghost use Rattle.fluent_syntax_grammar.specs.Elements.{with_ending};
 ghost use Rattle.fluent_syntax_parser.specs.Lines.{piece_view};
 ghost use Rattle.fluent_syntax_parser.specs.Made.{Makes};
 ghost use Rattle.fluent_syntax_parser.specs.OneLine.{EndsBlank, EndsLine, NoLines, OpensAs, text_pattern};

@@ -3,13 +3,12 @@ ghost use Rattle.std.specs.Prelude.{◌≡◌, ◌+◌, ◌<◌, ◌^◌, ◌≢
 ghost use Rattle.fluent_syntax_tree.specs.Entry.{body_map};
 ghost use Rattle.fluent_syntax_grammar.specs.Nesting.{NestsDeeper, RuntimeNestsDeeper, TextDeeper};
 ghost use Rattle.fluent_syntax_grammar.specs.Places.{BlankBlock};
-ghost use Rattle.fluent_syntax_parser.specs.Answers.{AnswersIn, AnswersRuntimeSpans, AnswersSpans, AnswersSpansIn};
-ghost use Rattle.fluent_syntax_parser.specs.Answers.{ErrorsInText};
+ghost use Rattle.fluent_syntax_parser.specs.Answers.{AnswersRuntimeSpans, AnswersSpans, ErrorsInText};
+ghost use Rattle.fluent_syntax_parser.specs.Rest.{AnswersIn, AnswersSpansIn, TileIn};
 ghost use Rattle.fluent_syntax_parser.specs.Halts.{HaltsWithin, OnHalt};
 ghost use Rattle.fluent_syntax_parser.specs.Parts.{HasParts};
 ghost use Rattle.fluent_syntax_parser.specs.declared.fault.ParseFault.TheVariants.{Memory};
 ghost use Rattle.fluent_syntax_parser.specs.MadeEntries.{MadeBody};
-ghost use Rattle.fluent_syntax_parser.specs.Rest.{TileIn};
 
 use crate::fault::{ParseFault, TooDeep, answer_of};
 use crate::options::{Comments, Halt, Options};

@@ -1,44 +1,27 @@
-//! Tests of the parser: texts whose trees and errors are known; and what other tests compare and make trees with.
+//! Tests of the libraries of trees, in a module for each crate; and what other crates' tests compare with, and read.
 #![tactic(auto)]
 
+/// A table with a row on a line, which `rt fmt` leaves as it is.
+macro_rules! table {
+    ($($($cell:expr),+;)*) => { &[$(($($cell),+)),*] };
+}
+
 pub mod alike;
+pub mod corpus;
 #[cfg(test)]
-mod blank;
+mod edits;
+pub mod json;
 #[cfg(test)]
-mod copies;
+mod made;
 #[cfg(test)]
-mod depths;
+mod names;
 #[cfg(test)]
-mod editions;
+mod outline;
 #[cfg(test)]
-mod entries;
+mod parser;
 #[cfg(test)]
-mod entries_one_by_one;
+mod surface;
 #[cfg(test)]
-mod entry_spans;
+mod tree;
 #[cfg(test)]
-mod errors;
-#[cfg(test)]
-mod extents;
-#[cfg(test)]
-mod kinds;
-pub mod made;
-#[cfg(test)]
-mod many_arguments;
-#[cfg(test)]
-mod nesting;
-pub mod outline;
-#[cfg(test)]
-mod passed_over;
-#[cfg(test)]
-mod places;
-#[cfg(test)]
-mod runtime;
-#[cfg(test)]
-mod spans;
-#[cfg(test)]
-mod texts;
-#[cfg(test)]
-mod tiles;
-#[cfg(test)]
-mod trees;
+mod writer;

@@ -27,11 +27,9 @@ use Rattle.fluent_syntax_tree.specs.declared.ast.CallArguments.{CallArguments, o
 use Rattle.fluent_syntax_tree.specs.declared.ast.NamedArgument.{NamedArgument}
 use Rattle.fluent_syntax_tree.specs.declared.ast.Pattern.{Pattern}
 use Rattle.fluent_syntax_tree.specs.declared.ast.Variant.{Variant}
-use Rattle.fluent_syntax_tree.proofs.Views.{view-Select, view-Inline, view-StringLiteral, view-NumberLiteral}
-use Rattle.fluent_syntax_tree.proofs.Views.{view-FunctionReference, view-MessageReference, view-TermReference}
-use Rattle.fluent_syntax_tree.proofs.Views.{view-VariableReference, view-InlinePlaceable, view-TextElement}
-use Rattle.fluent_syntax_tree.proofs.Views.{view-Placeable, view-Pattern, view-Variant, view-NamedArgument}
-use Rattle.fluent_syntax_tree.proofs.Views.{view-CallArguments}
+use Rattle.fluent_syntax_tree.proofs.Views.{view-Select, view-Inline, view-FunctionReference, view-TermReference}
+use Rattle.fluent_syntax_tree.proofs.Views.{view-InlinePlaceable, view-Placeable, view-Pattern, view-Variant}
+use Rattle.fluent_syntax_tree.proofs.Views.{view-NamedArgument, view-CallArguments}
 
 -- ---- lists
 
@@ -57,40 +55,20 @@ pub inlines_list : {X : Type 0} (P : X → Type 0) (xs : List (InlineTree X)) �
 inlines_list P [] h = tt
 inlines_list P (x ∷ xs) h = (h.0, inlines_list P xs h.1)
 
-pub list_inlines : {X : Type 0} (P : X → Type 0) (xs : List (InlineTree X)) → list_every (inline_every P) xs →
-    inlines_every P (inlines_of xs)
-list_inlines P [] h = tt
-list_inlines P (x ∷ xs) h = (h.0, list_inlines P xs h.1)
-
 pub nameds_list : {X : Type 0} (P : X → Type 0) (xs : List (NamedTree X)) → nameds_every P (nameds_of xs) →
     list_every (named_every P) xs
 nameds_list P [] h = tt
 nameds_list P (x ∷ xs) h = (h.0, nameds_list P xs h.1)
-
-pub list_nameds : {X : Type 0} (P : X → Type 0) (xs : List (NamedTree X)) → list_every (named_every P) xs →
-    nameds_every P (nameds_of xs)
-list_nameds P [] h = tt
-list_nameds P (x ∷ xs) h = (h.0, list_nameds P xs h.1)
 
 pub elements_list : {X : Type 0} (P : X → Type 0) (xs : List (ElementTree X)) → pattern_every P (elements_of xs) →
     list_every (element_every P) xs
 elements_list P [] h = tt
 elements_list P (x ∷ xs) h = (h.0, elements_list P xs h.1)
 
-pub list_elements : {X : Type 0} (P : X → Type 0) (xs : List (ElementTree X)) → list_every (element_every P) xs →
-    pattern_every P (elements_of xs)
-list_elements P [] h = tt
-list_elements P (x ∷ xs) h = (h.0, list_elements P xs h.1)
-
 pub variants_list : {X : Type 0} (P : X → Type 0) (xs : List (VariantTree X)) → variants_every P (variants_of xs) →
     list_every (variant_every P) xs
 variants_list P [] h = tt
 variants_list P (x ∷ xs) h = (h.0, variants_list P xs h.1)
-
-pub list_variants : {X : Type 0} (P : X → Type 0) (xs : List (VariantTree X)) → list_every (variant_every P) xs →
-    variants_every P (variants_of xs)
-list_variants P [] h = tt
-list_variants P (x ∷ xs) h = (h.0, list_variants P xs h.1)
 
 -- ---- the parts of a value
 
@@ -102,56 +80,16 @@ module _ {S X : Type 0} (text : S → X) (P : X → Type 0) where
       let h = subst (expression_every P) (ap (expression_view text) e' ∙ view-Select text e vs) all in
       (h.0, variants_list P _ h.1)
 
-  pub of-Select : (e : InlineExpression S) (vs : Vec (Variant S) Global) → inline_every P (inline_view text e) ×
-      list_every (variant_every P) (map (variant_view text) vs.items) →
-      expression_every P (expression_view text (Select e vs))
-  of-Select e vs h = subst (expression_every P) (sym (view-Select text e vs)) ((h.0, list_variants P _ h.1))
-
   pub every-Inline : (d : Expression S) (e : InlineExpression S) → d ≡ Inline e →
       expression_every P (expression_view text d) → inline_every P (inline_view text e)
   every-Inline d e e' all =
       let h = subst (expression_every P) (ap (expression_view text) e' ∙ view-Inline text e) all in h
-
-  pub of-Inline : (e : InlineExpression S) → inline_every P (inline_view text e) →
-      expression_every P (expression_view text (Inline e))
-  of-Inline e h = subst (expression_every P) (sym (view-Inline text e)) (h)
-
-  pub every-StringLiteral : (d : InlineExpression S) (x : S) → d ≡ inl.StringLiteral x →
-      inline_every P (inline_view text d) → P (text x)
-  every-StringLiteral d x e' all =
-      let h = subst (inline_every P) (ap (inline_view text) e' ∙ view-StringLiteral text x) all in h
-
-  pub of-StringLiteral : (x : S) → P (text x) → inline_every P (inline_view text (inl.StringLiteral x))
-  of-StringLiteral x h = subst (inline_every P) (sym (view-StringLiteral text x)) (h)
-
-  pub every-NumberLiteral : (d : InlineExpression S) (x : S) → d ≡ inl.NumberLiteral x →
-      inline_every P (inline_view text d) → P (text x)
-  every-NumberLiteral d x e' all =
-      let h = subst (inline_every P) (ap (inline_view text) e' ∙ view-NumberLiteral text x) all in h
-
-  pub of-NumberLiteral : (x : S) → P (text x) → inline_every P (inline_view text (inl.NumberLiteral x))
-  of-NumberLiteral x h = subst (inline_every P) (sym (view-NumberLiteral text x)) (h)
 
   pub every-FunctionReference : (d : InlineExpression S) (i : Identifier S) (a : CallArguments S) →
       d ≡ inl.FunctionReference i a → inline_every P (inline_view text d) → P (text i.name) ×
       arguments_every P (arguments_view text a)
   every-FunctionReference d i a e' all =
       let h = subst (inline_every P) (ap (inline_view text) e' ∙ view-FunctionReference text i a) all in h
-
-  pub of-FunctionReference : (i : Identifier S) (a : CallArguments S) → P (text i.name) ×
-      arguments_every P (arguments_view text a) → inline_every P (inline_view text (inl.FunctionReference i a))
-  of-FunctionReference i a h = subst (inline_every P) (sym (view-FunctionReference text i a)) (h)
-
-  pub every-MessageReference : (d : InlineExpression S) (i : Identifier S) (o : Option (Identifier S)) →
-      d ≡ inl.MessageReference i o → inline_every P (inline_view text d) → P (text i.name) ×
-      option_every P (option_map (identifier_view text) o)
-  every-MessageReference d i o e' all =
-      let h = subst (inline_every P) (ap (inline_view text) e' ∙ view-MessageReference text i o) all in h
-
-  pub of-MessageReference : (i : Identifier S) (o : Option (Identifier S)) → P (text i.name) ×
-      option_every P (option_map (identifier_view text) o) →
-      inline_every P (inline_view text (inl.MessageReference i o))
-  of-MessageReference i o h = subst (inline_every P) (sym (view-MessageReference text i o)) (h)
 
   pub every-TermReference :
       (d : InlineExpression S) (i : Identifier S) (o : Option (Identifier S)) (a : Option (CallArguments S)) →
@@ -161,121 +99,33 @@ module _ {S X : Type 0} (text : S → X) (P : X → Type 0) where
   every-TermReference d i o a e' all =
       let h = subst (inline_every P) (ap (inline_view text) e' ∙ view-TermReference text i o a) all in h
 
-  pub of-TermReference : (i : Identifier S) (o : Option (Identifier S)) (a : Option (CallArguments S)) →
-      P (text i.name) × option_every P (option_map (identifier_view text) o) ×
-      maybe_every P (arguments_of (option_map (arguments_view text) a)) →
-      inline_every P (inline_view text (inl.TermReference i o a))
-  of-TermReference i o a h = subst (inline_every P) (sym (view-TermReference text i o a)) (h)
-
-  pub every-VariableReference : (d : InlineExpression S) (i : Identifier S) → d ≡ inl.VariableReference i →
-      inline_every P (inline_view text d) → P (text i.name)
-  every-VariableReference d i e' all =
-      let h = subst (inline_every P) (ap (inline_view text) e' ∙ view-VariableReference text i) all in h
-
-  pub of-VariableReference : (i : Identifier S) → P (text i.name) →
-      inline_every P (inline_view text (inl.VariableReference i))
-  of-VariableReference i h = subst (inline_every P) (sym (view-VariableReference text i)) (h)
-
   pub every-InlinePlaceable : (d : InlineExpression S) (e : Box (Expression S) Global) → d ≡ inl.Placeable e →
       inline_every P (inline_view text d) → expression_every P (expression_view text e.value)
   every-InlinePlaceable d e e' all =
       let h = subst (inline_every P) (ap (inline_view text) e' ∙ view-InlinePlaceable text e) all in h
-
-  pub of-InlinePlaceable : (e : Box (Expression S) Global) → expression_every P (expression_view text e.value) →
-      inline_every P (inline_view text (inl.Placeable e))
-  of-InlinePlaceable e h = subst (inline_every P) (sym (view-InlinePlaceable text e)) (h)
-
-  pub every-TextElement : (d : PatternElement S) (x : S) → d ≡ elem.TextElement x →
-      element_every P (element_view text d) → P (text x)
-  every-TextElement d x e' all =
-      let h = subst (element_every P) (ap (element_view text) e' ∙ view-TextElement text x) all in h
-
-  pub of-TextElement : (x : S) → P (text x) → element_every P (element_view text (elem.TextElement x))
-  of-TextElement x h = subst (element_every P) (sym (view-TextElement text x)) (h)
 
   pub every-Placeable : (d : PatternElement S) (e : Expression S) → d ≡ elem.Placeable e →
       element_every P (element_view text d) → expression_every P (expression_view text e)
   every-Placeable d e e' all =
       let h = subst (element_every P) (ap (element_view text) e' ∙ view-Placeable text e) all in h
 
-  pub of-Placeable : (e : Expression S) → expression_every P (expression_view text e) →
-      element_every P (element_view text (elem.Placeable e))
-  of-Placeable e h = subst (element_every P) (sym (view-Placeable text e)) (h)
-
   pub every-Variant : (v : Variant S) → variant_every P (variant_view text v) → key_every P (key_view text v.key) ×
       pattern_every P (pattern_view text v.value)
   every-Variant v h = subst (variant_every P) (view-Variant text v) h
-
-  pub of-Variant : (v : Variant S) → key_every P (key_view text v.key) ×
-      pattern_every P (pattern_view text v.value) → variant_every P (variant_view text v)
-  of-Variant v h = subst (variant_every P) (sym (view-Variant text v)) h
 
   pub every-NamedArgument : (a : NamedArgument S) → named_every P (named_view text a) → P (text a.name.name) ×
       inline_every P (inline_view text a.value)
   every-NamedArgument a h = subst (named_every P) (view-NamedArgument text a) h
 
-  pub of-NamedArgument : (a : NamedArgument S) → P (text a.name.name) ×
-      inline_every P (inline_view text a.value) → named_every P (named_view text a)
-  of-NamedArgument a h = subst (named_every P) (sym (view-NamedArgument text a)) h
-
   pub every-Pattern : (p : Pattern S) → pattern_every P (pattern_view text p) →
       list_every (element_every P) (map (element_view text) p.elements.items)
   every-Pattern p h = elements_list P _ (subst (pattern_every P) (view-Pattern text p) h)
-
-  pub of-Pattern : (p : Pattern S) → list_every (element_every P) (map (element_view text) p.elements.items) →
-      pattern_every P (pattern_view text p)
-  of-Pattern p h = subst (pattern_every P) (sym (view-Pattern text p)) (list_elements P _ h)
 
   pub every-CallArguments : (a : CallArguments S) → arguments_every P (arguments_view text a) →
       list_every (inline_every P) (map (inline_view text) (out-CallArguments S a).positional.items) ×
       list_every (named_every P) (map (named_view text) (out-CallArguments S a).named.items)
   every-CallArguments a all = let h = subst (arguments_every P) (view-CallArguments text a) all in
       (inlines_list P _ h.0, nameds_list P _ h.1)
-
-  pub of-CallArguments : (a : CallArguments S) →
-      list_every (inline_every P) (map (inline_view text) (out-CallArguments S a).positional.items) ×
-      list_every (named_every P) (map (named_view text) (out-CallArguments S a).named.items) →
-      arguments_every P (arguments_view text a)
-  of-CallArguments a h =
-      subst (arguments_every P) (sym (view-CallArguments text a)) (list_inlines P _ h.0, list_nameds P _ h.1)
-
--- a value's parts from the value
-pub ruleset everys = (
-  every-Select,
-  every-Inline,
-  every-StringLiteral,
-  every-NumberLiteral,
-  every-FunctionReference,
-  every-MessageReference,
-  every-TermReference,
-  every-VariableReference,
-  every-InlinePlaceable,
-  every-TextElement,
-  every-Placeable,
-  every-Variant,
-  every-NamedArgument,
-  every-Pattern,
-  every-CallArguments,
-)
-
--- a value from its parts
-pub ruleset of_parts = (
-  of-Select,
-  of-Inline,
-  of-StringLiteral,
-  of-NumberLiteral,
-  of-FunctionReference,
-  of-MessageReference,
-  of-TermReference,
-  of-VariableReference,
-  of-InlinePlaceable,
-  of-TextElement,
-  of-Placeable,
-  of-Variant,
-  of-NamedArgument,
-  of-Pattern,
-  of-CallArguments,
-)
 
 -- ---- what always holds
 

@@ -75,10 +75,6 @@ module _ {S X : Type 0} (text : S → X) where
   unfolding expression_view inline_view element_view arguments_view named_view pattern_view variant_view
   view-Placeable e = search (rules, the_lemmas)
 
-  pub view-placed : (e : InlineExpression S) →
-      element_view text (elem.Placeable (Inline e)) ≡ placeable (inline (inline_view text e))
-  view-placed e = view-Placeable (Inline e) ∙ ap placeable (view-Inline e)
-
   pub view-Pattern : (p : Pattern S) → pattern_view text p ≡ elements_of (map (element_view text) p.elements.items)
   unfolding expression_view inline_view element_view arguments_view named_view pattern_view variant_view
   view-Pattern p = search (rules, the_lemmas)

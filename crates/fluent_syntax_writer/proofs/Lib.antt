@@ -8,3 +8,5 @@ pub mod Marks
 pub mod Placeables
 pub mod Sinks
 pub mod Splits
+pub mod rules
+pub mod joining

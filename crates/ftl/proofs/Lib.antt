@@ -1,6 +1,6 @@
 pub mod Bytes
-pub mod Checked
-pub mod Errors
+pub mod ErrorsTo
+pub mod FaultLines
 pub mod FormattedAgain
 pub mod ReadTo
 pub mod Came

@@ -45,11 +45,6 @@ module _ (t : List ℕ) where
   abbrev pub error_line : Fault → List ℕ
   error_line f = error_text (line_at t f.pos.start) (column_at t f.pos.start) f
 
-  -- the line of an error, if there is one
-  abbrev pub line_of_error : Option ParserError → List ℕ
-  line_of_error None = []
-  line_of_error (Some error) = error_line (told error)
-
   -- a line for each error of the tiles, in order
   abbrev pub error_lines : List Tile → List ℕ
   error_lines tiles = flat_map error_line (faults tiles)

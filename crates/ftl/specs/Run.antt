@@ -39,3 +39,10 @@ WritesAnswer command input old new (Err Output) =
     (text : List ℕ) × (outcome : Outcome) × IsRunAnswer command input text outcome × AppendsBeginning old new text
 WritesAnswer command input old new (Err Input) = Unit {0}
 WritesAnswer command input old new (Err Memory) = Unit {0}
+
+-- where something was written, the text or a beginning of it
+abbrev pub IfWritten : Result Outcome RunFault → Type 0 → Type 0
+IfWritten (Ok outcome) holds = holds
+IfWritten (Err Output) holds = holds
+IfWritten (Err Input) holds = Unit {0}
+IfWritten (Err Memory) holds = Unit {0}

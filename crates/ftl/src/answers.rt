@@ -1,6 +1,7 @@
 //! The text that a command writes.
 ghost use Rattle.std.specs.Prelude.{◌≡◌, ◌≢◌, ◌↔◌, ◌+◌, ◌++◌, ◌^◌, ◌<◌, ◌≤◌, List, length, string_bytes, Err};
-ghost use Rattle.std.specs.Prelude.{Ok, IfErr, IfOk, IfSome, OnErr, OnOk, false, true};
+ghost use Rattle.std.specs.Prelude.{Ok, IfErr, IfOk, OnErr, OnOk, All, map, true};
+ghost use Rattle.std.specs.List.{flat_map};
 ghost use Rattle.std.specs.Str.{IsUtf8};
 ghost use Rattle.fluent_syntax_tree.specs.Entry.{body_map};
 ghost use Rattle.fluent_syntax_tree.specs.Spans.{bytes_at};
@@ -12,10 +13,11 @@ ghost use Rattle.fluent_syntax_grammar.specs.Canonical.{is_canonical};
 ghost use Rattle.fluent_syntax_parser.specs.Halts.{HaltsWithin, OnHalt};
 ghost use Rattle.fluent_syntax_parser.specs.Rest.{TileIn};
 ghost use Rattle.fluent_syntax_parser.specs.declared.fault.ParseFault.TheVariants.{Memory};
-ghost use Rattle.ftl.specs.Answer.{IsAnswer, ReadsDeeper, error_lines, error_text, line_of_error, range_text};
-ghost use Rattle.ftl.specs.Answer.{json_text, normal_text, outcome_of, told};
+ghost use Rattle.ftl.specs.Answer.{IsAnswer, ReadsDeeper, error_line, error_lines, error_text, json_text};
+ghost use Rattle.ftl.specs.Answer.{normal_text, outcome_of, outcome_with, range_text, told};
 
 use crate::command::Command;
+use crate::errors::errors_within;
 use crate::one_by_one::write_one_by_one;
 use crate::outcome::{Outcome, RunFault};
 use crate::writers::NormalWriter;
@@ -92,58 +94,40 @@ fn check(
     ensures deeper { OnErr result (NestsDeeper edition text.now nesting) }
     ensures shallow { IfOk result (λ answer. IfOk answer (λ given. NestsDeeper edition text.now nesting → ⊥)) }
 {
-    match lines(alloc, text, edition, nesting) {
-        Ok(lines) => {
-            let outcome = if lines.is_empty() {
-                Outcome::Clean
-            } else {
-                Outcome::SyntaxErrors
-            };
-            Ok(Ok((lines, outcome)))
-        }
+    match errors_within(alloc, text, edition, nesting) {
+        Ok(errors) => match error_lines(alloc, text, &errors) {
+            Ok(lines) => Ok(Ok((lines, outcome_of(&errors)))),
+            Err(AllocError) => Ok(Err(RunFault::Memory)),
+        },
         Err(Halt::Memory) => Ok(Err(RunFault::Memory)),
         Err(Halt::TooDeep) => Err(TooDeep),
     }
 }
 
-/// A line for each error, written as the entries come: none of them is kept.
-fn lines(alloc: Global, text: &str, edition: Edition, nesting: usize) -> Result<String, Halt>
-    requires { length text.now + 1 < 2 ^ 64 }
-    ensures text { IfOk result (λ lines. (tiles : List Tile) × Tiling edition text.now tiles
-        × (string_bytes lines ≡ error_lines text.now tiles)) }
-    ensures nests { IfErr result (HaltsWithin nesting (length text.now)) }
-    ensures deeper { IfErr result (OnHalt (NestsDeeper edition text.now nesting)) }
-    ensures shallow { IfOk result (λ lines. NestsDeeper edition text.now nesting → ⊥) }
+/// Whether there are errors.
+fn outcome_of(errors: &[ParserError]) -> Outcome
+    ensures { result ≡ outcome_with (map told errors.now) }
 {
-    let options = Options {
-        edition,
-        comments: Comments::Kept,
-        nesting,
-    };
-    let mut entries = Entries::new(text, options);
-    let mut places = Lines::new(text);
-    let mut out = String::new(alloc);
-    while let Some(error) = entries.next_error(alloc)? {
-        write_if_error(&mut out, &mut places, error)?;
+    if errors.is_empty() {
+        Outcome::Clean
+    } else {
+        Outcome::SyntaxErrors
     }
-    Ok(out)
 }
 
-/// Writes the line of an error, if there is one.
-fn write_if_error(
-    out: &mut String,
-    places: &mut Lines<'_>,
-    error: Option<ParserError>,
-) -> Result<(), AllocError>
-    requires { IfSome error (λ error. error.pos.start ≤ length places.old) }
-    ensures line { OnOk result (string_bytes out.new ≡ string_bytes out.old ++ line_of_error places.old error) }
-    ensures source { places.new ≡ places.old }
+/// A line for each of the errors of the text.
+fn error_lines(alloc: Global, text: &str, errors: &[ParserError]) -> Result<String, AllocError>
+    requires short { length text.now + 1 < 2 ^ 64 }
+    requires places { All (λ e. e.pos.start ≤ length text.now) errors.now }
+    ensures { IfOk result (λ lines. string_bytes lines ≡ flat_map (error_line text.now) (map told errors.now)) }
 {
-    if let Some(error) = error {
+    let mut places = Lines::new(text);
+    let mut out = String::new(alloc);
+    for error in errors {
         let (line, column) = places.line_column(error.pos.start);
-        write_line(out, line, column, &error)?;
+        write_line(&mut out, line, column, error)?;
     }
-    Ok(())
+    Ok(out)
 }
 
 /// `LINE:COLUMN START..END FROM..TO NAME`: where the error is, by lines and by bytes, the junk's

@@ -3,6 +3,7 @@
 
 mod answers;
 mod command;
+mod errors;
 mod from_json;
 pub mod laws;
 mod one_by_one;
@@ -14,8 +15,9 @@ mod writers;
 
 pub use answers::{Formatted, answer, answer_within, formatted_within};
 pub use command::{Command, usage};
+pub use errors::errors_within;
 pub use from_json::{JsonFault, text_of_json, tree_of_json};
 pub use outcome::{Outcome, RunFault};
-pub use runs::{run, run_within};
+pub use runs::{run, run_within, write_all};
 pub use safe::first_unsafe;
 pub use watched::Watched;

@@ -2,9 +2,10 @@
 ghost use Rattle.std.specs.Prelude.{◌≡◌, ◌⊎◌, ◌++◌, true, false, IfOk, IfErr, OnOk, OnErr, IfSome, Err, ◌≢◌};
 ghost use Rattle.std.specs.Prelude.{◌<◌, length, vec_len};
 ghost use Rattle.std.specs.Io.KnownBytes.{Appends};
+ghost use Rattle.std.specs.Str.{IsUtf8};
 ghost use Rattle.ftl.specs.Answer.{ReadsDeeper};
 ghost use Rattle.ftl.specs.Watched.{inner_of, has_failed};
-ghost use Rattle.ftl.specs.Run.{FailsAs, AppendsBeginning, WritesAnswer};
+ghost use Rattle.ftl.specs.Run.{FailsAs, AppendsBeginning, IfWritten, WritesAnswer};
 
 use crate::answers::{answer, answer_within};
 use crate::command::Command;
@@ -44,7 +45,9 @@ pub fn run<R: Read, W: Write>(
 
 /// What `run` does, if the placeables and argument lists of the input nest at most `nesting` deep.
 ///
-/// `TooDeep` where they nest deeper; then nothing was written. The stack that reading takes is bounded by `nesting`.
+/// `TooDeep` where they nest deeper; then nothing was written. For an input that is not UTF-8 the result is `Input` or
+/// `Memory`, as of `run`. Of a text that nests deeper not even a beginning is written. The stack that reading takes is
+/// bounded by `nesting`.
 pub fn run_within<R: Read, W: Write>(
     alloc: Global,
     command: Command,
@@ -63,7 +66,8 @@ pub fn run_within<R: Read, W: Write>(
     ensures deep { OnErr result (writer.new ≡ writer.old) }
     ensures deeper { OnErr result (IfSome (R.remaining (inner_of reader.old))
         (λ bytes. ReadsDeeper command bytes nesting)) }
-    ensures shallow { IfOk result (λ ended. IfOk ended (λ _. IfSome (R.remaining (inner_of reader.old))
+    ensures no_text { OnErr result (IfSome (R.remaining (inner_of reader.old)) (λ bytes. ¬ (IsUtf8 bytes) → ⊥)) }
+    ensures shallow { IfOk result (λ ended. IfWritten ended (IfSome (R.remaining (inner_of reader.old))
         (λ bytes. ReadsDeeper command bytes nesting → ⊥))) }
 {
     let input = match read_all(alloc, reader) {
@@ -111,7 +115,9 @@ fn read_blocks<R: Read>(
 }
 
 /// Writes the text, piece by piece as the writer takes it.
-fn write_all<W: Write>(writer: &mut Watched<W>, text: &[u8]) -> Result<(), RunFault>
+///
+/// `Output` where a write failed.
+pub fn write_all<W: Write>(writer: &mut Watched<W>, text: &[u8]) -> Result<(), RunFault>
     ensures all { OnOk result (Appends (W.contents (inner_of writer.old)) (W.contents (inner_of writer.new)) text.now) }
     ensures beginning { OnErr result
         (AppendsBeginning (W.contents (inner_of writer.old)) (W.contents (inner_of writer.new)) text.now) }

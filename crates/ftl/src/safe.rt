@@ -1,6 +1,6 @@
 //! Which trees may be written in the place of the text that they were read from.
 ghost use Rattle.std.specs.Prelude.{◌≡◌, IfOk, IfSome, is_none};
-ghost use Rattle.fluent_syntax_rules.specs.Uncanonical.{IsFirstBroken};
+ghost use Rattle.fluent_syntax_writer.specs.Uncanonical.{IsFirstBroken};
 ghost use Rattle.fluent_syntax_tree.specs.View.{resource_view};
 ghost use Rattle.ftl.specs.Safe.{is_safe, reread_tree};
 

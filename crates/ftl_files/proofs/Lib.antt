@@ -1,3 +1,8 @@
-mod Changed
-mod Replaced
-mod Steps
+pub mod Changed
+pub mod KindNames
+pub mod OriginalLemmas
+pub mod ReadingLemmas
+pub mod Refusing
+pub mod Replaced
+pub mod Steps
+pub mod UriLemmas

@@ -1,3 +1,10 @@
 pub mod Files
 pub mod Memory
+pub mod Nearness
+pub mod Options
+pub mod Originals
+pub mod Paths
+pub mod Reading
+pub mod Settings
 pub mod Store
+pub mod Uris

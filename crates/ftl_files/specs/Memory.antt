@@ -1,12 +1,15 @@
 -- The files that a store in memory has: what the changes so far have left, the newest first.
-use Rattle.std.specs.Prelude.{◌≡◌, ◌≤◌, ◌+◌, ℕ, List, [], ◌∷◌, Option, None, Some, Vec, zero, suc, drop, length}
+use Rattle.std.specs.Prelude.{◌≡◌, ◌⊎◌, ◌≤◌, ◌+◌, ℕ, List, [], ◌∷◌, Option, None, Some, Vec, zero, suc, drop, length}
 use Rattle.std.specs.Prelude.{option_map, string_bytes, if◌then◌else◌}
+use Rattle.std.specs.IoError.{error_kind}
 use Rattle.std.specs.Str.{bytes_eq}
 use Rattle.std.proofs.Common.{subst, sym}
 use Rattle.std.proofs.Math.Arith.{add-le_cancel_left}
 use Rattle.std.proofs.Math.Bridge.{no_suc-le-zero}
 use Rattle.std.proofs.Math.Nat.{add-zero}
 use Rattle.std.specs.declared.alloc.Global.{Global}
+use Rattle.std.specs.declared.io.Error.{Error}
+use Rattle.std.specs.declared.io.ErrorKind.TheVariants.{OutOfMemory}
 use Rattle.ftl_files.specs.Files.{Files}
 use Rattle.ftl_files.specs.declared.memory.Change.{Change}
 
@@ -19,6 +22,10 @@ abbrev pub bytes_at : List Change → List ℕ → Option (List ℕ)
 bytes_at [] path = None
 bytes_at (change ∷ before) path =
     if bytes_eq path (string_bytes change.path) then bytes_of change.bytes else bytes_at before path
+
+-- why a call on the file fails: there is none, or memory was wanted
+abbrev pub fails : Option (List ℕ) → Error → Type 0
+fails bytes error = (bytes ≡ None) ⊎ (error_kind error ≡ OutOfMemory)
 
 -- Each change is done at once and for good: a crash leaves what stands there, and has left since a moment what stood
 -- there after some of the changes behind it.

@@ -4,8 +4,11 @@ ghost use Rattle.ftl_files.specs.Files.{unknown};
 
 use crate::attributes::{keep_attributes, replaceable};
 use crate::file_system::FileSystem;
+use crate::folders::Folders;
+use crate::listing::{Listing, list_within_limits};
 use crate::replacing::replace_file;
 use crate::store::Store;
+use std::alloc::{AllocError, Global};
 use std::fs::{OpenFile, OpenOptions};
 use std::io::{ErrorKind, Write};
 use std::os::unix::fs::OpenOptionsExt;
@@ -108,4 +111,42 @@ impl<R: Files + AllocGlobal> Store for Disk<'_, R> {
         let target = fs::canonicalize(self.rt, path)?.into_string();
         replace_file(self.rt.alloc(), self, target.as_str(), text)
     }
+}
+
+impl<R: Files + AllocGlobal + Clone + Drop> Folders for Disk<'_, R> {
+    /// What comes behind `FOLDERS_LIMIT` folders or `FILES_LIMIT` files is left out.
+    fn files_below(&self, _alloc: Global, folder: &str) -> Result<Listing, AllocError> {
+        let listing = list_within_limits(self.rt, folder)?;
+        for (_, error) in &listing.faults {
+            if error.kind() == ErrorKind::OutOfMemory {
+                return Err(AllocError);
+            }
+        }
+        Ok(listing)
+    }
+
+    /// A file that grows meanwhile is not read on beyond the limit.
+    fn read(
+        &self,
+        _alloc: Global,
+        path: &str,
+        limit: usize,
+    ) -> Result<Option<Vec<u8>>, AllocError> {
+        match read_short(self.rt, path, limit) {
+            Ok(bytes) if bytes.len() <= limit => Ok(Some(bytes)),
+            Err(error) if error.kind() == ErrorKind::OutOfMemory => Err(AllocError),
+            _ => Ok(None),
+        }
+    }
+}
+
+/// The bytes of a file of at most so many bytes.
+///
+/// `InvalidInput`: it is no regular file, or has more.
+fn read_short<R: Files + AllocGlobal>(rt: &R, path: &str, limit: usize) -> io::Result<Vec<u8>> {
+    let metadata = fs::symlink_metadata(rt, path)?;
+    if !metadata.is_file() || metadata.len() > limit as u64 {
+        return Err(io::Error::from(ErrorKind::InvalidInput));
+    }
+    fs::read(rt, path)
 }

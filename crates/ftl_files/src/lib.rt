@@ -1,17 +1,40 @@
-//! The files of a project: which ones a path names, what they hold, and how one is replaced.
+//! The files of a project and of an editor's workspace: which ones there are, what they hold, how one is replaced, and
+//! what the file `ftl.toml` says.
 #![tactic(auto)]
 
 mod attributes;
 mod disk;
 mod file_system;
+mod folders;
+mod kinds;
+mod limits;
 mod listing;
 mod memory;
+mod nearness;
+mod options;
+mod originals;
+mod paths;
+mod reading;
 mod replacing;
+mod settings;
+mod settings_fault;
 mod store;
+mod uris;
 
 pub use disk::Disk;
 pub use file_system::FileSystem;
+pub use folders::Folders;
+pub use kinds::kind_named;
+pub use limits::{BYTES_LIMIT, FILE_LIMIT, FILES_LIMIT, FOLDERS_LIMIT};
 pub use listing::{Listing, list};
 pub use memory::Memory;
+pub use nearness::shared_folders;
+pub use options::{Color, Output, color_named, output_named};
+pub use originals::original_of;
+pub use paths::is_below;
+pub use reading::{SourceFile, SourceFiles, read_files};
 pub use replacing::replace_file;
+pub use settings::{Settings, settings_of};
+pub use settings_fault::SettingsFault;
 pub use store::Store;
+pub use uris::{path_of_uri, uri_of_path};

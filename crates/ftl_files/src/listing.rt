@@ -1,18 +1,53 @@
-//! Which files a path names.
+//! Which files a path names, and which a folder has.
 
+use crate::limits::{FILES_LIMIT, FOLDERS_LIMIT};
 use std::alloc::AllocError;
+use std::collections::VecDeque;
 use std::fs::DirEntry;
 use std::rt::Files;
 use std::{fs, io};
 
-/// The files that a path names, and what failed on the way.
+/// The files that were found, and what failed on the way.
 #[derive(Debug, Drop)]
 pub struct Listing {
-    /// The paths of the files, in the order of their bytes.
+    /// Their paths, in the order of their bytes.
     pub files: Vec<String>,
     /// A folder, or an entry of one, that could not be read, and why.
     pub faults: Vec<(String, io::Error)>,
+    /// Whether some were left out for their number.
+    pub is_cut: bool,
 }
+
+impl Listing {
+    /// Whether these are all.
+    pub fn is_whole(&self) -> bool {
+        self.faults.is_empty() && !self.is_cut
+    }
+}
+
+/// How a folder is searched.
+#[derive(Clone, Copy)]
+struct Search {
+    /// Whether folders are looked into whose name begins with a `.`.
+    hidden: bool,
+    /// How many folders are looked into at most.
+    folders: usize,
+    /// With how many files no further folder is looked into.
+    files: usize,
+}
+
+/// No system has as many folders and files.
+const WHOLE: Search = Search {
+    hidden: true,
+    folders: usize::MAX,
+    files: usize::MAX,
+};
+
+const WITHIN_LIMITS: Search = Search {
+    hidden: false,
+    folders: FOLDERS_LIMIT,
+    files: FILES_LIMIT,
+};
 
 /// The path itself, if it names no folder; else each file below the folder whose name ends in `.ftl`. Below the folder
 /// no symlink is followed. An entry whose name is not UTF-8, or that vanishes meanwhile, is told as a fault, and the
@@ -21,42 +56,68 @@ pub fn list<R: Files + AllocGlobal + Clone + Drop>(
     rt: &R,
     path: &str,
 ) -> Result<Listing, AllocError> {
-    let alloc = rt.alloc();
-    let mut listing = Listing {
-        files: Vec::new(alloc),
-        faults: Vec::new(alloc),
-    };
     match fs::metadata(rt, path) {
-        Ok(metadata) if metadata.is_dir() => list_below(rt, path, &mut listing)?,
-        Ok(_) => listing.files.push(String::from_str(alloc, path)?)?,
-        Err(error) => add_fault(rt, path, error, &mut listing)?,
+        Ok(metadata) if metadata.is_dir() => search_folder(rt, path, WHOLE),
+        Ok(_) => {
+            let mut listing = no_files(rt);
+            listing.files.push(String::from_str(rt.alloc(), path)?)?;
+            Ok(listing)
+        }
+        Err(error) => {
+            let mut listing = no_files(rt);
+            add_fault(rt, path, error, &mut listing)?;
+            Ok(listing)
+        }
     }
+}
+
+/// The files below the folder, without hidden folders and within the limits of an editor's workspace.
+pub(crate) fn list_within_limits<R: Files + AllocGlobal + Clone + Drop>(
+    rt: &R,
+    folder: &str,
+) -> Result<Listing, AllocError> {
+    search_folder(rt, folder, WITHIN_LIMITS)
+}
+
+fn no_files<R: AllocGlobal>(rt: &R) -> Listing {
+    Listing {
+        files: Vec::new(rt.alloc()),
+        faults: Vec::new(rt.alloc()),
+        is_cut: false,
+    }
+}
+
+/// The files below the folder, the nearest folders first.
+fn search_folder<R: Files + AllocGlobal + Clone + Drop>(
+    rt: &R,
+    folder: &str,
+    search: Search,
+) -> Result<Listing, AllocError> {
+    let mut listing = no_files(rt);
+    let mut folders = VecDeque::new(rt.alloc());
+    folders.push_back(String::from_str(rt.alloc(), folder)?)?;
+    for _ in 0..search.folders {
+        let Some(folder) = folders.pop_front() else {
+            break;
+        };
+        if listing.files.len() < search.files {
+            list_folder(rt, folder.as_str(), search, &mut listing, &mut folders)?;
+        } else {
+            listing.is_cut = true;
+        }
+    }
+    listing.is_cut = listing.is_cut || !folders.is_empty();
+    listing.files.sort()?;
     Ok(listing)
 }
 
-fn list_below<R: Files + AllocGlobal + Clone + Drop>(
-    rt: &R,
-    path: &str,
-    listing: &mut Listing,
-) -> Result<(), AllocError> {
-    let alloc = rt.alloc();
-    let mut folders = vec![in alloc; String::from_str(alloc, path)?]?;
-    // no system has as many folders
-    for _ in 0..u64::MAX {
-        let Some(folder) = folders.pop() else {
-            break;
-        };
-        list_folder(rt, folder.as_str(), listing, &mut folders)?;
-    }
-    listing.files.sort()
-}
-
-/// The folder's own files, and its folders.
+/// Adds the folder's own files, and its folders.
 fn list_folder<R: Files + AllocGlobal + Clone + Drop>(
     rt: &R,
     path: &str,
+    search: Search,
     listing: &mut Listing,
-    folders: &mut Vec<String>,
+    folders: &mut VecDeque<String>,
 ) -> Result<(), AllocError> {
     let entries = match fs::read_dir(rt, path) {
         Ok(entries) => entries,
@@ -64,7 +125,7 @@ fn list_folder<R: Files + AllocGlobal + Clone + Drop>(
     };
     for entry in entries {
         match entry {
-            Ok(entry) => list_entry(rt, &entry, listing, folders)?,
+            Ok(entry) => list_entry(rt, &entry, search, listing, folders)?,
             // a name that is not UTF-8 is told by its folder's
             Err(error) => add_fault(rt, path, error, listing)?,
         }
@@ -75,18 +136,23 @@ fn list_folder<R: Files + AllocGlobal + Clone + Drop>(
 fn list_entry<R: Files + AllocGlobal + Clone + Drop>(
     rt: &R,
     entry: &DirEntry<R>,
+    search: Search,
     listing: &mut Listing,
-    folders: &mut Vec<String>,
+    folders: &mut VecDeque<String>,
 ) -> Result<(), AllocError> {
     let path = entry.path();
-    let path = path.as_str();
+    let name = entry.file_name();
     match entry.file_type() {
-        Ok(kind) if kind.is_dir() => folders.push(String::from_str(rt.alloc(), path)?)?,
-        Ok(kind) if kind.is_file() && entry.file_name().ends_with(".ftl") => {
-            listing.files.push(String::from_str(rt.alloc(), path)?)?;
+        Ok(kind) if kind.is_dir() && (search.hidden || !name.starts_with('.')) => {
+            folders.push_back(String::from_str(rt.alloc(), path.as_str())?)?;
+        }
+        Ok(kind) if kind.is_file() && name.ends_with(".ftl") => {
+            listing
+                .files
+                .push(String::from_str(rt.alloc(), path.as_str())?)?;
         }
         Ok(_) => (),
-        Err(error) => add_fault(rt, path, error, listing)?,
+        Err(error) => add_fault(rt, path.as_str(), error, listing)?,
     }
     Ok(())
 }

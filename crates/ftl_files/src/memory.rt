@@ -1,9 +1,11 @@
-//! Files in memory. They show that the clauses of `FileSystem` and `Store` can be met, and serve tests.
-ghost use Rattle.std.specs.Prelude.{◌≡◌, ◌∷◌, [], List, None, Some, IfOk, MatchOption, OnErr, OnOk, string_bytes};
-ghost use Rattle.ftl_files.specs.Memory.{bytes_at, bytes_of, counts_now, files_of, only_now};
+//! Files in memory. They show that the clauses of `FileSystem`, `Store` and `Folders` can be met, and serve tests.
+ghost use Rattle.std.specs.Prelude.{◌≡◌, ◌∷◌, [], None, Some, MatchOption, OnErr, OnOk, string_bytes};
+ghost use Rattle.ftl_files.specs.Memory.{bytes_at, counts_now, fails, files_of, only_now};
 
 use crate::file_system::FileSystem;
-use crate::replacing::replace_file;
+use crate::folders::Folders;
+use crate::listing::Listing;
+use crate::paths::is_below;
 use crate::store::Store;
 use std::alloc::{AllocError, Global};
 use std::io::{self, ErrorKind};
@@ -159,11 +161,52 @@ impl FileSystem for Memory {
 impl Store for Memory {
     ghost bytes_at = { λ memory. bytes_at memory.changes.items };
 
+    ghost fails = { fails };
+
     fn read(&mut self, path: &str) -> io::Result<Vec<u8>> {
-        self.read_file(path)
+        match latest(self.changes.as_slice(), path) {
+            Some(bytes) => Ok(bytes.to_vec(self.alloc)?),
+            None => Err(not_found()),
+        }
     }
 
     fn replace(&mut self, path: &str, text: &[u8]) -> io::Result<()> {
-        replace_file(self.alloc, self, path, text)
+        if latest(self.changes.as_slice(), path).is_none() {
+            return Err(not_found());
+        }
+        let text = text.to_vec(self.alloc)?;
+        self.change(path, Some(text))?;
+        Ok(())
+    }
+}
+
+impl Folders for Memory {
+    ghost bytes_at = { λ memory. bytes_at memory.changes.items };
+
+    fn files_below(&self, alloc: Global, folder: &str) -> Result<Listing, AllocError> {
+        let mut files = Vec::new(alloc);
+        for change in &self.changes {
+            let path = change.path.as_str();
+            if path.ends_with(".ftl")
+                && is_below(folder, path)
+                && latest(self.changes.as_slice(), path).is_some()
+            {
+                files.push(String::from_str(alloc, path)?)?;
+            }
+        }
+        files.sort()?;
+        files.dedup();
+        Ok(Listing {
+            files,
+            faults: Vec::new(alloc),
+            is_cut: false,
+        })
+    }
+
+    fn read(&self, alloc: Global, path: &str, limit: usize) -> Result<Option<Vec<u8>>, AllocError> {
+        match latest(self.changes.as_slice(), path) {
+            Some(bytes) if bytes.len() <= limit => Ok(Some(bytes.to_vec(alloc)?)),
+            _ => Ok(None),
+        }
     }
 }

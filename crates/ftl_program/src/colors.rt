@@ -1,7 +1,7 @@
 //! Whether errors are told in colours.
 
+use ftl_files::Color;
 use ftl_project::Form;
-use ftl_settings::Color;
 use ftl_words::Options;
 use std::env;
 use std::io::IsTerminal;

@@ -3,11 +3,10 @@
 use crate::colors::form_over_paths;
 use crate::lint::listed;
 use crate::project::project_settings;
-use crate::telling::{refuse_compare, refuse_run};
-use ftl::RunFault;
-use ftl_files::Disk;
+use crate::telling::{end_run, refuse_compare, refuse_run};
+use ftl::{RunFault, Watched};
+use ftl_files::{Disk, Settings};
 use ftl_project::{Pair, Share, Streams, Tally, check_summary, compare_files, share_line};
-use ftl_settings::Settings;
 use ftl_words::{Compare, Options};
 use std::alloc::{AllocError, Global};
 use std::io;
@@ -24,16 +23,9 @@ pub(crate) fn compare_paths(rt: &HostRuntime, compare: &Compare<'_>) -> u8 {
     let options = compare.options.or(&settings);
     let mut tally = Tally::new();
     match compare_all(rt, options, reference, others, &mut tally) {
-        Ok(()) => (),
-        Err(fault) => return refuse_run(rt, fault),
+        Ok(()) => end_run(rt, &tally, check_summary(rt.alloc(), &tally)),
+        Err(fault) => refuse_run(rt, fault),
     }
-    match check_summary(rt.alloc(), &tally) {
-        Ok(line) => {
-            let _ = rt.eprint(line.as_str());
-        }
-        Err(AllocError) => return refuse_run(rt, RunFault::Memory),
-    }
-    tally.status()
 }
 
 /// The reference, which the project names, or else is the first of the paths; and the others. `None` where there is no
@@ -79,8 +71,8 @@ fn compare_one(
         missing: 0,
     };
     let mut streams = Streams {
-        out: &mut io::writer(rt),
-        err: &mut rt.stderr(),
+        out: &mut Watched::new(io::writer(rt)),
+        err: &mut Watched::new(rt.stderr()),
     };
     compare_files(
         rt.alloc(),

@@ -1,9 +1,9 @@
 //! The language server.
 
 use crate::telling::refuse;
-use fluent_syntax_lsp as server;
 use ftl::Watched;
-use ftl_workspace::OnDisk;
+use ftl_files::Disk;
+use ftl_lsp as server;
 use std::io;
 use std::rt::Files;
 
@@ -14,7 +14,7 @@ where
 {
     let mut reader = Watched::new(rt.reader());
     let mut writer = io::writer(rt);
-    let ending = server::serve(rt.alloc(), &mut reader, &mut writer, &OnDisk::new(rt));
+    let ending = server::serve(rt.alloc(), &mut reader, &mut writer, &Disk::new(rt));
     if ending.line().is_empty() {
         ending.status()
     } else {

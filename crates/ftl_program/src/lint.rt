@@ -2,13 +2,12 @@
 
 use crate::colors::form_over_paths;
 use crate::project::project_settings;
-use crate::telling::refuse_run;
+use crate::telling::{end_run, refuse_run};
 use fluent_syntax_names::Kind;
-use ftl::RunFault;
+use ftl::{RunFault, Watched};
 use ftl_files::{Disk, list};
 use ftl_project::{Fault, Streams, Tally, Telling, check_summary, lint_files, tell};
 use ftl_words::{Lint, Options};
-use std::alloc::AllocError;
 use std::io;
 
 /// Searches all files that the paths name, as one set; the exit status. Kinds that the project ignores are not told.
@@ -20,16 +19,9 @@ pub(crate) fn lint_paths(rt: &HostRuntime, lint: &Lint<'_>) -> u8 {
     let options = lint.options.or(&settings);
     let mut tally = Tally::new();
     match lint_all(rt, lint, options, settings.ignored, &mut tally) {
-        Ok(()) => (),
-        Err(fault) => return refuse_run(rt, fault),
+        Ok(()) => end_run(rt, &tally, check_summary(rt.alloc(), &tally)),
+        Err(fault) => refuse_run(rt, fault),
     }
-    match check_summary(rt.alloc(), &tally) {
-        Ok(line) => {
-            let _ = rt.eprint(line.as_str());
-        }
-        Err(AllocError) => return refuse_run(rt, RunFault::Memory),
-    }
-    tally.status()
 }
 
 fn lint_all(
@@ -48,8 +40,8 @@ fn lint_all(
         ignored: &ignored,
     };
     let mut streams = Streams {
-        out: &mut io::writer(rt),
-        err: &mut rt.stderr(),
+        out: &mut Watched::new(io::writer(rt)),
+        err: &mut Watched::new(rt.stderr()),
     };
     lint_files(
         rt.alloc(),
@@ -86,8 +78,8 @@ pub(crate) fn listed(
     };
     for (path, error) in listing.faults {
         let mut streams = Streams {
-            out: &mut io::writer(rt),
-            err: &mut rt.stderr(),
+            out: &mut Watched::new(io::writer(rt)),
+            err: &mut Watched::new(rt.stderr()),
         };
         tell(
             rt.alloc(),

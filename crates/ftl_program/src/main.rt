@@ -22,7 +22,7 @@ use crate::project::project_settings;
 use crate::standard::answer_input;
 use crate::telling::{print_page, refuse_words, refuse_writing};
 use crate::words::all_words;
-use ftl_settings::Output;
+use ftl_files::Output;
 use ftl_words::{Change, Request, Task, Work, request_of};
 use std::process::ExitCode;
 

@@ -1,13 +1,14 @@
 //! Files and folders, answered each by its name.
 
 use crate::colors::form_over_paths;
+use crate::lint::listed;
 use crate::standard::{all_input, tell_of_terminal};
-use crate::telling::refuse_run;
-use ftl::RunFault;
-use ftl_files::{Disk, Memory, Store, list};
+use crate::telling::{end_run, refuse_run};
+use ftl::{RunFault, Watched};
+use ftl_files::{Disk, Memory, Store};
 use ftl_project::{
-    Fault, Streams, Tally, check_files, check_summary, convert_files, format_summary, name_files,
-    print_files, tell, write_files,
+    Streams, Tally, check_files, check_summary, convert_files, format_summary, name_files,
+    print_files, write_files,
 };
 use ftl_words::{Change, Task, Work};
 use std::alloc::AllocError;
@@ -16,23 +17,17 @@ use std::io;
 /// Answers the paths in their order, or standard input where there is none; the exit status.
 pub(crate) fn answer_paths(rt: &HostRuntime, work: &Work<'_>) -> u8 {
     let mut tally = Tally::new();
-    match answer_all(rt, work, &mut tally) {
-        Ok(()) => (),
-        Err(fault) => return refuse_run(rt, fault),
+    if let Err(fault) = answer_all(rt, work, &mut tally) {
+        return refuse_run(rt, fault);
     }
-    let summary = match work.task {
-        _ if work.paths.is_empty() => return tally.status(),
-        Task::Check => check_summary(rt.alloc(), &tally),
-        Task::Format(Change::Write | Change::Name) => format_summary(rt.alloc(), &tally),
-        _ => return tally.status(),
-    };
-    match summary {
-        Ok(line) => {
-            let _ = rt.eprint(line.as_str());
+    match work.task {
+        _ if work.paths.is_empty() => tally.status(),
+        Task::Check => end_run(rt, &tally, check_summary(rt.alloc(), &tally)),
+        Task::Format(Change::Write | Change::Name) => {
+            end_run(rt, &tally, format_summary(rt.alloc(), &tally))
         }
-        Err(AllocError) => return refuse_run(rt, RunFault::Memory),
+        _ => tally.status(),
     }
-    tally.status()
 }
 
 fn answer_all(rt: &HostRuntime, work: &Work<'_>, tally: &mut Tally) -> Result<(), RunFault> {
@@ -90,30 +85,8 @@ fn answer_path(
     path: &str,
     tally: &mut Tally,
 ) -> Result<(), RunFault> {
-    let listing = match list(rt, path) {
-        Ok(listing) => listing,
-        Err(AllocError) => return Err(RunFault::Memory),
-    };
-    for (path, error) in listing.faults {
-        let mut streams = Streams {
-            out: &mut io::writer(rt),
-            err: &mut rt.stderr(),
-        };
-        tell(
-            rt.alloc(),
-            tally,
-            path.as_str(),
-            &Fault::Read(error),
-            &mut streams,
-        )?;
-    }
-    answer_files(
-        rt,
-        &mut Disk::new(rt),
-        listing.files.as_slice(),
-        work,
-        tally,
-    )
+    let files = listed(rt, path, tally)?;
+    answer_files(rt, &mut Disk::new(rt), &files, work, tally)
 }
 
 fn answer_files<S: Store>(
@@ -126,8 +99,8 @@ fn answer_files<S: Store>(
     let alloc = rt.alloc();
     let reading = work.options.reading();
     let mut streams = Streams {
-        out: &mut io::writer(rt),
-        err: &mut rt.stderr(),
+        out: &mut Watched::new(io::writer(rt)),
+        err: &mut Watched::new(rt.stderr()),
     };
     match (work.task, work.task.command(reading.edition)) {
         (Task::Check, _) => {

@@ -2,9 +2,8 @@
 
 use crate::telling::{refuse, refuse_run};
 use ftl::RunFault;
-use ftl_files::{Disk, Store};
+use ftl_files::{Disk, Settings, SettingsFault, Store, settings_of};
 use ftl_project::Fault;
-use ftl_settings::{Settings, SettingsFault, settings_of};
 use std::alloc::AllocError;
 use std::fmt::Display;
 use std::io::ErrorKind;

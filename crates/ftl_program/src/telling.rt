@@ -2,7 +2,9 @@
 
 use clap::Error;
 use ftl::{RunFault, usage};
+use ftl_project::Tally;
 use ftl_words::{mistake, status_of};
+use std::alloc::AllocError;
 
 /// The status for wrong words.
 const WRONG_WORDS: u8 = 2;
@@ -16,6 +18,17 @@ pub(crate) fn refuse<R: Eprint>(rt: &R, line: &str, status: u8) -> u8 {
 /// Tells why a run stopped, and gives its exit status.
 pub(crate) fn refuse_run<R: Eprint>(rt: &R, fault: RunFault) -> u8 {
     refuse(rt, fault.line(), fault.status())
+}
+
+/// Tells what a run met, on a line, and gives the exit status.
+pub(crate) fn end_run<R: Eprint>(rt: &R, tally: &Tally, summary: Result<String, AllocError>) -> u8 {
+    match summary {
+        Ok(line) => {
+            let _ = rt.eprint(line.as_str());
+            tally.status()
+        }
+        Err(AllocError) => refuse_run(rt, RunFault::Memory),
+    }
 }
 
 /// Writes the page to standard output, and gives the exit status.

@@ -2,13 +2,12 @@
 use mathlib.Core.Path.{fun_ext}
 use Rattle.std.proofs.Common.{◌≡◌, ℕ, List, [], Option, None, Result, false, refl}
 use Rattle.std.proofs.Common.{string_bytes, subst, sym, true}
-use Rattle.std.specs.Prelude.{IfSome, OnOk}
+use Rattle.std.specs.Prelude.{OnOk}
 use Rattle.fluent_syntax_names.specs.declared.outline.Outline.{Outline}
 use Rattle.ftl_files.specs.Store.{AllStand}
 use Rattle.ftl_project.proofs.Counting.{appends_nothing, on_ok}
-use Rattle.ftl_project.proofs.Known.{known}
 use Rattle.ftl_project.specs.Comparing.{Compares, IsAlone, IsBeside, IsComparison, IsPairFault}
-use Rattle.ftl_project.specs.Faults.{HasStatus}
+use Rattle.ftl_project.specs.Faults.{Failing, HasStatus, IsRead}
 use Rattle.ftl_project.specs.Outlines.{IsOutline}
 use Rattle.ftl_project.specs.Tally.{counted, failed}
 use Rattle.ftl_project.specs.declared.comparing.Pair.{Pair}
@@ -24,43 +23,42 @@ same_files at here stand = fun_ext stand
 
 -- What was read of a file, under the names that a caller has for its path and its text.
 pub of_text : (at : List ℕ → Option (List ℕ)) (path own text said : List ℕ) → path ≡ own → text ≡ said →
-    IfSome (at path) (λ b. said ≡ b) → IfSome (at own) (λ b. text ≡ b)
+    IsRead (at path) said → IsRead (at own) text
 of_text at path own text said same_path same_text read =
-    subst (λ p. IfSome (at p) (λ b. text ≡ b)) same_path
-    (subst (λ t. IfSome (at path) (λ b. t ≡ b)) (sym same_text) read)
+    subst (λ p. IsRead (at p) text) same_path (subst (λ t. IsRead (at path) t) (sym same_text) read)
 
-module _ (reading : Reading) (form : Form) (at : List ℕ → Option (List ℕ)) (pair : Pair) where
+module _ (CallFails : Failing) (reading : Reading) (form : Form) (at : List ℕ → Option (List ℕ)) (pair : Pair) where
   pub alone : (text : List ℕ) (errors : ℕ) (share : Share) (told : List ℕ) → pair.is_there ≡ false →
-      IfSome (at (string_bytes pair.reference)) (λ b. text ≡ b) →
+      IsRead (at (string_bytes pair.reference)) text →
       ((outline : Outline) × IsOutline reading.edition text outline × IsAlone form pair outline errors share told) →
-      IsComparison reading form at pair.is_there pair errors share told
+      IsComparison CallFails reading form at pair.is_there pair errors share told
   alone text errors share told gone same that =
-      subst (λ is_there. IsComparison reading form at is_there pair errors share told) (sym gone) (
+      subst (λ is_there. IsComparison CallFails reading form at is_there pair errors share told) (sym gone) (
         that.0,
-        known (λ b. IsOutline reading.edition b that.0) (at (string_bytes pair.reference)) text same that.1,
+        (text, same, that.1),
         that.2,
       )
 
   pub beside : (text more : List ℕ) (errors : ℕ) (share : Share) (told : List ℕ) → pair.is_there ≡ true →
-      IfSome (at (string_bytes pair.reference)) (λ b. text ≡ b) →
-      IfSome (at (string_bytes pair.other)) (λ b. more ≡ b) →
+      IsRead (at (string_bytes pair.reference)) text →
+      IsRead (at (string_bytes pair.other)) more →
       ((reference : Outline) × IsOutline reading.edition text reference × (other : Outline)
       × IsOutline reading.edition more other × IsBeside form pair reference other errors share told) →
-      IsComparison reading form at pair.is_there pair errors share told
+      IsComparison CallFails reading form at pair.is_there pair errors share told
   beside text more errors share told there same alike that =
-      subst (λ is_there. IsComparison reading form at is_there pair errors share told) (sym there) (
+      subst (λ is_there. IsComparison CallFails reading form at is_there pair errors share told) (sym there) (
         that.0,
-        known (λ b. IsOutline reading.edition b that.0) (at (string_bytes pair.reference)) text same that.1,
+        (text, same, that.1),
         that.2,
-        known (λ b. IsOutline reading.edition b that.2) (at (string_bytes pair.other)) more alike that.3,
+        (more, alike, that.3),
         that.4,
       )
 
   -- A fault of the pair that was told was counted, and nothing was written of the pair.
   pub Compares-told : {E : Type 0} (result : Result (Unit {0}) E) (fault : Fault) (old new : Tally) (share : Share)
-      (before after : Option (List ℕ)) → IsPairFault reading form at pair fault →
+      (before after : Option (List ℕ)) → IsPairFault CallFails reading form at pair fault →
       ((status : ℕ) × HasStatus fault status × (new ≡ counted old (failed status))) → after ≡ before →
-      OnOk result (Compares reading form at pair old new share share before after)
+      OnOk result (Compares CallFails reading form at pair old new share share before after)
   Compares-told result fault old new share before after why told same = on_ok result (
     failed told.0,
     None,

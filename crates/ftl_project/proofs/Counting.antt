@@ -7,7 +7,7 @@ use Rattle.std.specs.Global.{Global}
 use Rattle.std.specs.Io.KnownBytes.{Appends}
 use Rattle.std.specs.Prelude.{OnOk, String}
 use Rattle.ftl_project.specs.Faults.{Fails, HasStatus}
-use Rattle.ftl_project.specs.Runs.{Counts, CountsEach, Writes, WritesEach}
+use Rattle.ftl_project.specs.Runs.{Writes, WritesEach}
 use Rattle.ftl_project.specs.Tally.{Met, counted, failed}
 use Rattle.ftl_project.specs.declared.fault.Fault.{Fault}
 use Rattle.ftl_project.specs.declared.tally.Tally.{Tally}
@@ -46,18 +46,6 @@ pub Writes-told : {E : Type 0} (Is : Met → List ℕ → Type 0) (Why : Fault �
     OnOk result (Writes Is old new before after)
 Writes-told Is Why result fault old new before after fails why told same = on_ok result
     (failed told.0, [], fails told.0 (fault, why, told.1), told.2, appends_nothing before after same)
-
-module _ {A : Type 0} (Meets : A → Met → Type 0) (files : List A) where
-  -- Whatever the files from the index on add, all of them then add that to the beginning.
-  abbrev pub CountsSo : (index : ℕ) (old now : Tally) → Type 0
-  CountsSo index old now = (new : Tally) → CountsEach Meets (drop index files) now new → CountsEach Meets files old new
-
-  pub CountsSo-more : (index : ℕ) (file : A) (old now next : Tally) → index < length files →
-      file ≡ get_or files index file → CountsSo index old now → Counts (Meets file) now next →
-      CountsSo (index + 1) old next
-  CountsSo-more index file old now next below is so counts = λ new rest.
-      so new (subst (λ left. CountsEach Meets left now new) (sym (left_at files index file below is))
-      (next, counts, rest))
 
 -- Files are met as their bytes are, which are those of the beginning.
 module _ (Is : (path : List ℕ) → Option (List ℕ) → Met → List ℕ → Type 0) (at : List ℕ → Option (List ℕ))

@@ -5,6 +5,7 @@ use Rattle.std.specs.Global.{Global}
 use Rattle.std.specs.Prelude.{Option, String, string_bytes}
 use Rattle.fluent_syntax_names.specs.declared.outline.Outline.{Outline}
 use Rattle.ftl_project.specs.Comparing.{Compares, ComparesEach, pair_more}
+use Rattle.ftl_project.specs.Faults.{Failing}
 use Rattle.ftl_project.specs.Linting.{OutlinesEach, OutlinesSource, Reads, ReadsSource, outline_more, read_more}
 use Rattle.ftl_project.specs.Remarks.{TellsEach, behind}
 use Rattle.ftl_project.specs.declared.comparing.Pair.{Pair}
@@ -22,23 +23,26 @@ TellsEach-more Is items index d told text all below tells that whole =
     rw (take_more items index d below, whole) (behind (get_or items index d) text tells that)
 
 -- The pairs that were compared first, and one more.
-pub ComparesEach-more : (reading : Reading) (form : Form) (at : List ℕ → Option (List ℕ)) (pairs : List Pair)
+pub ComparesEach-more : (CallFails : Failing) (reading : Reading) (form : Form) (at : List ℕ → Option (List ℕ)) (pairs
+    : List Pair)
     (index : ℕ) (pair : Pair) (old now new : Tally) (had between has : Share)
     (before middle after : Option (List ℕ)) → index < length pairs → pair ≡ get_or pairs index pair →
-    ComparesEach reading form at (take index pairs) old now had between before middle →
-    Compares reading form at pair now new between has middle after →
-    ComparesEach reading form at (take (index + 1) pairs) old new had has before after
-ComparesEach-more reading form at pairs index pair old now new had between has before middle after below is each
+    ComparesEach CallFails reading form at (take index pairs) old now had between before middle →
+    Compares CallFails reading form at pair now new between has middle after →
+    ComparesEach CallFails reading form at (take (index + 1) pairs) old new had has before after
+ComparesEach-more CallFails reading form at pairs index pair old now new had between has before middle after below is
+    each
     that = rw (take_more pairs index pair below, sym is) (pair_more pair each that)
 
 -- The sources that were read first, and one more file.
-pub Reads-more : (at : List ℕ → Option (List ℕ)) (files : List (String Global)) (index : ℕ) (file : String Global)
+pub Reads-more : (CallFails : Failing) (at : List ℕ → Option (List ℕ)) (files : List (String Global)) (index : ℕ)
+    (file : String Global)
     (path : List ℕ) (sources all : List Source) (old now new : Tally) → index < length files →
-    file ≡ get_or files index file → path ≡ string_bytes file → Reads at (take index files) sources old now →
-    ReadsSource at path sources all now new → Reads at (take (index + 1) files) all old new
-Reads-more at files index file path sources all old now new below is same reads that =
+    file ≡ get_or files index file → path ≡ string_bytes file → Reads CallFails at (take index files) sources old now →
+    ReadsSource CallFails at path sources all now new → Reads CallFails at (take (index + 1) files) all old new
+Reads-more CallFails at files index file path sources all old now new below is same reads that =
     rw (take_more files index file below, sym is)
-    (read_more file reads (subst (λ p. ReadsSource at p sources all now new) same that))
+    (read_more file reads (subst (λ p. ReadsSource CallFails at p sources all now new) same that))
 
 -- The outlines of the first sources, and of one more.
 pub OutlinesEach-more : (reading : Reading) (sources : List Source) (index : ℕ) (source : Source)

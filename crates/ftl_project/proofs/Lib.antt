@@ -1,14 +1,13 @@
-mod Compared
-mod Counting
-mod FormattingEach
-mod InOrder
-mod Junk
-mod Known
-mod Missed
-mod Normal
-mod Reaching
-mod ReadBack
-mod Remarked
-mod Said
-mod Statuses
-mod ToldInOrder
+pub mod Compared
+pub mod Counting
+pub mod FormattingEach
+pub mod InOrder
+pub mod Junk
+pub mod LineEnds
+pub mod Missed
+pub mod Normal
+pub mod Reaching
+pub mod ReadBack
+pub mod Remarked
+pub mod Said
+pub mod Statuses

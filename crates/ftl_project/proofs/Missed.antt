@@ -19,7 +19,7 @@ module _ (form : Form) (pair : Pair) (text : List ℕ) (other : Outline) (lack :
       path ≡ string_bytes pair.other → kind ≡ difference_name difference → place ≡ lack_junk text other lack →
       is_junk ≡ is_some place → side_difference Reference lack.part ≡ Some difference →
       SaysMissing (string_bytes pair.reference) text lack is_junk difference message →
-      IsRemark form path other.text.now place kind message told → IsMissingTold form pair text other lack told
+      IsRemark form path place kind message told → IsMissingTold form pair text other lack told
   missing_told_as path kind message told place is_junk same_path same_kind same_place same_junk found says remark =
       let own = string_bytes pair.other in
       let theirs = string_bytes pair.reference in
@@ -27,8 +27,8 @@ module _ (form : Form) (pair : Pair) (text : List ℕ) (other : Outline) (lack :
       let says_so = subst (λ b. SaysMissing theirs text lack b difference message) (same_junk ∙ ap is_some same_place)
       says in
       let remark_so = subst
-      (λ p. IsRemark form p other.text.now junk (difference_name difference) message told) same_path
-      (subst (λ k. IsRemark form path other.text.now junk k message told) same_kind
-      (subst (λ spot. IsRemark form path other.text.now spot kind message told) same_place remark)) in
-      subst (λ of. IsDifferenceTold form own other.text.now junk of (SaysMissing theirs text lack (is_some junk)) told)
+      (λ p. IsRemark form p junk (difference_name difference) message told) same_path
+      (subst (λ k. IsRemark form path junk k message told) same_kind
+      (subst (λ spot. IsRemark form path spot kind message told) same_place remark)) in
+      subst (λ of. IsDifferenceTold form own junk of (SaysMissing theirs text lack (is_some junk)) told)
       (sym found) (message, says_so, remark_so)

@@ -4,7 +4,7 @@ use Rattle.std.proofs.Common.{arith, inl, inr}
 use Rattle.std.proofs.Common.{refl, string_bytes, subst, sym, ⊎_elim}
 use Rattle.std.proofs.lemmas.List.Elements.{All-cons}
 use Rattle.std.specs.Global.{Global}
-use Rattle.std.specs.Prelude.{IfSome, String}
+use Rattle.std.specs.Prelude.{String}
 use Rattle.fluent_syntax_grammar.proofs.OneTiling.{one_tiling}
 use Rattle.fluent_syntax_grammar.specs.Body.{faults}
 use Rattle.fluent_syntax_grammar.specs.RoundTrip.{tree_of}
@@ -16,17 +16,19 @@ use Rattle.ftl.specs.Answer.{normal_text, outcome_with}
 use Rattle.ftl.specs.Safe.{is_safe}
 use Rattle.ftl.specs.declared.outcome.Outcome.TheVariants.{Clean}
 use Rattle.ftl_project.proofs.Statuses.{status_least}
-use Rattle.ftl_project.proofs.Reaching.{AllReach-rewrites, AllReach-stand, AllReach-trans}
+use Rattle.ftl_project.proofs.Reaching.{AllReach-rewrites, AllReach-stand, AllReach-trans, becomes_rewriting}
 use Rattle.ftl_project.specs.Errors.{IsRefused}
+use Rattle.ftl_project.specs.Faults.{Failing, IsRead}
 use Rattle.ftl_project.specs.Formatting.{AllNormal, FormatsEach, IsMet, IsNormal}
 use Rattle.ftl_project.specs.Rewriting.{AllReach, BecomesRewriting, IsUnsafe, Reaches, Rewrites, goes, stays}
 use Rattle.ftl_project.specs.Safe.{IsRewriting}
 use Rattle.ftl_project.specs.Tally.{Met, answered, counted, failed}
 use Rattle.ftl_project.specs.declared.fault.Fault as run
 use Rattle.ftl_project.specs.declared.reading.Reading.{Reading}
-use Rattle.ftl_project.specs.declared.rewriting.Rewriting.{Rewriting}
-use Rattle.ftl_project.specs.declared.rewriting.Rewriting.TheVariants as rewriting
+use Rattle.ftl_project.specs.declared.replacement.Replacement.{Replacement}
+use Rattle.ftl_project.specs.declared.replacement.Replacement.TheVariants as replacement
 use Rattle.ftl_project.specs.declared.tally.Tally.{Tally}
+use Rattle.ftl_project.specs.declared.unsafe_entry.UnsafeEntry.{UnsafeEntry}
 
 -- ---- a rewriting
 
@@ -60,11 +62,13 @@ not_refused : (edition : Edition) (bytes t : Text) (errors : _) → IsRewriting 
 not_refused edition bytes t errors a refused = refused.3 (ap faults (tiles_same edition bytes t a refused.0 refused.1)
     ∙ none_of_clean (faults a.answer.tiles) a.answer.outcome_is)
 
-not_unsafe : (edition : Edition) (bytes t : Text) → IsRewriting edition bytes t → IsUnsafe edition bytes → ⊥
-not_unsafe edition bytes t a unsafe =
-    let same = ap (tree_of bytes) (sym (tiles_same edition bytes t a unsafe.1.tiles unsafe.1.tiling)) ∙ unsafe.1.same in
+not_unsafe : (edition : Edition) (bytes t : Text) (entry : UnsafeEntry) → IsRewriting edition bytes t →
+    IsUnsafe edition bytes entry → ⊥
+not_unsafe edition bytes t entry a unsafe =
+    let reads = unsafe.reads in
+    let same = ap (tree_of bytes) (sym (tiles_same edition bytes t a reads.tiles reads.tiling)) ∙ reads.same in
     let safe = sym (ap (is_safe edition) same) ∙ a.safe in
-    let both = sym unsafe.2 ∙ safe in
+    let both = sym unsafe.unsafe ∙ safe in
     cc
 
 -- ---- a file whose bytes have one
@@ -88,21 +92,35 @@ module _ (edition : Edition) (bytes t : Text) (a : IsRewriting edition bytes t) 
   reaches_normal old new (goes {now = now} more step) is =
       becomes_normal now new (inr (reaches_normal old now more is)) step
 
+  -- what was read of the file is those bytes, where they stand there
+  same_read : (now : Option (List ℕ)) (read : List ℕ) → IsRead now read → now ≡ Some bytes → read ≡ bytes
+  same_read now read is e = subst (λ o. IsRead o read) e is
+
 -- What was not a fault leaves it as that.
-rewrites_normal : (reading : Reading) (path : List ℕ) (old new : List ℕ → Option (List ℕ)) (result : Rewriting)
-    (bytes t : Text) → IsRewriting reading.edition bytes t → Rewrites reading path old new (Ok result) →
-    (old path ≡ Some bytes) ⊎ (old path ≡ Some t) → new path ≡ Some t
-rewrites_normal reading path old new rewriting.Rewritten bytes t a done is =
-    becomes_normal reading.edition bytes t a (old path) (new path) is done.0
-rewrites_normal reading path old new rewriting.Same bytes t a done is = done.0 path ∙ ⊎_elim
-    (λ e. let own = subst (λ o. IfSome o (λ b. IsRewriting reading.edition b b)) e done.1 in
-    e ∙ ap Some (one_rewriting reading.edition bytes t bytes a own)) (λ e. e) is
-rewrites_normal reading path old new (rewriting.Errors refused) bytes t a done is = done.0 path ∙ ⊎_elim
-    (λ e. absurd (not_refused reading.edition bytes t refused.errors.items a
-    (subst (λ o. IfSome o (λ b. IsRefused reading.edition b refused.errors.items)) e done.1))) (λ e. e) is
-rewrites_normal reading path old new (rewriting.Unsafe entry) bytes t a done is = done.0 path ∙ ⊎_elim
-    (λ e. absurd (not_unsafe reading.edition bytes t a
-    (subst (λ o. IfSome o (λ b. IsUnsafe reading.edition b)) e done.1))) (λ e. e) is
+rewrites_normal : (CallFails : Failing) (reading : Reading) (path : List ℕ) (old new : List ℕ → Option (List ℕ))
+    (result : Replacement) (bytes t : Text) → IsRewriting reading.edition bytes t →
+    Rewrites CallFails reading path old new (Ok result) → (old path ≡ Some bytes) ⊎ (old path ≡ Some t) →
+    new path ≡ Some t
+rewrites_normal CallFails reading path old new (replacement.Text text) bytes t a (read, is_read, that, puts) is =
+    let edition = reading.edition in
+    becomes_normal edition bytes t a (old path) (new path) is
+    (becomes_rewriting edition (old path) (new path) read (string_bytes text) is_read that.0 puts.0)
+rewrites_normal CallFails reading path old new replacement.Same bytes t a (read, is_read, that, stand) is =
+    let edition = reading.edition in
+    stand path ∙ ⊎_elim
+    (λ e. e ∙ ap Some (one_rewriting edition bytes t bytes a (subst (λ b. IsRewriting edition b b)
+    (same_read edition bytes t a (old path) read is_read e) that))) (λ e. e) is
+rewrites_normal CallFails reading path old new (replacement.Errors refused) bytes t a (read, is_read, that, stand) is =
+    let edition = reading.edition in
+    stand path ∙ ⊎_elim
+    (λ e. absurd (not_refused edition bytes t refused.errors.items a (subst
+    (λ b. IsRefused edition b refused.errors.items) (same_read edition bytes t a (old path) read is_read e) that)))
+    (λ e. e) is
+rewrites_normal CallFails reading path old new (replacement.Unsafe entry) bytes t a (read, is_read, that, stand) is =
+    let edition = reading.edition in
+    stand path ∙ ⊎_elim
+    (λ e. absurd (not_unsafe edition bytes t entry a (subst (λ b. IsUnsafe edition b entry)
+    (same_read edition bytes t a (old path) read is_read e) that))) (λ e. e) is
 
 -- ---- a run without faults
 
@@ -114,28 +132,31 @@ failed_fault : (before : Tally) (status : ℕ) → (counted before (failed statu
 failed_fault before status none = omega (arith, none)
 
 -- so none of its results is one
-met_ok : (result : Result Rewriting run.Fault) (before : Tally) (met : Met) → IsMet result met →
-    (counted before met).fault ≡ 0 → (found : Rewriting) × (result ≡ Ok found)
+met_ok : (result : Result Replacement run.Fault) (before : Tally) (met : Met) → IsMet result met →
+    (counted before met).fault ≡ 0 → (found : Replacement) × (result ≡ Ok found)
 met_ok (Ok found) before met is none = (found, refl)
 met_ok (Err fault) before met is none =
     let zero_status = failed_fault before is.0 (subst (λ m. (counted before m).fault ≡ 0) is.2 none) in
     let least = status_least fault is.0 is.1 in
     absurd (omega (arith, zero_status, least))
 
-faultless : (reading : Reading) (files : List (String Global)) (old new : List ℕ → Option (List ℕ))
-    (before after : Tally) → FormatsEach reading files old new before after → after.fault ≡ 0 → before.fault ≡ 0
-faultless reading [] old new before after each none = sym (ap (λ (t : Tally). t.fault) each.1) ∙ none
-faultless reading (file ∷ files) old new before after (now, between, formats, rest) none =
-    let here = faultless reading files now new between after rest none in
-    counted_fault before formats.2.0 (sym (ap (λ (t : Tally). t.fault) formats.2.2) ∙ here)
+faultless : (CallFails : Failing) (reading : Reading) (files : List (String Global)) (old new : List ℕ → Option (List
+    ℕ))
+    (before after : Tally) → FormatsEach CallFails reading files old new before after → after.fault ≡ 0 → before.fault
+    ≡ 0
+faultless CallFails reading [] old new before after each none = sym (ap (λ (t : Tally). t.fault) each.1) ∙ none
+faultless CallFails reading (file ∷ files) old new before after (now, between, formats, rest) none =
+    let here = faultless CallFails reading files now new between after rest none in
+    counted_fault before formats.2 (sym (ap (λ (t : Tally). t.fault) formats.4) ∙ here)
 
-AllReach-each : (reading : Reading) (files : List (String Global)) (old new : List ℕ → Option (List ℕ))
-    (before after : Tally) → FormatsEach reading files old new before after → AllReach reading.edition old new
-AllReach-each reading [] old new before after each = AllReach-stand reading.edition old new each.0
-AllReach-each reading (file ∷ files) old new before after (now, between, formats, rest) =
+AllReach-each : (CallFails : Failing) (reading : Reading) (files : List (String Global)) (old new : List ℕ → Option
+    (List ℕ))
+    (before after : Tally) → FormatsEach CallFails reading files old new before after → AllReach reading.edition old new
+AllReach-each CallFails reading [] old new before after each = AllReach-stand reading.edition old new each.0
+AllReach-each CallFails reading (file ∷ files) old new before after (now, between, formats, rest) =
     AllReach-trans reading.edition old now new
-    (AllReach-rewrites reading (string_bytes file) old now formats.0 formats.1)
-    (AllReach-each reading files now new between after rest)
+    (AllReach-rewrites CallFails reading (string_bytes file) old now formats.0 formats.1)
+    (AllReach-each CallFails reading files now new between after rest)
 
 -- ---- its files
 
@@ -144,21 +165,24 @@ IsNormal-at : (edition : Edition) (old new : Option (List ℕ)) →
 IsNormal-at edition None new normal = tt
 IsNormal-at edition (Some bytes) new normal = λ t a. normal bytes t refl a
 
-pub AllNormal-each : (reading : Reading) (files : List (String Global)) (start old new : List ℕ → Option (List ℕ))
-    (before after : Tally) → AllReach reading.edition start old → FormatsEach reading files old new before after →
+pub AllNormal-each : (CallFails : Failing) (reading : Reading) (files : List (String Global)) (start old new : List ℕ
+    → Option (List ℕ))
+    (before after : Tally) → AllReach reading.edition start old → FormatsEach CallFails reading files old new before
+    after →
     after.fault ≡ 0 → AllNormal reading.edition files start new
-AllNormal-each reading [] start old new before after reach each none = λ k d below. absurd (omega arith)
-AllNormal-each reading (file ∷ files) start old new before after reach (now, between, formats, rest) none =
+AllNormal-each CallFails reading [] start old new before after reach each none = λ k d below. absurd (omega arith)
+AllNormal-each CallFails reading (file ∷ files) start old new before after reach (now, between, formats, rest) none =
     let path = string_bytes file in
     let edition = reading.edition in
-    let here = faultless reading files now new between after rest none in
-    let ok = met_ok formats.0 before formats.2.0 formats.2.1 (sym (ap (λ (t : Tally). t.fault) formats.2.2) ∙ here) in
-    let rewrites = subst (λ r. Rewrites reading path old now r) ok.1 formats.1 in
-    let behind = AllReach-each reading files now new between after rest in
-    let step = AllReach-rewrites reading path old now formats.0 formats.1 in
+    let here = faultless CallFails reading files now new between after rest none in
+    let ok = met_ok formats.0 before formats.2 formats.3 (sym (ap (λ (t : Tally). t.fault) formats.4) ∙ here) in
+    let rewrites = subst (λ r. Rewrites CallFails reading path old now r) ok.1 formats.1 in
+    let behind = AllReach-each CallFails reading files now new between after rest in
+    let step = AllReach-rewrites CallFails reading path old now formats.0 formats.1 in
     All-cons (λ file. IsNormal edition (start (string_bytes file)) (new (string_bytes file))) file files
     (IsNormal-at edition (start path) (new path) (λ bytes t e a. reaches_normal edition bytes t a (now path) (new path)
-    (behind path) (rewrites_normal reading path old now ok.0 bytes t a rewrites
+    (behind path) (rewrites_normal CallFails reading path old now ok.0 bytes t a rewrites
     (reaches_one edition bytes t a (start path) (old path) (reach path) (inl e)))))
-    (AllNormal-each reading files start now new between after (AllReach-trans edition start old now reach step) rest
+    (AllNormal-each CallFails reading files start now new between after (AllReach-trans edition start old now reach
+    step) rest
     none)

@@ -1,12 +1,14 @@
 -- Steps of a run, put together.
-use Rattle.std.proofs.Common.{◌≡◌, ℕ, List, Option, None, Ok, Err, Result, subst, sym, ⊎_elim}
+use Rattle.std.proofs.Common.{◌≡◌, ℕ, List, Option, None, Some, Ok, Err, Result, string_bytes, subst, sym, ⊎_elim}
 use Rattle.fluent_syntax_tree.specs.declared.edition.Edition.{Edition}
-use Rattle.ftl_files.specs.Store.{AllStand, OthersStand}
+use Rattle.ftl_files.specs.Store.{AllStand, Becomes, OthersStand}
+use Rattle.ftl_project.specs.Faults.{Failing, IsRead}
 use Rattle.ftl_project.specs.Rewriting.{AllReach, BecomesRewriting, Reaches, Rewrites, goes, stays}
 use Rattle.ftl_project.specs.declared.fault.Fault.{Fault}
 use Rattle.ftl_project.specs.declared.reading.Reading.{Reading}
-use Rattle.ftl_project.specs.declared.rewriting.Rewriting.{Rewriting}
-use Rattle.ftl_project.specs.declared.rewriting.Rewriting.TheVariants as rewriting
+use Rattle.ftl_project.specs.Safe.{IsRewriting}
+use Rattle.ftl_project.specs.declared.replacement.Replacement.{Replacement}
+use Rattle.ftl_project.specs.declared.replacement.Replacement.TheVariants as replacement
 
 module _ (edition : Edition) where
   same : (old new : Option (List ℕ)) → new ≡ old → Reaches edition old new
@@ -37,16 +39,25 @@ module _ (edition : Edition) where
   one_path old new path reach others = λ other. ⊎_elim (same (old other) (new other))
       (⊎_elim (at_path old new path other reach) (came (old other) (new other))) (others other)
 
+-- The text that stands now is a rewriting of the bytes that were known.
+pub becomes_rewriting : (edition : Edition) (old new : Option (List ℕ)) (read text : List ℕ) → IsRead old read →
+    IsRewriting edition read text → Becomes old new text → BecomesRewriting edition old new
+becomes_rewriting edition None new read text is rewrites becomes = tt
+becomes_rewriting edition (Some bytes) new read text is rewrites becomes =
+    (text, subst (λ b. IsRewriting edition b text) is rewrites, becomes)
+
 -- what one file has come to after its rewriting, and the others
-pub AllReach-rewrites : (reading : Reading) (path : List ℕ) (old new : List ℕ → Option (List ℕ))
-    (result : Result Rewriting Fault) → Rewrites reading path old new result → AllReach reading.edition old new
-AllReach-rewrites reading path old new (Ok rewriting.Rewritten) done =
-    one_path reading.edition old new path (goes stays done.0) done.1
-AllReach-rewrites reading path old new (Ok rewriting.Same) done =
-    AllReach-stand reading.edition old new done.0
-AllReach-rewrites reading path old new (Ok (rewriting.Errors refused)) done =
-    AllReach-stand reading.edition old new done.0
-AllReach-rewrites reading path old new (Ok (rewriting.Unsafe entry)) done =
-    AllReach-stand reading.edition old new done.0
-AllReach-rewrites reading path old new (Err fault) done = one_path reading.edition old new path
+pub AllReach-rewrites : (CallFails : Failing) (reading : Reading) (path : List ℕ)
+    (old new : List ℕ → Option (List ℕ)) (result : Result Replacement Fault) →
+    Rewrites CallFails reading path old new result → AllReach reading.edition old new
+AllReach-rewrites CallFails reading path old new (Ok (replacement.Text text)) (read, is, that, puts) =
+    one_path reading.edition old new path (goes stays (becomes_rewriting reading.edition (old path) (new path) read
+    (string_bytes text) is that.0 puts.0)) puts.1
+AllReach-rewrites CallFails reading path old new (Ok replacement.Same) done =
+    AllReach-stand reading.edition old new done.3
+AllReach-rewrites CallFails reading path old new (Ok (replacement.Errors refused)) done =
+    AllReach-stand reading.edition old new done.3
+AllReach-rewrites CallFails reading path old new (Ok (replacement.Unsafe entry)) done =
+    AllReach-stand reading.edition old new done.3
+AllReach-rewrites CallFails reading path old new (Err fault) done = one_path reading.edition old new path
     (⊎_elim (same reading.edition (old path) (new path)) (λ becomes. goes stays becomes) done.0) done.1

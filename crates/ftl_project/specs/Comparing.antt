@@ -1,7 +1,7 @@
 -- How a comparison meets each pair.
 use Rattle.std.specs.Io.KnownBytes.{Appends}
 use Rattle.std.specs.Prelude.{◌≡◌, ◌⊎◌, ◌==◌, ◌+◌, ◌-◌, ◌^◌, ◌++◌, ℕ, Bool, true, false, not, List, [], ◌∷◌, Option}
-use Rattle.std.specs.Prelude.{None, Some, IfSome, codes, count_by, is_some, min, string_bytes}
+use Rattle.std.specs.Prelude.{None, Some, codes, count_by, is_some, min, string_bytes}
 use Rattle.std.specs.Fmt.{decimal}
 use Rattle.fluent_syntax_names.specs.Lacks.{all_lacks}
 use Rattle.fluent_syntax_names.specs.declared.lack.Lack.{Lack}
@@ -11,7 +11,7 @@ use Rattle.fluent_syntax_names.specs.declared.outline.Outline.{Outline}
 use Rattle.fluent_syntax_names.specs.Differences.{difference_name, side_difference}
 use Rattle.fluent_syntax_names.specs.Sentences.{difference_sentence}
 use Rattle.ftl_project.specs.Differences.{is_told_as_error}
-use Rattle.ftl_project.specs.Faults.{Fails, IsFault, IsTooDeep}
+use Rattle.ftl_project.specs.Faults.{Failing, Fails, IsFault, IsRead, IsTooDeep, IsUnparsed}
 use Rattle.ftl_project.specs.Outlines.{IsOutline, entries_in}
 use Rattle.ftl_project.specs.Junk.{lack_junk}
 use Rattle.ftl_project.specs.Remarks.{IsName, IsRemark, TellsEach, spot_at}
@@ -45,12 +45,11 @@ missing_message path text lack difference is_junk name =
     ++ behind_missing is_junk
 
 -- This is told of a difference in the file, with a message that says so; of no difference nothing is told.
-abbrev pub IsDifferenceTold : Form → (path text : List ℕ) → Option Spot → Option Difference →
+abbrev pub IsDifferenceTold : Form → (path : List ℕ) → Option Spot → Option Difference →
     (Says : Difference → List ℕ → Type 0) → (told : List ℕ) → Type 0
-IsDifferenceTold form path text place None Says told = told ≡ []
-IsDifferenceTold form path text place (Some difference) Says told =
-    (message : List ℕ) × Says difference message
-    × IsRemark form path text place (difference_name difference) message told
+IsDifferenceTold form path place None Says told = told ≡ []
+IsDifferenceTold form path place (Some difference) Says told =
+    (message : List ℕ) × Says difference message × IsRemark form path place (difference_name difference) message told
 
 -- The message is that of the difference, by the name of the part in the text.
 abbrev pub SaysMissing : (path text : List ℕ) → Lack → (is_junk : Bool) → Difference → (message : List ℕ) → Type 0
@@ -65,14 +64,13 @@ SaysMore text lack difference message =
 -- first such junk.
 abbrev pub IsMissingTold : Form → Pair → (text : List ℕ) → (other : Outline) → Lack → (told : List ℕ) → Type 0
 IsMissingTold form pair text other lack told =
-    IsDifferenceTold form (string_bytes pair.other) other.text.now (lack_junk text other lack)
-    (side_difference Reference lack.part)
+    IsDifferenceTold form (string_bytes pair.other) (lack_junk text other lack) (side_difference Reference lack.part)
     (SaysMissing (string_bytes pair.reference) text lack (is_some (lack_junk text other lack))) told
 
 -- This is told of what the other file's text has and the reference lacks.
 abbrev pub IsMoreTold : Form → Pair → (text : List ℕ) → Lack → (told : List ℕ) → Type 0
 IsMoreTold form pair text lack told =
-    IsDifferenceTold form (string_bytes pair.other) text (Some (spot_at text lack.name))
+    IsDifferenceTold form (string_bytes pair.other) (Some (spot_at text lack.name))
     (side_difference Other lack.part) (SaysMore text lack) told
 
 -- This is told of what the text of a side has and the other one lacks. `other` is the file that is not the reference.
@@ -84,10 +82,7 @@ IsLackTold Other form pair text other = IsMoreTold form pair text
 
 abbrev pub is_entry_part : Part → Bool
 is_entry_part part.Entry = true
-is_entry_part part.Value = false
-is_entry_part part.Attribute = false
-is_entry_part part.Reference = false
-is_entry_part part.Variable = false
+is_entry_part _ = false
 
 -- how many messages and terms the other file lacks
 abbrev pub lacked_entries : List Lack → ℕ
@@ -110,7 +105,7 @@ with_share share (Some part) = record {
 -- The other file is not there: that is the one error, and all of the reference is missing.
 pub record IsAlone (form : Form) (pair : Pair) (reference : Outline) (errors : ℕ) (share : Share) (text : List ℕ) :
     Type 0 where
-  pub told : IsRemark form (string_bytes pair.other) [] None (codes "missing-file")
+  pub told : IsRemark form (string_bytes pair.other) None (codes "missing-file")
       (codes "there is no such file; the reference has " ++ string_bytes pair.reference) text
   pub errors_are : errors ≡ 1
   pub share_is : share ≡ record { wanted = entries_in reference; missing = entries_in reference }
@@ -129,10 +124,10 @@ pub record IsBeside (form : Form) (pair : Pair) (reference other : Outline) (err
   pub share_is : share
       ≡ record { wanted = entries_in reference; missing = lacked_entries (all_lacks reference other) }
 
-module _ (reading : Reading) (form : Form) (at : List ℕ → Option (List ℕ)) where
-  -- The outline is that of the bytes of the file.
+module _ (CallFails : Failing) (reading : Reading) (form : Form) (at : List ℕ → Option (List ℕ)) where
+  -- The outline is that of what was read of the file.
   abbrev pub IsOutlineAt : (path : List ℕ) → Outline → Type 0
-  IsOutlineAt path outline = IfSome (at path) (λ bytes. IsOutline reading.edition bytes outline)
+  IsOutlineAt path outline = (text : List ℕ) × IsRead (at path) text × IsOutline reading.edition text outline
 
   -- what comes of a pair, by whether the other file is there
   abbrev pub IsComparison : (is_there : Bool) → Pair → (errors : ℕ) → Share → (text : List ℕ) → Type 0
@@ -144,9 +139,12 @@ module _ (reading : Reading) (form : Form) (at : List ℕ → Option (List ℕ))
       × IsBeside form pair reference other errors share text
 
   -- Why a pair was not compared: one of its files was not answered.
+  abbrev pub IsFileFault : (path : List ℕ) → Fault → Type 0
+  IsFileFault path = IsFault CallFails (at path) (λ text. IsUnparsed (IsTooDeep reading text))
+
   abbrev pub IsPairFault : Pair → Fault → Type 0
-  IsPairFault pair fault = IsFault (IsTooDeep reading) (at (string_bytes pair.reference)) fault
-      ⊎ (pair.is_there ≡ true) × IsFault (IsTooDeep reading) (at (string_bytes pair.other)) fault
+  IsPairFault pair fault = IsFileFault (string_bytes pair.reference) fault
+      ⊎ (pair.is_there ≡ true) × IsFileFault (string_bytes pair.other) fault
 
   -- how a pair is met, with how much of it is there, and what is told of it
   abbrev pub IsCompared : Pair → Met → Option Share → (text : List ℕ) → Type 0

@@ -2,6 +2,7 @@
 use Rattle.std.specs.Prelude.{◌≡◌, ◌≤◌, ◌⊎◌, ℕ, List, Option, IfSome}
 use Rattle.std.specs.Str.{IsUtf8}
 use Rattle.std.specs.Str.Lossy.{utf8_valid_len}
+use Rattle.std.specs.declared.io.Error.{Error}
 use Rattle.fluent_syntax_grammar.specs.Nesting.{NestsDeeper}
 use Rattle.ftl.specs.FromJson as json
 use Rattle.ftl_project.specs.declared.fault.Fault.{Fault}
@@ -17,50 +18,54 @@ HasStatus (Write error) status = (status ≡ 4) ⊎ (status ≡ 5)
 HasStatus TooDeep status = status ≡ 6
 HasStatus (Json fault) status = (3 ≤ status) × (status ≤ 6)
 
--- the bytes are no text, and from that place on they are none
-abbrev pub IsNoText : (bytes : List ℕ) (place : ℕ) → Type 0
-IsNoText bytes place = ¬ (IsUtf8 bytes) × (place ≡ utf8_valid_len bytes)
+-- The file failed so, and the status is that of its fault.
+abbrev pub Fails : (Fault → Type 0) → ℕ → Type 0
+Fails Is status = (fault : Fault) × Is fault × HasStatus fault status
 
--- Why no text was read of a file: a read failed, or its bytes are no text.
-abbrev pub IsUnread : Option (List ℕ) → Fault → Type 0
-IsUnread bytes (Read error) = Unit {0}
-IsUnread bytes (NotText place) = IfSome bytes (λ known. IsNoText known place)
-IsUnread bytes Memory = ⊥
-IsUnread bytes (Write error) = ⊥
-IsUnread bytes TooDeep = ⊥
-IsUnread bytes (Json fault) = ⊥
-
--- Why a text was not parsed: memory was wanted, or it nests deeper than it may.
-abbrev pub IsUnparsed : (deeper : Type 0) → Fault → Type 0
-IsUnparsed deeper (Read error) = ⊥
-IsUnparsed deeper (NotText place) = ⊥
-IsUnparsed deeper Memory = Unit {0}
-IsUnparsed deeper (Write error) = ⊥
-IsUnparsed deeper TooDeep = deeper
-IsUnparsed deeper (Json fault) = ⊥
-
--- Why a file was not answered, where no text may nest deeper than so: the one or the other; or it could not be written.
-abbrev pub IsFault : (Deeper : List ℕ → Type 0) → Option (List ℕ) → Fault → Type 0
-IsFault Deeper bytes (Read error) = Unit {0}
-IsFault Deeper bytes (NotText place) = IfSome bytes (λ known. IsNoText known place)
-IsFault Deeper bytes Memory = Unit {0}
-IsFault Deeper bytes (Write error) = Unit {0}
-IsFault Deeper bytes TooDeep = IfSome bytes Deeper
-IsFault Deeper bytes (Json fault) = ⊥
-
--- Why a file was not converted: it was not read, memory was wanted, or it spells no tree.
-abbrev pub IsConvertingFault : Option (List ℕ) → Fault → Type 0
-IsConvertingFault bytes (Read error) = Unit {0}
-IsConvertingFault bytes (NotText place) = IfSome bytes (λ known. IsNoText known place)
-IsConvertingFault bytes Memory = Unit {0}
-IsConvertingFault bytes (Write error) = ⊥
-IsConvertingFault bytes TooDeep = ⊥
-IsConvertingFault bytes (Json fault) = IfSome bytes (λ known. json.IsFault known fault)
+-- ---- of a text
 
 -- the text nests deeper than is read
 abbrev pub IsTooDeep : Reading → List ℕ → Type 0
 IsTooDeep reading text = NestsDeeper reading.edition text reading.nesting
 
--- The file failed so, and the status is that of its fault.
-abbrev pub Fails : (Fault → Type 0) → ℕ → Type 0
-Fails Is status = (fault : Fault) × Is fault × HasStatus fault status
+-- Why a text was not parsed: memory was wanted, or it nests deeper than it may.
+abbrev pub IsUnparsed : (deeper : Type 0) → Fault → Type 0
+IsUnparsed deeper Memory = Unit {0}
+IsUnparsed deeper TooDeep = deeper
+IsUnparsed deeper _ = ⊥
+
+-- Why a text was not converted: memory was wanted, or it spells no tree.
+abbrev pub IsMisspelled : (text : List ℕ) → Fault → Type 0
+IsMisspelled text Memory = Unit {0}
+IsMisspelled text (Json fault) = json.IsFault text fault
+IsMisspelled text _ = ⊥
+
+-- ---- of a file
+
+-- the bytes are no text, and from that place on they are none
+abbrev pub IsNoText : (bytes : List ℕ) (place : ℕ) → Type 0
+IsNoText bytes place = ¬ (IsUtf8 bytes) × (place ≡ utf8_valid_len bytes)
+
+-- what was read of a file: its bytes, where these are known
+abbrev pub IsRead : Option (List ℕ) → List ℕ → Type 0
+IsRead bytes read = IfSome bytes (λ known. read ≡ known)
+
+-- why a call of a store may fail on a file of these bytes
+abbrev pub Failing : Type 1
+Failing = Option (List ℕ) → Error → Type 0
+
+module _ (CallFails : Failing) (bytes : Option (List ℕ)) where
+  -- Why no text was read of the file: the call failed, or what was read is no text.
+  abbrev pub IsUnread : Fault → Type 0
+  IsUnread (Read error) = CallFails bytes error
+  IsUnread (NotText place) = (read : List ℕ) × IsRead bytes read × IsNoText read place
+  IsUnread _ = ⊥
+
+  -- Why nothing was written in its place: the call failed.
+  abbrev pub IsUnwritten : Fault → Type 0
+  IsUnwritten (Write error) = CallFails bytes error
+  IsUnwritten _ = ⊥
+
+  -- Why the file was not answered: no text was read of it, or of the text that was read there is no answer.
+  abbrev pub IsFault : (OfText : List ℕ → Fault → Type 0) → Fault → Type 0
+  IsFault OfText fault = IsUnread fault ⊎ ((read : List ℕ) × IsRead bytes read × OfText read fault)

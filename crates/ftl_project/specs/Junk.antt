@@ -16,10 +16,7 @@ junk_spot file entry = option_map (spot_at file.text.now) (refused_at file entry
 -- of a part that the file lacks, by its name in the text that has it: no junk is a message's value, or an attribute
 abbrev pub part_junk : (text : List ℕ) → Outline → Part → Span → Option Spot
 part_junk text file part.Entry name = junk_spot file (entry_at text name)
-part_junk text file part.Value name = None
-part_junk text file part.Attribute name = None
-part_junk text file part.Reference name = None
-part_junk text file part.Variable name = None
+part_junk text file _ name = None
 
 abbrev pub lack_junk : (text : List ℕ) → Outline → Lack → Option Spot
 lack_junk text file lack = part_junk text file lack.part lack.name

@@ -2,6 +2,7 @@ pub mod Answered
 pub mod Comparing
 pub mod Differences
 pub mod Errors
+pub mod Excerpt
 pub mod Faults
 pub mod Formatting
 pub mod Junk

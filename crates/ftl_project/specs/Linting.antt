@@ -15,7 +15,7 @@ use Rattle.fluent_syntax_names.specs.declared.finding.Kind.{Kind}
 use Rattle.fluent_syntax_names.specs.declared.outline.Outline.{Outline}
 use Rattle.fluent_syntax_tree.specs.declared.spans.Span.{Span}
 use Rattle.ftl_project.specs.Differences.{is_grave}
-use Rattle.ftl_project.specs.Faults.{Fails, HasStatus, IsTooDeep, IsUnread}
+use Rattle.ftl_project.specs.Faults.{Failing, Fails, HasStatus, IsTooDeep, IsUnread}
 use Rattle.ftl_project.specs.Outlines.{IsOutline, SaysNothing}
 use Rattle.ftl_project.specs.Remarks.{IsRemark, TellsEach, spot_at}
 use Rattle.ftl_project.specs.Tally.{counted, failed}
@@ -51,17 +51,18 @@ CountsRead files old new = (read : ℕ) × (read ≤ files) × (new.fault ≡ 0 
 
 -- ---- what was read
 
-module _ (at : List ℕ → Option (List ℕ)) where
-  -- The source is the path and the bytes of the file.
-  pub record IsSource (path : List ℕ) (source : Source) : Type 0 where
-    pub path_is : string_bytes source.path ≡ path
-    pub text_is : IfSome (at path) (λ bytes. string_bytes source.text ≡ bytes)
+-- The source is the path and the bytes of the file.
+pub record IsSource (at : List ℕ → Option (List ℕ)) (path : List ℕ) (source : Source) : Type 0 where
+  pub path_is : string_bytes source.path ≡ path
+  pub text_is : IfSome (at path) (λ bytes. string_bytes source.text ≡ bytes)
 
+module _ (CallFails : Failing) (at : List ℕ → Option (List ℕ)) where
   -- A file was read; or it was not, and its fault was counted.
   abbrev pub ReadsSource : (path : List ℕ) → (before after : List Source) → (old new : Tally) → Type 0
   ReadsSource path before after old new =
-      ((source : Source) × IsSource path source × (after ≡ before ++ (source ∷ [])) × (new ≡ old))
-      ⊎ ((status : ℕ) × Fails (IsUnread (at path)) status × (after ≡ before) × (new ≡ counted old (failed status)))
+      ((source : Source) × IsSource at path source × (after ≡ before ++ (source ∷ [])) × (new ≡ old))
+      ⊎ ((status : ℕ) × Fails (IsUnread CallFails (at path)) status × (after ≡ before)
+      × (new ≡ counted old (failed status)))
 
   -- So were all of the files, in order.
   pub data Reads : List (String Global) → List Source → (old new : Tally) → Type 0 where
@@ -140,9 +141,8 @@ spot_in text (Some name) = Some (spot_at text name)
 -- This is told of the finding, in its file.
 abbrev pub IsFindingTold : Form → List Source → List Outline → Finding → (told : List ℕ) → Type 0
 IsFindingTold form sources outlines finding told =
-    let text = text_of (slice_get outlines finding.file) in
-    (message : List ℕ) × IsRemark form (path_of (slice_get sources finding.file)) text (spot_in text finding.place)
-    (name_of finding.kind) message told
+    (message : List ℕ) × IsRemark form (path_of (slice_get sources finding.file))
+    (spot_in (text_of (slice_get outlines finding.file)) finding.place) (name_of finding.kind) message told
 
 -- The texts were searched as one set: what is found in what they say was told, in order, behind what was written
 -- before, and counted.
@@ -157,9 +157,10 @@ pub record Searches (reading : Reading) (form : Form) (ignored : List Kind) (sou
   pub appends : Appends before after told
 
 -- The files were read, and the texts of those that could be were searched.
-pub record SearchesFiles (reading : Reading) (form : Form) (ignored : List Kind) (at : List ℕ → Option (List ℕ))
-    (files : List (String Global)) (old new : Tally) (before after : Option (List ℕ)) : Type 0 where
+pub record SearchesFiles (CallFails : Failing) (reading : Reading) (form : Form) (ignored : List Kind)
+    (at : List ℕ → Option (List ℕ)) (files : List (String Global)) (old new : Tally)
+    (before after : Option (List ℕ)) : Type 0 where
   pub sources : List Source
   pub now : Tally
-  pub reads : Reads at files sources old now
+  pub reads : Reads CallFails at files sources old now
   pub searches : Searches reading form ignored sources now new before after

@@ -29,12 +29,7 @@ IsShort outline = length outline.text.now + 1 < 2 ^ 64
 abbrev pub is_entry : Mention Span → Bool
 is_entry (says.Message x v) = true
 is_entry (says.Term x) = true
-is_entry (says.Attribute x) = false
-is_entry (says.Junk x) = false
-is_entry (says.MessageReference x a) = false
-is_entry (says.TermReference x a) = false
-is_entry (says.Variable x) = false
-is_entry (says.Function x) = false
+is_entry _ = false
 
 -- how many messages and terms the text defines
 abbrev pub entries_in : Outline → ℕ

@@ -1,13 +1,13 @@
 -- What is told of what is found in a file.
 use Rattle.std.specs.Prelude.{◌≡◌, ◌⊎◌, ◌+◌, ◌≤◌, ◌++◌, ℕ, List, [], ◌∷◌, Option, None, Some, codes}
 use Rattle.std.specs.Prelude.{length, min, slice_range}
+use Rattle.std.specs.Fmt.{decimal}
 use Rattle.std.specs.Str.{IsCharBoundary}
 use Rattle.fluent_syntax.specs.Lines.{column_at, line_at}
 use Rattle.fluent_syntax_tree.specs.declared.spans.Span.{Span}
-use Rattle.ftl_excerpts.specs.Excerpt.{shown_text}
-use Rattle.ftl_project.specs.Reports.{EndsIn, EndsInExcerpt, place_of}
+use Rattle.ftl_project.specs.Excerpt.{shown_text}
 use Rattle.ftl_project.specs.declared.form.Form.{Form}
-use Rattle.ftl_project.specs.declared.form.Form.TheVariants.{Colored, Full, Github, Json, Lines}
+use Rattle.ftl_project.specs.declared.form.Form.TheVariants.{Lines}
 use Rattle.ftl_project.specs.declared.remarks.Spot.{Spot}
 
 -- where a name is in a text: with its line and its column, or those of the text's end where that comes first
@@ -25,6 +25,10 @@ IsName text name bytes =
     ((bytes ≡ slice_range text name.start name.end) × (length bytes + name.start ≡ name.end))
     ⊎ ((name.start ≤ name.end → IsCharBoundary text name.start → ¬ (IsCharBoundary text name.end)) × (bytes ≡ []))
 
+-- a place in a file: its path as it is shown, its line and its column
+abbrev pub place_of : (path : List ℕ) (line column : ℕ) → List ℕ
+place_of path line column = shown_text path ++ (codes ":" ++ (decimal line ++ (codes ":" ++ decimal column)))
+
 -- the path as it is shown, with the line and the column where there is a place
 abbrev pub place_or_path : (path : List ℕ) → Option Spot → List ℕ
 place_or_path path None = shown_text path
@@ -40,18 +44,10 @@ abbrev pub remark_line : (path : List ℕ) → Option Spot → (kind message : L
 remark_line path place kind message =
     place_or_path path place ++ (codes ": " ++ (kind ++ (message_behind place message ++ codes "\n")))
 
--- in full: the excerpt of the place, or the message where there is none, behind what is told before it
-abbrev pub EndsInSpot : (caret text : List ℕ) → Option Spot → (message told : List ℕ) → Type 0
-EndsInSpot caret text None message told = EndsIn (shown_text message ++ codes "\n") told
-EndsInSpot caret text (Some spot) message told = EndsInExcerpt caret text spot.start told
-
--- This is told of what was found in a file, in the form.
-abbrev pub IsRemark : Form → (path text : List ℕ) → Option Spot → (kind message told : List ℕ) → Type 0
-IsRemark Lines path text place kind message told = told ≡ remark_line path place kind message
-IsRemark Full path text place kind message told = EndsInSpot (codes "^") text place message told
-IsRemark Colored path text place kind message told = (caret : List ℕ) × EndsInSpot caret text place message told
-IsRemark Json path text place kind message told = EndsIn (codes "}\n") told
-IsRemark Github path text place kind message told = EndsIn (codes "\n") told
+-- This is told of what was found in a file, in the form of lines. The other forms are for people, or for other tools.
+abbrev pub IsRemark : Form → (path : List ℕ) → Option Spot → (kind message told : List ℕ) → Type 0
+IsRemark Lines path place kind message told = told ≡ remark_line path place kind message
+IsRemark _ path place kind message told = Unit {0}
 
 -- Of each this is told, one behind another.
 pub data TellsEach {A : Type 0} (Is : A → List ℕ → Type 0) : List A → (told : List ℕ) → Type 0 where

@@ -1,75 +1,108 @@
 -- What formatting in place does to a file.
-use Rattle.std.specs.Prelude.{◌≡◌, ◌≢◌, ◌⊎◌, ◌≤◌, ℕ, All, length, List, Option, None, Some, IfSome, Result, Ok, Err}
-use Rattle.std.specs.Prelude.{[], false, true}
-use Rattle.std.specs.Prelude.{string_bytes}
-use Rattle.fluent_syntax_grammar.specs.Body.{faults}
-use Rattle.fluent_syntax_grammar.specs.RoundTrip.{ReadsAs, tree_of}
+use Rattle.std.specs.Prelude.{◌≡◌, ◌≢◌, ◌⊎◌, ℕ, List, [], ◌∷◌, Option, None, Some, Result, Ok, Err, false, length, min}
+use Rattle.std.specs.Prelude.{slice_get, string_bytes}
+use Rattle.fluent_syntax.specs.Lines.{column_at, line_at}
+use Rattle.fluent_syntax_grammar.specs.Body.{body}
+use Rattle.fluent_syntax_grammar.specs.RoundTrip.{ReadsAs}
 use Rattle.fluent_syntax_grammar.specs.Tiling.{Tile, Tiling}
 use Rattle.fluent_syntax_grammar.specs.Written.{Text}
-use Rattle.fluent_syntax_tree.specs.Entry.{BodyTree}
+use Rattle.fluent_syntax_writer.specs.Uncanonical.{IsFirstBroken}
+use Rattle.fluent_syntax_writer.specs.declared.canonical.first.Uncanonical.{Uncanonical}
+use Rattle.fluent_syntax_tree.specs.Entry.{BodyTree, EntryTree, comment, junk, message, term}
 use Rattle.fluent_syntax_tree.specs.declared.edition.Edition.{Edition}
-use Rattle.ftl.specs.Safe.{is_safe}
-use Rattle.ftl_files.specs.Store.{AllStand, OthersStand}
+use Rattle.fluent_syntax_tree.specs.declared.spans.Span.{Span}
+use Rattle.ftl.specs.Safe.{is_safe, reread_tree}
+use Rattle.ftl_files.specs.Store.{AllStand, Becomes, OthersStand}
 use Rattle.ftl_project.specs.Errors.{IsRefused}
-use Rattle.ftl_project.specs.Faults.{IsFault, IsTooDeep}
+use Rattle.ftl_project.specs.Faults.{Failing, IsFault, IsRead, IsTooDeep, IsUnparsed, IsUnwritten}
 use Rattle.ftl_project.specs.Safe.{IsRewriting}
 use Rattle.ftl_project.specs.declared.fault.Fault.{Fault}
 use Rattle.ftl_project.specs.declared.reading.Reading.{Reading}
 use Rattle.ftl_project.specs.declared.replacement.Replacement.{Replacement}
+use Rattle.ftl_project.specs.declared.replacement.Replacement.TheVariants.{Errors, Same, Unsafe}
 use Rattle.ftl_project.specs.declared.replacement.Replacement.TheVariants as replacement
-use Rattle.ftl_project.specs.declared.rewriting.Rewriting.{Rewriting}
-use Rattle.ftl_project.specs.declared.rewriting.Rewriting.TheVariants as rewriting
 use Rattle.ftl_project.specs.declared.unsafe_entry.UnsafeEntry.{UnsafeEntry}
 
--- The bytes have no error, and are not safe to write.
-abbrev pub IsUnsafe : Edition → Text → Type 0
-IsUnsafe edition bytes = (tree : BodyTree Text) × ReadsAs edition bytes tree × (is_safe edition tree ≡ false)
+-- ---- the entry by which a text is not safe to write
 
--- No entry of the bytes is found by which they are unsafe: they have an error, or are safe to write.
-abbrev pub IsFoundSafe : Edition → Text → Type 0
-IsFoundSafe edition bytes = (tiles : List Tile) × Tiling edition bytes tiles
-    × ((faults tiles ≢ []) ⊎ (is_safe edition (tree_of bytes tiles) ≡ true))
+-- where the first line of a comment is
+abbrev pub first_start : List Span → ℕ
+first_start [] = 0
+first_start (line ∷ lines) = line.start
 
--- what was found of them
-abbrev pub FindsUnsafe : Edition → Text → Option UnsafeEntry → Type 0
-FindsUnsafe edition bytes None = IsFoundSafe edition bytes
-FindsUnsafe edition bytes (Some entry) = IsUnsafe edition bytes
+-- where an entry has its name, or its text where it has none
+abbrev pub named_at : EntryTree Span → ℕ
+named_at (message m) = m.id.start
+named_at (term m) = m.id.start
+named_at (comment level lines) = first_start lines
+named_at (junk content) = content.start
 
--- what is to stand in the place of the bytes
+abbrev pub place_of_entry : Option (EntryTree Span) → ℕ
+place_of_entry None = 0
+place_of_entry (Some entry) = named_at entry
+
+-- the place of the entry of that number in a text
+abbrev pub entry_place : (text : Text) → List (EntryTree Span) → (number : ℕ) → ℕ
+entry_place text entries number = min (place_of_entry (slice_get entries number)) (length text)
+
+-- It stands where the text has the entry, and breaks the rule.
+abbrev pub IsEntryAt : Edition → Text → Uncanonical → UnsafeEntry → Type 0
+IsEntryAt edition text broken entry = (tiles : List Tile) × Tiling edition text tiles
+    × (entry ≡ record {
+      line = line_at text (entry_place text (body tiles) broken.entry);
+      column = column_at text (entry_place text (body tiles) broken.entry);
+      rule = broken.rule;
+    })
+
+-- The bytes have no error, and are not safe to write; and that is the first entry by which they are not.
+pub record IsUnsafe (edition : Edition) (bytes : Text) (entry : UnsafeEntry) : Type 0 where
+  pub tree : BodyTree Text
+  pub reads : ReadsAs edition bytes tree
+  pub unsafe : is_safe edition tree ≡ false
+  pub broken : Uncanonical
+  pub first : IsFirstBroken edition (reread_tree edition tree) broken
+  pub told : IsEntryAt edition bytes broken entry
+
+-- ---- what is to stand in the place of a text
+
 abbrev pub IsReplacement : Edition → List ℕ → Replacement → Type 0
-IsReplacement edition bytes replacement.Same = IsRewriting edition bytes bytes
+IsReplacement edition bytes Same = IsRewriting edition bytes bytes
 IsReplacement edition bytes (replacement.Text text) =
     IsRewriting edition bytes (string_bytes text) × (string_bytes text ≢ bytes)
-IsReplacement edition bytes (replacement.Errors errors) = IsRefused edition bytes errors.items
-IsReplacement edition bytes (replacement.Unsafe entry) = IsUnsafe edition bytes
+IsReplacement edition bytes (Errors refused) = IsRefused edition bytes refused.errors.items
+IsReplacement edition bytes (Unsafe entry) = IsUnsafe edition bytes entry
 
--- the place of each error begins within the text
-abbrev pub ErrorsIn : List ℕ → Replacement → Type 0
-ErrorsIn text (replacement.Errors errors) = All (λ e. e.pos.start ≤ length text) errors.items
-ErrorsIn text replacement.Same = Unit {0}
-ErrorsIn text (replacement.Text formatted) = Unit {0}
-ErrorsIn text (replacement.Unsafe entry) = Unit {0}
+abbrev pub unsafe_of : Replacement → Option UnsafeEntry
+unsafe_of (Unsafe entry) = Some entry
+unsafe_of _ = None
+
+-- The entry is that of the text's replacement, if it has one.
+abbrev pub FindsUnsafe : Edition → Text → Option UnsafeEntry → Type 0
+FindsUnsafe edition bytes found =
+    (replacement : Replacement) × IsReplacement edition bytes replacement × (found ≡ unsafe_of replacement)
+
+-- ---- a file
 
 -- where the bytes were known, a rewriting of them stands now
 abbrev pub BecomesRewriting : Edition → (old new : Option (List ℕ)) → Type 0
 BecomesRewriting edition None new = Unit {0}
 BecomesRewriting edition (Some bytes) new = (text : List ℕ) × IsRewriting edition bytes text × (new ≡ Some text)
 
--- A file that was rewritten has become a rewriting of what it was, and no other file was touched; after a fault the old
--- bytes stand, or a rewriting of them; in any other case all files stand. It is the same where the bytes are their own
--- rewriting, has errors where they have those, and is unsafe where they are.
-abbrev pub Rewrites : Reading → (path : List ℕ) → (old new : List ℕ → Option (List ℕ)) → Result Rewriting Fault → Type 0
-Rewrites reading path old new (Ok rewriting.Rewritten) =
-    BecomesRewriting reading.edition (old path) (new path) × OthersStand old new path
-Rewrites reading path old new (Ok rewriting.Same) =
-    AllStand old new × IfSome (old path) (λ bytes. IsRewriting reading.edition bytes bytes)
-Rewrites reading path old new (Ok (rewriting.Errors refused)) =
-    AllStand old new × IfSome (old path) (λ bytes. IsRefused reading.edition bytes refused.errors.items)
-Rewrites reading path old new (Ok (rewriting.Unsafe entry)) =
-    AllStand old new × IfSome (old path) (λ bytes. IsUnsafe reading.edition bytes)
-Rewrites reading path old new (Err fault) =
+-- A text has come in the file's place, and no other file was touched; or all files stand.
+abbrev pub Puts : Replacement → (path : List ℕ) → (old new : List ℕ → Option (List ℕ)) → Type 0
+Puts (replacement.Text text) path old new = Becomes (old path) (new path) (string_bytes text) × OthersStand old new path
+Puts _ path old new = AllStand old new
+
+-- The replacement of what was read of the file was put in its place; after a fault the old bytes stand, or a rewriting
+-- of them.
+abbrev pub Rewrites : Failing → Reading → (path : List ℕ) → (old new : List ℕ → Option (List ℕ)) →
+    Result Replacement Fault → Type 0
+Rewrites CallFails reading path old new (Ok replacement) = (read : List ℕ) × IsRead (old path) read
+    × IsReplacement reading.edition read replacement × Puts replacement path old new
+Rewrites CallFails reading path old new (Err fault) =
     ((new path ≡ old path) ⊎ BecomesRewriting reading.edition (old path) (new path)) × OthersStand old new path
-    × IsFault (IsTooDeep reading) (old path) fault
+    × (IsFault CallFails (old path) (λ text. IsUnparsed (IsTooDeep reading text)) fault
+    ⊎ IsUnwritten CallFails (old path) fault)
 
 -- A file stands as it was, or has become a rewriting of what it was, once or more often where a run came to it so.
 pub data Reaches (edition : Edition) : (old new : Option (List ℕ)) → Type 0 where

@@ -1,17 +1,11 @@
 -- Runs over files: each file is met once, in order, and counted.
 use Rattle.std.specs.Io.KnownBytes.{Appends}
-use Rattle.std.specs.Prelude.{◌≡◌, ℕ, List, [], ◌∷◌, Option}
-use Rattle.ftl_project.specs.Tally.{Met, counted}
+use Rattle.std.specs.Prelude.{◌≡◌, ℕ, List, [], ◌∷◌, Bool, Option, String, string_bytes}
+use Rattle.std.specs.Global.{Global}
+use Rattle.ftl_project.specs.Faults.{Failing, Fails, IsFault, IsRead}
+use Rattle.ftl_project.specs.Tally.{Met, answered, counted, failed}
+use Rattle.ftl_project.specs.declared.fault.Fault.{Fault}
 use Rattle.ftl_project.specs.declared.tally.Tally.{Tally}
-
--- A file was met so, and counted.
-abbrev pub Counts : (Met → Type 0) → (old new : Tally) → Type 0
-Counts Is old new = (met : Met) × Is met × (new ≡ counted old met)
-
--- Each of the files was met so, and counted.
-abbrev pub CountsEach : {A : Type 0} → (A → Met → Type 0) → List A → (old new : Tally) → Type 0
-CountsEach Meets [] old new = new ≡ old
-CountsEach Meets (file ∷ files) old new = (now : Tally) × Counts (Meets file) old now × CountsEach Meets files now new
 
 -- A file was met so, with a text for it: it was counted, and the text was written behind what was written before.
 abbrev pub Writes : (Met → List ℕ → Type 0) → (old new : Tally) → (before after : Option (List ℕ)) → Type 0
@@ -24,3 +18,19 @@ abbrev pub WritesEach : {A : Type 0} → (A → Met → List ℕ → Type 0) →
 WritesEach Meets [] old new before after = (new ≡ old) × Appends before after []
 WritesEach Meets (file ∷ files) old new before after = (now : Tally) × (between : Option (List ℕ))
     × Writes (Meets file) old now before between × WritesEach Meets files now new between after
+
+-- what is said of the text of a file: how many errors it has, whether it is concerned, and what is written
+abbrev pub Answers : Type 1
+Answers = (path text : List ℕ) (errors : ℕ) (is_concerned : Bool) (written : List ℕ) → Type 0
+
+module _ (CallFails : Failing) (Is : Answers) (OfText : List ℕ → Fault → Type 0) where
+  -- How a file of these bytes is met: what was read of it is answered so; or it failed, and nothing is written.
+  abbrev pub MeetsFile : (path : List ℕ) → Option (List ℕ) → Met → (written : List ℕ) → Type 0
+  MeetsFile path bytes (answered errors is_concerned) written =
+      (read : List ℕ) × IsRead bytes read × Is path read errors is_concerned written
+  MeetsFile path bytes (failed status) written = Fails (IsFault CallFails bytes OfText) status × (written ≡ [])
+
+  -- So are all of the files, one behind another.
+  abbrev pub AnswersEach : (at : List ℕ → Option (List ℕ)) → List (String Global) → (old new : Tally) →
+      (before after : Option (List ℕ)) → Type 0
+  AnswersEach at = WritesEach (λ file. MeetsFile (string_bytes file) (at (string_bytes file)))

@@ -3,8 +3,7 @@ use Rattle.std.specs.Prelude.{ℕ, ◌+◌, ◌-◌, ◌^◌, ◌==◌, Bool, ma
 use Rattle.ftl_project.specs.declared.tally.Tally.{Tally}
 
 -- How a file was met: it was answered, with so many errors, and is concerned or not; or it was not, with a fault of
--- that
--- status.
+-- that status.
 pub data Met : Type 0 where
   answered : (errors : ℕ) (is_concerned : Bool) → Met
   failed : (status : ℕ) → Met

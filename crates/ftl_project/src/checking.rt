@@ -1,19 +1,19 @@
 //! Files are checked.
-ghost use Rattle.std.specs.Prelude.{◌≡◌, ◌≢◌, List, Err, IfErr, IfOk, IfSome, OnOk, length, string_bytes};
+ghost use Rattle.std.specs.Prelude.{◌≡◌, ◌≢◌, ◌⊎◌, Err, IfErr, IfOk, OnOk, string_bytes, true};
+ghost use Rattle.ftl.specs.Watched.{has_failed, inner_of};
 ghost use Rattle.ftl_files.specs.Store.{AllStand};
-ghost use Rattle.ftl_project.specs.Answered.{IsChecked, TellsErrors};
+ghost use Rattle.ftl_project.specs.Answered.{IsChecked};
 ghost use Rattle.ftl_project.specs.Errors.{HasErrors};
-ghost use Rattle.ftl_project.specs.Faults.{IsFault, IsTooDeep, IsUnparsed};
-ghost use Rattle.fluent_syntax_tree.specs.declared.errors.ParserError.{ParserError};
-ghost use Rattle.ftl_project.specs.Runs.{Writes, WritesEach};
+ghost use Rattle.ftl_project.specs.Faults.{IsTooDeep, IsUnparsed};
+ghost use Rattle.ftl_project.specs.Runs.{AnswersEach};
 
+use crate::answering::{Answer, Answering, answer_files};
 use crate::fault::Fault;
 use crate::form::Form;
 use crate::reading::Reading;
 use crate::refused::Refused;
 use crate::reporting::report;
-use crate::rewriting::read_text;
-use crate::streams::{Streams, put, put_note, tell};
+use crate::streams::{Streams, note_line};
 use crate::tally::Tally;
 use fluent_syntax::parser::recovered;
 use fluent_syntax::spans::parse_spans_within;
@@ -36,20 +36,20 @@ pub fn check_files<S: Store, O: Write, E: Write>(
     streams: &mut Streams<'_, O, E>,
 ) -> Result<(), RunFault>
     ensures stand { AllStand (S.bytes_at store.old) (S.bytes_at store.new) }
-    ensures each { OnOk result (WritesEach
-        (λ file. IsChecked reading form (string_bytes file) (S.bytes_at store.old (string_bytes file))) files.now
-        tally.old tally.new (O.contents streams.old.out.now) (O.contents streams.new.out.now)) }
-    ensures err { result ≢ Err RunFault.Input }
+    ensures each { OnOk result (AnswersEach S.fails
+        (IsChecked reading form) (λ text. IsUnparsed (IsTooDeep reading text))
+        (S.bytes_at store.old) files.now tally.old tally.new (O.contents (inner_of streams.old.out.now))
+        (O.contents (inner_of streams.new.out.now))) }
+    ensures input { result ≢ Err RunFault.Input }
+    ensures output { result ≡ Err RunFault.Output → (has_failed streams.new.out.now ≡ true)
+        ⊎ (has_failed streams.new.err.now ≡ true) }
 {
     let checking = Checking {
         alloc,
         reading,
         form,
     };
-    for file in files {
-        checking.tell_checked(store, file.as_str(), tally, streams)?;
-    }
-    Ok(())
+    answer_files(alloc, &checking, store, files, tally, streams)
 }
 
 /// How files are checked, and how their errors are told.
@@ -60,76 +60,33 @@ struct Checking {
     form: Form,
 }
 
-/// What was found in a file.
-#[derive(Drop)]
-struct Checked {
-    told: String,
-    errors: usize,
-    /// Whether it begins with a byte order mark.
-    has_mark: bool,
-}
+impl Answering for Checking {
+    ghost answers = { λ checking. IsChecked checking.reading checking.form };
 
-impl Checking {
-    /// Checks a file, tells its errors, and counts it.
-    fn tell_checked<S: Store, O: Write, E: Write>(
-        &self,
-        store: &mut S,
-        path: &str,
-        tally: &mut Tally,
-        streams: &mut Streams<'_, O, E>,
-    ) -> Result<(), RunFault>
-        ensures stand { AllStand (S.bytes_at store.old) (S.bytes_at store.new) }
-        ensures counted { OnOk result
-            (Writes (IsChecked self.now.reading self.now.form path.now (S.bytes_at store.old path.now))
-            tally.old tally.new (O.contents streams.old.out.now) (O.contents streams.new.out.now)) }
-        ensures err { result ≢ Err RunFault.Input }
-    {
-        let checked = match self.check_file(store, path) {
-            Ok(checked) => checked,
-            Err(fault) => return tell(self.alloc, tally, path, &fault, streams),
-        };
-        tally.count(checked.errors, checked.errors != 0);
-        put(streams.out, checked.told.as_str())?;
-        if checked.has_mark {
-            tell_mark(self.alloc, path, streams)
-        } else {
-            Ok(())
-        }
-    }
+    ghost refuses = { λ checking text. IsUnparsed (IsTooDeep checking.reading text) };
 
-    /// The report on a file.
-    fn check_file<S: Store>(&self, store: &mut S, path: &str) -> Result<Checked, Fault>
-        ensures stand { AllStand (S.bytes_at store.old) (S.bytes_at store.new) }
-        ensures told { IfOk result (λ checked. (found : List ParserError)
-            × IfSome (S.bytes_at store.old path.now)
-            (λ known. TellsErrors self.now.reading self.now.form path.now known found (string_bytes checked.told))
-            × (checked.errors ≡ length found)) }
-        ensures fault { IfErr result (IsFault (IsTooDeep self.now.reading) (S.bytes_at store.old path.now)) }
-    {
-        let text = read_text(store, path)?;
+    fn answer(&self, path: &str, text: String) -> Result<Answer, Fault> {
         let refused = errors_of(self.alloc, text, self.reading)?;
-        match report(self.alloc, path, &refused, self.form) {
-            Ok(told) => Ok(Checked {
-                told,
-                errors: refused.errors.len(),
-                has_mark: refused.text.as_str().starts_with('\u{feff}'),
-            }),
-            Err(AllocError) => Err(Fault::Memory),
-        }
+        let errors = refused.errors.len();
+        let text = report(self.alloc, path, &refused, self.form)?;
+        let note = mark_note(self.alloc, path, refused.text.as_str())?;
+        Ok(Answer {
+            errors,
+            is_concerned: errors != 0,
+            text,
+            note,
+        })
     }
 }
 
-/// Tells that a file begins with a byte order mark.
-fn tell_mark<O: Write, E: Write>(
-    alloc: Global,
-    path: &str,
-    streams: &mut Streams<'_, O, E>,
-) -> Result<(), RunFault>
-    ensures out { streams.new.out ≡ streams.old.out }
-    ensures err { result ≢ Err RunFault.Input }
-{
-    let note = "begins with a byte order mark, so its first entry is junk";
-    put_note(alloc, streams.err, path, note)
+/// What is told of a file that begins with a byte order mark.
+fn mark_note(alloc: Global, path: &str, text: &str) -> Result<String, AllocError> {
+    if text.starts_with('\u{feff}') {
+        let note = "begins with a byte order mark, so its first entry is junk";
+        note_line(alloc, path, &note)
+    } else {
+        Ok(String::new(alloc))
+    }
 }
 
 /// The text with its errors, which may be none.

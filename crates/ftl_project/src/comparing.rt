@@ -1,9 +1,10 @@
 //! Files of a reference language are compared with those of another.
-ghost use Rattle.std.specs.Prelude.{◌≡◌, ◌≢◌, ◌⊎◌, ◌++◌, [], None, Some, Err, IfErr, IfOk, OnOk, codes, string_bytes};
+ghost use Rattle.std.specs.Prelude.{◌≡◌, ◌≢◌, ◌⊎◌, ◌++◌, None, Some, Err, IfErr, IfOk, OnOk, codes, string_bytes, true};
 ghost use Rattle.fluent_syntax_names.specs.declared.outline.Outline.{Outline};
 ghost use Rattle.ftl_files.specs.Store.{AllStand};
 ghost use Rattle.ftl_project.specs.Comparing.{Compares, ComparesEach, IsAlone, IsBeside, IsComparison, IsPairFault};
 ghost use Rattle.ftl_project.specs.Comparing.{errors_of, lacked_entries, with_share};
+ghost use Rattle.ftl.specs.Watched.{has_failed, inner_of};
 ghost use Rattle.ftl_project.specs.Faults.{IsTooDeep, IsUnparsed};
 ghost use Rattle.ftl_project.specs.Outlines.{IsOutline, IsShort};
 ghost use Rattle.ftl_project.specs.Remarks.{IsRemark};
@@ -17,11 +18,11 @@ use crate::outlines::{entries_in, outline};
 use crate::reading::Reading;
 use crate::remarks::{Remark, remark_text};
 use crate::rewriting::read_text;
-use crate::streams::{Streams, put, tell};
+use crate::streams::{Streams, tell};
 use crate::tally::Tally;
 use crate::translation::Translation;
 use fluent_syntax_names::{Lack, Outline, Part, Side, lacks};
-use ftl::RunFault;
+use ftl::{RunFault, write_all};
 use ftl_files::Store;
 use std::alloc::{AllocError, Global};
 use std::io::Write;
@@ -77,9 +78,11 @@ pub fn compare_files<S: Store, O: Write, E: Write>(
     streams: &mut Streams<'_, O, E>,
 ) -> Result<(), RunFault>
     ensures stand { AllStand (S.bytes_at store.old) (S.bytes_at store.new) }
-    ensures each { OnOk result (ComparesEach reading form (S.bytes_at store.old) pairs.now tally.old tally.new
-        share.old share.new (O.contents streams.old.out.now) (O.contents streams.new.out.now)) }
-    ensures err { result ≢ Err RunFault.Input }
+    ensures each { OnOk result (ComparesEach S.fails reading form (S.bytes_at store.old) pairs.now tally.old tally.new
+        share.old share.new (O.contents (inner_of streams.old.out.now)) (O.contents (inner_of streams.new.out.now))) }
+    ensures input { result ≢ Err RunFault.Input }
+    ensures output { result ≡ Err RunFault.Output → (has_failed streams.new.out.now ≡ true)
+        ⊎ (has_failed streams.new.err.now ≡ true) }
 {
     let comparing = Comparing {
         alloc,
@@ -111,16 +114,18 @@ impl Comparing {
         streams: &mut Streams<'_, O, E>,
     ) -> Result<(), RunFault>
         ensures stand { AllStand (S.bytes_at store.old) (S.bytes_at store.new) }
-        ensures counted { OnOk result (Compares self.now.reading self.now.form (S.bytes_at store.old) pair.now
-            tally.old tally.new share.old share.new (O.contents streams.old.out.now)
-            (O.contents streams.new.out.now)) }
-        ensures err { result ≢ Err RunFault.Input }
+        ensures counted { OnOk result (Compares S.fails self.now.reading self.now.form (S.bytes_at store.old) pair.now
+            tally.old tally.new share.old share.new (O.contents (inner_of streams.old.out.now))
+            (O.contents (inner_of streams.new.out.now))) }
+        ensures input { result ≢ Err RunFault.Input }
+        ensures output { result ≡ Err RunFault.Output → (has_failed streams.new.out.now ≡ true)
+            ⊎ (has_failed streams.new.err.now ≡ true) }
     {
         match self.compare_pair(store, pair) {
             Ok(compared) => {
                 tally.count(compared.errors, compared.errors != 0);
                 share.add(compared.share);
-                put(streams.out, compared.told.as_str())
+                write_all(streams.out, compared.told.as_bytes())
             }
             Err(fault) => tell(self.alloc, tally, pair.other.as_str(), &fault, streams),
         }
@@ -128,10 +133,11 @@ impl Comparing {
 
     fn compare_pair<S: Store>(&self, store: &mut S, pair: &Pair) -> Result<Compared, Fault>
         ensures stand { AllStand (S.bytes_at store.old) (S.bytes_at store.new) }
-        ensures compared { IfOk result (λ compared. IsComparison self.now.reading self.now.form
+        ensures compared { IfOk result (λ compared. IsComparison S.fails self.now.reading self.now.form
             (S.bytes_at store.old) pair.now.is_there pair.now compared.errors compared.share
             (string_bytes compared.told)) }
-        ensures fault { IfErr result (IsPairFault self.now.reading self.now.form (S.bytes_at store.old) pair.now) }
+        ensures fault { IfErr result
+            (IsPairFault S.fails self.now.reading self.now.form (S.bytes_at store.old) pair.now) }
     {
         let reference = read_text(store, pair.reference.as_str())?;
         if !pair.is_there {
@@ -149,23 +155,21 @@ impl Comparing {
         ensures fault { IfErr result (IsUnparsed (IsTooDeep self.now.reading reference.now)) }
     {
         let reference = outline(self.alloc, reference, self.reading)?;
-        match self.no_file(pair) {
-            Ok(told) => {
-                let wanted = entries_in(&reference);
-                let missing = wanted;
-                Ok(Compared {
-                    told,
-                    errors: 1,
-                    share: Share { wanted, missing },
-                })
-            }
-            Err(AllocError) => Err(Fault::Memory),
-        }
+        let wanted = entries_in(&reference);
+        let told = self.no_file(pair)?;
+        Ok(Compared {
+            told,
+            errors: 1,
+            share: Share {
+                wanted,
+                missing: wanted,
+            },
+        })
     }
 
     /// What is told of a pair whose other file is not there.
     fn no_file(&self, pair: &Pair) -> Result<String, AllocError>
-        ensures { IfOk result (λ told. IsRemark self.now.form (string_bytes pair.now.other) [] None
+        ensures { IfOk result (λ told. IsRemark self.now.form (string_bytes pair.now.other) None
             (codes "missing-file")
             (codes "there is no such file; the reference has " ++ string_bytes pair.now.reference)
             (string_bytes told)) }
@@ -181,6 +185,7 @@ impl Comparing {
             kind: "missing-file",
             severity: "error",
             message,
+            error: None,
         };
         remark_text(self.alloc, &remark, self.form)
     }
@@ -197,10 +202,8 @@ impl Comparing {
     {
         let reference = outline(self.alloc, reference, self.reading)?;
         let other = outline(self.alloc, other, self.reading)?;
-        match self.compared_outlines(pair, &reference, &other) {
-            Ok(compared) => Ok(compared),
-            Err(AllocError) => Err(Fault::Memory),
-        }
+        let compared = self.compared_outlines(pair, &reference, &other)?;
+        Ok(compared)
     }
 
     /// What comes of a pair whose files say this.

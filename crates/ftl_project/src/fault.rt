@@ -3,6 +3,7 @@ ghost use Rattle.std.specs.Prelude.{◌≤◌};
 ghost use Rattle.ftl_project.specs.Faults.{HasStatus};
 
 use ftl::JsonFault;
+use std::alloc::AllocError;
 use std::io::ErrorKind;
 use std::{fmt, io};
 
@@ -39,6 +40,17 @@ impl Fault {
             Fault::TooDeep => 6,
             Fault::Json(fault) => fault.status(),
         }
+    }
+}
+
+impl From<AllocError> for Fault {
+    ghost use Rattle.std.specs.Prelude.{◌≡◌};
+    ghost use Rattle.ftl_project.specs.declared.fault.Fault.TheVariants.{Memory};
+
+    ghost from_gives = { λ _ fault. fault ≡ Memory };
+
+    fn from(_error: AllocError) -> Self {
+        Fault::Memory
     }
 }
 

@@ -123,7 +123,7 @@ impl FileTold<'_> {
     ) -> Result<String, AllocError>
         requires { lines.old ≡ self.now.text.now }
         ensures told { IfOk result (λ told. (message : List ℕ) × IsRemark self.now.form self.now.path.now
-            self.now.text.now (spot_in self.now.text.now finding.now.place) (name_of finding.now.kind) message
+            (spot_in self.now.text.now finding.now.place) (name_of finding.now.kind) message
             (string_bytes told)) }
         ensures lines { lines.new ≡ lines.old }
     {
@@ -134,6 +134,7 @@ impl FileTold<'_> {
             kind: finding.kind.name(),
             severity: severity_name(finding.kind.severity()),
             message: self.message(finding)?,
+            error: None,
         };
         remark_text(self.alloc, &remark, self.form)
     }

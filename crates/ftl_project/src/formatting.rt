@@ -1,25 +1,25 @@
 //! Files are formatted in place, or named where they would change.
-ghost use Rattle.std.specs.Io.KnownBytes.{Appends};
-ghost use Rattle.std.specs.Prelude.{◌≡◌, ◌≢◌, ◌++◌, codes, Err, IfOk, OnOk, length, string_bytes, true};
-ghost use Rattle.ftl_excerpts.specs.Excerpt.{shown_text};
+ghost use Rattle.std.specs.Prelude.{◌≡◌, ◌≢◌, ◌⊎◌, ◌++◌, codes, Err, IfOk, OnOk, string_bytes, true};
+ghost use Rattle.ftl.specs.Watched.{has_failed, inner_of};
 ghost use Rattle.ftl_files.specs.Store.{AllStand};
-ghost use Rattle.ftl_project.specs.Formatting.{AllNormal, Formats, FormatsEach, IsNamed};
+ghost use Rattle.ftl_project.specs.Faults.{IsTooDeep, IsUnparsed};
+ghost use Rattle.ftl_project.specs.Formatting.{AllNormal, Formats, FormatsEach, IsNamed, errors_in, is_left, is_other};
+ghost use Rattle.ftl_project.specs.Formatting.{name_of};
 ghost use Rattle.ftl_project.specs.Rewriting.{AllReach};
-ghost use Rattle.ftl_project.specs.Runs.{Writes, WritesEach};
-ghost use Rattle.ftl_project.specs.Tally.{answered, counted};
+ghost use Rattle.ftl_project.specs.Runs.{AnswersEach};
 
+use crate::answering::{Answer, Answering, answer_files};
 use crate::fault::Fault;
 use crate::form::Form;
 use crate::reading::Reading;
-use crate::refused::Refused;
 use crate::replacement::{Replacement, replacement_for};
 use crate::reporting::report;
-use crate::rewriting::{Rewriting, read_text, rewrite};
-use crate::streams::{Streams, put, tell};
+use crate::rewriting::rewrite;
+use crate::shown::push_shown_text;
+use crate::streams::{Streams, tell};
 use crate::tally::Tally;
-use crate::unsafe_entry::{UnsafeEntry, unsafe_line};
-use ftl::RunFault;
-use ftl_excerpts::push_shown_text;
+use crate::unsafe_entry::unsafe_line;
+use ftl::{RunFault, write_all};
 use ftl_files::Store;
 use std::alloc::{AllocError, Global};
 use std::io::Write;
@@ -42,10 +42,11 @@ pub fn write_files<S: Store, O: Write, E: Write>(
 ) -> Result<(), RunFault>
     ensures reaches { AllReach reading.edition (S.bytes_at store.old) (S.bytes_at store.new) }
     ensures each { OnOk result
-        (FormatsEach reading files.now (S.bytes_at store.old) (S.bytes_at store.new) tally.old tally.new) }
+        (FormatsEach S.fails reading files.now (S.bytes_at store.old) (S.bytes_at store.new) tally.old tally.new) }
     ensures normal { OnOk result (tally.new.fault ≡ 0
         → AllNormal reading.edition files.now (S.bytes_at store.old) (S.bytes_at store.new)) }
-    ensures err { result ≢ Err RunFault.Input }
+    ensures input { result ≢ Err RunFault.Input }
+    ensures output { result ≡ Err RunFault.Output → has_failed streams.new.err.now ≡ true }
 {
     for file in files {
         write_file(alloc, store, file.as_str(), reading, tally, streams)?;
@@ -63,21 +64,18 @@ fn write_file<S: Store, O: Write, E: Write>(
 ) -> Result<(), RunFault>
     ensures reaches { AllReach reading.edition (S.bytes_at store.old) (S.bytes_at store.new) }
     ensures counted { OnOk result
-        (Formats reading path.now (S.bytes_at store.old) (S.bytes_at store.new) tally.old tally.new) }
-    ensures err { result ≢ Err RunFault.Input }
+        (Formats S.fails reading path.now (S.bytes_at store.old) (S.bytes_at store.new) tally.old tally.new) }
+    ensures input { result ≢ Err RunFault.Input }
+    ensures output { result ≡ Err RunFault.Output → has_failed streams.new.err.now ≡ true }
 {
-    match rewrite(alloc, store, path, reading) {
-        Ok(Rewriting::Same) => {
-            tally.count(0, false);
-            Ok(())
-        }
-        Ok(Rewriting::Rewritten) => {
-            tally.count(0, false);
-            Ok(())
-        }
-        Ok(Rewriting::Errors(refused)) => tell_errors(alloc, path, &refused, tally, streams),
-        Ok(Rewriting::Unsafe(entry)) => tell_unsafe(alloc, path, entry, tally, streams),
-        Err(fault) => tell(alloc, tally, path, &fault, streams),
+    let replacement = match rewrite(alloc, store, path, reading) {
+        Ok(replacement) => replacement,
+        Err(fault) => return tell(alloc, tally, path, &fault, streams),
+    };
+    tally.count(errors_in(&replacement), is_left(&replacement));
+    match left_note(alloc, path, &replacement) {
+        Ok(note) => write_all(streams.err, note.as_bytes()),
+        Err(AllocError) => Err(RunFault::Memory),
     }
 }
 
@@ -93,108 +91,87 @@ pub fn name_files<S: Store, O: Write, E: Write>(
     streams: &mut Streams<'_, O, E>,
 ) -> Result<(), RunFault>
     ensures stand { AllStand (S.bytes_at store.old) (S.bytes_at store.new) }
-    ensures each { OnOk result (WritesEach
-        (λ file. IsNamed reading (string_bytes file) (S.bytes_at store.old (string_bytes file))) files.now
-        tally.old tally.new (O.contents streams.old.out.now) (O.contents streams.new.out.now)) }
-    ensures err { result ≢ Err RunFault.Input }
+    ensures each { OnOk result (AnswersEach S.fails (IsNamed reading) (λ text. IsUnparsed (IsTooDeep reading text))
+        (S.bytes_at store.old) files.now tally.old tally.new (O.contents (inner_of streams.old.out.now))
+        (O.contents (inner_of streams.new.out.now))) }
+    ensures input { result ≢ Err RunFault.Input }
+    ensures output { result ≡ Err RunFault.Output → (has_failed streams.new.out.now ≡ true)
+        ⊎ (has_failed streams.new.err.now ≡ true) }
 {
-    for file in files {
-        name_file(alloc, store, file.as_str(), reading, tally, streams)?;
-    }
-    Ok(())
+    answer_files(
+        alloc,
+        &Naming { alloc, reading },
+        store,
+        files,
+        tally,
+        streams,
+    )
 }
 
-fn name_file<S: Store, O: Write, E: Write>(
+/// How files are read that are named where they would change.
+#[derive(Clone, Copy)]
+struct Naming {
     alloc: Global,
-    store: &mut S,
-    path: &str,
     reading: Reading,
-    tally: &mut Tally,
-    streams: &mut Streams<'_, O, E>,
-) -> Result<(), RunFault>
-    ensures stand { AllStand (S.bytes_at store.old) (S.bytes_at store.new) }
-    ensures counted { OnOk result
-        (Writes (IsNamed reading path.now (S.bytes_at store.old path.now)) tally.old tally.new
-        (O.contents streams.old.out.now) (O.contents streams.new.out.now)) }
-    ensures err { result ≢ Err RunFault.Input }
-{
-    let text = match read_text(store, path) {
-        Ok(text) => text,
-        Err(fault) => return tell(alloc, tally, path, &fault, streams),
-    };
-    match replacement_for(alloc, text.as_str(), reading) {
-        Ok(Replacement::Same) => {
-            tally.count(0, false);
-            Ok(())
-        }
-        Ok(Replacement::Text(_)) => {
-            tally.count(0, true);
-            put_path(alloc, streams.out, path)
-        }
-        Ok(Replacement::Errors(errors)) => {
-            let refused = Refused { text, errors };
-            tell_errors(alloc, path, &refused, tally, streams)
-        }
-        Ok(Replacement::Unsafe(entry)) => tell_unsafe(alloc, path, entry, tally, streams),
-        Err(fault) => tell(alloc, tally, path, &fault, streams),
+}
+
+impl Answering for Naming {
+    ghost answers = { λ naming. IsNamed naming.reading };
+
+    ghost refuses = { λ naming text. IsUnparsed (IsTooDeep naming.reading text) };
+
+    fn answer(&self, path: &str, text: String) -> Result<Answer, Fault> {
+        let replacement = replacement_for(self.alloc, text, self.reading)?;
+        Ok(Answer {
+            errors: errors_in(&replacement),
+            is_concerned: is_other(&replacement),
+            text: name_of(self.alloc, path, &replacement)?,
+            note: left_note(self.alloc, path, &replacement)?,
+        })
     }
 }
 
-/// Tells the errors of a file that is left as it is.
-fn tell_errors<O: Write, E: Write>(
-    alloc: Global,
-    path: &str,
-    refused: &Refused,
-    tally: &mut Tally,
-    streams: &mut Streams<'_, O, E>,
-) -> Result<(), RunFault>
-    ensures counted { tally.new ≡ counted tally.old (answered (length refused.now.errors.items) true) }
-    ensures out { streams.new.out ≡ streams.old.out }
-    ensures err { result ≢ Err RunFault.Input }
+/// How many errors are counted of the text.
+fn errors_in(replacement: &Replacement) -> usize
+    ensures { result ≡ errors_in replacement.now }
 {
-    tally.count(refused.errors.len(), true);
-    match report(alloc, path, refused, Form::Full) {
-        Ok(told) => put(streams.err, told.as_str()),
-        Err(AllocError) => Err(RunFault::Memory),
+    match replacement {
+        Replacement::Errors(refused) => refused.errors.len(),
+        _ => 0,
     }
 }
 
-/// Tells that a file is left as it is, since its normal form would not read back, and by which entry.
-fn tell_unsafe<O: Write, E: Write>(
-    alloc: Global,
-    path: &str,
-    entry: UnsafeEntry,
-    tally: &mut Tally,
-    streams: &mut Streams<'_, O, E>,
-) -> Result<(), RunFault>
-    ensures counted { tally.new ≡ counted tally.old (answered 0 true) }
-    ensures out { streams.new.out ≡ streams.old.out }
-    ensures err { result ≢ Err RunFault.Input }
+/// Whether the text is left as it is, though it is not in its normal form.
+fn is_left(replacement: &Replacement) -> bool
+    ensures { result ≡ is_left replacement.now }
 {
-    tally.count(0, true);
-    match unsafe_line(alloc, path, entry, "left as it is") {
-        Ok(line) => put(streams.err, line.as_str()),
-        Err(AllocError) => Err(RunFault::Memory),
+    matches!(replacement, Replacement::Errors(_) | Replacement::Unsafe(_))
+}
+
+/// Whether the text is not in its normal form.
+fn is_other(replacement: &Replacement) -> bool
+    ensures { result ≡ is_other replacement.now }
+{
+    !matches!(replacement, Replacement::Same)
+}
+
+/// What is told of a file that is left as it is: its errors, or by which entry its normal form would not read back.
+fn left_note(alloc: Global, path: &str, replacement: &Replacement) -> Result<String, AllocError> {
+    match replacement {
+        Replacement::Errors(refused) => report(alloc, path, refused, Form::Full),
+        Replacement::Unsafe(entry) => unsafe_line(alloc, path, *entry, "left as it is"),
+        _ => Ok(String::new(alloc)),
     }
 }
 
-/// Writes a path on a line.
-fn put_path<W: Write>(alloc: Global, writer: &mut W, path: &str) -> Result<(), RunFault>
-    ensures written { OnOk result
-        (Appends (W.contents writer.old) (W.contents writer.new) (shown_text path.now ++ codes "\n")) }
-    ensures err { result ≢ Err RunFault.Input }
-{
-    match path_line(alloc, path) {
-        Ok(line) => put(writer, line.as_str()),
-        Err(AllocError) => Err(RunFault::Memory),
-    }
-}
-
-fn path_line(alloc: Global, path: &str) -> Result<String, AllocError>
-    ensures { IfOk result (λ line. string_bytes line ≡ shown_text path.now ++ codes "\n") }
+/// The path on a line, where another text is to stand.
+fn name_of(alloc: Global, path: &str, replacement: &Replacement) -> Result<String, AllocError>
+    ensures { IfOk result (λ line. string_bytes line ≡ name_of path.now replacement.now) }
 {
     let mut line = String::new(alloc);
-    push_shown_text(&mut line, path)?;
-    line.push('\n')?;
+    if let Replacement::Text(_) = replacement {
+        push_shown_text(&mut line, path)?;
+        line.push('\n')?;
+    }
     Ok(line)
 }

@@ -1,47 +1,23 @@
-//! An error as a JSON object on a line.
-ghost use Rattle.std.specs.Prelude.{OnOk, codes, string_bytes};
-ghost use Rattle.ftl_project.specs.Reports.{EndsIn};
+//! JSON text for tools.
 
-use crate::reporting::Place;
 use fluent_syntax::parser::{ErrorKind, ParserError};
 use std::alloc::AllocError;
 use std::fmt::Write;
 
-/// Adds the object and a line end. Its places are in bytes, counted from 0; the column too is in bytes, and counted
-/// from 1.
-pub(crate) fn push_json_line(
-    out: &mut String,
-    place: &Place<'_>,
-    error: &ParserError,
-) -> Result<(), AllocError>
-    ensures { OnOk result (EndsIn (codes "}\n") (string_bytes out.new)) }
-{
-    let (line, column) = (place.line, place.column);
-    out.push_str("{\"path\":")?;
-    push_json_text(out, place.path)?;
-    write!(out, ",\"line\":{line},\"column\":{column}")?;
-    write!(
-        out,
-        ",\"start\":{},\"end\":{}",
-        error.pos.start, error.pos.end
-    )?;
-    if let Some(junk) = &error.slice {
-        write!(
+/// Adds the member for the junk of an error, if it has one.
+pub(crate) fn push_junk(out: &mut String, error: &ParserError) -> Result<(), AllocError> {
+    match &error.slice {
+        Some(junk) => write!(
             out,
             ",\"junk\":{{\"start\":{},\"end\":{}}}",
             junk.start, junk.end
-        )?;
+        ),
+        None => Ok(()),
     }
-    write!(out, ",\"kind\":\"{}\"", error.kind.name())?;
-    push_payload(out, &error.kind)?;
-    out.push_str(",\"message\":")?;
-    let message = format!(in out.allocator().clone()?; "{error}")?;
-    push_json_text(out, message.as_str())?;
-    out.push_str("}\n")
 }
 
-/// What the kind tells of the text, where it tells of something.
-fn push_payload(out: &mut String, kind: &ErrorKind) -> Result<(), AllocError> {
+/// Adds the member for what the kind tells of the text, where it tells of something.
+pub(crate) fn push_payload(out: &mut String, kind: &ErrorKind) -> Result<(), AllocError> {
     match kind {
         ErrorKind::ExpectedToken(token) => {
             out.push_str(",\"payload\":\"")?;

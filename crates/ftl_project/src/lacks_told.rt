@@ -85,6 +85,7 @@ impl PairTold<'_> {
             kind: difference.name(),
             severity: severity_name(difference.severity()),
             message: self.missing_message(text, spot, lack, is_junk, difference)?,
+            error: None,
         };
         remark_text(self.alloc, &remark, self.form)
     }
@@ -108,9 +109,9 @@ impl PairTold<'_> {
         format!(in self.alloc; "{said} of {path}:{line}:{column}{behind}")
     }
 
-    fn more_told<'t>(
-        &self,
-        text: &str,
+    fn more_told<'s, 't>(
+        &'s self,
+        text: &'s str,
         lines: &mut Lines<'t>,
         lack: &Lack,
     ) -> Result<String, AllocError>
@@ -130,6 +131,7 @@ impl PairTold<'_> {
             kind: difference.name(),
             severity: severity_name(difference.severity()),
             message: self.more_message(text, lack, difference)?,
+            error: None,
         };
         remark_text(self.alloc, &remark, self.form)
     }

@@ -1,10 +1,12 @@
 //! Runs over the files of a project: they are checked, or formatted in place.
 #![tactic(auto)]
 
+mod answering;
 mod checking;
 mod comparing;
 mod converting;
 mod differences;
+mod excerpt;
 mod fault;
 mod findings;
 mod form;
@@ -12,6 +14,7 @@ mod formatting;
 mod github;
 mod json;
 mod lacks_told;
+mod line;
 mod line_starts;
 mod linting;
 mod outlines;
@@ -23,6 +26,7 @@ mod remarks;
 mod replacement;
 mod reporting;
 mod rewriting;
+mod shown;
 mod streams;
 mod tally;
 mod translation;
@@ -31,6 +35,7 @@ mod unsafe_entry;
 pub use checking::check_files;
 pub use comparing::{Pair, Share, compare_files, share_line};
 pub use converting::convert_files;
+pub use excerpt::push_excerpt;
 pub use fault::Fault;
 pub use form::Form;
 pub use formatting::{name_files, write_files};
@@ -40,7 +45,7 @@ pub use reading::Reading;
 pub use refused::Refused;
 pub use replacement::{Replacement, replacement_for};
 pub use reporting::report;
-pub use rewriting::{Rewriting, rewrite};
+pub use rewriting::rewrite;
 pub use streams::{Streams, tell};
 pub use tally::{Tally, check_summary, format_summary};
 pub use unsafe_entry::{UnsafeEntry, unsafe_in, unsafe_line};

@@ -1,6 +1,7 @@
 //! Files are searched for mistakes between names.
-ghost use Rattle.std.specs.Prelude.{◌≡◌, ◌≢◌, ◌+◌, ◌++◌, ◌∷◌, [], All, Err, IfOk, None, OnOk, count_by, length};
-ghost use Rattle.std.specs.Prelude.{string_bytes, vec_len};
+ghost use Rattle.std.specs.Prelude.{◌≡◌, ◌≢◌, ◌⊎◌, ◌+◌, ◌++◌, ◌∷◌, [], All, Err, IfOk, None, OnOk, count_by, length};
+ghost use Rattle.std.specs.Prelude.{string_bytes, true, vec_len};
+ghost use Rattle.ftl.specs.Watched.{has_failed, inner_of};
 ghost use Rattle.ftl_files.specs.Store.{AllStand};
 ghost use Rattle.ftl_project.specs.Linting.{AddsFiles, CountsRead, HasRead, OutlinesEach, OutlinesSource, Reads};
 ghost use Rattle.ftl_project.specs.Linting.{ReadsOne, ReadsSource, Searches, SearchesFiles, concerned_beside};
@@ -15,10 +16,10 @@ use crate::form::Form;
 use crate::outlines::outline;
 use crate::reading::Reading;
 use crate::rewriting::read_text;
-use crate::streams::{Streams, put, tell};
+use crate::streams::{Streams, tell};
 use crate::tally::Tally;
 use fluent_syntax_names::{Finding, Kind, Outline, findings};
-use ftl::RunFault;
+use ftl::{RunFault, write_all};
 use ftl_files::Store;
 use std::alloc::{AllocError, Global};
 use std::fmt::Write as _;
@@ -47,10 +48,12 @@ pub fn lint_files<S: Store, O: Write, E: Write>(
 ) -> Result<(), RunFault>
     ensures stand { AllStand (S.bytes_at store.old) (S.bytes_at store.new) }
     ensures counted { OnOk result (CountsRead (length files.now) tally.old tally.new) }
-    ensures searched { OnOk result (SearchesFiles reading telling.entry.form telling.entry.ignored.now
-        (S.bytes_at store.old) files.now tally.old tally.new (O.contents streams.old.out.now)
-        (O.contents streams.new.out.now)) }
-    ensures err { result ≢ Err RunFault.Input }
+    ensures searched { OnOk result (SearchesFiles S.fails reading telling.entry.form telling.entry.ignored.now
+        (S.bytes_at store.old) files.now tally.old tally.new (O.contents (inner_of streams.old.out.now))
+        (O.contents (inner_of streams.new.out.now))) }
+    ensures input { result ≢ Err RunFault.Input }
+    ensures output { result ≡ Err RunFault.Output → (has_failed streams.new.out.now ≡ true)
+        ⊎ (has_failed streams.new.err.now ≡ true) }
 {
     let sources = read_sources(alloc, store, files, tally, streams)?;
     lint_sources(alloc, &sources, reading, telling, tally, streams)
@@ -67,9 +70,10 @@ fn read_sources<S: Store, O: Write, E: Write>(
     ensures stand { AllStand (S.bytes_at store.old) (S.bytes_at store.new) }
     ensures read { IfOk result (λ sources. HasRead (length files.now) (vec_len sources) tally.old tally.new) }
     ensures sources { IfOk result (λ sources.
-        Reads (S.bytes_at store.old) files.now sources.items tally.old tally.new) }
+        Reads S.fails (S.bytes_at store.old) files.now sources.items tally.old tally.new) }
     ensures out { streams.new.out ≡ streams.old.out }
-    ensures err { result ≢ Err RunFault.Input }
+    ensures input { result ≢ Err RunFault.Input }
+    ensures output { result ≡ Err RunFault.Output → has_failed streams.new.err.now ≡ true }
 {
     let mut sources = Vec::new(alloc);
     for file in files {
@@ -89,10 +93,11 @@ fn read_source<S: Store, O: Write, E: Write>(
 ) -> Result<(), RunFault>
     ensures stand { AllStand (S.bytes_at store.old) (S.bytes_at store.new) }
     ensures read { OnOk result (ReadsOne (vec_len sources.old) (vec_len sources.new) tally.old tally.new) }
-    ensures source { OnOk result (ReadsSource (S.bytes_at store.old) path.now sources.old.items sources.new.items
-        tally.old tally.new) }
+    ensures source { OnOk result (ReadsSource S.fails (S.bytes_at store.old) path.now sources.old.items
+        sources.new.items tally.old tally.new) }
     ensures out { streams.new.out ≡ streams.old.out }
-    ensures err { result ≢ Err RunFault.Input }
+    ensures input { result ≢ Err RunFault.Input }
+    ensures output { result ≡ Err RunFault.Output → has_failed streams.new.err.now ≡ true }
 {
     match read_text(store, path) {
         Ok(text) => match add_source(alloc, sources, path, text) {
@@ -128,8 +133,11 @@ fn lint_sources<O: Write, E: Write>(
 ) -> Result<(), RunFault>
     ensures counted { OnOk result (AddsFiles (length sources.now) tally.old tally.new) }
     ensures searched { OnOk result (Searches reading telling.entry.form telling.entry.ignored.now
-        sources.now tally.old tally.new (O.contents streams.old.out.now) (O.contents streams.new.out.now)) }
-    ensures err { result ≢ Err RunFault.Input }
+        sources.now tally.old tally.new (O.contents (inner_of streams.old.out.now))
+        (O.contents (inner_of streams.new.out.now))) }
+    ensures input { result ≢ Err RunFault.Input }
+    ensures output { result ≡ Err RunFault.Output → (has_failed streams.new.out.now ≡ true)
+        ⊎ (has_failed streams.new.err.now ≡ true) }
 {
     let outlines = outlines(alloc, sources, reading, tally, streams)?;
     let Ok(found) = told_findings(alloc, &outlines, telling.ignored) else {
@@ -137,11 +145,11 @@ fn lint_sources<O: Write, E: Write>(
     };
     count(tally, sources.len(), &found);
     match report_findings(alloc, sources, &outlines, &found, telling.form) {
-        Ok(told) => put(streams.out, told.as_str())?,
+        Ok(told) => write_all(streams.out, told.as_bytes())?,
         Err(AllocError) => return Err(RunFault::Memory),
     }
     match kinds_summary(alloc, &found) {
-        Ok(summary) => put(streams.err, summary.as_str()),
+        Ok(summary) => write_all(streams.err, summary.as_bytes()),
         Err(AllocError) => Err(RunFault::Memory),
     }
 }
@@ -159,7 +167,8 @@ fn outlines<'a, O: Write, E: Write>(
     ensures outlines { IfOk result (λ outlines. OutlinesEach reading sources.now outlines.items tally.old tally.new) }
     ensures short { IfOk result (λ outlines. All IsShort outlines.items) }
     ensures out { streams.new.out ≡ streams.old.out }
-    ensures err { result ≢ Err RunFault.Input }
+    ensures input { result ≢ Err RunFault.Input }
+    ensures output { result ≡ Err RunFault.Output → has_failed streams.new.err.now ≡ true }
 {
     let mut outlines = Vec::new(alloc);
     for source in sources {
@@ -191,7 +200,8 @@ fn source_outline<'a, O: Write, E: Write>(
     ensures outline { IfOk result (λ outline. OutlinesSource reading source.now outline tally.old tally.new) }
     ensures short { IfOk result IsShort }
     ensures out { streams.new.out ≡ streams.old.out }
-    ensures err { result ≢ Err RunFault.Input }
+    ensures input { result ≢ Err RunFault.Input }
+    ensures output { result ≡ Err RunFault.Output → has_failed streams.new.err.now ≡ true }
 {
     match outline(alloc, source.text.as_str(), reading) {
         Ok(outline) => Ok(outline),

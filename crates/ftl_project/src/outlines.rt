@@ -8,7 +8,7 @@ use crate::reading::Reading;
 use fluent_syntax::parser::recovered;
 use fluent_syntax::spans::parse_spans_within;
 use fluent_syntax_names::{Mention, Outline, outline_of};
-use std::alloc::{AllocError, Global};
+use std::alloc::Global;
 
 /// What the text says of names. What is junk in it defines nothing.
 pub(crate) fn outline<'a>(
@@ -26,13 +26,9 @@ pub(crate) fn outline<'a>(
     let Ok(answer) = parse_spans_within(alloc, text, reading.edition, reading.nesting) else {
         return Err(Fault::TooDeep);
     };
-    let Ok((tree, _)) = recovered(alloc, answer) else {
-        return Err(Fault::Memory);
-    };
-    match outline_of(alloc, text, &tree.body) {
-        Ok(outline) => Ok(outline),
-        Err(AllocError) => Err(Fault::Memory),
-    }
+    let (tree, _) = recovered(alloc, answer)?;
+    let outline = outline_of(alloc, text, &tree.body)?;
+    Ok(outline)
 }
 
 /// How many messages and terms the text defines.

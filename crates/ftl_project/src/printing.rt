@@ -1,19 +1,19 @@
 //! Files are answered on standard output.
-ghost use Rattle.std.specs.Prelude.{◌≡◌, ◌≢◌, Err, IfErr, IfOk, IfSome, OnOk, string_bytes};
-ghost use Rattle.ftl.specs.Answer.{IsAnswer, ReadsDeeper};
+ghost use Rattle.std.specs.Prelude.{◌≡◌, ◌≢◌, ◌⊎◌, Err, OnOk, true};
+ghost use Rattle.ftl.specs.Answer.{ReadsDeeper};
+ghost use Rattle.ftl.specs.Watched.{has_failed, inner_of};
 ghost use Rattle.ftl_files.specs.Store.{AllStand};
-ghost use Rattle.ftl_project.specs.Answered.{IsPrinted, has_errors};
-ghost use Rattle.ftl_project.specs.Faults.{IsFault};
-ghost use Rattle.ftl_project.specs.Runs.{Writes, WritesEach};
-ghost use Rattle.ftl_project.specs.Tally.{answered, counted};
+ghost use Rattle.ftl_project.specs.Answered.{IsPrinted};
+ghost use Rattle.ftl_project.specs.Faults.{IsUnparsed};
+ghost use Rattle.ftl_project.specs.Runs.{AnswersEach};
 
+use crate::answering::{Answer, Answering, answer_files};
 use crate::fault::Fault;
-use crate::rewriting::read_text;
-use crate::streams::{Streams, put, put_note, tell};
+use crate::streams::{Streams, note_line};
 use crate::tally::Tally;
 use ftl::{Command, Outcome, RunFault, answer_within};
 use ftl_files::Store;
-use std::alloc::Global;
+use std::alloc::{AllocError, Global};
 use std::io::Write;
 
 /// Writes the command's text of each file, in the order of the files. A file that was not answered is told, and the
@@ -30,20 +30,20 @@ pub fn print_files<S: Store, O: Write, E: Write>(
     streams: &mut Streams<'_, O, E>,
 ) -> Result<(), RunFault>
     ensures stand { AllStand (S.bytes_at store.old) (S.bytes_at store.new) }
-    ensures each { OnOk result (WritesEach
-        (λ file. IsPrinted command nesting (S.bytes_at store.old (string_bytes file))) files.now tally.old tally.new
-        (O.contents streams.old.out.now) (O.contents streams.new.out.now)) }
-    ensures err { result ≢ Err RunFault.Input }
+    ensures each { OnOk result (AnswersEach S.fails
+        (IsPrinted command) (λ text. IsUnparsed (ReadsDeeper command text nesting))
+        (S.bytes_at store.old) files.now tally.old tally.new (O.contents (inner_of streams.old.out.now))
+        (O.contents (inner_of streams.new.out.now))) }
+    ensures input { result ≢ Err RunFault.Input }
+    ensures output { result ≡ Err RunFault.Output → (has_failed streams.new.out.now ≡ true)
+        ⊎ (has_failed streams.new.err.now ≡ true) }
 {
     let printing = Printing {
         alloc,
         command,
         nesting,
     };
-    for file in files {
-        printing.print_file(store, file.as_str(), tally, streams)?;
-    }
-    Ok(())
+    answer_files(alloc, &printing, store, files, tally, streams)
 }
 
 /// By which command files are answered, and how deep what they say may nest.
@@ -54,62 +54,29 @@ struct Printing {
     nesting: usize,
 }
 
-impl Printing {
-    /// Writes the command's text of a file, and counts it.
-    fn print_file<S: Store, O: Write, E: Write>(
-        &self,
-        store: &mut S,
-        path: &str,
-        tally: &mut Tally,
-        streams: &mut Streams<'_, O, E>,
-    ) -> Result<(), RunFault>
-        ensures stand { AllStand (S.bytes_at store.old) (S.bytes_at store.new) }
-        ensures counted { OnOk result
-            (Writes (IsPrinted self.now.command self.now.nesting (S.bytes_at store.old path.now)) tally.old tally.new
-            (O.contents streams.old.out.now) (O.contents streams.new.out.now)) }
-        ensures err { result ≢ Err RunFault.Input }
-    {
-        match self.answer_file(store, path) {
-            Ok((text, outcome)) => {
-                put(streams.out, text.as_str())?;
-                tell_outcome(self.alloc, path, outcome, tally, streams)
-            }
-            Err(fault) => tell(self.alloc, tally, path, &fault, streams),
-        }
-    }
+impl Answering for Printing {
+    ghost answers = { λ printing. IsPrinted printing.command };
 
-    /// The command's text of a file, and what was found in it.
-    fn answer_file<S: Store>(&self, store: &mut S, path: &str) -> Result<(String, Outcome), Fault>
-        ensures stand { AllStand (S.bytes_at store.old) (S.bytes_at store.new) }
-        ensures answer { IfOk result (λ answer. IfSome (S.bytes_at store.old path.now)
-            (λ known. IsAnswer self.now.command known (string_bytes answer.0) answer.1)) }
-        ensures fault { IfErr result
-            (IsFault (λ known. ReadsDeeper self.now.command known self.now.nesting) (S.bytes_at store.old path.now)) }
-    {
-        let text = read_text(store, path)?;
+    ghost refuses = { λ printing text. IsUnparsed (ReadsDeeper printing.command text printing.nesting) };
+
+    fn answer(&self, path: &str, text: String) -> Result<Answer, Fault> {
         match answer_within(self.alloc, self.command, text.as_bytes(), self.nesting) {
-            Ok(Ok(answer)) => Ok(answer),
+            Ok(Ok((text, outcome))) => Ok(Answer {
+                errors: 0,
+                is_concerned: outcome == Outcome::SyntaxErrors,
+                text,
+                note: errors_note(self.alloc, path, outcome)?,
+            }),
             Ok(Err(_)) => Err(Fault::Memory),
             Err(_) => Err(Fault::TooDeep),
         }
     }
 }
 
-/// Counts the file, and tells that it has errors where it has some.
-fn tell_outcome<O: Write, E: Write>(
-    alloc: Global,
-    path: &str,
-    outcome: Outcome,
-    tally: &mut Tally,
-    streams: &mut Streams<'_, O, E>,
-) -> Result<(), RunFault>
-    ensures counted { tally.new ≡ counted tally.old (answered 0 (has_errors outcome)) }
-    ensures out { streams.new.out ≡ streams.old.out }
-    ensures err { result ≢ Err RunFault.Input }
-{
-    tally.count(0, outcome == Outcome::SyntaxErrors);
+/// What is told of a file that has errors.
+fn errors_note(alloc: Global, path: &str, outcome: Outcome) -> Result<String, AllocError> {
     match outcome {
-        Outcome::Clean => Ok(()),
-        Outcome::SyntaxErrors => put_note(alloc, streams.err, path, "has syntax errors"),
+        Outcome::Clean => Ok(String::new(alloc)),
+        Outcome::SyntaxErrors => note_line(alloc, path, &"has syntax errors"),
     }
 }

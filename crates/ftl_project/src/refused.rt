@@ -1,5 +1,5 @@
 //! A text that has syntax errors.
-ghost use Rattle.std.specs.Prelude.{◌+◌, ◌<◌, ◌^◌, ◌≤◌, All, length, string_bytes};
+ghost use Rattle.std.specs.Prelude.{◌+◌, ◌<◌, ◌^◌, length, string_bytes};
 
 use fluent_syntax::parser::ParserError;
 
@@ -8,8 +8,7 @@ use fluent_syntax::parser::ParserError;
 pub struct Refused {
     /// The text.
     pub text: String,
-    /// Its errors, each with a place within the text.
+    /// Its errors.
     pub errors: Vec<ParserError>,
     ghost short: { length (string_bytes text) + 1 < 2 ^ 64 },
-    ghost places: { All (λ error. error.pos.start ≤ length (string_bytes text)) errors.items },
 }

@@ -1,14 +1,15 @@
 //! What is told of a place in a file, for people or for tools.
-ghost use Rattle.std.specs.Prelude.{◌≡◌, ◌++◌, IfOk, OnOk, codes, string_bytes};
-ghost use Rattle.ftl_project.specs.Remarks.{EndsInSpot, IsName, IsRemark, place_or_path, remark_line, spot_at};
-ghost use Rattle.ftl_project.specs.Reports.{EndsIn};
+ghost use Rattle.std.specs.Prelude.{◌≡◌, ◌++◌, IfOk, OnOk, string_bytes};
+ghost use Rattle.ftl_project.specs.Remarks.{IsName, IsRemark, place_or_path, remark_line, spot_at};
 
+use crate::excerpt::push_excerpt;
 use crate::form::Form;
 use crate::github::{push_data, push_property};
-use crate::json::push_json_text;
+use crate::json::{push_json_text, push_junk, push_payload};
 use crate::paint::{COLORED, PLAIN, Paint};
+use crate::shown::push_shown_text;
+use fluent_syntax::parser::ParserError;
 use fluent_syntax::spans::{Lines, Span};
-use ftl_excerpts::{push_excerpt, push_shown_text};
 use std::alloc::{AllocError, Global};
 use std::fmt::Write;
 
@@ -21,6 +22,8 @@ pub(crate) struct Remark<'a> {
     pub(crate) kind: &'static str,
     pub(crate) severity: &'static str,
     pub(crate) message: String,
+    /// The syntax error that it tells of.
+    pub(crate) error: Option<&'a ParserError>,
 }
 
 /// A place in a text: its line and its column in bytes, from 1, and its range in bytes, from 0.
@@ -60,8 +63,8 @@ pub(crate) fn remark_text(
     remark: &Remark<'_>,
     form: Form,
 ) -> Result<String, AllocError>
-    ensures { IfOk result (λ told. IsRemark form remark.now.path.now remark.now.text.now remark.now.place
-        remark.now.kind.now (string_bytes remark.now.message) (string_bytes told)) }
+    ensures { IfOk result (λ told. IsRemark form remark.now.path.now remark.now.place remark.now.kind.now
+        (string_bytes remark.now.message) (string_bytes told)) }
 {
     let mut out = String::new(alloc);
     match form {
@@ -101,10 +104,7 @@ fn push_line(out: &mut String, remark: &Remark<'_>) -> Result<(), AllocError>
 }
 
 /// The place with the message, the line of the source, and a caret below.
-fn push_in_full(out: &mut String, remark: &Remark<'_>, paint: &Paint) -> Result<(), AllocError>
-    ensures { OnOk result (EndsInSpot paint.now.caret.now remark.now.text.now remark.now.place
-        (string_bytes remark.now.message) (string_bytes out.new)) }
-{
+fn push_in_full(out: &mut String, remark: &Remark<'_>, paint: &Paint) -> Result<(), AllocError> {
     let Paint {
         before_place,
         before_kind,
@@ -123,9 +123,8 @@ fn push_in_full(out: &mut String, remark: &Remark<'_>, paint: &Paint) -> Result<
     }
 }
 
-fn push_json(out: &mut String, remark: &Remark<'_>) -> Result<(), AllocError>
-    ensures { OnOk result (EndsIn (codes "}\n") (string_bytes out.new)) }
-{
+/// An object. Its places are in bytes, counted from 0; the column too is in bytes, and counted from 1.
+fn push_json(out: &mut String, remark: &Remark<'_>) -> Result<(), AllocError> {
     out.push_str("{\"path\":")?;
     push_json_text(out, remark.path)?;
     if let Some(spot) = remark.place {
@@ -133,16 +132,20 @@ fn push_json(out: &mut String, remark: &Remark<'_>) -> Result<(), AllocError>
         write!(out, ",\"line\":{line},\"column\":{column}")?;
         write!(out, ",\"start\":{},\"end\":{}", spot.start, spot.end)?;
     }
-    let (kind, severity) = (remark.kind, remark.severity);
-    write!(out, ",\"kind\":\"{kind}\",\"severity\":\"{severity}\"")?;
+    if let Some(error) = remark.error {
+        push_junk(out, error)?;
+    }
+    write!(out, ",\"kind\":\"{}\"", remark.kind)?;
+    match remark.error {
+        Some(error) => push_payload(out, &error.kind)?,
+        None => write!(out, ",\"severity\":\"{}\"", remark.severity)?,
+    }
     out.push_str(",\"message\":")?;
     push_json_text(out, remark.message.as_str())?;
     out.push_str("}\n")
 }
 
-fn push_github(out: &mut String, remark: &Remark<'_>) -> Result<(), AllocError>
-    ensures { OnOk result (EndsIn (codes "\n") (string_bytes out.new)) }
-{
+fn push_github(out: &mut String, remark: &Remark<'_>) -> Result<(), AllocError> {
     write!(out, "::{} file=", remark.severity)?;
     push_property(out, remark.path)?;
     if let Some(spot) = remark.place {

@@ -1,17 +1,18 @@
 //! The entry by which a text would not read back once it is formatted.
-ghost use Rattle.std.specs.Prelude.{◌≡◌, ℕ, List, IfErr, IfOk, string_bytes};
+ghost use Rattle.std.specs.Prelude.{◌≡◌, ◌+◌, ◌<◌, ◌^◌, ℕ, List, IfErr, IfOk, length, map, slice_get, string_bytes};
+ghost use Rattle.fluent_syntax_tree.specs.View.{entry_view};
 ghost use Rattle.ftl_project.specs.Faults.{IsTooDeep, IsUnparsed};
-ghost use Rattle.ftl_project.specs.Rewriting.{FindsUnsafe};
+ghost use Rattle.ftl_project.specs.Rewriting.{FindsUnsafe, IsEntryAt, first_start, named_at, place_of_entry};
 ghost use Rattle.ftl_project.specs.Summaries.{unsafe_line_of};
 
 use crate::fault::Fault;
 use crate::reading::Reading;
-use fluent_syntax::ast::Entry;
+use crate::replacement::{Replacement, replacement_for};
+use crate::shown::push_shown_text;
+use fluent_syntax::ast::{Comment, Entry};
 use fluent_syntax::laws::{Rule, Uncanonical};
-use fluent_syntax::parser::{ParseFault, parse_within};
-use fluent_syntax::spans::{Comments, Entries, Halt, Lines, Options, Span};
-use ftl::first_unsafe;
-use ftl_excerpts::push_shown_text;
+use fluent_syntax::parser::recovered;
+use fluent_syntax::spans::{Lines, Span, parse_spans_within};
 use std::alloc::{AllocError, Global};
 
 /// An entry of a text by which its normal form would not read back.
@@ -34,22 +35,10 @@ pub fn unsafe_in(alloc: Global, text: &str, reading: Reading) -> Result<Option<U
     ensures found { IfOk result (FindsUnsafe reading.edition text.now) }
     ensures fault { IfErr result (IsUnparsed (IsTooDeep reading text.now)) }
 {
-    if text.len() == usize::MAX {
-        return Err(Fault::Memory);
-    }
-    let tree = match parse_within(alloc, text, reading.edition, reading.nesting) {
-        Ok(Ok(tree)) => tree,
-        Ok(Err(ParseFault::Syntax(_, _))) => return Ok(None),
-        Ok(Err(ParseFault::Memory)) => return Err(Fault::Memory),
-        Err(_) => return Err(Fault::TooDeep),
-    };
-    match first_unsafe(alloc, &tree, reading.edition) {
-        Ok(None) => Ok(None),
-        Ok(Some(broken)) => match unsafe_entry(alloc, text, reading, broken) {
-            Ok(entry) => Ok(Some(entry)),
-            Err(AllocError) => Err(Fault::Memory),
-        },
-        Err(AllocError) => Err(Fault::Memory),
+    let text = String::from_str(alloc, text)?;
+    match replacement_for(alloc, text, reading)? {
+        Replacement::Unsafe(entry) => Ok(Some(entry)),
+        _ => Ok(None),
     }
 }
 
@@ -72,50 +61,59 @@ pub fn unsafe_line(
     format!(in alloc; "{shown}:{line}:{column}: {note}: {rule}\n")
 }
 
-/// The entry of that number, with its place in the text, which has no errors.
+/// The entry of that number, with its place in the text, which was read before.
 pub(crate) fn unsafe_entry(
     alloc: Global,
     text: &str,
     reading: Reading,
     broken: Uncanonical,
-) -> Result<UnsafeEntry, AllocError> {
-    let place = entry_place(alloc, text, reading, broken.entry)?;
-    let (line, column) = Lines::new(text).line_column(place.min(text.len()));
-    let rule = broken.rule;
-    Ok(UnsafeEntry { line, column, rule })
+) -> Result<UnsafeEntry, AllocError>
+    requires { length text.now + 1 < 2 ^ 64 }
+    ensures { IfOk result (IsEntryAt reading.edition text.now broken) }
+{
+    let Ok(answer) = parse_spans_within(alloc, text, reading.edition, reading.nesting) else {
+        // it nested no deeper when it was read before
+        return Err(AllocError);
+    };
+    let (tree, _) = recovered(alloc, answer)?;
+    let place = entry_place(&tree.body, broken.entry).min(text.len());
+    let (line, column) = Lines::new(text).line_column(place);
+    Ok(UnsafeEntry {
+        line,
+        column,
+        rule: broken.rule,
+    })
 }
 
 /// Where the entry of that number, from 0, has its name, or its text where it is a comment.
-fn entry_place(
-    alloc: Global,
-    text: &str,
-    reading: Reading,
-    number: usize,
-) -> Result<usize, AllocError> {
-    let options = Options {
-        edition: reading.edition,
-        comments: Comments::Kept,
-        nesting: reading.nesting,
-    };
-    let mut entries = Entries::new(text, options);
-    let mut place = 0;
-    for _ in 0..=number {
-        match entries.next_entry(alloc) {
-            Ok(Some((entry, _))) => place = named_at(&entry),
-            Ok(None) | Err(Halt::TooDeep) => break,
-            Err(Halt::Memory) => return Err(AllocError),
-        }
+fn entry_place(body: &[Entry<Span>], number: usize) -> usize
+    ensures { result ≡ place_of_entry (slice_get (map (entry_view (λ s. s)) body.now) number) }
+{
+    match body.get(number) {
+        Some(entry) => named_at(entry),
+        None => 0,
     }
-    Ok(place)
 }
 
 /// Where the entry has its name, or its text where it has none.
-fn named_at(entry: &Entry<Span>) -> usize {
+fn named_at(entry: &Entry<Span>) -> usize
+    ensures { result ≡ named_at (entry_view (λ s. s) entry.now) }
+{
     match entry {
         Entry::Message(message) => message.id.name.start,
         Entry::Term(term) => term.id.name.start,
         Entry::Comment(comment) | Entry::GroupComment(comment) | Entry::ResourceComment(comment) =>
-            comment.content.first().map_or(0, |line| line.start),
+            first_start(comment),
         Entry::Junk { content } => content.start,
+    }
+}
+
+/// Where the comment's first line is.
+fn first_start(comment: &Comment<Span>) -> usize
+    ensures { result ≡ first_start (map (λ s. s) comment.now.content.items) }
+{
+    match comment.content.first() {
+        Some(line) => line.start,
+        None => 0,
     }
 }

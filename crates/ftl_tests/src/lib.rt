@@ -1,19 +1,12 @@
-//! Tests of the commands and of the language server: texts, runs and sessions whose answers are known.
+//! Tests of the program, in a module for each crate: the engine for one text, files, runs over files, and the language
+//! server.
 #![tactic(auto)]
 
 #[cfg(test)]
-mod documents;
+mod engine;
 #[cfg(test)]
-mod ends;
+mod files;
 #[cfg(test)]
-mod formatted;
+mod lsp;
 #[cfg(test)]
-mod from_json;
-#[cfg(test)]
-mod language_server;
-#[cfg(test)]
-mod runs;
-#[cfg(test)]
-mod words;
-#[cfg(test)]
-mod workspace;
+mod project;

@@ -5,9 +5,9 @@ use Rattle.fluent_syntax_tree.specs.declared.edition.Edition.TheVariants.{One}
 use Rattle.ftl_project.specs.declared.form.Form.{Form}
 use Rattle.ftl_project.specs.declared.form.Form.TheVariants as form
 use Rattle.ftl_project.specs.declared.reading.Reading.{Reading}
-use Rattle.ftl_settings.specs.declared.options.Output.{Output}
-use Rattle.ftl_settings.specs.declared.options.Output.TheVariants.{Full, Github, Json, Lines}
-use Rattle.ftl_settings.specs.declared.settings.Settings.{Settings}
+use Rattle.ftl_files.specs.declared.options.Output.{Output}
+use Rattle.ftl_files.specs.declared.options.Output.TheVariants.{Full, Github, Json, Lines}
+use Rattle.ftl_files.specs.declared.settings.Settings.{Settings}
 use Rattle.ftl_words.specs.declared.options.Options.{Options}
 
 -- what the options say, and where they leave it open what the settings say

@@ -2,7 +2,7 @@
 
 use crate::compare_words::compare_command;
 use crate::lint_words::{lint_command, nesting};
-use clap::{Arg, ArgAction, Command};
+use clap::{Arg, ArgAction, ArgMatches, Command};
 use std::alloc::{AllocError, Global};
 
 static EDITIONS: [&str; 2] = ["1", "2"];
@@ -141,4 +141,15 @@ fn paths<'a>(alloc: Global, help: &'a str) -> Arg<'a> {
         .help(help)
         .action(ArgAction::Append)
         .num_args(0..)
+}
+
+/// The paths that the words name.
+pub(crate) fn paths_of<'a>(
+    alloc: Global,
+    options: &ArgMatches<'a>,
+) -> Result<Vec<&'a str>, AllocError> {
+    match options.get_strs("paths") {
+        Some(paths) => Vec::from_slice(alloc, paths),
+        None => Ok(Vec::new(alloc)),
+    }
 }

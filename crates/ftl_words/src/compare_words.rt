@@ -1,6 +1,6 @@
 //! The word `compare`.
 
-use crate::clap_words::color;
+use crate::clap_words::{color, paths_of};
 use crate::lint_words::{form, nesting};
 use crate::options::Options;
 use clap::{Arg, ArgAction, ArgMatches, Command};
@@ -46,12 +46,8 @@ pub(crate) fn compare_of<'a>(
     said: Options,
     options: &ArgMatches<'a>,
 ) -> Result<Compare<'a>, AllocError> {
-    let paths = match options.get_strs("paths") {
-        Some(paths) => Vec::from_slice(alloc, paths)?,
-        None => Vec::new(alloc),
-    };
     Ok(Compare {
         options: said,
-        paths,
+        paths: paths_of(alloc, options)?,
     })
 }

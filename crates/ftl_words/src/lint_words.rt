@@ -1,10 +1,10 @@
 //! The word `lint`.
 
-use crate::clap_words::color;
+use crate::clap_words::{color, paths_of};
 use crate::options::Options;
 use clap::{Arg, ArgAction, ArgMatches, Command, value_parser};
 use fluent_syntax_names::Kind;
-use ftl_settings::kind_named;
+use ftl_files::kind_named;
 use std::alloc::{AllocError, Global};
 
 /// Files to search for mistakes between names.
@@ -89,10 +89,6 @@ pub(crate) fn lint_of<'a>(
     said: Options,
     options: &ArgMatches<'a>,
 ) -> Result<Lint<'a>, AllocError> {
-    let paths = match options.get_strs("paths") {
-        Some(paths) => Vec::from_slice(alloc, paths)?,
-        None => Vec::new(alloc),
-    };
     let mut ignored = Vec::new(alloc);
     for name in options.get_strs("ignore").unwrap_or(&[]) {
         if let Some(kind) = kind_named(*name) {
@@ -102,6 +98,6 @@ pub(crate) fn lint_of<'a>(
     Ok(Lint {
         options: said,
         ignored,
-        paths,
+        paths: paths_of(alloc, options)?,
     })
 }

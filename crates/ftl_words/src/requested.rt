@@ -1,13 +1,13 @@
 //! The request that a command line makes.
 
-use crate::clap_words::command_line;
+use crate::clap_words::{command_line, paths_of};
 use crate::compare_words::compare_of;
 use crate::lint_words::lint_of;
 use crate::options::Options;
 use crate::request::{Change, Request, Task, Work};
 use clap::{ArgMatches, Error};
 use fluent_syntax::parser::Edition;
-use ftl_settings::{Color, Output, color_named, output_named};
+use ftl_files::{Color, Output, color_named, output_named};
 use std::alloc::{AllocError, Global};
 
 /// What the words ask for, the program's own name first; a mistake in them, or a wish for help, as `Err`.
@@ -82,11 +82,4 @@ fn output_of(options: &ArgMatches<'_>) -> Option<Output> {
 
 fn color_of(options: &ArgMatches<'_>) -> Option<Color> {
     color_named(options.get_str("color")?)
-}
-
-fn paths_of<'a>(alloc: Global, options: &ArgMatches<'a>) -> Result<Vec<&'a str>, AllocError> {
-    match options.get_strs("paths") {
-        Some(paths) => Vec::from_slice(alloc, paths),
-        None => Ok(Vec::new(alloc)),
-    }
 }

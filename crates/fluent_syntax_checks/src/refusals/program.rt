@@ -1,8 +1,9 @@
 //! The engine of the program, with each command.
 
 use crate::refusals::answers::Answer;
+use crate::refusals::tally::Tally;
 use crate::refusals::turns::{in_turn, nothing, over};
-use fluent_syntax_corpus::{TEXTS, Tally};
+use fluent_syntax_tests::corpus::TEXTS;
 use ftl::{Command, Outcome, RunFault, Watched, answer, run};
 use std::alloc::{AllocError, Global};
 use std::io::{self, Write};

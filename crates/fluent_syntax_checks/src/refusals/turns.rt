@@ -2,7 +2,7 @@
 
 use crate::refusals::answers::Answer;
 use crate::refusals::requests::{refuse, was_refused};
-use fluent_syntax_corpus::Tally;
+use crate::refusals::tally::Tally;
 use std::alloc::{AllocError, Global};
 use std::io;
 

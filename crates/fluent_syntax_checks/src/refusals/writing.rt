@@ -1,29 +1,29 @@
 //! The serializer, unescaping, and trees that are joined, or written and read again.
 
 use crate::refusals::answers::{HELD, Sunk};
+use crate::refusals::tally::Tally;
 use crate::refusals::trees::lent_tree;
 use crate::refusals::turns::{in_turn, nothing, over};
 use fluent_syntax::laws::{joined, reparse};
 use fluent_syntax::serializer::{Options, serialize, serialize_to, serialize_with_options};
 use fluent_syntax::unicode::{unescape_unicode, unescape_unicode_to_string};
-use fluent_syntax_corpus::{ESCAPED, TEXTS, Tally};
+use fluent_syntax_tests::corpus::{ESCAPED, TEXTS};
 use std::alloc::{AllocError, Global};
 use std::io;
 
 pub(crate) fn calls<R: Print + AllocGlobal>(rt: &R) -> io::Result<Tally> {
     let texts = TEXTS.as_slice();
     let trees = over(rt, "serializing", texts, write_text)?;
-    let escaped = over(rt, "unescaping", ESCAPED.as_slice(), unescape)?;
+    let escaped = over(rt, "unescaping", ESCAPED, unescape)?;
     let corpus = over(rt, "unescaping the corpus", texts, unescape)?;
     let again = over(rt, "reparse", texts, read_again)?;
     let whole = over(rt, "joined", texts, joined_once)?;
     Ok(trees.and(escaped).and(corpus).and(again).and(whole))
 }
 
-/// The three ways to write a text's tree, which stays as it was.
+/// The three ways to write a text's tree.
 fn write_text(alloc: Global, text: &str) -> Result<Tally, AllocError> {
     let (tree, _errors) = lent_tree(alloc, text)?;
-    let (before, _errors) = lent_tree(alloc, text)?;
     let options = Options { with_junk: true };
     let plain = in_turn(alloc, nothing, |_| serialize(alloc, &tree))?;
     let with_junk = in_turn(
@@ -39,23 +39,19 @@ fn write_text(alloc: Global, text: &str) -> Result<Tally, AllocError> {
             sink,
         },
     )?;
-    Ok(plain.and(with_junk).and(sunk).wrong_if(tree != before))
+    Ok(plain.and(with_junk).and(sunk))
 }
 
-/// A text's tree written and read again, which stays as it was.
+/// A text's tree written and read again.
 fn read_again(alloc: Global, text: &str) -> Result<Tally, AllocError> {
     let (tree, _errors) = lent_tree(alloc, text)?;
-    let (before, _errors) = lent_tree(alloc, text)?;
-    let tally = in_turn(alloc, nothing, |_| reparse(alloc, &tree))?;
-    Ok(tally.wrong_if(tree != before))
+    in_turn(alloc, nothing, |_| reparse(alloc, &tree))
 }
 
-/// A text's tree joined, which stays as it was.
+/// A text's tree joined.
 fn joined_once(alloc: Global, text: &str) -> Result<Tally, AllocError> {
     let (tree, _errors) = lent_tree(alloc, text)?;
-    let (before, _errors) = lent_tree(alloc, text)?;
-    let tally = in_turn(alloc, nothing, |_| joined(alloc, &tree))?;
-    Ok(tally.wrong_if(tree != before))
+    in_turn(alloc, nothing, |_| joined(alloc, &tree))
 }
 
 /// Both ways to unescape a text.

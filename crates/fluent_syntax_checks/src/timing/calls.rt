@@ -2,14 +2,13 @@
 
 ghost use Rattle.std.specs.Prelude.{◌+◌, ◌^◌, ◌<◌, length};
 
-use crate::timing::{changes, json, parsing, writing};
+use crate::timing::{json, parsing, writing};
 use std::io;
 use std::time::{Clock, Duration};
 
 /// How long the call of this name takes on the text: `parse`, `runtime` (both over `&str`), `parse_string` and
 /// `runtime_string` (over `String`), `spans`, `runtime_spans`, `resolve`, `clone`, `drop`, `serialize`,
-/// `serialize_room` (onto a sink with room), `unescape`, `to_value`, `from_value`, `hold` and `change` (of a text that
-/// is held). None for another name.
+/// `serialize_room` (onto a sink with room), `unescape`, `to_value` and `from_value`. None for another name.
 pub(crate) fn time_of<R: Clock + AllocGlobal>(
     rt: &R,
     call: &str,
@@ -32,8 +31,6 @@ pub(crate) fn time_of<R: Clock + AllocGlobal>(
         "unescape" => writing::unescape_texts(rt, text)?,
         "to_value" => json::value_of_tree(rt, text)?,
         "from_value" => json::tree_of_value(rt, text)?,
-        "hold" => changes::hold_text(rt, text)?,
-        "change" => changes::change_text(rt, text)?,
         _ => return Ok(None),
     }))
 }

@@ -118,7 +118,7 @@ module _ (t : List ℕ) (bare : HasNoBareCr t) (Joins : Type 0) (crs : (i : ℕ)
 
   -- a line with a run first gives an item that stays
   shown_stays : (kept first to b : ℕ) (c : Bool) (end : ℕ) → LineText t bare kept first to b →
-      slice_range t kept end ≡ slice_range t kept to ++ line_end c → stays t (text kept end) ≡ true
+      slice_range t kept end ≡ slice_range t kept to ++ line_end c → is_nonblank (slice_range t kept end) ≡ true
   shown_stays kept first to b c end x e =
       ap is_nonblank e ∙ (plain_nonblank (slice_range t kept to) c x.plain ∙ x.shown)
 
@@ -126,17 +126,13 @@ module _ (t : List ℕ) (bare : HasNoBareCr t) (Joins : Type 0) (crs : (i : ℕ)
       LineText t bare kept first to b → PiecesAt t Joins to ps n → EndingAt t Joins n e j →
       list_any (stays t) (with_ending (run kept to ∷ ps) e) ≡ true
   run_stays kept first to b [] n e j l x (no_piece y) (lf_ends h) =
-      or_left (stays t (text kept (n + 1))) false
-      (shown_stays kept first to b true (n + 1) x (range_last t kept n lf l (byte_at t lf n h)))
+      or_left _ false (shown_stays kept first to b true (n + 1) x (range_last t kept n lf l (byte_at t lf n h)))
   run_stays kept first to b [] n e j l x (no_piece y) (crlf_ends c h) =
-      or_left (stays t (text kept n))
-      _ (shown_stays kept first to b false n x (sym (append_nothing (slice_range t kept n))))
+      or_left _ _ (shown_stays kept first to b false n x (sym (append_nothing (slice_range t kept n))))
   run_stays kept first to b [] n e j l x (no_piece y) (text_ends h) =
-      or_left (stays t (text kept n))
-      _ (shown_stays kept first to b false n x (sym (append_nothing (slice_range t kept n))))
+      or_left _ _ (shown_stays kept first to b false n x (sym (append_nothing (slice_range t kept n))))
   run_stays kept first to b (p ∷ ps) n e j l x y h =
-      or_left (stays t (text kept to))
-      _ (shown_stays kept first to b false to x (sym (append_nothing (slice_range t kept to))))
+      or_left _ _ (shown_stays kept first to b false to x (sym (append_nothing (slice_range t kept to))))
 
   -- a line does not count, or gives an item that stays
   line_counts : (kept first byte spaces : ℕ) (ps : List Piece) (n : ℕ) (e : Ending) (j at : ℕ) →

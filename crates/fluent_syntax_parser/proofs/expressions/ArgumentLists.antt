@@ -1,29 +1,25 @@
 -- The next argument of a list, by what stands there.
 use Rattle.std.proofs.Common.{◌≡◌, ℕ, ◌+◌, ◌≤◌, ◌<◌, true, false, List, [], ◌∷◌, ◌++◌, length, map, Option, Some, None}
-use Rattle.std.proofs.Common.{refl}
-use Rattle.std.proofs.Common.{sym, ap, ◌∙◌, subst, inl, inr}
+use Rattle.std.proofs.Common.{refl, sym, ap, ◌∙◌, subst, inl, inr}
 use Rattle.std.specs.Prelude.{◌==◌, ◌⊎◌, slice_get}
 use Rattle.std.proofs.lemmas.List.{map-append}
 use Rattle.std.proofs.lemmas.Option.{slice_get-get_or, slice_get_past}
 use Rattle.fluent_syntax_tree.specs.Kind.{ExpectedToken, PositionalArgumentFollowsNamed}
 use Rattle.fluent_syntax_tree.specs.Spans.{bytes_at}
-use Rattle.fluent_syntax_tree.specs.Tree.{ArgumentsTree, InlineTree, NamedTree, arguments, named_argument}
-use Rattle.fluent_syntax_tree.specs.Tree.{no_inlines, no_named, inlines_of, nameds_of, arguments_map, inline_map}
-use Rattle.fluent_syntax_tree.specs.Tree.{named_map}
+use Rattle.fluent_syntax_tree.specs.Tree.{ArgumentsTree, InlineTree, NamedTree, arguments, named_argument, no_inlines}
+use Rattle.fluent_syntax_tree.specs.Tree.{no_named, inlines_of, nameds_of, arguments_map, inline_map, named_map}
 use Rattle.fluent_syntax_tree.specs.View.{inline_view, named_view}
 use Rattle.fluent_syntax_tree.proofs.Views.{view-NamedArgument}
-use Rattle.fluent_syntax_tree.specs.declared.ast.Identifier.{Identifier}
 use Rattle.fluent_syntax_tree.specs.declared.ast.InlineExpression.{InlineExpression}
-use Rattle.fluent_syntax_tree.specs.declared.ast.NamedArgument.{NamedArgument, roll-NamedArgument}
+use Rattle.fluent_syntax_tree.specs.declared.ast.NamedArgument.{NamedArgument}
 use Rattle.fluent_syntax_tree.specs.declared.spans.Span.{Span}
 use Rattle.fluent_syntax_grammar.specs.Arguments as rules
 use Rattle.fluent_syntax_grammar.specs.Arguments.{Argument, add_argument, argument_name, argument_rest, argument_value}
 use Rattle.fluent_syntax_grammar.specs.Arguments.{is_used, named_rest, next_argument, next_argument_at, more_arguments}
-use Rattle.fluent_syntax_grammar.specs.Arguments.{positional_rest}
-use Rattle.fluent_syntax_grammar.specs.Arguments.{separator}
+use Rattle.fluent_syntax_grammar.specs.Arguments.{positional_rest, separator}
 use Rattle.fluent_syntax_grammar.specs.Bytes.{colon, right_parenthesis}
-use Rattle.fluent_syntax_grammar.specs.Construct.{Outcome, Read, Refused, ◌>>=◌, gives, at_each, goes_on, given}
-use Rattle.fluent_syntax_grammar.specs.Construct.{failed, passed, chosen, first, second, More, no_item, item}
+use Rattle.fluent_syntax_grammar.specs.Construct.{Outcome, Read, Refused, ◌>>=◌, gives, at_each, goes_on, given, failed}
+use Rattle.fluent_syntax_grammar.specs.Construct.{passed, chosen, first, second, More, no_item, item}
 use Rattle.fluent_syntax_grammar.specs.Family.{Family}
 use Rattle.fluent_syntax_grammar.specs.Inline.{inline_expression}
 use Rattle.fluent_syntax_grammar.specs.Places.{Blank, has_byte}
@@ -34,8 +30,7 @@ use Rattle.fluent_syntax_grammar.proofs.FunctionalRules.{IsFunctionalFamily, fun
 use Rattle.fluent_syntax_grammar.proofs.FunctionalRules.{functional_next_argument}
 use Rattle.fluent_syntax_parser.specs.Gathered.{names_in}
 use Rattle.fluent_syntax_parser.proofs.expressions.GatheredArguments.{arguments_mapped, put_arguments, put_named}
-use Rattle.fluent_syntax_parser.proofs.expressions.GatheredArguments.{put_none}
-use Rattle.fluent_syntax_parser.proofs.expressions.GatheredArguments.{put_positional, put_whole}
+use Rattle.fluent_syntax_parser.proofs.expressions.GatheredArguments.{put_none, put_positional, put_whole}
 use Rattle.fluent_syntax_parser.proofs.scanning.Names.{names_added}
 use Rattle.fluent_syntax_parser.specs.Meets.{Fails}
 use Rattle.fluent_syntax_parser.specs.declared.fault.ReadFault.{ReadFault}
@@ -116,10 +111,6 @@ module _ (t : List ℕ) (R : Family) where
       positional_rest t names e j (Refused PositionalArgumentFollowsNamed j (j + 1))
   late [] e j some = absurd (some refl)
   late (name ∷ names) e j some = failed refl
-
--- a named argument of these parts
-abbrev pub argument_with : {S : Type 0} → Identifier S → InlineExpression S → NamedArgument S
-argument_with {S = S} name value = roll-NamedArgument S (record { name = name; value = value })
 
 -- What was gathered stands for what was read, with f of each text in its place.
 pub record MadeArguments {S X : Type 0} (t : List ℕ) (R : Family) (f : Span → X) (v : S → X) (from : ℕ)

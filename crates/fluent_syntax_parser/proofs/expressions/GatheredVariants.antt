@@ -4,9 +4,7 @@ use Rattle.std.proofs.lemmas.List.{map-append}
 use Rattle.fluent_syntax_tree.specs.Tree.{VariantTree, VariantTrees, no_variants, variants, variants_of, variant_map}
 use Rattle.fluent_syntax_tree.specs.Tree.{variants_map}
 use Rattle.fluent_syntax_tree.specs.View.{variant_view}
-use Rattle.fluent_syntax_tree.specs.declared.ast.Pattern.{Pattern}
 use Rattle.fluent_syntax_tree.specs.declared.ast.Variant.{Variant}
-use Rattle.fluent_syntax_tree.specs.declared.ast.VariantKey.{VariantKey}
 use Rattle.fluent_syntax_tree.specs.declared.spans.Span.{Span}
 use Rattle.fluent_syntax_grammar.specs.Construct.{Construct, Read, More, no_item, item, many}
 use Rattle.fluent_syntax_grammar.specs.Laws.{IsFunctional}
@@ -33,10 +31,6 @@ variants_mapped : {X : Type 0} (f : Span → X) (xs : List (VariantTree Span)) �
     variants_of (map (variant_map f) xs) ≡ variants_map f (variants_of xs)
 variants_mapped f [] = refl
 variants_mapped f (x ∷ xs) = ap (variants (variant_map f x)) (variants_mapped f xs)
-
--- a variant of these parts
-abbrev pub variant_with : {S : Type 0} → VariantKey S → Pattern S → Bool → Variant S
-variant_with key value star = record { key = key; value = value; default = star }
 
 -- What was gathered stands for what was read, with f of each text in its place.
 pub record MadeVariants {S X : Type 0} (t : List ℕ) (next : Bool → Construct (More (VariantTree Span) Bool))

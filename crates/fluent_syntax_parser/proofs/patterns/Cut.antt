@@ -2,25 +2,24 @@
 use Rattle.std.proofs.Common.{◌≡◌, ℕ, List, [], ◌∷◌, ◌++◌, map, true, false, refl, sym, ap, ◌∙◌}
 use Rattle.std.proofs.lemmas.List.{map-append}
 use Rattle.fluent_syntax_tree.specs.Tree.{ExpressionTree}
-use Rattle.fluent_syntax_parser.specs.Layouts.{stays, cut_before, cut}
-use Rattle.fluent_syntax_parser.specs.Layouts as layouts
+use Rattle.fluent_syntax_grammar.specs.Elements.{ItemOf, stays, cut_before, cut}
 use Rattle.fluent_syntax_parser.specs.Elements.{item_view}
 use Rattle.fluent_syntax_parser.specs.declared.pattern.line.Piece.{Piece}
 
 module _ {S X : Type 0} (v : S → X) (t : List ℕ) where
-  before_some : (y x : layouts.Item (ExpressionTree X)) (xs : List (layouts.Item (ExpressionTree X))) →
+  before_some : (y x : ItemOf (ExpressionTree X)) (xs : List (ItemOf (ExpressionTree X))) →
       cut_before t y (xs ++ x ∷ []) ≡ y ∷ (xs ++ x ∷ [])
   before_some y x [] = refl
   before_some y x (z ∷ xs) = refl
 
   -- what stays ends the list
-  cut_stays : (xs : List (layouts.Item (ExpressionTree X))) (x : layouts.Item (ExpressionTree X)) → stays t x ≡ true →
+  cut_stays : (xs : List (ItemOf (ExpressionTree X))) (x : ItemOf (ExpressionTree X)) → stays t x ≡ true →
       cut t (xs ++ x ∷ []) ≡ xs ++ x ∷ []
   cut_stays [] x e = rw e refl
   cut_stays (y ∷ xs) x e = ap (cut_before t y) (cut_stays xs x e) ∙ before_some y x xs
 
   -- what falls is dropped
-  cut_falls : (xs : List (layouts.Item (ExpressionTree X))) (x : layouts.Item (ExpressionTree X)) → stays t x ≡ false →
+  cut_falls : (xs : List (ItemOf (ExpressionTree X))) (x : ItemOf (ExpressionTree X)) → stays t x ≡ false →
       cut t (xs ++ x ∷ []) ≡ cut t xs
   cut_falls [] x e = rw e refl
   cut_falls (y ∷ xs) x e = ap (cut_before t y) (cut_falls xs x e)

@@ -5,6 +5,8 @@ use Rattle.std.specs.List.{flat_map}
 use Rattle.std.specs.Prelude.{slice_get, slice_range, ◌==◌, ◌||◌, if◌then◌else◌}
 use Rattle.std.proofs.lemmas.Bool.Decides.{nat_tests}
 use Rattle.std.proofs.lemmas.Option.{slice_get-get_or, slice_get_past}
+use Rattle.fluent_syntax_tree.specs.declared.spans.Span.{Span}
+use Rattle.fluent_syntax_tree.specs.Tree.{ExpressionTree}
 use Rattle.fluent_syntax_tree.specs.declared.edition.Edition.{Edition}
 use Rattle.fluent_syntax_grammar.specs.Bytes.{lf, cr, space, left_brace, right_brace}
 use Rattle.fluent_syntax_grammar.specs.Construct.{Read, goes_on, given, passed, chosen, second, at_place}
@@ -89,7 +91,7 @@ module _ (t : List ℕ) (R : Family) where
     pub ends : ending t to (Read ends_by next)
     pub pieces : more_pieces t R to (Read [] to)
     pub text_stays : (from : ℕ) → is_nonblank (slice_range t from stop) ≡ true →
-        cut t (with_ending (run' from to ∷ []) ends_by) ≡ text from stop ∷ []
+        cut t {E = ExpressionTree Span} (with_ending (run' from to ∷ []) ends_by) ≡ text from stop ∷ []
 
   line_ended : (to stop next : ℕ) → EndsLine t to stop next → EndedLine to stop next
   line_ended to stop next (with_lf eol e) =

@@ -6,16 +6,15 @@ use Rattle.std.proofs.lemmas.Bool.Decides.{nat_tests}
 use Rattle.std.proofs.lemmas.Option.{slice_get-get_or}
 use Rattle.fluent_syntax_tree.specs.Kind.{UnbalancedClosingBrace}
 use Rattle.fluent_syntax_grammar.specs.Bytes.{lf, left_brace, right_brace}
-use Rattle.fluent_syntax_grammar.specs.Construct.{Outcome, Read, Refused, ◌>>=◌, gives, goes_on}
-use Rattle.fluent_syntax_grammar.specs.Construct.{given, failed, passed, chosen, first, second, at_place, More, no_item}
-use Rattle.fluent_syntax_grammar.specs.Construct.{item}
+use Rattle.fluent_syntax_grammar.specs.Construct.{Outcome, Read, Refused, ◌>>=◌, gives, goes_on, given, failed, passed}
+use Rattle.fluent_syntax_grammar.specs.Construct.{chosen, first, second, at_place, More, no_item, item}
 use Rattle.fluent_syntax_grammar.specs.Family.{Family}
 use Rattle.fluent_syntax_grammar.specs.Layout.{Piece, run, placed, Ending, Line}
 use Rattle.fluent_syntax_grammar.specs.Lines.{is_run_place, next_piece, next_piece_at, text_run, ending, no_byte}
 use Rattle.fluent_syntax_grammar.specs.Lines.{belongs, line, more_pieces, next_line, other_line, own_line}
 use Rattle.fluent_syntax_grammar.specs.Nesting.{TooDeep}
 use Rattle.fluent_syntax_grammar.specs.Placeables.{placeable}
-use Rattle.fluent_syntax_grammar.specs.Places.{Stretch, holds, has_byte, has_eol, InlineBlank}
+use Rattle.fluent_syntax_grammar.specs.Places.{Stretch, holds, has_eol, InlineBlank}
 use Rattle.fluent_syntax_grammar.proofs.Functional.{single_stretch}
 use Rattle.fluent_syntax_parser.specs.Meets.{Fails, no_memory, refused, too_deep}
 use Rattle.fluent_syntax_parser.specs.declared.fault.ReadFault.{ReadFault}
@@ -32,9 +31,6 @@ module _ (t : List ℕ) (R : Family) (i b : ℕ) (e : slice_get t i ≡ Some b) 
 
   pub bare_brace : b ≡ right_brace → next_piece t R i (Refused UnbalancedClosingBrace i (i + 1))
   bare_brace is = by_piece _ (chosen (second eol (first (rw is refl) (failed refl))))
-
-  pub brace_stands : b ≡ left_brace → has_byte t left_brace i ≡ true
-  brace_stands is = rw (e, is) refl
 
   pub placed_piece : b ≡ left_brace → (o : Outcome (More Piece (Unit {0}))) →
       (placeable t R >>= λ e. gives (item (placed e) tt)) i o → next_piece t R i o
@@ -90,10 +86,6 @@ module _ (t : List ℕ) (R : Family) where
 
   pub end_pieces : (i : ℕ) → slice_get t i ≡ None → next_piece t R i (Read no_item i)
   end_pieces i e = chosen (rw e given)
-
-  pub no_lines : (i : ℕ) → slice_get t i ≡ None → next_line t R i (Read no_item i)
-  no_lines i e =
-      no_byte (record { forward = omega arith; each = λ k l r. absurd (omega arith); longest = rw e refl }) e
 
   pub line_read : (i k : ℕ) → InlineBlank t i k → (ps : List Piece) (j m : ℕ) (end : Ending) →
       more_pieces t R k (Read ps j) → ending t j (Read end m) →

@@ -1,44 +1,43 @@
 -- What is added for a piece of a line, and what for those behind it, are together what is added from it on.
-use Rattle.std.proofs.Common.{◌≡◌, ℕ, ◌+◌, List, [], ◌∷◌, ◌++◌, append_assoc, map, Option, Some, None, unwrap_or}
-use Rattle.std.proofs.Common.{Bool, true, false, refl, sym, ap, ◌∙◌}
+use Rattle.std.proofs.Common.{◌≡◌, ℕ, ◌+◌, List, [], ◌∷◌, ◌++◌, append_assoc, map, Option, Some, None, unwrap_or, Bool}
+use Rattle.std.proofs.Common.{true, false, refl, sym, ap, ◌∙◌}
 use Rattle.std.specs.Prelude.{nat_lt, if◌then◌else◌}
 use Rattle.fluent_syntax_tree.specs.declared.edition.Edition.{Edition}
 use Rattle.fluent_syntax_tree.specs.declared.edition.Edition.TheVariants.{One, Two}
-use Rattle.fluent_syntax_grammar.specs.Layout.{Ending, lf_at, crlf_at, text_end}
+use Rattle.fluent_syntax_grammar.specs.Layout.{Ending, lf_at, crlf_at, text_end, LineOf, PieceOf, placed, run}
 use Rattle.fluent_syntax_parser.specs.Elements.{bare_items, flushed, indent_of, kept_place, leading, waiting}
-use Rattle.fluent_syntax_parser.specs.Layouts.{Item, Line, Piece, filled, items_from, kept_from, line_items, placed}
-use Rattle.fluent_syntax_parser.specs.Layouts.{run, text, with_ending}
+use Rattle.fluent_syntax_grammar.specs.Elements.{ItemOf, filled, items_from, kept_from, line_items, text, with_ending}
 
 module _ {E : Type 0} where
   pub none_leads : (led : Option ℕ) → leading {E = E} led [] ≡ []
   none_leads None = refl
   none_leads (Some k) = refl
 
-  run_leads : (led : Option ℕ) (from to : ℕ) (ps : List (Piece E)) →
+  run_leads : (led : Option ℕ) (from to : ℕ) (ps : List (PieceOf E)) →
       leading led (run from to ∷ ps) ≡ run (unwrap_or led from) to ∷ ps
   run_leads None from to ps = refl
   run_leads (Some k) from to ps = refl
 
-  placed_leads : (led : Option ℕ) (e : E) (ps : List (Piece E)) → leading led (placed e ∷ ps) ≡ placed e ∷ ps
+  placed_leads : (led : Option ℕ) (e : E) (ps : List (PieceOf E)) → leading led (placed e ∷ ps) ≡ placed e ∷ ps
   placed_leads None e ps = refl
   placed_leads (Some k) e ps = refl
 
   module _ (end : Ending) where
-    flush : (xs : List (Item E)) (pending : Option (ℕ × ℕ)) (p : Piece E) (ps : List (Piece E)) →
+    flush : (xs : List (ItemOf E)) (pending : Option (ℕ × ℕ)) (p : PieceOf E) (ps : List (PieceOf E)) →
         flushed xs pending ++ with_ending (p ∷ ps) end ≡ xs ++ with_ending (waiting pending (p ∷ ps)) end
     flush xs None p ps = refl
     flush xs (Some r) p ps = append_assoc xs (text r.0 r.1 ∷ []) (with_ending (p ∷ ps) end)
 
-    pub run_waits : (xs : List (Item E)) (pending : Option (ℕ × ℕ)) (led : Option ℕ) (from to : ℕ)
-        (ps : List (Piece E)) →
+    pub run_waits : (xs : List (ItemOf E)) (pending : Option (ℕ × ℕ)) (led : Option ℕ) (from to : ℕ)
+        (ps : List (PieceOf E)) →
         flushed xs pending ++ with_ending (run (unwrap_or led from) to ∷ ps) end
         ≡ xs ++ with_ending (waiting pending (leading led (run from to ∷ ps))) end
     run_waits xs pending led from to ps =
         flush xs pending (run (unwrap_or led from) to) ps
         ∙ ap (λ qs. xs ++ with_ending (waiting pending qs) end) (sym (run_leads led from to ps))
 
-    pub placed_added : (xs : List (Item E)) (pending : Option (ℕ × ℕ)) (led : Option ℕ) (e : E)
-        (ps : List (Piece E)) →
+    pub placed_added : (xs : List (ItemOf E)) (pending : Option (ℕ × ℕ)) (led : Option ℕ) (e : E)
+        (ps : List (PieceOf E)) →
         (flushed xs pending ++ filled e ∷ []) ++ with_ending ps end
         ≡ xs ++ with_ending (waiting pending (leading led (placed e ∷ ps))) end
     placed_added xs pending led e ps =
@@ -48,11 +47,11 @@ module _ {E : Type 0} where
 
   -- ---- the line on which a pattern opens: its pieces are items, but for the last one
 
-  abbrev pub as_item : Piece E → Item E
+  abbrev pub as_item : PieceOf E → ItemOf E
   as_item (run from to) = text from to
   as_item (placed e) = filled e
 
-  pub run_last : (ps : List (Piece E)) (from to : ℕ) (end : Ending) →
+  pub run_last : (ps : List (PieceOf E)) (from to : ℕ) (end : Ending) →
       with_ending (ps ++ run from to ∷ []) end ≡ map as_item ps ++ with_ending (run from to ∷ []) end
   run_last [] from to end = refl
   run_last (run a b ∷ []) from to end = refl
@@ -60,7 +59,7 @@ module _ {E : Type 0} where
   run_last (run a b ∷ placed e ∷ ps) from to end = ap (λ xs. text a b ∷ xs) (run_last (placed e ∷ ps) from to end)
   run_last (placed e ∷ ps) from to end = ap (λ xs. filled e ∷ xs) (run_last ps from to end)
 
-  pub placed_last : (ps : List (Piece E)) (x : E) (end : Ending) →
+  pub placed_last : (ps : List (PieceOf E)) (x : E) (end : Ending) →
       with_ending (ps ++ placed x ∷ []) end ≡ map as_item (ps ++ placed x ∷ []) ++ with_ending [] end
   placed_last [] x end = refl
   placed_last (run a b ∷ []) x end = refl
@@ -70,7 +69,7 @@ module _ {E : Type 0} where
 
   -- ---- a line, by whether it holds something
 
-  kept_is : (common : Option ℕ) (l : Line E) → kept_place common l.start l.spaces ≡ kept_from common l
+  kept_is : (common : Option ℕ) (l : LineOf E) → kept_place common l.start l.spaces ≡ kept_from common l
   kept_is None l = refl
   kept_is (Some common) l = refl
 
@@ -80,13 +79,13 @@ module _ {E : Type 0} where
   bare_from edition kept first (crlf_at p) = refl
   bare_from edition kept first text_end = refl
 
-  indent_placed : (b : Bool) (xs rest : List (Item E)) (kept first : ℕ) →
+  indent_placed : (b : Bool) (xs rest : List (ItemOf E)) (kept first : ℕ) →
       flushed xs (if b then Some (kept, first) else None) ++ rest
       ≡ xs ++ ((if b then text kept first ∷ [] else []) ++ rest)
   indent_placed true xs rest kept first = append_assoc xs (text kept first ∷ []) rest
   indent_placed false xs rest kept first = refl
 
-  full_from : (xs : List (Item E)) (edition : Edition) (kept first : ℕ) (ps : List (Piece E)) (end : Ending) →
+  full_from : (xs : List (ItemOf E)) (edition : Edition) (kept first : ℕ) (ps : List (PieceOf E)) (end : Ending) →
       (ps ≡ [] → ⊥) →
       flushed xs (indent_of edition kept first ps) ++ with_ending (leading (Some kept) ps) end
       ≡ xs ++ items_from edition kept first ps end
@@ -96,7 +95,7 @@ module _ {E : Type 0} where
   full_from xs Two kept first (placed e ∷ ps) end some =
       indent_placed (nat_lt kept first) xs (with_ending (placed e ∷ ps) end) kept first
 
-  module _ (edition : Edition) (common : Option ℕ) (l : Line E) (kept : ℕ)
+  module _ (edition : Edition) (common : Option ℕ) (l : LineOf E) (kept : ℕ)
       (is : kept ≡ kept_place common l.start l.spaces) where
     kept_items : items_from edition kept (l.start + l.spaces) l.pieces l.ending ≡ line_items edition common l
     kept_items =
@@ -108,7 +107,7 @@ module _ {E : Type 0} where
         ∙ ap (λ ps. items_from edition kept (l.start + l.spaces) ps l.ending) (sym none)
         ∙ kept_items
 
-    pub full_line : (xs : List (Item E)) → (l.pieces ≡ [] → ⊥) →
+    pub full_line : (xs : List (ItemOf E)) → (l.pieces ≡ [] → ⊥) →
         flushed xs (indent_of edition kept (l.start + l.spaces) l.pieces)
         ++ with_ending (leading (Some kept) l.pieces) l.ending
         ≡ xs ++ line_items edition common l

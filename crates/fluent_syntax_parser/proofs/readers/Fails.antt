@@ -1,6 +1,6 @@
 -- Where a part is refused or nests too deeply, so does the whole: one step of a reader, for each of its exits by `?`.
 use Rattle.std.proofs.Common.{◌≡◌, ℕ, suc, ◌-◌, List, [], Bool, true, false, refl, sym, subst, arith}
-use Rattle.std.specs.Prelude.{Result, Ok, Err}
+use Rattle.std.specs.Prelude.{Result, Err}
 use Rattle.std.specs.Result.{IsErrAnd}
 use Rattle.std.proofs.lemmas.Result.{err_from_is_err_and}
 use Rattle.fluent_syntax_tree.specs.Tree.{ArgumentsTree, ExpressionTree}
@@ -9,8 +9,7 @@ use Rattle.fluent_syntax_tree.specs.declared.spans.Span.{Span}
 use Rattle.fluent_syntax_grammar.specs.Arguments.{call_arguments, more_arguments}
 use Rattle.fluent_syntax_grammar.specs.Bytes.{left_brace, left_parenthesis}
 use Rattle.fluent_syntax_grammar.specs.Construct.{Outcome, Construct, Read, Refused, ◌>>=◌, stops, goes_on, over}
-use Rattle.fluent_syntax_grammar.specs.Construct.{passed, either}
-use Rattle.fluent_syntax_grammar.specs.Construct.{first, second, at_each, chosen, gives, here}
+use Rattle.fluent_syntax_grammar.specs.Construct.{passed, either, first, second, at_each, chosen, gives, here}
 use Rattle.fluent_syntax_grammar.specs.Grammar.{within}
 use Rattle.fluent_syntax_grammar.specs.Laws.{IsFunctional}
 use Rattle.fluent_syntax_grammar.specs.Nesting.{TooDeep}
@@ -19,16 +18,14 @@ use Rattle.fluent_syntax_grammar.specs.Places.{Blank, Reaches, Steps, after_eol}
 use Rattle.fluent_syntax_grammar.specs.Variants.{only_star}
 use Rattle.fluent_syntax_grammar.specs.Words.{optional, token}
 use Rattle.fluent_syntax_grammar.proofs.Deeper.{deeper_first, deeper_next, deeper_yes, deeper_no, deeper_at_each}
-use Rattle.fluent_syntax_grammar.proofs.Deeper.{none_inside}
-use Rattle.fluent_syntax_grammar.proofs.Deeper.{no_list_inside}
+use Rattle.fluent_syntax_grammar.proofs.Deeper.{none_inside, no_list_inside}
 use Rattle.fluent_syntax_grammar.proofs.Functional.{functional, functional_at_each}
 use Rattle.fluent_syntax_grammar.proofs.FunctionalRules.{functional_arrow}
 use Rattle.fluent_syntax_grammar.proofs.FunctionalWords.{functional_blank, functional_optional, functional_token}
 use Rattle.fluent_syntax_parser.specs.declared.fault.ReadFault.{ReadFault}
 use Rattle.fluent_syntax_parser.specs.declared.fault.ReadFault.TheVariants as faults
 use Rattle.fluent_syntax_parser.specs.declared.fault.Fault.{Fault}
-use Rattle.fluent_syntax_parser.specs.Meets.{Fails, Meets, Refuses, from_of, kind_at, refused, to_of, too_deep}
-use Rattle.fluent_syntax_parser.specs.Meets.{no_memory}
+use Rattle.fluent_syntax_parser.specs.Meets.{Fails, Refuses, from_of, kind_at, refused, to_of, too_deep, no_memory}
 
 module _ {A B : Type 0} {t : List ℕ} {c : Construct A} {d : A → Construct B} {i : ℕ} where
   pub fails_first : {f : ReadFault} → Fails t c i f → Fails t (c >>= d) i f
@@ -61,12 +58,6 @@ pub fails_as : {A : Type 0} {t : List ℕ} {c d : Construct A} {i : ℕ} {f : Re
 fails_as into from (refused h) = refused (λ k a b s. into (Refused k a b) (h k a b s))
 fails_as into from (too_deep h) = too_deep (λ o x. h o (from o x))
 fails_as into from no_memory = no_memory
-
-pub meets_as : {A X : Type 0} {t : List ℕ} {c d : Construct A} (view : X → A) {i : ℕ} →
-    ((o : Outcome A) → c i o → d i o) → ((f : ReadFault) → Fails t c i f → Fails t d i f) →
-    (r : Result (X × ℕ) ReadFault) → Meets t c view i r → Meets t d view i r
-meets_as view read fails (Ok x) h = read _ h
-meets_as view read fails (Err f) h = fails f h
 
 -- the exit by `?` of what took no memory
 pub out_of_memory : {X : Type 0} (r : Result X ReadFault) → IsErrAnd r (λ f. f ≡ faults.Memory) → r ≡ Err faults.Memory

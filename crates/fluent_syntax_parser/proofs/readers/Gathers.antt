@@ -6,11 +6,6 @@ use Rattle.fluent_syntax_grammar.specs.Construct.{Construct, Read}
 use Rattle.fluent_syntax_grammar.proofs.Facts.{append_nothing}
 use Rattle.fluent_syntax_parser.specs.Made.{IsMade, made}
 
-pub map_more : {A X : Type 0} (v : X → A) (xs : List X) (x : X) (more : List A) →
-    map v (xs ++ x ∷ []) ++ more ≡ map v xs ++ (v x ∷ more)
-map_more v [] x more = refl
-map_more v (y ∷ xs) x more = ap (λ zs. v y ∷ zs) (map_more v xs x more)
-
 -- What was gathered stands for what was read, with f of each text in its place.
 pub record MadeList {A B X : Type 0} (c : Construct (List A)) (f : A → B) (v : X → B) (i : ℕ) (xs : List X) (j : ℕ) :
     Type 0 where

@@ -1,6 +1,5 @@
 -- What is known of a construct whose value a reader made.
-use Rattle.std.proofs.Common.{◌≡◌, ℕ, Option, Some, None, option_map, refl, sym, subst, ap}
-use Rattle.std.proofs.Common.{◌∙◌}
+use Rattle.std.proofs.Common.{◌≡◌, ℕ, Option, Some, None, option_map, refl, ap}
 use Rattle.fluent_syntax_tree.specs.Tree.{InlineTree, inline_map, string_literal, number_literal, function_reference}
 use Rattle.fluent_syntax_tree.specs.Tree.{message_reference, term_reference, variable_reference, inline_placeable}
 use Rattle.fluent_syntax_grammar.specs.Construct.{Construct, Read}
@@ -10,11 +9,6 @@ use Rattle.fluent_syntax_parser.specs.Made.{IsMade, made}
 module _ {A B : Type 0} {f : A → B} {c : Construct A} {i j : ℕ} {b : B} where
   pub on_made : {G : Type 0} → IsMade f c i b j → ((a : A) → c i (Read a j) → b ≡ f a → G) → G
   on_made (made {a = a} h e) g = g a h e
-
--- as the construct itself, where nothing is put in the place of a text
-pub as_read : {A : Type 0} {f : A → A} {c : Construct A} {i j : ℕ} {b : A} → ((a : A) → f a ≡ a) → IsMade f c i b j →
-    c i (Read b j)
-as_read {c = c} {i = i} {j = j} same (made {a = a} h e) = subst (λ x. c i (Read x j)) (sym (e ∙ same a)) h
 
 -- ---- an optional value
 

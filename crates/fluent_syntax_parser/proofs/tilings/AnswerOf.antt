@@ -10,7 +10,8 @@ use Rattle.fluent_syntax_tree.specs.declared.errors.ParserError.{ParserError}
 use Rattle.fluent_syntax_tree.specs.declared.spans.Span.{Span}
 use Rattle.fluent_syntax_grammar.specs.Body.{body, faults}
 use Rattle.fluent_syntax_grammar.specs.Tiling.{Fault, Tile}
-use Rattle.fluent_syntax_parser.specs.Answers.{Answers, AnswersIn, AnswersSpansIn}
+use Rattle.fluent_syntax_parser.specs.Answers.{Answers}
+use Rattle.fluent_syntax_parser.specs.Rest.{AnswersIn, AnswersSpansIn}
 use Rattle.fluent_syntax_parser.specs.Faults.{fault_of}
 use Rattle.fluent_syntax_parser.specs.declared.fault.ParseFault.{ParseFault}
 use Rattle.fluent_syntax_parser.specs.declared.fault.ParseFault.TheVariants.{Memory, Syntax}

@@ -15,11 +15,10 @@ use Rattle.fluent_syntax_grammar.specs.Body.{faults}
 use Rattle.fluent_syntax_grammar.specs.Laws.{Ascend}
 use Rattle.fluent_syntax_grammar.specs.Tiling.{Fault, Tile}
 use Rattle.fluent_syntax_grammar.proofs.JunkAndSpans.{errors_ascend, runtime_errors_ascend}
-use Rattle.fluent_syntax_parser.specs.Answers.{Answers, AnswersIn, AnswersTiling, AnswersRuntimeTiling}
-use Rattle.fluent_syntax_parser.specs.Answers.{ErrorsInText}
+use Rattle.fluent_syntax_parser.specs.Answers.{Answers, AnswersTiling, AnswersRuntimeTiling, ErrorsInText}
+use Rattle.fluent_syntax_parser.specs.Rest.{AnswersIn, EntryTo, Reached, Rest, faults_of}
 use Rattle.fluent_syntax_parser.proofs.tilings.PartsOfEntries.{some_rest}
 use Rattle.fluent_syntax_parser.specs.Faults.{fault_of}
-use Rattle.fluent_syntax_parser.specs.Rest.{EntryTo, Reached, Rest, faults_of}
 use Rattle.fluent_syntax_parser.specs.declared.options.Comments.{Comments}
 use Rattle.fluent_syntax_parser.specs.declared.options.Comments.TheVariants.{Kept, Dropped}
 use Rattle.fluent_syntax_parser.specs.declared.fault.ParseFault.{ParseFault}

@@ -9,7 +9,8 @@ use Rattle.fluent_syntax_tree.specs.declared.edition.Edition.{Edition}
 use Rattle.fluent_syntax_tree.specs.declared.spans.Span.{Span}
 use Rattle.fluent_syntax_grammar.specs.Tiling.{Tile}
 use Rattle.fluent_syntax_grammar.specs.Body.{body}
-use Rattle.fluent_syntax_parser.specs.Answers.{Answers, AnswersSpansIn}
+use Rattle.fluent_syntax_parser.specs.Answers.{Answers}
+use Rattle.fluent_syntax_parser.specs.Rest.{AnswersSpansIn}
 use Rattle.fluent_syntax_parser.specs.Parts.{HasParts}
 use Rattle.fluent_syntax_parser.proofs.tilings.PartsOfEntries.{body_parts}
 use Rattle.fluent_syntax_parser.specs.declared.options.Comments.{Comments}

@@ -1,9 +1,9 @@
 //! The items that the lines of a pattern spell.
 ghost use Rattle.std.specs.Prelude.{◌≡◌, ◌+◌, ◌<◌, ◌^◌, ◌++◌, [], map, OnOk};
 ghost use Rattle.std.specs.List.{flat_map};
-ghost use Rattle.fluent_syntax_parser.specs.Elements.{bare_items, flushed, indent_of, item_shape, kept_place};
-ghost use Rattle.fluent_syntax_parser.specs.Elements.{leading, waiting};
-ghost use Rattle.fluent_syntax_parser.specs.Layouts.{line_items, with_ending};
+ghost use Rattle.fluent_syntax_parser.specs.Elements.{bare_items, flushed, indent_of, item_shape, kept_place, leading};
+ghost use Rattle.fluent_syntax_parser.specs.Elements.{waiting};
+ghost use Rattle.fluent_syntax_grammar.specs.Elements.{line_items, with_ending};
 ghost use Rattle.fluent_syntax_parser.specs.Endings.{EndsWithin};
 ghost use Rattle.fluent_syntax_parser.specs.Lines.{ending_view, line_shape, piece_shape};
 

@@ -1,9 +1,8 @@
 //! The common indent of a pattern's lines.
 ghost use Rattle.std.specs.Prelude.{◌≡◌, map};
 ghost use Rattle.std.specs.List.{flat_map};
-ghost use Rattle.fluent_syntax_grammar.specs.Layout.{least};
+ghost use Rattle.fluent_syntax_grammar.specs.Layout.{least, counted};
 ghost use Rattle.fluent_syntax_parser.specs.Elements.{listed};
-ghost use Rattle.fluent_syntax_parser.specs.Layouts.{counted};
 ghost use Rattle.fluent_syntax_parser.specs.Lines.{line_view};
 
 use crate::pattern::line::{Line, Piece};

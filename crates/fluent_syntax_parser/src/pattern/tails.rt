@@ -2,9 +2,8 @@
 ghost use Rattle.std.specs.Prelude.{◌≡◌, ◌++◌, ◌∷◌, [], map, IfOk, OnOk};
 ghost use Rattle.fluent_syntax_tree.specs.Spans.{bytes_at};
 ghost use Rattle.fluent_syntax_tree.specs.View.{element_view};
-ghost use Rattle.fluent_syntax_grammar.specs.Elements.{is_nonblank, trimmed_end};
+ghost use Rattle.fluent_syntax_grammar.specs.Elements.{is_nonblank, trimmed_end, stays};
 ghost use Rattle.fluent_syntax_parser.specs.Elements.{CutsTo, MakesPattern, element_of, item_view, last_of};
-ghost use Rattle.fluent_syntax_parser.specs.Layouts.{stays};
 
 use crate::pattern::elements::add_lines;
 use crate::pattern::indents::common_indent;

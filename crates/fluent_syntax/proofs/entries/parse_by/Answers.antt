@@ -1,7 +1,7 @@
 use Rattle.std.proofs.lemmas.Result.{IfOk-weaker}
 use Rattle.fluent_syntax_tree.specs.Entry.{body_map}
 use Rattle.fluent_syntax_tree.specs.Spans.{bytes_at}
-use Rattle.fluent_syntax_parser.specs.Answers.{AnswersIn}
+use Rattle.fluent_syntax_parser.specs.Rest.{AnswersIn}
 use Rattle.fluent_syntax.specs.Errors.{ErrorsAscend, JunkIsRefused}
 use Rattle.fluent_syntax.proofs.ErrorLemmas.{errors_answered, junk_answered}
 use Rattle.fluent_syntax.proofs.entries.parse_by.Goals as goal

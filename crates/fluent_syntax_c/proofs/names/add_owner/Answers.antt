@@ -1,4 +1,4 @@
-use Rattle.fluent_syntax_c.proofs.Rows.{attribute_inside}
+use Rattle.fluent_syntax_c.proofs.NameRows.{attribute_inside}
 use Rattle.fluent_syntax_c.proofs.names.add_owner.Goals as goal
 
 pub row_of-requires-in-loop-attribute : goal.row_of-requires-in-loop-attribute

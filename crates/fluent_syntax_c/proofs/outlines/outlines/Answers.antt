@@ -3,7 +3,7 @@ use Rattle.std.proofs.lemmas.List.{take_all}
 use Rattle.std.proofs.lemmas.List.Elements.{All-more, All-nil, All-push, All-same}
 use Rattle.fluent_syntax_c.specs.Depth.{EditionReadsDeeper}
 use Rattle.fluent_syntax_c.specs.Outlines.{AreOutlines, IsShort, no_outlines}
-use Rattle.fluent_syntax_c.proofs.Outlined.{outlines_on}
+use Rattle.fluent_syntax_c.proofs.Outlined.{none_of_any, outlines_on}
 use Rattle.fluent_syntax_c.proofs.outlines.outlines.Goals as goal
 
 pub loop-text-init : goal.loop-text-init
@@ -40,5 +40,6 @@ pub returns-clause-shallow : goal.returns-clause-shallow
 returns-clause-shallow c =
     let texts = c.args.texts.now in
     let all = sym (take_all c.loop-text.text-index texts c.loop-text-test.false) in
-    All-same (λ text. EditionReadsDeeper c.args.edition text.text.now c.args.nesting → ⊥) texts _ all
-    c.loop-text.invariant.shallow
+    none_of_any (λ text. EditionReadsDeeper c.args.edition text.text.now c.args.nesting) texts
+    (All-same (λ text. EditionReadsDeeper c.args.edition text.text.now c.args.nesting → ⊥) texts _ all
+    c.loop-text.invariant.shallow)

@@ -1,7 +1,7 @@
 use Rattle.std.proofs.Common.{◌∙◌, List, Vec, ℕ, sym, subst, arith}
 use Rattle.std.specs.declared.alloc.Global.{Global}
 use Rattle.std.proofs.lemmas.List.{length-map}
-use Rattle.fluent_syntax_graph.specs.Graph.{IsGraph, targets_of}
+use Rattle.fluent_syntax_names.specs.Graph.{IsGraph, targets_of}
 use Rattle.fluent_syntax_names.specs.Circles.{links}
 use Rattle.fluent_syntax_names.specs.Drawings.{Drawn}
 use Rattle.fluent_syntax_names.specs.NamedLists.{numbers_of}

@@ -1,8 +1,8 @@
-use Rattle.std.proofs.Common.{[]}
+use Rattle.std.proofs.Common.{[], drop}
 use Rattle.fluent_syntax_names.specs.Spelled.{nameless}
 use Rattle.fluent_syntax_names.specs.Lacks.{lacks_in}
 use Rattle.fluent_syntax_names.specs.Beside.{other_by}
-use Rattle.fluent_syntax_names.proofs.Lacking.{LeavesLacks}
+use Rattle.fluent_syntax_names.specs.Growing.{Leaves}
 use Rattle.fluent_syntax_names.proofs.comparing.lacks_by.Given as goal
 
 abbrev pub invariant-loop-mention : goal.invariant-loop-mention
@@ -10,6 +10,6 @@ invariant-loop-mention l =
     let text = l.beside.text.now in
     let D = other_by l.beside in
     record {
-      left : LeavesLacks D text [] l.list.items (lacks_in D text nameless l.mentions) l.owner l.mentions
-          l.mention-index l.list.items l.owner l.mention-index;
+      left : Leaves [] l.list.items (lacks_in D text l.owner (drop l.mention-index l.mentions))
+          (lacks_in D text nameless l.mentions);
     }

@@ -1,5 +1,5 @@
 use Rattle.std.proofs.Common.{[], refl, sym, subst}
-use Rattle.fluent_syntax_graph.specs.Graph.{Graph}
+use Rattle.fluent_syntax_names.specs.Graph.{Graph}
 use Rattle.fluent_syntax_names.specs.Drawings.{Drawn}
 use Rattle.fluent_syntax_names.specs.NamedLists.{lists_of, numbers_of}
 use Rattle.fluent_syntax_names.proofs.Linking.{link_files_next, link_files_none, nothing_drawn}

@@ -1,7 +1,8 @@
 use Rattle.std.proofs.Common.{List, drop, map}
 use Rattle.fluent_syntax_tree.specs.declared.ast.Attribute.{Attribute}
 use Rattle.fluent_syntax_tree.specs.View.{attribute_view}
-use Rattle.fluent_syntax_names.specs.Mentions.{Leaves, attributes_mentions}
+use Rattle.fluent_syntax_names.specs.Growing.{Leaves}
+use Rattle.fluent_syntax_names.specs.Mentions.{attributes_mentions}
 use Rattle.fluent_syntax_names.proofs.entries.add_attributes.Given as goal
 
 abbrev pub invariant-loop-attribute : goal.invariant-loop-attribute

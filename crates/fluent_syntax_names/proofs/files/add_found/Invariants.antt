@@ -1,10 +1,11 @@
+use Rattle.std.proofs.Common.{drop}
 use Rattle.fluent_syntax_names.specs.Circles.{no_pattern}
 use Rattle.fluent_syntax_names.specs.Drawings.{set_by}
 use Rattle.fluent_syntax_names.specs.Findings.{Known, found_in, nothing}
 use Rattle.fluent_syntax_names.specs.Knowing.{knows}
 use Rattle.fluent_syntax_names.specs.Places.{place_of}
 use Rattle.fluent_syntax_names.specs.Tables.{Holds}
-use Rattle.fluent_syntax_names.proofs.Growing.{LeavesFound}
+use Rattle.fluent_syntax_names.specs.Growing.{Leaves}
 use Rattle.fluent_syntax_names.proofs.files.add_found.Given as goal
 
 -- some knowledge is what the tables hold
@@ -13,5 +14,5 @@ invariant-loop-mention l =
     let A = set_by (knows l.here.known) l.here.circles.now in
     let all = found_in A l.here.file l.here.text.now nothing no_pattern l.mentions in
     (known : Known) × Holds (place_of l.noted.names.table) (place_of l.noted.attributes.table) known
-    × LeavesFound A l.here.file l.here.text.now l.fn.list.items l.list.items all l.mentions l.mention-index l.list.items
-    known l.pattern l.mention-index
+    × Leaves l.fn.list.items l.list.items
+    (found_in A l.here.file l.here.text.now known l.pattern (drop l.mention-index l.mentions)) all

@@ -2,7 +2,8 @@ use Rattle.std.proofs.Common.{List, drop, map}
 use Rattle.fluent_syntax_tree.specs.declared.ast.Entry.{Entry}
 use Rattle.fluent_syntax_tree.specs.declared.spans.Span.{Span}
 use Rattle.fluent_syntax_tree.specs.View.{entry_view}
-use Rattle.fluent_syntax_names.specs.Mentions.{Leaves, body_mentions}
+use Rattle.fluent_syntax_names.specs.Growing.{Leaves}
+use Rattle.fluent_syntax_names.specs.Mentions.{body_mentions}
 use Rattle.fluent_syntax_names.proofs.outline.add_body.Given as goal
 
 abbrev pub invariant-loop-entry : goal.invariant-loop-entry

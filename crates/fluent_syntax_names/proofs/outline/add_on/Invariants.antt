@@ -1,6 +1,7 @@
 use Rattle.std.proofs.Common.{◌++◌, drop, map}
 use Rattle.fluent_syntax_tree.specs.declared.spans.Span.{Span}
-use Rattle.fluent_syntax_names.specs.Mentions.{Leaves, Mentions, mention_map, span_on}
+use Rattle.fluent_syntax_names.specs.Growing.{Leaves}
+use Rattle.fluent_syntax_names.specs.Mentions.{Mentions, mention_map, span_on}
 use Rattle.fluent_syntax_names.proofs.outline.add_on.Given as goal
 
 abbrev pub invariant-loop-mention : goal.invariant-loop-mention

@@ -5,7 +5,8 @@ use Rattle.fluent_syntax_tree.specs.declared.ast.InlineExpression.{InlineExpress
 use Rattle.fluent_syntax_tree.specs.declared.ast.NamedArgument.{NamedArgument}
 use Rattle.fluent_syntax_tree.specs.Tree.{elements_of, variants_of, inlines_of, nameds_of}
 use Rattle.fluent_syntax_tree.specs.View.{element_view, variant_view, inline_view, named_view}
-use Rattle.fluent_syntax_names.specs.Mentions.{Leaves, pattern_mentions, variants_mentions, inlines_mentions}
+use Rattle.fluent_syntax_names.specs.Growing.{Leaves}
+use Rattle.fluent_syntax_names.specs.Mentions.{pattern_mentions, variants_mentions, inlines_mentions}
 use Rattle.fluent_syntax_names.specs.Mentions.{nameds_mentions}
 use Rattle.fluent_syntax_names.proofs.patterns.+mentions.Given as goal
 

@@ -1,6 +1,6 @@
 use Rattle.std.proofs.lemmas.Result.{IfOk-weaker}
 use Rattle.fluent_syntax_tree.specs.Entry.{body_map}
-use Rattle.fluent_syntax_parser.specs.Answers.{AnswersIn, AnswersSpansIn}
+use Rattle.fluent_syntax_parser.specs.Rest.{AnswersIn, AnswersSpansIn}
 use Rattle.fluent_syntax_parser.specs.Parts.{HasParts}
 use Rattle.fluent_syntax_parser.proofs.tilings.AnswerOf.{spans_answered}
 use Rattle.fluent_syntax_parser.proofs.tilings.PartsOfTiling.{parts_answered}

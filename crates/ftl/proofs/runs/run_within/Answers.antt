@@ -1,8 +1,23 @@
-use Rattle.std.proofs.Common.{ℕ, List, string_bytes, subst}
+use Rattle.std.proofs.Common.{◌≡◌, ◌∙◌, ℕ, List, None, Option, Some, string_bytes, subst}
+use Rattle.std.proofs.lemmas.Result.{err_from_is_err_and}
+use Rattle.std.specs.Prelude.{IfSome, OnErr}
+use Rattle.std.specs.Str.{IsUtf8}
 use Rattle.ftl.specs.Answer.{IsAnswer}
 use Rattle.ftl.specs.Run.{AppendsBeginning, IsRunAnswer}
 use Rattle.ftl.specs.Watched.{inner_of}
 use Rattle.ftl.proofs.runs.run_within.Goals as goal
+
+is_text : (bytes : Option (List ℕ)) (read text : List ℕ) → text ≡ read → IfSome bytes (λ known. read ≡ known) →
+    (¬ (IsUtf8 text) → ⊥) → IfSome bytes (λ known. ¬ (IsUtf8 known) → ⊥)
+is_text None read text same is reads = tt
+is_text (Some known) read text same is reads = λ none. reads (λ utf8. none (subst IsUtf8 (same ∙ is) utf8))
+
+-- of bytes that are no text nothing nests
+pub returns-in_err-text-clause-no_text : goal.returns-in_err-text-clause-no_text
+returns-in_err-text-clause-no_text g c =
+    let p = err_from_is_err_and c.from_residual.result c.from_residual.ensures.1 in
+    rw p.1 (is_text (g.R.Read.remaining (inner_of c.args.reader.now)) c.in-Ok.input.items c.as_slice.result.now
+    c.as_slice.ensures.value c.in-Ok.ensures.all (λ none. let input = c.in_err-text.ensures.input.1 none in cc))
 
 pub returns-in-Ok-2-clause-text : goal.returns-in-Ok-2-clause-text
 returns-in-Ok-2-clause-text g c =

@@ -1,4 +1,5 @@
 use Rattle.std.proofs.Common.{◌∙◌, arith, refl, subst}
+use Rattle.ftl.specs.Watched.{inner_of}
 use Rattle.ftl_project.specs.Comparing.{Compares, no_pairs}
 use Rattle.ftl_project.proofs.Compared.{same_files}
 use Rattle.ftl_project.proofs.InOrder.{ComparesEach-more}
@@ -12,15 +13,18 @@ loop-pair-preserved g c =
     let at = g.S.Store.bytes_at in
     let written = g.O.Write.contents in
     let start = at c.args.store.now in
-    let compares = subst (λ files. Compares c.args.reading c.args.form files c.pair-item.result c.loop-pair.tally
-    c.tell_pair.new.tally c.loop-pair.share c.tell_pair.new.share (written c.loop-pair.streams.out.now)
-    (written c.tell_pair.new.streams.out.now)) (same_files start (at c.loop-pair.store) c.loop-pair.invariant.stand)
+    let compares = subst (λ files. Compares g.S.Store.fails c.args.reading c.args.form files c.pair-item.result
+    c.loop-pair.tally
+    c.tell_pair.new.tally c.loop-pair.share c.tell_pair.new.share (written (inner_of c.loop-pair.streams.out.now))
+    (written (inner_of c.tell_pair.new.streams.out.now))) (same_files start (at c.loop-pair.store)
+    c.loop-pair.invariant.stand)
     c.in_ok-tell_pair.ensures.counted in
     record {
       stand = λ path. c.tell_pair.ensures.stand path ∙ c.loop-pair.invariant.stand path;
-      each = ComparesEach-more c.args.reading c.args.form start c.args.pairs.now c.loop-pair.pair-index
+      each = ComparesEach-more g.S.Store.fails c.args.reading c.args.form start c.args.pairs.now c.loop-pair.pair-index
           c.pair-item.result c.args.tally.now c.loop-pair.tally c.tell_pair.new.tally c.args.share.now
-          c.loop-pair.share c.tell_pair.new.share (written c.args.streams.now.out.now)
-          (written c.loop-pair.streams.out.now) (written c.tell_pair.new.streams.out.now) (omega arith) c.pair-item.is
+          c.loop-pair.share c.tell_pair.new.share (written (inner_of c.args.streams.now.out.now))
+          (written (inner_of c.loop-pair.streams.out.now)) (written (inner_of c.tell_pair.new.streams.out.now)) (omega
+          arith) c.pair-item.is
           c.loop-pair.invariant.each compares;
     }

@@ -1,4 +1,5 @@
 use Rattle.std.proofs.Common.{take}
+use Rattle.ftl.specs.Watched.{inner_of}
 use Rattle.ftl_files.specs.Store.{AllStand}
 use Rattle.ftl_project.specs.Comparing.{ComparesEach}
 use Rattle.ftl_project.proofs.comparing.compare_files.Given as goal
@@ -9,6 +10,7 @@ invariant-loop-pair g l =
     let written = g.O.Write.contents in
     record {
       stand : AllStand (at l.fn.store) (at l.store);
-      each : ComparesEach l.fn.reading l.fn.form (at l.fn.store) (take l.pair-index l.pairs) l.fn.tally l.tally
-          l.fn.share l.share (written l.fn.streams.out.now) (written l.streams.out.now);
+      each : ComparesEach g.S.Store.fails l.fn.reading l.fn.form (at l.fn.store) (take l.pair-index l.pairs)
+          l.fn.tally l.tally
+          l.fn.share l.share (written (inner_of l.fn.streams.out.now)) (written (inner_of l.streams.out.now));
     }

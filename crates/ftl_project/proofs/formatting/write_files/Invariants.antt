@@ -7,5 +7,5 @@ invariant-loop-file g l =
     let at = g.S.Store.bytes_at in
     record {
       reaches : AllReach l.reading.edition (at l.fn.store) (at l.store);
-      each : FormatsSo l.reading l.files l.file-index (at l.fn.store) (at l.store) l.fn.tally l.tally;
+      each : FormatsSo g.S.Store.fails l.reading l.files l.file-index (at l.fn.store) (at l.store) l.fn.tally l.tally;
     }

@@ -24,12 +24,14 @@ loop-file-preserved g c =
     let path = c.as_str.result.now in
     let sources = c.loop-file.sources.items in
     let all = c.read_source.new.sources.items in
-    let one = subst (λ files. ReadsSource files path sources all c.loop-file.tally c.read_source.new.tally)
+    let one = subst (λ files. ReadsSource g.S.Store.fails files path sources all c.loop-file.tally
+    c.read_source.new.tally)
     (same_files start (at c.loop-file.store) c.loop-file.invariant.stand) c.in_ok-read_source.ensures.source in
     record {
       stand = λ other. c.read_source.ensures.stand other ∙ c.loop-file.invariant.stand other;
       read = HasRead-more c.loop-file.invariant.read c.in_ok-read_source.ensures.read;
-      sources = Reads-more start c.args.files.now c.loop-file.file-index c.file-item.result path sources all
+      sources = Reads-more g.S.Store.fails start c.args.files.now c.loop-file.file-index c.file-item.result path
+          sources all
           c.args.tally.now c.loop-file.tally c.read_source.new.tally (omega arith) c.file-item.is c.as_str.ensures.value
           c.loop-file.invariant.sources one;
       out = c.read_source.ensures.out ∙ c.loop-file.invariant.out;

@@ -9,6 +9,6 @@ invariant-loop-file g l =
     record {
       stand : AllStand (at l.fn.store) (at l.store);
       read : HasRead l.file-index (vec_len l.sources) l.fn.tally l.tally;
-      sources : Reads (at l.fn.store) (take l.file-index l.files) l.sources.items l.fn.tally l.tally;
+      sources : Reads g.S.Store.fails (at l.fn.store) (take l.file-index l.files) l.sources.items l.fn.tally l.tally;
       out : l.streams.out ≡ l.fn.streams.out;
     }

@@ -1,6 +1,6 @@
 use Rattle.std.proofs.Common.{◌≡◌, ◌++◌, ◌∷◌, ◌∙◌, [], ℕ, List, ap, append_assoc, string_bytes}
 use Rattle.std.specs.Fmt.{decimal}
-use Rattle.ftl_excerpts.specs.Excerpt.{shown_text}
+use Rattle.ftl_project.specs.Excerpt.{shown_text}
 use Rattle.ftl_project.specs.Summaries.{placed_note, unsafe_line_of}
 use Rattle.ftl_project.proofs.Said.{said_with}
 use Rattle.ftl_project.proofs.unsafe_entry.unsafe_line.Goals as goal

@@ -2,7 +2,7 @@ use Rattle.std.proofs.Common.{◌≡◌, ◌+◌, ◌++◌, arith, length, map, 
 use Rattle.std.specs.Prelude.{◌==◌, vec_len}
 use Rattle.std.proofs.lemmas.Result.{IfOk-equal}
 use Rattle.fluent_syntax_parser.specs.Elements.{flushed, indent_of, item_shape, leading}
-use Rattle.fluent_syntax_parser.specs.Layouts.{with_ending}
+use Rattle.fluent_syntax_grammar.specs.Elements.{with_ending}
 use Rattle.fluent_syntax_parser.specs.Lines.{ending_view, line_shape, piece_shape}
 use Rattle.fluent_syntax_parser.proofs.scanning.Names.{none_named, some_named}
 use Rattle.fluent_syntax_parser.proofs.patterns.Waiting.{bare_line, full_line, none_mapped}

@@ -1,7 +1,7 @@
 use Rattle.std.proofs.Common.{◌≡◌, ◌++◌, map}
 use Rattle.std.specs.List.{flat_map}
 use Rattle.std.specs.Vec.Iter.{into_iter_items}
-use Rattle.fluent_syntax_parser.specs.Layouts.{line_items}
+use Rattle.fluent_syntax_grammar.specs.Elements.{line_items}
 use Rattle.fluent_syntax_parser.specs.Elements.{item_shape}
 use Rattle.fluent_syntax_parser.specs.Lines.{line_shape}
 use Rattle.fluent_syntax_parser.proofs.pattern.elements.add_lines.Given as goal

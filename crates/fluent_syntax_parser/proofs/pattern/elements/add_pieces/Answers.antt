@@ -4,7 +4,8 @@ use Rattle.std.proofs.lemmas.List.{nil_from_length}
 use Rattle.std.proofs.lemmas.Result.{IfOk-equal}
 use Rattle.fluent_syntax_tree.proofs.Lists.{map_added}
 use Rattle.fluent_syntax_parser.specs.Elements.{flushed, item_shape, leading, waiting}
-use Rattle.fluent_syntax_parser.specs.Layouts.{filled, placed, run, with_ending}
+use Rattle.fluent_syntax_grammar.specs.Elements.{filled, with_ending}
+use Rattle.fluent_syntax_grammar.specs.Layout.{placed, run}
 use Rattle.fluent_syntax_parser.specs.Lines.{ending_view, piece_shape}
 use Rattle.fluent_syntax_parser.proofs.patterns.Waiting.{none_leads, placed_added, run_waits}
 use Rattle.fluent_syntax_parser.proofs.pattern.elements.add_pieces.Goals as goal

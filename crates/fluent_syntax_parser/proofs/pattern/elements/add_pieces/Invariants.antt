@@ -1,6 +1,6 @@
 use Rattle.std.proofs.Common.{◌≡◌, ◌++◌, map}
 use Rattle.std.specs.Vec.Iter.{into_iter_items}
-use Rattle.fluent_syntax_parser.specs.Layouts.{with_ending}
+use Rattle.fluent_syntax_grammar.specs.Elements.{with_ending}
 use Rattle.fluent_syntax_parser.specs.Elements.{item_shape, leading, waiting}
 use Rattle.fluent_syntax_parser.specs.Lines.{ending_view, piece_shape}
 use Rattle.fluent_syntax_parser.proofs.pattern.elements.add_pieces.Given as goal

@@ -3,7 +3,8 @@ use Rattle.std.specs.Prelude.{vec_len}
 use Rattle.std.proofs.lemmas.List.{append-nil, map-append, nil_from_length}
 use Rattle.std.proofs.lemmas.Result.{IfOk-equal}
 use Rattle.fluent_syntax_parser.specs.Elements.{item_shape}
-use Rattle.fluent_syntax_parser.specs.Layouts.{run, with_ending}
+use Rattle.fluent_syntax_grammar.specs.Elements.{with_ending}
+use Rattle.fluent_syntax_grammar.specs.Layout.{run}
 use Rattle.fluent_syntax_parser.specs.Lines.{ending_view, piece_shape}
 use Rattle.fluent_syntax_parser.specs.declared.pattern.line.Piece.TheVariants as piece
 use Rattle.fluent_syntax_parser.proofs.patterns.Shapes.{items_are}

@@ -1,7 +1,6 @@
 use Rattle.std.proofs.Common.{◌≡◌, ◌≤◌, map, drop, length}
 use Rattle.std.specs.List.{flat_map}
-use Rattle.fluent_syntax_grammar.specs.Layout.{least}
-use Rattle.fluent_syntax_parser.specs.Layouts.{counted}
+use Rattle.fluent_syntax_grammar.specs.Layout.{least, counted}
 use Rattle.fluent_syntax_parser.specs.Lines.{line_view}
 use Rattle.fluent_syntax_parser.proofs.pattern.indents.common_indent.Given as goal
 

@@ -1,8 +1,7 @@
 use Rattle.std.proofs.Common.{◌≡◌, [], ◌∷◌, ◌++◌, map, ap, ◌∙◌}
 use Rattle.std.specs.List.{flat_map}
-use Rattle.fluent_syntax_grammar.specs.Layout.{least}
+use Rattle.fluent_syntax_grammar.specs.Layout.{least, counted}
 use Rattle.fluent_syntax_parser.specs.Elements.{item_view, last_of}
-use Rattle.fluent_syntax_parser.specs.Layouts.{counted}
 use Rattle.fluent_syntax_parser.specs.Lines.{line_view}
 use Rattle.fluent_syntax_parser.proofs.patterns.Shapes.{items_viewed}
 use Rattle.fluent_syntax_parser.proofs.patterns.Spelled.{none_spelled, some_spelled}

@@ -1,5 +1,5 @@
 use Rattle.std.proofs.Common.{◌≡◌, length, map}
-use Rattle.fluent_syntax_parser.specs.Layouts.{cut}
+use Rattle.fluent_syntax_grammar.specs.Elements.{cut}
 use Rattle.fluent_syntax_parser.specs.Elements.{item_view}
 use Rattle.fluent_syntax_parser.proofs.reader.Reader.pop_last.Given as goal
 

@@ -1,4 +1,5 @@
 use Rattle.std.proofs.Common.{◌==◌, ap, not, refl, string_bytes}
+use Rattle.ftl.specs.Watched.{inner_of}
 use Rattle.ftl_project.specs.Tally.{answered}
 use Rattle.std.specs.Prelude.{Some}
 use Rattle.ftl_project.proofs.Compared.{Compares-told}
@@ -9,23 +10,26 @@ pub returns-in-Ok-clause-counted : goal.returns-in-Ok-clause-counted
 returns-in-Ok-clause-counted g c =
     let written = g.O.Write.contents in
     let compared = c.in-Ok.compared in
-    let after = written c.put.new.writer in
-    on_ok_then c.put.result (λ appends. (
+    let after = written (inner_of c.write_all.new.writer) in
+    on_ok_then c.write_all.result (λ appends. (
       answered compared.errors (not (compared.errors == 0)),
       Some compared.share,
       string_bytes compared.told,
       (compared.share, refl, c.in-Ok.ensures.compared, refl),
       c.count.ensures,
       c.add.ensures,
-      appends_as (written c.args.streams.now.out.now) after after c.as_str.result.now (string_bytes compared.told)
-          appends c.as_str.ensures.value refl,
-    )) c.put.ensures.written
+      appends_as (written (inner_of c.args.streams.now.out.now)) after after c.as_bytes.result.now (string_bytes
+          compared.told)
+          appends c.as_bytes.ensures.value refl,
+    )) c.write_all.ensures.all
 
 pub returns-in-Err-clause-counted : goal.returns-in-Err-clause-counted
 returns-in-Err-clause-counted g c =
     let self = c.args.self.now in
     let at = g.S.Store.bytes_at c.args.store.now in
     let written = g.O.Write.contents in
-    Compares-told self.reading self.form at c.args.pair.now c.tell.result c.in-Err.fault c.args.tally.now
-    c.tell.new.tally c.args.share.now (written c.args.streams.now.out.now) (written c.tell.new.streams.out.now)
-    c.in-Err.ensures.fault c.tell.ensures.counted (ap (λ out. written out.now) c.tell.ensures.out)
+    Compares-told g.S.Store.fails self.reading self.form at c.args.pair.now c.tell.result c.in-Err.fault
+    c.args.tally.now
+    c.tell.new.tally c.args.share.now (written (inner_of c.args.streams.now.out.now)) (written (inner_of
+    c.tell.new.streams.out.now))
+    c.in-Err.ensures.fault c.tell.ensures.counted (ap (λ out. written (inner_of out.now)) c.tell.ensures.out)

@@ -10,7 +10,8 @@ use Rattle.fluent_syntax_grammar.proofs.FunctionalRules.{functional_ending, func
 use Rattle.fluent_syntax_grammar.proofs.FunctionalRules.{functional_pieces}
 use Rattle.fluent_syntax_grammar.proofs.FunctionalWords.{functional_blank_block, functional_inline_blank}
 use Rattle.fluent_syntax_grammar.proofs.Nesting.{functional_within}
-use Rattle.fluent_syntax_parser.specs.Layouts.{placed, with_ending}
+use Rattle.fluent_syntax_grammar.specs.Elements.{with_ending}
+use Rattle.fluent_syntax_grammar.specs.Layout.{placed}
 use Rattle.fluent_syntax_parser.specs.Lines.{line_view, piece_view}
 use Rattle.fluent_syntax_parser.specs.Made.{made}
 use Rattle.fluent_syntax_parser.specs.Meets.{no_memory, refused}

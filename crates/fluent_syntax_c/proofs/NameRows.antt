@@ -1,0 +1,133 @@
+-- Rows of names.
+use Rattle.std.proofs.Common.{◌≡◌, ◌<◌, ◌≤◌, ◌+◌, ◌++◌, [], ◌∷◌, ℕ, List, length, get_or, map, arith}
+use Rattle.std.proofs.Common.{sym, ap, ◌∙◌, refl, subst, append_assoc, append-nil, length-append}
+use Rattle.std.specs.Global.{Global}
+use Rattle.std.specs.Prelude.{Vec, Result, Ok, Err, IfOk}
+use Rattle.std.specs.Str.{IsCharBoundary, IsUtf8}
+use Rattle.std.proofs.lemmas.Str.{IsCharBoundary-start}
+use Rattle.fluent_syntax_tree.specs.Entry.{EntryTree, junk}
+use Rattle.fluent_syntax_tree.specs.Every.{attribute_every, entry_every, list_every}
+use Rattle.fluent_syntax_tree.specs.Spans.{IsPart}
+use Rattle.fluent_syntax_tree.specs.View.{attribute_view}
+use Rattle.fluent_syntax_tree.specs.declared.ast.Attribute.{Attribute}
+use Rattle.fluent_syntax_tree.specs.declared.ast.Entry.{Entry}
+use Rattle.fluent_syntax_tree.specs.declared.edition.Edition.{Edition}
+use Rattle.fluent_syntax_tree.specs.declared.spans.Span.{Span}
+use Rattle.fluent_syntax_tree.proofs.Every.{every_item}
+use Rattle.fluent_syntax_grammar.specs.Body.{alone}
+use Rattle.fluent_syntax_grammar.specs.Places.{BlankBlock}
+use Rattle.fluent_syntax_grammar.specs.Tiling.{Tile, Tiled, TileAt, Tiling, done, next, reads, refuses}
+use Rattle.fluent_syntax_grammar.proofs.Boundaries.{boundary_cuts}
+use Rattle.fluent_syntax_grammar.proofs.Cuts.{block_place}
+use Rattle.fluent_syntax_grammar.proofs.OneTiling.{one_tiling}
+use Rattle.fluent_syntax_grammar.proofs.SoundTiling.{EndedTile, GoodTile, tile_good}
+use Rattle.fluent_syntax_parser.specs.Rest.{tree_of}
+use Rattle.fluent_syntax_parser.specs.Tiles.{TileTo}
+use Rattle.fluent_syntax_parser.specs.declared.tiles.FoundTile.{FoundTile}
+use Rattle.fluent_syntax_c.specs.Names.{NamesTiles, are_names, entry_rows, tile_rows, tiles_rows}
+use Rattle.fluent_syntax_c.specs.declared.names.FtlName.{FtlName}
+
+-- the name of an attribute of a tree of the text lies within the text
+pub attribute_inside : (t s : List ℕ) (attributes items : List (Attribute Span)) (i : ℕ) (a : Attribute Span) →
+    list_every (attribute_every (IsPart t)) (map (attribute_view (λ s. s)) attributes) → items ≡ attributes →
+    i < length items → a ≡ get_or items i a → s ≡ t → a.id.name.start ≤ length s
+attribute_inside t s attributes items i a all same l is text =
+    let h : attribute_every (IsPart t) (attribute_view (λ s. s) a) =
+    every_item (attribute_every (IsPart t)) (attribute_view (λ s. s)) attributes items i a all same l is in
+    subst (λ u. a.id.name.start ≤ length u) (sym text) h.0.1.0
+
+-- one more tile's rows
+rows_behind : (t : List ℕ) (n : ℕ) (tiles : List Tile) (tile : Tile) →
+    tiles_rows t n (tiles ++ (tile ∷ []))
+    ≡ tiles_rows t n tiles ++ tile_rows t (n + length (tiles_rows t n tiles)) tile
+rows_behind t n [] tile =
+    let same : n ≡ n + 0 = omega arith in
+    append-nil (tile_rows t n tile) ∙ ap (λ m. tile_rows t m tile) same
+rows_behind t n (x ∷ xs) tile =
+    let own = tile_rows t n x in
+    let m = n + length own in
+    let others = tiles_rows t m xs in
+    let counted : m + length others ≡ n + length (own ++ others) = omega (arith, length-append own others) in
+    ap (λ rows. own ++ rows) (rows_behind t m xs tile)
+    ∙ sym (append_assoc own others (tile_rows t (m + length others) tile))
+    ∙ ap (λ k. (own ++ others) ++ tile_rows t k tile) counted
+
+module _ (edition : Edition) (t : List ℕ) where
+  -- The rows are those of tiles that lead up to the place i.
+  pub record NamesTo (i : ℕ) (rows : List FtlName) : Type 0 where
+    pub boundary : IsCharBoundary t i
+    pub tiles : List Tile
+    pub rows_are : rows ≡ tiles_rows t 0 tiles
+    pub whole : (more : List Tile) → Tiled t (TileAt edition t) i more → Tiled t (TileAt edition t) 0 (tiles ++ more)
+
+  pub names_of_nothing : IsUtf8 t → NamesTo 0 []
+  names_of_nothing utf8 = record {
+    boundary = IsCharBoundary-start t utf8;
+    tiles = [];
+    rows_are = refl;
+    whole = λ more tiled. tiled;
+  }
+
+  -- a tile gives the rows of its entry
+  rows_given : (s : Span) (tile : Tile) (e : Entry Span) (n : ℕ) → TileAt edition t s.start s.end tile →
+      alone tile ≡ tree_of e ∷ [] → tile_rows t n tile ≡ entry_rows t n s (tree_of e)
+  rows_given s tile e n (reads {e = v} r) given = let same : v ≡ tree_of e = cc in ap (entry_rows t n s) same
+  rows_given s tile e n (refuses r end) given = let same : junk s ≡ tree_of e = cc in ap (entry_rows t n s) same
+
+  module _ (utf8 : IsUtf8 t) (i j : ℕ) (found : FoundTile) (rows : List FtlName) (names : NamesTo i rows)
+      (to : TileTo edition t i j found) where
+    ends_there : EndedTile edition t (IsCharBoundary t) (boundary_cuts t utf8) found.span.start found.span.end to.tile
+    ends_there =
+        let cuts = boundary_cuts t utf8 in
+        tile_good edition t (IsCharBoundary t) cuts found.span.start found.span.end to.tile
+        (block_place t (IsCharBoundary t) cuts i found.span.start names.boundary to.blank) to.inside to.stands
+
+    parts_given : (tile : Tile) → TileAt edition t found.span.start found.span.end tile →
+        alone tile ≡ tree_of found.entry ∷ [] →
+        GoodTile edition t (IsCharBoundary t) (boundary_cuts t utf8) tile →
+        entry_every (IsPart t) (tree_of found.entry)
+    parts_given tile (reads {e = v} r) given good =
+        let same : v ≡ tree_of found.entry = cc in subst (entry_every (IsPart t)) same good.2
+    parts_given tile (refuses r end) given good =
+        let same : junk found.span ≡ tree_of found.entry = cc in subst (entry_every (IsPart t)) same good.1
+
+    -- the texts of what was found are parts of the source
+    pub parts_found : entry_every (IsPart t) (tree_of found.entry)
+    parts_found = parts_given to.tile to.stands to.gives.entry ends_there.good
+
+    -- its rows behind those before it
+    pub names_on : (new : List FtlName) → new ≡ rows ++ entry_rows t (length rows) found.span (tree_of found.entry) →
+        NamesTo j new
+    names_on new added =
+        let own = rows_given found.span to.tile found.entry (length rows) to.stands to.gives.entry in
+        let counted : length rows ≡ 0 + length rows = omega arith in
+        record {
+          boundary = subst (IsCharBoundary t) (sym to.ends) ends_there.place;
+          tiles = names.tiles ++ (to.tile ∷ []);
+          rows_are =
+              added ∙ ap (λ given. rows ++ given) (sym own)
+              ∙ ap (λ n. rows ++ tile_rows t n to.tile) counted
+              ∙ ap (λ before. before ++ tile_rows t (0 + length before) to.tile) names.rows_are
+              ∙ sym (rows_behind t 0 names.tiles to.tile);
+          whole = λ more tiled.
+              subst (Tiled t (TileAt edition t) 0) (sym (append_assoc names.tiles (to.tile ∷ []) more))
+              (names.whole (to.tile ∷ more)
+              (next to.blank to.inside to.stands (subst (λ k. Tiled t (TileAt edition t) k more) to.ends tiled)));
+        }
+
+  -- the rows of the whole text, where nothing but a blank block is left
+  pub names_of_all : (i : ℕ) (rows : List FtlName) → NamesTo i rows → BlankBlock t i (length t) →
+      NamesTiles edition t rows
+  names_of_all i rows names blank = record {
+    tiles = names.tiles;
+    has_tiles = subst (Tiled t (TileAt edition t) 0) (append-nil names.tiles) (names.whole [] (done blank));
+    rows_are = names.rows_are;
+  }
+
+-- the rows of a tiling of the text are those of each
+pub names_of_tiling : {E : Type 0} (edition : Edition) (t : List ℕ) (tiles : List Tile) → Tiling edition t tiles →
+    (answer : Result (Vec FtlName Global) E) → IfOk answer (λ rows. NamesTiles edition t rows.items) →
+    IfOk answer (λ rows. are_names edition t tiles rows.items)
+names_of_tiling edition t tiles tiling (Ok rows) found =
+    found.rows_are ∙ ap (tiles_rows t 0) (one_tiling edition t found.tiles tiles found.has_tiles tiling)
+names_of_tiling edition t tiles tiling (Err e) found = found

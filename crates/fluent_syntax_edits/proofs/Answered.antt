@@ -1,0 +1,36 @@
+-- Answers of edits.
+use Rattle.std.proofs.Common.{◌≡◌, ◌⊎◌, inl, inr, ℕ, List, Result, Ok, Err, String, subst}
+use Rattle.std.specs.Prelude.{IsErrAnd}
+use Rattle.std.specs.Global.{Global}
+use Rattle.fluent_syntax_tree.specs.declared.edition.Edition.{Edition}
+use Rattle.fluent_syntax_tree.specs.declared.spans.Span.{Span}
+use Rattle.fluent_syntax_edits.specs.Changes.{Change, refusal}
+use Rattle.fluent_syntax_edits.specs.Edits.{Answers, ReadsChanged, new_text, no_memory, no_stretch, read_otherwise}
+use Rattle.fluent_syntax_edits.specs.Places.{StretchOf}
+use Rattle.fluent_syntax_edits.specs.declared.fault.EditFault.{EditFault}
+use Rattle.fluent_syntax_edits.specs.declared.fault.EditFault.TheVariants.{Memory}
+
+module _ (edition : Edition) (t : List ℕ) (n : ℕ) (change : Change) where
+  -- a growth was refused
+  pub no_growth : (r : Result (String Global) EditFault) → IsErrAnd r (λ fault. fault ≡ Memory) →
+      Answers edition t n change r
+  no_growth (Ok made) h = absurd h
+  no_growth (Err fault) h = rw h no_memory
+
+  -- there is no stretch, or no memory
+  pub no_place : (fault : EditFault) → let r : Result Span EditFault = Err fault in
+      (r ≡ Err Memory) ⊎ StretchOf edition t n change r → Answers edition t n change (Err fault)
+  no_place fault (inl e) = let same : fault ≡ Memory = cc in rw same no_memory
+  no_place fault (inr x) = no_stretch x
+
+  pub place : (s : Span) → let r : Result Span EditFault = Ok s in
+      (r ≡ Err Memory) ⊎ StretchOf edition t n change r → StretchOf edition t n change r
+  place s (inl e) = cc
+  place s (inr x) = x
+
+  -- what was made is not read so
+  pub refused : (s : Span) (made : List ℕ) (fault : EditFault) → StretchOf edition t n change (Ok s) →
+      made ≡ new_text edition t n change s → (ReadsChanged edition t n change s made → ⊥) →
+      fault ≡ refusal edition change → Answers edition t n change (Err fault)
+  refused s made fault x bytes otherwise e =
+      rw e (read_otherwise s x (subst (λ u. ReadsChanged edition t n change s u → ⊥) bytes otherwise))

@@ -1,5 +1,0 @@
-use Rattle.fluent_syntax_tree.proofs.Every.{entry_always}
-use Rattle.fluent_syntax_edits.proofs.trees.own_entry.Goals as goal
-
-pub entry-requires : goal.entry-requires
-entry-requires c = record { each = entry_always _ }

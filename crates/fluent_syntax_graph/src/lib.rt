@@ -1,7 +1,0 @@
-//! Which nodes of a directed graph lie on a circle together.
-#![tactic(auto)]
-
-mod parting;
-mod search;
-
-pub use parting::components;

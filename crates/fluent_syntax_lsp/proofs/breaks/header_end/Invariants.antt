@@ -1,6 +1,0 @@
-use Rattle.std.proofs.Common.{ℕ, ◌<◌, ◌+◌}
-use Rattle.fluent_syntax_lsp.specs.Breaks.{Breaks}
-use Rattle.fluent_syntax_lsp.proofs.breaks.header_end.Given as goal
-
-abbrev pub invariant-loop-at : goal.invariant-loop-at
-invariant-loop-at l = (k : ℕ) → k < l.at → ¬ (Breaks l.bytes k × Breaks l.bytes (k + 2))

@@ -1,5 +1,0 @@
-use Rattle.fluent_syntax_rules.proofs.Bytes.{has_crlf-after}
-use Rattle.fluent_syntax_rules.proofs.texts.has_crlf.Goals as goal
-
-pub loop-byte-init : goal.loop-byte-init
-loop-byte-init c = record { rest = has_crlf-after c.args.bytes.now }

@@ -1,4 +1,0 @@
-use Rattle.fluent_syntax_rules.proofs.texts.is_nonblank.Goals as goal
-
-pub returns : goal.returns
-returns c = rw (c.is_nonblank.ensures, c.as_bytes.ensures.value)

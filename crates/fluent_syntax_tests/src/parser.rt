@@ -1,0 +1,7 @@
+//! Texts whose trees and errors are known.
+
+mod entries;
+mod errors;
+mod nesting;
+mod one_by_one;
+mod spans;

@@ -1,0 +1,9 @@
+pub mod Bytes
+pub mod EveryRule
+pub mod FirstBroken
+pub mod Lines
+pub mod Named
+pub mod Nodes
+pub mod Stands
+pub mod Steps
+pub mod Strings

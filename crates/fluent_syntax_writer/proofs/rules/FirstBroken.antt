@@ -1,0 +1,164 @@
+-- What is found first: that there is nothing exactly where a tree is canonical, and that what is named is so.
+use Rattle.std.proofs.Common.{◌≡◌, ℕ, suc, ◌+◌, List, [], ◌∷◌, take, Option, Some, None, Bool, true, false, ◌&&◌}
+use Rattle.std.proofs.Common.{not, refl, sym, ap, subst, ◌∙◌, arith}
+use Rattle.std.specs.Prelude.{is_none, slice_get, IfSome}
+use Rattle.std.specs.List.{list_all, find}
+use Rattle.std.proofs.Math.Bool.{cond}
+use Rattle.fluent_syntax_tree.specs.Entry.{EntryTree, BodyTree}
+use Rattle.fluent_syntax_tree.specs.declared.edition.Edition.{Edition}
+use Rattle.fluent_syntax_grammar.specs.Canonical.{canonical_rules, is_canonical}
+use Rattle.fluent_syntax_grammar.specs.Rules.{entry_obeys}
+use Rattle.fluent_syntax_grammar.specs.Written.{Text}
+use Rattle.fluent_syntax_writer.specs.Alone.{every_rule, entry_keeps}
+use Rattle.fluent_syntax_writer.specs.Uncanonical.{broken_rule, or_after, first_from, first_uncanonical, IsFirstBroken}
+use Rattle.fluent_syntax_writer.specs.declared.canonical.first.Uncanonical.{Uncanonical}
+use Rattle.fluent_syntax_writer.specs.declared.canonical.rules.Rule.{Rule}
+use Rattle.fluent_syntax_writer.proofs.rules.EveryRule.{keeps_every}
+
+-- ---- The first that a test refuses
+
+module _ {X : Type 0} (test : X → Bool) where
+  abbrev refused : List X → Option X
+  refused xs = find (λ x. not (test x)) xs
+
+  none_after : (b : Bool) (x : X) (o : Option X) (all : Bool) → is_none o ≡ all
+      → is_none (cond (not b) (Some x) o) ≡ (b && all)
+  none_after true x o all e = e
+  none_after false x o all e = refl
+
+  none_refused : (xs : List X) → is_none (refused xs) ≡ list_all test xs
+  none_refused [] = refl
+  none_refused (x ∷ xs) = none_after (test x) x (refused xs) (list_all test xs) (none_refused xs)
+
+  -- the item is refused, and all before it pass
+  record IsRefused (xs : List X) (found : X) : Type 0 where
+    before : ℕ
+    there : slice_get xs before ≡ Some found
+    fails : test found ≡ false
+    pass : list_all test (take before xs) ≡ true
+
+  refused_later : (x : X) (xs : List X) (found : X) → test x ≡ true → IsRefused xs found → IsRefused (x ∷ xs) found
+  refused_later x xs found passes rest =
+      record { before = suc rest.before; there = rest.there; fails = rest.fails; pass = rw passes rest.pass }
+
+  refused_now : (x : X) (xs : List X) (found : X) → test x ≡ false → x ≡ found → IsRefused (x ∷ xs) found
+  refused_now x xs found fails same =
+      record { before = 0; there = ap Some same; fails = ap test (sym same) ∙ fails; pass = refl }
+
+  refused_by : (x : X) (xs : List X) (found : X) (b : Bool) → test x ≡ b
+      → (refused xs ≡ Some found → IsRefused xs found)
+      → cond (not b) (Some x) (refused xs) ≡ Some found → IsRefused (x ∷ xs) found
+  refused_by x xs found true passes rest is = refused_later x xs found passes (rest is)
+  refused_by x xs found false fails rest is =
+      let same : x ≡ found = cc in
+      refused_now x xs found fails same
+
+  refused_is : (xs : List X) (found : X) → refused xs ≡ Some found → IsRefused xs found
+  refused_is [] found is = cc
+  refused_is (x ∷ xs) found is = refused_by x xs found (test x) refl (refused_is xs found) is
+
+is_none-None : {X : Type 0} (o : Option X) → is_none o ≡ true → None ≡ o
+is_none-None None is = refl
+is_none-None (Some x) is = cc
+
+-- ---- The rule that an entry breaks
+
+pub none_broken : (edition : Edition) (e : EntryTree Text)
+    → is_none (broken_rule edition e) ≡ entry_obeys (canonical_rules edition) e
+none_broken edition e =
+    none_refused (λ rule. entry_keeps edition rule e) every_rule ∙ sym (keeps_every edition e)
+
+pub keeps_all : (edition : Edition) (e : EntryTree Text) → entry_obeys (canonical_rules edition) e ≡ true
+    → None ≡ broken_rule edition e
+keeps_all edition e canonical = is_none-None (broken_rule edition e) (none_broken edition e ∙ canonical)
+
+-- ---- The entry that breaks one
+
+none_in_order : (n : ℕ) (o : Option Rule) (after : Option Uncanonical)
+    → is_none (or_after n o after) ≡ (is_none o && is_none after)
+none_in_order n None after = refl
+none_in_order n (Some rule) after = refl
+
+none_from : (edition : Edition) (n : ℕ) (body : BodyTree Text)
+    → is_none (first_from edition n body) ≡ is_canonical edition body
+none_from edition n [] = refl
+none_from edition n (e ∷ es) =
+    none_in_order n (broken_rule edition e) (first_from edition (n + 1) es)
+    ∙ rw (none_broken edition e, none_from edition (n + 1) es)
+
+-- Nothing is found exactly where the tree is canonical.
+pub none_uncanonical : (edition : Edition) (body : BodyTree Text)
+    → is_none (first_uncanonical edition body) ≡ is_canonical edition body
+none_uncanonical edition body = none_from edition 0 body
+
+module _ (edition : Edition) where
+  -- what was found among entries of which the first has the number n
+  record IsFound (n : ℕ) (body : BodyTree Text) (found : Uncanonical) : Type 0 where
+    before : ℕ
+    number : found.entry ≡ n + before
+    first : IsFirstBroken edition body (record { entry = before; rule = found.rule })
+
+  found_now : (n : ℕ) (e : EntryTree Text) (es : BodyTree Text) (rule : Rule) (found : Uncanonical)
+      → broken_rule edition e ≡ Some rule → record { entry = n; rule = rule } ≡ found → IsFound n (e ∷ es) found
+  found_now n e es rule found broken same =
+      let number : found.entry ≡ n = cc in
+      let named : found.rule ≡ rule = cc in
+      let is = refused_is (λ r. entry_keeps edition r e) every_rule rule broken in
+      record {
+        before = 0;
+        number = omega (arith, number);
+        first = record {
+          before = refl;
+          entry = e;
+          there = refl;
+          breaks = rw named is.fails;
+          kept = is.before;
+          named = rw named is.there;
+          first = is.pass;
+        };
+      }
+
+  found_later : (n : ℕ) (e : EntryTree Text) (es : BodyTree Text) (found : Uncanonical)
+      → broken_rule edition e ≡ None → IsFound (n + 1) es found → IsFound n (e ∷ es) found
+  found_later n e es found keeps rest =
+      let canonical : entry_obeys (canonical_rules edition) e ≡ true = sym (none_broken edition e) ∙ ap is_none keeps in
+      let first = rest.first in
+      record {
+        before = suc rest.before;
+        number = omega (arith, rest.number);
+        first = record {
+          before = rw canonical first.before;
+          entry = first.entry;
+          there = first.there;
+          breaks = first.breaks;
+          kept = first.kept;
+          named = first.named;
+          first = first.first;
+        };
+      }
+
+  found_by : (n : ℕ) (e : EntryTree Text) (es : BodyTree Text) (found : Uncanonical) (o : Option Rule)
+      → broken_rule edition e ≡ o
+      → (first_from edition (n + 1) es ≡ Some found → IsFound (n + 1) es found)
+      → or_after n o (first_from edition (n + 1) es) ≡ Some found → IsFound n (e ∷ es) found
+  found_by n e es found None keeps rest is = found_later n e es found keeps (rest is)
+  found_by n e es found (Some rule) broken rest is = found_now n e es rule found broken cc
+
+  found_is : (n : ℕ) (body : BodyTree Text) (found : Uncanonical) → first_from edition n body ≡ Some found
+      → IsFound n body found
+  found_is n [] found is = cc
+  found_is n (e ∷ es) found is =
+      found_by n e es found (broken_rule edition e) refl (found_is (n + 1) es found) is
+
+  -- What is found is so.
+  found_first : (body : BodyTree Text) (found : Uncanonical) → first_uncanonical edition body ≡ Some found
+      → IsFirstBroken edition body found
+  found_first body found is =
+      let here = found_is 0 body found is in
+      let number : here.before ≡ found.entry = omega (arith, here.number) in
+      subst (λ n. IsFirstBroken edition body (record { entry = n; rule = found.rule })) number here.first
+
+  pub first_is_broken : (body : BodyTree Text) (o : Option Uncanonical) → o ≡ first_uncanonical edition body
+      → IfSome o (λ found. IsFirstBroken edition body found)
+  first_is_broken body None is = tt
+  first_is_broken body (Some found) is = found_first body found (sym is)

@@ -1,0 +1,50 @@
+-- The least number of the lines of a pattern.
+use Rattle.std.proofs.Common.{◌≡◌, ℕ, min, List, ◌++◌, ◌&&◌, ◌||◌, not, true, false, Option, Some, None, refl, sym}
+use Rattle.std.proofs.Common.{ap, ◌∙◌, arith}
+use Rattle.std.specs.Prelude.{option_to_list}
+use Rattle.fluent_syntax_tree.specs.Tree.{ElementTree, text_element, placeable, PatternTree, elements}
+use Rattle.fluent_syntax_tree.specs.declared.edition.Edition.{Edition}
+use Rattle.fluent_syntax_grammar.specs.Canonical.{line_numbers, hides_mark, first_stand, are_flush, is_flush}
+use Rattle.fluent_syntax_grammar.specs.Layout.{least, least_with}
+use Rattle.fluent_syntax_grammar.specs.Readable.{Stand}
+use Rattle.fluent_syntax_grammar.specs.Written.{Text, is_multiline}
+use Rattle.fluent_syntax_writer.specs.Places.{stand_past, numbers_at, lesser}
+
+lesser-assoc : (a b c : Option ℕ) → lesser a (lesser b c) ≡ lesser (lesser a b) c
+lesser-assoc None b c = refl
+lesser-assoc (Some a) None c = refl
+lesser-assoc (Some a) (Some b) None = refl
+lesser-assoc (Some a) (Some b) (Some c) = let same : min a (min b c) ≡ min (min a b) c = omega arith in ap Some same
+
+least-before : (number : Option ℕ) (numbers : List ℕ)
+    → least (option_to_list number ++ numbers) ≡ lesser number (least numbers)
+least-before None numbers = refl
+least-before (Some n) numbers = by_rest (least numbers)
+  where
+    by_rest : (m : Option ℕ) → Some (least_with n m) ≡ lesser (Some n) m
+    by_rest None = refl
+    by_rest (Some m) = refl
+
+by_form : (edition : Edition) (s : Stand) (e : ElementTree Text) (es : PatternTree Text)
+    → line_numbers edition s (elements e es) ≡ numbers_at edition s e ++ line_numbers edition (stand_past e) es
+by_form edition s (text_element v) es = refl
+by_form edition s (placeable e) es = refl
+
+-- the least so far, and that of the lines that are left
+pub least-step : (edition : Edition) (s : Stand) (e : ElementTree Text) (es : PatternTree Text)
+    (so_far number : Option ℕ) → option_to_list number ≡ numbers_at edition s e
+    → lesser so_far (least (line_numbers edition s (elements e es)))
+    ≡ lesser (lesser so_far number) (least (line_numbers edition (stand_past e) es))
+least-step edition s e es so_far number is =
+    let later = line_numbers edition (stand_past e) es in
+    ap (λ ns. lesser so_far (least ns)) (by_form edition s e es)
+    ∙ ap (λ ns. lesser so_far (least (ns ++ later))) (sym is)
+    ∙ ap (lesser so_far) (least-before number later)
+    ∙ lesser-assoc so_far number (least later)
+
+-- A multiline pattern whose first text hides no mark is flush by its lines.
+pub flush_by_lines : (edition : Edition) (p : PatternTree Text) → is_multiline p ≡ true → hides_mark p ≡ false
+    → is_flush edition p ≡ are_flush (least (line_numbers edition (first_stand p) p)) (first_stand p) p
+flush_by_lines edition p spans shows =
+    let lines = are_flush (least (line_numbers edition (first_stand p) p)) (first_stand p) p in
+    ap (λ b. not b || not (hides_mark p) && lines) spans ∙ ap (λ b. not b && lines) shows

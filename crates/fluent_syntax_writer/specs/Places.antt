@@ -1,0 +1,70 @@
+-- Where the elements of a pattern stand, one by one.
+use Rattle.std.specs.Prelude.{ℕ, List, [], Option, Some, None, Bool, true, false, ◌&&◌, ◌||◌, not, min, if◌then◌else◌}
+use Rattle.fluent_syntax_tree.specs.Tree.{ElementTree, text_element, placeable, PatternTree}
+use Rattle.fluent_syntax_tree.specs.declared.edition.Edition.{Edition}
+use Rattle.fluent_syntax_grammar.specs.Readable as grammar
+use Rattle.fluent_syntax_grammar.specs.Readable.{is_text, stands_well, ends_well, is_line_start, stand_after}
+use Rattle.fluent_syntax_grammar.specs.Canonical.{text_numbers, placeable_numbers}
+use Rattle.fluent_syntax_grammar.specs.PatternTexts.{is_lone_lf, begins_with_space, after_spaces}
+use Rattle.fluent_syntax_grammar.specs.Written.{Text, begins_with_mark}
+use Rattle.fluent_syntax_writer.specs.Alone.{text_keeps}
+use Rattle.fluent_syntax_writer.specs.declared.canonical.rules.Rule.{Rule}
+use Rattle.fluent_syntax_writer.specs.declared.canonical.elements.Stand.{Stand}
+use Rattle.fluent_syntax_writer.specs.declared.canonical.elements.Stand.TheVariants as code
+
+abbrev pub stand_of : Stand → grammar.Stand
+stand_of code.Opening = grammar.opening
+stand_of code.AfterLine = grammar.after_line
+stand_of code.WithinLine = grammar.within_line
+stand_of code.AfterPlaceable = grammar.after_placeable
+
+-- where the element stands that follows this one
+abbrev pub stand_past : ElementTree Text → grammar.Stand
+stand_past (text_element v) = stand_after v
+stand_past (placeable e) = grammar.after_placeable
+
+abbrev pub is_placeable : ElementTree Text → Bool
+is_placeable (text_element v) = false
+is_placeable (placeable e) = true
+
+-- the rules of one element, by those that follow it
+abbrev pub is_element :
+    Edition → (multiline : Bool) → grammar.Stand → ElementTree Text → (rest : PatternTree Text) → Bool
+is_element edition multiline s (text_element v) rest =
+    is_text v && (stands_well edition multiline s v rest && ends_well v rest)
+is_element edition multiline s (placeable e) rest = true
+
+-- one rule of one element, by those that follow it
+abbrev pub element_keeps :
+    Edition → Rule → (multiline : Bool) → grammar.Stand → ElementTree Text → (rest : PatternTree Text) → Bool
+element_keeps edition rule multiline s (text_element v) rest = text_keeps edition rule multiline s v rest
+element_keeps edition rule multiline s (placeable e) rest = true
+
+-- the numbers of a line that begins with the element
+abbrev pub element_numbers : Edition → ElementTree Text → List ℕ
+element_numbers edition (text_element v) = text_numbers edition v
+element_numbers edition (placeable e) = placeable_numbers edition
+
+-- the numbers of the line that begins at the element
+abbrev pub numbers_at : Edition → grammar.Stand → ElementTree Text → List ℕ
+numbers_at edition s e = if is_line_start s then element_numbers edition e else []
+
+-- the lesser of two numbers, or the one that is there
+abbrev pub lesser : Option ℕ → Option ℕ → Option ℕ
+lesser None n = n
+lesser (Some m) None = Some m
+lesser (Some m) (Some n) = Some (min m n)
+
+-- a text that begins with spaces and then `.`, `[` or `*`
+abbrev pub element_hides_mark : ElementTree Text → Bool
+element_hides_mark (text_element v) = begins_with_space v && begins_with_mark (after_spaces v)
+element_hides_mark (placeable e) = false
+
+-- a placeable, or a text that is one LF
+abbrev pub is_lone : ElementTree Text → Bool
+is_lone (text_element v) = is_lone_lf v
+is_lone (placeable e) = true
+
+-- the rule of one element where no line has a number
+abbrev pub stands_lone : grammar.Stand → ElementTree Text → Bool
+stands_lone s e = not (is_line_start s) || is_lone e

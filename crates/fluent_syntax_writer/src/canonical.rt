@@ -1,0 +1,152 @@
+//! Tests of trees: which look like a tree that was read, and which read back once they are written.
+//!
+//! No test needs memory. Those that take an allocator look many names of arguments up in a table, as far as there is
+//! memory for it.
+ghost use Rattle.std.specs.Prelude.{◌≡◌, is_none, IfSome};
+ghost use Rattle.fluent_syntax_tree.specs.View.{resource_view, entry_view};
+ghost use Rattle.fluent_syntax_grammar.specs.Readable.{is_readable};
+ghost use Rattle.fluent_syntax_grammar.specs.Canonical.{is_canonical, canonical_rules};
+ghost use Rattle.fluent_syntax_grammar.specs.Rules.{entry_obeys};
+ghost use Rattle.fluent_syntax_writer.specs.Uncanonical.{broken_rule, first_uncanonical, IsFirstBroken};
+
+mod alone;
+mod argument_names;
+mod arguments;
+mod asked;
+mod comments;
+mod elements;
+mod entries;
+mod expressions;
+mod first;
+mod flush;
+pub mod patterns;
+mod rules;
+mod spellings;
+mod standard;
+pub mod texts;
+mod walk;
+
+use asked::Asked;
+pub use first::Uncanonical;
+use fluent_syntax_tree::ast::{Entry, Resource};
+use fluent_syntax_tree::edition::Edition;
+use fluent_syntax_tree::slice::Slice;
+use fluent_syntax_tree::texts::BySlice;
+pub use rules::Rule;
+use standard::Standard;
+use std::alloc::Global;
+use walk::body_obeys;
+
+/// Whether the tree is canonical in the edition. Then it is read back, text by text, from the text that it is written
+/// as.
+///
+/// Takes no memory. The time is that of a walk over the tree, and quadratic in the named arguments of one list.
+pub fn is_canonical<'s, S: Slice<'s>>(r: &Resource<S>, edition: Edition) -> bool
+    ensures exact { result ≡ is_canonical edition (resource_view S.text r.now) }
+{
+    let canonical = Asked {
+        standard: Standard::Canonical(edition),
+        alloc: None,
+    };
+    body_obeys::<S, BySlice<'s>>(canonical, &r.body)
+}
+
+/// Whether the tree is readable in the edition: it looks like a tree that was read. Each canonical tree is.
+///
+/// Takes no memory. The time is that of a walk over the tree, and quadratic in the named arguments of one list.
+pub fn is_readable<'s, S: Slice<'s>>(r: &Resource<S>, edition: Edition) -> bool
+    ensures exact { result ≡ is_readable edition (resource_view S.text r.now) }
+{
+    let readable = Asked {
+        standard: Standard::Readable(edition),
+        alloc: None,
+    };
+    body_obeys::<S, BySlice<'s>>(readable, &r.body)
+}
+
+/// The first entry of the tree that is not canonical in the edition, and the first rule that it breaks, in the order of
+/// `Rule`; `None` where the tree is canonical.
+///
+/// - `exact`: so the answer depends on the tree's texts and the edition alone.
+/// - `none`: it is `None` exactly where `is_canonical` returns `true`.
+/// - `first`: the entries before it are canonical, and it breaks that rule, and none before that one.
+///
+/// Whether a tree reads back once it is formatted is asked of its joined tree. The entries of that are those of the
+/// tree without its junk, in their order: the entry is, in the tree, the one before which so many entries stand that
+/// are no junk. The tree of a text without errors has no junk, so there both numbers are one.
+///
+/// Takes no memory. The time is that of a walk over the tree, and of one walk more over that entry for each rule; and
+/// quadratic in the named arguments of one list.
+pub fn first_uncanonical<'s, S: Slice<'s>>(
+    tree: &Resource<S>,
+    edition: Edition,
+) -> Option<Uncanonical>
+    ensures exact { result ≡ first_uncanonical edition (resource_view S.text tree.now) }
+    ensures none { is_none result ≡ is_canonical edition (resource_view S.text tree.now) }
+    ensures first { IfSome result (λ found. IsFirstBroken edition (resource_view S.text tree.now) found) }
+{
+    first_uncanonical_by(None, tree, edition)
+}
+
+/// What `first_uncanonical` gives, in time near that of walks over the tree for every tree.
+///
+/// The names of an argument list of 32 named arguments and more are looked up in a table. Where a growth of it is
+/// refused they are compared one by one.
+pub fn first_uncanonical_with<'s, S: Slice<'s>>(
+    alloc: Global,
+    tree: &Resource<S>,
+    edition: Edition,
+) -> Option<Uncanonical>
+    ensures exact { result ≡ first_uncanonical edition (resource_view S.text tree.now) }
+    ensures none { is_none result ≡ is_canonical edition (resource_view S.text tree.now) }
+    ensures first { IfSome result (λ found. IsFirstBroken edition (resource_view S.text tree.now) found) }
+{
+    first_uncanonical_by(Some(alloc), tree, edition)
+}
+
+fn first_uncanonical_by<'s, S: Slice<'s>>(
+    alloc: Option<Global>,
+    tree: &Resource<S>,
+    edition: Edition,
+) -> Option<Uncanonical>
+    ensures exact { result ≡ first_uncanonical edition (resource_view S.text tree.now) }
+    ensures none { is_none result ≡ is_canonical edition (resource_view S.text tree.now) }
+    ensures first { IfSome result (λ found. IsFirstBroken edition (resource_view S.text tree.now) found) }
+{
+    first::first_uncanonical::<S, BySlice<'s>>(alloc, edition, &tree.body)
+}
+
+/// The first rule of canonical trees that the entry breaks in the edition; `None` where it breaks none. A tree is
+/// canonical where each of its entries is by itself, so this tells a caller who has one entry at a time.
+///
+/// Takes no memory. The time is that of a walk over the entry for each rule, and quadratic in the named arguments of
+/// one list.
+pub fn broken_rule<'s, S: Slice<'s>>(entry: &Entry<S>, edition: Edition) -> Option<Rule>
+    ensures exact { result ≡ broken_rule edition (entry_view S.text entry.now) }
+    ensures none { is_none result ≡ entry_obeys (canonical_rules edition) (entry_view S.text entry.now) }
+{
+    broken_rule_by(None, entry, edition)
+}
+
+/// What `broken_rule` gives, in time near that of walks over the entry for every entry, as `first_uncanonical_with`.
+pub fn broken_rule_with<'s, S: Slice<'s>>(
+    alloc: Global,
+    entry: &Entry<S>,
+    edition: Edition,
+) -> Option<Rule>
+    ensures exact { result ≡ broken_rule edition (entry_view S.text entry.now) }
+    ensures none { is_none result ≡ entry_obeys (canonical_rules edition) (entry_view S.text entry.now) }
+{
+    broken_rule_by(Some(alloc), entry, edition)
+}
+
+fn broken_rule_by<'s, S: Slice<'s>>(
+    alloc: Option<Global>,
+    entry: &Entry<S>,
+    edition: Edition,
+) -> Option<Rule>
+    ensures exact { result ≡ broken_rule edition (entry_view S.text entry.now) }
+    ensures none { is_none result ≡ entry_obeys (canonical_rules edition) (entry_view S.text entry.now) }
+{
+    first::broken_rule::<S, BySlice<'s>>(alloc, edition, entry)
+}

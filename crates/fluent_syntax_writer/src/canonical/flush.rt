@@ -1,0 +1,190 @@
+//! The lines of a multiline pattern.
+ghost use Rattle.std.specs.Prelude.{◌≡◌, map, option_to_list};
+ghost use Rattle.fluent_syntax_tree.specs.Tree.{text_element, elements_of};
+ghost use Rattle.fluent_syntax_tree.specs.View.{element_view, pattern_view};
+ghost use Rattle.fluent_syntax_grammar.specs.Canonical.{hides_mark, text_numbers, placeable_numbers, line_numbers};
+ghost use Rattle.fluent_syntax_grammar.specs.Canonical.{are_lone, are_flush, first_stand, is_flush};
+ghost use Rattle.fluent_syntax_grammar.specs.Layout.{least};
+ghost use Rattle.fluent_syntax_grammar.specs.PatternTexts.{is_lone_lf};
+ghost use Rattle.fluent_syntax_writer.specs.Places.{stand_of, numbers_at, element_numbers, element_hides_mark, is_lone};
+ghost use Rattle.fluent_syntax_writer.specs.Places.{stands_lone, lesser};
+
+use crate::canonical::elements::{Stand, is_line_start, stand_past};
+use crate::canonical::patterns::{has_leading_mark, is_multiline};
+use crate::canonical::texts::*;
+use fluent_syntax_grammar::texts::is_lone_lf;
+use fluent_syntax_tree::ast::{Pattern, PatternElement};
+use fluent_syntax_tree::edition::Edition;
+use fluent_syntax_tree::texts::ReadTexts;
+
+/// Whether the pattern is not multiline, or its first text hides no mark and its lines are flush.
+pub fn is_flush<X, T: ReadTexts<X>>(edition: Edition, pattern: &Pattern<X>) -> bool
+    ensures { result ≡ is_flush edition (pattern_view T.text pattern.now) }
+{
+    if !is_multiline::<X, T>(pattern) {
+        return true;
+    }
+    let stand = first_stand::<X, T>(pattern);
+    !hides_mark::<X, T>(pattern) && are_flush::<X, T>(edition, stand, &pattern.elements)
+}
+
+/// Where the first element of a multiline pattern stands: at the beginning of a line, unless it would be read as
+/// something else there.
+pub fn first_stand<X, T: ReadTexts<X>>(pattern: &Pattern<X>) -> Stand
+    ensures { stand_of result ≡ first_stand (pattern_view T.text pattern.now) }
+{
+    if is_multiline::<X, T>(pattern) && !has_leading_mark::<X, T>(pattern) {
+        Stand::Opening
+    } else {
+        Stand::AfterPlaceable
+    }
+}
+
+/// Whether the first element is a text that begins with spaces and then `.`, `[` or `*`.
+pub fn hides_mark<X, T: ReadTexts<X>>(pattern: &Pattern<X>) -> bool
+    ensures { result ≡ hides_mark (pattern_view T.text pattern.now) }
+{
+    match pattern.elements.first() {
+        Some(element) => element_hides_mark::<X, T>(element),
+        None => false,
+    }
+}
+
+fn element_hides_mark<X, T: ReadTexts<X>>(element: &PatternElement<X>) -> bool
+    ensures { result ≡ element_hides_mark (element_view T.text element.now) }
+{
+    match element {
+        PatternElement::TextElement { value } => text_hides_mark(T::as_str(value)),
+        PatternElement::Placeable { .. } => false,
+    }
+}
+
+fn text_hides_mark(text: &str) -> bool
+    ensures { result ≡ element_hides_mark (text_element text.now) }
+{
+    begins_with_space(text) && begins_line_with_mark(text)
+}
+
+/// Whether the least number of the lines is 0, or no line has a number and each text that begins a line is one LF.
+fn are_flush<X, T: ReadTexts<X>>(
+    edition: Edition,
+    stand: Stand,
+    elements: &[PatternElement<X>],
+) -> bool
+    ensures { result ≡ are_flush
+        (least (line_numbers edition (stand_of stand) (elements_of (map (element_view T.text) elements.now))))
+        (stand_of stand) (elements_of (map (element_view T.text) elements.now)) }
+{
+    match least_number::<X, T>(edition, stand, elements) {
+        Some(number) => number == 0,
+        None => are_lone::<X, T>(stand, elements),
+    }
+}
+
+/// The least number of the lines that begin at these elements, if a line has one.
+pub fn least_number<X, T: ReadTexts<X>>(
+    edition: Edition,
+    first: Stand,
+    elements: &[PatternElement<X>],
+) -> Option<usize>
+    ensures { result ≡ least
+        (line_numbers edition (stand_of first) (elements_of (map (element_view T.text) elements.now))) }
+{
+    let mut stand = first;
+    let mut least = None;
+    for element in elements {
+        least = lesser(least, line_number::<X, T>(edition, stand, element));
+        stand = stand_past::<X, T>(element);
+    }
+    least
+}
+
+fn lesser(a: Option<usize>, b: Option<usize>) -> Option<usize>
+    ensures { result ≡ lesser a b }
+{
+    match (a, b) {
+        (None, b) => b,
+        (Some(a), None) => Some(a),
+        (Some(a), Some(b)) => Some(a.min(b)),
+    }
+}
+
+/// The number of the line that begins at the element, if one begins there and has a number.
+fn line_number<X, T: ReadTexts<X>>(
+    edition: Edition,
+    stand: Stand,
+    element: &PatternElement<X>,
+) -> Option<usize>
+    ensures { option_to_list result ≡ numbers_at edition (stand_of stand) (element_view T.text element.now) }
+{
+    if is_line_start(stand) {
+        element_number::<X, T>(edition, element)
+    } else {
+        None
+    }
+}
+
+fn element_number<X, T: ReadTexts<X>>(
+    edition: Edition,
+    element: &PatternElement<X>,
+) -> Option<usize>
+    ensures { option_to_list result ≡ element_numbers edition (element_view T.text element.now) }
+{
+    match element {
+        PatternElement::TextElement { value } => text_number(edition, T::as_str(value)),
+        PatternElement::Placeable { .. } => placeable_number(edition),
+    }
+}
+
+/// The spaces that begin the text, if it is nonblank; in edition two also those of spaces alone.
+fn text_number(edition: Edition, text: &str) -> Option<usize>
+    ensures { option_to_list result ≡ text_numbers edition text.now }
+{
+    if is_nonblank(text) {
+        return Some(leading_spaces(text.as_bytes()));
+    }
+    match edition {
+        Edition::Two if is_spaces(text) => Some(text.len()),
+        _ => None,
+    }
+}
+
+fn placeable_number(edition: Edition) -> Option<usize>
+    ensures { option_to_list result ≡ placeable_numbers edition }
+{
+    match edition {
+        Edition::One => None,
+        Edition::Two => Some(0),
+    }
+}
+
+/// Whether each text that begins a line is one LF.
+pub fn are_lone<X, T: ReadTexts<X>>(first: Stand, elements: &[PatternElement<X>]) -> bool
+    ensures { result ≡ are_lone (stand_of first) (elements_of (map (element_view T.text) elements.now)) }
+{
+    let mut stand = first;
+    for element in elements {
+        if !stands_lone::<X, T>(stand, element) {
+            return false;
+        }
+        stand = stand_past::<X, T>(element);
+    }
+    true
+}
+
+/// Whether the element begins no line, is no text, or is one LF.
+fn stands_lone<X, T: ReadTexts<X>>(stand: Stand, element: &PatternElement<X>) -> bool
+    ensures { result ≡ stands_lone (stand_of stand) (element_view T.text element.now) }
+{
+    !is_line_start(stand) || is_lone::<X, T>(element)
+}
+
+/// Whether the element is no text, or one LF.
+fn is_lone<X, T: ReadTexts<X>>(element: &PatternElement<X>) -> bool
+    ensures { result ≡ is_lone (element_view T.text element.now) }
+{
+    match element {
+        PatternElement::TextElement { value } => is_lone_lf(T::as_str(value)),
+        PatternElement::Placeable { .. } => true,
+    }
+}

@@ -1,0 +1,293 @@
+//! The walk over a tree: each node passes the test of its kind.
+ghost use Rattle.std.specs.Prelude.{◌≡◌, ◌&&◌, map, option_map};
+ghost use Rattle.std.specs.List.{list_all};
+ghost use Rattle.fluent_syntax_tree.specs.Tree.{arguments_of, elements_of, inlines_of, nameds_of, variants_of};
+ghost use Rattle.fluent_syntax_tree.specs.View.{identifier_view, key_view, expression_view, inline_view};
+ghost use Rattle.fluent_syntax_tree.specs.View.{arguments_view, named_view, element_view, pattern_view, variant_view};
+ghost use Rattle.fluent_syntax_tree.specs.View.{comment_view, attribute_view, message_view, term_view, entry_view};
+ghost use Rattle.fluent_syntax_grammar.specs.Rules.{option_obeys, key_obeys, expression_obeys, inline_obeys};
+ghost use Rattle.fluent_syntax_grammar.specs.Rules.{maybe_obeys, arguments_obey, inlines_obey, nameds_obey};
+ghost use Rattle.fluent_syntax_grammar.specs.Rules.{named_obeys, pattern_obeys, elements_obey, element_obeys};
+ghost use Rattle.fluent_syntax_grammar.specs.Rules.{variants_obey, variant_obeys, attribute_obeys, message_obeys};
+ghost use Rattle.fluent_syntax_grammar.specs.Rules.{term_obeys, entry_obeys, body_obeys};
+ghost use Rattle.fluent_syntax_writer.specs.Standards.{rules_of, parts_obey};
+
+use crate::canonical::asked::Asked;
+use crate::canonical::standard::*;
+use fluent_syntax_tree::ast::*;
+use fluent_syntax_tree::texts::ReadTexts;
+
+pub fn body_obeys<X, T: ReadTexts<X>>(asked: Asked, entries: &[Entry<X>]) -> bool
+    ensures { result ≡ body_obeys (rules_of asked.standard) (map (entry_view T.text) entries.now) }
+{
+    for entry in entries {
+        if !entry_obeys::<X, T>(asked, entry) {
+            return false;
+        }
+    }
+    true
+}
+
+pub fn entry_obeys<X, T: ReadTexts<X>>(asked: Asked, entry: &Entry<X>) -> bool
+    ensures { result ≡ entry_obeys (rules_of asked.standard) (entry_view T.text entry.now) }
+{
+    match entry {
+        Entry::Message(message) => message_obeys::<X, T>(asked, message),
+        Entry::Term(term) => term_obeys::<X, T>(asked, term),
+        Entry::Comment(comment) => is_comment_by::<X, T>(asked.standard, comment),
+        Entry::GroupComment(comment) => is_comment_by::<X, T>(asked.standard, comment),
+        Entry::ResourceComment(comment) => is_comment_by::<X, T>(asked.standard, comment),
+        Entry::Junk { .. } => allows_junk(asked.standard),
+    }
+}
+
+fn message_obeys<X, T: ReadTexts<X>>(asked: Asked, message: &Message<X>) -> bool
+    ensures { result ≡ message_obeys (rules_of asked.standard) (message_view T.text message.now) }
+{
+    is_message_by::<X, T>(asked.standard, message)
+        && comment_obeys::<X, T>(asked.standard, &message.comment)
+        && is_name_by(asked.standard, T::as_str(&message.id.name))
+        && value_obeys::<X, T>(asked, &message.value)
+        && attributes_obey::<X, T>(asked, &message.attributes)
+}
+
+fn term_obeys<X, T: ReadTexts<X>>(asked: Asked, term: &Term<X>) -> bool
+    ensures { result ≡ term_obeys (rules_of asked.standard) (term_view T.text term.now) }
+{
+    comment_obeys::<X, T>(asked.standard, &term.comment)
+        && is_name_by(asked.standard, T::as_str(&term.id.name))
+        && pattern_obeys::<X, T>(asked, &term.value)
+        && attributes_obey::<X, T>(asked, &term.attributes)
+}
+
+fn comment_obeys<X, T: ReadTexts<X>>(standard: Standard, comment: &Option<Comment<X>>) -> bool
+    ensures { result ≡ option_obeys (rules_of standard).comment (option_map (comment_view T.text) comment.now) }
+{
+    match comment {
+        Some(comment) => is_comment_by::<X, T>(standard, comment),
+        None => true,
+    }
+}
+
+fn value_obeys<X, T: ReadTexts<X>>(asked: Asked, value: &Option<Pattern<X>>) -> bool
+    ensures { result ≡ option_obeys (pattern_obeys (rules_of asked.standard))
+        (option_map (pattern_view T.text) value.now) }
+{
+    match value {
+        Some(pattern) => pattern_obeys::<X, T>(asked, pattern),
+        None => true,
+    }
+}
+
+fn attributes_obey<X, T: ReadTexts<X>>(asked: Asked, attributes: &[Attribute<X>]) -> bool
+    ensures { result ≡ list_all (attribute_obeys (rules_of asked.standard))
+        (map (attribute_view T.text) attributes.now) }
+{
+    for attribute in attributes {
+        if !attribute_obeys::<X, T>(asked, attribute) {
+            return false;
+        }
+    }
+    true
+}
+
+fn attribute_obeys<X, T: ReadTexts<X>>(asked: Asked, attribute: &Attribute<X>) -> bool
+    ensures { result ≡ attribute_obeys (rules_of asked.standard) (attribute_view T.text attribute.now) }
+{
+    is_name_by(asked.standard, T::as_str(&attribute.id.name))
+        && pattern_obeys::<X, T>(asked, &attribute.value)
+}
+
+#[cycle(obeys)]
+fn pattern_obeys<X, T: ReadTexts<X>>(asked: Asked, pattern: &Pattern<X>) -> bool
+    ensures { result ≡ pattern_obeys (rules_of asked.standard) (pattern_view T.text pattern.now) }
+{
+    is_pattern_by::<X, T>(asked.standard, pattern)
+        && elements_obey::<X, T>(asked, &pattern.elements)
+}
+
+#[cycle(obeys)]
+fn elements_obey<X, T: ReadTexts<X>>(asked: Asked, elements: &[PatternElement<X>]) -> bool
+    ensures { result ≡ elements_obey (rules_of asked.standard) (elements_of (map (element_view T.text) elements.now)) }
+{
+    for element in elements {
+        if !element_obeys::<X, T>(asked, element) {
+            return false;
+        }
+    }
+    true
+}
+
+#[cycle(obeys)]
+fn element_obeys<X, T: ReadTexts<X>>(asked: Asked, element: &PatternElement<X>) -> bool
+    ensures { result ≡ element_obeys (rules_of asked.standard) (element_view T.text element.now) }
+{
+    match element {
+        PatternElement::TextElement { .. } => true,
+        PatternElement::Placeable { expression } => { expression_obeys::<X, T>(asked, expression) }
+    }
+}
+
+#[cycle(obeys)]
+fn expression_obeys<X, T: ReadTexts<X>>(asked: Asked, expression: &Expression<X>) -> bool
+    ensures { result ≡ expression_obeys (rules_of asked.standard) (expression_view T.text expression.now) }
+{
+    is_expression_by::<X, T>(asked.standard, expression) && parts_obey::<X, T>(asked, expression)
+}
+
+/// Whether all that the expression holds obeys.
+#[cycle(obeys)]
+fn parts_obey<X, T: ReadTexts<X>>(asked: Asked, expression: &Expression<X>) -> bool
+    ensures { result ≡ parts_obey (rules_of asked.standard) (expression_view T.text expression.now) }
+{
+    match expression {
+        Expression::Select { selector, variants } => {
+            inline_obeys::<X, T>(asked, selector) && variants_obey::<X, T>(asked, variants)
+        }
+        Expression::Inline(inline) => inline_obeys::<X, T>(asked, inline),
+    }
+}
+
+#[cycle(obeys)]
+fn variants_obey<X, T: ReadTexts<X>>(asked: Asked, variants: &[Variant<X>]) -> bool
+    ensures { result ≡ variants_obey (rules_of asked.standard) (variants_of (map (variant_view T.text) variants.now)) }
+{
+    for variant in variants {
+        if !variant_obeys::<X, T>(asked, variant) {
+            return false;
+        }
+    }
+    true
+}
+
+#[cycle(obeys)]
+fn variant_obeys<X, T: ReadTexts<X>>(asked: Asked, variant: &Variant<X>) -> bool
+    ensures { result ≡ variant_obeys (rules_of asked.standard) (variant_view T.text variant.now) }
+{
+    key_obeys::<X, T>(asked.standard, &variant.key) && pattern_obeys::<X, T>(asked, &variant.value)
+}
+
+fn key_obeys<X, T: ReadTexts<X>>(standard: Standard, key: &VariantKey<X>) -> bool
+    ensures { result ≡ key_obeys (rules_of standard) (key_view T.text key.now) }
+{
+    match key {
+        VariantKey::Identifier { name } => is_name_by(standard, T::as_str(name)),
+        VariantKey::NumberLiteral { value } => is_number_by(standard, T::as_str(value)),
+    }
+}
+
+#[cycle(obeys)]
+fn inline_obeys<X, T: ReadTexts<X>>(asked: Asked, inline: &InlineExpression<X>) -> bool
+    ensures { result ≡ inline_obeys (rules_of asked.standard) (inline_view T.text inline.now) }
+{
+    match inline {
+        InlineExpression::StringLiteral { value } => is_string_by(asked.standard, T::as_str(value)),
+        InlineExpression::NumberLiteral { value } => is_number_by(asked.standard, T::as_str(value)),
+        InlineExpression::FunctionReference { id, arguments } => {
+            is_function_name(asked.standard, T::as_str(&id.name))
+                && arguments_obey::<X, T>(asked, arguments)
+        }
+        InlineExpression::MessageReference { id, attribute } => {
+            reference_obeys::<X, T>(asked.standard, id, attribute)
+        }
+        InlineExpression::TermReference {
+            id,
+            attribute,
+            arguments,
+        } => {
+            reference_obeys::<X, T>(asked.standard, id, attribute)
+                && maybe_obeys::<X, T>(asked, arguments)
+        }
+        InlineExpression::VariableReference { id } => is_name_by(
+            asked.standard,
+            T::as_str(&id.name),
+        ),
+        InlineExpression::Placeable { expression } => {
+            expression_obeys::<X, T>(asked, expression)
+        }
+    }
+}
+
+fn is_function_name(standard: Standard, name: &str) -> bool
+    ensures { result ≡ ((rules_of standard).name name.now && (rules_of standard).callee name.now) }
+{
+    is_name_by(standard, name) && is_callee_by(standard, name)
+}
+
+/// Whether the name, and that of the attribute, are names.
+fn reference_obeys<X, T: ReadTexts<X>>(
+    standard: Standard,
+    id: &Identifier<X>,
+    attribute: &Option<Identifier<X>>,
+) -> bool
+    ensures { result ≡ ((rules_of standard).name (T.text id.now.name)
+        && option_obeys (rules_of standard).name (option_map (identifier_view T.text) attribute.now)) }
+{
+    is_name_by(standard, T::as_str(&id.name)) && attribute_name_obeys::<X, T>(standard, attribute)
+}
+
+fn attribute_name_obeys<X, T: ReadTexts<X>>(
+    standard: Standard,
+    attribute: &Option<Identifier<X>>,
+) -> bool
+    ensures { result ≡ option_obeys (rules_of standard).name (option_map (identifier_view T.text) attribute.now) }
+{
+    match attribute {
+        Some(id) => is_name_by(standard, T::as_str(&id.name)),
+        None => true,
+    }
+}
+
+#[cycle(obeys)]
+fn maybe_obeys<X, T: ReadTexts<X>>(asked: Asked, arguments: &Option<CallArguments<X>>) -> bool
+    ensures { result ≡ maybe_obeys (rules_of asked.standard)
+        (arguments_of (option_map (arguments_view T.text) arguments.now)) }
+{
+    match arguments {
+        Some(arguments) => arguments_obey::<X, T>(asked, arguments),
+        None => true,
+    }
+}
+
+#[cycle(obeys)]
+fn arguments_obey<X, T: ReadTexts<X>>(asked: Asked, arguments: &CallArguments<X>) -> bool
+    ensures { result ≡ arguments_obey (rules_of asked.standard) (arguments_view T.text arguments.now) }
+{
+    if !are_arguments_by::<X, T>(asked, arguments) {
+        return false;
+    }
+    inlines_obey::<X, T>(asked, &arguments.positional)
+        && nameds_obey::<X, T>(asked, &arguments.named)
+}
+
+#[cycle(obeys)]
+fn inlines_obey<X, T: ReadTexts<X>>(asked: Asked, inlines: &[InlineExpression<X>]) -> bool
+    ensures { result ≡ inlines_obey (rules_of asked.standard) (inlines_of (map (inline_view T.text) inlines.now)) }
+{
+    for inline in inlines {
+        if !inline_obeys::<X, T>(asked, inline) {
+            return false;
+        }
+    }
+    true
+}
+
+#[cycle(obeys)]
+fn nameds_obey<X, T: ReadTexts<X>>(asked: Asked, nameds: &[NamedArgument<X>]) -> bool
+    ensures { result ≡ nameds_obey (rules_of asked.standard) (nameds_of (map (named_view T.text) nameds.now)) }
+{
+    for named in nameds {
+        if !named_obeys::<X, T>(asked, named) {
+            return false;
+        }
+    }
+    true
+}
+
+#[cycle(obeys)]
+fn named_obeys<X, T: ReadTexts<X>>(asked: Asked, named: &NamedArgument<X>) -> bool
+    ensures { result ≡ named_obeys (rules_of asked.standard) (named_view T.text named.now) }
+{
+    is_name_by(asked.standard, T::as_str(&named.name.name))
+        && inline_obeys::<X, T>(asked, &named.value)
+}

@@ -1,0 +1,58 @@
+-- What the document of an `ftl.toml` says.
+use Rattle.std.specs.Prelude.{◌≡◌, ◌⊎◌, ◌<◌, ◌^◌, ℕ, List, [], map, Option, Some, None, Bool, true, ◌&&◌, ◌||◌}
+use Rattle.std.specs.Prelude.{IfSome, String, codes, option_map, pos, string_bytes}
+use Rattle.std.specs.declared.alloc.Global.{Global}
+use Rattle.std.specs.Str.{bytes_eq}
+use Rattle.fluent_syntax_names.specs.Severities.{name_of}
+use Rattle.fluent_syntax_names.specs.declared.finding.Kind.{Kind}
+use Rattle.toml.specs.Data.{Data, Members, array, get_member, integer, member, no_members, string}
+use Rattle.toml.specs.View.{items_of}
+use Rattle.fluent_syntax_tree.specs.declared.edition.Edition.{Edition}
+use Rattle.ftl_files.specs.Options.{color_name, edition_number, output_name}
+use Rattle.ftl_files.specs.declared.options.Color.{Color}
+use Rattle.ftl_files.specs.declared.options.Output.{Output}
+use Rattle.ftl_files.specs.declared.settings.Settings.{Settings}
+
+-- keys that stand for something
+abbrev pub is_known : List ℕ → Bool
+is_known key =
+    bytes_eq key (codes "reference") || bytes_eq key (codes "ignore") || bytes_eq key (codes "edition")
+    || bytes_eq key (codes "output") || bytes_eq key (codes "nesting") || bytes_eq key (codes "color")
+
+abbrev pub are_known : Members → Bool
+are_known no_members = true
+are_known (member key value members) = is_known key && are_known members
+
+-- the reference is the text of its key, or there is neither
+abbrev pub IsReference : Option Data → Option (String Global) → Type 0
+IsReference value reference = value ≡ option_map (λ path. string (string_bytes path)) reference
+
+-- the kinds are those that the list of its key names, one by one; or there is no such key
+abbrev pub IsIgnored : Option Data → List Kind → Type 0
+IsIgnored value kinds =
+    ((value ≡ None) × (kinds ≡ [])) ⊎ (value ≡ Some (array (items_of (map (λ kind. string (name_of kind)) kinds))))
+
+-- the edition is that of the number of its key, or there is neither
+abbrev pub IsEdition : Option Data → Option Edition → Type 0
+IsEdition value edition = value ≡ option_map (λ e. integer (edition_number e)) edition
+
+-- the form is that of the name of its key, or there is neither
+abbrev pub IsOutput : Option Data → Option Output → Type 0
+IsOutput value output = value ≡ option_map (λ o. string (output_name o)) output
+
+-- the nesting is the number of its key, which is one of 32 bits, or there is neither
+abbrev pub IsNesting : Option Data → Option ℕ → Type 0
+IsNesting value nesting = (value ≡ option_map (λ n. integer (pos n)) nesting) × IfSome nesting (λ n. n < 2 ^ 32)
+
+-- when there are colours is said by the name of its key, or there is neither
+abbrev pub IsColor : Option Data → Option Color → Type 0
+IsColor value color = value ≡ option_map (λ c. string (color_name c)) color
+
+pub record Says (document : Members) (settings : Settings) : Type 0 where
+  pub known : are_known document ≡ true
+  pub reference : IsReference (get_member (codes "reference") document) settings.reference
+  pub ignored : IsIgnored (get_member (codes "ignore") document) settings.ignored.items
+  pub edition : IsEdition (get_member (codes "edition") document) settings.edition
+  pub output : IsOutput (get_member (codes "output") document) settings.output
+  pub nesting : IsNesting (get_member (codes "nesting") document) settings.nesting
+  pub color : IsColor (get_member (codes "color") document) settings.color

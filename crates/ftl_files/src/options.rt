@@ -1,0 +1,54 @@
+//! What the words' options ask for, by the names that a command line has for it.
+ghost use Rattle.std.specs.Prelude.{◌≡◌, ◌≢◌, IfSome, None};
+ghost use Rattle.ftl_files.specs.Options.{color_name, output_name};
+ghost use Rattle.ftl_files.specs.declared.options.Color.{Color};
+ghost use Rattle.ftl_files.specs.declared.options.Output.{Output};
+
+/// How what is found is told.
+#[derive(Clone, Copy, Debug, PartialEq, Eq)]
+pub enum Output {
+    /// With its place, and its kind, on a line.
+    Lines,
+    /// That with the message, and below it the line of the source and a caret.
+    Full,
+    /// As a JSON object on a line.
+    Json,
+    /// As a line that GitHub shows beside the source.
+    Github,
+}
+
+/// When errors are told in colours.
+#[derive(Clone, Copy, Debug, PartialEq, Eq)]
+pub enum Color {
+    /// On a terminal, where nobody asked for none.
+    Auto,
+    Always,
+    Never,
+}
+
+/// The form that has the name. `None` where none has it.
+pub fn output_named(name: &str) -> Option<Output>
+    ensures named { IfSome result (λ output. output_name output ≡ name.now) }
+    ensures none { result ≡ None → (output : Output) → output_name output ≢ name.now }
+{
+    match name {
+        "lines" => Some(Output::Lines),
+        "full" => Some(Output::Full),
+        "json" => Some(Output::Json),
+        "github" => Some(Output::Github),
+        _ => None,
+    }
+}
+
+/// When there are colours, by its name. `None` where nothing has it.
+pub fn color_named(name: &str) -> Option<Color>
+    ensures named { IfSome result (λ color. color_name color ≡ name.now) }
+    ensures none { result ≡ None → (color : Color) → color_name color ≢ name.now }
+{
+    match name {
+        "auto" => Some(Color::Auto),
+        "always" => Some(Color::Always),
+        "never" => Some(Color::Never),
+        _ => None,
+    }
+}

@@ -1,0 +1,235 @@
+//! The settings, as their text says them.
+ghost use Rattle.std.specs.Prelude.{◌≡◌, ◌≢◌, ◌++◌, ◌∷◌, ℕ, [], List, Option, Some, String, IfErr, IfOk, OnOk, false};
+ghost use Rattle.std.specs.Prelude.{option_map, true};
+ghost use Rattle.std.specs.declared.alloc.Global.{Global};
+ghost use Rattle.fluent_syntax_names.specs.declared.finding.Kind.{Kind};
+ghost use Rattle.ftl_files.specs.declared.settings_fault.SettingsFault.TheVariants as SettingsFault;
+ghost use Rattle.ftl_files.specs.declared.settings.Settings.{Settings};
+ghost use Rattle.toml.specs.Data.{Members, no_members, string};
+ghost use Rattle.toml.specs.Parse.{parse_document};
+ghost use Rattle.toml.specs.View.{table_view, view};
+ghost use Rattle.fluent_syntax_tree.specs.declared.edition.Edition.{Edition};
+ghost use Rattle.ftl_files.specs.Settings.{IsColor, IsEdition, IsIgnored, IsNesting, IsOutput, IsReference, Says};
+ghost use Rattle.ftl_files.specs.Settings.{are_known, is_known};
+ghost use Rattle.ftl_files.specs.declared.options.Color.{Color};
+ghost use Rattle.ftl_files.specs.declared.options.Output.{Output};
+ghost use Rattle.fluent_syntax_names.specs.Severities.{name_of};
+
+use crate::kinds::kind_named;
+use crate::options::{Color, Output, color_named, output_named};
+use crate::settings_fault::SettingsFault;
+use fluent_syntax_names::Kind;
+use fluent_syntax_tree::edition::Edition;
+use std::alloc::{AllocError, Global};
+use toml::{Table, Value};
+
+/// The greatest number that a nesting may be, here and on the command line.
+const GREATEST_NESTING: i64 = 4_294_967_295;
+
+/// What a project says. Each setting may be left out.
+#[derive(Debug, Drop)]
+pub struct Settings {
+    /// `reference`: the file or the folder of the reference language.
+    pub reference: Option<String>,
+    /// `ignore`: the kinds of findings that are not told, in the order of the text.
+    pub ignored: Vec<Kind>,
+    /// `edition`: that of the grammar.
+    pub edition: Option<Edition>,
+    /// `output`: how what is found is told.
+    pub output: Option<Output>,
+    /// `nesting`: how many placeables and argument lists may be open at once.
+    pub nesting: Option<usize>,
+    /// `color`: when errors are told in colours.
+    pub color: Option<Color>,
+}
+
+impl Settings {
+    /// What a project says that says nothing.
+    pub fn new(alloc: Global) -> Self
+        ensures { Says no_members result }
+    {
+        Settings {
+            reference: None,
+            ignored: Vec::new(alloc),
+            edition: None,
+            output: None,
+            nesting: None,
+            color: None,
+        }
+    }
+}
+
+/// What the text of an `ftl.toml` says.
+///
+/// `Memory`: a growth was refused. `Toml`: the text is no TOML document. `Key`: it has a key that stands for nothing.
+/// `Reference`, `Ignore`, `Edition`, `Output`, `Nesting`, `Color`: the value of that key is of another kind, or is none
+/// of those that the key may have.
+pub fn settings_of(alloc: Global, text: &str) -> Result<Settings, SettingsFault>
+    ensures says { IfOk result (λ settings. (document : Members)
+        × (parse_document text.now ≡ Some document) × Says document settings) }
+    ensures refused { IfErr result (λ fault. fault ≢ SettingsFault.Memory → (document : Members) (settings : Settings) →
+        parse_document text.now ≡ Some document → Says document settings → ⊥) }
+{
+    let table = match toml::table_from_str(alloc, text) {
+        Ok(table) => table,
+        Err(error) if error.is_memory() => return Err(SettingsFault::Memory),
+        Err(error) => return Err(SettingsFault::Toml(words_of(alloc, &error)?)),
+    };
+    check_keys(alloc, &table)?;
+    let reference = reference_of(alloc, table.get("reference"))?;
+    let ignored = ignored_of(alloc, table.get("ignore"))?;
+    let edition = edition_of(table.get("edition"))?;
+    let output = output_of(table.get("output"))?;
+    let nesting = nesting_of(table.get("nesting"))?;
+    let color = color_of(table.get("color"))?;
+    Ok(Settings {
+        reference,
+        ignored,
+        edition,
+        output,
+        nesting,
+        color,
+    })
+}
+
+/// What the error says, on one line.
+fn words_of(alloc: Global, error: &toml::de::Error) -> Result<String, AllocError> {
+    let words = format!(in alloc; "{error}")?;
+    match words.as_str().trim_end().split_once('\n') {
+        Some((place, what)) => format!(in alloc; "{place}: {what}"),
+        None => Ok(words),
+    }
+}
+
+/// Refuses a key that stands for nothing.
+fn check_keys(alloc: Global, table: &Table) -> Result<(), SettingsFault>
+    ensures known { IfOk result (λ _. are_known (table_view table.now) ≡ true) }
+    ensures refused { IfErr result (λ fault. fault ≢ SettingsFault.Memory → are_known (table_view table.now) ≡ false) }
+{
+    for (key, _value) in table {
+        if !is_known(key.as_str()) {
+            return Err(SettingsFault::Key(String::from_str(alloc, key.as_str())?));
+        }
+    }
+    Ok(())
+}
+
+fn is_known(key: &str) -> bool
+    ensures { result ≡ is_known key.now }
+{
+    matches!(
+        key,
+        "reference" | "ignore" | "edition" | "output" | "nesting" | "color"
+    )
+}
+
+fn reference_of(alloc: Global, value: Option<&Value>) -> Result<Option<String>, SettingsFault>
+    ensures says { IfOk result (IsReference (option_map (λ v. view v.now) value.entry)) }
+    ensures refused { IfErr result (λ fault. fault ≢ SettingsFault.Memory → (reference : Option (String Global)) →
+        IsReference (option_map (λ v. view v.now) value.entry) reference → ⊥) }
+{
+    let Some(value) = value else {
+        return Ok(None);
+    };
+    match value {
+        Value::String(path) => Ok(Some(String::from_str(alloc, path.as_str())?)),
+        _ => Err(SettingsFault::Reference),
+    }
+}
+
+fn ignored_of(alloc: Global, value: Option<&Value>) -> Result<Vec<Kind>, SettingsFault>
+    ensures says { IfOk result (λ kinds. IsIgnored (option_map (λ v. view v.now) value.entry) kinds.items) }
+    ensures refused { IfErr result (λ fault. fault ≢ SettingsFault.Memory → (kinds : List Kind) →
+        IsIgnored (option_map (λ v. view v.now) value.entry) kinds → ⊥) }
+{
+    let mut kinds = Vec::new(alloc);
+    let Some(value) = value else {
+        return Ok(kinds);
+    };
+    let Value::Array(names) = value else {
+        return Err(SettingsFault::Ignore);
+    };
+    for name in names {
+        add_kind(&mut kinds, kind_of(name)?)?;
+    }
+    Ok(kinds)
+}
+
+fn add_kind(kinds: &mut Vec<Kind>, kind: Kind) -> Result<(), AllocError>
+    ensures { OnOk result (kinds.new.items ≡ kinds.old.items ++ kind ∷ []) }
+{
+    kinds.push(kind)?;
+    Ok(())
+}
+
+/// The kind that the value names.
+fn kind_of(value: &Value) -> Result<Kind, SettingsFault>
+    ensures says { IfOk result (λ kind. view value.now ≡ string (name_of kind)) }
+    ensures refused { IfErr result (λ fault. (kind : Kind) → view value.now ≢ string (name_of kind)) }
+{
+    let Value::String(name) = value else {
+        return Err(SettingsFault::Ignore);
+    };
+    kind_named(name.as_str()).ok_or(SettingsFault::Ignore)
+}
+
+fn edition_of(value: Option<&Value>) -> Result<Option<Edition>, SettingsFault>
+    ensures says { IfOk result (IsEdition (option_map (λ v. view v.now) value.entry)) }
+    ensures refused { IfErr result (λ fault. (edition : Option Edition) →
+        IsEdition (option_map (λ v. view v.now) value.entry) edition → ⊥) }
+{
+    match value {
+        None => Ok(None),
+        Some(Value::Integer(1)) => Ok(Some(Edition::One)),
+        Some(Value::Integer(2)) => Ok(Some(Edition::Two)),
+        Some(_) => Err(SettingsFault::Edition),
+    }
+}
+
+fn output_of(value: Option<&Value>) -> Result<Option<Output>, SettingsFault>
+    ensures says { IfOk result (IsOutput (option_map (λ v. view v.now) value.entry)) }
+    ensures refused { IfErr result (λ fault. (output : Option Output) →
+        IsOutput (option_map (λ v. view v.now) value.entry) output → ⊥) }
+{
+    let Some(value) = value else {
+        return Ok(None);
+    };
+    let Value::String(name) = value else {
+        return Err(SettingsFault::Output);
+    };
+    match output_named(name.as_str()) {
+        Some(output) => Ok(Some(output)),
+        None => Err(SettingsFault::Output),
+    }
+}
+
+fn nesting_of(value: Option<&Value>) -> Result<Option<usize>, SettingsFault>
+    ensures says { IfOk result (IsNesting (option_map (λ v. view v.now) value.entry)) }
+    ensures refused { IfErr result (λ fault. (nesting : Option ℕ) →
+        IsNesting (option_map (λ v. view v.now) value.entry) nesting → ⊥) }
+{
+    match value {
+        None => Ok(None),
+        Some(Value::Integer(number)) if 0 <= *number && *number <= GREATEST_NESTING => {
+            Ok(Some(*number as usize))
+        }
+        Some(_) => Err(SettingsFault::Nesting),
+    }
+}
+
+fn color_of(value: Option<&Value>) -> Result<Option<Color>, SettingsFault>
+    ensures says { IfOk result (IsColor (option_map (λ v. view v.now) value.entry)) }
+    ensures refused { IfErr result (λ fault. (color : Option Color) →
+        IsColor (option_map (λ v. view v.now) value.entry) color → ⊥) }
+{
+    let Some(value) = value else {
+        return Ok(None);
+    };
+    let Value::String(name) = value else {
+        return Err(SettingsFault::Color);
+    };
+    match color_named(name.as_str()) {
+        Some(color) => Ok(Some(color)),
+        None => Err(SettingsFault::Color),
+    }
+}

@@ -1,0 +1,57 @@
+//! Why an `ftl.toml` says nothing that can be gone by.
+use std::alloc::AllocError;
+use std::fmt;
+
+/// Why an `ftl.toml` says nothing that can be gone by.
+#[derive(Debug, Drop)]
+pub enum SettingsFault {
+    /// A growth was refused.
+    Memory,
+    /// The text is no TOML: what is wrong, and where, in words.
+    Toml(String),
+    /// A key that stands for nothing.
+    Key(String),
+    /// The value of `reference` is no text.
+    Reference,
+    /// The value of `ignore` is no list of names of kinds.
+    Ignore,
+    /// The value of `edition` is not the number of one.
+    Edition,
+    /// The value of `output` is not the name of a form.
+    Output,
+    /// The value of `nesting` is no number of 32 bits.
+    Nesting,
+    /// The value of `color` is not one of its names.
+    Color,
+}
+
+impl From<AllocError> for SettingsFault {
+    ghost use Rattle.ftl_files.specs.declared.settings_fault.SettingsFault.TheVariants.{Memory};
+    ghost use Rattle.std.specs.Prelude.{◌≡◌};
+
+    ghost from_gives = { λ _ fault. fault ≡ Memory };
+
+    fn from(_error: AllocError) -> Self {
+        SettingsFault::Memory
+    }
+}
+
+impl fmt::Display for SettingsFault {
+    fn fmt<W: fmt::Write>(&self, f: &mut fmt::Formatter<W>) -> fmt::Result {
+        match self {
+            SettingsFault::Memory => f.write_str("out of memory"),
+            SettingsFault::Toml(message) => write!(f, "{message}"),
+            SettingsFault::Key(key) => write!(f, "no setting is called `{key}`"),
+            SettingsFault::Reference => f.write_str("`reference` wants a path in quotes"),
+            SettingsFault::Ignore => f.write_str("`ignore` wants a list of names of kinds"),
+            SettingsFault::Edition => f.write_str("`edition` wants 1 or 2"),
+            SettingsFault::Output => {
+                f.write_str("`output` wants \"lines\", \"full\", \"json\" or \"github\"")
+            }
+            SettingsFault::Nesting => f.write_str("`nesting` wants a number from 0 to 4294967295"),
+            SettingsFault::Color => {
+                f.write_str("`color` wants \"auto\", \"always\" or \"never\"")
+            }
+        }
+    }
+}

@@ -1,0 +1,9 @@
+pub mod ByteLemmas
+pub mod ChangeLemmas
+pub mod FrameLemmas
+pub mod FramesMore
+pub mod InboxLemmas
+pub mod OpenedLemmas
+pub mod PlaceLemmas
+pub mod ServedLemmas
+pub mod SessionLemmas

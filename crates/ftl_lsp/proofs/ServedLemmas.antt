@@ -1,0 +1,110 @@
+-- A session from its first message on.
+use Rattle.std.proofs.Common.{List, [], ℕ, Option, None, Some, Result, Ok, Err, ap, inl, inr, refl, subst, sym, ◌≡◌}
+use Rattle.std.proofs.Common.{◌∙◌, Bool, true, false, true≢false}
+use Rattle.std.proofs.Common.{◌<◌, ◌++◌, arith, drop, length, take, length-append}
+use Rattle.std.proofs.lemmas.List.{length-drop, length-take}
+use Rattle.std.specs.Prelude.{◌⊎◌, ◌≢◌, IfErr, OnOk}
+use Rattle.std.specs.Io.KnownBytes.{prepend_known}
+use Rattle.serde_json.specs.Data.{Data}
+use Rattle.ftl_lsp.specs.Served.{Ends, IsFresh, IsUnsent, Serves, begins, has_no_frame, has_no_memory}
+use Rattle.ftl_lsp.specs.Outbox.{Sends}
+use Rattle.ftl_lsp.specs.Phases.{ending_of}
+use Rattle.ftl_lsp.specs.Served.{GoesOn, Stops, TakesStep, is_not_written, is_untold, stops}
+use Rattle.ftl_lsp.specs.Served.{takes, tells, tells_unwritten, tells_without_memory}
+use Rattle.ftl_lsp.specs.Sessions.{Answers, Session, TellsAnew}
+use Rattle.ftl_lsp.specs.declared.endings.Ending.{Ending}
+use Rattle.ftl_lsp.specs.declared.endings.Ending.TheVariants.{Input, Memory, Output}
+use Rattle.ftl_lsp.specs.declared.phases.Phase.{Phase}
+use Rattle.ftl_lsp.specs.declared.phases.Phase.TheVariants.{Exited, Fresh, Left, Running, ShutDown}
+
+nothing_pending : (input : Option (List ℕ)) → prepend_known [] input ≡ input
+nothing_pending None = refl
+nothing_pending (Some bytes) = refl
+
+-- all of the input is left before the first message
+pub begins_with_all : (input output : Option (List ℕ)) (session : Session) (pending : List ℕ) → IsFresh session →
+    pending ≡ [] → Serves input output session (prepend_known pending input) output
+begins_with_all input output session pending is none =
+    subst (λ (left : Option (List ℕ)). Serves input output session left output)
+    (sym (ap (λ (p : List ℕ). prepend_known p input) none ∙ nothing_pending input)) (begins session is)
+
+-- a block that was filled has room still
+pub keeps_room : (n : ℕ) (new old : List ℕ) → 0 < length old → length old ≡ n →
+    0 < length (take n (new ++ drop (length new) old))
+keeps_room n new old room is =
+    omega (
+      arith,
+      length-take n (new ++ drop (length new) old),
+      length-append new (drop (length new) old),
+      length-drop (length new) old,
+    )
+
+-- no memory for the first message
+pub ends_before_all : (input output : Option (List ℕ)) → Ends input output Memory output
+ends_before_all input output =
+    stops (record { phase = Fresh; texts = λ _. None }) input output output Memory
+    (begins (record { phase = Fresh; texts = λ _. None }) (record { phase = refl; none = λ _. refl })) refl
+    (has_no_frame Memory output tt refl)
+
+-- what was to be sent for a body, and was not
+pub unsent : {Y : Type 0} (r : Result Y Ending) (before next : Session) (body : List ℕ) (sent : Option Data)
+    (value : Data) (written now : Option (List ℕ)) → Answers before body sent next → sent ≡ Some value →
+    IfErr r (λ ending. (ending ≡ Memory) ⊎ (ending ≡ Output)) → (r ≡ Err Memory → now ≡ written) →
+    IfErr r (λ ending. IsUnsent before body written ending now)
+unsent (Ok x) before next body sent value written now answers some fault same = fault
+unsent (Err e) before next body sent value written now answers some (inl is) same =
+    subst (λ (ending : Ending). IsUnsent before body written ending now) (sym is) (has_no_memory now (same (ap Err is)))
+unsent (Err e) before next body sent value written now answers some (inr is) same =
+    subst (λ (ending : Ending). IsUnsent before body written ending now) (sym is)
+    (is_not_written now value next (subst (λ (o : Option Data). Answers before body o next) some answers))
+
+abbrev is_exit : Option Ending → Bool
+is_exit (Some Input) = false
+is_exit _ = true
+
+is_exit_of : (phase : Phase) → is_exit (ending_of phase) ≡ true
+is_exit_of Fresh = refl
+is_exit_of Running = refl
+is_exit_of ShutDown = refl
+is_exit_of Exited = refl
+is_exit_of Left = refl
+
+-- no phase ends as where reading fails
+pub ends_by_no_input : (phase : Phase) → ending_of phase ≢ Some Input
+ends_by_no_input phase is = true≢false (sym (is_exit_of phase) ∙ ap is_exit is)
+
+-- ---- What is told anew
+
+-- behind what changes nothing of the session a step is one of the session
+pub takes_behind : {X Y : Type 0} (r : Result X Y) (old mid now : Session)
+    (left after written sent_on : Option (List ℕ)) → mid ≡ old →
+    OnOk r (TakesStep mid now left after written sent_on) → OnOk r (GoesOn old now left after written sent_on)
+takes_behind (Ok x) old mid now left after written sent_on same step =
+    takes (subst (λ (s : Session). TakesStep s now left after written sent_on) same step)
+takes_behind (Err e) old mid now left after written sent_on same step = step
+
+-- a document of which was told
+pub tells_behind : {X Y : Type 0} (r : Result X Y) (old mid : Session) (left written sent_on : Option (List ℕ))
+    (value : Data) → mid ≡ old → TellsAnew old value → OnOk r (Sends written sent_on (Some value)) →
+    OnOk r (GoesOn old mid left left written sent_on)
+tells_behind (Ok x) old mid left written sent_on value same anew sends = tells value anew same refl sends
+tells_behind (Err e) old mid left written sent_on value same anew sends = sends
+
+-- why a session stops behind what changes nothing of it
+pub stops_behind : {X : Type 0} (r : Result X Ending) (old mid : Session) (left written now : Option (List ℕ)) →
+    mid ≡ old → IfErr r (λ ending. Stops mid left written ending now) →
+    IfErr r (λ ending. Stops old left written ending now)
+stops_behind r old mid left written now same stopped =
+    subst (λ (s : Session). IfErr r (λ ending. Stops s left written ending now)) same stopped
+
+-- a document of which could not be told
+pub untold : {Y : Type 0} (r : Result Y Ending) (before : Session) (left written now : Option (List ℕ))
+    (value : Data) → TellsAnew before value → IfErr r (λ ending. (ending ≡ Memory) ⊎ (ending ≡ Output)) →
+    (r ≡ Err Memory → now ≡ written) → IfErr r (λ ending. Stops before left written ending now)
+untold (Ok x) before left written now value anew fault same = fault
+untold (Err e) before left written now value anew (inl is) same =
+    subst (λ (ending : Ending). Stops before left written ending now) (sym is)
+    (is_untold Memory now (tells_without_memory now (same (ap Err is))))
+untold (Err e) before left written now value anew (inr is) same =
+    subst (λ (ending : Ending). Stops before left written ending now) (sym is)
+    (is_untold Output now (tells_unwritten now value anew))

@@ -1,0 +1,308 @@
+-- What a session sends for a message, and what it knows then.
+use Rattle.std.proofs.Common.{◌≡◌, ℕ, List, [], Bool, true, false, Option, Some, None, Result, Ok, Err}
+use Rattle.std.proofs.Common.{refl, sym, ap, ◌∙◌}
+use Rattle.std.specs.Prelude.{ℤ, ◌&&◌, ◌≢◌, ◌⊎◌}
+use Rattle.std.proofs.Common.{inl, inr, subst, true≢false, map, ◌++◌}
+use Rattle.std.proofs.lemmas.List.{map-append}
+use Rattle.std.specs.Prelude.{IfOk, IfSome, OnOk, is_some, option_and_then, option_map}
+use Rattle.std.specs.Str.{bytes_eq}
+use Rattle.std.proofs.lemmas.Map.{update_same}
+use Rattle.std.proofs.lemmas.Slice.Eq.{bytes_eq-Decides}
+use Rattle.serde_json.specs.Data.{Data, Items}
+use Rattle.serde_json.specs.Read.{read}
+use Rattle.serde_json.specs.View.{items_view, view}
+use Rattle.serde_json.specs.declared.value.Value.{Value}
+use Rattle.ftl_lsp.specs.Edits.{Edit, edits_in}
+use Rattle.ftl_lsp.specs.Messages.{message_in, request, notification}
+use Rattle.ftl_lsp.specs.Opened.{MakesOpen, OpenText, Sets, SetsMade}
+use Rattle.ftl_lsp.specs.Params.{changes_in, opened_text_in, uri_in, version_in}
+use Rattle.ftl_lsp.specs.Phases.{after_notification, after_request, refusal_of}
+use Rattle.ftl_lsp.specs.Replies.{Reply, IsSent, diagnosed, silence, watch, withdrawn, diagnostics_form}
+use Rattle.ftl_lsp.specs.Replies.{sends_diagnostics, sends_none, sends_withdrawal}
+use Rattle.ftl_lsp.specs.Diagnostics.{DiagnosesText, shown}
+use Rattle.ftl_lsp.specs.Told.{TellsDocument, error_form}
+use Rattle.ftl_lsp.specs.declared.diagnostics.Diagnostic.{Diagnostic}
+use Rattle.ftl_lsp.specs.Sessions.{Answers, AnswersNotification, AnswersRequest, AnswersRunning, Follows}
+use Rattle.ftl_lsp.specs.Sessions.{Finds, IsFound, TellsAnew, fits}
+use Rattle.ftl_lsp.specs.Sessions.{IsMethod, Session, TakesRequest, concerns}
+use Rattle.ftl_lsp.specs.Asking.{IsResult, names_open}
+use Rattle.ftl_lsp.specs.Sessions.{changes, published, requested, notified, opens, passes, runs}
+use Rattle.ftl_lsp.specs.Sessions.{saves, watches}
+use Rattle.ftl_lsp.specs.declared.methods.Method.{Method}
+use Rattle.ftl_lsp.specs.declared.methods.Method.TheVariants.{DidChange, DidClose, DidOpen, DidSave}
+use Rattle.ftl_lsp.specs.declared.methods.Method.TheVariants.{Initialized}
+use Rattle.ftl_lsp.specs.declared.phases.Phase.{Phase}
+use Rattle.ftl_lsp.specs.declared.phases.Phase.TheVariants.{Running}
+
+-- what holds of a result's value, with what holds where there is one
+pub ok_with : {X Y : Type 0} (r : Result X Y) (P : Type 0) (Q R : X → Type 0) → (P → (x : X) → Q x → R x) →
+    OnOk r P → IfOk r Q → IfOk r R
+ok_with (Ok x) P Q R both p q = both p x q
+ok_with (Err e) P Q R both p q = q
+
+-- a value that is as one that is sent
+pub sent_as : (reply : Reply) (value sent : Data) → value ≡ sent → IsSent reply (Some sent) → IsSent reply (Some value)
+sent_as reply value sent same is = subst (λ (d : Data). IsSent reply (Some d)) (sym same) is
+
+-- a session in another phase
+abbrev pub in_phase : Phase → Session → Session
+in_phase phase session = record { phase = phase; texts = session.texts }
+
+-- the session behind a request that was answered
+pub answered_in : (phase : Phase) (before old : Session) (method : Option Method) →
+    phase ≡ after_request before.phase method → before ≡ old →
+    in_phase phase before ≡ in_phase (after_request old.phase method) old
+answered_in phase before old method after same =
+    ap (λ (p : Phase). in_phase p before) after
+    ∙ ap (λ (s : Session). in_phase (after_request s.phase method) s) same
+
+-- a document that was opened is open
+pub is_open : (old new : List ℕ → Option OpenText) (uri : List ℕ) (found : OpenText) →
+    Sets old uri (Some found) new → new uri ≡ Some found
+is_open old new uri found sets =
+    sets uri ∙ update_same bytes_eq old uri (Some found) uri ((bytes_eq-Decides uri uri).1 refl)
+
+pub named_open : (texts : List ℕ → Option OpenText) (d : Data) (uri : List ℕ) → uri_in d ≡ Some uri →
+    names_open texts d ≡ is_some (texts uri)
+named_open texts d uri named = ap (λ o. is_some (option_and_then texts o)) named
+
+pub not_named : (texts : List ℕ → Option OpenText) (d : Data) → uri_in d ≡ None → names_open texts d ≡ false
+not_named texts d none = ap (λ o. is_some (option_and_then texts o)) none
+
+-- nothing is opened without a name, or without a text
+pub no_name : (texts : List ℕ → Option OpenText) (d : Data) → uri_in d ≡ None →
+    concerns texts d (Some DidOpen) ≡ false
+no_name texts d none = ap (λ o. is_some o && is_some (opened_text_in d)) none
+
+pub no_text : (texts : List ℕ → Option OpenText) (d : Data) (uri : List ℕ) → uri_in d ≡ Some uri →
+    opened_text_in d ≡ None → concerns texts d (Some DidOpen) ≡ false
+no_text texts d uri named none =
+    ap (λ o. is_some o && is_some (opened_text_in d)) named ∙ ap is_some none
+
+and_false : (b : Bool) → (b && false) ≡ false
+and_false true = refl
+and_false false = refl
+
+-- nothing is changed that is not open, or by what can't be read
+pub unless_open : (texts : List ℕ → Option OpenText) (d : Data) → names_open texts d ≡ false →
+    concerns texts d (Some DidChange) ≡ false
+unless_open texts d closed = ap (λ b. b && is_some (option_and_then edits_in (changes_in d))) closed
+
+pub unreadable : (texts : List ℕ → Option OpenText) (d : Data) → option_and_then edits_in (changes_in d) ≡ None →
+    concerns texts d (Some DidChange) ≡ false
+unreadable texts d none = ap (λ o. names_open texts d && is_some o) none ∙ and_false (names_open texts d)
+
+pub edits_of_changes : (d : Data) (slice values : List Value) (edits : Option (List Edit)) →
+    changes_in d ≡ Some (items_view values) → slice ≡ values → edits ≡ edits_in (items_view slice) →
+    option_and_then edits_in (changes_in d) ≡ edits
+edits_of_changes d slice values edits told same is_read =
+    ap (option_and_then edits_in) told
+    ∙ ap (λ (vs : List Value). edits_in (items_view vs)) (sym same) ∙ sym is_read
+
+-- what is told of a document that is not open, and of one that is
+pub unpublished : (old mid : Session) (uri : List ℕ) → mid ≡ old → None ≡ mid.texts uri →
+    IsSent (published uri (old.texts uri)) None
+unpublished old mid uri same none =
+    let at : Session → Type 0 = λ s. IsSent (published uri (s.texts uri)) None in
+    subst at same (subst (λ (o : Option OpenText). IsSent (published uri o) None) none sends_none)
+
+pub is_published : (old mid : Session) (uri : List ℕ) (found : OpenText) (value : Data) (list : List Data) →
+    mid ≡ old → Some found ≡ mid.texts uri → value ≡ diagnostics_form uri list → TellsDocument found.text list →
+    IsSent (published uri (old.texts uri)) (Some value)
+is_published old mid uri found value list same open' is tells_all =
+    let at : Session → Type 0 = λ s. IsSent (published uri (s.texts uri)) (Some value) in
+    let sent = sent_as (diagnosed uri found.text) value _ is (sends_diagnostics uri found.text list tells_all) in
+    subst at same (subst (λ (o : Option OpenText). IsSent (published uri o) (Some value)) open' sent)
+
+-- what is told of a document: its errors, and then what is told beside
+pub tells_document : (t : List ℕ) (errors : List Diagnostic) (values others all : List Value) →
+    ∥ DiagnosesText t (map shown errors) ∥₁ → map view values ≡ map error_form errors → all ≡ values ++ others →
+    TellsDocument t (map view all)
+tells_document t errors values others all diagnoses told is = record {
+  errors = errors;
+  diagnoses = diagnoses;
+  others = map view others;
+  told_each = ap (map view) is ∙ map-append view values others ∙ ap (λ l. l ++ map view others) told;
+}
+
+-- that there are none any more
+pub is_withdrawn : (uri : List ℕ) (value : Data) (list : List Data) → value ≡ diagnostics_form uri list → list ≡ [] →
+    IsSent (withdrawn uri) (Some value)
+is_withdrawn uri value list is none =
+    sent_as (withdrawn uri) value _ (is ∙ ap (diagnostics_form uri) none) (sends_withdrawal uri)
+
+-- the diagnostics of a document that is open are told, behind what was done before
+pub tells : {Y : Type 0} (r : Result (Option Value) Y) (old : List ℕ → Option OpenText) (d : Data)
+    (method : Option Method) (uri : List ℕ) (found : OpenText) (mid new : Session) → mid.texts uri ≡ Some found →
+    ((texts : List ℕ → Option OpenText) → texts ≡ mid.texts → Follows old d method (diagnosed uri found.text) texts) →
+    OnOk r (new ≡ mid) → IfOk r (λ sent. IsSent (published uri (mid.texts uri)) (option_map view sent)) →
+    IfOk r (λ sent. AnswersRunning old d method (option_map view sent) new.texts)
+tells r old d method uri found mid new open' follows same sent =
+    ok_with r _ _ _
+    (λ e x h. (
+      diagnosed uri found.text,
+      subst (λ (o : Option OpenText). IsSent (published uri o) (option_map view x)) open' h,
+      follows new.texts (ap (λ s. s.texts) e),
+    ))
+    same sent
+
+-- a document that was opened
+pub tells_opened : {Y : Type 0} (r : Result (Option Value) Y) (d : Data) (uri text : List ℕ) (version : Option ℤ)
+    (old mid new : Session) → uri_in d ≡ Some uri → opened_text_in d ≡ Some text → version ≡ version_in d →
+    Sets old.texts uri (Some (record { text = text; version = version })) mid.texts → OnOk r (new ≡ mid) →
+    IfOk r (λ sent. IsSent (published uri (mid.texts uri)) (option_map view sent)) →
+    IfOk r (λ sent. AnswersRunning old.texts d (Some DidOpen) (option_map view sent) new.texts)
+tells_opened r d uri text version old mid new named told numbered sets same sent =
+    let made = subst
+    (λ (n : Option ℤ). Sets old.texts uri (Some (record { text = text; version = n })) mid.texts) numbered sets in
+    tells r old.texts d (Some DidOpen) uri (record { text = text; version = version }) mid new
+    (is_open old.texts mid.texts uri _ sets)
+    (λ now e. opens uri text now named told
+    (subst
+    (λ (t : List ℕ → Option OpenText). Sets old.texts uri (Some (record { text = text; version = version_in d })) t)
+    (sym e) made))
+    same sent
+
+-- a document that was changed
+pub tells_changed : {Y : Type 0} (r : Result (Option Value) Y) (d : Data) (uri : List ℕ) (items : Items)
+    (edits : List Edit) (version : Option ℤ) (found : Bool) (old mid new : Session) → uri_in d ≡ Some uri →
+    changes_in d ≡ Some items → edits_in items ≡ Some edits → version ≡ version_in d →
+    is_some (old.texts uri) ≡ true → SetsMade old.texts uri version edits found mid.texts → OnOk r (new ≡ mid) →
+    IfOk r (λ sent. IsSent (published uri (mid.texts uri)) (option_map view sent)) →
+    IfOk r (λ sent. AnswersRunning old.texts d (Some DidChange) (option_map view sent) new.texts)
+tells_changed r d uri items edits version true old mid new named told is_read numbered open'
+    (before, after, was, makes, sets) same sent =
+    tells r old.texts d (Some DidChange) uri after mid new (is_open old.texts mid.texts uri after sets)
+    (λ now e. changes uri items edits before after now named told is_read was
+    (subst (λ (n : Option ℤ). MakesOpen before n edits after) numbered makes)
+    (subst (λ (t : List ℕ → Option OpenText). Sets old.texts uri (Some after) t) (sym e) sets))
+    same sent
+tells_changed r d uri items edits version false old mid new named told is_read numbered open' h same sent =
+    absurd (true≢false (sym open' ∙ ap is_some h.0))
+
+-- a document that is saved
+saved : (old new : List ℕ → Option OpenText) (d : Data) (uri : List ℕ) (sent : Option Data)
+    (found : Option OpenText) → old uri ≡ found → uri_in d ≡ Some uri → new ≡ old → IsSent (published uri found) sent →
+    AnswersRunning old d (Some DidSave) sent new
+saved old new d uri sent (Some found) open' named same is =
+    (diagnosed uri found.text, is, saves uri found new named open' same)
+saved old new d uri sent None open' named same is =
+    (silence, is, passes (Some DidSave) new (named_open old d uri named ∙ ap is_some open') same)
+
+pub tells_saved : {Y : Type 0} (r : Result (Option Value) Y) (d : Data) (uri : List ℕ) (old new : Session) →
+    uri_in d ≡ Some uri → OnOk r (new ≡ old) →
+    IfOk r (λ sent. IsSent (published uri (old.texts uri)) (option_map view sent)) →
+    IfOk r (λ sent. AnswersRunning old.texts d (Some DidSave) (option_map view sent) new.texts)
+tells_saved r d uri old new named same sent =
+    ok_with r _ _ _ (λ e x h. saved old.texts new.texts d uri _ _ refl named (ap (λ s. s.texts) e) h) same sent
+
+mapped_some : (found : Option Value) → is_some found ≡ is_some (option_map view found)
+mapped_some None = refl
+mapped_some (Some value) = refl
+
+-- what is found for a request, where it is known whether that is a value
+pub finds_of : (old : Session) (d : Data) (method : Option Method) (found value : Option Value) →
+    refusal_of old.phase method ≡ None → IsFound method (fits old.texts d method) (is_some found) →
+    IsResult old.texts d method (option_map view found) → found ≡ value → Finds old d method (option_map view value)
+finds_of old d method found value allowed fitting is_result is =
+    subst (λ (o : Option Value). Finds old d method (option_map view o)) is
+    (record {
+      allowed = allowed;
+      fitting = subst (IsFound method (fits old.texts d method)) (mapped_some found) fitting;
+      is_result = is_result;
+    })
+
+-- a request that was taken behind something that changes nothing of the session
+pub takes_request : {Y : Type 0} (r : Result (Option Value) Y) (old mid new : Session) (body : List ℕ)
+    (d id same_id : Data) (name : List ℕ) (method : Option Method) → read body ≡ Some d →
+    message_in d ≡ request id name → same_id ≡ id → IsMethod name method → mid ≡ old →
+    IfOk r (λ sent. AnswersRequest mid same_id d method (option_map view sent) new) →
+    IfOk r (λ sent. Answers old body (option_map view sent) new)
+takes_request (Ok sent) old mid new body d id same_id name method is_read asked same named before (reply, is, takes) = (
+  reply,
+  is,
+  requested d id name method reply new is_read asked named
+      (subst (λ (s : Session). TakesRequest s id d method reply new) before
+      (subst (λ (i : Data). TakesRequest mid i d method reply new) same takes)),
+)
+takes_request (Err e) old mid new body d id same_id name method is_read asked same named before h = h
+
+pub takes_notification : {Y : Type 0} (r : Result (Option Value) Y) (old new : Session) (body : List ℕ) (d : Data)
+    (name : List ℕ) (method : Option Method) → read body ≡ Some d →
+    message_in d ≡ notification name → IsMethod name method →
+    IfOk r (λ sent. AnswersNotification old d method (option_map view sent) new) →
+    IfOk r (λ sent. Answers old body (option_map view sent) new)
+takes_notification (Ok sent) old new body d name method is_read asked named (reply, is, takes) =
+    (reply, is, notified d name method reply new is_read asked named takes)
+takes_notification (Err e) old new body d name method is_read asked named h = h
+
+-- nothing is done for a method that concerns no document
+unconcerned : (texts : List ℕ → Option OpenText) (d : Data) (method : Method) → method ≢ DidOpen → method ≢ DidChange →
+    method ≢ DidClose → method ≢ DidSave → concerns texts d (Some method) ≡ false
+unconcerned texts d DidOpen a b c e = absurd (a refl)
+unconcerned texts d DidChange a b c e = absurd (b refl)
+unconcerned texts d DidClose a b c e = absurd (c refl)
+unconcerned texts d DidSave a b c e = absurd (e refl)
+unconcerned texts d _ a b c e = refl
+
+pub passed : (old : List ℕ → Option OpenText) (d : Data) (method : Option Method) → concerns old d method ≡ false →
+    AnswersRunning old d method None old
+passed old d method none = (silence, sends_none, passes method old none refl)
+
+pub passed_over : (old : List ℕ → Option OpenText) (d : Data) (method : Option Method) (known : Method) →
+    method ≡ Some known → known ≢ DidOpen → known ≢ DidChange → known ≢ DidClose → known ≢ DidSave →
+    AnswersRunning old d method None old
+passed_over old d method known is a b c e =
+    passed old d method (ap (concerns old d) is ∙ unconcerned old d known a b c e)
+
+-- files are watched, or nothing is sent
+pub watched : (old : List ℕ → Option OpenText) (d : Data) (method : Option Method) (known : Method)
+    (sent : Option Data) → method ≡ Some known → known ≡ Initialized → IsSent watch sent ⊎ IsSent silence sent →
+    AnswersRunning old d method sent old
+watched old d method known sent is named (inl watches') =
+    let follows = subst (λ (m : Option Method). Follows old d m watch old) (sym (is ∙ ap Some named))
+    (watches old refl) in
+    (watch, watches', follows)
+watched old d method known sent is named (inr none) =
+    (silence, none, passes method old (ap (concerns old d) (is ∙ ap Some named)) refl)
+
+-- a notification that was followed while the session runs
+followed : (old mid : Session) (d : Data) (method : Option Method) (sent : Option Data)
+    (phase last : Phase) (new : List ℕ → Option OpenText) → old.phase ≡ Running → mid ≡ old → phase ≡ mid.phase →
+    last ≡ after_notification phase method → AnswersRunning mid.texts d method sent new →
+    AnswersNotification old d method sent (record { phase = last; texts = new })
+followed old mid d method sent phase last new is_running same kept after (reply, is, follows) = (
+  reply,
+  is,
+  runs reply _ is_running (subst (λ (s : Session). Follows s.texts d method reply new) same follows)
+      (after ∙ ap (λ (p : Phase). after_notification p method) (kept ∙ ap (λ (s : Session). s.phase) same)),
+)
+
+-- the same, where nothing of the session is changed behind it
+pub notified_running : (old mid behind noted : Session) (d : Data) (method : Option Method) (sent : Option Data)
+    (last : Phase) → old.phase ≡ Running → mid ≡ old → behind.phase ≡ mid.phase → noted ≡ behind →
+    last ≡ after_notification noted.phase method → AnswersRunning mid.texts d method sent behind.texts →
+    AnswersNotification old d method sent (record { phase = last; texts = noted.texts })
+notified_running old mid behind noted d method sent last is_running same kept same_noted after answers =
+    subst
+    (λ (s : Session). last ≡ after_notification s.phase method →
+    AnswersNotification old d method sent (record { phase = last; texts = s.texts }))
+    (sym same_noted)
+    (λ e. followed old mid d method sent behind.phase last behind.texts is_running same kept e answers) after
+
+-- ---- What is told anew
+
+told_if_open : (session : Session) (uri : List ℕ) (found : Option OpenText) (value : Data) →
+    session.phase ≡ Running → session.texts uri ≡ found → IsSent (published uri found) (Some value) →
+    TellsAnew session value
+told_if_open session uri (Some found) value running open' sent =
+    record { runs = running; uri = uri; found = found; is_open = open'; told = sent }
+told_if_open session uri None value running open' sent = elim sent [ ]
+
+-- what is published of a document is told of one that is open
+pub tells_open : {Y : Type 0} (r : Result (Option Value) Y) (session : Session) (uri : List ℕ) →
+    session.phase ≡ Running → IfOk r (λ sent. IsSent (published uri (session.texts uri)) (option_map view sent)) →
+    IfOk r (λ sent. IfSome sent (λ value. TellsAnew session (view value)))
+tells_open (Ok (Some value)) session uri running sent = told_if_open session uri _ (view value) running refl sent
+tells_open (Ok None) session uri running sent = tt
+tells_open (Err e) session uri running sent = sent

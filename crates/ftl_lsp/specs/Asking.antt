@@ -1,0 +1,32 @@
+-- What a request asks of, and what stands in its answer.
+use Rattle.std.specs.Prelude.{◌≡◌, ◌&&◌, ℕ, List, ⊤, Bool, Option, Some, is_some, option_and_then}
+use Rattle.serde_json.specs.Data.{Data, null}
+use Rattle.ftl_lsp.specs.Edits.{asked_place_in}
+use Rattle.ftl_lsp.specs.Formatting.{FormatsText}
+use Rattle.ftl_lsp.specs.Opened.{OpenText}
+use Rattle.ftl_lsp.specs.Params.{new_name_in, uri_in}
+use Rattle.ftl_lsp.specs.declared.methods.Method.{Method}
+use Rattle.ftl_lsp.specs.declared.methods.Method.TheVariants.{Formatting, Shutdown}
+
+-- whether the message names a document that is open
+abbrev pub names_open : (texts : List ℕ → Option OpenText) → Data → Bool
+names_open texts d = is_some (option_and_then texts (uri_in d))
+
+-- and a place
+abbrev pub names_place : (texts : List ℕ → Option OpenText) → Data → Bool
+names_place texts d = names_open texts d && is_some (asked_place_in d)
+
+-- and another name for what stands there
+abbrev pub renames_place : (texts : List ℕ → Option OpenText) → Data → Bool
+renames_place texts d = names_place texts d && is_some (new_name_in d)
+
+-- What is found is the formatting of the document.
+abbrev pub IsFormattingOf : (document : Option OpenText) → (result : Option Data) → Type 0
+IsFormattingOf (Some found) (Some value) = FormatsText found.text value
+IsFormattingOf _ _ = ⊤
+
+-- It is what stands in the answer to a request of the method. Of methods that aren't named here nothing is said.
+abbrev pub IsResult : (texts : List ℕ → Option OpenText) → Data → Option Method → (result : Option Data) → Type 0
+IsResult texts d (Some Formatting) result = IsFormattingOf (option_and_then texts (uri_in d)) result
+IsResult texts d (Some Shutdown) result = result ≡ Some null
+IsResult texts d _ result = ⊤

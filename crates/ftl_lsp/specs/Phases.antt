@@ -1,0 +1,105 @@
+-- How far a session is, and what it refuses there.
+use Rattle.std.specs.Prelude.{ℕ, ℤ, negsuc, List, codes, Option, Some, None}
+use Rattle.ftl_lsp.specs.declared.endings.Ending.{Ending}
+use Rattle.ftl_lsp.specs.declared.endings.Ending.TheVariants as endings
+use Rattle.ftl_lsp.specs.declared.methods.Method.{Method}
+use Rattle.ftl_lsp.specs.declared.methods.Method.TheVariants.{Initialize, Shutdown, DocumentSymbol}
+use Rattle.ftl_lsp.specs.declared.methods.Method.TheVariants.{Formatting, FoldingRange, DidOpen, DidChange}
+use Rattle.ftl_lsp.specs.declared.methods.Method.TheVariants.{DidClose, DidSave, Exit}
+use Rattle.ftl_lsp.specs.declared.methods.Method.TheVariants.{Definition, References, DocumentHighlight}
+use Rattle.ftl_lsp.specs.declared.methods.Method.TheVariants.{Hover, Rename, Completion, WorkspaceSymbol}
+use Rattle.ftl_lsp.specs.declared.methods.Method.TheVariants.{SemanticTokens, Initialized}
+use Rattle.ftl_lsp.specs.declared.methods.Method.TheVariants.{DidChangeWatchedFiles}
+use Rattle.ftl_lsp.specs.declared.phases.Phase.{Phase}
+use Rattle.ftl_lsp.specs.declared.phases.Phase.TheVariants.{Fresh, Running, ShutDown, Exited, Left}
+use Rattle.ftl_lsp.specs.declared.phases.ErrorCode.{ErrorCode}
+use Rattle.ftl_lsp.specs.declared.phases.ErrorCode.TheVariants.{ParseError, InvalidRequest, MethodNotFound}
+use Rattle.ftl_lsp.specs.declared.phases.ErrorCode.TheVariants.{InvalidParams, NotInitialized}
+
+-- the numbers of the protocol: `negsuc n` is the negative of n and one
+abbrev pub number_of : ErrorCode → ℤ
+number_of ParseError = negsuc 32699
+number_of InvalidRequest = negsuc 32599
+number_of MethodNotFound = negsuc 32600
+number_of InvalidParams = negsuc 32601
+number_of NotInitialized = negsuc 32001
+
+abbrev pub text_of : ErrorCode → List ℕ
+text_of ParseError = codes "the message is no JSON text"
+text_of InvalidRequest = codes "the request has no place here"
+text_of MethodNotFound = codes "the method is not known"
+text_of InvalidParams = codes "the parameters name no open document"
+text_of NotInitialized = codes "the server is not initialized"
+
+-- what is refused of requests before `initialize`: all but that
+abbrev pub refusal_before : Option Method → Option ErrorCode
+refusal_before (Some Initialize) = None
+refusal_before _ = Some NotInitialized
+
+-- what is refused behind it: that again, and what is no request that is known
+abbrev pub refusal_behind : Option Method → Option ErrorCode
+refusal_behind (Some Initialize) = Some InvalidRequest
+refusal_behind (Some Shutdown) = None
+refusal_behind (Some DocumentSymbol) = None
+refusal_behind (Some Formatting) = None
+refusal_behind (Some FoldingRange) = None
+refusal_behind (Some Definition) = None
+refusal_behind (Some References) = None
+refusal_behind (Some DocumentHighlight) = None
+refusal_behind (Some Hover) = None
+refusal_behind (Some Rename) = None
+refusal_behind (Some Completion) = None
+refusal_behind (Some WorkspaceSymbol) = None
+refusal_behind (Some SemanticTokens) = None
+refusal_behind (Some DidOpen) = Some MethodNotFound
+refusal_behind (Some DidChange) = Some MethodNotFound
+refusal_behind (Some DidClose) = Some MethodNotFound
+refusal_behind (Some DidSave) = Some MethodNotFound
+refusal_behind (Some Exit) = Some MethodNotFound
+refusal_behind (Some Initialized) = Some MethodNotFound
+refusal_behind (Some DidChangeWatchedFiles) = Some MethodNotFound
+refusal_behind None = Some MethodNotFound
+
+-- behind `shutdown` every request is refused
+abbrev pub refusal_of : Phase → Option Method → Option ErrorCode
+refusal_of Fresh method = refusal_before method
+refusal_of Running method = refusal_behind method
+refusal_of ShutDown method = Some InvalidRequest
+refusal_of Exited method = Some InvalidRequest
+refusal_of Left method = Some InvalidRequest
+
+-- `initialize` begins a session, if it has not begun
+abbrev pub begun : Option Method → Phase
+begun (Some Initialize) = Running
+begun _ = Fresh
+
+-- `shutdown` stops one that runs
+abbrev pub stopped : Option Method → Phase
+stopped (Some Shutdown) = ShutDown
+stopped _ = Running
+
+abbrev pub after_request : Phase → Option Method → Phase
+after_request Fresh method = begun method
+after_request Running method = stopped method
+after_request ShutDown method = ShutDown
+after_request Exited method = Exited
+after_request Left method = Left
+
+-- `exit` leads to the phase, and nothing else does
+abbrev pub exited : (to from : Phase) → Option Method → Phase
+exited to from (Some Exit) = to
+exited to from _ = from
+
+abbrev pub after_notification : Phase → Option Method → Phase
+after_notification Fresh method = exited Left Fresh method
+after_notification Running method = exited Left Running method
+after_notification ShutDown method = exited Exited ShutDown method
+after_notification Exited method = Exited
+after_notification Left method = Left
+
+abbrev pub ending_of : Phase → Option Ending
+ending_of Fresh = None
+ending_of Running = None
+ending_of ShutDown = None
+ending_of Exited = Some endings.Exited
+ending_of Left = Some endings.Left

@@ -1,0 +1,77 @@
+//! The errors of a text, for a client to show.
+ghost use Rattle.std.specs.Prelude.{◌≡◌, ◌≤◌, [], ◌∷◌, length, map, All, IfOk};
+ghost use Rattle.ftl_lsp.specs.Diagnostics.{deep_diagnostic, diagnostic_of, shown};
+
+use crate::places::{Place, Places};
+use fluent_syntax::parser::ParserError;
+use std::alloc::{AllocError, Global};
+
+/// An error of a text: where it is, its kind, and what is said of it.
+#[derive(Drop)]
+pub struct Diagnostic {
+    pub start: Place,
+    pub end: Place,
+    pub code: &'static str,
+    pub message: String,
+}
+
+/// What is said of a text that nests too deeply.
+pub(crate) fn too_deep(alloc: Global) -> Result<Vec<Diagnostic>, AllocError>
+    ensures { IfOk result (λ found. map shown found.items ≡ deep_diagnostic ∷ []) }
+{
+    let start = Place {
+        line: 0,
+        character: 0,
+    };
+    let message = String::from_str(alloc, "nested too deeply to be read")?;
+    let mut found = Vec::new(alloc);
+    found.push(Diagnostic {
+        start,
+        end: start,
+        code: "TooDeep",
+        message,
+    })?;
+    Ok(found)
+}
+
+/// A diagnostic for each of the errors, whose places begin within the text.
+pub(crate) fn diagnostics_of(
+    alloc: Global,
+    text: &str,
+    errors: &Vec<ParserError>,
+) -> Result<Vec<Diagnostic>, AllocError>
+    requires { All (λ e. e.pos.start ≤ length text.now) errors.now.items }
+    ensures { IfOk result (λ found. map shown found.items ≡ map (diagnostic_of text.now) errors.now.items) }
+{
+    let mut places = Places::new(text);
+    let mut found = Vec::new(alloc);
+    for error in errors {
+        let diagnostic = diagnose(alloc, &mut places, text.len(), error)?;
+        found.push(diagnostic)?;
+    }
+    Ok(found)
+}
+
+/// The diagnostic of an error. Where the error's place ends beyond the text, it ends with the text.
+fn diagnose(
+    alloc: Global,
+    places: &mut Places<'_>,
+    size: usize,
+    error: &ParserError,
+) -> Result<Diagnostic, AllocError>
+    requires within { error.now.pos.start ≤ length places.old }
+    requires size { size ≡ length places.old }
+    ensures text { places.new ≡ places.old }
+    ensures shown { IfOk result (λ found. shown found ≡ diagnostic_of places.old error.now) }
+{
+    let from = error.pos.start;
+    let start = places.place(from);
+    let end = places.place(error.pos.end.min(size).max(from));
+    let message = format!(in alloc; "{}", error.kind)?;
+    Ok(Diagnostic {
+        start,
+        end,
+        code: error.kind.name(),
+        message,
+    })
+}

@@ -1,0 +1,360 @@
+//! The messages that a server sends, as JSON values.
+ghost use Rattle.std.specs.Prelude.{◌≡◌, IfOk, map};
+ghost use Rattle.serde_json.specs.Data.{null};
+ghost use Rattle.serde_json.specs.View.{view};
+ghost use Rattle.ftl_lsp.specs.Locations.{edit_form, place_form, range_form, span_form};
+ghost use Rattle.ftl_lsp.specs.Replies.{answer_form, diagnostics_form, refusal_form, register_form};
+
+use crate::known::Known;
+use crate::occurrences::{NameKind, Occurrence, bytes_of, name_of};
+use crate::phases::ErrorCode;
+use crate::places::{Place, Places};
+use crate::symbols::{Fold, Symbol, SymbolKind};
+use fluent_syntax::spans::Span;
+use serde_json::{Value, json};
+use std::alloc::{AllocError, Global};
+
+/// The answer to the request with the identifier.
+pub fn answer(alloc: Global, id: Value, answer: Value) -> Result<Value, AllocError>
+    ensures { IfOk result (λ value. view value ≡ answer_form (view id) (view answer)) }
+{
+    json!(in alloc; {"jsonrpc": "2.0", "id": id, "result": answer})
+}
+
+/// The answer that refuses the request with the identifier, or null where it has none.
+pub fn refusal(alloc: Global, id: Value, code: ErrorCode) -> Result<Value, AllocError>
+    ensures { IfOk result (λ value. view value ≡ refusal_form (view id) code) }
+{
+    json!(in alloc; {"jsonrpc": "2.0", "id": id, "error": {"code": (code.number()), "message": (code.text())}})
+}
+
+/// The value of what there is none of.
+pub fn null() -> Value
+    ensures { view result ≡ null }
+{
+    Value::Null
+}
+
+/// What the server can do.
+pub fn capabilities(alloc: Global) -> Result<Value, AllocError> {
+    json!(in alloc; {"capabilities": (provided(alloc)?), "serverInfo": {"name": "ftl"}})
+}
+
+/// The parts of the protocol that the server answers, each by its name.
+fn provided(alloc: Global) -> Result<Value, AllocError> {
+    json!(in alloc; {
+        "positionEncoding": "utf-16",
+        "textDocumentSync": (document_sync(alloc)?),
+        "documentSymbolProvider": true,
+        "documentFormattingProvider": true,
+        "foldingRangeProvider": true,
+        "definitionProvider": true,
+        "referencesProvider": true,
+        "documentHighlightProvider": true,
+        "hoverProvider": true,
+        "renameProvider": true,
+        "completionProvider": (completion_provider(alloc)?),
+        "workspaceSymbolProvider": true,
+        "semanticTokensProvider": (tokens_provider(alloc)?)
+    })
+}
+
+/// Which changes of a document the server is told.
+fn document_sync(alloc: Global) -> Result<Value, AllocError> {
+    json!(in alloc; {"openClose": true, "change": 2, "save": true})
+}
+
+/// The characters after which names are proposed.
+fn completion_provider(alloc: Global) -> Result<Value, AllocError> {
+    json!(in alloc; {"triggerCharacters": (text_list(alloc, &["{", "-", "$", "."])?)})
+}
+
+/// The kinds of tokens, by whose places in the list the tokens name them.
+fn tokens_provider(alloc: Global) -> Result<Value, AllocError> {
+    let types = [
+        "property",
+        "macro",
+        "variable",
+        "function",
+        "parameter",
+        "string",
+        "number",
+        "enumMember",
+        "comment",
+    ];
+    json!(in alloc; {
+        "legend": {
+            "tokenTypes": (text_list(alloc, &types)?),
+            "tokenModifiers": ["declaration"]
+        },
+        "full": true
+    })
+}
+
+/// A list of texts.
+fn text_list(alloc: Global, texts: &[&str]) -> Result<Value, AllocError> {
+    let mut list = Vec::new(alloc);
+    for text in texts {
+        list.push(json!(in alloc; (*text))?)?;
+    }
+    Ok(Value::Array(list))
+}
+
+/// The request to be told of something, by what it asks for.
+pub fn register_request(alloc: Global, params: Value) -> Result<Value, AllocError>
+    ensures { IfOk result (λ value. view value ≡ register_form (view params)) }
+{
+    json!(in alloc; {
+        "jsonrpc": "2.0",
+        "id": "ftl-watch",
+        "method": "client/registerCapability",
+        "params": params
+    })
+}
+
+/// What asks to be told of changes of the files in the editor's folders.
+pub fn watch_params(alloc: Global) -> Result<Value, AllocError> {
+    let texts = json!(in alloc; {"globPattern": "**/*.ftl"})?;
+    let settings = json!(in alloc; {"globPattern": "**/ftl.toml"})?;
+    let registration = json!(in alloc; {
+        "id": "ftl-files",
+        "method": "workspace/didChangeWatchedFiles",
+        "registerOptions": {"watchers": [texts, settings]}
+    })?;
+    json!(in alloc; {"registrations": [registration]})
+}
+
+/// The notification of a document's diagnostics.
+pub fn diagnostics_notification(
+    alloc: Global,
+    uri: &str,
+    diagnostics: Vec<Value>,
+) -> Result<Value, AllocError>
+    ensures { IfOk result (λ value. view value ≡ diagnostics_form uri.now (map view diagnostics.items)) }
+{
+    let diagnostics = Value::Array(diagnostics);
+    json!(in alloc; {
+        "jsonrpc": "2.0",
+        "method": "textDocument/publishDiagnostics",
+        "params": {"uri": uri, "diagnostics": diagnostics}
+    })
+}
+
+/// The symbols of a text, in order.
+pub fn symbol_list(alloc: Global, text: &str, symbols: &[Symbol]) -> Result<Value, AllocError> {
+    let mut places = Places::new(text);
+    let mut list = Vec::new(alloc);
+    for symbol in symbols {
+        list.push(symbol_form(alloc, text, &mut places, symbol)?)?;
+    }
+    Ok(Value::Array(list))
+}
+
+/// A symbol, with its attributes under it.
+fn symbol_form(
+    alloc: Global,
+    text: &str,
+    places: &mut Places<'_>,
+    symbol: &Symbol,
+) -> Result<Value, AllocError> {
+    let mut children = Vec::new(alloc);
+    for name in &symbol.attributes {
+        let shown = Shown {
+            name: bytes_of(text, *name),
+            kind: SymbolKind::Attribute,
+            whole: *name,
+            selected: *name,
+        };
+        children.push(shown_form(alloc, places, shown, Vec::new(alloc))?)?;
+    }
+    let shown = Shown {
+        name: bytes_of(text, symbol.name),
+        kind: symbol.kind,
+        whole: symbol.whole,
+        selected: symbol.name,
+    };
+    shown_form(alloc, places, shown, children)
+}
+
+/// What is told of a symbol: its name, its kind, its stretch, and the part of that which is its name.
+#[derive(Clone, Copy)]
+struct Shown<'a> {
+    name: &'a str,
+    kind: SymbolKind,
+    whole: Span,
+    selected: Span,
+}
+
+/// A symbol with those under it.
+fn shown_form(
+    alloc: Global,
+    places: &mut Places<'_>,
+    shown: Shown<'_>,
+    children: Vec<Value>,
+) -> Result<Value, AllocError> {
+    let children = Value::Array(children);
+    json!(in alloc; {
+        "name": (shown.name),
+        "kind": (kind_number(shown.kind)),
+        "range": (span_form(alloc, places, shown.whole)?),
+        "selectionRange": (span_form(alloc, places, shown.selected)?),
+        "children": children
+    })
+}
+
+/// The number of a kind in the protocol: a constant for a message, a variable for a term, a property for an attribute.
+fn kind_number(kind: SymbolKind) -> u64 {
+    match kind {
+        SymbolKind::Message => 14,
+        SymbolKind::Term => 13,
+        SymbolKind::Attribute => 7,
+    }
+}
+
+/// The folds of a text, in order.
+pub fn fold_list(alloc: Global, folds: &[Fold]) -> Result<Value, AllocError> {
+    let mut list = Vec::new(alloc);
+    for fold in folds {
+        let (first, last) = (fold.first as u64, fold.last as u64);
+        list.push(json!(in alloc; {"startLine": first, "endLine": last, "kind": "comment"})?)?;
+    }
+    Ok(Value::Array(list))
+}
+
+/// The tokens of a text, by their numbers.
+pub fn token_list(alloc: Global, numbers: &[usize]) -> Result<Value, AllocError> {
+    let mut list = Vec::new(alloc);
+    for number in numbers {
+        list.push(json!(in alloc; (*number as u64))?)?;
+    }
+    let list = Value::Array(list);
+    json!(in alloc; {"data": list})
+}
+
+/// The range of a stretch of the text whose places these are.
+fn span_form(alloc: Global, places: &mut Places<'_>, span: Span) -> Result<Value, AllocError>
+    ensures text { places.new ≡ places.old }
+    ensures form { IfOk result (λ value. view value ≡ span_form places.old span) }
+{
+    let start = places.place_or_end(span.start);
+    let end = places.place_or_end(span.end);
+    range_form(alloc, start, end)
+}
+
+/// A place in a document. `AllocError` where a growth was refused.
+pub fn location_form(
+    alloc: Global,
+    uri: &str,
+    places: &mut Places<'_>,
+    span: Span,
+) -> Result<Value, AllocError> {
+    let range = span_form(alloc, places, span)?;
+    json!(in alloc; {"uri": uri, "range": range})
+}
+
+/// A place that is marked. `AllocError` where a growth was refused.
+pub fn highlight_form(
+    alloc: Global,
+    places: &mut Places<'_>,
+    span: Span,
+) -> Result<Value, AllocError> {
+    let range = span_form(alloc, places, span)?;
+    json!(in alloc; {"range": range})
+}
+
+/// The edit that puts a text in place of a stretch. `AllocError` where a growth was refused.
+pub fn edit_form(
+    alloc: Global,
+    places: &mut Places<'_>,
+    span: Span,
+    text: &str,
+) -> Result<Value, AllocError>
+    ensures text { places.new ≡ places.old }
+    ensures form { IfOk result (λ value. view value ≡ edit_form places.old text.now span) }
+{
+    let range = span_form(alloc, places, span)?;
+    json!(in alloc; {"range": range, "newText": text})
+}
+
+/// The edits of a document in one of its versions. `AllocError` where a growth was refused.
+pub fn edits_of_document(
+    alloc: Global,
+    uri: &str,
+    version: Option<i64>,
+    edits: Vec<Value>,
+) -> Result<Value, AllocError> {
+    let edits = Value::Array(edits);
+    let version = match version {
+        Some(version) => json!(in alloc; version)?,
+        None => Value::Null,
+    };
+    json!(in alloc; {"textDocument": {"uri": uri, "version": version}, "edits": edits})
+}
+
+/// A name that may be chosen.
+pub fn item_form(alloc: Global, label: &str, kind: NameKind) -> Result<Value, AllocError> {
+    let number: u64 = match kind {
+        NameKind::Message => 21,
+        NameKind::Term | NameKind::Variable => 6,
+        NameKind::Function => 3,
+    };
+    json!(in alloc; {"label": label, "kind": number})
+}
+
+/// What the workspace knows of a name.
+pub fn known_symbol(
+    alloc: Global,
+    known: &Known<'_>,
+    places: &mut Places<'_>,
+    occurrence: Occurrence,
+) -> Result<Value, AllocError> {
+    let name = name_of(known.text, occurrence);
+    let location = location_form(alloc, known.uri, places, occurrence.place())?;
+    let (kind, shown) = match (name.attribute, name.kind) {
+        (Some(attribute), _) => (SymbolKind::Attribute, attribute),
+        (None, NameKind::Term) => (SymbolKind::Term, name.name),
+        (None, _) => (SymbolKind::Message, name.name),
+    };
+    let number = kind_number(kind);
+    let symbol = json!(in alloc; {"name": shown, "kind": number, "location": location})?;
+    match name.attribute {
+        None => Ok(symbol),
+        Some(_) => with_member(
+            alloc,
+            symbol,
+            "containerName",
+            json!(in alloc; (name.name))?,
+        ),
+    }
+}
+
+/// An object with a member more.
+pub fn with_member(
+    alloc: Global,
+    object: Value,
+    key: &str,
+    member: Value,
+) -> Result<Value, AllocError> {
+    let mut object = object;
+    if let Some(members) = object.as_object_mut() {
+        drop(members.insert(String::from_str(alloc, key)?, member)?);
+    }
+    Ok(object)
+}
+
+/// A range, by its two places.
+pub(crate) fn range_form(alloc: Global, start: Place, end: Place) -> Result<Value, AllocError>
+    ensures { IfOk result (λ value. view value ≡ range_form start end) }
+{
+    let start = place_form(alloc, start)?;
+    let end = place_form(alloc, end)?;
+    json!(in alloc; {"start": start, "end": end})
+}
+
+/// A place.
+fn place_form(alloc: Global, place: Place) -> Result<Value, AllocError>
+    ensures { IfOk result (λ value. view value ≡ place_form place) }
+{
+    let (line, character) = (place.line as u64, place.character as u64);
+    json!(in alloc; {"line": line, "character": character})
+}

@@ -1,0 +1,271 @@
+//! The files of the workspace's folders, as they were read last.
+ghost use Rattle.std.specs.Prelude.{◌≡◌};
+
+use crate::closed::Closed;
+use crate::opened::Open;
+use crate::originals::Reference;
+use crate::settings::settings_in;
+use fluent_syntax_names::{DefinedNames, Kind};
+use ftl_files::{Folders, Settings, SourceFile, SourceFiles, is_below, path_of_uri, read_files};
+use serde_json::Value;
+use std::alloc::{AllocError, Global};
+use std::collections::BTreeMap;
+
+/// A folder that an editor works in.
+#[derive(Drop)]
+struct Folder {
+    /// Its path, which doesn't end in a `/`.
+    path: String,
+    /// The kinds of findings that are not told of its files.
+    ignored: Vec<Kind>,
+    /// Where the reference language has its files, if that is said.
+    reference: Option<Reference>,
+}
+
+impl Folder {
+    /// One that says nothing of itself.
+    fn new(alloc: Global, path: &str) -> Result<Folder, AllocError> {
+        Ok(Folder {
+            path: String::from_str(alloc, path)?,
+            ignored: Vec::new(alloc),
+            reference: None,
+        })
+    }
+
+    /// Reads anew what it says of itself.
+    ///
+    /// `AllocError` where a growth was refused.
+    fn read_settings<F: Folders>(&mut self, alloc: Global, files: &F) -> Result<(), AllocError> {
+        match settings_in(alloc, files, self.path.as_str())? {
+            Some(
+                Settings {
+                    reference,
+                    ignored,
+                    ..
+                },
+            ) => {
+                self.reference = match reference {
+                    Some(name) => Reference::named(alloc, self.path.as_str(), name.as_str())?,
+                    None => None,
+                };
+                self.ignored = ignored;
+            }
+            None => {
+                self.reference = None;
+                self.ignored = Vec::new(alloc);
+            }
+        }
+        Ok(())
+    }
+}
+
+/// The folders that an editor works in, and the files below them.
+#[derive(Drop)]
+pub struct Workspace {
+    folders: Vec<Folder>,
+    /// The files, by their paths.
+    files: BTreeMap<String, Closed>,
+    /// Whether these are all files below the folders.
+    is_whole: bool,
+    /// The names that those of them define that are not open. None where they were not looked up since that changed.
+    defined: Option<DefinedNames>,
+    /// Whether the editor can be asked to watch files.
+    can_watch: bool,
+}
+
+impl Workspace {
+    /// One without folders.
+    pub fn new(alloc: Global) -> Self {
+        Workspace {
+            folders: Vec::new(alloc),
+            files: BTreeMap::new(alloc),
+            is_whole: false,
+            defined: None,
+            can_watch: false,
+        }
+    }
+
+    /// The workspace of which an editor tells in its `initialize`. No file was read.
+    pub fn told(alloc: Global, message: &Value) -> Result<Self, AllocError> {
+        let mut folders = Vec::new(alloc);
+        for uri in folder_uris(alloc, message)?.iter() {
+            if let Some(path) = path_of_uri(alloc, *uri)? {
+                folders.push(Folder::new(alloc, path.as_str().trim_end_matches('/'))?)?;
+            }
+        }
+        Ok(Workspace {
+            folders,
+            files: BTreeMap::new(alloc),
+            is_whole: false,
+            defined: None,
+            can_watch: can_watch(message),
+        })
+    }
+
+    /// The files, by their paths.
+    pub fn files(&self) -> &BTreeMap<String, Closed>
+        ensures { result.now ≡ self.now.files }
+    {
+        &self.files
+    }
+
+    /// Whether the editor is to watch the files.
+    pub fn wants_watch(&self) -> bool {
+        self.can_watch && !self.folders.is_empty()
+    }
+
+    /// Reads the files anew. What is said of one whose text is the same is kept.
+    ///
+    /// `AllocError` where a growth was refused.
+    pub fn read<F: Folders>(&mut self, alloc: Global, files: &F) -> Result<(), AllocError> {
+        let mut found = BTreeMap::new(alloc);
+        let mut all = true;
+        for folder in self.folders.iter_mut() {
+            folder.read_settings(alloc, files)?;
+            let SourceFiles {
+                files: sources,
+                is_whole,
+            } = read_files(alloc, files, folder.path.as_str())?;
+            all = all && is_whole;
+            for file in sources {
+                let SourceFile { path, text } = file;
+                let before = self.files.remove(path.as_str());
+                match Closed::read(alloc, before, path.as_str(), text)? {
+                    Some(closed) => drop(found.insert(path, closed)?),
+                    None => all = false,
+                }
+            }
+        }
+        self.files = found;
+        self.is_whole = all;
+        self.defined = None;
+        Ok(())
+    }
+
+    /// Whether all files are known that may define what a file at the path refers to: it stands below one of the
+    /// folders, and no file of them was left out.
+    pub fn surrounds(&self, path: &str) -> bool {
+        self.is_whole && self.searches(path)
+    }
+
+    /// Whether files are looked for where the path stands, below one of the folders.
+    pub fn searches(&self, path: &str) -> bool {
+        self.folders
+            .iter()
+            .any(|folder| is_searched(folder.path.as_str(), path))
+    }
+
+    /// The kinds of findings that are not told of a file at the path: those that a folder leaves out below which it
+    /// stands. `AllocError` where a growth was refused.
+    pub fn ignored_at(&self, alloc: Global, path: &str) -> Result<Vec<Kind>, AllocError> {
+        let mut ignored = Vec::new(alloc);
+        for folder in &self.folders {
+            if is_below(folder.path.as_str(), path) {
+                ignored.extend_from_slice(&folder.ignored)?;
+            }
+        }
+        Ok(ignored)
+    }
+
+    /// The path of the file of the reference language that the one at the path is to be a translation of. None where
+    /// it is to be none of any. `AllocError` where a growth was refused.
+    pub fn original_of(&self, alloc: Global, path: &str) -> Result<Option<String>, AllocError> {
+        for folder in &self.folders {
+            if let Some(reference) = &folder.reference {
+                let original = reference.original_of(alloc, path)?;
+                if original.is_some() {
+                    return Ok(original);
+                }
+            }
+        }
+        Ok(None)
+    }
+
+    /// The path as it is shown: without the folder below which it stands.
+    pub fn shown<'p>(&self, path: &'p str) -> &'p str {
+        for folder in &self.folders {
+            if is_below(folder.path.as_str(), path) {
+                if let Some(below) = path.strip_prefix(folder.path.as_str()) {
+                    return below.trim_start_matches('/');
+                }
+            }
+        }
+        path
+    }
+
+    /// The names that the closed files define. None where they were not looked up.
+    pub fn defined(&self) -> Option<&DefinedNames> {
+        self.defined.as_ref()
+    }
+
+    /// Forgets the names that the closed files define, since others are closed now.
+    pub fn forget_defined(&mut self) {
+        self.defined = None;
+    }
+
+    /// Looks up the names that the files define that are not among the open documents, if that was not done.
+    ///
+    /// `AllocError` where a growth was refused.
+    pub fn look_up_defined(
+        &mut self,
+        alloc: Global,
+        documents: &BTreeMap<String, Open>,
+    ) -> Result<(), AllocError> {
+        if self.defined.is_none() {
+            let mut names = DefinedNames::new(alloc);
+            for (path, file) in self.files.iter() {
+                if !is_open(documents, path.as_str()) {
+                    names.add(alloc, file.text.as_str(), &file.mentions)?;
+                }
+            }
+            self.defined = Some(names);
+        }
+        Ok(())
+    }
+}
+
+/// Whether files are looked for where the path stands, if they are looked for below the folder.
+fn is_searched(folder: &str, path: &str) -> bool {
+    match path.strip_prefix(folder) {
+        Some(behind) => is_below(folder, path) && !behind.contains("/."),
+        None => false,
+    }
+}
+
+/// Whether one of the documents is that of the path.
+pub fn is_open(documents: &BTreeMap<String, Open>, path: &str) -> bool {
+    documents
+        .values()
+        .any(|open| open.path.as_deref() == Some(path))
+}
+
+/// The URIs of the folders of which an editor tells, or of its one folder.
+fn folder_uris(alloc: Global, message: &Value) -> Result<Vec<&str>, AllocError> {
+    let mut uris = Vec::new(alloc);
+    match message
+        .pointer("/params/workspaceFolders")
+        .and_then(Value::as_array)
+    {
+        Some(folders) => {
+            for folder in folders {
+                if let Some(uri) = folder.get("uri").and_then(Value::as_str) {
+                    uris.push(uri)?;
+                }
+            }
+        }
+        None => {
+            if let Some(uri) = message.pointer("/params/rootUri").and_then(Value::as_str) {
+                uris.push(uri)?;
+            }
+        }
+    }
+    Ok(uris)
+}
+
+/// Whether an editor that says this of itself can be asked to watch files.
+fn can_watch(message: &Value) -> bool {
+    message
+        .pointer("/params/capabilities/workspace/didChangeWatchedFiles/dynamicRegistration")
+        .and_then(Value::as_bool)
+        .unwrap_or(false)
+}

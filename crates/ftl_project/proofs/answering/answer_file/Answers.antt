@@ -1,0 +1,31 @@
+use Rattle.std.proofs.Common.{ap, refl, string_bytes}
+use Rattle.ftl.specs.Watched.{inner_of}
+use Rattle.ftl_project.specs.Faults.{IsFault}
+use Rattle.ftl_project.specs.Runs.{MeetsFile}
+use Rattle.ftl_project.specs.Tally.{answered}
+use Rattle.ftl_project.proofs.Counting.{Writes-told, on_ok_then}
+use Rattle.ftl_project.proofs.answering.answer_file.Goals as goal
+
+pub returns-in-Ok-clause-counted : goal.returns-in-Ok-clause-counted
+returns-in-Ok-clause-counted g c =
+    let answer = c.in-Ok.answer in
+    let found = c.in-Ok.ensures.answer in
+    on_ok_then c.put_answer.result (λ appends. (
+      answered answer.errors answer.is_concerned,
+      string_bytes answer.text,
+      (found.0, found.1, found.2),
+      c.put_answer.ensures.counted,
+      appends,
+    )) c.put_answer.ensures.written
+
+pub returns-in-Err-clause-counted : goal.returns-in-Err-clause-counted
+returns-in-Err-clause-counted g c =
+    let answering = c.args.answering.now in
+    let bytes = g.S.Store.bytes_at c.args.store.now c.args.path.now in
+    let written = g.O.Write.contents in
+    let refuses = g.A.Answering.refuses answering in
+    Writes-told (MeetsFile g.S.Store.fails (g.A.Answering.answers answering) refuses c.args.path.now bytes)
+    (IsFault g.S.Store.fails bytes refuses) c.tell.result c.in-Err.fault c.args.tally.now c.tell.new.tally
+    (written (inner_of c.args.streams.now.out.now)) (written (inner_of c.tell.new.streams.out.now))
+    (λ status fails. (fails, refl)) c.in-Err.ensures.fault c.tell.ensures.counted
+    (ap (λ out. written (inner_of out.now)) c.tell.ensures.out)

@@ -1,0 +1,86 @@
+//! How a text is shown in a terminal, and what stands below it.
+ghost use Rattle.std.specs.Prelude.{◌≡◌, ◌++◌, ◌≤◌, OnOk, chars, length, replicate, string_bytes};
+ghost use Rattle.ftl_project.specs.Excerpt.{below, below_char, is_hidden, shown, shown_char, shown_text, window};
+ghost use Rattle.ftl_project.specs.Excerpt.{window_start};
+
+use std::alloc::AllocError;
+use unicode_width::UnicodeWidthChar;
+
+/// How many characters are shown of what stands before a place, and of what stands from there on.
+pub(crate) const WINDOW: usize = 100;
+
+/// Which character is the first that is shown of what stands before a place, counted from 0.
+pub(crate) fn window_start(front: &str) -> usize
+    ensures { result ≡ window_start front.now }
+{
+    front.chars().count().saturating_sub(WINDOW)
+}
+
+/// Adds the window of the text from its character of that number on, with U+FFFD for what a terminal would obey.
+pub(crate) fn push_shown(out: &mut String, text: &str, start: usize) -> Result<(), AllocError>
+    ensures { OnOk result (string_bytes out.new ≡ string_bytes out.old ++ shown start text.now) }
+{
+    for c in text.chars().skip(start).take(WINDOW) {
+        push_shown_char(out, c)?;
+    }
+    Ok(())
+}
+
+/// Adds the whole text, with U+FFFD for each control character but the tab, line ends among them: a name of a file may
+/// have any.
+///
+/// `AllocError`: a growth was refused; what was added until then stays.
+pub fn push_shown_text(out: &mut String, text: &str) -> Result<(), AllocError>
+    ensures { OnOk result (string_bytes out.new ≡ string_bytes out.old ++ shown_text text.now) }
+{
+    for c in text.chars() {
+        push_shown_char(out, c)?;
+    }
+    Ok(())
+}
+
+fn push_shown_char(out: &mut String, c: char) -> Result<(), AllocError>
+    ensures { OnOk result (string_bytes out.new ≡ string_bytes out.old ++ shown_char c) }
+{
+    match c {
+        '\t' => out.push('\t'),
+        c if is_hidden(c) => out.push('\u{FFFD}'),
+        c => out.push(c),
+    }
+}
+
+/// Adds what stands below that window: tabs below tabs, and spaces for the columns that the others take.
+pub(crate) fn push_below(out: &mut String, text: &str, start: usize) -> Result<(), AllocError>
+    ensures { OnOk result (string_bytes out.new ≡ string_bytes out.old ++ below start text.now) }
+{
+    for c in text.chars().skip(start).take(WINDOW) {
+        push_below_char(out, c)?;
+    }
+    Ok(())
+}
+
+fn push_below_char(out: &mut String, c: char) -> Result<(), AllocError>
+    ensures { OnOk result (string_bytes out.new ≡ string_bytes out.old ++ below_char c) }
+{
+    match c {
+        '\t' => out.push('\t'),
+        c if is_hidden(c) => out.push(' '),
+        c => push_spaces(out, c.width().unwrap_or(0)),
+    }
+}
+
+fn push_spaces(out: &mut String, count: usize) -> Result<(), AllocError>
+    ensures { OnOk result (string_bytes out.new ≡ string_bytes out.old ++ replicate count 32) }
+{
+    for _ in 0..count {
+        out.push(' ')?;
+    }
+    Ok(())
+}
+
+/// Whether a terminal would obey the character: a control character, but the tab, which is shown as it is.
+fn is_hidden(c: char) -> bool
+    ensures { result ≡ is_hidden c }
+{
+    c < ' ' || c > '~' && c < '\u{A0}'
+}

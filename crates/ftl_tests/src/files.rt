@@ -1,0 +1,5 @@
+//! Tests of files: on the disk and in memory, as calls of the system fail, and what an `ftl.toml` says.
+mod disk;
+mod memory;
+mod settings;
+mod shelf;

@@ -1,0 +1,4 @@
+//! Tests of the language server: documents, sessions and workspaces.
+mod documents;
+mod sessions;
+mod workspace;

@@ -1,0 +1,141 @@
+//! Runs over files in memory, with what they write and count.
+
+use fluent_syntax::parser::Edition;
+use fluent_syntax_names::Kind;
+use fluent_syntax_tests::alike::{assert_holds, assert_same, assert_same_text};
+use ftl::{Command, Watched};
+use ftl_files::Memory;
+use ftl_project::{
+    Form, Pair, Reading, Share, Streams, Tally, Telling, check_files, compare_files, convert_files,
+    lint_files, name_files, print_files, write_files,
+};
+use std::alloc::Global;
+use std::test::Fail;
+
+/// A file: its path and its bytes.
+pub(crate) type File = (&'static str, &'static [u8]);
+
+/// What is done with the files.
+#[derive(Clone, Copy)]
+pub(crate) enum Task {
+    Check(Form),
+    Write(Edition),
+    Name(Edition),
+    Print(Command),
+    Convert,
+    Lint(Form, &'static [Kind]),
+    /// The first is compared with the second, which may not be there.
+    Compare(Form),
+}
+
+/// Files, and what a run over them has written and counted.
+#[derive(Drop)]
+pub(crate) struct Bench {
+    pub(crate) memory: Memory,
+    files: Vec<String>,
+    pub(crate) tally: Tally,
+    pub(crate) share: Share,
+    out: Watched<Vec<u8>>,
+    err: Watched<Vec<u8>>,
+}
+
+impl Bench {
+    /// These files, and a path where none is for each that has no bytes.
+    pub(crate) fn new(alloc: Global, files: &[File]) -> Result<Self, Fail> {
+        let mut memory = Memory::new(alloc);
+        let mut paths = Vec::new(alloc);
+        for (path, bytes) in files {
+            if !bytes.is_empty() {
+                memory.put(*path, *bytes)?;
+            }
+            paths.push(String::from_str(alloc, *path)?)?;
+        }
+        Ok(Bench {
+            memory,
+            files: paths,
+            tally: Tally::new(),
+            share: Share {
+                wanted: 0,
+                missing: 0,
+            },
+            out: Watched::new(Vec::new(alloc)),
+            err: Watched::new(Vec::new(alloc)),
+        })
+    }
+
+    /// Runs over the files, and fails where the run stops.
+    pub(crate) fn run(&mut self, alloc: Global, task: Task) -> Result<(), Fail> {
+        let pairs = self.pairs(alloc)?;
+        let Bench {
+            memory,
+            files,
+            tally,
+            share,
+            out,
+            err,
+        } = self;
+        let mut streams = Streams { out, err };
+        let to = &mut streams;
+        let one = reading(Edition::One);
+        let ended = match task {
+            Task::Check(form) => check_files(alloc, memory, files, one, form, tally, to),
+            Task::Write(edition) => write_files(alloc, memory, files, reading(edition), tally, to),
+            Task::Name(edition) => name_files(alloc, memory, files, reading(edition), tally, to),
+            Task::Print(command) => print_files(alloc, memory, files, command, 2, tally, to),
+            Task::Convert => convert_files(alloc, memory, files, tally, to),
+            Task::Lint(form, ignored) => {
+                let telling = Telling { form, ignored };
+                lint_files(alloc, memory, files, one, telling, tally, to)
+            }
+            Task::Compare(form) => {
+                compare_files(alloc, memory, &pairs, one, form, tally, share, to)
+            }
+        };
+        assert_holds(alloc, "the run ends", ended.is_ok())
+    }
+
+    fn pairs(&self, alloc: Global) -> Result<Vec<Pair>, Fail> {
+        let mut pairs = Vec::new(alloc);
+        if let [reference, other] = self.files.as_slice() {
+            pairs.push(Pair {
+                reference: String::from_str(alloc, reference.as_str())?,
+                other: String::from_str(alloc, other.as_str())?,
+                is_there: self.memory.bytes_at(other.as_str()).is_some(),
+            })?;
+        }
+        Ok(pairs)
+    }
+
+    /// Fails where the run has written something else: `out`, and what begins with `err`, or nothing.
+    pub(crate) fn assert_told(
+        self,
+        alloc: Global,
+        shows: &str,
+        out: &str,
+        err: &str,
+    ) -> Result<(), Fail> {
+        let told = self.out.into_inner();
+        assert_same_text(alloc, shows, str::from_utf8(told.as_slice())?, out)?;
+        let noted = self.err.into_inner();
+        let noted = str::from_utf8(noted.as_slice())?;
+        let is_so = noted.starts_with(err) && noted.is_empty() == err.is_empty();
+        assert_holds(alloc, noted, is_so)
+    }
+
+    /// Fails where the file has other bytes, or where there is one and none is wanted.
+    pub(crate) fn assert_stands(&self, alloc: Global, path: &str, text: &str) -> Result<(), Fail> {
+        assert_same(
+            alloc,
+            path,
+            &self.memory.bytes_at(path),
+            &Some(text.as_bytes()),
+        )
+    }
+}
+
+fn reading(edition: Edition) -> Reading {
+    Reading {
+        edition,
+        nesting: 2,
+    }
+}

@@ -1,3 +1,0 @@
-pub mod OriginalLemmas
-pub mod ReadingLemmas
-pub mod UriLemmas
