@@ -2,7 +2,7 @@
 use Rattle.std.proofs.Common.{◌≡◌, ℕ, List, [], Bool, true, false, Option, Some, None, Result, Ok, Err}
 use Rattle.std.proofs.Common.{refl, sym, ap, ◌∙◌}
 use Rattle.std.specs.Prelude.{ℤ, ◌&&◌, ◌≢◌, ◌⊎◌}
-use Rattle.std.proofs.Common.{inl, inr, subst, true≢false, map, ◌++◌}
+use Rattle.std.proofs.Common.{inl, inr, subst, true≢false, map, All, ◌++◌}
 use Rattle.std.proofs.lemmas.List.{map-append}
 use Rattle.std.specs.Prelude.{IfOk, IfSome, OnOk, is_some, option_and_then, option_map}
 use Rattle.std.specs.Str.{bytes_eq}
@@ -20,7 +20,7 @@ use Rattle.ftl_lsp.specs.Phases.{after_notification, after_request, refusal_of}
 use Rattle.ftl_lsp.specs.Replies.{Reply, IsSent, diagnosed, silence, watch, withdrawn, diagnostics_form}
 use Rattle.ftl_lsp.specs.Replies.{sends_diagnostics, sends_none, sends_withdrawal}
 use Rattle.ftl_lsp.specs.Diagnostics.{DiagnosesText, shown}
-use Rattle.ftl_lsp.specs.Told.{TellsDocument, error_form}
+use Rattle.ftl_lsp.specs.Told.{TellsBeside, TellsDocument, error_form}
 use Rattle.ftl_lsp.specs.declared.diagnostics.Diagnostic.{Diagnostic}
 use Rattle.ftl_lsp.specs.Sessions.{Answers, AnswersNotification, AnswersRequest, AnswersRunning, Follows}
 use Rattle.ftl_lsp.specs.Sessions.{Finds, IsFound, TellsAnew, fits}
@@ -116,12 +116,13 @@ is_published old mid uri found value list same open' is tells_all =
 
 -- what is told of a document: its errors, and then what is told beside
 pub tells_document : (t : List ℕ) (errors : List Diagnostic) (values others all : List Value) →
-    ∥ DiagnosesText t (map shown errors) ∥₁ → map view values ≡ map error_form errors → all ≡ values ++ others →
-    TellsDocument t (map view all)
-tells_document t errors values others all diagnoses told is = record {
+    ∥ DiagnosesText t (map shown errors) ∥₁ → map view values ≡ map error_form errors →
+    All TellsBeside (map view others) → all ≡ values ++ others → TellsDocument t (map view all)
+tells_document t errors values others all diagnoses told beside is = record {
   errors = errors;
   diagnoses = diagnoses;
   others = map view others;
+  beside = beside;
   told_each = ap (map view) is ∙ map-append view values others ∙ ap (λ l. l ++ map view others) told;
 }
 

@@ -1,12 +1,16 @@
 -- What is told of a document, as JSON values.
-use Rattle.std.specs.Prelude.{◌≡◌, ℕ, List, ◌++◌, map, codes, string_bytes}
+use Rattle.std.specs.Prelude.{◌≡◌, ℕ, List, ◌++◌, map, codes, string_bytes, All}
 use Rattle.serde_json.specs.Data.{Data, number, unsigned, string, object, member, no_members}
+use Rattle.fluent_syntax_names.specs.Differences.{difference_name, difference_severity}
+use Rattle.fluent_syntax_names.specs.Severities as finding
 use Rattle.fluent_syntax_names.specs.declared.finding.Severity.{Severity}
 use Rattle.fluent_syntax_names.specs.declared.finding.Severity.TheVariants.{Error, Warning}
 use Rattle.ftl_lsp.specs.Diagnostics.{DiagnosesText, shown}
 use Rattle.ftl_lsp.specs.Locations.{range_form}
 use Rattle.ftl_lsp.specs.declared.diagnostics.Diagnostic.{Diagnostic}
 use Rattle.ftl_lsp.specs.declared.places.PlaceRange.{PlaceRange}
+use Rattle.ftl_lsp.specs.declared.told.ToldKind.{ToldKind}
+use Rattle.ftl_lsp.specs.declared.told.ToldKind.TheVariants.{Difference, Finding}
 
 abbrev pub severity_number : Severity → ℕ
 severity_number Error = 1
@@ -23,9 +27,36 @@ diagnostic_form range severity code message =
 abbrev pub error_form : Diagnostic → Data
 error_form d = diagnostic_form (record { start = d.start; end = d.end }) Error d.code.now (string_bytes d.message)
 
--- The list has a diagnostic for each error of the text, in order, and behind them what is found in it beside errors.
+-- ---- beside the errors
+
+abbrev pub severity_of : ToldKind → Severity
+severity_of (Finding kind) = finding.severity_of kind
+severity_of (Difference difference) = difference_severity difference
+
+-- its name, as a command line has it: no error has one of these
+abbrev pub code_of : ToldKind → List ℕ
+code_of (Finding kind) = finding.name_of kind
+code_of (Difference difference) = difference_name difference
+
+-- a diagnostic with other places
+abbrev pub diagnostic_with_related : PlaceRange → Severity → (code message : List ℕ) → (places : Data) → Data
+diagnostic_with_related range severity code message places =
+    object (member (codes "code") (string code) (member (codes "message") (string message)
+    (member (codes "range") (range_form range.start range.end) (member (codes "relatedInformation") places
+    (member (codes "severity") (number (unsigned (severity_number severity)))
+    (member (codes "source") (string (codes "ftl")) no_members))))))
+
+-- The diagnostic of a finding, or of a difference from the original.
+pub data TellsBeside : Data → Type 0 where
+  alone : (range : PlaceRange) (kind : ToldKind) (message : List ℕ) →
+      TellsBeside (diagnostic_form range (severity_of kind) (code_of kind) message)
+  with_related : (range : PlaceRange) (kind : ToldKind) (message : List ℕ) (places : Data) →
+      TellsBeside (diagnostic_with_related range (severity_of kind) (code_of kind) message places)
+
+-- The list has a diagnostic for each error of the text, in order, and behind them those of findings and differences.
 pub record TellsDocument (t : List ℕ) (list : List Data) : Type 0 where
   pub errors : List Diagnostic
   pub diagnoses : ∥ DiagnosesText t (map shown errors) ∥₁
   pub others : List Data
+  pub beside : All TellsBeside others
   pub told_each : list ≡ map error_form errors ++ others

@@ -3,7 +3,7 @@
 use crate::occurrences::{bytes_of, is_name_byte};
 use crate::originals::Original;
 use crate::places::{Place, PlaceRange, Places, START};
-use crate::told::{Related, Told};
+use crate::told::{Related, Told, ToldKind};
 use fluent_syntax::spans::Span;
 use fluent_syntax_names::{Lack, Mention, Outline, Part, RefusedNames, Side, lacks};
 use std::alloc::{AllocError, Global};
@@ -44,8 +44,7 @@ fn missing_of<'u>(
             let (range, is_junk) = entries.range_in_document(&mut places, theirs.text, lack);
             told.push(Told {
                 range,
-                severity: difference.severity(),
-                code: difference.name(),
+                kind: ToldKind::Difference(difference),
                 message: message_of(alloc, said.as_str(), shown, there.start, is_junk)?,
                 related: Some(Related {
                     uri: original.uri,
@@ -84,8 +83,7 @@ fn more_of<'u>(
         if let Some(difference) = Side::Other.difference(lack.part) {
             told.push(Told {
                 range: places.range(lack.name),
-                severity: difference.severity(),
-                code: difference.name(),
+                kind: ToldKind::Difference(difference),
                 message: difference.sentence(alloc, bytes_of(document.text, lack.name))?,
                 related: None,
             })?;

@@ -1,9 +1,10 @@
 //! What is told of a document.
-ghost use Rattle.std.specs.Prelude.{◌≡◌, option_map, IfOk, OnOk};
+ghost use Rattle.std.specs.Prelude.{◌≡◌, map, option_map, All, IfOk, OnOk};
 ghost use Rattle.serde_json.specs.View.{view};
 ghost use Rattle.ftl_lsp.specs.Opened.{texts};
 ghost use Rattle.ftl_lsp.specs.Replies.{IsSent};
 ghost use Rattle.ftl_lsp.specs.Sessions.{published, session_of};
+ghost use Rattle.ftl_lsp.specs.Told.{TellsBeside};
 
 use crate::documents::Document;
 use crate::limits::FINDINGS_LIMIT;
@@ -14,7 +15,7 @@ use crate::others::{look_up_others, others_of, outlines_of};
 use crate::remarks::remarks_of;
 use crate::replies::diagnostics_notification;
 use crate::server::Server;
-use crate::told::{Told, error_list, told_form};
+use crate::told::{Told, error_list, told_list};
 use fluent_syntax_names::{Finding, Outline, findings, findings_beside, own_findings};
 use serde_json::Value;
 use std::alloc::{AllocError, Global};
@@ -55,25 +56,20 @@ impl Server {
 
     /// What is told of a document beside its errors: what is found in it, and then how it differs from its original.
     /// Nothing of one that is too long or nests too deeply.
-    fn told_beside(&self, uri: &str, open: &Open) -> Result<Vec<Value>, AllocError> {
-        let mut list = Vec::new(self.alloc);
+    fn told_beside(&self, uri: &str, open: &Open) -> Result<Vec<Value>, AllocError>
+        ensures { IfOk result (λ list. All TellsBeside (map view list.items)) }
+    {
         if !is_sought_in(&open.document) {
-            return Ok(list);
+            return Ok(Vec::new(self.alloc));
         }
         let outline = open.document.outline(self.alloc)?;
         let differences = self.mismatches(open, &outline)?;
         let findings = self.findings_told(uri, outline)?;
         let remarks = remarks_of(self.alloc, uri, open.document.text(), &findings)?;
-        self.add_told(&mut list, &remarks)?;
-        self.add_told(&mut list, &differences)?;
+        let mut list = told_list(self.alloc, &remarks, self.related)?;
+        let mut behind = told_list(self.alloc, &differences, self.related)?;
+        list.append(&mut behind)?;
         Ok(list)
-    }
-
-    fn add_told(&self, list: &mut Vec<Value>, all: &[Told<'_>]) -> Result<(), AllocError> {
-        for told in all {
-            list.push(told_form(self.alloc, told, self.related)?)?;
-        }
-        Ok(())
     }
 
     /// What a document and its original don't have alike; nothing of one that has none, or one that is too long.

@@ -2,7 +2,7 @@
 
 use crate::occurrences::bytes_of;
 use crate::places::{PlaceRange, Places};
-use crate::told::{Related, Told};
+use crate::told::{Related, Told, ToldKind};
 use fluent_syntax::spans::Span;
 use fluent_syntax_names::Finding;
 use std::alloc::{AllocError, Global};
@@ -27,8 +27,7 @@ pub fn remarks_of<'u>(
             let kind = finding.kind;
             told.push(Told {
                 range: places.range(span),
-                severity: kind.severity(),
-                code: kind.name(),
+                kind: ToldKind::Finding(kind),
                 message: kind.sentence(alloc, bytes_of(text, span), line)?,
                 related: first_given(uri, first),
             })?;

@@ -1,12 +1,14 @@
 //! The diagnostics of a document, as the protocol has them.
-ghost use Rattle.std.specs.Prelude.{◌≡◌, map, string_bytes, IfOk};
+ghost use Rattle.std.specs.Prelude.{◌≡◌, map, string_bytes, All, IfOk};
+ghost use Rattle.serde_json.specs.Data.{Data};
 ghost use Rattle.serde_json.specs.View.{view};
-ghost use Rattle.ftl_lsp.specs.Told.{diagnostic_form, error_form, severity_number};
+ghost use Rattle.ftl_lsp.specs.Told.{TellsBeside, code_of, diagnostic_form, diagnostic_with_related, error_form};
+ghost use Rattle.ftl_lsp.specs.Told.{severity_number, severity_of};
 
 use crate::diagnostics::Diagnostic;
 use crate::places::PlaceRange;
-use crate::replies::{range_form, with_member};
-use fluent_syntax_names::Severity;
+use crate::replies::range_form;
+use fluent_syntax_names::{Difference, Kind, Severity};
 use serde_json::{Value, json};
 use std::alloc::{AllocError, Global};
 
@@ -14,12 +16,38 @@ use std::alloc::{AllocError, Global};
 #[derive(Drop)]
 pub struct Told<'u> {
     pub range: PlaceRange,
-    pub severity: Severity,
-    /// The name of its kind.
-    pub code: &'static str,
+    pub kind: ToldKind,
     pub message: String,
     /// Another place that it has to do with.
     pub related: Option<Related<'u>>,
+}
+
+/// What it is.
+#[derive(Clone, Copy)]
+pub enum ToldKind {
+    Finding(Kind),
+    Difference(Difference),
+}
+
+impl ToldKind {
+    fn severity(self) -> Severity
+        ensures { result ≡ severity_of self }
+    {
+        match self {
+            ToldKind::Finding(kind) => kind.severity(),
+            ToldKind::Difference(difference) => difference.severity(),
+        }
+    }
+
+    /// Its name, as a command line has it.
+    fn code(self) -> &'static str
+        ensures { result.now ≡ code_of self }
+    {
+        match self {
+            ToldKind::Finding(kind) => kind.name(),
+            ToldKind::Difference(difference) => difference.name(),
+        }
+    }
 }
 
 /// A place in a document, with what is said of it.
@@ -58,18 +86,58 @@ fn error_form(alloc: Global, error: &Diagnostic) -> Result<Value, AllocError>
     )
 }
 
-/// What is told beside the errors: with the other place, if the editor takes one. `AllocError` where a growth was
-/// refused.
-pub fn told_form(alloc: Global, told: &Told<'_>, takes_related: bool) -> Result<Value, AllocError> {
-    let message = told.message.as_str();
-    let value = diagnostic_form(alloc, told.range, told.severity, told.code, message)?;
+/// What is told beside the errors, in order: each with the other place, if the editor takes one. `AllocError` where a
+/// growth was refused.
+pub fn told_list(
+    alloc: Global,
+    all: &[Told<'_>],
+    takes_related: bool,
+) -> Result<Vec<Value>, AllocError>
+    ensures { IfOk result (λ list. All TellsBeside (map view list.items)) }
+{
+    let mut list = Vec::new(alloc);
+    for told in all {
+        list.push(told_form(alloc, told, takes_related)?)?;
+    }
+    Ok(list)
+}
+
+fn told_form(alloc: Global, told: &Told<'_>, takes_related: bool) -> Result<Value, AllocError>
+    ensures { IfOk result (λ value. TellsBeside (view value)) }
+{
+    let (range, message) = (told.range, told.message.as_str());
     match told.related {
         Some(related) if takes_related => {
-            let places = json!(in alloc; [(related_form(alloc, related)?)])?;
-            with_member(alloc, value, "relatedInformation", places)
+            form_with_related(alloc, range, told.kind, message, related)
         }
-        _ => Ok(value),
+        _ => {
+            let (severity, code) = (told.kind.severity(), told.kind.code());
+            diagnostic_form(alloc, range, severity, code, message)
+        }
     }
+}
+
+/// A diagnostic with another place.
+fn form_with_related(
+    alloc: Global,
+    range: PlaceRange,
+    kind: ToldKind,
+    message: &str,
+    related: Related<'_>,
+) -> Result<Value, AllocError>
+    ensures { IfOk result (λ value. (places : Data)
+        × (view value ≡ diagnostic_with_related range (severity_of kind) (code_of kind) message.now places)) }
+{
+    let range = range_form(alloc, range.start, range.end)?;
+    let places = json!(in alloc; [(related_form(alloc, related)?)])?;
+    json!(in alloc; {
+        "range": range,
+        "severity": (severity_number(kind.severity())),
+        "source": "ftl",
+        "code": (kind.code()),
+        "message": message,
+        "relatedInformation": places
+    })
 }
 
 /// A diagnostic by itself.
