@@ -59,25 +59,14 @@ interrupt() {
     exit 130
 }
 
-# Says which crate was proved, as the lines of scripts/prove come.
-tell() {
-    local line number=0
-    while IFS= read -r line; do
-        [[ "$line" != *" is proved" ]] || say "$line ($((++number)) of ${#crates[@]})"
-    done
-}
+# Says how far it is, as the lines of scripts/prove come.
+tell() { sed -un 's/.* of .* crates, .*/ftl: &/p' >&2; }
 
-# Proves the libraries that the program stands on, and in a copy the program, which is built and run once there.
-prove() {
-    "$top/scripts/prove" "$crate" && "$top/scripts/lay" --built "$room" "$crate" && cd "$room/crates/$crate" &&
-        rt run -- $(cat args 2>/dev/null) <stdin && echo "$crate is proved"
-}
-
-# Proves and builds the program. The libraries were built of the sources in the copy, or the copy builds them anew.
+# Proves and builds the program, in a copy. The libraries were built of the sources in the copy, or it builds them anew.
 build() {
     room="$(mktemp -d)"
     set -m
-    prove </dev/null > >(tee "$room.log" | tell) 2>&1 9>&- &
+    "$top/scripts/prove" --in "$room" "$crate" </dev/null > >(tee "$room.log" | tell) 2>&1 9>&- &
     job=$!
     set +m
     wait "$job" || { job=""; cat "$room.log" >&2; fail "the program was not built"; }
@@ -102,7 +91,7 @@ renew() {
         trap leave EXIT
         trap interrupt INT TERM HUP
         until listed="$(listing)"; is_same; do
-            say "building the program $name; from nothing that takes about half an hour on four processors, longer on fewer"
+            say "building the program $name, which is kept: later uses start at once"
             build
         done
         trap - EXIT INT TERM HUP
