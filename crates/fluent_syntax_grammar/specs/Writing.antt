@@ -1,9 +1,9 @@
 -- What a writer does with marks.
 use Rattle.std.specs.Prelude.{◌≡◌, ℕ, ◌+◌, List, [], ◌∷◌, Bool, true, false, if◌then◌else◌, codes}
 use Rattle.fluent_syntax_grammar.specs.Written.{Mark, literal, line_end, last_of, text_after}
-use Rattle.fluent_syntax_writer.specs.Sink.{Takes, TakesBeginning}
-use Rattle.fluent_syntax_writer.specs.declared.text_writer.TextWriter.{TextWriter}
-use Rattle.fluent_syntax_writer.specs.declared.serializer.marks.Level.{Level, Top, Deeper'}
+use Rattle.fluent_syntax_grammar.specs.Sink.{Takes, TakesBeginning}
+use Rattle.fluent_syntax_grammar.specs.declared.text_writer.TextWriter.{TextWriter}
+use Rattle.fluent_syntax_grammar.specs.declared.literals.Level.{Level, Top, Deeper'}
 
 -- the number of frames
 abbrev pub depth : Level → ℕ

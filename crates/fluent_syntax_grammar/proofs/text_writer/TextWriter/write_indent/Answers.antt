@@ -1,5 +1,5 @@
-use Rattle.fluent_syntax_writer.proofs.Indents.{IsIndented-more}
-use Rattle.fluent_syntax_writer.proofs.text_writer.TextWriter.write_indent.Goals as goal
+use Rattle.fluent_syntax_grammar.proofs.Indents.{IsIndented-more}
+use Rattle.fluent_syntax_grammar.proofs.text_writer.TextWriter.write_indent.Goals as goal
 
 pub loop-frame-preserved : goal.loop-frame-preserved
 loop-frame-preserved g c =

@@ -1,7 +1,7 @@
 //! Pieces of text, handed to a sink until it refuses one.
 ghost use Rattle.std.specs.Prelude.{◌≡◌, None, false};
 ghost use Rattle.fluent_syntax_grammar.specs.Written.{last_of};
-ghost use Rattle.fluent_syntax_writer.specs.Writing.{Appends};
+ghost use Rattle.fluent_syntax_grammar.specs.Writing.{Appends};
 
 use crate::sink::{SinkError, TextSink};
 use std::marker::PhantomData;
@@ -20,7 +20,7 @@ fn last_byte(before: Option<u8>, piece: &str) -> Option<u8>
 pub struct TextWriter<'w, T, W> {
     sink: &'w mut W,
     /// The last byte written here, whatever the sink held before.
-    pub(crate) last: Option<u8>,
+    pub last: Option<u8>,
     /// Whether the sink has refused a piece. It is handed no further one.
     refused: bool,
     texts: PhantomData<T>,
@@ -42,7 +42,7 @@ impl<'w, T, W: TextSink> TextWriter<'w, T, W> {
     }
 
     /// A writer that goes on after another to the same sink, where that one left off.
-    pub(crate) fn from_parts(sink: &'w mut W, last: Option<u8>, refused: bool) -> Self
+    pub fn from_parts(sink: &'w mut W, last: Option<u8>, refused: bool) -> Self
         ensures same_sink { result.sink.ghost_name ≡ sink.entry.ghost_name }
         ensures sink { result.sink.now ≡ sink.old }
         ensures last { result.last ≡ last }

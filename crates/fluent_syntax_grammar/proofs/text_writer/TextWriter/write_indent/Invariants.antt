@@ -1,6 +1,6 @@
-use Rattle.fluent_syntax_writer.specs.Writing.{depth}
-use Rattle.fluent_syntax_writer.proofs.Indents.{IsIndented}
-use Rattle.fluent_syntax_writer.proofs.text_writer.TextWriter.write_indent.Given as goal
+use Rattle.fluent_syntax_grammar.specs.Writing.{depth}
+use Rattle.fluent_syntax_grammar.proofs.Indents.{IsIndented}
+use Rattle.fluent_syntax_grammar.proofs.text_writer.TextWriter.write_indent.Given as goal
 
 abbrev pub invariant-loop-frame : goal.invariant-loop-frame
 invariant-loop-frame g l = record {

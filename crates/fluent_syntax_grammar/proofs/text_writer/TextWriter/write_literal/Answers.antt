@@ -1,5 +1,5 @@
-use Rattle.fluent_syntax_writer.proofs.Marks.{Writes-one, literal-top}
-use Rattle.fluent_syntax_writer.proofs.text_writer.TextWriter.write_literal.Goals as goal
+use Rattle.fluent_syntax_grammar.proofs.MarksWritten.{Writes-one, literal-top}
+use Rattle.fluent_syntax_grammar.proofs.text_writer.TextWriter.write_literal.Goals as goal
 
 pub returns-in-Top : goal.returns-in-Top
 returns-in-Top g c =

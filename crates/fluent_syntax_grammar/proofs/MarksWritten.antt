@@ -2,9 +2,9 @@
 use Rattle.std.proofs.Common.{◌≡◌, ℕ, List, [], ◌∷◌, ◌++◌, Option, Bool, true, false, if◌then◌else◌}
 use Rattle.std.proofs.Common.{refl, sym, ap, ◌∙◌, append_assoc, append-nil}
 use Rattle.fluent_syntax_grammar.specs.Written.{Text, indent, Mark, literal, last_of, is_last, mark_text, text_after}
-use Rattle.fluent_syntax_writer.specs.Writing.{Appends, Writes}
-use Rattle.fluent_syntax_writer.proofs.Bytes.{last_of-append, Outcome-append, Appends-none, Appends-bytes}
-use Rattle.fluent_syntax_writer.specs.declared.text_writer.TextWriter.{TextWriter}
+use Rattle.fluent_syntax_grammar.specs.Writing.{Appends, Writes}
+use Rattle.fluent_syntax_grammar.proofs.Bytes.{last_of-append, Outcome-append, Appends-none, Appends-bytes}
+use Rattle.fluent_syntax_grammar.specs.declared.text_writer.TextWriter.{TextWriter}
 
 -- a literal that has no indent
 pub literal-top : (last : Option ℕ) (bs : Text) → mark_text last (literal 0 bs) ≡ bs

@@ -5,10 +5,10 @@ use Rattle.std.specs.Prelude.{slice_get}
 use Rattle.std.specs.Option.{option_or}
 use Rattle.fluent_syntax_grammar.specs.Written.{Text, last_of}
 use Rattle.fluent_syntax_grammar.proofs.TextEnds.{last_of-cons}
-use Rattle.fluent_syntax_writer.specs.Sink.{Takes, TakesBeginning}
-use Rattle.fluent_syntax_writer.specs.Writing.{Outcome, appended, stopped, silent, Appends}
-use Rattle.fluent_syntax_writer.proofs.Sinks.{Takes-none, Takes-append, TakesBeginning-after, TakesBeginning-before}
-use Rattle.fluent_syntax_writer.specs.declared.text_writer.TextWriter.{TextWriter}
+use Rattle.fluent_syntax_grammar.specs.Sink.{Takes, TakesBeginning}
+use Rattle.fluent_syntax_grammar.specs.Writing.{Outcome, appended, stopped, silent, Appends}
+use Rattle.fluent_syntax_grammar.proofs.Sinks.{Takes-none, Takes-append, TakesBeginning-after, TakesBeginning-before}
+use Rattle.fluent_syntax_grammar.specs.declared.text_writer.TextWriter.{TextWriter}
 
 -- ---- The last byte
 

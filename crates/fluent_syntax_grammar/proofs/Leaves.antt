@@ -2,10 +2,10 @@
 use Rattle.std.proofs.Common.{◌≡◌, ℕ, suc, ◌+◌, ◌<◌, List, [], ◌∷◌, ◌++◌, length, get_or, drop, sym, ap, ◌∙◌, arith}
 use Rattle.std.proofs.Math.Seq.{drop-cons}
 use Rattle.fluent_syntax_grammar.specs.Written.{Mark}
-use Rattle.fluent_syntax_writer.specs.Writing.{Appends, Writes}
-use Rattle.fluent_syntax_writer.proofs.Bytes.{Appends-append}
-use Rattle.fluent_syntax_writer.proofs.Marks.{Writes-none, Writes-append}
-use Rattle.fluent_syntax_writer.specs.declared.text_writer.TextWriter.{TextWriter}
+use Rattle.fluent_syntax_grammar.specs.Writing.{Appends, Writes}
+use Rattle.fluent_syntax_grammar.proofs.Bytes.{Appends-append}
+use Rattle.fluent_syntax_grammar.proofs.MarksWritten.{Writes-none, Writes-append}
+use Rattle.fluent_syntax_grammar.specs.declared.text_writer.TextWriter.{TextWriter}
 
 module _ {T W : Type 0} (text : W → List ℕ) (room : W → ℕ) where
   pub record Leaves (old now : TextWriter T W) (left all : List Mark) : Type 0 where

@@ -3,9 +3,9 @@ use Rattle.std.proofs.Common.{◌≡◌, ℕ, ◌+◌, ◌-◌, ◌*◌, List, [
 use Rattle.std.proofs.lemmas.List.{replicate-append-replicate}
 use Rattle.std.proofs.Math.Nat.{mul-add}
 use Rattle.fluent_syntax_grammar.specs.Written.{indent, short_indent}
-use Rattle.fluent_syntax_writer.specs.Writing.{Appends}
-use Rattle.fluent_syntax_writer.proofs.Bytes.{Appends-append, Appends-bytes}
-use Rattle.fluent_syntax_writer.specs.declared.text_writer.TextWriter.{TextWriter}
+use Rattle.fluent_syntax_grammar.specs.Writing.{Appends}
+use Rattle.fluent_syntax_grammar.proofs.Bytes.{Appends-append, Appends-bytes}
+use Rattle.fluent_syntax_grammar.specs.declared.text_writer.TextWriter.{TextWriter}
 
 indent-append : (m n : ℕ) → indent (m + n) ≡ indent m ++ indent n
 indent-append m n = ap (λ k. replicate k 32) (mul-add 4 m n) ∙ sym (replicate-append-replicate (4 * m) (4 * n) 32)
