@@ -1,18 +1,22 @@
 #!/usr/bin/env bash
 # Runs ftl: ./ftl WORD [PATH..], where ./ftl help has the words. ./ftl install FOLDER puts the program into the folder.
 #
-# The first use proves and builds the program, and says on standard error how far it is; later uses start at once.
+# The language server is a program of its own, ftl-lsp: ./ftl lsp runs it, ./ftl install FOLDER lsp installs it.
+#
+# The first use of a program proves and builds it, and says on standard error how far it is; later uses start at once.
 # What runs was built from the sources as they are: an older program is never run.
 set -euo pipefail
 unset CDPATH
 self="${BASH_SOURCE[0]}"
 [ ! -L "$self" ] || self="$(readlink -f "$self")"
 case "$self" in */*) top="${self%/*}" ;; *) top=. ;; esac
-made="$top/crates/ftl_program/out"
 page="$top/crates/ftl_program/help.txt"
 usage="usage: ftl check|format|runtime|json|check-two|format-two"
 words="|check|format|runtime|json|check-two|format-two|from-json|lint|compare|lsp|"
 room="" job=""
+# the program's name, its crate, and where it is put once it is built
+name=ftl crate=ftl_program
+made=""
 
 say() { printf 'ftl: %s\n' "$*" >&2; }
 
@@ -30,7 +34,7 @@ listing() {
 
 # Whether the program was built from sources of the sizes and times of those that are there.
 is_current() {
-    [ -x "$made/ftl" ] && read -r -a crates 2>/dev/null <"$made/crates" && cmp -s <(listing) "$made/listing"
+    [ -x "$made/$name" ] && read -r -a crates 2>/dev/null <"$made/crates" && cmp -s <(listing) "$made/listing"
 }
 
 # One sum of all the text that the program is made from, in this folder or in a copy.
@@ -41,7 +45,7 @@ sum_of_sources() (
 )
 
 # Whether the program was built from just the sources that are there.
-is_same() { [ -x "$made/ftl" ] && [ "$(sum_of_sources "$top")" = "$(cat "$made/built-from" 2>/dev/null)" ]; }
+is_same() { [ -x "$made/$name" ] && [ "$(sum_of_sources "$top")" = "$(cat "$made/built-from" 2>/dev/null)" ]; }
 
 # Ends what was begun.
 leave() {
@@ -55,32 +59,21 @@ interrupt() {
     exit 130
 }
 
-# Says which crate was proved, as the lines of scripts/prove come.
-tell() {
-    local line number=0
-    while IFS= read -r line; do
-        [[ "$line" != *" is proved" ]] || say "$line ($((++number)) of ${#crates[@]})"
-    done
-}
+# Says how far it is, as the lines of scripts/prove come.
+tell() { sed -un 's/.* of .* crates, .*/ftl: &/p' >&2; }
 
-# Proves the libraries that the program stands on, and in a copy the program, which is built and run once there.
-prove() {
-    "$top/scripts/prove" ftl_program && "$top/scripts/lay" --built "$room" ftl_program && cd "$room/crates/ftl_program" &&
-        rt run -- $(cat args) <stdin && echo "ftl_program is proved"
-}
-
-# Proves and builds the program. The libraries were built of the sources in the copy, or the copy builds them anew.
+# Proves and builds the program, in a copy. The libraries were built of the sources in the copy, or it builds them anew.
 build() {
     room="$(mktemp -d)"
     set -m
-    prove </dev/null > >(tee "$room.log" | tell) 2>&1 9>&- &
+    "$top/scripts/prove" --in "$room" "$crate" </dev/null > >(tee "$room.log" | tell) 2>&1 9>&- &
     job=$!
     set +m
     wait "$job" || { job=""; cat "$room.log" >&2; fail "the program was not built"; }
     job=""
-    cp "$room/crates/ftl_program/out/ftl_program" "$made/ftl.new"
+    cp "$room/crates/$crate/out/$crate" "$made/$name.new"
     rm -f "$made/built-from" "$made/listing"
-    mv "$made/ftl.new" "$made/ftl"
+    mv "$made/$name.new" "$made/$name"
     sum_of_sources "$room" >"$made/built-from"
     leave
     room=""
@@ -89,7 +82,7 @@ build() {
 # Makes a program of the sources that are there, unless another run does, and notes their sizes and times.
 renew() {
     local listed
-    mapfile -t crates < <("$top/scripts/crates" ftl_program)
+    mapfile -t crates < <("$top/scripts/crates" "$crate")
     listed="$(listing)"
     if ! is_same; then
         command -v rt >/dev/null || fail "the program is not built yet, and the Rattle toolchain, which builds it, is not there (no rt on the PATH)"
@@ -98,7 +91,7 @@ renew() {
         trap leave EXIT
         trap interrupt INT TERM HUP
         until listed="$(listing)"; is_same; do
-            say "building the program; from nothing that takes about half an hour on four processors, longer on fewer"
+            say "building the program $name, which is kept: later uses start at once"
             build
         done
         trap - EXIT INT TERM HUP
@@ -114,8 +107,9 @@ refuse() {
 }
 
 install_to=""
-if [ "$#" = 2 ] && [ "$1" = install ]; then
+if [ "${1-}" = install ] && { [ "$#" = 2 ] || { [ "$#" = 3 ] && [ "$3" = lsp ]; }; }; then
     install_to="$2"
+    shift 2
 elif [ "$#" = 1 ] && [[ "|help|--help|-h|--version|" == *"|$1|"* ]]; then
     if [ "$1" = --version ]; then head -n 1 "$page"; else cat "$page"; fi
     exit
@@ -123,15 +117,21 @@ else
     [ "$#" != 0 ] || refuse
     [[ "$1" =~ ^[a-z-]+$ && "$words" == *"|$1|"* ]] || refuse "$1"
 fi
+if [ "${1-}" = lsp ]; then
+    name=ftl-lsp crate=ftl_lsp_program
+    shift
+fi
+made="$top/crates/$crate/out"
 is_current || renew
 if [ -n "$install_to" ]; then
     mkdir -p "$install_to"
-    cp "$made/ftl" "$install_to/.ftl-new-$$"
-    mv -f "$install_to/.ftl-new-$$" "$install_to/ftl"
+    cp "$made/$name" "$install_to/.$name-new-$$"
+    mv -f "$install_to/.$name-new-$$" "$install_to/$name"
+    [ "$name" = ftl-lsp ] || say "installed; the language server for editors is installed by: ./ftl install $install_to lsp"
     exit
 fi
 # with eight times the stack, five times the nesting
-if ulimit -S -s 65536 2>/dev/null && [[ "$1" != lsp && "$1" != from-json && " $* " != *" --nesting"* ]]; then
+if ulimit -S -s 65536 2>/dev/null && [[ "$name" = ftl && "$1" != from-json && " $* " != *" --nesting"* ]]; then
     set -- "$1" --nesting 10000 "${@:2}"
 fi
-exec "$made/ftl" "$@"
+exec "$made/$name" "$@"

@@ -9,7 +9,7 @@
 ;;; Commentary:
 
 ;; A mode for the files of Project Fluent.  With eglot, which Emacs has from 29 on, it shows the errors of a file as
-;; it is typed, lists its messages and terms, and formats it, by the program `ftl'.
+;; it is typed, lists its messages and terms, and formats it, by the program `ftl-lsp'.
 
 ;;; Code:
 
@@ -17,8 +17,8 @@
   "Files of Project Fluent."
   :group 'languages)
 
-(defcustom fluent-program "ftl"
-  "The program whose word `lsp' is the language server."
+(defcustom fluent-program "ftl-lsp"
+  "The program that is the language server."
   :type 'string)
 
 (defconst fluent--name "[a-zA-Z][a-zA-Z0-9_-]*")
@@ -49,7 +49,7 @@
 
 (defun fluent--server (&rest _)
   "What eglot runs."
-  (list fluent-program "lsp"))
+  (list fluent-program))
 
 (with-eval-after-load 'eglot
   (add-to-list 'eglot-server-programs '(fluent-mode . fluent--server)))

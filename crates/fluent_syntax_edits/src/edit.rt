@@ -8,11 +8,11 @@ ghost use Rattle.fluent_syntax_tree.specs.View.{entry_view, pattern_view};
 
 use crate::fault::EditFault;
 use crate::stretches::Slot;
+use fluent_syntax_grammar::sink::SinkError;
 use fluent_syntax_tree::ast::{Attribute, Entry, Identifier, Message, Pattern};
 use fluent_syntax_tree::edition::Edition;
 use fluent_syntax_writer::canonical::broken_rule_with;
 use fluent_syntax_writer::serializer::{EntryWriter, Options};
-use fluent_syntax_writer::sink::SinkError;
 use std::alloc::{AllocError, Global};
 
 /// What is done at the entry of a number.

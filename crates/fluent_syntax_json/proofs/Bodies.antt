@@ -5,11 +5,11 @@ use Rattle.json.specs.Print.{escape_byte}
 use Rattle.serde_json.specs.View.{items_of}
 use Rattle.serde_json.specs.Written.{comma_if, compact_text, items_text}
 use Rattle.fluent_syntax_tree.specs.Entry.{BodyTree, EntryTree}
-use Rattle.fluent_syntax_writer.specs.Sink.{Takes, Refuses, TakesBeginning}
-use Rattle.fluent_syntax_writer.specs.Writing.{Outcome, appended, stopped, silent, Appends}
-use Rattle.fluent_syntax_writer.proofs.Sinks.{Takes-append, TakesBeginning-after, TakesBeginning-before}
-use Rattle.fluent_syntax_writer.proofs.Sinks.{TakesBeginning-refused}
-use Rattle.fluent_syntax_writer.specs.declared.text_writer.TextWriter.{TextWriter}
+use Rattle.fluent_syntax_grammar.specs.Sink.{Takes, Refuses, TakesBeginning}
+use Rattle.fluent_syntax_grammar.specs.Writing.{Outcome, appended, stopped, silent, Appends}
+use Rattle.fluent_syntax_grammar.proofs.Sinks.{Takes-append, TakesBeginning-after, TakesBeginning-before}
+use Rattle.fluent_syntax_grammar.proofs.Sinks.{TakesBeginning-refused}
+use Rattle.fluent_syntax_grammar.specs.declared.text_writer.TextWriter.{TextWriter}
 use Rattle.fluent_syntax_json.specs.BodyWriting.{begun_text, later_after, HasWritten, whole, beginning}
 use Rattle.fluent_syntax_json.specs.Form.{body_form, entry_form}
 use Rattle.fluent_syntax_json.specs.Object.{Text}

@@ -1,7 +1,7 @@
 -- What became of entries that came to a writer one by one.
 use Rattle.std.specs.Prelude.{◌≡◌, ℕ, List, [], ◌∷◌, ◌++◌, Bool, true, false, codes}
 use Rattle.fluent_syntax_tree.specs.Entry.{BodyTree}
-use Rattle.fluent_syntax_writer.specs.Sink.{Takes, TakesBeginning}
+use Rattle.fluent_syntax_grammar.specs.Sink.{Takes, TakesBeginning}
 use Rattle.fluent_syntax_json.specs.Object.{Text}
 use Rattle.fluent_syntax_json.specs.Writing.{entries_text}
 use Rattle.fluent_syntax_json.specs.declared.writing.body_writer.BodyWriter.{BodyWriter}

@@ -6,8 +6,8 @@ use Rattle.serde_json.specs.Written.{comma_if, compact_text}
 use Rattle.fluent_syntax_tree.specs.Entry.{BodyTree, EntryTree}
 use Rattle.fluent_syntax_json.specs.Form.{entry_form}
 use Rattle.fluent_syntax_json.specs.Object.{Text}
-use Rattle.fluent_syntax_writer.specs.Writing.{Appends}
-use Rattle.fluent_syntax_writer.specs.declared.text_writer.TextWriter.{TextWriter}
+use Rattle.fluent_syntax_grammar.specs.Writing.{Appends}
+use Rattle.fluent_syntax_grammar.specs.declared.text_writer.TextWriter.{TextWriter}
 
 module _ {T W : Type 0} (text : W → List ℕ) (room : W → ℕ) where
   -- The value's text was handed to the writer's sink.

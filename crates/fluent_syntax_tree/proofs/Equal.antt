@@ -1,6 +1,6 @@
 -- `==` of trees is equality of the trees that they stand for.
 use Rattle.std.proofs.Common.{◌≡◌, List, [], ◌∷◌, map, Option, Some, None, option_map, Vec, Box, Global, Bool, true}
-use Rattle.std.proofs.Common.{false, ◌&&◌, refl, sym, ap, ◌∙◌, subst, true≢false}
+use Rattle.std.proofs.Common.{false, ◌&&◌, refl, sym, ap, ◌∙◌, subst, true≢false, ℕ, zero, suc}
 use Rattle.std.specs.Bool.{Decides, beq}
 use Rattle.std.specs.Cmp.Lexicographic.{pointwise}
 use Rattle.std.specs.Option.{option_eq}
@@ -8,6 +8,7 @@ use Rattle.fluent_syntax_tree.specs.Tree.{select, inline, string_literal, number
 use Rattle.fluent_syntax_tree.specs.Tree.{message_reference, term_reference, variable_reference, inline_placeable}
 use Rattle.fluent_syntax_tree.specs.Tree.{arguments, arguments_of, some_arguments, inlines_of, named_argument}
 use Rattle.fluent_syntax_tree.specs.Tree.{nameds_of, text_element, placeable, elements_of, variant, variants_of}
+use Rattle.fluent_syntax_tree.specs.Tree.{InlineTree}
 use Rattle.fluent_syntax_tree.specs.Entry.{message, term, comment, junk, regular, group, resource}
 use Rattle.fluent_syntax_tree.specs.View.{identifier_view, key_view, expression_view, inline_view, element_view}
 use Rattle.fluent_syntax_tree.specs.View.{arguments_view, named_view, pattern_view, variant_view, comment_view}
@@ -99,6 +100,30 @@ beq-Decides false false = (λ _. refl, λ _. refl)
 
 decides_as : {P Q : Type 0} (r s : Bool) → r ≡ s → Decides s P → (P → Q) → (Q → P) → Decides r Q
 decides_as r s e d to from = (λ h. to (d.0 (sym e ∙ h)), λ q. e ∙ d.1 (from q))
+
+-- ---- which form a tree has, by a number: two forms are apart where their numbers are, which computes
+
+abbrev is_number : ℕ → ℕ → Bool
+is_number zero zero = true
+is_number zero (suc n) = false
+is_number (suc m) zero = false
+is_number (suc m) (suc n) = is_number m n
+
+is_number-same : (n : ℕ) → is_number n n ≡ true
+is_number-same zero = refl
+is_number-same (suc n) = is_number-same n
+
+apart : (m n : ℕ) → is_number m n ≡ false → m ≡ n → ⊥
+apart m n e q = true≢false (sym (is_number-same n) ∙ subst (λ k. is_number k n ≡ false) q e)
+
+abbrev inline_number : {X : Type 0} → InlineTree X → ℕ
+inline_number (string_literal x) = 0
+inline_number (number_literal x) = 1
+inline_number (function_reference x a) = 2
+inline_number (message_reference x o) = 3
+inline_number (term_reference x o a) = 4
+inline_number (variable_reference x) = 5
+inline_number (inline_placeable e) = 6
 
 -- ---- options and lists
 
@@ -449,10 +474,10 @@ module _ {X : Type 0} (S : RattleType) (E : Ghosts S.Denot) (dict : Dict) (lawfu
       sym (view-InlinePlaceable text _) ∙ q ∙ view-InlinePlaceable text d in cc f)
   decide-Inline y z =
       never _ (inline_laws.is S E dict lawful _ _)
-      (λ q. cc (sym
+      (λ q. apart _ _ refl (ap inline_number (sym
       (view-roll-InlineExpression text
       (map-InlineExpression S.Denot _ _ _ _ _ _ _ _ _ _ _ _ _ _ (λ e. e.0) (λ e. e.0) (λ e. e.0) (λ e. e.0)
-      (λ e. e.0) (λ e. e.0) (λ e. e.0) y)) ∙ q ∙ view-roll-InlineExpression text z))
+      (λ e. e.0) (λ e. e.0) (λ e. e.0) y)) ∙ q ∙ view-roll-InlineExpression text z)))
 
   decide-Arguments :
       (y : Held (CallArguments-F S.Denot))

@@ -1,7 +1,7 @@
 -- The marks of a call's arguments, by whether one stands before them.
 use Rattle.std.proofs.Common.{◌≡◌, ℕ, List, [], ◌∷◌, ◌++◌, Bool, true, false, refl, ap, append_assoc, codes}
 use Rattle.fluent_syntax_grammar.specs.Written.{Mark, literal, joined, more_joined}
-use Rattle.fluent_syntax_writer.specs.Writing.{separator_marks}
+use Rattle.fluent_syntax_grammar.specs.Writing.{separator_marks}
 
 -- the arguments that are left
 abbrev pub arguments_left : ℕ → Bool → List (List Mark) → List Mark

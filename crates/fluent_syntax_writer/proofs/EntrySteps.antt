@@ -4,14 +4,14 @@ use Rattle.std.proofs.Common.{refl, sym, ap, ◌∙◌, subst, append_assoc, app
 use Rattle.fluent_syntax_tree.specs.Entry.{BodyTree, EntryTree}
 use Rattle.fluent_syntax_grammar.specs.Written.{Text, is_junk, last_of, text_after, entry_marks, body_marks, written}
 use Rattle.fluent_syntax_writer.specs.EntryWriting.{follows_after, HasWritten, whole, beginning}
-use Rattle.fluent_syntax_writer.specs.Sink.{Takes, TakesBeginning}
-use Rattle.fluent_syntax_writer.specs.Writing.{Outcome, appended, stopped, silent, Writes}
-use Rattle.fluent_syntax_writer.proofs.Bytes.{last_of-append}
-use Rattle.fluent_syntax_writer.proofs.Marks.{text_after-append}
-use Rattle.fluent_syntax_writer.proofs.Sinks.{Takes-none, Takes-append, TakesBeginning-after, TakesBeginning-before}
+use Rattle.fluent_syntax_grammar.specs.Sink.{Takes, TakesBeginning}
+use Rattle.fluent_syntax_grammar.specs.Writing.{Outcome, appended, stopped, silent, Writes}
+use Rattle.fluent_syntax_grammar.proofs.Bytes.{last_of-append}
+use Rattle.fluent_syntax_grammar.proofs.MarksWritten.{text_after-append}
+use Rattle.fluent_syntax_grammar.proofs.Sinks.{Takes-none, Takes-append, TakesBeginning-after, TakesBeginning-before}
 use Rattle.fluent_syntax_writer.specs.declared.serializer.entry_writer.EntryWriter.{EntryWriter}
 use Rattle.fluent_syntax_writer.specs.declared.serializer.Options.{Options}
-use Rattle.fluent_syntax_writer.specs.declared.text_writer.TextWriter.{TextWriter}
+use Rattle.fluent_syntax_grammar.specs.declared.text_writer.TextWriter.{TextWriter}
 
 body_marks-last : (with_junk follows : Bool) (body : BodyTree Text) (e : EntryTree Text)
     → body_marks with_junk follows (body ++ e ∷ [])

@@ -1,12 +1,7 @@
 pub mod Arguments
-pub mod Bytes
 pub mod EntrySteps
 pub mod Escapes
-pub mod Indents
-pub mod Leaves
-pub mod Marks
 pub mod Placeables
-pub mod Sinks
 pub mod Splits
 pub mod rules
 pub mod joining

@@ -2,9 +2,9 @@
 use Rattle.std.proofs.Common.{◌≡◌, ℕ, List, [], ◌∷◌, ◌++◌, Option, Some, Bool, false, if◌then◌else◌, ◌==◌}
 use Rattle.std.proofs.Common.{sym, ap, ◌∙◌, append_assoc}
 use Rattle.fluent_syntax_grammar.specs.Written.{Text, indent, Mark, literal, last_of, is_last, text_after}
-use Rattle.fluent_syntax_writer.specs.Writing.{Writes}
-use Rattle.fluent_syntax_writer.proofs.Bytes.{last_of-append, Appends-bytes}
-use Rattle.fluent_syntax_writer.specs.declared.text_writer.TextWriter.{TextWriter}
+use Rattle.fluent_syntax_grammar.specs.Writing.{Writes}
+use Rattle.fluent_syntax_grammar.proofs.Bytes.{last_of-append, Appends-bytes}
+use Rattle.fluent_syntax_grammar.specs.declared.text_writer.TextWriter.{TextWriter}
 
 last_of-piece : (last : Option ℕ) (front xs : Text) (b : ℕ) → last_of last (front ++ (xs ++ b ∷ [])) ≡ Some b
 last_of-piece last front xs b =

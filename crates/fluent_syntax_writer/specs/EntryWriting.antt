@@ -2,7 +2,7 @@
 use Rattle.std.specs.Prelude.{◌≡◌, ℕ, List, [], ◌∷◌, None, Bool, true, false, not}
 use Rattle.fluent_syntax_tree.specs.Entry.{BodyTree}
 use Rattle.fluent_syntax_grammar.specs.Written.{Text, is_junk, last_of, written}
-use Rattle.fluent_syntax_writer.specs.Sink.{Takes, TakesBeginning}
+use Rattle.fluent_syntax_grammar.specs.Sink.{Takes, TakesBeginning}
 use Rattle.fluent_syntax_writer.specs.declared.serializer.entry_writer.EntryWriter.{EntryWriter}
 
 -- whether what comes after these entries follows an entry that is not junk

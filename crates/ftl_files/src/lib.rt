@@ -29,7 +29,7 @@ pub use limits::{BYTES_LIMIT, FILE_LIMIT, FILES_LIMIT, FOLDERS_LIMIT};
 pub use listing::{Listing, list};
 pub use memory::Memory;
 pub use nearness::shared_folders;
-pub use options::{Color, Output, color_named, output_named};
+pub use options::{Color, Form, Output, Reading, color_named, output_named};
 pub use originals::original_of;
 pub use paths::is_below;
 pub use reading::{SourceFile, SourceFiles, read_files};

@@ -1,10 +1,36 @@
-//! What the words' options ask for, by the names that a command line has for it.
+//! What the words' options ask for: how a text is read, and how what is found is told.
 ghost use Rattle.std.specs.Prelude.{◌≡◌, ◌≢◌, IfSome, None};
 ghost use Rattle.ftl_files.specs.Options.{color_name, output_name};
 ghost use Rattle.ftl_files.specs.declared.options.Color.{Color};
 ghost use Rattle.ftl_files.specs.declared.options.Output.{Output};
 
-/// How what is found is told.
+use fluent_syntax_tree::edition::Edition;
+
+/// How a text is read.
+#[derive(Clone, Copy, Debug, PartialEq, Eq)]
+pub struct Reading {
+    /// The edition of the grammar.
+    pub edition: Edition,
+    /// How many placeables and argument lists may be open at once.
+    pub nesting: usize,
+}
+
+/// How an error is told.
+#[derive(Clone, Copy, Debug, PartialEq, Eq)]
+pub enum Form {
+    /// `PATH:LINE:COLUMN: KIND`, on a line.
+    Lines,
+    /// That with the message, and below it the line of the source and a caret.
+    Full,
+    /// The same in the colours of a terminal.
+    Colored,
+    /// A JSON object on a line.
+    Json,
+    /// A line that GitHub shows beside the source.
+    Github,
+}
+
+/// How what is found is told, by the names that a command line has for it.
 #[derive(Clone, Copy, Debug, PartialEq, Eq)]
 pub enum Output {
     /// With its place, and its kind, on a line.

@@ -1,10 +1,8 @@
-//! `ftl`: checks, formats and converts Fluent Translation Lists, files and folders or standard input; with the word
-//! `lsp` a language server for them.
+//! `ftl`: checks, formats and converts Fluent Translation Lists, files and folders or standard input.
 #![tactic(auto)]
 
 mod colors;
 mod compare;
-mod editor;
 mod help;
 mod lint;
 mod paths;
@@ -14,13 +12,12 @@ mod telling;
 mod words;
 
 use crate::compare::compare_paths;
-use crate::editor::serve_editor;
 use crate::help::page_of;
 use crate::lint::lint_paths;
 use crate::paths::answer_paths;
 use crate::project::project_settings;
 use crate::standard::answer_input;
-use crate::telling::{print_page, refuse_words, refuse_writing};
+use crate::telling::{print_page, refuse_serving, refuse_words, refuse_writing};
 use crate::words::all_words;
 use ftl_files::Output;
 use ftl_words::{Change, Request, Task, Work, request_of};
@@ -39,7 +36,7 @@ fn answer_words(rt: &HostRuntime, words: &[String]) -> u8 {
         return print_page(rt, page);
     }
     match request_of(rt.alloc(), words) {
-        Ok(Request::Serve) => serve_editor(rt),
+        Ok(Request::Serve) => refuse_serving(rt),
         Ok(Request::Answer(work)) => answer(rt, work),
         Ok(Request::Lint(lint)) => lint_paths(rt, &lint),
         Ok(Request::Compare(compare)) => compare_paths(rt, &compare),

@@ -65,6 +65,14 @@ pub(crate) fn refuse_compare<R: Eprint>(rt: &R) -> u8 {
     refuse(rt, usage(), WRONG_WORDS)
 }
 
+/// Tells that the language server is another program.
+pub(crate) fn refuse_serving<R: Eprint>(rt: &R) -> u8 {
+    let _ = rt.eprintln(
+        "ftl: the language server is the program ftl-lsp, which a checkout installs by: ./ftl install FOLDER lsp",
+    );
+    refuse(rt, usage(), WRONG_WORDS)
+}
+
 /// Tells that standard input is no file to be written or named.
 pub(crate) fn refuse_writing<R: Eprint>(rt: &R) -> u8 {
     let _ = rt.eprintln("ftl: --write and --check are for files and folders");

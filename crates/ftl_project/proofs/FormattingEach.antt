@@ -6,7 +6,7 @@ use Rattle.std.specs.Prelude.{String}
 use Rattle.ftl_project.proofs.Counting.{left_at}
 use Rattle.ftl_project.specs.Faults.{Failing}
 use Rattle.ftl_project.specs.Formatting.{Formats, FormatsEach}
-use Rattle.ftl_project.specs.declared.reading.Reading.{Reading}
+use Rattle.ftl_files.specs.declared.options.Reading.{Reading}
 use Rattle.ftl_project.specs.declared.tally.Tally.{Tally}
 
 module _ (CallFails : Failing) (reading : Reading) (files : List (String Global)) where

@@ -10,7 +10,7 @@ use Rattle.ftl_project.specs.Comparing.{IsDifferenceTold, IsMissingTold, SaysMis
 use Rattle.ftl_project.specs.Junk.{lack_junk}
 use Rattle.ftl_project.specs.Remarks.{IsRemark}
 use Rattle.ftl_project.specs.declared.comparing.Pair.{Pair}
-use Rattle.ftl_project.specs.declared.form.Form.{Form}
+use Rattle.ftl_files.specs.declared.options.Form.{Form}
 use Rattle.ftl_project.specs.declared.remarks.Spot.{Spot}
 
 module _ (form : Form) (pair : Pair) (text : List ℕ) (other : Outline) (lack : Lack) (difference : Difference) where

@@ -24,7 +24,7 @@ use Rattle.ftl_project.specs.Rewriting.{AllReach, BecomesRewriting, IsUnsafe, Re
 use Rattle.ftl_project.specs.Safe.{IsRewriting}
 use Rattle.ftl_project.specs.Tally.{Met, answered, counted, failed}
 use Rattle.ftl_project.specs.declared.fault.Fault as run
-use Rattle.ftl_project.specs.declared.reading.Reading.{Reading}
+use Rattle.ftl_files.specs.declared.options.Reading.{Reading}
 use Rattle.ftl_project.specs.declared.replacement.Replacement.{Replacement}
 use Rattle.ftl_project.specs.declared.replacement.Replacement.TheVariants as replacement
 use Rattle.ftl_project.specs.declared.tally.Tally.{Tally}

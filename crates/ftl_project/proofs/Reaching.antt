@@ -5,7 +5,7 @@ use Rattle.ftl_files.specs.Store.{AllStand, Becomes, OthersStand}
 use Rattle.ftl_project.specs.Faults.{Failing, IsRead}
 use Rattle.ftl_project.specs.Rewriting.{AllReach, BecomesRewriting, Reaches, Rewrites, goes, stays}
 use Rattle.ftl_project.specs.declared.fault.Fault.{Fault}
-use Rattle.ftl_project.specs.declared.reading.Reading.{Reading}
+use Rattle.ftl_files.specs.declared.options.Reading.{Reading}
 use Rattle.ftl_project.specs.Safe.{IsRewriting}
 use Rattle.ftl_project.specs.declared.replacement.Replacement.{Replacement}
 use Rattle.ftl_project.specs.declared.replacement.Replacement.TheVariants as replacement

@@ -8,7 +8,7 @@ use Rattle.fluent_syntax_names.specs.declared.outline.Outline.{Outline}
 use Rattle.ftl_project.specs.Linting.{IsFindingTold, path_of, spot_in, text_of}
 use Rattle.ftl_project.specs.Remarks.{IsRemark}
 use Rattle.ftl_project.specs.declared.findings.Source.{Source}
-use Rattle.ftl_project.specs.declared.form.Form.{Form}
+use Rattle.ftl_files.specs.declared.options.Form.{Form}
 use Rattle.ftl_project.specs.declared.remarks.Spot.{Spot}
 
 pub IsRemark-as : (form : Form) (path own : List ℕ) (place : Option Spot) (kind name message words told : List ℕ) →

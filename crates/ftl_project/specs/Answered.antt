@@ -9,8 +9,8 @@ use Rattle.ftl.specs.declared.outcome.Outcome.TheVariants.{Clean, SyntaxErrors}
 use Rattle.ftl_project.specs.Errors.{HasErrors}
 use Rattle.ftl_project.specs.Reports.{Reports}
 use Rattle.ftl_project.specs.Runs.{Answers}
-use Rattle.ftl_project.specs.declared.form.Form.{Form}
-use Rattle.ftl_project.specs.declared.reading.Reading.{Reading}
+use Rattle.ftl_files.specs.declared.options.Form.{Form}
+use Rattle.ftl_files.specs.declared.options.Reading.{Reading}
 
 -- of one that is checked: as many errors as it has, and what is told of them
 abbrev pub IsChecked : Reading → Form → Answers

@@ -22,8 +22,8 @@ use Rattle.fluent_syntax_names.specs.declared.differences.Difference.{Difference
 use Rattle.fluent_syntax_names.specs.declared.differences.Side.{Side}
 use Rattle.fluent_syntax_names.specs.declared.differences.Side.TheVariants.{Reference, Other}
 use Rattle.ftl_project.specs.declared.fault.Fault.{Fault}
-use Rattle.ftl_project.specs.declared.form.Form.{Form}
-use Rattle.ftl_project.specs.declared.reading.Reading.{Reading}
+use Rattle.ftl_files.specs.declared.options.Form.{Form}
+use Rattle.ftl_files.specs.declared.options.Reading.{Reading}
 use Rattle.ftl_project.specs.declared.remarks.Spot.{Spot}
 use Rattle.ftl_project.specs.declared.tally.Tally.{Tally}
 

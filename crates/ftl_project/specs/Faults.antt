@@ -7,7 +7,7 @@ use Rattle.fluent_syntax_grammar.specs.Nesting.{NestsDeeper}
 use Rattle.ftl.specs.FromJson as json
 use Rattle.ftl_project.specs.declared.fault.Fault.{Fault}
 use Rattle.ftl_project.specs.declared.fault.Fault.TheVariants.{Json, Memory, NotText, Read, TooDeep, Write}
-use Rattle.ftl_project.specs.declared.reading.Reading.{Reading}
+use Rattle.ftl_files.specs.declared.options.Reading.{Reading}
 
 -- the exit status of a fault; where the system had no memory, that of want of memory
 abbrev pub HasStatus : Fault → ℕ → Type 0

@@ -11,7 +11,7 @@ use Rattle.ftl_project.specs.Runs.{Answers}
 use Rattle.ftl_project.specs.Safe.{IsRewriting}
 use Rattle.ftl_project.specs.Tally.{Met, answered, counted, failed}
 use Rattle.ftl_project.specs.declared.fault.Fault.{Fault}
-use Rattle.ftl_project.specs.declared.reading.Reading.{Reading}
+use Rattle.ftl_files.specs.declared.options.Reading.{Reading}
 use Rattle.ftl_project.specs.declared.replacement.Replacement.{Replacement}
 use Rattle.ftl_project.specs.declared.replacement.Replacement.TheVariants.{Errors, Same, Text, Unsafe}
 use Rattle.ftl_project.specs.declared.tally.Tally.{Tally}

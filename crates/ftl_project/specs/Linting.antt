@@ -21,8 +21,8 @@ use Rattle.ftl_project.specs.Remarks.{IsRemark, TellsEach, spot_at}
 use Rattle.ftl_project.specs.Tally.{counted, failed}
 use Rattle.ftl_project.specs.declared.fault.Fault.TheVariants.{TooDeep}
 use Rattle.ftl_project.specs.declared.findings.Source.{Source}
-use Rattle.ftl_project.specs.declared.form.Form.{Form}
-use Rattle.ftl_project.specs.declared.reading.Reading.{Reading}
+use Rattle.ftl_files.specs.declared.options.Form.{Form}
+use Rattle.ftl_files.specs.declared.options.Reading.{Reading}
 use Rattle.ftl_project.specs.declared.remarks.Spot.{Spot}
 use Rattle.ftl_project.specs.declared.tally.Tally.{Tally}
 

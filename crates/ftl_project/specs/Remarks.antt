@@ -6,8 +6,8 @@ use Rattle.std.specs.Str.{IsCharBoundary}
 use Rattle.fluent_syntax.specs.Lines.{column_at, line_at}
 use Rattle.fluent_syntax_tree.specs.declared.spans.Span.{Span}
 use Rattle.ftl_project.specs.Excerpt.{shown_text}
-use Rattle.ftl_project.specs.declared.form.Form.{Form}
-use Rattle.ftl_project.specs.declared.form.Form.TheVariants.{Lines}
+use Rattle.ftl_files.specs.declared.options.Form.{Form}
+use Rattle.ftl_files.specs.declared.options.Form.TheVariants.{Lines}
 use Rattle.ftl_project.specs.declared.remarks.Spot.{Spot}
 
 -- where a name is in a text: with its line and its column, or those of the text's end where that comes first

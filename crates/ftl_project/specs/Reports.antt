@@ -5,7 +5,7 @@ use Rattle.fluent_syntax_tree.specs.declared.errors.ParserError.{ParserError}
 use Rattle.fluent_syntax_tree.specs.declared.spans.Span.{Span}
 use Rattle.std.specs.Prelude.{Some}
 use Rattle.ftl_project.specs.Remarks.{IsRemark, TellsEach, spot_at}
-use Rattle.ftl_project.specs.declared.form.Form.{Form}
+use Rattle.ftl_files.specs.declared.options.Form.{Form}
 
 -- where the error is
 abbrev pub error_span : ParserError → Span

@@ -17,7 +17,7 @@ use Rattle.ftl_project.specs.Errors.{IsRefused}
 use Rattle.ftl_project.specs.Faults.{Failing, IsFault, IsRead, IsTooDeep, IsUnparsed, IsUnwritten}
 use Rattle.ftl_project.specs.Safe.{IsRewriting}
 use Rattle.ftl_project.specs.declared.fault.Fault.{Fault}
-use Rattle.ftl_project.specs.declared.reading.Reading.{Reading}
+use Rattle.ftl_files.specs.declared.options.Reading.{Reading}
 use Rattle.ftl_project.specs.declared.replacement.Replacement.{Replacement}
 use Rattle.ftl_project.specs.declared.replacement.Replacement.TheVariants.{Errors, Same, Unsafe}
 use Rattle.ftl_project.specs.declared.replacement.Replacement.TheVariants as replacement

@@ -9,8 +9,6 @@ ghost use Rattle.ftl_project.specs.Runs.{AnswersEach};
 
 use crate::answering::{Answer, Answering, answer_files};
 use crate::fault::Fault;
-use crate::form::Form;
-use crate::reading::Reading;
 use crate::refused::Refused;
 use crate::reporting::report;
 use crate::streams::{Streams, note_line};
@@ -18,7 +16,7 @@ use crate::tally::Tally;
 use fluent_syntax::parser::recovered;
 use fluent_syntax::spans::parse_spans_within;
 use ftl::RunFault;
-use ftl_files::Store;
+use ftl_files::{Form, Reading, Store};
 use std::alloc::{AllocError, Global};
 use std::io::Write;
 

@@ -12,10 +12,8 @@ ghost use Rattle.ftl_project.specs.Summaries.{share_line_of};
 
 use crate::differences::is_told_as_error;
 use crate::fault::Fault;
-use crate::form::Form;
 use crate::lacks_told::PairTold;
 use crate::outlines::{entries_in, outline};
-use crate::reading::Reading;
 use crate::remarks::{Remark, remark_text};
 use crate::rewriting::read_text;
 use crate::streams::{Streams, tell};
@@ -23,7 +21,7 @@ use crate::tally::Tally;
 use crate::translation::Translation;
 use fluent_syntax_names::{Lack, Outline, Part, Side, lacks};
 use ftl::{RunFault, write_all};
-use ftl_files::Store;
+use ftl_files::{Form, Reading, Store};
 use std::alloc::{AllocError, Global};
 use std::io::Write;
 

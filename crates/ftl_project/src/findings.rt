@@ -5,11 +5,11 @@ ghost use Rattle.ftl_project.specs.Outlines.{IsShort};
 ghost use Rattle.ftl_project.specs.Remarks.{IsRemark, TellsEach};
 ghost use Rattle.fluent_syntax_names.specs.Severities.{name_of};
 
-use crate::form::Form;
 use crate::line_starts::LineStarts;
 use crate::remarks::{Remark, Spot, name_in, remark_text, spot_of};
 use fluent_syntax::spans::{Lines, Span};
 use fluent_syntax_names::{Finding, Outline, Severity};
+use ftl_files::Form;
 use std::alloc::{AllocError, Global};
 
 /// A file that was read.

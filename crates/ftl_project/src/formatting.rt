@@ -10,8 +10,6 @@ ghost use Rattle.ftl_project.specs.Runs.{AnswersEach};
 
 use crate::answering::{Answer, Answering, answer_files};
 use crate::fault::Fault;
-use crate::form::Form;
-use crate::reading::Reading;
 use crate::replacement::{Replacement, replacement_for};
 use crate::reporting::report;
 use crate::rewriting::rewrite;
@@ -20,7 +18,7 @@ use crate::streams::{Streams, tell};
 use crate::tally::Tally;
 use crate::unsafe_entry::unsafe_line;
 use ftl::{RunFault, write_all};
-use ftl_files::Store;
+use ftl_files::{Form, Reading, Store};
 use std::alloc::{AllocError, Global};
 use std::io::Write;
 

@@ -6,11 +6,11 @@ ghost use Rattle.ftl_project.specs.Remarks.{TellsEach, spot_at};
 
 use crate::comparing::Pair;
 use crate::findings::severity_name;
-use crate::form::Form;
 use crate::remarks::{Remark, Spot, name_in, remark_text, spot_of};
 use crate::translation::Translation;
 use fluent_syntax::spans::Lines;
 use fluent_syntax_names::{Difference, Lack, Side};
+use ftl_files::Form;
 use std::alloc::{AllocError, Global};
 
 /// A pair of which is told what each file lacks: what the other file says, and the form.

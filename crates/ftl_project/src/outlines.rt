@@ -4,10 +4,10 @@ ghost use Rattle.ftl_project.specs.Faults.{IsTooDeep, IsUnparsed};
 ghost use Rattle.ftl_project.specs.Outlines.{IsOutline, IsShort, entries_in};
 
 use crate::fault::Fault;
-use crate::reading::Reading;
 use fluent_syntax::parser::recovered;
 use fluent_syntax::spans::parse_spans_within;
 use fluent_syntax_names::{Mention, Outline, outline_of};
+use ftl_files::Reading;
 use std::alloc::Global;
 
 /// What the text says of names. What is junk in it defines nothing.

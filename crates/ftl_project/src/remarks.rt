@@ -3,13 +3,13 @@ ghost use Rattle.std.specs.Prelude.{◌≡◌, ◌++◌, IfOk, OnOk, string_byte
 ghost use Rattle.ftl_project.specs.Remarks.{IsName, IsRemark, place_or_path, remark_line, spot_at};
 
 use crate::excerpt::push_excerpt;
-use crate::form::Form;
 use crate::github::{push_data, push_property};
 use crate::json::{push_json_text, push_junk, push_payload};
 use crate::paint::{COLORED, PLAIN, Paint};
 use crate::shown::push_shown_text;
 use fluent_syntax::parser::ParserError;
 use fluent_syntax::spans::{Lines, Span};
+use ftl_files::Form;
 use std::alloc::{AllocError, Global};
 use std::fmt::Write;
 

@@ -6,7 +6,6 @@ ghost use Rattle.ftl_project.specs.Faults.{IsTooDeep, IsUnparsed};
 ghost use Rattle.ftl_project.specs.Rewriting.{IsReplacement};
 
 use crate::fault::Fault;
-use crate::reading::Reading;
 use crate::refused::Refused;
 use crate::unsafe_entry::{UnsafeEntry, unsafe_entry};
 use fluent_syntax::ast::Resource;
@@ -15,6 +14,7 @@ use fluent_syntax::parser::{ParseFault, parse_within};
 use fluent_syntax::serializer::serialize;
 use ftl::first_unsafe;
 use ftl::laws::formats_again;
+use ftl_files::Reading;
 use std::alloc::Global;
 
 /// What is to stand in the place of a file's text.

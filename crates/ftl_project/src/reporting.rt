@@ -2,11 +2,11 @@
 ghost use Rattle.std.specs.Prelude.{◌≡◌, IfOk, string_bytes};
 ghost use Rattle.ftl_project.specs.Reports.{IsErrorTold, Reports};
 
-use crate::form::Form;
 use crate::refused::Refused;
 use crate::remarks::{Remark, remark_text, spot_of};
 use fluent_syntax::parser::ParserError;
 use fluent_syntax::spans::{Lines, Span};
+use ftl_files::Form;
 use std::alloc::{AllocError, Global};
 
 /// What is told of the errors of a file's text: something of each, in the order of the errors.

@@ -5,9 +5,8 @@ ghost use Rattle.ftl_project.specs.Faults.{IsRead, IsUnread};
 ghost use Rattle.ftl_project.specs.Rewriting.{Rewrites};
 
 use crate::fault::Fault;
-use crate::reading::Reading;
 use crate::replacement::{Replacement, replacement_for};
-use ftl_files::Store;
+use ftl_files::{Reading, Store};
 use std::alloc::Global;
 
 /// Puts the file's normal form in its place, if it has no syntax error and the normal form reads back. After a fault

@@ -6,13 +6,13 @@ ghost use Rattle.ftl_project.specs.Rewriting.{FindsUnsafe, IsEntryAt, first_star
 ghost use Rattle.ftl_project.specs.Summaries.{unsafe_line_of};
 
 use crate::fault::Fault;
-use crate::reading::Reading;
 use crate::replacement::{Replacement, replacement_for};
 use crate::shown::push_shown_text;
 use fluent_syntax::ast::{Comment, Entry};
 use fluent_syntax::laws::{Rule, Uncanonical};
 use fluent_syntax::parser::recovered;
 use fluent_syntax::spans::{Lines, Span, parse_spans_within};
+use ftl_files::Reading;
 use std::alloc::{AllocError, Global};
 
 /// An entry of a text by which its normal form would not read back.

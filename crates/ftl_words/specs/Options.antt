@@ -2,9 +2,9 @@
 use Rattle.std.specs.Prelude.{unwrap_or}
 use Rattle.std.specs.Option.{option_or}
 use Rattle.fluent_syntax_tree.specs.declared.edition.Edition.TheVariants.{One}
-use Rattle.ftl_project.specs.declared.form.Form.{Form}
-use Rattle.ftl_project.specs.declared.form.Form.TheVariants as form
-use Rattle.ftl_project.specs.declared.reading.Reading.{Reading}
+use Rattle.ftl_files.specs.declared.options.Form.{Form}
+use Rattle.ftl_files.specs.declared.options.Form.TheVariants as form
+use Rattle.ftl_files.specs.declared.options.Reading.{Reading}
 use Rattle.ftl_files.specs.declared.options.Output.{Output}
 use Rattle.ftl_files.specs.declared.options.Output.TheVariants.{Full, Github, Json, Lines}
 use Rattle.ftl_files.specs.declared.settings.Settings.{Settings}

@@ -16,13 +16,35 @@ const STDIN_NAME: &str = "<stdin>";
 
 /// The command line that `ftl` takes.
 pub fn command_line<'a>(alloc: Global) -> Result<Command<'a>, AllocError> {
-    Command::new(alloc, "ftl")
+    let program = Command::new(alloc, "ftl")
         .subcommand_required(true)
-        .disable_help_subcommand(true)
-        .subcommand(check(alloc, "check")?.arg(edition(alloc))?)?
-        .subcommand(format(alloc, "format")?.arg(edition(alloc))?)?
+        .disable_help_subcommand(true);
+    let program = with_checks(alloc, program)?;
+    let program = with_checks_by_edition_two(alloc, program)?;
+    let program = with_conversions(alloc, program)?;
+    with_other_words(alloc, program)
+}
+
+/// Adds the words that check and format.
+fn with_checks<'a>(alloc: Global, program: Command<'a>) -> Result<Command<'a>, AllocError> {
+    program
+        .subcommand(check_of_editions(alloc)?)?
+        .subcommand(format_of_editions(alloc)?)
+}
+
+/// Adds the words that do so by edition two, which no help names.
+fn with_checks_by_edition_two<'a>(
+    alloc: Global,
+    program: Command<'a>,
+) -> Result<Command<'a>, AllocError> {
+    program
         .subcommand(check(alloc, "check-two")?.hide(true))?
-        .subcommand(format(alloc, "format-two")?.hide(true))?
+        .subcommand(format(alloc, "format-two")?.hide(true))
+}
+
+/// Adds the words that write another form.
+fn with_conversions<'a>(alloc: Global, program: Command<'a>) -> Result<Command<'a>, AllocError> {
+    program
         .subcommand(word(
             alloc,
             "runtime",
@@ -35,25 +57,26 @@ pub fn command_line<'a>(alloc: Global) -> Result<Command<'a>, AllocError> {
             "Writes the tree of each file as JSON, on one line",
             "Examples:\n  ftl json menu.ftl > menu.json",
         )?)?
-        .subcommand(from_json(alloc)?)?
+        .subcommand(from_json(alloc)?)
+}
+
+/// Adds the words that look at several files, and that for editors.
+fn with_other_words<'a>(alloc: Global, program: Command<'a>) -> Result<Command<'a>, AllocError> {
+    program
         .subcommand(lint_command(alloc)?)?
         .subcommand(compare_command(alloc)?)?
         .subcommand(Command::new(alloc, "lsp").about("A language server, for editors"))
 }
 
+fn check_of_editions<'a>(alloc: Global) -> Result<Command<'a>, AllocError> {
+    check(alloc, "check")?.arg(edition(alloc))
+}
+
+fn format_of_editions<'a>(alloc: Global) -> Result<Command<'a>, AllocError> {
+    format(alloc, "format")?.arg(edition(alloc))
+}
+
 fn check<'a>(alloc: Global, name: &'a str) -> Result<Command<'a>, AllocError> {
-    let output = Arg::new(alloc, "output")
-        .long("output")
-        .value_name("FORM")
-        .help("How an error is told: full where there are paths, else as a line of numbers")
-        .action(ArgAction::Set)
-        .value_parser(FORMS.as_slice());
-    let stdin_name = Arg::new(alloc, "stdin-name")
-        .long("stdin-name")
-        .value_name("NAME")
-        .help("What standard input is called")
-        .action(ArgAction::Set)
-        .default_value(STDIN_NAME);
     word(
         alloc,
         name,
@@ -63,9 +86,27 @@ fn check<'a>(alloc: Global, name: &'a str) -> Result<Command<'a>, AllocError> {
   ftl check --output github po   for a run on GitHub
   ftl check < menu.ftl           a line of numbers for each error",
     )?
-    .arg(output)?
+    .arg(output(alloc))?
     .arg(color(alloc))?
-    .arg(stdin_name)
+    .arg(stdin_name(alloc))
+}
+
+fn output<'a>(alloc: Global) -> Arg<'a> {
+    Arg::new(alloc, "output")
+        .long("output")
+        .value_name("FORM")
+        .help("How an error is told: full where there are paths, else as a line of numbers")
+        .action(ArgAction::Set)
+        .value_parser(FORMS.as_slice())
+}
+
+fn stdin_name<'a>(alloc: Global) -> Arg<'a> {
+    Arg::new(alloc, "stdin-name")
+        .long("stdin-name")
+        .value_name("NAME")
+        .help("What standard input is called")
+        .action(ArgAction::Set)
+        .default_value(STDIN_NAME)
 }
 
 /// The option for colours.
@@ -79,16 +120,6 @@ pub(crate) fn color<'a>(alloc: Global) -> Arg<'a> {
 }
 
 fn format<'a>(alloc: Global, name: &'a str) -> Result<Command<'a>, AllocError> {
-    let write = Arg::new(alloc, "write")
-        .short('w')
-        .long("write")
-        .help("Puts the normal form in the place of each file without errors that reads back")
-        .action(ArgAction::SetTrue)
-        .conflicts_with("check")?;
-    let check = Arg::new(alloc, "check")
-        .long("check")
-        .help("Names the files that --write would change, with status 1")
-        .action(ArgAction::SetTrue);
     word(
         alloc,
         name,
@@ -98,8 +129,24 @@ fn format<'a>(alloc: Global, name: &'a str) -> Result<Command<'a>, AllocError> {
   ftl format --check .       names the files that this would change
   ftl format < menu.ftl      the normal form; entries with errors are left out",
     )?
-    .arg(write)?
-    .arg(check)
+    .arg(write(alloc)?)?
+    .arg(names_only(alloc))
+}
+
+fn write<'a>(alloc: Global) -> Result<Arg<'a>, AllocError> {
+    Arg::new(alloc, "write")
+        .short('w')
+        .long("write")
+        .help("Puts the normal form in the place of each file without errors that reads back")
+        .action(ArgAction::SetTrue)
+        .conflicts_with("check")
+}
+
+fn names_only<'a>(alloc: Global) -> Arg<'a> {
+    Arg::new(alloc, "check")
+        .long("check")
+        .help("Names the files that --write would change, with status 1")
+        .action(ArgAction::SetTrue)
 }
 
 fn from_json<'a>(alloc: Global) -> Result<Command<'a>, AllocError> {

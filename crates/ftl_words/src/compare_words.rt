@@ -17,15 +17,6 @@ pub struct Compare<'a> {
 
 /// The word, with its options.
 pub(crate) fn compare_command<'a>(alloc: Global) -> Result<Command<'a>, AllocError> {
-    let paths = Arg::new(alloc, "paths")
-        .value_name("PATH")
-        .help(
-            "The reference, if no ftl.toml names it, and files or folders to compare with it; files in folders are \
-            matched by their paths below",
-        )
-        .action(ArgAction::Append)
-        .num_args(1..)
-        .required(true);
     Command::new(alloc, "compare")
         .about("Tells what files lack of those of a reference language, and what is obsolete there")
         .after_help(
@@ -37,7 +28,19 @@ pub(crate) fn compare_command<'a>(alloc: Global) -> Result<Command<'a>, AllocErr
         .arg(form(alloc))?
         .arg(color(alloc))?
         .arg(nesting(alloc))?
-        .arg(paths)
+        .arg(paths(alloc))
+}
+
+fn paths<'a>(alloc: Global) -> Arg<'a> {
+    Arg::new(alloc, "paths")
+        .value_name("PATH")
+        .help(
+            "The reference, if no ftl.toml names it, and files or folders to compare with it; files in folders are \
+            matched by their paths below",
+        )
+        .action(ArgAction::Append)
+        .num_args(1..)
+        .required(true)
 }
 
 /// What the options ask for.

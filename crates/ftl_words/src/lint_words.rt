@@ -32,12 +32,6 @@ static FORMS: [&str; 4] = ["full", "lines", "json", "github"];
 
 /// The word, with its options.
 pub(crate) fn lint_command<'a>(alloc: Global) -> Result<Command<'a>, AllocError> {
-    let ignore = Arg::new(alloc, "ignore")
-        .long("ignore")
-        .value_name("KIND")
-        .help("A kind of finding that is not told; may be given again")
-        .action(ArgAction::Append)
-        .value_parser(KIND_NAMES.as_slice());
     Command::new(alloc, "lint")
         .about("Tells names that are given twice, and references to what no file defines")
         .after_help(
@@ -47,9 +41,18 @@ pub(crate) fn lint_command<'a>(alloc: Global) -> Result<Command<'a>, AllocError>
         )
         .arg(form(alloc))?
         .arg(color(alloc))?
-        .arg(ignore)?
+        .arg(ignore(alloc))?
         .arg(nesting(alloc))?
         .arg(paths(alloc))
+}
+
+fn ignore<'a>(alloc: Global) -> Arg<'a> {
+    Arg::new(alloc, "ignore")
+        .long("ignore")
+        .value_name("KIND")
+        .help("A kind of finding that is not told; may be given again")
+        .action(ArgAction::Append)
+        .value_parser(KIND_NAMES.as_slice())
 }
 
 /// The option for the form.

@@ -3,9 +3,8 @@ ghost use Rattle.std.specs.Prelude.{◌≡◌, option_map, unwrap_or};
 ghost use Rattle.ftl_files.specs.declared.options.Color.TheVariants as colors;
 ghost use Rattle.ftl_words.specs.Options.{form_of, options_or, reading_of};
 
-use fluent_syntax::parser::Edition;
-use ftl_files::{Color, Output, Settings};
-use ftl_project::{Form, Reading};
+use fluent_syntax_tree::edition::Edition;
+use ftl_files::{Color, Form, Output, Reading, Settings};
 
 /// A nesting that a stack of 8 MB bears with room to spare.
 const NESTING: usize = 2000;

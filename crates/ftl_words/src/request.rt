@@ -5,7 +5,7 @@ ghost use Rattle.ftl_words.specs.Request.{command_of};
 use crate::compare_words::Compare;
 use crate::lint_words::Lint;
 use crate::options::Options;
-use fluent_syntax::parser::Edition;
+use fluent_syntax_tree::edition::Edition;
 use ftl::Command;
 
 /// What a command line asks for.

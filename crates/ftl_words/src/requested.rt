@@ -6,7 +6,7 @@ use crate::lint_words::lint_of;
 use crate::options::Options;
 use crate::request::{Change, Request, Task, Work};
 use clap::{ArgMatches, Error};
-use fluent_syntax::parser::Edition;
+use fluent_syntax_tree::edition::Edition;
 use ftl_files::{Color, Output, color_named, output_named};
 use std::alloc::{AllocError, Global};
 

@@ -3,17 +3,17 @@ ghost use Rattle.std.specs.Prelude.{◌≡◌, [], ◌∷◌, ◌++◌, true, On
 ghost use Rattle.serde_json.specs.Written.{compact_text};
 ghost use Rattle.fluent_syntax_tree.specs.Entry.{BodyTree};
 ghost use Rattle.fluent_syntax_tree.specs.View.{entry_view};
-ghost use Rattle.fluent_syntax_writer.specs.Sink.{Takes, TakesBeginning};
+ghost use Rattle.fluent_syntax_grammar.specs.Sink.{Takes, TakesBeginning};
 ghost use Rattle.fluent_syntax_json.specs.BodyWriting.{HasWritten};
 ghost use Rattle.fluent_syntax_json.specs.Form.{body_form};
 ghost use Rattle.fluent_syntax_json.specs.Object.{Text};
 
 use super::entries::{CLOSING, OPENING, write_next};
+use fluent_syntax_grammar::sink::{SinkError, TextSink};
+use fluent_syntax_grammar::text_writer::TextWriter;
 use fluent_syntax_tree::ast::Entry;
 use fluent_syntax_tree::slice::Slice;
 use fluent_syntax_tree::texts::{BySlice, ReadTexts};
-use fluent_syntax_writer::sink::{SinkError, TextSink};
-use fluent_syntax_writer::text_writer::TextWriter;
 
 /// Writes entries to its sink as they come, as `write_to` writes the tree of them. It keeps none of them.
 #[derive(Drop)]

@@ -4,20 +4,20 @@ ghost use Rattle.serde_json.specs.View.{items_of};
 ghost use Rattle.serde_json.specs.Written.{compact_text, items_text};
 ghost use Rattle.fluent_syntax_tree.specs.View.{comment_view, pattern_view, attribute_view, message_view, term_view};
 ghost use Rattle.fluent_syntax_tree.specs.View.{entry_view, resource_view};
-ghost use Rattle.fluent_syntax_writer.specs.Sink.{Takes, TakesBeginning};
+ghost use Rattle.fluent_syntax_grammar.specs.Sink.{Takes, TakesBeginning};
 ghost use Rattle.fluent_syntax_json.specs.Form.{or_null, comment_form, pattern_form, attribute_form};
 ghost use Rattle.fluent_syntax_json.specs.Form.{message_form, term_form, entry_form, body_form};
 ghost use Rattle.fluent_syntax_json.specs.Writing.{WritesData, entries_text, next_text};
-ghost use Rattle.fluent_syntax_writer.specs.Writing.{Appends};
+ghost use Rattle.fluent_syntax_grammar.specs.Writing.{Appends};
 
 use super::names::{write_lines, write_name};
 use super::patterns::write_pattern;
 use super::tokens::{write_comma, write_text};
+use fluent_syntax_grammar::sink::{SinkError, TextSink};
+use fluent_syntax_grammar::text_writer::TextWriter;
 use fluent_syntax_tree::ast::*;
 use fluent_syntax_tree::slice::Slice;
 use fluent_syntax_tree::texts::{BySlice, ReadTexts};
-use fluent_syntax_writer::sink::{SinkError, TextSink};
-use fluent_syntax_writer::text_writer::TextWriter;
 
 /// What stands before the first entry.
 pub const OPENING: &str = "{\"body\":[";

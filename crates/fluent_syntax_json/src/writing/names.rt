@@ -6,13 +6,13 @@ ghost use Rattle.serde_json.specs.Written.{items_text};
 ghost use Rattle.fluent_syntax_tree.specs.View.{identifier_view, key_view, comment_view};
 ghost use Rattle.fluent_syntax_json.specs.Form.{name_form, or_null, key_form};
 ghost use Rattle.fluent_syntax_json.specs.Writing.{WritesData};
-ghost use Rattle.fluent_syntax_writer.specs.Writing.{Appends};
+ghost use Rattle.fluent_syntax_grammar.specs.Writing.{Appends};
 
 use super::tokens::{write_comma, write_text};
+use fluent_syntax_grammar::sink::TextSink;
+use fluent_syntax_grammar::text_writer::TextWriter;
 use fluent_syntax_tree::ast::{Comment, Identifier, VariantKey};
 use fluent_syntax_tree::texts::ReadTexts;
-use fluent_syntax_writer::sink::TextSink;
-use fluent_syntax_writer::text_writer::TextWriter;
 
 pub fn write_name<X, T: ReadTexts<X>, W: TextSink>(
     writer: &mut TextWriter<'_, T, W>,

@@ -8,14 +8,14 @@ ghost use Rattle.fluent_syntax_json.specs.Form.{expression_form, inline_form, in
 ghost use Rattle.fluent_syntax_json.specs.Form.{element_forms, maybe_form, arguments_form, named_form, named_forms};
 ghost use Rattle.fluent_syntax_json.specs.Form.{pattern_form, variant_form, variant_forms};
 ghost use Rattle.fluent_syntax_json.specs.Writing.{WritesData};
-ghost use Rattle.fluent_syntax_writer.specs.Writing.{Appends};
+ghost use Rattle.fluent_syntax_grammar.specs.Writing.{Appends};
 
 use super::names::{write_attribute_name, write_key, write_name};
 use super::tokens::{write_bool, write_comma, write_text};
+use fluent_syntax_grammar::sink::TextSink;
+use fluent_syntax_grammar::text_writer::TextWriter;
 use fluent_syntax_tree::ast::*;
 use fluent_syntax_tree::texts::ReadTexts;
-use fluent_syntax_writer::sink::TextSink;
-use fluent_syntax_writer::text_writer::TextWriter;
 
 #[cycle(written)]
 pub fn write_pattern<X, T: ReadTexts<X>, W: TextSink>(

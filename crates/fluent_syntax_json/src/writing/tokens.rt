@@ -5,13 +5,13 @@ ghost use Rattle.json.specs.Print.{escape_byte, escape, quoted};
 ghost use Rattle.json.specs.Run.{is_plain};
 ghost use Rattle.serde_json.specs.Data.{boolean};
 ghost use Rattle.serde_json.specs.Written.{comma_if};
-ghost use Rattle.fluent_syntax_writer.specs.Writing.{Appends};
+ghost use Rattle.fluent_syntax_grammar.specs.Writing.{Appends};
 ghost use Rattle.fluent_syntax_json.specs.Writing.{WritesData};
 
 use super::escapes::{hexadecimal_digit, short_escape, split_at_escape};
+use fluent_syntax_grammar::sink::TextSink;
+use fluent_syntax_grammar::text_writer::TextWriter;
 use fluent_syntax_tree::texts::ReadTexts;
-use fluent_syntax_writer::sink::TextSink;
-use fluent_syntax_writer::text_writer::TextWriter;
 
 /// Writes a comma before an item that is not the first.
 #[inline(always)]

@@ -4,12 +4,12 @@ ghost use Rattle.fluent_syntax_tree.specs.Entry.{BodyTree};
 ghost use Rattle.fluent_syntax_tree.specs.View.{entry_view};
 ghost use Rattle.fluent_syntax_grammar.specs.Written.{Text, written};
 ghost use Rattle.fluent_syntax_writer.specs.EntryWriting.{HasWritten};
-ghost use Rattle.fluent_syntax_writer.specs.Sink.{Takes, TakesBeginning};
+ghost use Rattle.fluent_syntax_grammar.specs.Sink.{Takes, TakesBeginning};
 
 use super::Options;
 use super::entries::serialize_next;
-use crate::sink::{SinkError, TextSink};
-use crate::text_writer::TextWriter;
+use fluent_syntax_grammar::sink::{SinkError, TextSink};
+use fluent_syntax_grammar::text_writer::TextWriter;
 use fluent_syntax_tree::ast::Entry;
 use fluent_syntax_tree::slice::Slice;
 use fluent_syntax_tree::texts::{BySlice, ReadTexts};

@@ -5,9 +5,9 @@ use Rattle.fluent_syntax_tree.proofs.Views.{view-FunctionReference, view-Message
 use Rattle.fluent_syntax_tree.proofs.Views.{view-VariableReference, view-InlinePlaceable, view-TextElement}
 use Rattle.fluent_syntax_tree.proofs.Views.{view-Placeable, view-Pattern, view-Variant, view-NamedArgument}
 use Rattle.fluent_syntax_tree.proofs.Views.{view-CallArguments}
-use Rattle.fluent_syntax_writer.proofs.Marks.{writing, Writes-cons, Writes-append}
+use Rattle.fluent_syntax_grammar.proofs.MarksWritten.{writing, Writes-cons, Writes-append}
 use Rattle.fluent_syntax_writer.proofs.Splits.{Writes-split}
-use Rattle.fluent_syntax_writer.proofs.Leaves.{Leaves-start, Leaves-more, Leaves-end, Leaves-last, drop_at}
+use Rattle.fluent_syntax_grammar.proofs.Leaves.{Leaves-start, Leaves-more, Leaves-end, Leaves-last, drop_at}
 use Rattle.fluent_syntax_writer.proofs.Arguments.{argument_at, none_left}
 use Rattle.fluent_syntax_writer.proofs.Placeables.{in_braces}
 use Rattle.fluent_syntax_writer.proofs.serializer.+serialized.Goals as goal

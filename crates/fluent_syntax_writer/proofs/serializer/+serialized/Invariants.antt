@@ -6,8 +6,8 @@ use Rattle.fluent_syntax_tree.specs.Tree.{inlines_of, nameds_of, elements_of, va
 use Rattle.fluent_syntax_tree.specs.View.{inline_view, element_view, named_view, arguments_view, variant_view}
 use Rattle.fluent_syntax_grammar.specs.Written.{literal, positional_marks, named_marks, arguments_marks, elements_marks}
 use Rattle.fluent_syntax_grammar.specs.Written.{variants_marks}
-use Rattle.fluent_syntax_writer.specs.Writing.{depth}
-use Rattle.fluent_syntax_writer.proofs.Leaves.{Leaves}
+use Rattle.fluent_syntax_grammar.specs.Writing.{depth}
+use Rattle.fluent_syntax_grammar.proofs.Leaves.{Leaves}
 use Rattle.fluent_syntax_writer.proofs.Arguments.{arguments_left}
 use Rattle.fluent_syntax_writer.proofs.serializer.+serialized.Given as goal
 

@@ -1,5 +1,5 @@
 use Rattle.std.proofs.lemmas.List.{drop_all}
-use Rattle.fluent_syntax_writer.proofs.Leaves.{LeavesBytes-more, LeavesBytes-last, drop_at}
+use Rattle.fluent_syntax_grammar.proofs.Leaves.{LeavesBytes-more, LeavesBytes-last, drop_at}
 use Rattle.fluent_syntax_json.proofs.writing.entries.write_attributes.Goals as goal
 
 pub loop-attribute-preserved : goal.loop-attribute-preserved

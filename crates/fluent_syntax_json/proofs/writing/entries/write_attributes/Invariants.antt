@@ -3,7 +3,7 @@ use Rattle.serde_json.specs.View.{items_of}
 use Rattle.serde_json.specs.Written.{items_text}
 use Rattle.fluent_syntax_tree.specs.View.{attribute_view}
 use Rattle.fluent_syntax_tree.specs.declared.ast.Attribute.{Attribute}
-use Rattle.fluent_syntax_writer.proofs.Leaves.{LeavesBytes}
+use Rattle.fluent_syntax_grammar.proofs.Leaves.{LeavesBytes}
 use Rattle.fluent_syntax_json.specs.Form.{attribute_form}
 use Rattle.fluent_syntax_json.proofs.writing.entries.write_attributes.Given as goal
 

@@ -1,5 +1,5 @@
 use Rattle.std.proofs.Common.{sym, ◌∙◌, rules}
-use Rattle.fluent_syntax_writer.proofs.Bytes.{Appends-refused}
+use Rattle.fluent_syntax_grammar.proofs.Bytes.{Appends-refused}
 use Rattle.fluent_syntax_json.proofs.writing.entries.write_body.Goals as goal
 
 pub returns-then-has_refused-clause-refused : goal.returns-then-has_refused-clause-refused

@@ -1,6 +1,6 @@
 use Rattle.std.proofs.lemmas.List.{drop_all}
-use Rattle.fluent_syntax_writer.proofs.Bytes.{Appends-none}
-use Rattle.fluent_syntax_writer.proofs.Leaves.{LeavesBytes-more, LeavesBytes-last, drop_at}
+use Rattle.fluent_syntax_grammar.proofs.Bytes.{Appends-none}
+use Rattle.fluent_syntax_grammar.proofs.Leaves.{LeavesBytes-more, LeavesBytes-last, drop_at}
 use Rattle.fluent_syntax_json.proofs.writing.entries.write_entries.Goals as goal
 
 pub loop-entry-preserved : goal.loop-entry-preserved

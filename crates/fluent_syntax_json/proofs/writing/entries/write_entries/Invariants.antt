@@ -1,7 +1,7 @@
 use Rattle.std.proofs.Common.{List, map, drop, false}
 use Rattle.fluent_syntax_tree.specs.View.{entry_view}
 use Rattle.fluent_syntax_tree.specs.declared.ast.Entry.{Entry}
-use Rattle.fluent_syntax_writer.proofs.Leaves.{LeavesBytes}
+use Rattle.fluent_syntax_grammar.proofs.Leaves.{LeavesBytes}
 use Rattle.fluent_syntax_json.specs.Writing.{entries_text}
 use Rattle.fluent_syntax_json.proofs.writing.entries.write_entries.Given as goal
 

@@ -1,5 +1,5 @@
 use Rattle.json.specs.Print.{escape_byte}
-use Rattle.fluent_syntax_writer.proofs.Bytes.{Appends-append}
+use Rattle.fluent_syntax_grammar.proofs.Bytes.{Appends-append}
 use Rattle.fluent_syntax_json.proofs.writing.entries.write_entry.Goals as goal
 
 pub returns-in-Comment : goal.returns-in-Comment

@@ -1,4 +1,4 @@
-use Rattle.fluent_syntax_writer.proofs.Bytes.{Appends-append, Appends-bytes}
+use Rattle.fluent_syntax_grammar.proofs.Bytes.{Appends-append, Appends-bytes}
 use Rattle.fluent_syntax_json.proofs.Bodies.{begun_text-closed}
 use Rattle.fluent_syntax_json.proofs.writing.entries.write_resource.Goals as goal
 

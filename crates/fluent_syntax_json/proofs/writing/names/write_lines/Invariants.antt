@@ -2,7 +2,7 @@ use Rattle.std.proofs.Common.{map, drop, false}
 use Rattle.serde_json.specs.Data.{string}
 use Rattle.serde_json.specs.View.{items_of}
 use Rattle.serde_json.specs.Written.{items_text}
-use Rattle.fluent_syntax_writer.proofs.Leaves.{LeavesBytes}
+use Rattle.fluent_syntax_grammar.proofs.Leaves.{LeavesBytes}
 use Rattle.fluent_syntax_json.proofs.writing.names.write_lines.Given as goal
 
 abbrev pub invariant-loop-line : goal.invariant-loop-line

@@ -1,5 +1,5 @@
 use Rattle.json.specs.Print.{escape_byte}
-use Rattle.fluent_syntax_writer.proofs.Bytes.{Appends-append}
+use Rattle.fluent_syntax_grammar.proofs.Bytes.{Appends-append}
 use Rattle.fluent_syntax_json.proofs.writing.names.write_name.Goals as goal
 
 pub returns : goal.returns

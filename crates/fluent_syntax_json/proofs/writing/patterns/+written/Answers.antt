@@ -5,8 +5,8 @@ use Rattle.fluent_syntax_tree.proofs.Views.{view-FunctionReference, view-Message
 use Rattle.fluent_syntax_tree.proofs.Views.{view-VariableReference, view-InlinePlaceable, view-TextElement}
 use Rattle.fluent_syntax_tree.proofs.Views.{view-Placeable, view-Pattern, view-Variant, view-NamedArgument}
 use Rattle.fluent_syntax_tree.proofs.Views.{view-CallArguments}
-use Rattle.fluent_syntax_writer.proofs.Bytes.{Appends-append}
-use Rattle.fluent_syntax_writer.proofs.Leaves.{LeavesBytes-more, LeavesBytes-last, drop_at}
+use Rattle.fluent_syntax_grammar.proofs.Bytes.{Appends-append}
+use Rattle.fluent_syntax_grammar.proofs.Leaves.{LeavesBytes-more, LeavesBytes-last, drop_at}
 use Rattle.fluent_syntax_json.proofs.writing.patterns.+written.Goals as goal
 
 pub write_pattern-returns : goal.write_pattern-returns

@@ -6,7 +6,7 @@ use Rattle.fluent_syntax_tree.specs.declared.ast.PatternElement.{PatternElement}
 use Rattle.fluent_syntax_tree.specs.declared.ast.Variant.{Variant}
 use Rattle.fluent_syntax_tree.specs.declared.ast.InlineExpression.{InlineExpression}
 use Rattle.fluent_syntax_tree.specs.declared.ast.NamedArgument.{NamedArgument}
-use Rattle.fluent_syntax_writer.proofs.Leaves.{LeavesBytes}
+use Rattle.fluent_syntax_grammar.proofs.Leaves.{LeavesBytes}
 use Rattle.fluent_syntax_json.specs.Form.{element_forms, variant_forms, inline_forms, named_forms}
 use Rattle.fluent_syntax_json.proofs.writing.patterns.+written.Given as goal
 

@@ -1,4 +1,4 @@
-use Rattle.fluent_syntax_writer.proofs.Bytes.{Appends-append}
+use Rattle.fluent_syntax_grammar.proofs.Bytes.{Appends-append}
 use Rattle.fluent_syntax_json.proofs.writing.tokens.write_control.Goals as goal
 
 pub returns : goal.returns

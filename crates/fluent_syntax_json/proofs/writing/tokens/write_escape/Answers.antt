@@ -1,4 +1,4 @@
-use Rattle.fluent_syntax_writer.proofs.Bytes.{Appends-bytes}
+use Rattle.fluent_syntax_grammar.proofs.Bytes.{Appends-bytes}
 use Rattle.fluent_syntax_json.proofs.Escapes.{control_byte}
 use Rattle.fluent_syntax_json.proofs.writing.tokens.write_escape.Goals as goal
 

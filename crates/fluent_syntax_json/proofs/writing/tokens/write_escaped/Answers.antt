@@ -1,6 +1,6 @@
 use Rattle.std.proofs.Common.{rules}
-use Rattle.fluent_syntax_writer.proofs.Bytes.{Appends-bytes}
-use Rattle.fluent_syntax_writer.proofs.Leaves.{LeavesBytes-more, LeavesBytes-last}
+use Rattle.fluent_syntax_grammar.proofs.Bytes.{Appends-bytes}
+use Rattle.fluent_syntax_grammar.proofs.Leaves.{LeavesBytes-more, LeavesBytes-last}
 use Rattle.fluent_syntax_json.proofs.writing.tokens.write_escaped.Goals as goal
 
 pub loop-plain-preserved : goal.loop-plain-preserved

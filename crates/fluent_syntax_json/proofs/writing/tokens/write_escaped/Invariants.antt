@@ -2,7 +2,7 @@ use Rattle.std.proofs.Common.{length}
 use denote.Text.{Utf8}
 use denote.Shadow.{shadow}
 use Rattle.json.specs.Print.{escape}
-use Rattle.fluent_syntax_writer.proofs.Leaves.{LeavesBytes}
+use Rattle.fluent_syntax_grammar.proofs.Leaves.{LeavesBytes}
 use Rattle.fluent_syntax_json.proofs.writing.tokens.write_escaped.Given as goal
 
 abbrev pub invariant-loop-plain : goal.invariant-loop-plain

@@ -1,5 +1,5 @@
 use Rattle.std.proofs.lemmas.List.{drop_all}
-use Rattle.fluent_syntax_writer.proofs.Leaves.{Leaves-more, Leaves-end, drop_at}
+use Rattle.fluent_syntax_grammar.proofs.Leaves.{Leaves-more, Leaves-end, drop_at}
 use Rattle.fluent_syntax_writer.proofs.serializer.entries.serialize_attributes.Goals as goal
 
 pub loop-attribute-preserved : goal.loop-attribute-preserved

@@ -1,7 +1,7 @@
 use Rattle.std.proofs.Common.{map, drop}
 use Rattle.fluent_syntax_tree.specs.View.{attribute_view}
 use Rattle.fluent_syntax_grammar.specs.Written.{attributes_marks}
-use Rattle.fluent_syntax_writer.proofs.Leaves.{Leaves}
+use Rattle.fluent_syntax_grammar.proofs.Leaves.{Leaves}
 use Rattle.fluent_syntax_writer.proofs.serializer.entries.serialize_attributes.Given as goal
 
 abbrev pub invariant-loop-attribute : goal.invariant-loop-attribute

@@ -1,6 +1,6 @@
 use Rattle.std.proofs.Common.{map, drop}
 use Rattle.fluent_syntax_grammar.specs.Written.{comment_marks}
-use Rattle.fluent_syntax_writer.proofs.Leaves.{Leaves}
+use Rattle.fluent_syntax_grammar.proofs.Leaves.{Leaves}
 use Rattle.fluent_syntax_writer.proofs.serializer.entries.serialize_comment.Given as goal
 
 abbrev pub invariant-loop-line : goal.invariant-loop-line

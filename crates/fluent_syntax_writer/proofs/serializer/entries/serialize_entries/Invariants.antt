@@ -1,7 +1,7 @@
 use Rattle.std.proofs.Common.{map, drop, false}
 use Rattle.fluent_syntax_tree.specs.View.{entry_view}
 use Rattle.fluent_syntax_grammar.specs.Written.{body_marks}
-use Rattle.fluent_syntax_writer.proofs.Leaves.{Leaves}
+use Rattle.fluent_syntax_grammar.proofs.Leaves.{Leaves}
 use Rattle.fluent_syntax_writer.proofs.serializer.entries.serialize_entries.Given as goal
 
 abbrev pub invariant-loop-entry : goal.invariant-loop-entry

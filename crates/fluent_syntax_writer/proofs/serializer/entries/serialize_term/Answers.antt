@@ -1,4 +1,4 @@
-use Rattle.fluent_syntax_writer.proofs.Marks.{Writes-append, Writes-cons}
+use Rattle.fluent_syntax_grammar.proofs.MarksWritten.{Writes-append, Writes-cons}
 use Rattle.fluent_syntax_writer.proofs.serializer.entries.serialize_term.Goals as goal
 
 pub returns : goal.returns

@@ -1,6 +1,6 @@
 use Rattle.std.proofs.Common.{ℕ, codes, refl, sym, ◌∙◌, rules}
 use Rattle.fluent_syntax_tree.proofs.Views.{view-Pattern}
-use Rattle.fluent_syntax_writer.proofs.Marks.{writing}
+use Rattle.fluent_syntax_grammar.proofs.MarksWritten.{writing}
 use Rattle.fluent_syntax_writer.proofs.Splits.{Writes-split}
 use Rattle.fluent_syntax_writer.proofs.serializer.patterns.serialize_value.Goals as goal
 
