@@ -1,13 +1,12 @@
 -- Lists of errors, and the lines that they become.
-use Rattle.std.proofs.Common.{◌≡◌, ◌≢◌, ◌∷◌, [], ℕ, List, map, Option, Some}
+use Rattle.std.proofs.Common.{◌≡◌, ◌∷◌, [], ℕ, List, map, Option, Some}
 use Rattle.std.proofs.Common.{None, ap, ◌∙◌, refl, sym, option_map, unwrap_or}
 use Rattle.std.proofs.lemmas.Simd.{map-map}
 use Rattle.fluent_syntax_tree.specs.declared.errors.ParserError.{ParserError}
 use Rattle.fluent_syntax_tree.specs.Kind.{Kind, kind_of}
 use Rattle.fluent_syntax_grammar.specs.Tiling.{Fault}
 use Rattle.fluent_syntax_parser.specs.Faults.{fault_of}
-use Rattle.ftl.specs.declared.outcome.Outcome.TheVariants.{SyntaxErrors}
-use Rattle.ftl.specs.Answer.{outcome_with, told}
+use Rattle.ftl.specs.Answer.{told}
 
 -- ---- errors that tell of faults
 
@@ -46,8 +45,3 @@ told_faults (e ∷ errors) (f ∷ fs) h =
 pub made_of_faults : {X : Type 0} (made : Fault → X) (errors : List ParserError) (fs : List Fault) →
     map fault_of errors ≡ map Some fs → map (λ e. made (told e)) errors ≡ map made fs
 made_of_faults made errors fs h = sym (map-map made told errors) ∙ ap (map made) (told_faults errors fs h)
-
--- where there are faults, the outcome tells of them
-pub outcome_of_faults : (fs : List Fault) → fs ≢ [] → SyntaxErrors ≡ outcome_with fs
-outcome_of_faults [] n = absurd (n refl)
-outcome_of_faults (f ∷ fs) n = refl

@@ -2,7 +2,7 @@
 use Rattle.std.proofs.Common.{◌≡◌, ◌⊎◌, ◌∙◌, ◌++◌, ℕ, List, [], Option, None, Some, IfSome, OnOk, Result, Ok, Err, inl}
 use Rattle.std.proofs.Common.{inr, ⊎_elim, refl, sym, ap}
 use Rattle.std.proofs.lemmas.Option.{MatchOption-at_some}
-use Rattle.ftl_files.specs.Files.{Changes, Files, GoesOn, IsDurable, IsNamed, IsSynced, at_free_path, at_free_paths}
+use Rattle.ftl_files.specs.Files.{Changes, Files, GoesOn, IsDurable, IsNamed, IsSynced, at_free_paths}
 use Rattle.ftl_files.specs.Files.{at_path, filled, nowhere, renamed, replaced}
 use Rattle.ftl_files.specs.Store.{AllStand, Becomes}
 use Rattle.ftl_files.proofs.Steps.{IsPartOf, then}
@@ -43,11 +43,6 @@ filling old written synced new beside path text write sync rename has_text is_sy
     then old synced new (filled old beside path text)
     (renamed synced beside path) (filled old beside path text) two rename
     (λ p left is. is) part
-
--- a name that was free stays free as long as all stands
-pub still_free : (old mid : Files) (beside : List ℕ) → AllStand old.bytes_at mid.bytes_at →
-    IsPartOf (at_free_path mid beside) (at_free_paths old)
-still_free old mid beside stand path left is = sym (stand path) ∙ is.1
 
 -- the file that is filled stood nowhere, and was empty if the old one's bytes were known
 pub filled_part : (old made : Files) (beside path text : List ℕ) → old.bytes_at beside ≡ None →

@@ -1,21 +1,10 @@
 -- Calls, one after another.
-use Rattle.std.proofs.Common.{◌∙◌, ℕ, List, Option, Some, arith, inl, inr, ⊎_elim, refl, subst, sym}
+use Rattle.std.proofs.Common.{◌∙◌, ℕ, List, Option, Some, arith, inl, inr, ⊎_elim, subst, sym}
 use Rattle.ftl_files.specs.Files.{Changes, Files, GoesOn}
 
 -- each of the first is one of the second
 abbrev pub IsPartOf : (some all : Changes) → Type 0
 IsPartOf some all = (path : List ℕ) (left : Option (List ℕ)) → some path left → all path left
-
--- before the first call
-pub started : (files : Files) (all : Changes) → GoesOn files files all
-started files all = record {
-  later = omega arith;
-  bytes = λ path. inl refl;
-  hold = λ path bytes held. inl held;
-  leave = λ path left is. inl is;
-  since = λ t path left le is. inl is;
-  keeps = λ t path left le is. is;
-}
 
 -- one call, and then another
 pub then : (old mid new : Files) (first next all : Changes) → GoesOn old mid first → GoesOn mid new next →
@@ -37,7 +26,3 @@ then old mid new first next all one two is_first is_next = record {
       (λ came. inr (is_next path left came)) (two.since t path left (omega (arith, le, one.later)) is);
   keeps = λ t path left le is. two.keeps t path left (omega (arith, le, one.later)) (one.keeps t path left le is);
 }
-
--- a call, of which less is said
-pub wider : (old new : Files) (some all : Changes) → GoesOn old new some → IsPartOf some all → GoesOn old new all
-wider old new some all one is_part = then old old new all some all (started old all) one (λ path left is. is) is_part

@@ -1,5 +1,5 @@
 //! The diagnostics of a document, as the protocol has them.
-ghost use Rattle.std.specs.Prelude.{◌≡◌, map, string_bytes, All, IfOk};
+ghost use Rattle.std.specs.Prelude.{◌≡◌, map, All, IfOk};
 ghost use Rattle.serde_json.specs.Data.{Data};
 ghost use Rattle.serde_json.specs.View.{view};
 ghost use Rattle.ftl_lsp.specs.Told.{TellsBeside, code_of, diagnostic_form, diagnostic_with_related, error_form};

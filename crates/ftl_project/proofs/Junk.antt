@@ -1,11 +1,10 @@
 -- A table of junk with its places, as one mention after another is noted.
-use Rattle.std.proofs.Common.{◌≡◌, ℕ, ◌+◌, ◌<◌, ◌≤◌, Bool, true, false, List, ◌∷◌, length, get_or, drop, refl, sym, ap}
+use Rattle.std.proofs.Common.{◌≡◌, ℕ, ◌+◌, ◌<◌, ◌≤◌, List, ◌∷◌, length, get_or, drop, refl, sym, ap}
 use Rattle.std.proofs.Common.{◌∙◌, Option, Some, None}
 use Rattle.std.proofs.lemmas.List.{drop_more, drop_all}
-use Rattle.std.specs.Prelude.{if◌then◌else◌, option_map}
-use Rattle.std.specs.Str.{bytes_eq}
+use Rattle.std.specs.Prelude.{option_map}
 use Rattle.fluent_syntax_names.specs.Mentions.{Mentions}
-use Rattle.fluent_syntax_names.specs.Places.{first_of, place_where}
+use Rattle.fluent_syntax_names.specs.Places.{first_of}
 use Rattle.fluent_syntax_names.specs.Refused.{junk_named, refused_in}
 use Rattle.fluent_syntax_names.specs.declared.mention.Mention.{Mention}
 use Rattle.fluent_syntax_tree.specs.declared.spans.Span.{Span}
@@ -23,15 +22,6 @@ module _ {X : Type 0} where
       option_map f (first_of a b) ≡ first_of (option_map f a) (option_map f b)
   map_first f None b = refl
   map_first f (Some x) b = refl
-
-  map_if : (f : Span → X) (b : Bool) (span : Span) →
-      option_map f (if b then Some span else None) ≡ (if b then Some (f span) else None)
-  map_if f true span = refl
-  map_if f false span = refl
-
-  pub map_where : (f : Span → X) (name noted : List ℕ) (span : Span) →
-      place_where name noted (f span) ≡ option_map f (place_where name noted span)
-  map_where f name noted span = sym (map_if f (bytes_eq name noted) span)
 
 module _ {X : Type 0} (f : Span → X) (text : List ℕ) (ms : Mentions Span) where
   -- what the mentions from this one on have as junk is still to be noted

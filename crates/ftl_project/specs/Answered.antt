@@ -2,11 +2,11 @@
 use Rattle.std.specs.Prelude.{◌≡◌, ◌==◌, List, Bool, true, false, not, length}
 use Rattle.fluent_syntax_tree.specs.declared.errors.ParserError.{ParserError}
 use Rattle.ftl.specs.Answer.{IsAnswer}
+use Rattle.ftl.specs.Errors.{HasErrors}
 use Rattle.ftl.specs.FromJson.{IsTextOf}
 use Rattle.ftl.specs.declared.command.Command.{Command}
 use Rattle.ftl.specs.declared.outcome.Outcome.{Outcome}
 use Rattle.ftl.specs.declared.outcome.Outcome.TheVariants.{Clean, SyntaxErrors}
-use Rattle.ftl_project.specs.Errors.{HasErrors}
 use Rattle.ftl_project.specs.Reports.{Reports}
 use Rattle.ftl_project.specs.Runs.{Answers}
 use Rattle.ftl_files.specs.declared.options.Form.{Form}

@@ -6,12 +6,7 @@ use Rattle.fluent_syntax_parser.specs.Faults.{fault_of}
 use Rattle.fluent_syntax_tree.specs.declared.edition.Edition.{Edition}
 use Rattle.fluent_syntax_tree.specs.declared.errors.ParserError.{ParserError}
 
--- The errors are those of the text, in order.
-abbrev pub HasErrors : Edition → List ℕ → List ParserError → Type 0
-HasErrors edition text errors =
-    (tiles : List Tile) × Tiling edition text tiles × (map fault_of errors ≡ map Some (faults tiles))
-
--- The same, and there are some.
+-- The errors are those of the text, in order, and there are some.
 abbrev pub IsRefused : Edition → List ℕ → List ParserError → Type 0
 IsRefused edition text errors =
     (tiles : List Tile) × Tiling edition text tiles × (map fault_of errors ≡ map Some (faults tiles))

@@ -1,9 +1,9 @@
 //! Files are checked.
 ghost use Rattle.std.specs.Prelude.{◌≡◌, ◌≢◌, ◌⊎◌, Err, IfErr, IfOk, OnOk, string_bytes, true};
+ghost use Rattle.ftl.specs.Errors.{HasErrors};
 ghost use Rattle.ftl.specs.Watched.{has_failed, inner_of};
 ghost use Rattle.ftl_files.specs.Store.{AllStand};
 ghost use Rattle.ftl_project.specs.Answered.{IsChecked};
-ghost use Rattle.ftl_project.specs.Errors.{HasErrors};
 ghost use Rattle.ftl_project.specs.Faults.{IsTooDeep, IsUnparsed};
 ghost use Rattle.ftl_project.specs.Runs.{AnswersEach};
 
@@ -13,9 +13,8 @@ use crate::refused::Refused;
 use crate::reporting::report;
 use crate::streams::{Streams, note_line};
 use crate::tally::Tally;
-use fluent_syntax::parser::recovered;
-use fluent_syntax::spans::parse_spans_within;
-use ftl::RunFault;
+use fluent_syntax::spans::Halt;
+use ftl::{RunFault, errors_within};
 use ftl_files::{Form, Reading, Store};
 use std::alloc::{AllocError, Global};
 use std::io::Write;
@@ -93,15 +92,9 @@ fn errors_of(alloc: Global, text: String, reading: Reading) -> Result<Refused, F
     ensures errors { IfOk result (λ refused. HasErrors reading.edition (string_bytes text) refused.errors.items) }
     ensures fault { IfErr result (IsUnparsed (IsTooDeep reading (string_bytes text))) }
 {
-    if text.len() == usize::MAX {
-        return Err(Fault::Memory);
-    }
-    let Ok(answer) = parse_spans_within(alloc, text.as_str(), reading.edition, reading.nesting)
-    else {
-        return Err(Fault::TooDeep);
-    };
-    match recovered(alloc, answer) {
-        Ok((_, errors)) => Ok(Refused { text, errors }),
-        Err(AllocError) => Err(Fault::Memory),
+    match errors_within(alloc, text.as_str(), reading.edition, reading.nesting) {
+        Ok(errors) => Ok(Refused { text, errors }),
+        Err(Halt::TooDeep) => Err(Fault::TooDeep),
+        Err(Halt::Memory) => Err(Fault::Memory),
     }
 }
