@@ -82,7 +82,11 @@ pub fn own_findings(alloc: Global, file: &Outline<'_>) -> Result<Vec<Finding>, A
 }
 
 /// Notes all names that the files define.
-fn note_files(alloc: Global, table: &mut Places<Span>, files: &[Outline<'_>]) -> Result<(), AllocError>
+fn note_files(
+    alloc: Global,
+    table: &mut Places<Span>,
+    files: &[Outline<'_>],
+) -> Result<(), AllocError>
     requires { (name : List ℕ) → place_of table.old.table name ≡ None }
     ensures { OnOk result ((name : List ℕ) → has_name (place_of table.new.table) name ≡ is_defined files.now name) }
 {
