@@ -27,18 +27,15 @@ is_found None true place others = refl
 is_found None false place others = refl
 is_found (Some x) same place others = refl
 
-pub notes_one : (old new : Lookup) (noted : Text) (place : Span) → Notes old new noted place
+pub notes_one : (old new : Lookup) (bytes noted : Text) (place : Span) → bytes ≡ noted → Notes old new bytes place
     → NotesNames old new (put (Some noted))
-notes_one old new noted place notes = λ rest name.
-    ap (λ o. is_some o || list_any (bytes_eq name) rest) (notes name)
-    ∙ is_found (old name) (bytes_eq name noted) place (list_any (bytes_eq name) rest)
-
-pub notes_one_ok : {A E : Type 0} (r : Result A E) (old new : Lookup) (bytes noted : Text) (place : Span)
-    → bytes ≡ noted → OnOk r (Notes old new bytes place) → OnOk r (NotesNames old new (put (Some noted)))
-notes_one_ok (Ok x) old new bytes noted place e notes =
+notes_one old new bytes noted place e notes =
     let P : Text → Type 0 = λ n. NotesNames old new (put (Some n)) in
-    subst P e (notes_one old new bytes place notes)
-notes_one_ok (Err x) old new bytes noted place e notes = notes
+    let one : P bytes =
+    λ rest name.
+    ap (λ o. is_some o || list_any (bytes_eq name) rest) (notes name)
+    ∙ is_found (old name) (bytes_eq name bytes) place (list_any (bytes_eq name) rest) in
+    subst P e one
 
 -- some names, and further ones where they were noted
 pub notes_last : {A E : Type 0} (r : Result A E) (a b c : Lookup) (f g : List Text → List Text) → NotesNames a b f

@@ -21,7 +21,7 @@ use Rattle.fluent_syntax_names.specs.Spelled.{Text}
 use Rattle.fluent_syntax_names.specs.declared.drawing.Drawing.{Drawing}
 use Rattle.fluent_syntax_names.specs.declared.mention.Mention.{Mention}
 use Rattle.fluent_syntax_names.specs.declared.named_lists.NamedLists.{NamedLists}
-use Rattle.fluent_syntax_names.specs.declared.numbers.Numbers.{Numbers}
+use Rattle.fluent_syntax_names.specs.declared.places.Places.{Places}
 use Rattle.fluent_syntax_names.specs.declared.outline.Outline.{Outline}
 use Rattle.fluent_syntax_names.specs.declared.spelled.PatternName.{PatternName}
 use Rattle.fluent_syntax_names.proofs.Numbered.{apart_more, name_stays, none_apart, none_within, within_more}
@@ -201,7 +201,7 @@ pub linked_more : (all : List Link) (old new : NamedLists ℕ) → Drawn all (nu
     → AddsItem old new u v → Drawn (all ++ link ∷ []) (numbers_of new) (lists_of new)
 linked_more all old new drawn link u v from to adds =
     let linked = new_link all (numbers_of old) (lists_of old) drawn link u v from to in
-    subst (λ (n : Numbers). Drawn (all ++ link ∷ []) (place_of n.table) (lists_of new)) (sym adds.same)
+    subst (λ (n : Places ℕ). Drawn (all ++ link ∷ []) (place_of n.table) (lists_of new)) (sym adds.same)
     (subst (λ (g : Graph). Drawn (all ++ link ∷ []) (numbers_of old) g) (sym adds.longer) linked)
 
 -- before anything is drawn

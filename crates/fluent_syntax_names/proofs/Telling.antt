@@ -25,7 +25,7 @@ use Rattle.fluent_syntax_names.specs.Spelled.{Text, nameless}
 use Rattle.fluent_syntax_names.specs.declared.leading.Leading.{Leading}
 use Rattle.fluent_syntax_names.specs.declared.mention.Mention.{Mention}
 use Rattle.fluent_syntax_names.specs.declared.named_lists.NamedLists.{NamedLists}
-use Rattle.fluent_syntax_names.specs.declared.numbers.Numbers.{Numbers}
+use Rattle.fluent_syntax_names.specs.declared.places.Places.{Places}
 use Rattle.fluent_syntax_names.specs.declared.spelled.EntryName.{EntryName}
 use Rattle.fluent_syntax_names.proofs.Listed.{length-items, list_read}
 use Rattle.fluent_syntax_names.proofs.Numbered.{apart_more, none_apart, none_within, within_more}
@@ -168,7 +168,7 @@ reference_more before old new tells link u from to is adds =
     ∙ ap (set rows u) (map_push (λ (v : Vec ℕ Global). v.items) list to
     ∙ ap (λ (x : Text). texts_of list ++ x ∷ []) is
     ∙ ap (λ (l : List Text). l ++ link.to ∷ []) row) in
-    subst (λ (n : Numbers). Tells (before ++ link ∷ []) (place_of n.table) (rows_of new)) (sym adds.same)
+    subst (λ (n : Places ℕ). Tells (before ++ link ∷ []) (place_of n.table) (rows_of new)) (sym adds.same)
     (subst (λ (r : Rows). Tells (before ++ link ∷ []) (numbers_of old) r) (sym longer)
     (new_reference before (numbers_of old) rows tells link u from))
 

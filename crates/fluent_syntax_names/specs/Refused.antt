@@ -46,4 +46,4 @@ entry_at text name = name_at text (with_hyphen text name)
 
 -- what is noted of the entry, a term's with its `-`
 abbrev pub refused_place : {X : Type 0} → RefusedNames X → (entry : Text) → Option X
-refused_place names entry = place_of names.table entry
+refused_place names entry = place_of names.places.table entry

@@ -24,8 +24,8 @@ use std::alloc::{AllocError, Global};
 #[derive(Clone, Copy)]
 pub(crate) struct Beside<'a> {
     pub(crate) alloc: Global,
-    pub(crate) defined: &'a Places,
-    pub(crate) used: &'a Places,
+    pub(crate) defined: &'a Places<Span>,
+    pub(crate) used: &'a Places<Span>,
     pub(crate) leading: &'a Leading,
     pub(crate) text: &'a str,
 }

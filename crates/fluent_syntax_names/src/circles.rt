@@ -5,15 +5,15 @@ ghost use Rattle.fluent_syntax_names.specs.Drawings.{KnowsCircles, same_part, pa
 
 use crate::drawing::drawing_of;
 use crate::graph::components;
-use crate::numbers::Numbers;
 use crate::outline::Outline;
+use crate::places::Places;
 use std::alloc::{AllocError, Global};
 
 /// The parts of the graph of all references: the names of a part reach one another.
 #[derive(Drop)]
 pub(crate) struct Circles {
     /// Which node a name is.
-    numbers: Numbers,
+    numbers: Places<usize>,
     /// In which part a node is.
     parts: Vec<usize>,
 }
@@ -42,7 +42,7 @@ impl Circles {
     fn part_of(&self, name: &[u8]) -> Option<usize>
         ensures { result ≡ part_at self.now name.now }
     {
-        let node = self.numbers.number_of(name)?;
+        let node = self.numbers.place_of(name)?;
         self.parts.get(node).copied()
     }
 }

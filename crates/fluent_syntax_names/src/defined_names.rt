@@ -11,7 +11,7 @@ use std::alloc::{AllocError, Global};
 /// The names that some files define, to look up references of others. A clause tells by `defines_name` which they are.
 #[derive(Drop)]
 pub struct DefinedNames {
-    places: Places,
+    places: Places<Span>,
 }
 
 impl DefinedNames {

@@ -41,7 +41,7 @@ pub(crate) fn term_name(name: Span) -> EntryName
 /// Notes the names of all that the mentions of a file define.
 pub(crate) fn note_definitions(
     alloc: Global,
-    table: &mut Places,
+    table: &mut Places<Span>,
     text: &str,
     mentions: &[Mention<Span>],
 ) -> Result<(), AllocError>
@@ -59,7 +59,7 @@ pub(crate) fn note_definitions(
 /// Notes the name that the mention defines, if it defines one.
 fn note_definition(
     alloc: Global,
-    table: &mut Places,
+    table: &mut Places<Span>,
     text: &str,
     owner: EntryName,
     mention: &Mention<Span>,
@@ -79,7 +79,7 @@ fn note_definition(
 
 fn note_message(
     alloc: Global,
-    table: &mut Places,
+    table: &mut Places<Span>,
     text: &str,
     message: EntryName,
     has_value: bool,
@@ -97,7 +97,7 @@ fn note_message(
 
 fn note_value(
     alloc: Global,
-    table: &mut Places,
+    table: &mut Places<Span>,
     text: &str,
     message: EntryName,
 ) -> Result<(), AllocError>
@@ -105,12 +105,13 @@ fn note_value(
         (put (Some (spelled_value text.now message)))) }
 {
     let name = spelled_value(alloc, text, message)?;
-    table.note(name, message.name)
+    table.note(name, message.name)?;
+    Ok(())
 }
 
 fn note_entry(
     alloc: Global,
-    table: &mut Places,
+    table: &mut Places<Span>,
     text: &str,
     entry: EntryName,
 ) -> Result<(), AllocError>
@@ -118,12 +119,13 @@ fn note_entry(
         (put (Some (spelled text.now entry)))) }
 {
     let name = spelled(alloc, text, entry)?;
-    table.note(name, entry.name)
+    table.note(name, entry.name)?;
+    Ok(())
 }
 
 fn note_attribute(
     alloc: Global,
-    table: &mut Places,
+    table: &mut Places<Span>,
     text: &str,
     owner: EntryName,
     attribute: Span,
@@ -132,7 +134,8 @@ fn note_attribute(
         (put (Some (spelled_attribute text.now owner attribute)))) }
 {
     let name = spelled_attribute(alloc, text, owner, attribute)?;
-    table.note(name, attribute)
+    table.note(name, attribute)?;
+    Ok(())
 }
 
 /// Whose attributes follow the mention.

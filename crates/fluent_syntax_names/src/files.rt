@@ -82,7 +82,11 @@ pub fn own_findings(alloc: Global, file: &Outline<'_>) -> Result<Vec<Finding>, A
 }
 
 /// Notes all names that the files define.
-fn note_files(alloc: Global, table: &mut Places, files: &[Outline<'_>]) -> Result<(), AllocError>
+fn note_files(
+    alloc: Global,
+    table: &mut Places<Span>,
+    files: &[Outline<'_>],
+) -> Result<(), AllocError>
     requires { (name : List ℕ) → place_of table.old.table name ≡ None }
     ensures { OnOk result ((name : List ℕ) → has_name (place_of table.new.table) name ≡ is_defined files.now name) }
 {
@@ -129,11 +133,10 @@ fn add_found(
     let mut noted = Noted::new(here.alloc);
     let mut pattern = NO_PATTERN;
     for mention in mentions {
-        let finding = here.found(&noted, mention)?;
+        let finding = here.found(&mut noted, mention)?;
         add_finding(list, finding)?;
         let circle = here.circle(pattern, mention)?;
         add_finding(list, circle)?;
-        noted.note(here.alloc, here.text, mention)?;
         pattern = pattern_after(pattern, mention);
     }
     Ok(())

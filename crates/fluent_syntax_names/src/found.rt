@@ -1,5 +1,5 @@
 //! What is found at a mention.
-ghost use Rattle.std.specs.Prelude.{◌≡◌, IfOk, Some};
+ghost use Rattle.std.specs.Prelude.{◌≡◌, IfOk, OnOk, Some};
 ghost use Rattle.fluent_syntax_names.specs.Drawings.{same_part};
 ghost use Rattle.fluent_syntax_names.specs.Findings.{circle, circle_to, found, twice, undefined, undefined_attribute};
 ghost use Rattle.fluent_syntax_names.specs.Findings.{finding_at};
@@ -7,6 +7,7 @@ ghost use Rattle.fluent_syntax_names.specs.Findings.{undefined_part, undefined_v
 ghost use Rattle.fluent_syntax_names.specs.Knowing.{knows};
 ghost use Rattle.fluent_syntax_names.specs.Places.{place_of};
 ghost use Rattle.fluent_syntax_names.specs.Spelled.{spelled, spelled_attribute, spelled_value};
+ghost use Rattle.fluent_syntax_names.specs.Tables.{HoldsAfter, NotesEntry};
 
 use crate::circles::Circles;
 use crate::definitions::{message_name, term_name};
@@ -16,7 +17,7 @@ use crate::mention::Mention;
 use crate::noted::Noted;
 use crate::referring::referred;
 use crate::spelled::{
-    EntryName, PatternName, name_at, spelled, spelled_attribute, spelled_pattern, spelled_value,
+    EntryName, PatternName, spelled, spelled_attribute, spelled_pattern, spelled_value,
 };
 use fluent_syntax_tree::spans::Span;
 use std::alloc::{AllocError, Global};
@@ -33,22 +34,24 @@ pub(crate) struct Here<'a> {
 }
 
 impl Here<'_> {
-    /// What is found at the mention, where the file has defined so much before.
+    /// What is found at the mention, where the file has defined so much before. What it defines is noted.
     pub(crate) fn found(
         &self,
-        noted: &Noted,
+        noted: &mut Noted,
         mention: &Mention<Span>,
     ) -> Result<Option<Finding>, AllocError>
-        ensures { IfOk result (λ finding.
+        ensures finding { IfOk result (λ finding.
             finding ≡ found (knows self.now.known) self.now.file self.now.text.now
-            (record { names = place_of noted.now.names.table; attributes = place_of noted.now.attributes.table })
+            (record { names = place_of noted.old.names.table; attributes = place_of noted.old.attributes.table })
             mention.now) }
+        ensures noted { OnOk result (HoldsAfter (place_of noted.old.names.table) (place_of noted.old.attributes.table)
+            (place_of noted.new.names.table) (place_of noted.new.attributes.table) self.now.text.now mention.now) }
     {
         match mention {
             Mention::Message { name, .. } => self.entry_twice(noted, message_name(*name)),
             Mention::Term { name } => self.entry_twice(noted, term_name(*name)),
             Mention::Attribute { name } => {
-                let first = noted.attributes.place_of(name_at(self.text, *name));
+                let first = noted.note_attribute(self.alloc, self.text, *name)?;
                 Ok(self.twice(Kind::AttributeTwice, *name, first))
             }
             Mention::MessageReference { name, attribute } => {
@@ -94,12 +97,17 @@ impl Here<'_> {
         Ok(None)
     }
 
-    fn entry_twice(&self, noted: &Noted, entry: EntryName) -> Result<Option<Finding>, AllocError>
-        ensures { IfOk result (λ finding. finding ≡ twice Kind.DefinedTwice self.now.file entry.name
-            (place_of noted.now.names.table (spelled self.now.text.now entry))) }
+    fn entry_twice(
+        &self,
+        noted: &mut Noted,
+        entry: EntryName,
+    ) -> Result<Option<Finding>, AllocError>
+        ensures finding { IfOk result (λ finding. finding ≡ twice Kind.DefinedTwice self.now.file entry.name
+            (place_of noted.old.names.table (spelled self.now.text.now entry))) }
+        ensures noted { OnOk result (NotesEntry (place_of noted.old.names.table) (place_of noted.new.names.table)
+            (place_of noted.new.attributes.table) (spelled self.now.text.now entry) entry.name) }
     {
-        let name = spelled(self.alloc, self.text, entry)?;
-        let first = noted.names.place_of(&name);
+        let first = noted.note_entry(self.alloc, self.text, entry)?;
         Ok(self.twice(Kind::DefinedTwice, entry.name, first))
     }
 

@@ -4,11 +4,12 @@ ghost use Rattle.fluent_syntax_names.specs.Knowing.{knows, others_define};
 
 use crate::defined_names::DefinedNames;
 use crate::places::Places;
+use fluent_syntax_tree::spans::Span;
 
 /// The names that files define, and those that others do.
 #[derive(Clone, Copy)]
 pub(crate) struct KnownNames<'a> {
-    pub(crate) own: &'a Places,
+    pub(crate) own: &'a Places<Span>,
     pub(crate) others: &'a [&'a DefinedNames],
 }
 

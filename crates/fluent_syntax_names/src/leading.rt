@@ -71,7 +71,7 @@ impl Leading {
     fn targets_of(&self, name: &[u8]) -> &[Vec<u8>]
         ensures { texts_of result.now ≡ row_of self.now name.now }
     {
-        let Some(number) = self.targets.numbers.number_of(name) else {
+        let Some(number) = self.targets.numbers.place_of(name) else {
             return &[];
         };
         match self.targets.lists.get(number) {

@@ -22,7 +22,6 @@ mod message;
 mod moved;
 mod named_lists;
 mod noted;
-mod numbers;
 mod outline;
 mod patterns;
 mod places;

@@ -2,14 +2,14 @@
 ghost use Rattle.std.specs.Prelude.{◌≡◌, ◌<◌, List, ℕ, None, [], IfOk, OnOk, length};
 ghost use Rattle.fluent_syntax_names.specs.NamedLists.{AddsItem, AddsName, lists_of, numbers_of};
 
-use crate::numbers::Numbers;
+use crate::places::Places;
 use std::alloc::{AllocError, Global};
 
 /// Names, each with a list.
 #[derive(Drop)]
 pub(crate) struct NamedLists<T> {
     /// Which of the lists is that of a name.
-    pub(crate) numbers: Numbers,
+    pub(crate) numbers: Places<usize>,
     pub(crate) lists: Vec<Vec<T>>,
 }
 
@@ -20,7 +20,7 @@ impl<T: Drop> NamedLists<T> {
         ensures lists { lists_of result ≡ [] }
     {
         NamedLists {
-            numbers: Numbers::new(alloc),
+            numbers: Places::new(alloc),
             lists: Vec::new(alloc),
         }
     }
@@ -29,7 +29,7 @@ impl<T: Drop> NamedLists<T> {
     pub(crate) fn number_for(&mut self, alloc: Global, name: Vec<u8>) -> Result<usize, AllocError>
         ensures { IfOk result (AddsName self.old self.new name.items) }
     {
-        if let Some(number) = self.numbers.number_of(&name) {
+        if let Some(number) = self.numbers.place_of(&name) {
             return Ok(number);
         }
         let number = self.lists.len();

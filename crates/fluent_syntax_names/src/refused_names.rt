@@ -4,17 +4,17 @@ ghost use Rattle.fluent_syntax_names.specs.Places.{Notes};
 ghost use Rattle.fluent_syntax_names.specs.Refused.{begun_name, entry_at, is_name_byte, refused_place, with_hyphen};
 ghost use Rattle.fluent_syntax_names.specs.Spelled.{name_at};
 
+use crate::places::Places;
 use crate::spelled::name_at;
 use fluent_syntax_tree::spans::Span;
 use std::alloc::{AllocError, Global};
-use std::collections::BTreeMap;
 
 /// The entries that a file has as junk, since they have a syntax error: the name with which each junk begins, a term's
 /// with its `-`, and a place of the first such junk, which is what its caller has as one. A clause tells by
 /// `refused_place` which they are.
 #[derive(Drop)]
 pub struct RefusedNames<X> {
-    table: BTreeMap<Vec<u8>, X>,
+    places: Places<X>,
 }
 
 impl<X: Copy> RefusedNames<X> {
@@ -23,7 +23,7 @@ impl<X: Copy> RefusedNames<X> {
         ensures { (entry : List ℕ) → refused_place result entry ≡ None }
     {
         RefusedNames {
-            table: BTreeMap::new(alloc),
+            places: Places::new(alloc),
         }
     }
 
@@ -43,9 +43,7 @@ impl<X: Copy> RefusedNames<X> {
             (begun_name (name_at text.now junk)) place) }
     {
         let name = begun_name(alloc, name_at(text, junk))?;
-        if self.table.get(&name).is_none() {
-            self.table.insert(name, place)?;
-        }
+        self.places.note(name, place)?;
         Ok(())
     }
 
@@ -54,9 +52,7 @@ impl<X: Copy> RefusedNames<X> {
     pub fn place_of(&self, text: &str, name: Span) -> Option<X>
         ensures { result ≡ refused_place self.now (entry_at text.now name) }
     {
-        self.table
-            .get(name_at(text, with_hyphen(text, name)))
-            .copied()
+        self.places.place_of(name_at(text, with_hyphen(text, name)))
     }
 }
 

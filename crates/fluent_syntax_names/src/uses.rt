@@ -17,7 +17,7 @@ use std::alloc::{AllocError, Global};
 /// Notes all that the entries of a file use, each with the entry's name.
 pub(crate) fn note_uses(
     alloc: Global,
-    table: &mut Places,
+    table: &mut Places<Span>,
     text: &str,
     mentions: &[Mention<Span>],
 ) -> Result<(), AllocError>
@@ -35,7 +35,7 @@ pub(crate) fn note_uses(
 /// Notes what the mention uses, if it uses anything.
 fn note_use(
     alloc: Global,
-    table: &mut Places,
+    table: &mut Places<Span>,
     text: &str,
     owner: EntryName,
     mention: &Mention<Span>,
@@ -57,7 +57,7 @@ fn note_use(
 
 fn note_reference(
     alloc: Global,
-    table: &mut Places,
+    table: &mut Places<Span>,
     text: &str,
     owner: EntryName,
     target: EntryName,
@@ -66,12 +66,13 @@ fn note_reference(
         (put (Some (spelled_reference text.now owner target)))) }
 {
     let name = spelled_reference(alloc, text, owner, target)?;
-    table.note(name, target.name)
+    table.note(name, target.name)?;
+    Ok(())
 }
 
 fn note_variable(
     alloc: Global,
-    table: &mut Places,
+    table: &mut Places<Span>,
     text: &str,
     owner: EntryName,
     variable: Span,
@@ -80,5 +81,6 @@ fn note_variable(
         (put (Some (spelled_variable text.now owner variable)))) }
 {
     let name = spelled_variable(alloc, text, owner, variable)?;
-    table.note(name, variable)
+    table.note(name, variable)?;
+    Ok(())
 }

@@ -29,9 +29,9 @@ loop-mention-preserved c =
     (found_in A here.file here.text.now nothing no_pattern c.args.mentions.now) c.args.mentions.now
     c.loop-mention.mention-index c.add_finding.new.list.items c.add_finding-in-loop-mention.new.list.items known
     c.loop-mention.pattern mention none c.in_ok-finding.finding c.in_ok-circle.circle c.loop-mention-test.true refl
-    (c.in_ok-finding.ensures ∙ found_known here.file here.text.now D names attributes known holds mention)
+    (c.in_ok-finding.ensures.finding ∙ found_known here.file here.text.now D names attributes known holds mention)
     c.in_ok-circle.ensures c.loop-mention.invariant.2 c.in_ok-add_finding.ensures c.in_ok-add_finding-2.ensures in
-    (after here.text.now known mention, c.in_ok-note.ensures known holds, rw c.pattern_after-pattern.ensures left)
+    (after here.text.now known mention, c.in_ok-finding.ensures.noted known holds, rw c.pattern_after-pattern.ensures left)
 
 pub returns : goal.returns
 returns c =

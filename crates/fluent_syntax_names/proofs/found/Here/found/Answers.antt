@@ -1,21 +1,21 @@
 use Rattle.fluent_syntax_names.proofs.found.Here.found.Goals as goal
 
-pub returns-in-Message : goal.returns-in-Message
-returns-in-Message c =
-    let found = rw c.message_name.ensures at c.entry_twice.ensures in
+pub returns-in-Message-clause-finding : goal.returns-in-Message-clause-finding
+returns-in-Message-clause-finding c =
+    let found = rw c.message_name.ensures at c.entry_twice.ensures.finding in
     rw c.in-Message.is found
 
-pub returns-in-Term : goal.returns-in-Term
-returns-in-Term c =
-    let found = rw c.term_name.ensures at c.entry_twice-in-Term.ensures in
+pub returns-in-Term-clause-finding : goal.returns-in-Term-clause-finding
+returns-in-Term-clause-finding c =
+    let found = rw c.term_name.ensures at c.entry_twice-in-Term.ensures.finding in
     rw c.in-Term.is found
 
-pub returns-in-MessageReference : goal.returns-in-MessageReference
-returns-in-MessageReference c =
+pub returns-in-MessageReference-clause-finding : goal.returns-in-MessageReference-clause-finding
+returns-in-MessageReference-clause-finding c =
     let found = rw c.message_name-in-MessageReference.ensures at c.undefined.ensures in
     rw c.in-MessageReference.is found
 
-pub returns-in-TermReference : goal.returns-in-TermReference
-returns-in-TermReference c =
+pub returns-in-TermReference-clause-finding : goal.returns-in-TermReference-clause-finding
+returns-in-TermReference-clause-finding c =
     let found = rw c.term_name-in-TermReference.ensures at c.undefined-in-TermReference.ensures in
     rw c.in-TermReference.is found

@@ -14,7 +14,7 @@ returns-in-Some-get c =
     let read =
     subst (λ (l : List (Vec (Vec ℕ Global) Global)). (u < length l) × (row ≡ get_or l u row)) c.deref.ensures.value
     (lookup.3.0, lookup.1) in
-    let number : numbers_of names c.args.name.now ≡ Some u = sym c.number_of.ensures ∙ c.in-Some.is in
+    let number : numbers_of names c.args.name.now ≡ Some u = sym c.place_of.ensures ∙ c.in-Some.is in
     ap texts_of c.deref-in-Some-get.ensures.value
     ∙ sym (row_read names u row read.0 read.1)
     ∙ sym (ap (row_at (rows_of names)) number)

@@ -13,7 +13,7 @@ returns g c =
     let name = c.args.name.items in
     let number = c.len-number.result in
     let absent : old name ≡ None = search rules in
-    let notes = c.in_ok-note.ensures in
+    let notes = c.in_ok-note.ensures.noted in
     record {
       known = name_known old new name number absent notes;
       stays = name_stays old new name number absent notes;

@@ -6,4 +6,4 @@ use Rattle.fluent_syntax_names.proofs.refused_names.RefusedNames.place_of.Goals 
 pub returns : goal.returns
 returns g c =
     let same = c.name_at.ensures ∙ ap (name_at c.args.text.now) c.with_hyphen.ensures in
-    c.copied.ensures ∙ c.get.ensures.value ∙ ap (place_of c.args.self.now.table) same
+    c.place_of.ensures ∙ ap (place_of c.args.self.now.places.table) same
