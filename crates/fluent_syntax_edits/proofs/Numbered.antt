@@ -42,12 +42,6 @@ module _ {X Y : Type 0} (v : X → Y) where
   remove_there zero (x ∷ xs) = refl
   remove_there (suc n) (x ∷ xs) = ap (λ ys. v x ∷ ys) (remove_there n xs)
 
-  pub remove_none : (n : ℕ) (xs : List X) → length xs ≤ n → map v xs ≡ remove (map v xs) n
-  remove_none zero [] l = refl
-  remove_none (suc n) [] l = refl
-  remove_none zero (x ∷ xs) l = absurd (omega arith)
-  remove_none (suc n) (x ∷ xs) l = ap (λ ys. v x ∷ ys) (remove_none n xs (omega arith))
-
 -- Where the images of two lists are the same up to a map, those of two items at one number are.
 pub same_at : {X Y : Type 0} (f : X → Y) (g : Y → Y) (xs ys : List X) (i : ℕ) (x y : X) → i < length xs →
     i < length ys → x ≡ get_or xs i x → y ≡ get_or ys i y → map f ys ≡ map g (map f xs) → f y ≡ g (f x)
