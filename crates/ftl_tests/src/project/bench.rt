@@ -63,19 +63,23 @@ impl Bench {
         })
     }
 
-    /// Runs over the files, and fails where the run stops.
+    /// Runs over the files, and fails where the run stops. What is kept as written is that of the last run.
     pub(crate) fn run(&mut self, alloc: Global, task: Task) -> Result<(), Fail> {
         let pairs = self.pairs(alloc)?;
+        let mut out = Watched::new(Vec::new(alloc));
+        let mut err = Watched::new(Vec::new(alloc));
+        let mut streams = Streams {
+            out: &mut out,
+            err: &mut err,
+        };
+        let to = &mut streams;
         let Bench {
             memory,
             files,
             tally,
             share,
-            out,
-            err,
+            ..
         } = self;
-        let mut streams = Streams { out, err };
-        let to = &mut streams;
         let one = reading(Edition::One);
         let ended = match task {
             Task::Check(form) => check_files(alloc, memory, files, one, form, tally, to),
@@ -91,6 +95,8 @@ impl Bench {
                 compare_files(alloc, memory, &pairs, one, form, tally, share, to)
             }
         };
+        self.out = out;
+        self.err = err;
         assert_holds(alloc, "the run ends", ended.is_ok())
     }
 
