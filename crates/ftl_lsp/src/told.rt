@@ -1,6 +1,5 @@
 //! The diagnostics of a document, as the protocol has them.
 ghost use Rattle.std.specs.Prelude.{◌≡◌, map, All, IfOk};
-ghost use Rattle.serde_json.specs.Data.{Data};
 ghost use Rattle.serde_json.specs.View.{view};
 ghost use Rattle.ftl_lsp.specs.Told.{TellsBeside, code_of, diagnostic_form, diagnostic_with_related, error_form};
 ghost use Rattle.ftl_lsp.specs.Told.{severity_number, severity_of};
@@ -108,7 +107,8 @@ fn told_form(alloc: Global, told: &Told<'_>, takes_related: bool) -> Result<Valu
     let (range, message) = (told.range, told.message.as_str());
     match told.related {
         Some(related) if takes_related => {
-            form_with_related(alloc, range, told.kind, message, related)
+            let places = json!(in alloc; [(related_form(alloc, related)?)])?;
+            form_with_related(alloc, range, told.kind, message, places)
         }
         _ => {
             let (severity, code) = (told.kind.severity(), told.kind.code());
@@ -117,19 +117,18 @@ fn told_form(alloc: Global, told: &Told<'_>, takes_related: bool) -> Result<Valu
     }
 }
 
-/// A diagnostic with another place.
+/// A diagnostic with other places.
 fn form_with_related(
     alloc: Global,
     range: PlaceRange,
     kind: ToldKind,
     message: &str,
-    related: Related<'_>,
+    places: Value,
 ) -> Result<Value, AllocError>
-    ensures { IfOk result (λ value. (places : Data)
-        × (view value ≡ diagnostic_with_related range (severity_of kind) (code_of kind) message.now places)) }
+    ensures { IfOk result (λ value. view value
+        ≡ diagnostic_with_related range (severity_of kind) (code_of kind) message.now (view places)) }
 {
     let range = range_form(alloc, range.start, range.end)?;
-    let places = json!(in alloc; [(related_form(alloc, related)?)])?;
     json!(in alloc; {
         "range": range,
         "severity": (severity_number(kind.severity())),
