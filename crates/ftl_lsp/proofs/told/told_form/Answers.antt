@@ -14,7 +14,7 @@ returns-in_default c =
     let told = c.args.told.now in
     let message = c.as_str-message.result.now in
     let with_severity =
-        ap (λ s. diagnostic_form told.range s c.code-code.result.now message) c.severity-severity.ensures in
+    ap (λ s. diagnostic_form told.range s c.code-code.result.now message) c.severity-severity.ensures in
     let with_code = ap (λ code. diagnostic_form told.range (severity_of told.kind) code message) c.code-code.ensures in
     IfOk-weaker c.diagnostic_form.result _ _
     (λ value is. subst TellsBeside (sym (is ∙ (with_severity ∙ with_code))) (alone told.range told.kind message))
