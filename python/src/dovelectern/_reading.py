@@ -1,4 +1,4 @@
-"""Trees out of the library's JSON. docs/JSON.md has its form.
+"""Trees out of the library's JSON. docs/CALLING.md has its form.
 
 Each object of the JSON becomes a node as soon as it is read, so that no second tree is held.
 """

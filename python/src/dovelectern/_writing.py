@@ -1,4 +1,4 @@
-"""Trees as the library's JSON. docs/JSON.md has its form.
+"""Trees as the library's JSON. docs/CALLING.md has its form.
 
 `json_of` writes the text and looks at little. `value_of` looks at each node: what is no tree it refuses with the way to
 it, as `body[2].value.elements[0].value is int, not str`.
