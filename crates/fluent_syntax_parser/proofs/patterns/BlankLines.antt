@@ -7,7 +7,7 @@ use Rattle.std.proofs.Math.Seq.{drop-cons}
 use Rattle.std.proofs.lemmas.Bool.Decides.{nat_tests}
 use Rattle.std.proofs.lemmas.Option.{slice_get-get_or, slice_get_within}
 use Rattle.fluent_syntax_tree.specs.declared.edition.Edition.{Edition}
-use Rattle.fluent_syntax_grammar.specs.Bytes.{lf, cr, space}
+use Rattle.fluent_syntax_grammar.specs.Bytes.{lf, cr, left_brace, space}
 use Rattle.fluent_syntax_grammar.specs.Construct.{Read, at_place, chosen, first, given, goes_on, item_and_more}
 use Rattle.fluent_syntax_grammar.specs.Construct.{list_ends, passed}
 use Rattle.fluent_syntax_grammar.specs.Elements.{Item, cut, is_nonblank, line_items}
@@ -206,4 +206,5 @@ module _ (t : List ℕ) {i k : ℕ} (blank : InlineBlank t i k) where
   none_before_other true other =
       no_line blank (eol_none (has_byte t lf k) _ _ _ (first_false (has_eol t k) _ other))
   none_before_other false other =
-      no_line blank (eol_none (has_byte t lf k) _ _ _ (first_false (has_eol t k) _ other))
+      let no_brace = first_false (has_eol t k || has_byte t left_brace k) _ other in
+      no_line blank (eol_none (has_byte t lf k) _ _ _ (first_false (has_eol t k) _ no_brace))

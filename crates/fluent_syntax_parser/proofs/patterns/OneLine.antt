@@ -185,6 +185,7 @@ module _ (edition : Edition) (t : List ℕ) (n : ℕ) where
 
   pub none_read : (start ptr stop next end : ℕ) → InlineBlank t ptr start → EndsLine t start stop next →
       EndsBlank edition t next end → pattern edition t R ptr (Read None end)
+  unfolding line_ended
   none_read start ptr stop next end blank (with_lf eol e) lines =
       empty_read start stop lines.place end eol lines.block (lines.none n) ptr blank
   none_read start ptr stop next end blank (with_crlf eol e) lines =

@@ -5,7 +5,7 @@ ghost use Rattle.fluent_syntax_grammar.specs.Construct.{Read};
 ghost use Rattle.fluent_syntax_grammar.specs.Grammar.{within};
 ghost use Rattle.fluent_syntax_grammar.specs.Layout.{crlf_at, lf_at};
 ghost use Rattle.fluent_syntax_grammar.specs.Lines.{belongs, ending, is_run_place, line, more_lines, more_pieces};
-ghost use Rattle.fluent_syntax_grammar.specs.Places.{has_eol, InlineBlank, Stretch, Word};
+ghost use Rattle.fluent_syntax_grammar.specs.Places.{BlankBlock, has_eol, InlineBlank, Stretch, Word};
 ghost use Rattle.fluent_syntax_parser.specs.Made.{Adds, Fills};
 ghost use Rattle.fluent_syntax_parser.specs.Endings.{EndsWithin};
 ghost use Rattle.fluent_syntax_parser.specs.Lanes.{is_passed};

@@ -19,5 +19,6 @@ returns-in_ok-reserve-in-Run g c =
 pub returns-in_ok-reserve-in-Placed : goal.returns-in_ok-reserve-in-Placed
 returns-in_ok-reserve-in-Placed g c =
     let v = g.M.MakeTexts.made in
-    map_added (element_view v) _ _ _ _ (added_to _ c.in_ok-reserve-in-Placed.ensures.items c.push_reserved.ensures.items)
+    map_added (element_view v) _ _ _ _
+    (added_to _ c.in_ok-reserve-in-Placed.ensures.items c.push_reserved-in-Placed.ensures.items)
     (rw (view-Placeable v c.into_inner-expression.result, c.into_inner-expression.ensures, c.in-Placed.is) refl)

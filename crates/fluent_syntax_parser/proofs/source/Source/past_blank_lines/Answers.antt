@@ -6,7 +6,8 @@ pub loop-next-preserved : goal.loop-next-preserved
 loop-next-preserved c = record {
   forward = grind (arith);
   within = grind (arith);
-  block = λ j h. c.loop-next.invariant.block j (line c.skip_blank_inline-first.ensures.blank (sym c.in-Some.ensures.eol) h);
+  block = λ j h.
+      c.loop-next.invariant.block j (line c.skip_blank_inline-first.ensures.blank (sym c.in-Some.ensures.eol) h);
 }
 
 pub returns-in-None-clause-blank : goal.returns-in-None-clause-blank

@@ -38,6 +38,6 @@ returns-in_ok-reserve-in-Err g c = λ before comm e last.
     let same = same_some comment comm (sym c.in-Some-take_comment.is ∙ took.0) in
     let other = c.in-Err.ensures.other in (
       ap (λ x. commented x e) (sym same) ∙ ap (commented comment) (sym ends.1) ∙ other.1,
-      added_to _ (c.in_ok-reserve-in-Err.ensures.items ∙ took.1) c.push_reserved.ensures.items
+      added_to _ (c.in_ok-reserve-in-Err.ensures.items ∙ took.1) c.push_reserved-in-Err.ensures.items
           ∙ ap (λ x. before ++ entries.Comment x ∷ []) (other.0 ∙ same),
     )
