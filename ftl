@@ -98,7 +98,7 @@ renew() {
         trap leave EXIT
         trap interrupt INT TERM HUP
         until listed="$(listing)"; is_same; do
-            say "building the program; from nothing that takes about half an hour on four processors, longer on fewer"
+            say "building the program; from nothing that takes an hour or more on four processors, longer on fewer"
             build
         done
         trap - EXIT INT TERM HUP
