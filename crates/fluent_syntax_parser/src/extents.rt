@@ -112,7 +112,8 @@ impl<'s, 't, M: MakeTexts> Reader<'s, 't, M> {
         loop {
             match self.attribute_parts(nesting, place) {
                 Ok((extents, _)) => {
-                    attributes.push(extents)?;
+                    attributes.reserve(1)?;
+                    attributes.push_reserved(extents);
                     place = extents.span.end;
                 }
                 Err(ReadFault::Refused { .. }) => return Ok((attributes, place)),
@@ -135,8 +136,7 @@ impl<'s, 't, M: MakeTexts> Reader<'s, 't, M> {
         let equals = self.source.skip_blank_inline(ptr);
         let start = self.source.expect_byte(b'=', equals)?;
         let (value, end) = self.get_pattern(nesting, start)?;
-        let line = self.source.skip_blank_block(end);
-        let (attributes, place) = self.attribute_list_parts(nesting, line)?;
+        let (attributes, place) = self.attribute_list_parts(nesting, end)?;
         Ok((place_if(&value, Span { start, end }), attributes, place))
     }
 

@@ -81,7 +81,8 @@ impl<'s, 't, M: MakeTexts> Reader<'s, 't, M> {
             2 => Entry::GroupComment(comment),
             _ => Entry::ResourceComment(comment),
         };
-        body.push(entry)?;
+        body.reserve(1)?;
+        body.push_reserved(entry);
         Ok(end)
     }
 
@@ -92,7 +93,8 @@ impl<'s, 't, M: MakeTexts> Reader<'s, 't, M> {
     {
         if let Some(line) = line {
             let text = self.text(line)?;
-            content.push(text)?;
+            content.reserve(1)?;
+            content.push_reserved(text);
         }
         Ok(())
     }

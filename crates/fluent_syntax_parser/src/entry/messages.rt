@@ -33,8 +33,8 @@ impl<'s, 't, M: MakeTexts> Reader<'s, 't, M> {
         let equals = self.source.skip_blank_inline(ptr);
         let start = self.source.expect_byte(b'=', equals)?;
         let (value, end) = self.get_pattern(nesting, start)?;
-        let line = self.source.skip_blank_block(end);
-        let (attributes, place) = self.get_attributes(nesting, line)?;
+        // no blank line stands behind a pattern
+        let (attributes, place) = self.get_attributes(nesting, end)?;
         Ok((Fields { value, attributes }, place))
     }
 
@@ -65,12 +65,13 @@ impl<'s, 't, M: MakeTexts> Reader<'s, 't, M> {
             });
         }
         let id = self.identifier(name)?;
-        body.push(Entry::Message(Message {
+        body.reserve(1)?;
+        body.push_reserved(Entry::Message(Message {
             id,
             value,
             attributes,
             comment: None,
-        }))?;
+        }));
         Ok(place)
     }
 
@@ -97,12 +98,13 @@ impl<'s, 't, M: MakeTexts> Reader<'s, 't, M> {
         match value {
             Some(value) => {
                 let id = self.identifier(name)?;
-                body.push(Entry::Term(Term {
+                body.reserve(1)?;
+                body.push_reserved(Entry::Term(Term {
                     id,
                     value,
                     attributes,
                     comment: None,
-                }))?;
+                }));
                 Ok(place)
             }
             None => Err(ReadFault::Refused {

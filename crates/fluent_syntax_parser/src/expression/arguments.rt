@@ -63,7 +63,8 @@ impl<'s, 't, M: MakeTexts> Reader<'s, 't, M> {
             × (positional.new.items ≡ positional.old.items ++ argument ∷ [])
             × (boxed_expression_view M.made expression ≡ inline (inline_view M.made argument))) }
     {
-        positional.push(self.inline_of(expression))?;
+        positional.reserve(1)?;
+        positional.push_reserved(self.inline_of(expression));
         Ok(())
     }
 
@@ -82,7 +83,8 @@ impl<'s, 't, M: MakeTexts> Reader<'s, 't, M> {
     {
         let name = self.identifier(name)?;
         let value = self.inline_of(value);
-        named.push(NamedArgument { name, value })?;
+        named.reserve(1)?;
+        named.push_reserved(NamedArgument { name, value });
         Ok(())
     }
 

@@ -70,11 +70,12 @@ impl<'s, 't, M: MakeTexts> Reader<'s, 't, M> {
             default)) }
     {
         let key = self.key(key)?;
-        variants.push(Variant {
+        variants.reserve(1)?;
+        variants.push_reserved(Variant {
             key,
             value,
             default,
-        })?;
+        });
         Ok(())
     }
 

@@ -5,7 +5,7 @@ ghost use Rattle.fluent_syntax_grammar.specs.Construct.{Read};
 ghost use Rattle.fluent_syntax_grammar.specs.Grammar.{within};
 ghost use Rattle.fluent_syntax_grammar.specs.Layout.{crlf_at, lf_at};
 ghost use Rattle.fluent_syntax_grammar.specs.Lines.{belongs, ending, is_run_place, line, more_lines, more_pieces};
-ghost use Rattle.fluent_syntax_grammar.specs.Places.{has_eol, InlineBlank, Stretch, Word};
+ghost use Rattle.fluent_syntax_grammar.specs.Places.{BlankBlock, has_eol, InlineBlank, Stretch, Word};
 ghost use Rattle.fluent_syntax_parser.specs.Made.{Adds, Fills};
 ghost use Rattle.fluent_syntax_parser.specs.Endings.{EndsWithin};
 ghost use Rattle.fluent_syntax_parser.specs.Lanes.{is_passed};
@@ -77,6 +77,7 @@ impl<'s> Source<'s> {
     }
 
     /// Whether a line belongs to a pattern, by the byte after its leading spaces, if it has any.
+    #[inline(always)]
     pub(crate) fn belongs(&self, byte: u8, indented: bool, ptr: usize) -> bool
         requires within { ptr ≤ length self.now.bytes.now }
         requires byte { slice_get self.now.bytes.now ptr ≡ Some byte }
@@ -111,7 +112,8 @@ impl<'s> Source<'s> {
 fn add_run<T: Drop>(from: usize, to: usize, pieces: &mut Vec<Piece<T>>) -> Result<(), AllocError>
     ensures { OnOk result (pieces.new.items ≡ pieces.old.items ++ Run from to ∷ []) }
 {
-    pieces.push(Piece::Run { from, to })?;
+    pieces.reserve(1)?;
+    pieces.push_reserved(Piece::Run { from, to });
     Ok(())
 }
 
@@ -123,7 +125,8 @@ fn add_placed<T: Drop>(
 ) -> Result<(), AllocError>
     ensures { OnOk result (pieces.new.items ≡ pieces.old.items ++ Placed expression ∷ []) }
 {
-    pieces.push(Piece::Placed { expression })?;
+    pieces.reserve(1)?;
+    pieces.push_reserved(Piece::Placed { expression });
     Ok(())
 }
 
@@ -198,12 +201,13 @@ impl<'s, 't, M: MakeTexts> Reader<'s, 't, M> {
         ensures stays { IfErr result (λ _. lines.new.items ≡ lines.old.items) }
     {
         let (ending, next) = self.source.get_ending(end);
-        lines.push(Line {
+        lines.reserve(1)?;
+        lines.push_reserved(Line {
             start,
             spaces,
             pieces,
             ending,
-        })?;
+        });
         Ok(next)
     }
 
@@ -243,6 +247,7 @@ impl<'s, 't, M: MakeTexts> Reader<'s, 't, M> {
         ensures meets { let t = self.now.source.bytes.now in
             Fills t (map (line_of (M.source self.now.texts.now))) (more_lines t (within self.now.edition t nesting))
             (map (line_view M.made)) lines.new.items ptr result }
+        ensures behind { IfOk result (λ end. BlankBlock self.now.source.bytes.now end end) }
         ensures within { IfOk result (λ end. (ptr ≤ end) × (end ≤ length self.now.source.bytes.now)) }
     {
         let mut start = ptr;

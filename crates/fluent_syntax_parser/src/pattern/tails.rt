@@ -77,12 +77,14 @@ impl<'s, 't, M: MakeTexts> Reader<'s, 't, M> {
                     start: from,
                     end: to,
                 })?;
-                elements.push(PatternElement::TextElement { value })?;
+                elements.reserve(1)?;
+                elements.push_reserved(PatternElement::TextElement { value });
                 Ok(())
             }
             Piece::Placed { expression } => {
                 let expression = Box::into_inner(expression);
-                elements.push(PatternElement::Placeable { expression })?;
+                elements.reserve(1)?;
+                elements.push_reserved(PatternElement::Placeable { expression });
                 Ok(())
             }
         }
@@ -117,12 +119,14 @@ impl<'s, 't, M: MakeTexts> Reader<'s, 't, M> {
             Piece::Run { from, to } => {
                 let end = self.source.trimmed_end(from, to);
                 let value = self.text(Span { start: from, end })?;
-                elements.push(PatternElement::TextElement { value })?;
+                elements.reserve(1)?;
+                elements.push_reserved(PatternElement::TextElement { value });
                 Ok(())
             }
             Piece::Placed { expression } => {
                 let expression = Box::into_inner(expression);
-                elements.push(PatternElement::Placeable { expression })?;
+                elements.reserve(1)?;
+                elements.push_reserved(PatternElement::Placeable { expression });
                 Ok(())
             }
         }

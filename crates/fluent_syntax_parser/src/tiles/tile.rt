@@ -98,11 +98,13 @@ fn hang_last<S: Drop>(body: &mut Vec<Entry<S>>) -> Result<bool, AllocError>
     };
     match with_comment(comment, entry) {
         Ok(entry) => {
-            body.push(entry)?;
+            body.reserve(1)?;
+            body.push_reserved(entry);
             Ok(true)
         }
         Err(comment) => {
-            body.push(Entry::Comment(comment))?;
+            body.reserve(1)?;
+            body.push_reserved(Entry::Comment(comment));
             Ok(false)
         }
     }
@@ -128,13 +130,16 @@ impl<'s, 't, M: MakeTexts> Reader<'s, 't, M> {
         let stretch = Span { start, end };
         let error = self.source.error_of(self.alloc, refusal, stretch)?;
         let content = self.text(stretch)?;
-        body.push(Entry::Junk { content })?;
-        errors.push(error)?;
+        body.reserve(1)?;
+        body.push_reserved(Entry::Junk { content });
+        errors.reserve(1)?;
+        errors.push_reserved(error);
         Ok(end)
     }
 
     /// Reads an entry and adds it, or junk up to the next place where one may start, with its error; says where it
     /// ends.
+    #[inline(always)]
     pub(crate) fn add_tile(
         &self,
         body: &mut Vec<Entry<M::Text>>,
