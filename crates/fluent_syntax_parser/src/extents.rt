@@ -17,6 +17,7 @@ ghost use Rattle.fluent_syntax_tree.specs.Spans.{IsPart};
 ghost use Rattle.fluent_syntax_parser.specs.Halts.{HaltsWithin, OnHalt};
 
 use crate::fault::{Fault, ReadFault, Refusal};
+use crate::lists::add;
 use crate::options::Halt;
 use crate::reader::Reader;
 use crate::source::Source;
@@ -112,8 +113,7 @@ impl<'s, 't, M: MakeTexts> Reader<'s, 't, M> {
         loop {
             match self.attribute_parts(nesting, place) {
                 Ok((extents, _)) => {
-                    attributes.reserve(1)?;
-                    attributes.push_reserved(extents);
+                    add(&mut attributes, extents)?;
                     place = extents.span.end;
                 }
                 Err(ReadFault::Refused { .. }) => return Ok((attributes, place)),

@@ -6,10 +6,6 @@ use Rattle.fluent_syntax_grammar.specs.Construct.{Construct, Read}
 use Rattle.fluent_syntax_grammar.proofs.Facts.{append_nothing}
 use Rattle.fluent_syntax_parser.specs.Made.{IsMade, made}
 
--- A list that was added to, which was the old one with room for more.
-pub added_to : {A : Type 0} {old room new : List A} (x : A) → room ≡ old → new ≡ room ++ x ∷ [] → new ≡ old ++ x ∷ []
-added_to x same added = added ∙ ap (λ xs. xs ++ x ∷ []) same
-
 -- What was gathered stands for what was read, with f of each text in its place.
 pub record MadeList {A B X : Type 0} (c : Construct (List A)) (f : A → B) (v : X → B) (i : ℕ) (xs : List X) (j : ℕ) :
     Type 0 where

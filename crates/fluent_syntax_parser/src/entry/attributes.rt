@@ -7,6 +7,7 @@ ghost use Rattle.fluent_syntax_grammar.specs.Grammar.{within};
 ghost use Rattle.fluent_syntax_parser.specs.Made.{Adds, Makes};
 
 use crate::fault::ReadFault;
+use crate::lists::add;
 use crate::reader::Reader;
 use crate::texts::MakeTexts;
 use fluent_syntax_tree::ast::Attribute;
@@ -29,8 +30,7 @@ impl<'s, 't, M: MakeTexts> Reader<'s, 't, M> {
     {
         let (extents, value) = self.attribute_parts(nesting, ptr)?;
         let id = self.identifier(extents.name)?;
-        attributes.reserve(1)?;
-        attributes.push_reserved(Attribute { id, value });
+        add(attributes, Attribute { id, value })?;
         Ok(extents.span.end)
     }
 

@@ -8,6 +8,7 @@ ghost use Rattle.fluent_syntax_parser.specs.Made.{Adds, Makes};
 ghost use Rattle.fluent_syntax_parser.specs.Meets.{Answers};
 
 use crate::fault::{ReadFault, Refusal};
+use crate::lists::add;
 use crate::reader::Reader;
 use crate::source::Source;
 use crate::texts::MakeTexts;
@@ -81,8 +82,7 @@ impl<'s, 't, M: MakeTexts> Reader<'s, 't, M> {
             2 => Entry::GroupComment(comment),
             _ => Entry::ResourceComment(comment),
         };
-        body.reserve(1)?;
-        body.push_reserved(entry);
+        add(body, entry)?;
         Ok(end)
     }
 
@@ -93,8 +93,7 @@ impl<'s, 't, M: MakeTexts> Reader<'s, 't, M> {
     {
         if let Some(line) = line {
             let text = self.text(line)?;
-            content.reserve(1)?;
-            content.push_reserved(text);
+            add(content, text)?;
         }
         Ok(())
     }

@@ -8,6 +8,7 @@ ghost use Rattle.fluent_syntax_parser.specs.Fields.{fields, fields_map, fields_v
 ghost use Rattle.fluent_syntax_parser.specs.Made.{Adds, Makes};
 
 use crate::fault::{Fault, ReadFault, Refusal};
+use crate::lists::add;
 use crate::reader::Reader;
 use crate::texts::MakeTexts;
 use fluent_syntax_tree::ast::{Attribute, Entry, Message, Pattern, Term};
@@ -65,13 +66,13 @@ impl<'s, 't, M: MakeTexts> Reader<'s, 't, M> {
             });
         }
         let id = self.identifier(name)?;
-        body.reserve(1)?;
-        body.push_reserved(Entry::Message(Message {
+        let message = Message {
             id,
             value,
             attributes,
             comment: None,
-        }));
+        };
+        add(body, Entry::Message(message))?;
         Ok(place)
     }
 
@@ -98,13 +99,13 @@ impl<'s, 't, M: MakeTexts> Reader<'s, 't, M> {
         match value {
             Some(value) => {
                 let id = self.identifier(name)?;
-                body.reserve(1)?;
-                body.push_reserved(Entry::Term(Term {
+                let term = Term {
                     id,
                     value,
                     attributes,
                     comment: None,
-                }));
+                };
+                add(body, Entry::Term(term))?;
                 Ok(place)
             }
             None => Err(ReadFault::Refused {

@@ -17,6 +17,7 @@ ghost use Rattle.fluent_syntax_parser.specs.Made.{Makes};
 use crate::expression::argument_names::NotedNames;
 use crate::expression::starts::Start;
 use crate::fault::{Fault, ReadFault, Refusal};
+use crate::lists::add;
 use crate::reader::Reader;
 use crate::source::Source;
 use crate::texts::MakeTexts;
@@ -63,8 +64,7 @@ impl<'s, 't, M: MakeTexts> Reader<'s, 't, M> {
             × (positional.new.items ≡ positional.old.items ++ argument ∷ [])
             × (boxed_expression_view M.made expression ≡ inline (inline_view M.made argument))) }
     {
-        positional.reserve(1)?;
-        positional.push_reserved(self.inline_of(expression));
+        add(positional, self.inline_of(expression))?;
         Ok(())
     }
 
@@ -83,8 +83,7 @@ impl<'s, 't, M: MakeTexts> Reader<'s, 't, M> {
     {
         let name = self.identifier(name)?;
         let value = self.inline_of(value);
-        named.reserve(1)?;
-        named.push_reserved(NamedArgument { name, value });
+        add(named, NamedArgument { name, value })?;
         Ok(())
     }
 

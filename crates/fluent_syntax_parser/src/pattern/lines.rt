@@ -15,6 +15,7 @@ ghost use Rattle.fluent_syntax_parser.specs.declared.pattern.line.Line.{Line};
 ghost use Rattle.fluent_syntax_parser.specs.declared.pattern.line.Piece.TheVariants.{Placed, Run};
 
 use crate::fault::{Fault, ReadFault, Refusal};
+use crate::lists::add;
 use crate::pattern::line::{Ending, Line, Piece};
 use crate::reader::Reader;
 use crate::source::Source;
@@ -112,9 +113,7 @@ impl<'s> Source<'s> {
 fn add_run<T: Drop>(from: usize, to: usize, pieces: &mut Vec<Piece<T>>) -> Result<(), AllocError>
     ensures { OnOk result (pieces.new.items ≡ pieces.old.items ++ Run from to ∷ []) }
 {
-    pieces.reserve(1)?;
-    pieces.push_reserved(Piece::Run { from, to });
-    Ok(())
+    add(pieces, Piece::Run { from, to })
 }
 
 /// Adds the placeable of an expression to the pieces of a line.
@@ -125,9 +124,7 @@ fn add_placed<T: Drop>(
 ) -> Result<(), AllocError>
     ensures { OnOk result (pieces.new.items ≡ pieces.old.items ++ Placed expression ∷ []) }
 {
-    pieces.reserve(1)?;
-    pieces.push_reserved(Piece::Placed { expression });
-    Ok(())
+    add(pieces, Piece::Placed { expression })
 }
 
 impl<'s, 't, M: MakeTexts> Reader<'s, 't, M> {
@@ -201,13 +198,13 @@ impl<'s, 't, M: MakeTexts> Reader<'s, 't, M> {
         ensures stays { IfErr result (λ _. lines.new.items ≡ lines.old.items) }
     {
         let (ending, next) = self.source.get_ending(end);
-        lines.reserve(1)?;
-        lines.push_reserved(Line {
+        let line = Line {
             start,
             spaces,
             pieces,
             ending,
-        });
+        };
+        add(lines, line)?;
         Ok(next)
     }
 

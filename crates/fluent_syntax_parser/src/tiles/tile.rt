@@ -12,6 +12,7 @@ ghost use Rattle.fluent_syntax_parser.specs.MadeEntries.{AddsJunk, AddsTile, Han
 ghost use Rattle.fluent_syntax_parser.specs.MadeEntries.{ends_with_comment, is_comment};
 
 use crate::fault::{ReadFault, Refusal};
+use crate::lists::add;
 use crate::options::Halt;
 use crate::reader::Reader;
 use crate::texts::MakeTexts;
@@ -98,13 +99,11 @@ fn hang_last<S: Drop>(body: &mut Vec<Entry<S>>) -> Result<bool, AllocError>
     };
     match with_comment(comment, entry) {
         Ok(entry) => {
-            body.reserve(1)?;
-            body.push_reserved(entry);
+            add(body, entry)?;
             Ok(true)
         }
         Err(comment) => {
-            body.reserve(1)?;
-            body.push_reserved(Entry::Comment(comment));
+            add(body, Entry::Comment(comment))?;
             Ok(false)
         }
     }
@@ -130,10 +129,8 @@ impl<'s, 't, M: MakeTexts> Reader<'s, 't, M> {
         let stretch = Span { start, end };
         let error = self.source.error_of(self.alloc, refusal, stretch)?;
         let content = self.text(stretch)?;
-        body.reserve(1)?;
-        body.push_reserved(Entry::Junk { content });
-        errors.reserve(1)?;
-        errors.push_reserved(error);
+        add(body, Entry::Junk { content })?;
+        add(errors, error)?;
         Ok(end)
     }
 

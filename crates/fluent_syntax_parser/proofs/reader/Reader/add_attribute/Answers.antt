@@ -6,7 +6,6 @@ use Rattle.fluent_syntax_grammar.specs.Grammar.{within}
 use Rattle.fluent_syntax_parser.specs.Made.{made}
 use Rattle.fluent_syntax_parser.specs.Meets.{no_memory}
 use Rattle.fluent_syntax_parser.proofs.readers.Fails.{out_of_memory}
-use Rattle.fluent_syntax_parser.proofs.readers.Gathers.{added_to}
 use Rattle.fluent_syntax_parser.proofs.reader.Reader.add_attribute.Goals as goal
 
 pub returns-in_err-extents-clause-adds : goal.returns-in_err-extents-clause-adds
@@ -18,10 +17,10 @@ pub returns-in_err-id-clause-adds : goal.returns-in_err-id-clause-adds
 returns-in_err-id-clause-adds g c =
     rw (out_of_memory c.from_residual-in_err-id.result c.from_residual-in_err-id.ensures.1) (no_memory, refl)
 
-pub returns-in_err-reserve-clause-adds : goal.returns-in_err-reserve-clause-adds
-returns-in_err-reserve-clause-adds g c =
-    rw (out_of_memory c.from_residual-in_err-reserve.result c.from_residual-in_err-reserve.ensures.1)
-    (no_memory, c.in_err-reserve.ensures.items)
+pub returns-in_err-add-clause-adds : goal.returns-in_err-add-clause-adds
+returns-in_err-add-clause-adds g c =
+    rw (out_of_memory c.from_residual-in_err-add.result c.from_residual-in_err-add.ensures.1)
+    (no_memory, c.in_err-add.ensures.items)
 
 pub returns-clause-adds : goal.returns-clause-adds
 returns-clause-adds g c =
@@ -31,7 +30,7 @@ returns-clause-adds g c =
     let end = c.in_ok-extents.extents.span.end in
     let (a, parts, begins, same) = c.in_ok-extents.ensures.finds in (
       _,
-      added_to _ c.in_ok-reserve.ensures.items c.push_reserved.ensures.items,
+      c.in_ok-add.ensures.items,
       made (subst (λ i. attribute_of edition t R i (Read a end)) begins parts.whole)
           (rw (c.in_ok-id.ensures, same, parts.named) refl),
     )

@@ -5,7 +5,6 @@ use Rattle.fluent_syntax_grammar.specs.Comments.{comment_of}
 use Rattle.fluent_syntax_parser.proofs.entry_forms.CommentEntries.{comment_made, level_other}
 use Rattle.fluent_syntax_parser.proofs.readers.Fails.{fails_seen, out_of_memory}
 use Rattle.fluent_syntax_parser.specs.Meets.{no_memory}
-use Rattle.fluent_syntax_parser.proofs.readers.Gathers.{added_to}
 use Rattle.fluent_syntax_parser.proofs.reader.Reader.add_comment.Goals as goal
 use Rattle.fluent_syntax_parser.proofs.reader.Reader.add_comment.Goals.{in-1, in-2, in_default}
 
@@ -16,10 +15,10 @@ returns-in_err-content-clause-adds g c =
     rw (p.1, p.2)
     (fails_seen (comment_of t) _ c.comment_level-level.ensures.level c.in_err-content.ensures.meets, refl)
 
-pub returns-in_err-reserve-clause-adds : goal.returns-in_err-reserve-clause-adds
-returns-in_err-reserve-clause-adds g c =
-    rw (out_of_memory c.from_residual-in_err-reserve.result c.from_residual-in_err-reserve.ensures.1)
-    (no_memory, c.in_err-reserve.ensures.items)
+pub returns-in_err-add-clause-adds : goal.returns-in_err-add-clause-adds
+returns-in_err-add-clause-adds g c =
+    rw (out_of_memory c.from_residual-in_err-add.result c.from_residual-in_err-add.ensures.1)
+    (no_memory, c.in_err-add.ensures.items)
 
 pub returns-clause-adds : goal.returns-clause-adds
 returns-clause-adds g c =
@@ -28,7 +27,7 @@ returns-clause-adds g c =
     let named = comment_made c.args.self.now.source.bytes.now c.args.ptr c.in_ok-content.end count _ hashed
     c.in_ok-content.ensures.meets in (
       _,
-      added_to _ c.in_ok-reserve.ensures.items c.push_reserved.ensures.items,
+      c.in_ok-add.ensures.items,
       elim c.match-level.branch [
         | in-1 w ↦ rw w.entry-is (named regular (rw w.in-1.is refl))
         | in-2 w ↦ rw w.entry-is (named group (rw w.in-2.is refl))

@@ -2,18 +2,16 @@ use Rattle.std.proofs.Common.{refl}
 use Rattle.fluent_syntax_tree.specs.View.{element_view}
 use Rattle.fluent_syntax_tree.proofs.Lists.{map_added}
 use Rattle.fluent_syntax_tree.proofs.Views.{view-TextElement, view-Placeable}
-use Rattle.fluent_syntax_parser.proofs.readers.Gathers.{added_to}
 use Rattle.fluent_syntax_parser.proofs.reader.Reader.add_element.Goals as goal
 
-pub returns-in_ok-reserve-in-Run : goal.returns-in_ok-reserve-in-Run
-returns-in_ok-reserve-in-Run g c =
+pub returns-in_ok-add-in-Run : goal.returns-in_ok-add-in-Run
+returns-in_ok-add-in-Run g c =
     let v = g.M.MakeTexts.made in
-    map_added (element_view v) _ _ _ _ (added_to _ c.in_ok-reserve-in-Run.ensures.items c.push_reserved.ensures.items)
+    map_added (element_view v) _ _ _ _ c.in_ok-add-in-Run.ensures.items
     (rw (view-TextElement v c.in_ok-value-in-Run.value, c.in_ok-value-in-Run.ensures, c.in-Run.is) refl)
 
-pub returns-in_ok-reserve-in-Placed : goal.returns-in_ok-reserve-in-Placed
-returns-in_ok-reserve-in-Placed g c =
+pub returns-in_ok-add-in-Placed : goal.returns-in_ok-add-in-Placed
+returns-in_ok-add-in-Placed g c =
     let v = g.M.MakeTexts.made in
-    map_added (element_view v) _ _ _ _
-    (added_to _ c.in_ok-reserve-in-Placed.ensures.items c.push_reserved-in-Placed.ensures.items)
+    map_added (element_view v) _ _ _ _ c.in_ok-add-in-Placed.ensures.items
     (rw (view-Placeable v c.into_inner-expression.result, c.into_inner-expression.ensures, c.in-Placed.is) refl)

@@ -9,7 +9,6 @@ use Rattle.fluent_syntax_parser.proofs.entry_forms.FieldForms.{fields_fail, fiel
 use Rattle.fluent_syntax_parser.proofs.entry_forms.FieldForms.{message_of_attributes}
 use Rattle.fluent_syntax_parser.proofs.entry_forms.FieldForms.{message_of_value, message_without, no_items, none_of}
 use Rattle.fluent_syntax_parser.proofs.entry_forms.FieldForms.{some_items}
-use Rattle.fluent_syntax_parser.proofs.readers.Gathers.{added_to}
 use Rattle.fluent_syntax_parser.proofs.reader.Reader.add_message.Goals.{else-is_none-via-then-is_none+else-is_empty}
 use Rattle.fluent_syntax_parser.proofs.reader.Reader.add_message.Goals.{else-is_none-via-else-is_none}
 use Rattle.fluent_syntax_grammar.proofs.FunctionalWords.{functional_identifier}
@@ -62,10 +61,10 @@ pub returns-in_err-id-clause-adds : goal.returns-in_err-id-clause-adds
 returns-in_err-id-clause-adds g c =
     rw (out_of_memory c.from_residual-in_err-id.result c.from_residual-in_err-id.ensures.1) (no_memory, refl)
 
-pub returns-in_err-reserve-clause-adds : goal.returns-in_err-reserve-clause-adds
-returns-in_err-reserve-clause-adds g c =
-    rw (out_of_memory c.from_residual-in_err-reserve.result c.from_residual-in_err-reserve.ensures.1)
-    (no_memory, c.in_err-reserve.ensures.items)
+pub returns-in_err-add-clause-adds : goal.returns-in_err-add-clause-adds
+returns-in_err-add-clause-adds g c =
+    rw (out_of_memory c.from_residual-in_err-add.result c.from_residual-in_err-add.ensures.1)
+    (no_memory, c.in_err-add.ensures.items)
 
 pub returns-clause-adds : goal.returns-clause-adds
 returns-clause-adds g c =
@@ -77,7 +76,7 @@ returns-clause-adds g c =
     let size : length rest ≡ vec_len found.attributes = omega (arith, found.attributes.ok.0) in
     on_made c.in_ok-fields.ensures.meets (λ x read same. (
       _,
-      added_to _ c.in_ok-reserve.ensures.items c.push_reserved.ensures.items,
+      c.in_ok-add.ensures.items,
       made
           (goes_on at_place
           (goes_on c.in_ok-end.ensures.meets

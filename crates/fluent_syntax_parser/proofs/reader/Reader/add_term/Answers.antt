@@ -16,7 +16,6 @@ use Rattle.fluent_syntax_parser.specs.Made.{made}
 use Rattle.fluent_syntax_parser.proofs.readers.Made.{on_made}
 use Rattle.fluent_syntax_parser.proofs.readers.Fails.{fails_next, functional_here, out_of_memory}
 use Rattle.fluent_syntax_parser.proofs.scanning.NameTexts.{identifier_text, mark_before}
-use Rattle.fluent_syntax_parser.proofs.readers.Gathers.{added_to}
 use Rattle.fluent_syntax_parser.proofs.reader.Reader.add_term.Goals as goal
 
 pub returns-in_err-letter-clause-adds : goal.returns-in_err-letter-clause-adds
@@ -53,13 +52,13 @@ returns-in_err-id-in-Some-clause-adds g c =
     rw (out_of_memory c.from_residual-in_err-id-in-Some.result c.from_residual-in_err-id-in-Some.ensures.1)
     (no_memory, refl)
 
-pub returns-in_err-reserve-in-Some-clause-adds : goal.returns-in_err-reserve-in-Some-clause-adds
-returns-in_err-reserve-in-Some-clause-adds g c =
-    rw (out_of_memory c.from_residual-in_err-reserve-in-Some.result c.from_residual-in_err-reserve-in-Some.ensures.1)
-    (no_memory, c.in_err-reserve-in-Some.ensures.items)
+pub returns-in_err-add-in-Some-clause-adds : goal.returns-in_err-add-in-Some-clause-adds
+returns-in_err-add-in-Some-clause-adds g c =
+    rw (out_of_memory c.from_residual-in_err-add-in-Some.result c.from_residual-in_err-add-in-Some.ensures.1)
+    (no_memory, c.in_err-add-in-Some.ensures.items)
 
-pub returns-in_ok-reserve-in-Some-clause-adds : goal.returns-in_ok-reserve-in-Some-clause-adds
-returns-in_ok-reserve-in-Some-clause-adds g c =
+pub returns-in_ok-add-in-Some-clause-adds : goal.returns-in_ok-add-in-Some-clause-adds
+returns-in_ok-add-in-Some-clause-adds g c =
     let t = c.args.self.now.source.bytes.now in
     let name : Span = record { start = c.in_ok-letter.letter; end = c.in_ok-end.end } in
     let edition = c.args.self.now.edition in
@@ -68,7 +67,7 @@ returns-in_ok-reserve-in-Some-clause-adds g c =
     some_field (pattern_map (g.M.MakeTexts.source c.args.self.now.texts.now))
     (fields edition t (within edition t c.args.nesting)) x read (ap (λ y. y.0) same) (λ value there same_value. (
       _,
-      added_to _ c.in_ok-reserve-in-Some.ensures.items c.push_reserved.ensures.items,
+      c.in_ok-add-in-Some.ensures.items,
       made
           (goes_on at_place
           (goes_on c.in_ok-letter.ensures.meets

@@ -1,6 +1,6 @@
-use Rattle.std.proofs.Common.{refl}
+use Rattle.std.proofs.Common.{◌∷◌, [], ◌++◌, ◌∙◌, ap, refl}
 use Rattle.fluent_syntax_tree.proofs.Views.{view-Pattern, view-TextElement}
-use Rattle.fluent_syntax_parser.proofs.readers.Gathers.{added_to}
+use Rattle.fluent_syntax_tree.specs.declared.ast.PatternElement as elem
 use Rattle.fluent_syntax_parser.proofs.reader.Reader.short_pattern.Goals as goal
 
 pub returns-in_default : goal.returns-in_default
@@ -8,11 +8,13 @@ returns-in_default g c = rw c.in_default.is refl
 
 pub returns : goal.returns
 returns g c =
-    let items = added_to _ c.in_ok-elements.ensures.items c.push_reserved.ensures.items in
+    let text = c.in_ok-value.value in
+    let items = c.push_reserved.ensures.items
+    ∙ ap (λ xs. xs ++ elem.TextElement text ∷ []) c.in_ok-elements.ensures.items in
     rw (
       view-Pattern g.M.MakeTexts.made (record { elements = c.push_reserved.new.self }),
       items,
-      view-TextElement g.M.MakeTexts.made c.in_ok-value.value,
+      view-TextElement g.M.MakeTexts.made text,
       c.in_ok-value.ensures,
       c.in-Some.is,
     ) refl

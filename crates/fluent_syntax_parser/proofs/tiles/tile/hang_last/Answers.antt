@@ -3,7 +3,6 @@ use Rattle.std.proofs.lemmas.List.{length_push, same_from_push}
 use Rattle.fluent_syntax_tree.specs.declared.ast.Entry.TheVariants as entries
 use Rattle.fluent_syntax_parser.specs.MadeEntries.{commented}
 use Rattle.fluent_syntax_parser.proofs.entry_forms.MadeEntries.{same_some}
-use Rattle.fluent_syntax_parser.proofs.readers.Gathers.{added_to}
 use Rattle.fluent_syntax_parser.proofs.tiles.tile.hang_last.Goals as goal
 
 pub returns-in_default : goal.returns-in_default
@@ -18,8 +17,8 @@ returns-in_default-take_comment g c = λ before comm e last.
     let some = sym c.in_default-take_comment.is ∙ (c.take_comment.ensures before comm ends.0).0 in
     cc
 
-pub returns-in_ok-reserve-in-Ok : goal.returns-in_ok-reserve-in-Ok
-returns-in_ok-reserve-in-Ok g c = λ before comm e last.
+pub returns-in_ok-add-in-Ok : goal.returns-in_ok-add-in-Ok
+returns-in_ok-add-in-Ok g c = λ before comm e last.
     let comment = c.in-Some-take_comment.comment in
     let hung = c.in-Ok.entry in
     let ends = same_from_push _ (before ++ entries.Comment comm ∷ []) _ e (sym c.in-Some.ensures.items ∙ last) in
@@ -27,17 +26,17 @@ returns-in_ok-reserve-in-Ok g c = λ before comm e last.
     let same = same_some comment comm (sym c.in-Some-take_comment.is ∙ took.0) in (
       hung,
       ap (λ x. commented x e) (sym same) ∙ ap (commented comment) (sym ends.1) ∙ c.in-Ok.ensures.hung,
-      added_to _ (c.in_ok-reserve-in-Ok.ensures.items ∙ took.1) c.push_reserved.ensures.items,
+      c.in_ok-add-in-Ok.ensures.items ∙ ap (λ xs. xs ++ hung ∷ []) took.1,
     )
 
-pub returns-in_ok-reserve-in-Err : goal.returns-in_ok-reserve-in-Err
-returns-in_ok-reserve-in-Err g c = λ before comm e last.
+pub returns-in_ok-add-in-Err : goal.returns-in_ok-add-in-Err
+returns-in_ok-add-in-Err g c = λ before comm e last.
     let comment = c.in-Some-take_comment.comment in
     let ends = same_from_push _ (before ++ entries.Comment comm ∷ []) _ e (sym c.in-Some.ensures.items ∙ last) in
     let took = c.take_comment.ensures before comm ends.0 in
     let same = same_some comment comm (sym c.in-Some-take_comment.is ∙ took.0) in
     let other = c.in-Err.ensures.other in (
       ap (λ x. commented x e) (sym same) ∙ ap (commented comment) (sym ends.1) ∙ other.1,
-      added_to _ (c.in_ok-reserve-in-Err.ensures.items ∙ took.1) c.push_reserved-in-Err.ensures.items
+      c.in_ok-add-in-Err.ensures.items ∙ ap (λ xs. xs ++ entries.Comment c.in-Err.comment ∷ []) took.1
           ∙ ap (λ x. before ++ entries.Comment x ∷ []) (other.0 ∙ same),
     )
