@@ -18,6 +18,7 @@ use Rattle.fluent_syntax_grammar.specs.Lines.{belongs, more_lines, more_pieces, 
 use Rattle.fluent_syntax_grammar.specs.Places.{BlankBlock, InlineBlank, after_eol, has_byte, has_eol, line, no_line}
 use Rattle.fluent_syntax_grammar.proofs.Facts.{byte_found, equal}
 use Rattle.fluent_syntax_grammar.proofs.LineEnds.{eol_none}
+use Rattle.fluent_syntax_grammar.proofs.Tests.{neither_left}
 use Rattle.fluent_syntax_parser.proofs.patterns.LineEndings.{ends_line}
 use Rattle.fluent_syntax_parser.specs.OneLine.{EndsBlank}
 
@@ -187,10 +188,6 @@ module _ (edition : Edition) (t : List ℕ) where
 
 -- ---- no blank line stands behind a pattern
 
-first_false : (a b : Bool) → (a || b) ≡ false → a ≡ false
-first_false true b e = cc
-first_false false b e = refl
-
 module _ (t : List ℕ) {i k : ℕ} (blank : InlineBlank t i k) where
   pub none_at_end : slice_get t k ≡ None → BlankBlock t k k
   none_at_end end =
@@ -204,7 +201,7 @@ module _ (t : List ℕ) {i k : ℕ} (blank : InlineBlank t i k) where
 
   pub none_before_other : (indented : Bool) → belongs t indented k ≡ false → BlankBlock t i i
   none_before_other true other =
-      no_line blank (eol_none (has_byte t lf k) _ _ _ (first_false (has_eol t k) _ other))
+      no_line blank (eol_none (has_byte t lf k) _ _ _ (neither_left (has_eol t k) _ other))
   none_before_other false other =
-      let no_brace = first_false (has_eol t k || has_byte t left_brace k) _ other in
-      no_line blank (eol_none (has_byte t lf k) _ _ _ (first_false (has_eol t k) _ no_brace))
+      let no_brace = neither_left (has_eol t k || has_byte t left_brace k) _ other in
+      no_line blank (eol_none (has_byte t lf k) _ _ _ (neither_left (has_eol t k) _ no_brace))
