@@ -1,5 +1,5 @@
 //! What the readers add to lists.
-ghost use Rattle.std.specs.Prelude.{◌≡◌, ◌∷◌, ◌++◌, [], if◌then◌else◌, is_ok};
+ghost use Rattle.std.specs.Prelude.{◌≡◌, ◌∷◌, ◌++◌, [], OnErr, OnOk};
 
 use std::alloc::AllocError;
 
@@ -7,7 +7,8 @@ use std::alloc::AllocError;
 /// no room, moves it twice.
 #[inline(always)]
 pub(crate) fn add<T: Drop>(list: &mut Vec<T>, item: T) -> Result<(), AllocError>
-    ensures items { list.new.items ≡ (if is_ok result then list.old.items ++ item ∷ [] else list.old.items) }
+    ensures added { OnOk result (list.new.items ≡ list.old.items ++ item ∷ []) }
+    ensures stays { OnErr result (list.new.items ≡ list.old.items) }
 {
     list.reserve(1)?;
     list.push_reserved(item);

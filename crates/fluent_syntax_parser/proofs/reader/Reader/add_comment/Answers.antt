@@ -18,7 +18,7 @@ returns-in_err-content-clause-adds g c =
 pub returns-in_err-add-clause-adds : goal.returns-in_err-add-clause-adds
 returns-in_err-add-clause-adds g c =
     rw (out_of_memory c.from_residual-in_err-add.result c.from_residual-in_err-add.ensures.1)
-    (no_memory, c.in_err-add.ensures.items)
+    (no_memory, c.in_err-add.ensures.stays)
 
 pub returns-clause-adds : goal.returns-clause-adds
 returns-clause-adds g c =
@@ -27,7 +27,7 @@ returns-clause-adds g c =
     let named = comment_made c.args.self.now.source.bytes.now c.args.ptr c.in_ok-content.end count _ hashed
     c.in_ok-content.ensures.meets in (
       _,
-      c.in_ok-add.ensures.items,
+      c.in_ok-add.ensures.added,
       elim c.match-level.branch [
         | in-1 w ↦ rw w.entry-is (named regular (rw w.in-1.is refl))
         | in-2 w ↦ rw w.entry-is (named group (rw w.in-2.is refl))

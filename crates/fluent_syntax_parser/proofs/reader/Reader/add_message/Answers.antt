@@ -64,7 +64,7 @@ returns-in_err-id-clause-adds g c =
 pub returns-in_err-add-clause-adds : goal.returns-in_err-add-clause-adds
 returns-in_err-add-clause-adds g c =
     rw (out_of_memory c.from_residual-in_err-add.result c.from_residual-in_err-add.ensures.1)
-    (no_memory, c.in_err-add.ensures.items)
+    (no_memory, c.in_err-add.ensures.stays)
 
 pub returns-clause-adds : goal.returns-clause-adds
 returns-clause-adds g c =
@@ -76,7 +76,7 @@ returns-clause-adds g c =
     let size : length rest ≡ vec_len found.attributes = omega (arith, found.attributes.ok.0) in
     on_made c.in_ok-fields.ensures.meets (λ x read same. (
       _,
-      c.in_ok-add.ensures.items,
+      c.in_ok-add.ensures.added,
       made
           (goes_on at_place
           (goes_on c.in_ok-end.ensures.meets

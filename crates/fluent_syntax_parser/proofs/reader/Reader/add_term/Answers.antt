@@ -55,7 +55,7 @@ returns-in_err-id-in-Some-clause-adds g c =
 pub returns-in_err-add-in-Some-clause-adds : goal.returns-in_err-add-in-Some-clause-adds
 returns-in_err-add-in-Some-clause-adds g c =
     rw (out_of_memory c.from_residual-in_err-add-in-Some.result c.from_residual-in_err-add-in-Some.ensures.1)
-    (no_memory, c.in_err-add-in-Some.ensures.items)
+    (no_memory, c.in_err-add-in-Some.ensures.stays)
 
 pub returns-in_ok-add-in-Some-clause-adds : goal.returns-in_ok-add-in-Some-clause-adds
 returns-in_ok-add-in-Some-clause-adds g c =
@@ -67,7 +67,7 @@ returns-in_ok-add-in-Some-clause-adds g c =
     some_field (pattern_map (g.M.MakeTexts.source c.args.self.now.texts.now))
     (fields edition t (within edition t c.args.nesting)) x read (ap (λ y. y.0) same) (λ value there same_value. (
       _,
-      c.in_ok-add-in-Some.ensures.items,
+      c.in_ok-add-in-Some.ensures.added,
       made
           (goes_on at_place
           (goes_on c.in_ok-letter.ensures.meets

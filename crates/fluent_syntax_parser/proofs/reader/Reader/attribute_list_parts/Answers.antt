@@ -21,7 +21,7 @@ loop-extents-preserved-in_ok-add-in-Ok g c =
       forward = omega (arith, old.forward, read.within.0);
       within = read.within.1;
       gathered =
-          one_extent edition t R c.args.ptr _ _ _ _ c.in_ok-add-in-Ok.ensures.items old.gathered a parts begins;
+          one_extent edition t R c.args.ptr _ _ _ _ c.in_ok-add-in-Ok.ensures.added old.gathered a parts begins;
       deeper = λ h. old.deeper
           (deeper_attributes edition t R (functional_within edition t c.args.nesting)
           (subst (λ i. attribute_of edition t R i (Read a c.in-Ok.extents.span.end)) begins parts.whole) h);

@@ -26,7 +26,7 @@ returns-in_ok-add-in-Ok g c = λ before comm e last.
     let same = same_some comment comm (sym c.in-Some-take_comment.is ∙ took.0) in (
       hung,
       ap (λ x. commented x e) (sym same) ∙ ap (commented comment) (sym ends.1) ∙ c.in-Ok.ensures.hung,
-      c.in_ok-add-in-Ok.ensures.items ∙ ap (λ xs. xs ++ hung ∷ []) took.1,
+      c.in_ok-add-in-Ok.ensures.added ∙ ap (λ xs. xs ++ hung ∷ []) took.1,
     )
 
 pub returns-in_ok-add-in-Err : goal.returns-in_ok-add-in-Err
@@ -37,6 +37,6 @@ returns-in_ok-add-in-Err g c = λ before comm e last.
     let same = same_some comment comm (sym c.in-Some-take_comment.is ∙ took.0) in
     let other = c.in-Err.ensures.other in (
       ap (λ x. commented x e) (sym same) ∙ ap (commented comment) (sym ends.1) ∙ other.1,
-      c.in_ok-add-in-Err.ensures.items ∙ ap (λ xs. xs ++ entries.Comment c.in-Err.comment ∷ []) took.1
+      c.in_ok-add-in-Err.ensures.added ∙ ap (λ xs. xs ++ entries.Comment c.in-Err.comment ∷ []) took.1
           ∙ ap (λ x. before ++ entries.Comment x ∷ []) (other.0 ∙ same),
     )
